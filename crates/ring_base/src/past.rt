@@ -1,0 +1,48 @@
+//! Values that only contracts read.
+//!
+//! The code of a ring forgets: it keeps a window, two numbers, some bits. What it promises speaks of all
+//! that ever happened. A [`Past`] holds such a history for contracts, and takes no room in the program.
+//!
+//! By itself it promises nothing: [`past_of`] gives it any value that its caller names. What ties it is the
+//! struct that has it as a field. The struct's `Model` shows the value as what contracts see, and the
+//! `Model`'s invariant says how the other fields, which the code reads, follow from it. A method that sets
+//! the past and forgets a field, or the other way round, is then refused, since the invariant must hold
+//! again. The value is under no limit of `T`: of a `u64` in it contracts know only that it is a number, so
+//! each bound that is needed belongs into the invariant too.
+
+ghost use Rattle.std.specs.Prelude.{◌≡◌};
+ghost use base.Fml.{ftrue};
+
+use std::marker::{Model, PhantomData, Send, Sync};
+
+/// A `T` as contracts see it. It has no bytes and owns nothing, and no `T` is ever made for it.
+pub struct Past<T> {
+    marker: PhantomData<T>,
+    pub ghost value: { T },
+}
+
+impl<T> Model for Past<T> {
+    ghost also_owns = { λ _. ftrue };
+}
+
+/// The value that the caller's proof names by `ghost-past_of`, a term of what `from` shows: lend it
+/// whatever the new value is made of, as `past_of(&(&self.past, x))`.
+pub fn past_of<T, A>(from: &A) -> Past<T>
+    ghost told: { T }
+    ensures { result.value ≡ told }
+{
+    let _ = from;
+    Past {
+        marker: PhantomData,
+    }
+}
+
+unsafe impl<T> Send for Past<T> {}
+
+unsafe impl<T> Sync for Past<T> {}
+
+impl<T> Drop for Past<T> {
+    fn drop(self) {
+        let Self { marker: _ } = self;
+    }
+}

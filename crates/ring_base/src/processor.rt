@@ -1,0 +1,40 @@
+//! Processors, by their numbers.
+
+ghost use Rattle.std.specs.Prelude.{◌≡◌, ℕ};
+ghost use Rattle.ring_base.specs.Processors.{IsProc};
+
+use std::marker::Model;
+
+/// A processor: its number, 1 to 16. Contracts see the number.
+#[derive(Clone, Copy, Debug, PartialEq, Eq, PartialOrd, Ord)]
+pub struct Proc {
+    number: u8,
+}
+
+impl Model for Proc {
+    ghost Value = { ℕ };
+
+    ghost view = { λ p. p.number };
+
+    ghost invariant = { λ p. IsProc p.number };
+
+    ghost inverse = { λ n. record { number = n } };
+}
+
+impl Proc {
+    /// The processor of this number. [`Fixed::proc`](crate::Fixed::proc) tests a number for a run.
+    pub fn new(number: u8) -> Proc
+        requires { IsProc number }
+        ensures { result ≡ number }
+    {
+        Proc { number }
+    }
+
+    /// Its number, 1 to 16.
+    pub fn number(self) -> u8
+        ensures value { result ≡ self }
+        ensures in_range { IsProc result }
+    {
+        self.number
+    }
+}
