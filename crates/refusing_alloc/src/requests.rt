@@ -1,40 +1,53 @@
-//! Requests for memory, numbered from 0, of which one is refused.
-ghost use Rattle.std.specs.Prelude.{◌≡◌, IsTrue, ◌↔◌};
+//! Requests for memory, numbered from 0 in the order in which they come. One of them is refused.
+ghost use Rattle.std.specs.Prelude.{◌≡◌, ◌<◌, ◌↔◌, IsTrue};
 
 use std::sync::atomic::{AtomicU64, Ordering};
 
-/// Numbers requests in the order in which they come, and picks the one to refuse.
+/// How many requests have come, and the number of the one to refuse.
 #[derive(Drop)]
 pub struct Requests {
     made: AtomicU64,
-    passed: u64,
+    refused: u64,
 }
 
 impl Requests {
-    /// Refuses the request that comes after `passed` others.
-    pub fn new(passed: u64) -> Requests
-        ensures { result.passed ≡ passed }
+    /// No request has come, and the one numbered `refused` is to be refused.
+    pub fn refusing(refused: u64) -> Requests
+        ensures { result.refused ≡ refused }
     {
         Requests {
             made: AtomicU64::new(0),
-            passed,
+            refused,
         }
     }
 
-    /// Counts one request more, and says whether it is the one to refuse.
+    /// Takes the number of a request that comes now, and answers whether to refuse it.
     pub fn refuses_next(&self) -> bool {
-        is_refused(self.made.fetch_add(1, Ordering::SeqCst), self.passed)
+        let number = self.made.fetch_add(1, Ordering::SeqCst);
+        is_refused(number, self.refused)
     }
 
-    /// How many requests have come so far.
+    /// How many requests have come.
     pub fn made(&self) -> u64 {
         self.made.load(Ordering::SeqCst)
     }
+
+    /// Whether the request to refuse has come.
+    pub fn have_met_refused(&self) -> bool {
+        has_come(self.refused, self.made())
+    }
 }
 
-/// Whether the request of this number is refused: of all numbers only `passed` is.
-pub fn is_refused(number: u64, passed: u64) -> bool
-    ensures { IsTrue result ↔ (number ≡ passed) }
+/// Whether the request of this number is refused: only the one numbered `refused` is.
+fn is_refused(number: u64, refused: u64) -> bool
+    ensures { IsTrue result ↔ (number ≡ refused) }
 {
-    number == passed
+    number == refused
+}
+
+/// Whether the request of this number is among the first `made`.
+fn has_come(number: u64, made: u64) -> bool
+    ensures { IsTrue result ↔ (number < made) }
+{
+    made > number
 }

@@ -1,0 +1,88 @@
+//! Which requests are refused, for one thread and for two.
+use crate::{Refusing, refuse_in_turn};
+use std::alloc::{AllocError, Allocator, Global};
+use std::test::Fail;
+use std::thread;
+
+/// Makes three requests, one after another, and answers which of them were passed on.
+fn three_requests<A: Allocator + Copy>(heap: A) -> [bool; 3] {
+    let first = Box::new(heap, 1u8).is_ok();
+    let second = Box::new(heap, 2u64).is_ok();
+    let third = Vec::<u8, A>::with_capacity(heap, 9).is_ok();
+    [first, second, third]
+}
+
+#[test]
+fn refuses_only_the_request_after_those_passed(rt: HostRuntime) {
+    for (passed, want) in [
+        (0, [false, true, true]),
+        (1, [true, false, true]),
+        (2, [true, true, false]),
+        (3, [true, true, true]),
+    ] {
+        let heap = Refusing::new(rt.alloc(), passed);
+        assert!(rt; !heap.has_refused(), "before, at {passed}");
+        assert_eq!(rt; three_requests(&heap), want, "at {passed}");
+        assert_eq!(rt; heap.requests(), 3, "at {passed}");
+        assert_eq!(rt; heap.has_refused(), passed < 3, "at {passed}");
+    }
+}
+
+#[test]
+fn counts_growth_and_shrinking(rt: HostRuntime) -> Result<(), Fail> {
+    let heap = Refusing::new(rt.alloc(), 2);
+    let mut list = Vec::with_capacity(&heap, 1)?;
+    list.push(7u8)?;
+    assert_eq!(rt; heap.requests(), 1);
+    list.push(8u8)?;
+    assert_eq!(rt; heap.requests(), 2);
+    list.reserve_exact(100).err();
+    assert_eq!(rt; heap.requests(), 3);
+    assert!(rt; heap.has_refused());
+    assert_eq!(rt; list.as_slice(), [7, 8].as_slice());
+    list.reserve_exact(100)?;
+    list.shrink_to_fit();
+    assert_eq!(rt; heap.requests(), 5);
+    assert_eq!(rt; list.as_slice(), [7, 8].as_slice());
+    Ok(())
+}
+
+/// Two lists over one allocator, made by two threads.
+#[test]
+fn refuses_one_request_of_two_threads(rt: HostRuntime) {
+    for passed in 0..3 {
+        let heap = Refusing::new(rt.alloc(), passed);
+        let one = || Vec::from_slice(&heap, &[1u8, 2]);
+        let (left, right) = thread::join(&rt, one, one);
+        let refused = u8::from(left.is_err()) + u8::from(right.is_err());
+        assert_eq!(rt; refused, u8::from(passed < 2), "at {passed}");
+        assert_eq!(rt; heap.requests(), 2, "at {passed}");
+    }
+}
+
+/// Asks for memory `requests` times, and stops at the first refusal.
+fn boxes<A: Allocator + Copy>(heap: A, requests: u8) -> Result<(), AllocError> {
+    for value in 0..requests {
+        let _value = Box::new(heap, value)?;
+    }
+    Ok(())
+}
+
+#[test]
+fn refuses_each_request_in_turn(rt: HostRuntime) {
+    for requests in 0..4u8 {
+        let refused = refuse_in_turn(rt.alloc(), &|heap: &Refusing| boxes(heap, requests));
+        assert_eq!(rt; refused, Some(u64::from(requests)));
+    }
+}
+
+#[test]
+fn tells_a_wrong_answer(rt: HostRuntime) {
+    let hides_a_refusal = |heap: &Refusing| {
+        let _hidden = boxes(heap, 2);
+        Ok(())
+    };
+    assert_eq!(rt; refuse_in_turn(rt.alloc(), &hides_a_refusal), None);
+    let only_gives_up = |_heap: &Refusing| Err(AllocError);
+    assert_eq!(rt; refuse_in_turn(rt.alloc(), &only_gives_up), None);
+}
