@@ -1,5 +1,11 @@
+pub mod Elements
 pub mod Fault
+pub mod Fronts
 pub mod Group
+pub mod Members
 pub mod Numbers
+pub mod Passing
+pub mod Primaries
 pub mod Processors
+pub mod RingOrder
 pub mod Rings

@@ -1,10 +1,11 @@
 -- Numbers in a row, lists of numbers in order, and numbers as words of bits.
-use Rattle.std.specs.Prelude.{ℕ, zero, suc, ◌+◌, ◌*◌, ◌^◌, max, Bool, ◌==◌, nat_lt, if◌then◌else◌, List, [], ◌∷◌}
+use Rattle.std.specs.Prelude.{ℕ, zero, suc, ◌+◌, ◌*◌, max, Bool, ◌==◌, nat_lt, if◌then◌else◌, List, [], ◌∷◌}
 use Rattle.std.specs.Int.{bit_at}
+use Rattle.ring_base.specs.declared.limits.TheConstants.{MAX}
 
--- the greatest number of a ring, a message, a token or a ticket
+-- the greatest number of a ring, a message, a token or a ticket: 2 ^ 62
 abbrev pub max_number : ℕ
-max_number = 2 ^ 62
+max_number = MAX
 
 -- count numbers in a row, from the first on
 abbrev pub numbers_from : ℕ → ℕ → List ℕ

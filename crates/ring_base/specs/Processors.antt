@@ -1,11 +1,12 @@
 -- Processors, and sets of them. A set is a word: processor i is its bit of value 2 ^ (i - 1).
 use Rattle.std.specs.Prelude.{◌≡◌, ℕ, ◌+◌, ◌-◌, ◌%◌, ◌^◌, ◌≤◌, Bool, ◌==◌, nat_lt, List, length, filter, bit_and, bit_or, slice_index}
 use Rattle.std.specs.Int.{bit_at}
+use Rattle.ring_base.specs.declared.limits.TheConstants.{MOST_PROCESSORS}
 use Rattle.ring_base.specs.Numbers.{numbers_from, has_bit}
 
--- no run has more
+-- no run has more: 16
 abbrev pub most_processors : ℕ
-most_processors = 16
+most_processors = MOST_PROCESSORS
 
 -- a processor's number
 abbrev pub IsProc : ℕ → Type 0
@@ -51,8 +52,8 @@ common a b = bit_and a b
 abbrev pub less : ℕ → ℕ → ℕ
 less a b = a - bit_and a b
 
--- the members, ascending
-abbrev pub elements : ℕ → List ℕ
+-- the members, ascending. To compute with it, name it in an `unfolding` line.
+unfoldable pub elements : ℕ → List ℕ
 elements set = filter (has set) (numbers_from 1 most_processors)
 
 -- how many members there are

@@ -1,5 +1,29 @@
 -- The order of the names of rings: by number, then by representative. A last primary may be none, which is below every ring.
-use Rattle.std.specs.Prelude.{Option, Some, None}
-use Rattle.std.specs.Cmp.{Ordering}
+-- Also how a ring is printed.
+use Rattle.std.specs.Prelude.{◌≡◌, ℕ, Option, List, ◌++◌, codes}
+use Rattle.std.specs.declared.cmp.Ordering.{Ordering}
+use Rattle.std.specs.declared.cmp.Ordering.TheVariants.{Less}
+use Rattle.std.specs.Fmt.{decimal}
+use Rattle.std.specs.Option.{option_cmp}
 use Rattle.std.specs.Ordering.{nat_cmp, ordering_then}
 use Rattle.ring_base.specs.declared.ring_id.RingId.{RingId}
+
+-- how two rings compare
+abbrev pub ring_cmp : RingId → RingId → Ordering
+ring_cmp a b = ordering_then (nat_cmp a.seq b.seq) (nat_cmp a.rep b.rep)
+
+-- how two last primaries compare
+abbrev pub primary_cmp : Option RingId → Option RingId → Ordering
+primary_cmp a b = option_cmp ring_cmp a b
+
+-- the first ring is below the second
+abbrev pub IsBelow : RingId → RingId → Type 0
+IsBelow a b = ring_cmp a b ≡ Less
+
+-- the first last primary is below the second
+abbrev pub IsPrimaryBelow : Option RingId → Option RingId → Type 0
+IsPrimaryBelow a b = primary_cmp a b ≡ Less
+
+-- how a ring is printed: its number, a full stop, its representative
+abbrev pub ring_text : RingId → List ℕ
+ring_text r = (decimal r.seq ++ codes ".") ++ decimal r.rep

@@ -6,18 +6,24 @@
 mod fault;
 mod fixed;
 mod laws;
+mod limits;
+mod members;
 mod past;
+mod primary;
 mod proc_set;
 mod processor;
 mod ring_id;
 
 pub use fault::Fault;
 pub use fixed::Fixed;
-pub use laws::primaries_meet;
+pub use laws::{front_law, members_law, primary_law, primary_order_law, ring_order_law};
+pub use limits::{MAX, MOST_PROCESSORS};
+pub use members::Members;
 pub use past::{Past, past_of};
+pub use primary::is_primary_below;
 pub use proc_set::ProcSet;
 pub use processor::Proc;
-pub use ring_id::{MAX, RingId, is_primary_below};
+pub use ring_id::RingId;
 
 #[cfg(test)]
 mod tests;

@@ -1,8 +1,10 @@
 //! Processors, by their numbers.
 
-ghost use Rattle.std.specs.Prelude.{◌≡◌, ℕ};
+ghost use Rattle.std.specs.Fmt.{decimal};
+ghost use Rattle.std.specs.Prelude.{◌≡◌, ℕ, Some};
 ghost use Rattle.ring_base.specs.Processors.{IsProc};
 
+use std::fmt::{self, Display};
 use std::marker::Model;
 
 /// A processor: its number, 1 to 16. Contracts see the number.
@@ -36,5 +38,14 @@ impl Proc {
         ensures in_range { IsProc result }
     {
         self.number
+    }
+}
+
+impl Display for Proc {
+    ghost output = { λ proc. Some (decimal proc) };
+
+    /// Prints the number.
+    fn fmt<W: fmt::Write>(&self, f: &mut fmt::Formatter<W>) -> fmt::Result {
+        write!(f, "{}", self.number)
     }
 }

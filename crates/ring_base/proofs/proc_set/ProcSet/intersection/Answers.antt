@@ -1,0 +1,5 @@
+use Rattle.ring_base.specs.Members.{common_members}
+use Rattle.ring_base.proofs.proc_set.ProcSet.intersection.Goals as goal
+
+pub returns-clause-members : goal.returns-clause-members
+returns-clause-members c = λ i. rw (← c.self.view_is, ← c.other.view_is) (common_members c.self.inside.bits c.other.inside.bits i)

@@ -1,0 +1,18 @@
+//! The order of last primaries: of the newest primary ring that a node has adopted, none at first.
+
+ghost use Rattle.std.specs.Prelude.{◌↔◌, IsTrue};
+ghost use Rattle.ring_base.specs.Rings.{IsPrimaryBelow};
+
+use crate::ring_id::RingId;
+
+/// Whether a last primary is below another: by the order of rings, and none is below every ring.
+pub fn is_primary_below(last: Option<RingId>, other: Option<RingId>) -> bool
+    ensures { IsTrue result ↔ IsPrimaryBelow last other }
+{
+    match (last, other) {
+        (None, None) => false,
+        (None, Some(_)) => true,
+        (Some(_), None) => false,
+        (Some(ring), Some(above)) => ring.is_below(&above),
+    }
+}

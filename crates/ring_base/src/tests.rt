@@ -1,0 +1,147 @@
+//! What no contract says: the texts and numbers that users see, that calls succeed, and worked values.
+
+use super::*;
+use std::alloc::AllocError;
+use std::test::Fail;
+
+#[test]
+fn refusals(rt: HostRuntime) -> Result<(), Fail> {
+    let table = [
+        (Fault::NotMember, 1, "not a member"),
+        (Fault::PendingFull, 2, "too many pending calls"),
+        (Fault::OpTooLong, 3, "operation too long"),
+        (Fault::Conflict, 4, "number used for another call"),
+        (Fault::Stale, 5, "stale number"),
+        (Fault::NumberGap, 6, "number gap"),
+        (Fault::SessionsFull, 7, "sessions full"),
+        (Fault::Stopped, 8, "stopped"),
+        (Fault::BookFull, 9, "book full"),
+        (Fault::Stranger, 10, "stranger"),
+        (Fault::Memory, 11, "out of memory"),
+        (Fault::BadFrame, 12, "bad frame"),
+        (Fault::BadScript, 13, "bad script"),
+        (Fault::NoAnswer, 14, "no answer"),
+        (Fault::BadSnapshot, 15, "bad snapshot"),
+    ];
+    for (fault, number, text) in table {
+        assert_eq!(rt; fault.number(), number);
+        let shown = format!(in rt.alloc(); "{fault}")?;
+        assert_eq!(rt; shown.as_str(), text);
+    }
+    Ok(())
+}
+
+#[test]
+fn memory_is_a_fault(rt: HostRuntime) {
+    assert!(rt; Fault::from(AllocError) == Fault::Memory);
+}
+
+#[test]
+fn groups(rt: HostRuntime) {
+    assert!(rt; Fixed::new(0) == Err(Fault::NotMember));
+    assert!(rt; Fixed::new(17) == Err(Fault::NotMember));
+    for count in 1..17u8 {
+        let Ok(fixed) = Fixed::new(count) else {
+            panic!(rt; "{count} processors are a group");
+        };
+        assert_eq!(rt; fixed.count(), count);
+        assert!(rt; fixed.proc(0) == Err(Fault::NotMember));
+        assert!(rt; fixed.proc(count + 1) == Err(Fault::NotMember));
+        for number in 1..count + 1 {
+            assert!(rt; fixed.proc(number).is_ok(), "{number} of {count}");
+        }
+    }
+}
+
+#[test]
+fn primaries(rt: HostRuntime) -> Result<(), Fail> {
+    let table: [(u8, u16, bool); 17] = [
+        (1, 0b0, false),
+        (1, 0b1, true),
+        (2, 0b1, false),
+        (2, 0b10, false),
+        (2, 0b11, true),
+        (3, 0b100, false),
+        (3, 0b101, true),
+        (3, 0b111, true),
+        (3, 0b1001, false),
+        (4, 0b1001, false),
+        (4, 0b1011, true),
+        (4, 0b1111, true),
+        (5, 0b10001, false),
+        (5, 0b10101, true),
+        (16, 0x00FF, false),
+        (16, 0x01FF, true),
+        (16, 0xFFFF, true),
+    ];
+    for (count, members, is_primary) in table {
+        let fixed = Fixed::new(count)?;
+        let set = ProcSet::from_bits(members);
+        assert!(rt;
+            fixed.is_primary(set) == is_primary,
+            "{members:b} of {count}"
+        );
+    }
+    primary_law();
+    Ok(())
+}
+
+#[test]
+fn sets(rt: HostRuntime) -> Result<(), Fail> {
+    let fixed = Fixed::new(5)?;
+    let (two, three, five) = (fixed.proc(2)?, fixed.proc(3)?, fixed.proc(5)?);
+    let mut set = ProcSet::new();
+    assert!(rt; set.is_empty() && set.smallest().is_none() && set == ProcSet::default());
+    assert!(rt; set.insert(five) && set.insert(two) && !set.insert(five));
+    assert_eq!(rt; set.bits(), 0b10010);
+    assert_eq!(rt; set.len(), 2);
+    assert!(rt; set.contains(two) && !set.contains(three));
+    assert!(rt; set.smallest() == Some(two) && set.at(1) == Some(five) && set.at(2).is_none());
+    assert_eq!(rt; set.position_of(five), 1);
+    assert!(rt; set.next(two) == five && set.next(five) == two);
+    let all = fixed.everybody();
+    assert_eq!(rt; all.bits(), 0b11111);
+    assert!(rt; set.is_subset(all) && !all.is_subset(set));
+    assert_eq!(rt; all.less(set).bits(), 0b01101);
+    assert!(rt; all.intersection(set) == set && all.less(set).union(set) == all);
+    let mut members = set.iter();
+    assert!(rt; members.next() == Some(two) && members.next() == Some(five));
+    assert!(rt; members.next().is_none());
+    for proc in all.iter() {
+        assert!(rt; all.contains(proc));
+        assert!(rt; all.next(proc) == fixed.proc(proc.number() % 5 + 1)?);
+    }
+    members_law();
+    Ok(())
+}
+
+#[test]
+fn rings(rt: HostRuntime) -> Result<(), Fail> {
+    let fixed = Fixed::new(3)?;
+    let early = RingId {
+        seq: 1,
+        rep: fixed.proc(3)?,
+    };
+    let late = RingId {
+        seq: 2,
+        rep: fixed.proc(1)?,
+    };
+    assert!(rt; early.is_below(&late) && !late.is_below(&early) && !late.is_below(&late));
+    assert!(rt; is_primary_below(None, Some(early)) && is_primary_below(Some(early), Some(late)));
+    assert!(rt; !is_primary_below(None, None) && !is_primary_below(Some(early), None));
+    let shown = format!(in rt.alloc(); "{early} {}", late.rep)?;
+    assert_eq!(rt; shown.as_str(), "1.3 1");
+    assert_eq!(rt; MAX, 4_611_686_018_427_387_904);
+    ring_order_law();
+    primary_order_law();
+    front_law::<u8>();
+    Ok(())
+}
+
+#[test]
+fn the_past_takes_no_room() {
+    let past: Past<u64> = past_of(&0u8);
+    prove!(size_of::<Past<u64>>() == 0);
+    prove!(size_of::<Past<[RingId; 0]>>() == 0);
+    drop(past);
+}
