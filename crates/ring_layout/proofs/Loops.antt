@@ -1,0 +1,63 @@
+-- Values read, and written, one after the other, as a loop does.
+use Rattle.std.proofs.Common.{◌≡◌, ℕ, suc, ◌-◌, ◌+◌, ◌≤◌, ◌<◌, List, [], ◌∷◌, ◌++◌, length, get_or, drop, Option, Some, None, refl, sym, ap, ◌∙◌, append_assoc, arith, drop-cons, add-one}
+use Rattle.std.proofs.lemmas.List.{append-nil, length-append}
+use Rattle.std.specs.List.{flat_map}
+use Rattle.std.proofs.lemmas.List.Concat.{flat_map-cons}
+use Rattle.ring_base.specs.declared.fault.Fault.{Fault}
+use Rattle.ring_base.specs.declared.fault.Fault.TheVariants.{NotMember, PendingFull, OpTooLong, Conflict, Stale, NumberGap, SessionsFull, Stopped, BookFull, Stranger, Memory, BadFrame, BadScript, NoAnswer, BadSnapshot}
+use Rattle.ring_layout.specs.Reading.{◌>>=◌, Refuses, times_at}
+
+-- what was read before, and what is still read
+abbrev pub with_front : {A : Type 0} → List A → Option (List A × List ℕ) → Option (List A × List ℕ)
+with_front front read = read >>= λ x. Some (front ++ x.0, x.1)
+
+regroup : {A : Type 0} (front : List A) (n : A) (read : Option (List A × List ℕ)) → with_front front (read >>= λ x. Some (n ∷ x.0, x.1)) ≡ with_front (front ++ n ∷ []) read
+regroup {A} front n (Some x) = ap (λ (ns : List A). Some (ns, x.1)) (simp append_assoc)
+regroup front n None = refl
+
+pub goes_on : {A : Type 0} (at : List ℕ → Option (A × List ℕ)) (front : List A) (count i : ℕ) (bytes : List ℕ) (n : A) (after : List ℕ) (total : Option (List A × List ℕ)) → i < count → at bytes ≡ Some (n, after)
+    → with_front front (times_at (count - i) at bytes) ≡ total → with_front (front ++ n ∷ []) (times_at (count - (i + 1)) at after) ≡ total
+unfolding times_at
+goes_on at front count i bytes n after total lt h so_far =
+    let k : count - i ≡ suc (count - (i + 1)) = omega arith in
+    let one : with_front front (times_at (count - i) at bytes) ≡ with_front (front ++ n ∷ []) (times_at (count - (i + 1)) at after) = rw (k, h) (regroup front n (times_at (count - (i + 1)) at after)) in
+    sym one ∙ so_far
+
+-- a refusal passes on to whatever is nothing where this is
+pub Refuses-on : {A B : Type 0} (e : Fault) (r : Option A) (s : Option B) → Refuses e r → (r ≡ None → s ≡ None) → Refuses e s
+Refuses-on Memory r s h f = tt
+Refuses-on BadFrame r s h f = f h
+Refuses-on NotMember r s h f = h
+Refuses-on PendingFull r s h f = h
+Refuses-on OpTooLong r s h f = h
+Refuses-on Conflict r s h f = h
+Refuses-on Stale r s h f = h
+Refuses-on NumberGap r s h f = h
+Refuses-on SessionsFull r s h f = h
+Refuses-on Stopped r s h f = h
+Refuses-on BookFull r s h f = h
+Refuses-on Stranger r s h f = h
+Refuses-on BadScript r s h f = h
+Refuses-on NoAnswer r s h f = h
+Refuses-on BadSnapshot r s h f = h
+
+pub ends : {A : Type 0} (at : List ℕ → Option (A × List ℕ)) (e : Fault) (front : List A) (count i : ℕ) (bytes : List ℕ) (total : Option (List A × List ℕ)) → i < count → Refuses e (at bytes)
+    → with_front front (times_at (count - i) at bytes) ≡ total → Refuses e total
+unfolding times_at
+ends at e front count i bytes total lt h so_far =
+    let k : count - i ≡ suc (count - (i + 1)) = omega arith in
+    Refuses-on e (at bytes) total h (λ none. sym so_far ∙ rw (k, none) refl)
+
+pub is_done : {A : Type 0} (at : List ℕ → Option (A × List ℕ)) (front : List A) (count i : ℕ) (bytes : List ℕ) (total : Option (List A × List ℕ)) → count ≤ i → with_front front (times_at (count - i) at bytes) ≡ total → total ≡ Some (front, bytes)
+unfolding times_at
+is_done {A} at front count i bytes total le so_far =
+    let k : count - i ≡ 0 = omega arith in
+    let one : with_front front (times_at (count - i) at bytes) ≡ Some (front, bytes) = rw k (ap (λ (ns : List A). Some (ns, bytes)) (append-nil front)) in
+    sym so_far ∙ one
+
+-- the spellings from place i on begin with that of the value there
+pub flat_map-drop : {A : Type 0} (f : A → List ℕ) (xs : List A) (i : ℕ) (x : A) → i < length xs → get_or xs i x ≡ x → flat_map f (drop i xs) ≡ f x ++ flat_map f (drop (i + 1) xs)
+flat_map-drop f xs i x lt is = rw (add-one, drop-cons xs i x, is) (flat_map-cons f x (drop (suc i) xs))
+
+pub length-flat_map-drop : {A : Type 0} (f : A → List ℕ) (xs : List A) (i : ℕ) (x : A) → i < length xs → get_or xs i x ≡ x → length (flat_map f (drop i xs)) ≡ length (f x) + length (flat_map f (drop (i + 1) xs))
+length-flat_map-drop f xs i x lt is = ap length (flat_map-drop f xs i x lt is) ∙ length-append (f x) (flat_map f (drop (i + 1) xs))

@@ -1,0 +1,6 @@
+pub mod Formats
+pub mod NumberFormats
+pub mod Processors
+pub mod Reading
+pub mod ReadingLaws
+pub mod Rings

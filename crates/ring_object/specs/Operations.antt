@@ -1,0 +1,20 @@
+-- An object as a function of content and operation, and what a list of operations makes of it.
+use Rattle.std.specs.Prelude.{ℕ, ◌≤◌, List, [], ◌∷◌, length, take, slice_index_or}
+use Rattle.ring_object.specs.Bytes.{AreBytes}
+
+-- a reply
+abbrev pub IsReply : List ℕ → Type 0
+IsReply reply = (length reply ≤ 64) × AreBytes reply
+
+-- the reply to an operation that can't be read
+abbrev pub unreadable : List ℕ
+unreadable = 255 ∷ []
+
+-- the content after a list of operations, from a content on
+abbrev pub content_after : {O : Type 0} → (O → List ℕ → O) → O → List (List ℕ) → O
+content_after next o [] = o
+content_after next o (op ∷ ops) = content_after next (next o op) ops
+
+-- the reply to the operation at place p of a list, after those before it
+abbrev pub reply_at : {O : Type 0} → (O → List ℕ → List ℕ) → (O → List ℕ → O) → O → List (List ℕ) → ℕ → List ℕ
+reply_at reply next initial ops p = reply (content_after next initial (take p ops)) (slice_index_or ops p [])

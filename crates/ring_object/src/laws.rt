@@ -1,0 +1,25 @@
+//! What every list of operations does to every object.
+
+ghost use Rattle.std.specs.Prelude.{◌≡◌, ℕ, ◌+◌, ◌^◌, ◌<◌, List, ◌++◌, length, Some, All};
+ghost use Rattle.ring_object.specs.Bytes.{AreBytes};
+ghost use Rattle.ring_object.specs.Operations.{IsReply, content_after, reply_at};
+
+use crate::object::Object;
+
+/// Law, for every object and every list of operations, each any bytes. Each content that is reached is a content, and
+/// its snapshot is restored to it. Each reply has at most 64 bytes, and stays the same as the list grows.
+pub fn object_law<O: Object>()
+    ensures reached { (ops : List (List ℕ)) → All AreBytes ops →
+        O.is_content (content_after O.next O.initial ops) }
+    ensures comes_back { (ops : List (List ℕ)) → All AreBytes ops →
+        let content = content_after O.next O.initial ops in
+        length (O.snapshot_of content) < 2 ^ 64 → O.restored (O.snapshot_of content) ≡ Some content }
+    ensures grows { (ops more : List (List ℕ)) →
+        content_after O.next O.initial (ops ++ more)
+        ≡ content_after O.next (content_after O.next O.initial ops) more }
+
+    ensures replied { (ops : List (List ℕ)) (p : ℕ) → All AreBytes ops → p < length ops →
+        IsReply (reply_at O.reply O.next O.initial ops p) }
+    ensures stays { (ops more : List (List ℕ)) (p : ℕ) → p < length ops →
+        reply_at O.reply O.next O.initial (ops ++ more) p ≡ reply_at O.reply O.next O.initial ops p }
+{}

@@ -1,0 +1,13 @@
+//! Sequential objects: what an object is, what it promises, and what a list of operations makes of it.
+//!
+//! An object has one content at the start. An operation, any bytes, gives a reply and the next content, both functions
+//! of the content and the operation. A snapshot is the content as bytes, from which the same content is restored.
+#![tactic(auto)]
+
+mod laws;
+mod object;
+mod short;
+
+pub use laws::object_law;
+pub use object::Object;
+pub use short::{Reply, Short};

@@ -1,0 +1,76 @@
+//! What an object is.
+
+ghost use Rattle.std.specs.Prelude.{◌≡◌, ℕ, Bool, false, ◌^◌, ◌<◌, List, ◌++◌, length, Option, Some, IfOk, IfErr, OnOk, OnErr};
+ghost use Rattle.ring_base.specs.declared.fault.Fault.TheVariants.{Memory};
+ghost use Rattle.ring_object.specs.Bytes.{AreBytes};
+ghost use Rattle.ring_object.specs.Operations.{IsReply, unreadable};
+ghost use Rattle.ring_object.specs.Snapshots.{Restores, Refuses};
+
+use crate::short::Reply;
+use ring_base::Fault;
+use std::alloc::Allocator;
+
+/// A sequential object. In clauses it is its content.
+///
+/// Its laws: the contents are closed under operations, a reply has at most 64 bytes, an operation that can't be read
+/// changes nothing and is replied the byte `FF`, and exactly the snapshots of contents are restored, each to its content.
+pub trait Object: Sized + Drop {
+    /// Where the content's memory comes from.
+    type Alloc: Allocator + Copy + Drop;
+
+    /// Holds of the contents that there are.
+    ghost is_content: { Self → Type 0 };
+
+    /// The content at the start.
+    ghost initial: { Self };
+
+    /// The operations that can be read.
+    ghost is_readable: { List ℕ → Bool };
+
+    /// The reply to an operation, by the content before it.
+    ghost reply: { Self → List ℕ → List ℕ };
+
+    /// The content after an operation, by the content before it.
+    ghost next: { Self → List ℕ → Self };
+
+    /// The content as bytes.
+    ghost snapshot_of: { Self → List ℕ };
+
+    /// The content that these bytes are the snapshot of.
+    ghost restored: { List ℕ → Option Self };
+
+    /// An object at the start, or `Memory`.
+    fn start(alloc: Self::Alloc) -> Result<Self, Fault>
+        ensures ok { IfOk result (λ object. object ≡ initial) }
+        ensures refused { IfErr result (λ fault. fault ≡ Memory) };
+
+    /// Does an operation. `Memory` leaves the content as it was.
+    fn apply(&mut self, op: &[u8]) -> Result<Reply, Fault>
+        ensures reply { IfOk result (λ r. r ≡ reply self.old op.now) }
+        ensures ok { OnOk result (self.new ≡ next self.old op.now) }
+        ensures err { OnErr result (self.new ≡ self.old) }
+        ensures refused { IfErr result (λ fault. fault ≡ Memory) };
+
+    /// Appends the snapshot to `out`. `Memory` leaves `out` as it was.
+    fn snapshot(&self, out: &mut Vec<u8, Self::Alloc>) -> Result<(), Fault>
+        ensures content { OnOk result (is_content self.now) }
+        ensures ok { OnOk result (out.new.items ≡ out.old.items ++ snapshot_of self.now) }
+        ensures err { OnErr result (out.new.items ≡ out.old.items) }
+        ensures refused { IfErr result (λ fault. fault ≡ Memory) };
+
+    /// The object whose snapshot the bytes are. `BadSnapshot` exactly where they are none, else the object or `Memory`.
+    fn restore(alloc: Self::Alloc, bytes: &[u8]) -> Result<Self, Fault>
+        ensures ok { IfOk result (λ object. restored bytes.now ≡ Some object) }
+        ensures refused { IfErr result (Refuses (restored bytes.now)) };
+
+    ghost starts: { is_content initial };
+
+    ghost keeps: { (content : Self) (op : List ℕ) → AreBytes op → is_content content → is_content (next content op) };
+
+    ghost replies: { (content : Self) (op : List ℕ) → AreBytes op → is_content content → IsReply (reply content op) };
+
+    ghost ignores: { (content : Self) (op : List ℕ) → is_readable op ≡ false →
+        (reply content op ≡ unreadable) × (next content op ≡ content) };
+
+    ghost restores: { Restores is_content snapshot_of restored };
+}

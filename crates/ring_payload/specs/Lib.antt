@@ -1,0 +1,6 @@
+pub mod Calls
+pub mod Contents
+pub mod Heads
+pub mod Operations
+pub mod Parts
+pub mod Payloads

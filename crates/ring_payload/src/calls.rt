@@ -1,0 +1,107 @@
+//! Several calls, and the parts of a log.
+
+ghost use Rattle.std.specs.Prelude.{◌≡◌, ℕ, ◌+◌, ◌^◌, ◌<◌, ◌≤◌, List, [], ◌∷◌, ◌++◌, length};
+ghost use Rattle.ring_layout.specs.Reading.{Appends, Gives};
+
+use crate::call::Call;
+use bytes::BytesMut;
+use ring_base::{Fault, MAX};
+use ring_layout::{Decode, Encode, Reader, read_many, size_many, write_many};
+use std::alloc::{AllocError, Allocator, Global};
+use std::marker::Model;
+
+/// A list of calls. Contracts see the list.
+#[derive(Drop)]
+pub struct Calls<A: Allocator + Copy = Global> {
+    calls: Vec<Call<A>, A>,
+}
+
+impl<A: Allocator + Copy> Model for Calls<A> {
+    ghost use Rattle.std.specs.Prelude.{List};
+    ghost use Rattle.ring_payload.specs.declared.call.Call.{Call as OneCall};
+
+    ghost Value = { List (OneCall A) };
+
+    ghost view = { λ c. c.calls.items };
+}
+
+impl<A: Allocator + Copy> Calls<A> {
+    pub fn from_vec(calls: Vec<Call<A>, A>) -> Calls<A>
+        ensures { result ≡ calls.items }
+    {
+        Calls { calls }
+    }
+
+    pub fn into_vec(self) -> Vec<Call<A>, A>
+        ensures { result.items ≡ self }
+    {
+        self.calls
+    }
+
+    pub fn as_slice(&self) -> &[Call<A>]
+        ensures { result.now ≡ self.now }
+    {
+        self.calls.as_slice()
+    }
+}
+
+impl<A: Allocator + Copy> Clone for Calls<A> {
+    ghost is_clone = { λ calls copy. copy ≡ calls };
+
+    fn clone(&self) -> Result<Calls<A>, AllocError> {
+        Ok(Calls {
+            calls: self.calls.clone()?,
+        })
+    }
+}
+
+/// A part of a log: the place of its first call, counted from 0, and one to seven calls.
+#[derive(Clone, Drop)]
+pub struct Part<A: Allocator + Copy = Global> {
+    pub first: u64,
+    pub calls: Calls<A>,
+}
+
+impl<A: Allocator + Copy> Encode for Part<A> {
+    ghost use Rattle.ring_payload.specs.Parts.{part_spelling, PartFits, part_at, part_format};
+
+    ghost spelling = { part_spelling };
+
+    ghost most = { 7275 };
+
+    ghost fits = { PartFits };
+
+    ghost at = { part_at };
+
+    ghost format = { part_format };
+
+    fn size(&self) -> usize {
+        9 + size_many(self.calls.as_slice())
+    }
+
+    fn write<B: Allocator + Copy>(&self, out: &mut BytesMut<B>) {
+        let calls = self.calls.as_slice();
+        self.first.write(out);
+        (calls.len() as u8).write(out);
+        write_many(calls, out);
+    }
+}
+
+impl<A: Allocator + Copy> Decode<A> for Part<A> {
+    #[tactic(auto, unfolding(crate::specs::Parts::part_at))]
+    fn read(alloc: A, from: &mut Reader<'_>) -> Result<Part<A>, Fault> {
+        let first = Decode::read(alloc, from)?;
+        if first > MAX {
+            return Err(Fault::BadFrame);
+        }
+        let count: u8 = Decode::read(alloc, from)?;
+        if count < 1 || count > 7 {
+            return Err(Fault::BadFrame);
+        }
+        let calls = read_many(alloc, count as usize, from)?;
+        Ok(Part {
+            first,
+            calls: Calls::from_vec(calls),
+        })
+    }
+}

@@ -1,0 +1,91 @@
+//! Operations: the bytes that a call hands to the replicated object.
+
+ghost use Rattle.std.specs.Prelude.{◌≡◌, ℕ, ◌+◌, ◌^◌, ◌<◌, ◌≤◌, List, [], ◌∷◌, ◌++◌, length, IfOk, IfErr};
+ghost use Rattle.ring_layout.specs.Reading.{Appends, Gives};
+ghost use Rattle.ring_base.specs.declared.fault.Fault.TheVariants.{Memory};
+
+use bytes::BytesMut;
+use ring_base::Fault;
+use ring_layout::{Decode, Encode, Reader};
+use std::alloc::{AllocError, Allocator, Global};
+use std::marker::Model;
+
+/// An operation has at most so many bytes.
+pub const MOST_OPERATION: usize = 1024;
+
+/// An operation, on the heap. Contracts see its bytes.
+#[derive(Drop)]
+pub struct Operation<A: Allocator + Copy = Global> {
+    bytes: Vec<u8, A>,
+}
+
+impl<A: Allocator + Copy> Model for Operation<A> {
+    ghost Value = { List ℕ };
+
+    ghost view = { λ op. op.bytes.items };
+}
+
+impl<A: Allocator + Copy> Operation<A> {
+    /// The operation of these bytes, or `Memory`.
+    pub fn from_slice(alloc: A, bytes: &[u8]) -> Result<Operation<A>, Fault>
+        ensures ok { IfOk result (λ op. op ≡ bytes.now) }
+        ensures refused { IfErr result (λ fault. fault ≡ Memory) }
+    {
+        Ok(Operation {
+            bytes: Vec::from_slice(alloc, bytes)?,
+        })
+    }
+
+    /// Its bytes.
+    pub fn as_slice(&self) -> &[u8]
+        ensures { result.now ≡ self.now }
+    {
+        self.bytes.as_slice()
+    }
+}
+
+impl<A: Allocator + Copy> Clone for Operation<A> {
+    ghost is_clone = { λ op copy. copy ≡ op };
+
+    fn clone(&self) -> Result<Operation<A>, AllocError> {
+        Ok(Operation {
+            bytes: self.bytes.clone()?,
+        })
+    }
+}
+
+impl<A: Allocator + Copy> Encode for Operation<A> {
+    ghost use Rattle.ring_payload.specs.Operations.{op_spelling, OpFits, op_at, op_format};
+
+    ghost spelling = { op_spelling };
+
+    ghost most = { 1026 };
+
+    ghost fits = { OpFits };
+
+    ghost at = { op_at };
+
+    ghost format = { op_format };
+
+    fn size(&self) -> usize {
+        2 + self.as_slice().len()
+    }
+
+    fn write<B: Allocator + Copy>(&self, out: &mut BytesMut<B>) {
+        let bytes = self.as_slice();
+        (bytes.len() as u16).write(out);
+        out.extend_from_slice(bytes).unwrap();
+    }
+}
+
+impl<A: Allocator + Copy> Decode<A> for Operation<A> {
+    #[tactic(auto, unfolding(crate::specs::Operations::op_at))]
+    fn read(alloc: A, from: &mut Reader<'_>) -> Result<Operation<A>, Fault> {
+        let len: u16 = Decode::read(alloc, from)?;
+        if len as usize > MOST_OPERATION {
+            return Err(Fault::BadFrame);
+        }
+        let bytes = from.take(len as usize)?;
+        Operation::from_slice(alloc, bytes)
+    }
+}

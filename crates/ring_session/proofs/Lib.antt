@@ -1,0 +1,4 @@
+pub mod Entries
+pub mod OneEffectLaws
+pub mod Steps
+pub mod TableLaws

@@ -1,0 +1,54 @@
+-- The session table's answer to each call of a list, as a function of the list alone: what was answered before, where
+-- and by whom plays no part.
+use Rattle.std.specs.Prelude.{◌≡◌, ℕ, ◌+◌, ◌==◌, ◌&&◌, nat_lt, Bool, List, length, take, slice_get, Option, Some, None, position, if◌then◌else◌}
+use Rattle.std.specs.Option.{option_map}
+use Rattle.std.specs.Str.{bytes_eq}
+use Rattle.ring_base.specs.Fault.{number_of}
+use Rattle.ring_base.specs.declared.fault.Fault.{Fault}
+use Rattle.ring_base.specs.declared.fault.Fault.TheVariants.{Conflict, Stale, NumberGap, SessionsFull}
+use Rattle.ring_object.specs.Operations.{reply_at}
+use Rattle.ring_payload.specs.declared.call.Call.{Call}
+use Rattle.ring_session.specs.declared.answer.Answer.{Answer}
+use Rattle.ring_session.specs.declared.answer.Answer.TheVariants.{Done, Kept, Refused}
+use Rattle.ring_session.specs.Deduplicated.{count_of, may_call, deduplicated, StandsAt, operations}
+
+-- the answer that refuses for this reason
+abbrev pub refusal : Fault → Answer
+refusal fault = Refused (number_of fault)
+
+-- whether the two are one call: of one client and number, and with the same operation
+abbrev pub is_same : {A : Type 0} → Call A → Call A → Bool
+is_same c d = (d.client == c.client) && (d.number == c.number) && bytes_eq d.op c.op
+
+-- the answer to a call whose number is its client's last: the reply at its own place, unless another call has that number
+abbrev pub repeated : (ℕ → List ℕ) → Option ℕ → Answer
+repeated replies (Some place) = Kept (replies place)
+repeated replies None = refusal Conflict
+
+-- the answer to a call after the kept ones took effect, by the replies at their places and, behind them, at its own
+abbrev pub answer_after : {A : Type 0} → (ℕ → List ℕ) → List (Call A) → Call A → Answer
+answer_after replies kept c =
+    let last = count_of c.client kept in
+    if c.number == last + 1 then (if may_call kept c.client then Done (replies (length kept)) else refusal SessionsFull)
+    else if c.number == last then repeated replies (position (is_same c) kept)
+    else if nat_lt c.number last then refusal Stale
+    else refusal NumberGap
+
+-- the reply in an answer, if the call took effect, now or before
+abbrev pub reply_in : Answer → Option (List ℕ)
+reply_in (Done reply) = Some reply
+reply_in (Kept reply) = Some reply
+reply_in (Refused number) = None
+
+module _ {O : Type 0} (reply : O → List ℕ → List ℕ) (next : O → List ℕ → O) (initial : O) where
+  -- the sequential object's reply to the call at a place of the list
+  abbrev pub call_reply : {A : Type 0} → List (Call A) → ℕ → List ℕ
+  call_reply calls p = reply_at reply next initial (operations calls) p
+
+  -- the answer to the call at a place of the list, if it has that place
+  abbrev pub session_answer : {A : Type 0} → List (Call A) → ℕ → Option Answer
+  session_answer calls p = option_map (answer_after (call_reply (deduplicated calls)) (deduplicated (take p calls))) (slice_get calls p)
+
+  -- the call stands in this order of calls, and this is the sequential object's reply there
+  abbrev pub IsReplyIn : {A : Type 0} → List (Call A) → Call A → List ℕ → Type 0
+  IsReplyIn order c r = (q : ℕ) × StandsAt order q c × (call_reply order q ≡ r)

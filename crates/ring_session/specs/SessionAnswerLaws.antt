@@ -1,0 +1,218 @@
+-- What holds of the session table's answers: a reply is the sequential object's at the one place where its call takes
+-- effect, and no later call changes it.
+use Rattle.std.proofs.Common.{◌≡◌, ℕ, zero, suc, ◌+◌, ◌<◌, ◌≤◌, ◌==◌, ◌&&◌, nat_lt, Bool, true, false, List, [], ◌∷◌, ◌++◌, length, take, drop, Option, Some, None, position, slice_get, get_or, refl, ap, sym, ◌∙◌, arith, ◌⊎◌, inl, inr, if◌then◌else◌}
+use Rattle.std.specs.Prelude.{slice_index_or}
+use Rattle.std.specs.Option.{option_map}
+use Rattle.std.specs.Str.{bytes_eq}
+use Rattle.std.proofs.lemmas.Bool.{cond-true, eqb-true, and_parts}
+use Rattle.std.proofs.lemmas.List.{append-nil, map-append, length-map, length-append, take-append-le, take-append-drop, take-take, take_all, get_or_append_left}
+use Rattle.std.proofs.lemmas.List.Quantifiers.{position-Some}
+use Rattle.std.proofs.lemmas.Option.{slice_get_within, slice_get-get_or}
+use Rattle.std.proofs.lemmas.Slice.Eq.{bytes_eq-Decides}
+use Rattle.ring_base.specs.Fronts.{IsFront, front_trans, front_length, front_get}
+use Rattle.ring_base.specs.declared.fault.Fault.TheVariants.{Stale, NumberGap, SessionsFull}
+use Rattle.ring_object.specs.Operations.{content_after}
+use Rattle.ring_payload.specs.declared.call.Call.{Call}
+use Rattle.ring_session.specs.declared.answer.Answer.{Answer}
+use Rattle.ring_session.specs.declared.answer.Answer.TheVariants.{Done, Kept}
+use Rattle.ring_session.specs.Deduplicated.{count_of, may_call, takes_effect, deduplicated, StandsAt, IsNumbered, operations}
+use Rattle.ring_session.specs.DeduplicatedLaws.{take_front, get-push_last, count_of-take, deduplicated-push, deduplicated-front, deduplicated-numbered, takes_effect-number, numbered_once}
+use Rattle.ring_session.specs.SessionAnswer.{refusal, is_same, repeated, answer_after, reply_in, call_reply, session_answer, IsReplyIn}
+
+-- ---- the sequential object's replies
+
+-- a reply stays as the list grows
+pub call_reply-front : {O A : Type 0} (reply : O → List ℕ → List ℕ) (next : O → List ℕ → O) (initial : O) (xs ys : List (Call A)) (q : ℕ) → IsFront xs ys → q < length xs
+    → call_reply reply next initial ys q ≡ call_reply reply next initial xs q
+call_reply-front {O} {A} reply next initial xs ys q front within =
+    let split : operations ys ≡ operations xs ++ operations front.0 = ap operations (sym front.1) ∙ map-append (λ (c : Call A). c.op) xs front.0 in
+    let many : length (operations xs) ≡ length xs = length-map xs (λ (c : Call A). c.op) in
+    let before : take q (operations ys) ≡ take q (operations xs) = ap (take q) split ∙ take-append-le q (operations xs) (operations front.0) (omega (arith, within, many)) in
+    let here : slice_index_or (operations ys) q [] ≡ slice_index_or (operations xs) q [] = ap (λ (w : List (List ℕ)). slice_index_or w q []) split ∙ get_or_append_left (operations xs) (operations front.0) [] q (omega (arith, within, many)) in
+    ap (λ w. reply (content_after next initial w) (slice_index_or (operations ys) q [])) before ∙ ap (λ op. reply (content_after next initial (take q (operations xs))) op) here
+
+-- a call that was replied in an order is replied so in each longer one
+pub replied_front : {O A : Type 0} (reply : O → List ℕ → List ℕ) (next : O → List ℕ → O) (initial : O) (xs ys : List (Call A)) (c : Call A) (r : List ℕ) → IsFront xs ys
+    → IsReplyIn reply next initial xs c r → IsReplyIn reply next initial ys c r
+replied_front reply next initial xs ys c r front replied =
+    (replied.0, front_get xs ys replied.0 c front replied.1, call_reply-front reply next initial xs ys replied.0 front (slice_get_within xs replied.0 c replied.1) ∙ replied.2)
+
+-- in an order where each client's calls are numbered, a client's number names one call with one reply
+pub one_reply : {O A : Type 0} (reply : O → List ℕ → List ℕ) (next : O → List ℕ → O) (initial : O) (order : List (Call A)) → IsNumbered order → (c d : Call A) (r s : List ℕ)
+    → IsReplyIn reply next initial order c r → IsReplyIn reply next initial order d s → c.client ≡ d.client → c.number ≡ d.number → (c ≡ d) × (r ≡ s)
+one_reply {O} {A} reply next initial order numbered c d r s x y client number =
+    let place : x.0 ≡ y.0 = numbered_once order numbered x.0 y.0 c d x.1 y.1 client number in
+    let same : Some c ≡ Some d = sym x.1 ∙ ap (λ q. slice_get order q) place ∙ y.1 in
+    (cc same, sym x.2 ∙ ap (call_reply reply next initial order) place ∙ y.2)
+
+-- ---- places
+
+-- the places before the next one
+take_next : {X : Type 0} (xs : List X) (p : ℕ) (x : X) → slice_get xs p ≡ Some x → take (suc p) xs ≡ take p xs ++ x ∷ []
+take_next [] p x at = absurd (cc at)
+take_next (y ∷ ys) zero x at = cc at
+take_next (y ∷ ys) (suc p) x at = ap (λ w. y ∷ w) (take_next ys p x at)
+
+front_take : {X : Type 0} (k : ℕ) (xs : List X) → IsFront (take k xs) xs
+front_take k xs = (drop k xs, take-append-drop k xs)
+
+-- the calls that took effect before a place are a front
+before_front : {A : Type 0} (calls : List (Call A)) (p : ℕ) → IsFront (deduplicated (take p calls)) (deduplicated calls)
+before_front calls p = deduplicated-front (take p calls) calls (front_take p calls)
+
+-- a call that takes effect at its place comes right behind those that did before
+pub takes_effect-front : {A : Type 0} (calls : List (Call A)) (p : ℕ) (c : Call A) → StandsAt calls p c → takes_effect (deduplicated (take p calls)) c ≡ true → IsFront (deduplicated (take p calls) ++ c ∷ []) (deduplicated (take (suc p) calls))
+takes_effect-front {A} calls p c at taken =
+    let kept = deduplicated (take p calls) in
+    let grown : deduplicated (take (suc p) calls) ≡ kept ++ c ∷ [] =
+    ap deduplicated (take_next calls p c at) ∙ deduplicated-push (take p calls) c ∙ ap (λ w. kept ++ w) (cond-true (takes_effect kept c) (c ∷ []) [] taken) in
+    ([], append-nil (kept ++ c ∷ []) ∙ sym grown)
+
+effect_front : {A : Type 0} (calls : List (Call A)) (p : ℕ) (c : Call A) → StandsAt calls p c → takes_effect (deduplicated (take p calls)) c ≡ true → IsFront (deduplicated (take p calls) ++ c ∷ []) (deduplicated calls)
+effect_front calls p c at taken = front_trans (deduplicated (take p calls) ++ c ∷ []) (deduplicated (take (suc p) calls)) (deduplicated calls) (takes_effect-front calls p c at taken) (before_front calls (suc p))
+
+-- ---- one call
+
+-- what the test of one call finds
+pub is_same-true : {A : Type 0} (c d : Call A) → is_same c d ≡ true → d ≡ c
+is_same-true {A} c d same =
+    let parts = and_parts ((d.client == c.client) && (d.number == c.number)) (bytes_eq d.op c.op) same in
+    let named = and_parts (d.client == c.client) (d.number == c.number) parts.0 in
+    let client : d.client ≡ c.client = eqb-true d.client c.client named.0 in
+    let number : d.number ≡ c.number = eqb-true d.number c.number named.1 in
+    let op : d.op ≡ c.op = (bytes_eq-Decides d.op c.op).0 parts.1 in
+    let of_client : ℕ → Call A = λ k. record { client = k; number = d.number; op = d.op } in
+    let of_number : ℕ → Call A = λ k. record { client = c.client; number = k; op = d.op } in
+    let of_op : List ℕ → Call A = λ o. record { client = c.client; number = c.number; op = o } in
+    ap of_client client ∙ ap of_number number ∙ ap of_op op
+
+-- the place of one call
+pub position-is_same : {A : Type 0} (kept : List (Call A)) (c : Call A) (q : ℕ) → position (is_same c) kept ≡ Some q → StandsAt kept q c
+position-is_same kept c q found =
+    let there = position-Some (is_same c) kept q c found in
+    slice_get-get_or kept q c there.0 ∙ ap Some (is_same-true c (get_or kept q c) there.1)
+
+-- ---- answers
+
+-- the answer at a place with a call
+pub session_answer-at : {O A : Type 0} (reply : O → List ℕ → List ℕ) (next : O → List ℕ → O) (initial : O) (calls : List (Call A)) (p : ℕ) (c : Call A) → StandsAt calls p c
+    → session_answer reply next initial calls p ≡ Some (answer_after (call_reply reply next initial (deduplicated calls)) (deduplicated (take p calls)) c)
+session_answer-at reply next initial calls p c at = ap (option_map (answer_after (call_reply reply next initial (deduplicated calls)) (deduplicated (take p calls)))) at
+
+same_place : (f g : ℕ → List ℕ) (o : Option ℕ) → ((q : ℕ) → o ≡ Some q → f q ≡ g q) → repeated f o ≡ repeated g o
+same_place f g None same = refl
+same_place f g (Some q) same = ap Kept (same q refl)
+
+-- two answers by the same tests are one, where the replies and the kept answers that they come to are
+pub same_cases : (next room last old : Bool) (x y : List ℕ) (k l : Answer) → (next && room ≡ true → x ≡ y) → (last ≡ true → k ≡ l)
+    → (if next then (if room then Done x else refusal SessionsFull) else if last then k else if old then refusal Stale else refusal NumberGap)
+    ≡ (if next then (if room then Done y else refusal SessionsFull) else if last then l else if old then refusal Stale else refusal NumberGap)
+same_cases true true last old x y k l done kept = ap Done (done refl)
+same_cases true false last old x y k l done kept = refl
+same_cases false room true old x y k l done kept = kept refl
+same_cases false room false old x y k l done kept = refl
+
+-- the answer looks at the replies at the kept places, and at its own if the call takes effect
+pub answer_after-same : {A : Type 0} (f g : ℕ → List ℕ) (kept : List (Call A)) (c : Call A) → (takes_effect kept c ≡ true → f (length kept) ≡ g (length kept)) → ((q : ℕ) → q < length kept → f q ≡ g q)
+    → answer_after f kept c ≡ answer_after g kept c
+answer_after-same f g kept c own before =
+    same_cases (c.number == count_of c.client kept + 1) (may_call kept c.client) (c.number == count_of c.client kept) (nat_lt c.number (count_of c.client kept))
+    (f (length kept)) (g (length kept)) (repeated f (position (is_same c) kept)) (repeated g (position (is_same c) kept)) own
+    (λ last. same_place f g (position (is_same c) kept) (λ q found. before q (position-Some (is_same c) kept q c found).0))
+
+-- an answer stays as the list grows
+pub session_answer-front : {O A : Type 0} (reply : O → List ℕ → List ℕ) (next : O → List ℕ → O) (initial : O) (xs ys : List (Call A)) (p : ℕ) (c : Call A) → StandsAt xs p c → IsFront xs ys
+    → session_answer reply next initial ys p ≡ session_answer reply next initial xs p
+session_answer-front {O} {A} reply next initial xs ys p c at front =
+    let kept = deduplicated (take p xs) in
+    let grows = deduplicated-front xs ys front in
+    let all : ℕ → List ℕ = call_reply reply next initial (deduplicated xs) in
+    let more : ℕ → List ℕ = call_reply reply next initial (deduplicated ys) in
+    let before : take p ys ≡ take p xs = take_front xs ys p front (omega (arith, slice_get_within xs p c at)) in
+    let same : (q : ℕ) → q < length (deduplicated xs) → more q ≡ all q = λ q within. call_reply-front reply next initial (deduplicated xs) (deduplicated ys) q grows within in
+    session_answer-at reply next initial ys p c (front_get xs ys p c front at)
+    ∙ ap (λ w. Some (answer_after more (deduplicated w) c)) before
+    ∙ ap Some (answer_after-same more all kept c
+    (λ taken. same (length kept) (omega (arith, front_length (kept ++ c ∷ []) (deduplicated xs) (effect_front xs p c at taken), length-append kept (c ∷ []))))
+    (λ q within. same q (omega (arith, within, front_length kept (deduplicated xs) (before_front xs p)))))
+    ∙ sym (session_answer-at reply next initial xs p c at)
+
+replied_cases : (next room last old : Bool) (f : ℕ → List ℕ) (n : ℕ) (o : Option ℕ) (r : List ℕ)
+    → reply_in (if next then (if room then Done (f n) else refusal SessionsFull) else if last then repeated f o else if old then refusal Stale else refusal NumberGap) ≡ Some r
+    → ((next && room ≡ true) × (f n ≡ r)) ⊎ ((q : ℕ) × (o ≡ Some q) × (f q ≡ r))
+replied_cases true true last old f n o r e = inl (refl, cc e)
+replied_cases true false last old f n o r e = absurd (cc e)
+replied_cases false room true old f n None r e = absurd (cc e)
+replied_cases false room true old f n (Some q) r e = inr (q, refl, cc e)
+replied_cases false room false true f n o r e = absurd (cc e)
+replied_cases false room false false f n o r e = absurd (cc e)
+
+-- a reply is the sequential object's at a place where the call takes effect
+pub answered : {O A : Type 0} (reply : O → List ℕ → List ℕ) (next : O → List ℕ → O) (initial : O) (calls : List (Call A)) (p : ℕ) (c : Call A) (a : Answer) (r : List ℕ) → StandsAt calls p c
+    → session_answer reply next initial calls p ≡ Some a → reply_in a ≡ Some r → IsReplyIn reply next initial (deduplicated calls) c r
+answered {O} {A} reply next initial calls p c a r at answer is =
+    let kept = deduplicated (take p calls) in
+    let replies : ℕ → List ℕ = call_reply reply next initial (deduplicated calls) in
+    let told : Some (answer_after replies kept c) ≡ Some a = sym (session_answer-at reply next initial calls p c at) ∙ answer in
+    let same : answer_after replies kept c ≡ a = cc told in
+    let brings : reply_in (answer_after replies kept c) ≡ Some r = ap reply_in same ∙ is in
+    elim (replied_cases (c.number == count_of c.client kept + 1) (may_call kept c.client) (c.number == count_of c.client kept) (nat_lt c.number (count_of c.client kept)) replies (length kept) (position (is_same c) kept) r brings) [
+      | inl now ↦ (length kept, front_get (kept ++ c ∷ []) (deduplicated calls) (length kept) c (effect_front calls p c at now.0) (get-push_last kept c), now.1)
+      | inr before ↦ (before.0, front_get kept (deduplicated calls) before.0 c (before_front calls p) (position-is_same kept c before.0 before.1), before.2)
+    ]
+
+-- a call that has a reply has a number of at least 1
+pub answered-number : {O A : Type 0} (reply : O → List ℕ → List ℕ) (next : O → List ℕ → O) (initial : O) (calls : List (Call A)) (p : ℕ) (c : Call A) (a : Answer) (r : List ℕ) → StandsAt calls p c
+    → session_answer reply next initial calls p ≡ Some a → reply_in a ≡ Some r → 1 ≤ c.number
+answered-number reply next initial calls p c a r at answer is =
+    let there = answered reply next initial calls p c a r at answer is in
+    omega (arith, deduplicated-numbered calls there.0 c there.1)
+
+-- ---- one effect
+
+done_cases : (next room last old : Bool) (f : ℕ → List ℕ) (n : ℕ) (o : Option ℕ) (r : List ℕ)
+    → (if next then (if room then Done (f n) else refusal SessionsFull) else if last then repeated f o else if old then refusal Stale else refusal NumberGap) ≡ Done r → next && room ≡ true
+done_cases true true last old f n o r e = refl
+done_cases true false last old f n o r e = absurd (cc e)
+done_cases false room true old f n None r e = absurd (cc e)
+done_cases false room true old f n (Some q) r e = absurd (cc e)
+done_cases false room false true f n o r e = absurd (cc e)
+done_cases false room false false f n o r e = absurd (cc e)
+
+-- a call that is told that it was done takes effect at its place
+pub done_takes_effect : {O A : Type 0} (reply : O → List ℕ → List ℕ) (next : O → List ℕ → O) (initial : O) (calls : List (Call A)) (p : ℕ) (c : Call A) (r : List ℕ) → StandsAt calls p c
+    → session_answer reply next initial calls p ≡ Some (Done r) → takes_effect (deduplicated (take p calls)) c ≡ true
+done_takes_effect {O} {A} reply next initial calls p c r at answer =
+    let kept = deduplicated (take p calls) in
+    let replies : ℕ → List ℕ = call_reply reply next initial (deduplicated calls) in
+    let told : Some (answer_after replies kept c) ≡ Some (Done r) = sym (session_answer-at reply next initial calls p c at) ∙ answer in
+    done_cases (c.number == count_of c.client kept + 1) (may_call kept c.client) (c.number == count_of c.client kept) (nat_lt c.number (count_of c.client kept)) replies (length kept) (position (is_same c) kept) r (cc told)
+
+-- a client's number takes effect at no later place
+no_later_effect : {A : Type 0} (calls : List (Call A)) (p q : ℕ) (c d : Call A) → StandsAt calls p c → StandsAt calls q d → takes_effect (deduplicated (take p calls)) c ≡ true → takes_effect (deduplicated (take q calls)) d ≡ true
+    → c.client ≡ d.client → c.number ≡ d.number → p < q → ⊥
+no_later_effect {A} calls p q c d at at' taken taken' client number lt =
+    let before = deduplicated (take p calls) in
+    let kept = deduplicated (take q calls) in
+    let shorter : take (suc p) (take q calls) ≡ take (suc p) calls = take-take (suc p) q calls (omega (arith, lt)) in
+    let part : IsFront (take (suc p) calls) (take q calls) = (drop (suc p) (take q calls), ap (λ w. w ++ drop (suc p) (take q calls)) (sym shorter) ∙ take-append-drop (suc p) (take q calls)) in
+    let stands : StandsAt kept (length before) c =
+    front_get (before ++ c ∷ []) kept (length before) c
+    (front_trans (before ++ c ∷ []) (deduplicated (take (suc p) calls)) kept (takes_effect-front calls p c at taken) (deduplicated-front (take (suc p) calls) (take q calls) part))
+    (get-push_last before c) in
+    let first = deduplicated-numbered (take q calls) (length before) c stands in
+    let second = takes_effect-number kept d taken' in
+    let more = count_of-take kept (length before) (length kept) c stands (slice_get_within kept (length before) c stands) in
+    let all : count_of c.client (take (length kept) kept) ≡ count_of c.client kept = ap (count_of c.client) (take_all (length kept) kept (omega arith)) in
+    let same : count_of c.client kept ≡ count_of d.client kept = ap (λ k. count_of k kept) client in
+    omega (arith, first, second, more, all, same, number)
+
+-- a client's number is told that it was done at one place
+pub done_once : {O A : Type 0} (reply : O → List ℕ → List ℕ) (next : O → List ℕ → O) (initial : O) (calls : List (Call A)) (p q : ℕ) (c d : Call A) (r s : List ℕ) → StandsAt calls p c → StandsAt calls q d
+    → session_answer reply next initial calls p ≡ Some (Done r) → session_answer reply next initial calls q ≡ Some (Done s) → c.client ≡ d.client → c.number ≡ d.number → p ≡ q
+done_once reply next initial calls p q c d r s at at' done done' client number =
+    let taken = done_takes_effect reply next initial calls p c r at done in
+    let taken' = done_takes_effect reply next initial calls q d s at' done' in
+    let le : p ≤ q = omega (arith, no_later_effect calls q p d c at' at taken' taken (sym client) (sym number)) in
+    let ge : q ≤ p = omega (arith, no_later_effect calls p q c d at at' taken taken' client number) in
+    omega (arith, le, ge)

@@ -1,0 +1,93 @@
+-- The session table as a value, and what a call makes of it.
+use Rattle.std.specs.Prelude.{ℕ, ◌+◌, ◌≤◌, ◌==◌, ◌&&◌, ◌||◌, nat_lt, Bool, List, [], length, Option, Some, None, is_some, fold, All, if◌then◌else◌}
+use Rattle.std.specs.BTreeMap.{insert_entry, is_at}
+use Rattle.std.specs.Map.{lookup, values_of}
+use Rattle.std.specs.Ordering.{nat_cmp}
+use Rattle.std.specs.Str.{bytes_eq}
+use Rattle.ring_base.specs.declared.fault.Fault.TheVariants.{Conflict, Stale, NumberGap, SessionsFull}
+use Rattle.ring_payload.specs.declared.call.Call.{Call}
+use Rattle.ring_session.specs.declared.TheConstants.{MAX_CLIENTS}
+use Rattle.ring_session.specs.declared.answer.Answer.{Answer}
+use Rattle.ring_session.specs.declared.answer.Answer.TheVariants.{Done, Kept}
+use Rattle.ring_session.specs.SessionAnswer.{refusal}
+
+-- a client's last call that took effect, by number and operation, and the reply to it
+pub record LastCall : Type 0 where
+  pub number : ℕ
+  pub operation : List ℕ
+  pub reply : List ℕ
+
+-- the known clients, ascending, each with its last call, and the object's content
+pub record Table (O : Type 0) : Type 0 where
+  pub sessions : List (ℕ × LastCall)
+  pub content : O
+
+-- the table of these
+abbrev pub table_of : {O : Type 0} → List (ℕ × LastCall) → O → Table O
+table_of sessions content = record { sessions = sessions; content = content }
+
+-- what every table keeps: the clients are few enough, and each has a last call that took effect
+pub record IsTable {O : Type 0} (table : Table O) : Type 0 where
+  pub few : length table.sessions ≤ MAX_CLIENTS
+  pub numbered : All (λ (last : LastCall). 1 ≤ last.number) (values_of table.sessions)
+
+-- the table before any call
+abbrev pub opening : {O : Type 0} → O → Table O
+opening initial = table_of [] initial
+
+-- a client that no call of took effect
+abbrev pub no_call : LastCall
+no_call = record { number = 0; operation = []; reply = [] }
+
+-- the client's last call, if it is known
+abbrev pub session_of : {O : Type 0} → Table O → ℕ → Option LastCall
+session_of table client = lookup (is_at (nat_cmp client)) table.sessions
+
+-- the client's last number, 0 if it is unknown
+abbrev pub last_number : Option LastCall → ℕ
+last_number None = 0
+last_number (Some last) = last.number
+
+-- the call as its client's last, with the reply to it
+abbrev pub last_call : {A : Type 0} → Call A → List ℕ → LastCall
+last_call c reply = record { number = c.number; operation = c.op; reply = reply }
+
+-- whether the client is known, or may be added
+abbrev pub has_room : {O : Type 0} → Table O → ℕ → Bool
+has_room table client = is_some (session_of table client) || nat_lt (length table.sessions) MAX_CLIENTS
+
+-- whether the call takes effect: its number is the client's next, and the table has room for the client
+abbrev pub is_taken : {O A : Type 0} → Table O → Call A → Bool
+is_taken table c = (c.number == last_number (session_of table c.client) + 1) && has_room table c.client
+
+-- the answer to a call that has its client's last number: the kept reply, if it has the kept operation too
+abbrev pub kept_answer : Option LastCall → List ℕ → Answer
+kept_answer None operation = refusal Conflict
+kept_answer (Some last) operation = if bytes_eq last.operation operation then Kept last.reply else refusal Conflict
+
+-- the answer to a call whose number is not its client's next
+abbrev pub other_answer : {A : Type 0} → Option LastCall → Call A → Answer
+other_answer last c =
+    if c.number == last_number last then kept_answer last c.op
+    else if nat_lt c.number (last_number last) then refusal Stale
+    else refusal NumberGap
+
+module _ {O : Type 0} (reply : O → List ℕ → List ℕ) where
+  -- the table's answer to a call
+  abbrev pub table_answer : {A : Type 0} → Table O → Call A → Answer
+  table_answer table c =
+      let last = session_of table c.client in
+      if c.number == last_number last + 1 then (if has_room table c.client then Done (reply table.content c.op) else refusal SessionsFull)
+      else other_answer last c
+
+module _ {O : Type 0} (reply : O → List ℕ → List ℕ) (next : O → List ℕ → O) where
+  -- the table after a call: one that takes effect is done and kept, any other leaves it
+  abbrev pub table_next : {A : Type 0} → Table O → Call A → Table O
+  table_next table c =
+      if is_taken table c
+      then table_of (insert_entry nat_cmp table.sessions c.client (last_call c (reply table.content c.op))) (next table.content c.op)
+      else table
+
+  -- the table after a list of calls, from the object's start
+  abbrev pub table_after : {A : Type 0} → O → List (Call A) → Table O
+  table_after initial calls = fold table_next (opening initial) calls

@@ -1,0 +1,38 @@
+//! What the sessions promise over every list of calls.
+
+ghost use Rattle.std.specs.Prelude.{◌≡◌, ℕ, ◌∷◌, [], ◌++◌, List, length, Some};
+ghost use Rattle.ring_base.specs.Fronts.{IsFront};
+ghost use Rattle.ring_object.specs.Operations.{content_after};
+ghost use Rattle.ring_payload.specs.declared.call.Call.{Call};
+ghost use Rattle.ring_session.specs.Deduplicated.{deduplicated, StandsAt, IsNumbered, operations};
+ghost use Rattle.ring_session.specs.OneEffect.{EachIsDone, IsDoneOnce, RepliesAreTheObjects, RepliesAreOne, AnswersStay};
+ghost use Rattle.ring_session.specs.SessionAnswer.{session_answer};
+ghost use Rattle.ring_session.specs.Table.{table_answer, table_after};
+
+use ring_object::Object;
+use std::alloc::Allocator;
+
+/// Law, for every list of calls: those that take effect stand in it, each client's are numbered 1, 2, .. in their order,
+/// so that a client's number takes effect at one place, and more calls only add to their end.
+pub fn deduplicated_law<A: Allocator + Copy>()
+    ensures from_list { (calls : List (Call A)) (p : ℕ) (c : Call A) → StandsAt (deduplicated calls) p c → (q : ℕ) × StandsAt calls q c }
+    ensures numbered { (calls : List (Call A)) → IsNumbered (deduplicated calls) }
+    ensures once { (calls : List (Call A)) (p q : ℕ) (c d : Call A) → StandsAt (deduplicated calls) p c → StandsAt (deduplicated calls) q d → c.client ≡ d.client → c.number ≡ d.number → p ≡ q }
+    ensures grows { (calls more : List (Call A)) → IsFront (deduplicated calls) (deduplicated (calls ++ more)) }
+{}
+
+/// Law, for every object and every list of calls: each client's call has one effect and one reply.
+pub fn session_law<O: Object>()
+    ensures done { (calls : List (Call O.Alloc)) → EachIsDone O.reply O.next O.initial calls }
+    ensures once { (calls : List (Call O.Alloc)) → IsDoneOnce O.reply O.next O.initial calls }
+    ensures replied { (calls : List (Call O.Alloc)) → RepliesAreTheObjects O.reply O.next O.initial calls }
+    ensures one_reply { (calls : List (Call O.Alloc)) → RepliesAreOne O.reply O.next O.initial calls }
+    ensures stays { (calls : List (Call O.Alloc)) → AnswersStay O.reply O.next O.initial calls }
+{}
+
+/// Law, for every object and every list of calls: the table after the list answers the next call as the list alone
+/// determines, and its object has the content that the calls which took effect leave.
+pub fn table_law<O: Object>()
+    ensures told { (calls : List (Call O.Alloc)) (c : Call O.Alloc) → session_answer O.reply O.next O.initial (calls ++ c ∷ []) (length calls) ≡ Some (table_answer O.reply (table_after O.reply O.next O.initial calls) c) }
+    ensures content { (calls : List (Call O.Alloc)) → (table_after O.reply O.next O.initial calls).content ≡ content_after O.next O.initial (operations (deduplicated calls)) }
+{}

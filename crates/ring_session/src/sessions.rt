@@ -1,0 +1,110 @@
+//! The session table.
+
+ghost use Rattle.std.specs.Prelude.{◌≡◌, ◌<◌, ◌≤◌, ◌∷◌, [], ◌++◌, List, length, IfOk, IfErr, OnOk, OnErr, Some, None, IsSome};
+ghost use Rattle.ring_base.specs.declared.fault.Fault.TheVariants.{Memory, SessionsFull};
+ghost use Rattle.ring_payload.specs.declared.call.Call.{Call};
+ghost use Rattle.ring_session.specs.SessionAnswer.{refusal, reply_in, session_answer};
+ghost use Rattle.ring_session.specs.Table.{opening, session_of, table_answer, table_next, table_after};
+
+use crate::MAX_CLIENTS;
+use crate::answer::Answer;
+use crate::session::Session;
+use ring_base::Fault;
+use ring_object::Object;
+use ring_payload::Call;
+use std::collections::BTreeMap;
+use std::marker::Model;
+
+/// An object, and the sessions of the clients that called it, by client. Contracts see it as a `Table`: the known
+/// clients, ascending, each with its last call and the reply to it, and the object's content.
+#[derive(Drop)]
+pub struct Sessions<O: Object> {
+    alloc: O::Alloc,
+    sessions: BTreeMap<u32, Session<O::Alloc>, O::Alloc>,
+    object: O,
+}
+
+impl<O: Object> Model for Sessions<O> {
+    ghost use Rattle.ring_session.specs.Table.{Table, IsTable, table_of};
+
+    ghost Value = { Table O };
+
+    ghost view = { λ s. table_of s.sessions.entries s.object };
+
+    ghost invariant = { λ s. IsTable (table_of s.sessions.entries s.object) };
+}
+
+impl<O: Object> Sessions<O> {
+    /// The table that no client has called, with the object at its start, or `Memory`.
+    pub fn new(alloc: O::Alloc) -> Result<Sessions<O>, Fault>
+        ensures ok { IfOk result (λ sessions. sessions ≡ opening O.initial) }
+        ensures refused { IfErr result (λ fault. fault ≡ Memory) }
+    {
+        let object = O::start(alloc)?;
+        Ok(Sessions {
+            alloc,
+            sessions: BTreeMap::new(alloc),
+            object,
+        })
+    }
+
+    /// The answer to a call. One that takes effect is done on the object and kept; any other, and `Memory`, leaves
+    /// the table as it was.
+    pub fn apply(&mut self, call: &Call<O::Alloc>) -> Result<Answer, Fault>
+        ensures answer { IfOk result (λ answer. answer ≡ table_answer O.reply self.old call.now) }
+        ensures ok { OnOk result (self.new ≡ table_next O.reply O.next self.old call.now) }
+        ensures err { OnErr result (self.new ≡ self.old) }
+        ensures refused { IfErr result (λ fault. fault ≡ Memory) }
+
+        // After a list of calls, the answer is the one that the list alone determines.
+        ensures told { (calls : List (Call O.Alloc)) → self.old ≡ table_after O.reply O.next O.initial calls
+            → IfOk result (λ answer. session_answer O.reply O.next O.initial (calls ++ call.now ∷ []) (length calls) ≡ Some answer) }
+
+        // A call of number 0 has no reply, and the table is full at exactly so many clients.
+        ensures replied_from_one { IfOk result (λ answer. IsSome (reply_in answer) → 1 ≤ call.now.number) }
+        ensures full_only_at_limit { IfOk result (λ answer. answer ≡ refusal SessionsFull → length self.old.sessions ≡ MAX_CLIENTS) }
+    {
+        match self.sessions.get_mut(&call.client) {
+            Some(session) => {
+                if session.is_next(call.number) {
+                    Ok(Answer::Done(session.apply(&mut self.object, call)?))
+                } else {
+                    Ok(session.answer(call))
+                }
+            }
+            // An unknown client's last number is 0.
+            None => match call.number {
+                0 => Ok(Answer::refusal(Fault::Conflict)),
+                1 => self.admit(call),
+                _ => Ok(Answer::refusal(Fault::NumberGap)),
+            },
+        }
+    }
+
+    /// The answer to a client's first call. Its session is put in before the object does the call, so that nothing is
+    /// left to fail after that, and taken out again if the object has no memory.
+    fn admit(&mut self, call: &Call<O::Alloc>) -> Result<Answer, Fault>
+        requires unknown { session_of self.old call.now.client ≡ None }
+        requires first { call.now.number ≡ 1 }
+        ensures answer { IfOk result (λ answer. answer ≡ table_answer O.reply self.old call.now) }
+        ensures ok { OnOk result (self.new ≡ table_next O.reply O.next self.old call.now) }
+        ensures err { OnErr result (self.new ≡ self.old) }
+        ensures refused { IfErr result (λ fault. fault ≡ Memory) }
+        ensures full_only_at_limit { IfOk result (λ answer. answer ≡ refusal SessionsFull → length self.old.sessions ≡ MAX_CLIENTS) }
+    {
+        if self.sessions.len() >= MAX_CLIENTS {
+            return Ok(Answer::refusal(Fault::SessionsFull));
+        }
+        let session = self
+            .sessions
+            .entry(call.client)?
+            .or_insert(Session::new(self.alloc));
+        match session.apply(&mut self.object, call) {
+            Ok(reply) => Ok(Answer::Done(reply)),
+            Err(fault) => {
+                self.sessions.remove(&call.client);
+                Err(fault)
+            }
+        }
+    }
+}

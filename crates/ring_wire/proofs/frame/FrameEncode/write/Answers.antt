@@ -1,0 +1,14 @@
+use Rattle.ring_layout.proofs.Writes.{and_then}
+use Rattle.ring_wire.proofs.frame.FrameEncode.write.Goals as goal
+
+pub returns-in-Message : goal.returns-in-Message
+returns-in-Message g c = rw c.in-Message.is (and_then c.write.ensures (and_then c.write-2.ensures (and_then c.write-3.ensures (and_then c.write-in-Message.ensures c.write_sized.ensures))))
+
+pub returns-in-Token : goal.returns-in-Token
+returns-in-Token g c = rw c.in-Token.is (and_then c.write.ensures (and_then c.write-2.ensures (and_then c.write-3.ensures (and_then c.write-in-Token.ensures c.write_sized-in-Token.ensures))))
+
+pub returns-in-Join : goal.returns-in-Join
+returns-in-Join g c = rw c.in-Join.is (and_then c.write.ensures (and_then c.write-2.ensures (and_then c.write-3.ensures (and_then c.write-in-Join.ensures c.write_sized-in-Join.ensures))))
+
+pub returns-in-Commit : goal.returns-in-Commit
+returns-in-Commit g c = rw c.in-Commit.is (and_then c.write.ensures (and_then c.write-2.ensures (and_then c.write-3.ensures (and_then c.write-in-Commit.ensures c.write_sized-in-Commit.ensures))))

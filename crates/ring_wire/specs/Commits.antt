@@ -1,0 +1,158 @@
+-- How commit tokens are spelled: the ring, its members, the hop, and the entries of the members that it has come to.
+use Rattle.std.proofs.Common.{◌≡◌, ◌≢◌, ℕ, ◌*◌, ◌^◌, ◌<◌, ◌≤◌, Bool, true, false, min, List, [], ◌∷◌, length, Option, refl, arith, inl, inr, eq-eqb, ap}
+use Rattle.std.specs.Prelude.{nat_le, nat_lt, ◌&&◌, ◌||◌, not, ◌==◌}
+use Rattle.std.specs.List.{flat_map, AllByRecursion}
+use Rattle.std.proofs.lemmas.Bool.{cases_Bool, leb-true, le-leb, ltb-true, lt-ltb, eqb-true, eqb-false, ne_eqb, and_parts, not-true}
+use Rattle.std.proofs.lemmas.List.{length-append}
+use Rattle.std.proofs.lemmas.List.Concat.{flat_map-cons}
+use Rattle.byteorder.specs.Endian.{big_bytes}
+use Rattle.ring_base.specs.Processors.{elements, size, smallest, nobody}
+use Rattle.ring_base.specs.Elements.{size_le}
+use Rattle.ring_base.specs.declared.ring_id.RingId.{RingId}
+use Rattle.ring_layout.specs.Reading.{IsFormat, such_at, made_at, ◌⊕◌}
+use Rattle.ring_layout.specs.Formats.{Format, byte, word2, ◌&◌, followed, times, tested_format}
+use Rattle.ring_layout.specs.Rings.{ring, ring_spelling, RingFits}
+use Rattle.ring_wire.specs.declared.entries.CommitEntry.{CommitEntry}
+use Rattle.ring_wire.specs.declared.commit.CommitToken.{CommitToken}
+use Rattle.ring_wire.specs.Entries.{entry, entry_spelling, EntryFits}
+
+-- ---- the entries, for the members in ascending order
+
+-- An entry is of an older ring than this one, and of this member where it is of none.
+pub record IsReport (r : RingId) (member : ℕ) (e : CommitEntry) : Type 0 where
+  pub older : e.old.seq < r.seq
+  pub self : e.old.seq ≡ 0 → e.old.rep ≡ member
+
+-- there is an entry for each of the first members
+abbrev pub AreReports : RingId → List ℕ → List CommitEntry → Type 0
+AreReports r members [] = Unit {0}
+AreReports r [] (e ∷ es) = ⊥
+AreReports r (m ∷ members) (e ∷ es) = IsReport r m e × AreReports r members es
+
+abbrev pub is_report : RingId → ℕ → CommitEntry → Bool
+is_report r member e = nat_lt e.old.seq r.seq && (not (e.old.seq == 0) || (e.old.rep == member))
+
+abbrev pub are_reports : RingId → List ℕ → List CommitEntry → Bool
+are_reports r members [] = true
+are_reports r [] (e ∷ es) = false
+are_reports r (m ∷ members) (e ∷ es) = is_report r m e && are_reports r members es
+
+is_report-true : (r : RingId) (m : ℕ) (e : CommitEntry) → is_report r m e ≡ true → IsReport r m e
+is_report-true r m e h =
+    let both = and_parts _ _ h in
+    record {
+      older = ltb-true _ _ both.0;
+      self = λ z.
+          let new : (e.old.seq == 0) ≡ true = eq-eqb _ _ z in
+          eqb-true _ _ (rw new at both.1);
+    }
+
+true-is_report : (r : RingId) (m : ℕ) (e : CommitEntry) → IsReport r m e → is_report r m e ≡ true
+true-is_report r m e f = elim (cases_Bool (e.old.seq == 0)) [
+  | inl new ↦ rw (lt-ltb _ _ f.older, new, eq-eqb _ _ (f.self (eqb-true _ _ new))) refl
+  | inr old ↦ rw (lt-ltb _ _ f.older, old) refl
+]
+
+are_reports-true : (r : RingId) (members : List ℕ) (es : List CommitEntry) → are_reports r members es ≡ true → AreReports r members es
+are_reports-true r members [] h = tt
+are_reports-true r [] (e ∷ es) h = absurd cc
+are_reports-true r (m ∷ members) (e ∷ es) h =
+    let both = and_parts _ _ h in
+    (is_report-true r m e both.0, are_reports-true r members es both.1)
+
+true-are_reports : (r : RingId) (members : List ℕ) (es : List CommitEntry) → AreReports r members es → are_reports r members es ≡ true
+true-are_reports r members [] f = refl
+true-are_reports r [] (e ∷ es) f = absurd f
+true-are_reports r (m ∷ members) (e ∷ es) f = rw (true-is_report r m e f.0, true-are_reports r members es f.1) refl
+
+-- ---- the token
+
+-- so many entries there are at a hop: one more for each hop of the first round
+abbrev pub entries_at : ℕ → ℕ → ℕ
+entries_at hop members = min hop members
+
+abbrev pub commit_spelling : CommitToken → List ℕ
+commit_spelling t = ring_spelling t.ring ⊕ big_bytes 2 t.members ⊕ t.hop ∷ [] ⊕ flat_map entry_spelling t.entries
+
+pub record CommitFits (t : CommitToken) : Type 0 where
+  pub ring : RingFits t.ring
+  pub ring_counted : 1 ≤ t.ring.seq
+  pub members : t.members < 2 ^ 16
+  pub some : t.members ≢ nobody
+  pub representative : t.ring.rep ≡ smallest t.members
+  pub first_hop : 1 ≤ t.hop
+  pub last_hop : t.hop ≤ 2 * size t.members
+  pub count : length t.entries ≡ entries_at t.hop (size t.members)
+  pub each : AllByRecursion EntryFits t.entries
+  pub reports : AreReports t.ring (elements t.members) t.entries
+
+-- the limits that join the fields
+abbrev pub commit_test : CommitToken → Bool
+commit_test t =
+    nat_le 1 t.ring.seq && ((not (t.members == nobody) && (t.ring.rep == smallest t.members)) && (nat_le 1 t.hop && (nat_le t.hop (2 * size t.members) && are_reports t.ring (elements t.members) t.entries)))
+
+abbrev Raw : Type 0
+Raw = RingId × (ℕ × (ℕ × List CommitEntry))
+
+abbrev commit_fields : Format Raw
+commit_fields = ring & followed word2 (λ members. followed byte (λ hop. times (entries_at hop (size members)) entry))
+
+abbrev told : Raw → CommitToken
+told p = record { ring = p.0; members = p.1.0; hop = p.1.1.0; entries = p.1.1.1 }
+
+unfoldable pub commit_at : List ℕ → Option (CommitToken × List ℕ)
+commit_at bytes = such_at commit_test (made_at told commit_fields.at) bytes
+
+fits : (p : Raw) → commit_fields.Fits p → commit_test (told p) ≡ true → CommitFits (told p)
+fits p f passed =
+    let a = and_parts _ _ passed in
+    let b = and_parts _ _ a.1 in
+    let c = and_parts _ _ b.0 in
+    let d = and_parts _ _ b.1 in
+    let e = and_parts _ _ d.1 in
+    record {
+      ring = f.0;
+      ring_counted = leb-true _ _ a.0;
+      members = f.1.0;
+      some = eqb-false _ _ (not-true _ c.0);
+      representative = eqb-true _ _ c.1;
+      first_hop = leb-true _ _ d.0;
+      last_hop = leb-true _ _ e.0;
+      count = f.1.1.1.0;
+      each = f.1.1.1.1;
+      reports = are_reports-true p.0 (elements p.1.0) p.1.1.1 e.1;
+    }
+
+-- twice sixteen hops fit a byte
+hop_fits : (hop members : ℕ) → hop ≤ 2 * members → members ≤ 16 → hop < 256
+hop_fits hop members le few = omega arith
+
+pub commit_hop : (t : CommitToken) → CommitFits t → t.hop < 256
+commit_hop t f = hop_fits t.hop (size t.members) f.last_hop (size_le t.members)
+
+pub commit_format : IsFormat commit_spelling CommitFits commit_at
+unfolding commit_at
+commit_format = tested_format commit_fields told commit_test commit_spelling CommitFits (record {
+  spelled = λ p. refl;
+  fits = fits;
+  back = λ t f. ((t.ring, (t.members, (t.hop, t.entries))), (f.ring, (f.members, (commit_hop t f, (f.count, f.each)))), refl);
+  passes = λ t f. rw (le-leb _ _ f.ring_counted, ne_eqb _ _ f.some, eq-eqb _ _ f.representative, le-leb _ _ f.first_hop, le-leb _ _ f.last_hop, true-are_reports t.ring (elements t.members) t.entries f.reports) refl;
+})
+
+abbrev pub commit : Format CommitToken
+commit = record { spelling = commit_spelling; Fits = CommitFits; at = commit_at; exact = commit_format }
+
+-- sixteen entries of 57 bytes
+pub length-entries : (es : List CommitEntry) → AllByRecursion EntryFits es → length (flat_map entry_spelling es) ≡ 57 * length es
+length-entries [] f = refl
+length-entries (e ∷ es) f =
+    let whole = ap length (flat_map-cons entry_spelling e es) in
+    let parts = length-append (entry_spelling e) (flat_map entry_spelling es) in
+    omega (arith, whole, parts, length-entries es f.1, f.0.bits)
+
+few : (hop members count : ℕ) → count ≡ min hop members → members ≤ 16 → count ≤ 16
+few hop members count e le = omega arith
+
+-- so few entries there are
+pub few_entries : (t : CommitToken) → CommitFits t → length t.entries ≤ 16
+few_entries t f = few t.hop (size t.members) (length t.entries) f.count (size_le t.members)

@@ -1,0 +1,185 @@
+-- How the entries of a commit token are spelled.
+use Rattle.std.proofs.Common.{◌≡◌, ℕ, zero, suc, ◌+◌, ◌<◌, ◌≤◌, ◌/◌, ◌%◌, Bool, true, false, List, [], ◌∷◌, length, Option, refl, arith, add-one, inl, inr, eq-eqb}
+use Rattle.std.specs.Prelude.{nat_le, nat_lt, ◌&&◌, ◌||◌, not, ◌==◌, slice_index}
+use Rattle.std.specs.List.{AllByRecursion, list_all}
+use Rattle.std.proofs.lemmas.Bool.{cases_lt, cases_Bool, leb-true, le-leb, ltb-false, le-ltb, eqb-true, and_parts, not-true, and_cases, or_parts, both_ways, and_right}
+use Rattle.byteorder.specs.Endian.{big_bytes}
+use Rattle.ring_base.specs.Numbers.{max_number, has_bit}
+use Rattle.ring_base.specs.declared.ring_id.RingId.{RingId}
+use Rattle.ring_layout.specs.Reading.{IsFormat, such_at, made_at, ◌⊕◌}
+use Rattle.ring_layout.specs.Formats.{Format, word8, text, ◌&◌, tested_format}
+use Rattle.ring_layout.specs.Rings.{ring, ring_spelling, RingFits}
+use Rattle.ring_wire.specs.declared.entries.CommitEntry.{CommitEntry}
+
+-- ---- the held bits: bit j mod 8 of byte j div 8 stands for the number front + 1 + j
+
+abbrev pub bit_of : List ℕ → ℕ → Bool
+bit_of held j = has_bit (slice_index held (j / 8)) (j % 8)
+
+-- A bit may be set where it isn't the first, and its number is at most mark + 256.
+pub record MayHold (front mark j : ℕ) : Type 0 where
+  pub later : 1 ≤ j
+  pub inside : front + 1 + j ≤ mark + 256
+
+-- what is wrong with one bit
+abbrev pub is_wrong : ℕ → ℕ → List ℕ → ℕ → Bool
+is_wrong front mark held j = bit_of held j && ((j == 0) || nat_lt (mark + 256) (front + 1 + j))
+
+-- of the first n bits none is wrong
+unfoldable pub held_test : ℕ → ℕ → List ℕ → ℕ → Bool
+held_test front mark held zero = true
+held_test front mark held (suc j) = held_test front mark held j && not (is_wrong front mark held j)
+
+pub held_test-zero : (front mark : ℕ) (held : List ℕ) → held_test front mark held 0 ≡ true
+unfolding held_test
+held_test-zero front mark held = refl
+
+pub held_test-more : (front mark : ℕ) (held : List ℕ) (j : ℕ) → held_test front mark held j ≡ true → is_wrong front mark held j ≡ false → held_test front mark held (j + 1) ≡ true
+unfolding held_test
+held_test-more front mark held j h w = rw (add-one, h, w) refl
+
+-- one wrong bit makes all wrong
+pub held_test-wrong : (front mark : ℕ) (held : List ℕ) (j n : ℕ) → j < n → is_wrong front mark held j ≡ true → held_test front mark held n ≡ false
+unfolding held_test
+held_test-wrong front mark held j zero lt w = absurd (omega arith)
+held_test-wrong front mark held j (suc n) lt w =
+    elim (cases_lt j n) [
+      | inl below ↦ rw (held_test-wrong front mark held j n below w) refl
+      | inr at ↦ let e : n ≡ j = omega arith in rw (e, w) (and_right (held_test front mark held j) false refl)
+    ]
+
+may_hold : (front mark : ℕ) (held : List ℕ) (j : ℕ) → is_wrong front mark held j ≡ false → bit_of held j ≡ true → MayHold front mark j
+may_hold front mark held j right set =
+    elim (and_cases _ _ right) [
+      | inl clear ↦ absurd (both_ways _ clear set)
+      | inr fine ↦
+          let both : ((j == 0) ≡ false) × (nat_lt (mark + 256) (front + 1 + j) ≡ false) = or_parts _ _ fine in
+          elim (cases_lt 0 j) [
+            | inl some ↦ record { later = omega arith; inside = ltb-false _ _ both.1 }
+            | inr none ↦ absurd (both_ways _ both.0 (eq-eqb j 0 (omega arith)))
+          ]
+    ]
+
+pub held_test-true : (front mark : ℕ) (held : List ℕ) (n : ℕ) → held_test front mark held n ≡ true → (j : ℕ) → j < n → bit_of held j ≡ true → MayHold front mark j
+unfolding held_test
+held_test-true front mark held zero h j lt set = absurd (omega arith)
+held_test-true front mark held (suc n) h j lt set =
+    let both = and_parts _ _ h in
+    elim (cases_lt j n) [
+      | inl below ↦ held_test-true front mark held n both.0 j below set
+      | inr at ↦
+          let e : n ≡ j = omega arith in
+          may_hold front mark held j (not-true _ (rw e at both.1)) set
+    ]
+
+not_wrong : (front mark : ℕ) (held : List ℕ) (j : ℕ) → (bit_of held j ≡ true → MayHold front mark j) → is_wrong front mark held j ≡ false
+not_wrong front mark held j may =
+    elim (cases_Bool (bit_of held j)) [
+      | inl set ↦
+          let m = may set in
+          let some : (j == 0) ≡ false = elim (cases_Bool (j == 0)) [ inl e ↦ absurd (omega (arith, eqb-true j 0 e, m.later)) | inr e ↦ e ] in
+          rw (set, some, le-ltb _ _ m.inside) refl
+      | inr clear ↦ rw clear refl
+    ]
+
+pub true-held_test : (front mark : ℕ) (held : List ℕ) (n : ℕ) → ((j : ℕ) → j < n → bit_of held j ≡ true → MayHold front mark j) → held_test front mark held n ≡ true
+unfolding held_test
+true-held_test front mark held zero may = refl
+true-held_test front mark held (suc n) may = rw (true-held_test front mark held n (λ j lt. may j (omega arith)), not_wrong front mark held n (may n (omega arith))) refl
+
+-- ---- bits that are all clear
+
+abbrev pub are_zero : List ℕ → Bool
+are_zero bytes = list_all (λ b. b == 0) bytes
+
+-- each byte is 0
+abbrev pub AreZero : List ℕ → Type 0
+AreZero bytes = AllByRecursion (λ b. b ≡ 0) bytes
+
+are_zero-true : (bytes : List ℕ) → are_zero bytes ≡ true → AreZero bytes
+are_zero-true [] h = tt
+are_zero-true (b ∷ bytes) h = let both = and_parts _ _ h in (eqb-true b 0 both.0, are_zero-true bytes both.1)
+
+true-are_zero : (bytes : List ℕ) → AreZero bytes → are_zero bytes ≡ true
+true-are_zero [] z = refl
+true-are_zero (b ∷ bytes) z = rw (eq-eqb b 0 z.0, true-are_zero bytes z.1) refl
+
+-- ---- the entry
+
+abbrev pub entry_spelling : CommitEntry → List ℕ
+entry_spelling e = ring_spelling e.old ⊕ big_bytes 8 e.front ⊕ big_bytes 8 e.mark ⊕ e.held
+
+-- who was in no ring yet reports nothing
+pub record ReportsNothing (e : CommitEntry) : Type 0 where
+  pub front : e.front ≡ 0
+  pub mark : e.mark ≡ 0
+  pub held : AreZero e.held
+
+pub record EntryFits (e : CommitEntry) : Type 0 where
+  pub old : RingFits e.old
+  pub bits : length e.held ≡ 32
+  pub mark : e.mark ≤ e.front
+  pub front : e.front ≤ max_number
+  pub window : e.front ≤ e.mark + 256
+  pub held : (j : ℕ) → j < 256 → bit_of e.held j ≡ true → MayHold e.front e.mark j
+  pub nothing : e.old.seq ≡ 0 → ReportsNothing e
+
+abbrev pub nothing_test : CommitEntry → Bool
+nothing_test e = (e.front == 0) && ((e.mark == 0) && are_zero e.held)
+
+-- the limits that join the fields
+abbrev pub entry_test : CommitEntry → Bool
+entry_test e = nat_le e.mark e.front && (nat_le e.front max_number && (nat_le e.front (e.mark + 256) && (held_test e.front e.mark e.held 256 && (not (e.old.seq == 0) || nothing_test e))))
+
+is_nothing : (e : CommitEntry) → (not (e.old.seq == 0) || nothing_test e) ≡ true → e.old.seq ≡ 0 → ReportsNothing e
+is_nothing e h z =
+    let new : (e.old.seq == 0) ≡ true = eq-eqb _ _ z in
+    let passed : nothing_test e ≡ true = rw new at h in
+    let a = and_parts _ _ passed in
+    let b = and_parts _ _ a.1 in
+    record { front = eqb-true _ _ a.0; mark = eqb-true _ _ b.0; held = are_zero-true e.held b.1 }
+
+nothing_is : (e : CommitEntry) → (e.old.seq ≡ 0 → ReportsNothing e) → (not (e.old.seq == 0) || nothing_test e) ≡ true
+nothing_is e n = elim (cases_Bool (e.old.seq == 0)) [
+  | inl new ↦
+      let r = n (eqb-true _ _ new) in
+      rw (new, eq-eqb _ _ r.front, eq-eqb _ _ r.mark, true-are_zero e.held r.held) refl
+  | inr old ↦ rw old refl
+]
+
+abbrev Raw : Type 0
+Raw = RingId × (ℕ × (ℕ × List ℕ))
+
+abbrev entry_fields : Format Raw
+entry_fields = ring & word8 & word8 & text 32
+
+abbrev told : Raw → CommitEntry
+told p = record { old = p.0; front = p.1.0; mark = p.1.1.0; held = p.1.1.1 }
+
+unfoldable pub entry_at : List ℕ → Option (CommitEntry × List ℕ)
+entry_at bytes = such_at entry_test (made_at told entry_fields.at) bytes
+
+pub entry_format : IsFormat entry_spelling EntryFits entry_at
+unfolding entry_at
+entry_format = tested_format entry_fields told entry_test entry_spelling EntryFits (record {
+  spelled = λ p. refl;
+  fits = λ p f passed.
+      let a = and_parts _ _ passed in
+      let b = and_parts _ _ a.1 in
+      let c = and_parts _ _ b.1 in
+      let d = and_parts _ _ c.1 in
+      record {
+        old = f.0;
+        bits = f.1.1.1;
+        mark = leb-true _ _ a.0;
+        front = leb-true _ _ b.0;
+        window = leb-true _ _ c.0;
+        held = held_test-true p.1.0 p.1.1.0 p.1.1.1 256 d.0;
+        nothing = is_nothing (told p) d.1;
+      };
+  back = λ e f. ((e.old, (e.front, (e.mark, e.held))), (f.old, (omega (arith, f.front), (omega (arith, f.front, f.mark), f.bits))), refl);
+  passes = λ e f. rw (le-leb _ _ f.mark, le-leb _ _ f.front, le-leb _ _ f.window, true-held_test e.front e.mark e.held 256 f.held, nothing_is e f.nothing) refl;
+})
+
+abbrev pub entry : Format CommitEntry
+entry = record { spelling = entry_spelling; Fits = EntryFits; at = entry_at; exact = entry_format }

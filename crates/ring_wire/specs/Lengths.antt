@@ -1,0 +1,60 @@
+-- How long spellings are at most. The greatest is that of seven calls of the greatest length, sent once more.
+use Rattle.std.proofs.Common.{◌≡◌, ℕ, ◌≤◌, ◌++◌, length, Option, Some, None, refl, arith}
+use Rattle.std.proofs.lemmas.List.{length-append}
+use Rattle.byteorder.specs.Endian.{big_bytes}
+use Rattle.ring_base.specs.declared.ring_id.RingId.{RingId}
+use Rattle.ring_layout.specs.Processors.{some_proc_spelling}
+use Rattle.ring_layout.specs.Rings.{some_ring_spelling}
+use Rattle.ring_payload.specs.declared.head.Head.{Head}
+use Rattle.ring_payload.specs.declared.content.Content.{Content}
+use Rattle.ring_payload.specs.declared.content.Content.TheVariants as contents
+use Rattle.ring_payload.specs.declared.content.Payload.{Payload}
+use Rattle.ring_payload.specs.declared.content.Payload.TheVariants as payloads
+use Rattle.ring_payload.specs.Heads.{head_spelling}
+use Rattle.ring_payload.specs.Parts.{length-part}
+use Rattle.ring_payload.specs.Contents.{content_spelling, ContentFits}
+use Rattle.ring_payload.specs.Payloads.{payload_spelling, PayloadFits}
+use Rattle.ring_wire.specs.declared.message.Message.{Message}
+use Rattle.ring_wire.specs.declared.token.Token.{Token}
+use Rattle.ring_wire.specs.declared.commit.CommitToken.{CommitToken}
+use Rattle.ring_wire.specs.Messages.{message_spelling, MessageFits}
+use Rattle.ring_wire.specs.Tokens.{requests_spelling, length-requests, token_spelling, TokenFits}
+use Rattle.ring_wire.specs.Commits.{commit_spelling, CommitFits, length-entries, few_entries}
+
+length-some_ring : (o : Option RingId) → length (some_ring_spelling o) ≡ 9
+length-some_ring None = refl
+length-some_ring (Some r) = refl
+
+length-head : (h : Head) → length (head_spelling h) ≡ 25
+length-head h =
+    let e = length-append (some_ring_spelling h.last) (big_bytes 8 h.length ++ big_bytes 8 h.committed) in
+    omega (arith, e, length-some_ring h.last)
+
+length-content : {A : Type 0} (c : Content A) → ContentFits c → length (content_spelling c) ≤ 7276
+length-content (contents.Call x) f = omega (arith, f.op)
+length-content (contents.Head x) f = omega (arith, length-head x)
+length-content (contents.Part x) f = omega (arith, length-part x f)
+
+length-payload : {A : Type 0} (p : Payload A) → PayloadFits p → length (payload_spelling p) ≤ 7295
+length-payload (payloads.Call x) f = omega (arith, f.op)
+length-payload (payloads.Wrapped x) f = omega (arith, length-content x.payload f.payload)
+length-payload payloads.End f = omega arith
+length-payload (payloads.Head x) f = omega (arith, length-head x)
+length-payload (payloads.Part x) f = omega (arith, length-part x f)
+
+pub length-message : {A : Type 0} (m : Message A) → MessageFits m → length (message_spelling m) ≤ 7313
+length-message m f = omega (arith, length-payload m.payload f.payload)
+
+length-some_proc : (o : Option ℕ) → length (some_proc_spelling o) ≡ 1
+length-some_proc None = refl
+length-some_proc (Some p) = refl
+
+pub length-token : (t : Token) → TokenFits t → length (token_spelling t) ≤ 291
+length-token t f =
+    let e = length-append (some_proc_spelling t.aru_id) (requests_spelling t.requests) in
+    omega (arith, e, length-some_proc t.aru_id, length-requests t.requests, f.few)
+
+pub length-commit : (t : CommitToken) → CommitFits t → length (commit_spelling t) ≤ 924
+length-commit t f =
+    let few : length t.entries ≤ 16 = few_entries t f in
+    omega (arith, length-entries t.entries f.each, few)

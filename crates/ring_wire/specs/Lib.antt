@@ -1,0 +1,11 @@
+pub mod Ascending
+pub mod Commits
+pub mod Entries
+pub mod Frames
+pub mod Fronts
+pub mod Joins
+pub mod Lengths
+pub mod Messages
+pub mod Spells
+pub mod SpellsLaws
+pub mod Tokens

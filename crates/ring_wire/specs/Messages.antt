@@ -1,0 +1,91 @@
+-- How messages are spelled.
+use Rattle.std.proofs.Common.{◌≡◌, ℕ, ◌<◌, ◌≤◌, Bool, true, List, Option, refl, arith}
+use Rattle.std.specs.Prelude.{nat_le, nat_lt, ◌&&◌}
+use Rattle.std.proofs.lemmas.Bool.{leb-true, le-leb, ltb-true, lt-ltb, and_parts}
+use Rattle.byteorder.specs.Endian.{big_bytes}
+use Rattle.ring_base.specs.Numbers.{max_number}
+use Rattle.ring_base.specs.Processors.{IsProc}
+use Rattle.ring_base.specs.declared.ring_id.RingId.{RingId}
+use Rattle.ring_layout.specs.Reading.{IsFormat, such_at, made_at, ◌⊕◌}
+use Rattle.ring_layout.specs.Formats.{Format, word8, ◌&◌, tested_format}
+use Rattle.ring_layout.specs.Processors.{proc, proc_spelling}
+use Rattle.ring_layout.specs.Rings.{ring, ring_spelling, RingFits}
+use Rattle.ring_payload.specs.declared.content.Payload.{Payload}
+use Rattle.ring_payload.specs.declared.content.Payload.TheVariants.{Call, Wrapped, End, Head, Part}
+use Rattle.ring_payload.specs.Payloads.{payload, payload_spelling, PayloadFits}
+use Rattle.ring_wire.specs.declared.message.Message.{Message}
+
+-- ---- a message of an old ring is of an older ring than the one it is sent on
+
+abbrev pub IsOlder : {A : Type 0} → Payload A → RingId → Type 0
+IsOlder (Wrapped w) r = w.ring.seq < r.seq
+IsOlder _ r = Unit {0}
+
+abbrev pub is_older : {A : Type 0} → Payload A → RingId → Bool
+is_older (Wrapped w) r = nat_lt w.ring.seq r.seq
+is_older _ r = true
+
+is_older-true : {A : Type 0} (p : Payload A) (r : RingId) → is_older p r ≡ true → IsOlder p r
+is_older-true (Wrapped w) r h = ltb-true _ _ h
+is_older-true (Call x) r h = tt
+is_older-true End r h = tt
+is_older-true (Head x) r h = tt
+is_older-true (Part x) r h = tt
+
+true-is_older : {A : Type 0} (p : Payload A) (r : RingId) → IsOlder p r → is_older p r ≡ true
+true-is_older (Wrapped w) r h = lt-ltb _ _ h
+true-is_older (Call x) r h = refl
+true-is_older End r h = refl
+true-is_older (Head x) r h = refl
+true-is_older (Part x) r h = refl
+
+-- ---- the message
+
+abbrev pub message_spelling : {A : Type 0} → Message A → List ℕ
+message_spelling m = ring_spelling m.ring ⊕ big_bytes 8 m.number ⊕ proc_spelling m.sender ⊕ payload_spelling m.payload
+
+pub record MessageFits {A : Type 0} (m : Message A) : Type 0 where
+  pub ring : RingFits m.ring
+  pub ring_counted : 1 ≤ m.ring.seq
+  pub number_counted : 1 ≤ m.number
+  pub number : m.number ≤ max_number
+  pub sender : IsProc m.sender
+  pub payload : PayloadFits m.payload
+  pub older : IsOlder m.payload m.ring
+
+-- the limits that join the fields
+abbrev pub message_test : {A : Type 0} → Message A → Bool
+message_test m = nat_le 1 m.ring.seq && (nat_le 1 m.number && (nat_le m.number max_number && is_older m.payload m.ring))
+
+abbrev message_fields : {A : Type 0} → Format (RingId × (ℕ × (ℕ × Payload A)))
+message_fields = ring & word8 & proc & payload
+
+abbrev told : {A : Type 0} → RingId × (ℕ × (ℕ × Payload A)) → Message A
+told p = record { ring = p.0; number = p.1.0; sender = p.1.1.0; payload = p.1.1.1 }
+
+unfoldable pub message_at : {A : Type 0} → List ℕ → Option (Message A × List ℕ)
+message_at {A} bytes = such_at message_test (made_at told (message_fields {A = A}).at) bytes
+
+pub message_format : {A : Type 0} → IsFormat {A = Message A} message_spelling MessageFits message_at
+unfolding message_at
+message_format {A} = tested_format (message_fields {A = A}) told message_test message_spelling MessageFits (record {
+  spelled = λ p. refl;
+  fits = λ p f passed.
+      let a = and_parts _ _ passed in
+      let b = and_parts _ _ a.1 in
+      let c = and_parts _ _ b.1 in
+      record {
+        ring = f.0;
+        ring_counted = leb-true _ _ a.0;
+        number_counted = leb-true _ _ b.0;
+        number = leb-true _ _ c.0;
+        sender = f.1.1.0;
+        payload = f.1.1.1;
+        older = is_older-true p.1.1.1 p.0 c.1;
+      };
+  back = λ m f. ((m.ring, (m.number, (m.sender, m.payload))), (f.ring, (omega (arith, f.number), (f.sender, f.payload))), refl);
+  passes = λ m f. rw (le-leb _ _ f.ring_counted, le-leb _ _ f.number_counted, le-leb _ _ f.number, true-is_older m.payload m.ring f.older) refl;
+})
+
+abbrev pub message : {A : Type 0} → Format (Message A)
+message = record { spelling = message_spelling; Fits = MessageFits; at = message_at; exact = message_format }

@@ -1,0 +1,133 @@
+-- How tokens are spelled, and the numbers that they ask for.
+use Rattle.std.proofs.Common.{◌≡◌, ℕ, ◌+◌, ◌*◌, ◌^◌, ◌≤◌, Bool, true, false, List, [], ◌∷◌, length, Option, Some, None, refl, arith, inl, inr, ap, eq-eqb}
+use Rattle.std.specs.Prelude.{nat_le, ◌&&◌, ◌==◌, is_none, is_some, ◌↔◌, if◌then◌else◌}
+use Rattle.std.specs.List.{flat_map, AllByRecursion}
+use Rattle.std.specs.List.Sorted.{IsStrictlyIncreasing}
+use Rattle.std.proofs.lemmas.List.Concat.{flat_map-cons}
+use Rattle.std.proofs.lemmas.Bool.{leb-true, le-leb, eqb-true, cases_Bool, and_parts}
+use Rattle.byteorder.specs.Endian.{big_bytes}
+use Rattle.ring_base.specs.Numbers.{max_number}
+use Rattle.ring_base.specs.declared.ring_id.RingId.{RingId}
+use Rattle.ring_layout.specs.Reading.{IsFormat, IsWord, such_at, made_at, ◌⊕◌}
+use Rattle.ring_layout.specs.Formats.{Format, byte, word8, ◌&◌, followed, times, such, told_format, tested_format}
+use Rattle.ring_layout.specs.Processors.{some_proc, some_proc_spelling, SomeProcFits}
+use Rattle.ring_layout.specs.Rings.{ring, ring_spelling, RingFits}
+use Rattle.ring_wire.specs.declared.token.Token.{Token}
+use Rattle.ring_wire.specs.Ascending.{ascends, ascends-each, ascends-increasing, increasing-ascends, IsStrictlyIncreasing-from_zero, each_below, each_le}
+
+-- ---- requests: their count, and the numbers
+
+abbrev pub requests_spelling : List ℕ → List ℕ
+requests_spelling ns = length ns ∷ flat_map (λ n. big_bytes 8 n) ns
+
+pub record RequestsFit (ns : List ℕ) : Type 0 where
+  pub few : length ns ≤ 32
+  pub each : AllByRecursion (IsWord 8) ns
+
+abbrev requests_fields : Format (ℕ × List ℕ)
+requests_fields = followed (such (λ n. nat_le n 32) byte) (λ n. times n word8)
+
+unfoldable pub requests_at : List ℕ → Option (List ℕ × List ℕ)
+requests_at bytes = made_at (λ p. p.1) requests_fields.at bytes
+
+pub requests_format : IsFormat requests_spelling RequestsFit requests_at
+unfolding requests_at
+requests_format = told_format requests_fields (λ p. p.1) requests_spelling RequestsFit (record {
+  spelled = λ p f. rw f.1.0 refl;
+  fits = λ p f. record { few = omega (arith, leb-true p.0 32 f.0.1, f.1.0); each = f.1.1 };
+  back = λ ns f. ((length ns, ns), ((omega (arith, f.few), le-leb (length ns) 32 f.few), (refl, f.each)), refl);
+})
+
+abbrev pub requests : Format (List ℕ)
+requests = record { spelling = requests_spelling; Fits = RequestsFit; at = requests_at; exact = requests_format }
+
+pub length-requests : (ns : List ℕ) → length (requests_spelling ns) ≡ 1 + 8 * length ns
+length-requests [] = refl
+length-requests (n ∷ ns) =
+    let e = ap length (flat_map-cons (λ (k : ℕ). big_bytes 8 k) n ns) in
+    omega (arith, e, length-requests ns)
+
+-- ---- the token
+
+abbrev pub token_spelling : Token → List ℕ
+token_spelling t = ring_spelling t.ring ⊕ big_bytes 8 t.number ⊕ big_bytes 8 t.seq ⊕ big_bytes 8 t.aru ⊕ some_proc_spelling t.aru_id ⊕ requests_spelling t.requests
+
+pub record TokenFits (t : Token) : Type 0 where
+  pub ring : RingFits t.ring
+  pub ring_counted : 1 ≤ t.ring.seq
+  pub number_counted : 1 ≤ t.number
+  pub number : t.number ≤ max_number
+  pub aru : t.aru ≤ t.seq
+  pub seq : t.seq ≤ max_number
+  pub aru_id : SomeProcFits t.aru_id
+  pub aru_id_none : (t.aru_id ≡ None) ↔ (t.aru ≡ t.seq)
+  pub few : length t.requests ≤ 32
+  pub ascending : IsStrictlyIncreasing t.requests
+  pub each : AllByRecursion (λ n. (1 ≤ n) × (n ≤ t.seq)) t.requests
+
+-- who lowered `aru` is told exactly where it is below `seq`
+abbrev pub aru_id_test : Token → Bool
+aru_id_test t = if t.aru == t.seq then is_none t.aru_id else is_some t.aru_id
+
+-- the limits that join the fields
+abbrev pub token_test : Token → Bool
+token_test t = nat_le 1 t.ring.seq && (nat_le 1 t.number && (nat_le t.number max_number && (nat_le t.aru t.seq && (nat_le t.seq max_number && (aru_id_test t && ascends 0 t.seq t.requests)))))
+
+none_tested : (o : Option ℕ) (a b : ℕ) → (if a == b then is_none o else is_some o) ≡ true → (o ≡ None) ↔ (a ≡ b)
+none_tested None a b h = (λ n. elim (cases_Bool (a == b)) [ inl e ↦ eqb-true a b e | inr e ↦ absurd (let f : false ≡ true = rw e at h in cc) ], λ e. refl)
+none_tested (Some p) a b h = (λ n. absurd cc, λ e. absurd (let f : (a == b) ≡ true = eq-eqb a b e in let g : false ≡ true = rw f at h in cc))
+
+tested_none : (o : Option ℕ) (a b : ℕ) → (o ≡ None) ↔ (a ≡ b) → (if a == b then is_none o else is_some o) ≡ true
+tested_none None a b h = let f : (a == b) ≡ true = eq-eqb a b (h.0 refl) in rw f refl
+tested_none (Some p) a b h = elim (cases_Bool (a == b)) [ inl e ↦ absurd (let n : Some p ≡ None = h.1 (eqb-true a b e) in cc) | inr e ↦ rw e refl ]
+
+abbrev Raw : Type 0
+Raw = RingId × (ℕ × (ℕ × (ℕ × (Option ℕ × List ℕ))))
+
+abbrev token_fields : Format Raw
+token_fields = ring & word8 & word8 & word8 & some_proc & requests
+
+abbrev told : Raw → Token
+told p = record { ring = p.0; number = p.1.0; seq = p.1.1.0; aru = p.1.1.1.0; aru_id = p.1.1.1.1.0; requests = p.1.1.1.1.1 }
+
+unfoldable pub token_at : List ℕ → Option (Token × List ℕ)
+token_at bytes = such_at token_test (made_at told token_fields.at) bytes
+
+fits : (p : Raw) → token_fields.Fits p → token_test (told p) ≡ true → TokenFits (told p)
+fits p f passed =
+    let a = and_parts _ _ passed in
+    let b = and_parts _ _ a.1 in
+    let c = and_parts _ _ b.1 in
+    let d = and_parts _ _ c.1 in
+    let e = and_parts _ _ d.1 in
+    let g = and_parts _ _ e.1 in
+    record {
+      ring = f.0;
+      ring_counted = leb-true _ _ a.0;
+      number_counted = leb-true _ _ b.0;
+      number = leb-true _ _ c.0;
+      aru = leb-true _ _ d.0;
+      seq = leb-true _ _ e.0;
+      aru_id = f.1.1.1.1.0;
+      aru_id_none = none_tested p.1.1.1.1.0 p.1.1.1.0 p.1.1.0 g.0;
+      few = f.1.1.1.1.1.few;
+      ascending = ascends-increasing 0 p.1.1.0 p.1.1.1.1.1 g.1;
+      each = ascends-each 0 p.1.1.0 p.1.1.1.1.1 g.1;
+    }
+
+pub token_requests : (t : Token) → TokenFits t → RequestsFit t.requests
+token_requests t f = record { few = f.few; each = each_below 0 t.seq (256 ^ 8) t.requests f.each (omega (arith, f.seq)) }
+
+pub token_format : IsFormat token_spelling TokenFits token_at
+unfolding token_at
+token_format = tested_format token_fields told token_test token_spelling TokenFits (record {
+  spelled = λ p. refl;
+  fits = fits;
+  back = λ t f. ((t.ring, (t.number, (t.seq, (t.aru, (t.aru_id, t.requests))))), (f.ring, (omega (arith, f.number), (omega (arith, f.seq), (omega (arith, f.seq, f.aru), (f.aru_id, token_requests t f))))), refl);
+  passes = λ t f.
+      let up = increasing-ascends 0 t.seq t.requests (IsStrictlyIncreasing-from_zero t.seq t.requests f.ascending f.each) (each_le 0 t.seq t.requests f.each) in
+      rw (le-leb _ _ f.ring_counted, le-leb _ _ f.number_counted, le-leb _ _ f.number, le-leb _ _ f.aru, le-leb _ _ f.seq, tested_none t.aru_id t.aru t.seq f.aru_id_none, up) refl;
+})
+
+abbrev pub token : Format Token
+token = record { spelling = token_spelling; Fits = TokenFits; at = token_at; exact = token_format }

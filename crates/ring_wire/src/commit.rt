@@ -1,0 +1,117 @@
+//! Commit tokens.
+
+ghost use Rattle.std.specs.Prelude.{◌≡◌, ℕ, ◌+◌, ◌^◌, ◌<◌, ◌≤◌, Bool, ◌&&◌, ◌==◌, not, List, [], ◌∷◌, ◌++◌, length};
+ghost use Rattle.ring_layout.specs.Reading.{Appends, Gives};
+ghost use Rattle.ring_base.specs.Processors.{elements, smallest, nobody};
+ghost use Rattle.ring_wire.specs.Commits.{is_report as is_report_of, are_reports as are_reports_of};
+
+use crate::entries::{CommitEntry, Entries};
+use bytes::BytesMut;
+use ring_base::{Fault, Proc, ProcSet, RingId};
+use ring_layout::{Decode, Encode, Reader, write_many};
+use std::alloc::Allocator;
+
+/// The token that forms a ring: the ring, its members, how many hops it has taken, counted from 1, and
+/// the entries of the members that it has come to, ascending.
+#[derive(Clone, Drop)]
+pub struct CommitToken {
+    pub ring: RingId,
+    pub members: ProcSet,
+    pub hop: u8,
+    pub entries: Entries,
+}
+
+/// Whether the entry is of an older ring than this one, and of this member where it is of none.
+fn is_report(entry: &CommitEntry, ring: &RingId, member: Proc) -> bool
+    ensures { result ≡ is_report_of ring.now member entry.now }
+{
+    entry.old.seq < ring.seq && (entry.old.seq != 0 || entry.old.rep == member)
+}
+
+/// Whether the entries are those of the first members.
+fn are_reports(entries: &[CommitEntry], ring: &RingId, members: ProcSet) -> bool
+    ensures { result ≡ are_reports_of ring.now (elements members) entries.now }
+{
+    let mut left = members.iter();
+    for entry in entries {
+        let is_right = match left.next() {
+            Some(member) => is_report(entry, ring, member),
+            None => false,
+        };
+        if !is_right {
+            return false;
+        }
+    }
+    true
+}
+
+impl CommitToken {
+    ghost use Rattle.ring_wire.specs.Commits.{commit_test};
+
+    /// Whether there are members, and the representative is the smallest.
+    fn is_representative_right(&self) -> bool
+        ensures { result ≡ (not (self.now.members == nobody)
+            && (self.now.ring.rep == smallest self.now.members)) }
+    {
+        match self.members.smallest() {
+            Some(smallest) => self.ring.rep == smallest,
+            None => false,
+        }
+    }
+
+    /// Whether the limits beyond those of each field are kept.
+    fn is_valid(&self) -> bool
+        ensures { result ≡ commit_test self.now }
+    {
+        self.ring.seq >= 1
+            && self.is_representative_right()
+            && self.hop >= 1
+            && u32::from(self.hop) <= 2 * self.members.len()
+            && are_reports(self.entries.as_slice(), &self.ring, self.members)
+    }
+}
+
+impl Encode for CommitToken {
+    ghost use Rattle.ring_wire.specs.Commits.{commit_spelling, CommitFits, commit_at, commit_format};
+
+    ghost spelling = { commit_spelling };
+
+    ghost most = { 924 };
+
+    ghost fits = { CommitFits };
+
+    ghost at = { commit_at };
+
+    ghost format = { commit_format };
+
+    fn size(&self) -> usize {
+        12 + 57 * self.entries.as_slice().len()
+    }
+
+    fn write<B: Allocator + Copy>(&self, out: &mut BytesMut<B>) {
+        self.ring.write(out);
+        self.members.write(out);
+        self.hop.write(out);
+        write_many(self.entries.as_slice(), out);
+    }
+}
+
+impl<A: Allocator + Copy> Decode<A> for CommitToken {
+    #[tactic(auto, unfolding(crate::specs::Commits::commit_at))]
+    fn read(alloc: A, from: &mut Reader<'_>) -> Result<CommitToken, Fault> {
+        let ring = Decode::read(alloc, from)?;
+        let members: ProcSet = Decode::read(alloc, from)?;
+        let hop: u8 = Decode::read(alloc, from)?;
+        let count = (hop as usize).min(members.len() as usize);
+        let token = CommitToken {
+            ring,
+            members,
+            hop,
+            entries: Entries::read(alloc, count, from)?,
+        };
+        if !token.is_valid() {
+            return Err(Fault::BadFrame);
+        }
+        Ok(token)
+    }
+}

@@ -1,0 +1,146 @@
+//! Frames: two fixed bytes, the version, the kind, the body's length, and the body.
+
+ghost use Rattle.std.specs.Prelude.{◌≡◌, ℕ, ◌+◌, ◌^◌, ◌<◌, ◌≤◌, List, [], ◌∷◌, ◌++◌, length, IfOk, IfErr, ◌↔◌};
+ghost use Rattle.ring_base.specs.declared.fault.Fault.TheVariants.{BadFrame};
+ghost use Rattle.ring_layout.specs.Reading.{Appends, Gives};
+ghost use Rattle.ring_wire.specs.declared.frame.Frame.{Frame as OneFrame};
+ghost use Rattle.ring_wire.specs.Frames.{kind_at, spelling_of, FrameFits};
+ghost use Rattle.ring_wire.specs.Fronts.{IsReadFault};
+ghost use Rattle.ring_wire.specs.Spells.{Spells};
+
+use crate::commit::CommitToken;
+use crate::join::Join;
+use crate::message::Message;
+use crate::token::Token;
+use crate::wire::Wire;
+use bytes::BytesMut;
+use ring_base::Fault;
+use ring_layout::{Decode, Encode, Reader, read_sized, write_sized};
+use std::alloc::{Allocator, Global};
+
+/// The bytes that each frame begins with.
+const START: [u8; 2] = [0x54, 0x52];
+
+/// The version of every frame.
+const VERSION: u8 = 1;
+
+/// What one processor sends to others.
+#[derive(Clone, Drop)]
+pub enum Frame<A: Allocator + Copy = Global> {
+    Message(Message<A>),
+    Token(Token),
+    Join(Join),
+    Commit(CommitToken),
+}
+
+impl<A: Allocator + Copy> Encode for Frame<A> {
+    ghost use Rattle.ring_wire.specs.Frames.{frame_at, frame_format};
+
+    ghost spelling = { spelling_of };
+
+    ghost most = { 7321 };
+
+    ghost fits = { FrameFits };
+
+    ghost at = { frame_at };
+
+    ghost format = { frame_format };
+
+    fn size(&self) -> usize {
+        match self {
+            Frame::Message(message) => 8 + message.size(),
+            Frame::Token(token) => 8 + token.size(),
+            Frame::Join(join) => 8 + join.size(),
+            Frame::Commit(commit) => 8 + commit.size(),
+        }
+    }
+
+    fn write<B: Allocator + Copy>(&self, out: &mut BytesMut<B>) {
+        START[0].write(out);
+        START[1].write(out);
+        VERSION.write(out);
+        match self {
+            Frame::Message(message) => {
+                1u8.write(out);
+                write_sized(message, out);
+            }
+            Frame::Token(token) => {
+                2u8.write(out);
+                write_sized(token, out);
+            }
+            Frame::Join(join) => {
+                3u8.write(out);
+                write_sized(join, out);
+            }
+            Frame::Commit(commit) => {
+                4u8.write(out);
+                write_sized(commit, out);
+            }
+        }
+    }
+}
+
+/// The kind, the length and the body at the front.
+#[tactic(auto, unfolding(crate::specs::Frames::kind_at))]
+fn read_kind<A: Allocator + Copy>(alloc: A, from: &mut Reader<'_>) -> Result<Frame<A>, Fault>
+    ensures { Gives result from.new (kind_at from.old) }
+{
+    let kind: u8 = Decode::read(alloc, from)?;
+    match kind {
+        1 => Ok(Frame::Message(read_sized(alloc, from)?)),
+        2 => Ok(Frame::Token(read_sized(alloc, from)?)),
+        3 => Ok(Frame::Join(read_sized(alloc, from)?)),
+        4 => Ok(Frame::Commit(read_sized(alloc, from)?)),
+        _ => Err(Fault::BadFrame),
+    }
+}
+
+impl<A: Allocator + Copy> Decode<A> for Frame<A> {
+    #[tactic(auto, unfolding(crate::specs::Frames::frame_at))]
+    fn read(alloc: A, from: &mut Reader<'_>) -> Result<Frame<A>, Fault> {
+        let first: u8 = Decode::read(alloc, from)?;
+        let second: u8 = Decode::read(alloc, from)?;
+        if first != START[0] || second != START[1] {
+            return Err(Fault::BadFrame);
+        }
+        let version: u8 = Decode::read(alloc, from)?;
+        let frame = read_kind(alloc, from)?;
+        if version != VERSION {
+            return Err(Fault::BadFrame);
+        }
+        Ok(frame)
+    }
+}
+
+/// The frame that the bytes are, all of them. Refused with `BadFrame` exactly where they are none, or
+/// with `Memory`.
+pub fn decode_frame<A: Allocator + Copy>(alloc: A, src: &[u8]) -> Result<Frame<A>, Fault>
+    ensures found { IfOk result (λ frame. Spells frame src.now) }
+    ensures bad { IfErr result (λ fault. fault ≡ BadFrame
+        → (frame : OneFrame A) → ¬ Spells frame src.now) }
+    ensures faults { IfErr result IsReadFault }
+{
+    let (frame, len) = Frame::<A>::get(alloc, src)?;
+    if len != src.len() {
+        return Err(Fault::BadFrame);
+    }
+    Ok(frame)
+}
+
+/// The texts that spell a frame by the grammar are its one spelling, where it keeps the limits.
+pub fn spelling_law<A: Allocator + Copy>()
+    ensures { (frame : OneFrame A) (text : List ℕ)
+        → Spells frame text ↔ (FrameFits frame × (text ≡ spelling_of frame)) }
+{}
+
+/// A frame has one spelling, no spelling begins another, and no two frames have the same: two spellings,
+/// with anything behind them, that are one text are of one frame.
+pub fn one_spelling_law<A: Allocator + Copy>()
+    ensures { (f g : OneFrame A) (a b x y : List ℕ)
+        → Spells f a → Spells g b → a ++ x ≡ b ++ y → (f ≡ g) × (a ≡ b) }
+{}
+
+/// No spelling passes 8,192 bytes.
+pub fn short_law<A: Allocator + Copy>()
+    ensures { (f : OneFrame A) (a : List ℕ) → Spells f a → length a ≤ 8192 }
+{}

@@ -1,0 +1,20 @@
+//! Frames, and how they are spelled: one spelling for each value, and no spelling begins another.
+#![tactic(auto)]
+
+mod commit;
+mod entries;
+mod frame;
+mod join;
+mod message;
+mod requests;
+mod token;
+mod wire;
+
+pub use commit::CommitToken;
+pub use entries::{CommitEntry, Entries};
+pub use frame::{Frame, decode_frame, one_spelling_law, short_law, spelling_law};
+pub use join::Join;
+pub use message::Message;
+pub use requests::Requests;
+pub use token::Token;
+pub use wire::Wire;

@@ -1,0 +1,107 @@
+//! The numbers of the messages that a token asks for.
+
+ghost use Rattle.std.specs.Prelude.{◌≡◌, ℕ, ◌+◌, ◌^◌, ◌<◌, ◌≤◌, List, [], ◌∷◌, ◌++◌, length};
+ghost use Rattle.ring_layout.specs.Reading.{Appends, Gives};
+
+use arrayvec::ArrayVec;
+use bytes::BytesMut;
+use ring_base::Fault;
+use ring_layout::{Decode, Encode, Reader, read_in_place, write_many};
+use std::alloc::{AllocError, Allocator};
+use std::marker::Model;
+
+/// At most 32 numbers, in place. Contracts see the list.
+#[derive(Drop)]
+pub struct Requests {
+    numbers: ArrayVec<u64, 32>,
+}
+
+impl Model for Requests {
+    ghost Value = { List ℕ };
+
+    ghost view = { λ r. r.numbers.items };
+}
+
+impl Requests {
+    /// No numbers.
+    pub fn new() -> Requests
+        ensures { result ≡ [] }
+    {
+        Requests {
+            numbers: ArrayVec::new(),
+        }
+    }
+
+    /// The numbers, at most 32.
+    pub fn as_slice(&self) -> &[u64]
+        ensures value { result.now ≡ self.now }
+        ensures few { length result.now ≤ 32 }
+    {
+        self.numbers.as_slice()
+    }
+
+    /// Puts a number at the end.
+    pub fn push(&mut self, number: u64)
+        requires { length self.old < 32 }
+        ensures { self.new ≡ self.old ++ number ∷ [] }
+    {
+        self.numbers.push(number);
+    }
+
+    /// The same numbers.
+    pub fn copied(&self) -> Requests
+        ensures { result ≡ self.now }
+    {
+        let mut numbers = ArrayVec::new();
+        numbers
+            .try_extend_from_slice(self.numbers.as_slice())
+            .unwrap();
+        Requests { numbers }
+    }
+}
+
+impl Clone for Requests {
+    ghost is_clone = { λ requests copy. copy ≡ requests };
+
+    ghost is_infallible = { λ _. Unit {0} };
+
+    fn clone(&self) -> Result<Requests, AllocError> {
+        Ok(self.copied())
+    }
+}
+
+impl Encode for Requests {
+    ghost use Rattle.ring_wire.specs.Tokens.{requests_spelling, RequestsFit, requests_at, requests_format};
+
+    ghost spelling = { requests_spelling };
+
+    ghost most = { 257 };
+
+    ghost fits = { RequestsFit };
+
+    ghost at = { requests_at };
+
+    ghost format = { requests_format };
+
+    fn size(&self) -> usize {
+        1 + 8 * self.as_slice().len()
+    }
+
+    fn write<B: Allocator + Copy>(&self, out: &mut BytesMut<B>) {
+        let numbers = self.as_slice();
+        (numbers.len() as u8).write(out);
+        write_many(numbers, out);
+    }
+}
+
+impl<A: Allocator + Copy> Decode<A> for Requests {
+    #[tactic(auto, unfolding(crate::specs::Tokens::requests_at))]
+    fn read(alloc: A, from: &mut Reader<'_>) -> Result<Requests, Fault> {
+        let count: u8 = Decode::read(alloc, from)?;
+        if count > 32 {
+            return Err(Fault::BadFrame);
+        }
+        let numbers = read_in_place(alloc, count as usize, from)?;
+        Ok(Requests { numbers })
+    }
+}

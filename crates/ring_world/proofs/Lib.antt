@@ -1,0 +1,5 @@
+pub mod Checks
+pub mod Linear
+pub mod Machines
+pub mod Orders
+pub mod Places
