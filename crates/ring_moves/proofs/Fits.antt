@@ -1,0 +1,247 @@
+-- After any inputs: a safe mark is at most its front, and what is held lies within the window after its mark.
+use Rattle.std.proofs.Common.{◌≡◌, ℕ, zero, suc, ◌+◌, ◌-◌, ◌≤◌, min, Bool, true, false, ◌&&◌, cond, ltb, leb, eqb, List, [], ◌∷◌, ◌++◌, length, Option, Some, None, slice_get, refl, sym, subst, inl, inr, arith, length-take}
+use Rattle.std.specs.Cmp.Lexicographic.{pointwise}
+use Rattle.std.specs.List.{AllByRecursion}
+use Rattle.std.proofs.lemmas.Bool.{cond_both, cond-true, and_parts, or_parts, or_cases, or_right, ltb-false, leb-true, eqb-true}
+use Rattle.std.specs.Prelude.{nat_eq}
+use Rattle.ring_base.specs.declared.ring_id.RingId.{RingId}
+use Rattle.ring_payload.specs.declared.content.Payload.{Payload}
+use Rattle.ring_payload.specs.declared.content.Payload.TheVariants.{Call, Wrapped, End, Head, Part}
+use Rattle.ring_payload.specs.declared.content.Wrapped.{Wrapped as WrappedMessage}
+use Rattle.ring_wire.specs.declared.commit.CommitToken.{CommitToken}
+use Rattle.ring_wire.specs.declared.entries.CommitEntry.{CommitEntry}
+use Rattle.ring_wire.specs.declared.message.Message.{Message}
+use Rattle.ring_wire.specs.declared.token.Token.{Token}
+use Rattle.ring_window.specs.Held.{window_size, same_ring, is_numbered, holds, front_of, in_window, is_new}
+use Rattle.ring_window.proofs.Fronts.{front_grows}
+use Rattle.ring_window.proofs.Rings.{ring_same}
+use Rattle.ring_token.specs.Turns.{Turn, Raise, safe_mark}
+use Rattle.ring_token.specs.Visits.{room, numbered, may_set, is_mine, aru_after}
+use Rattle.ring_token.proofs.Marks.{safe_mark-below, safe_mark-turn, safe_mark-raise}
+use Rattle.ring_commit.specs.Reports.{same_entry, reports_of, safe_of, none_behind, is_sound}
+use Rattle.ring_commit.specs.Rounds.{position_of_hop, is_own}
+use Rattle.ring_recover.specs.Payloads.{payload_of}
+use Rattle.ring_recover.specs.Wrapping.{inner_if_new, unwrapped}
+use Rattle.ring_srp.specs.declared.input.Input.{Input}
+use Rattle.ring_srp.specs.declared.out.Out.{Out}
+use Rattle.ring_srp.specs.declared.state.State.{State}
+use Rattle.ring_srp.specs.declared.state.State.TheVariants.{Gather, Commit, Recovery, Operational, Stopped}
+use Rattle.ring_srp.specs.State.{Core, Did, opening}
+use Rattle.ring_srp.specs.Views.{front, mark, own_entry, takes_number}
+use Rattle.ring_srp.specs.Visiting.{offers, new_payloads, new_messages, held_after, turn_of}
+use Rattle.ring_srp.specs.Joining.{proposes}
+use Rattle.ring_srp.specs.Handing.{takes_second_round}
+use Rattle.ring_srp.specs.Giving.{settle}
+use Rattle.ring_srp.specs.Deciding.{Act, Ignore, Enqueue, Repeat, Announce, Invite, GiveUp, Regather, Agree, Widen, RegatherAndAgree, RegatherAndWiden, Take, Visit, Fill, Learn, is_taken, decide}
+use Rattle.ring_srp.specs.Acting.{gives_old, act, may_follow, proposed_after}
+use Rattle.ring_srp.specs.Stepping.{ring_step, after_inputs}
+use Rattle.ring_moves.specs.Laws.{HasPassed}
+use Rattle.ring_moves.proofs.Guards.{guarded}
+
+-- Lists of facts
+
+-- what holds of each is kept by a weaker fact
+each-weaker : {X : Type 0} (P Q : X → Type 0) → ((x : X) → P x → Q x) → (xs : List X) → AllByRecursion P xs → AllByRecursion Q xs
+each-weaker P Q f [] h = tt
+each-weaker P Q f (x ∷ xs) h = (f x h.0, each-weaker P Q f xs h.1)
+
+each-append : {X : Type 0} (P : X → Type 0) (xs ys : List X) → AllByRecursion P xs → AllByRecursion P ys → AllByRecursion P (xs ++ ys)
+each-append P [] ys h k = k
+each-append P (x ∷ xs) ys h k = (h.0, each-append P xs ys h.1 k)
+
+-- with messages more, what was held is held, and no front is smaller
+holds-append : {A : Type 0} → (xs ys : List (Message A)) (r : RingId) (n : ℕ) → holds ys r n ≡ true → holds (xs ++ ys) r n ≡ true
+holds-append [] ys r n h = h
+holds-append (x ∷ xs) ys r n h = or_right (is_numbered r n x) (holds (xs ++ ys) r n) (holds-append xs ys r n h)
+
+pub front-append : {A : Type 0} → (xs ys : List (Message A)) (r : RingId) → front_of ys r ≤ front_of (xs ++ ys) r
+front-append xs ys r = front_grows ys (xs ++ ys) r (λ n h. holds-append xs ys r n h)
+
+-- The invariant, over the facts alone
+
+-- the message is within the window
+abbrev pub Within : {A : Type 0} → List (Turn A) → List Raise → Message A → Type 0
+Within turns raises x = x.number ≤ safe_mark turns raises x.ring + window_size
+
+pub record IsFit {A : Type 0} (held : List (Message A)) (turns : List (Turn A)) (raises : List Raise) : Type 0 where
+  pub window : AllByRecursion (λ (x : Message A). Within turns raises x) held
+  pub visits : AllByRecursion (λ (v : Turn A). v.went.aru ≤ front_of held v.came.ring) turns
+  pub raised : AllByRecursion (λ (x : Raise). x.mark ≤ front_of held x.ring) raises
+
+abbrev pub Fit : {A : Type 0} → Core A → Type 0
+Fit c = IsFit c.held c.turns c.raises
+
+more_held : {A : Type 0} → (xs held : List (Message A)) (turns : List (Turn A)) (raises : List Raise) → AllByRecursion (λ (x : Message A). Within turns raises x) xs → IsFit held turns raises → IsFit (xs ++ held) turns raises
+more_held {A} xs held turns raises h f =
+    record {
+      window = each-append (λ (x : Message A). Within turns raises x) xs held h f.window;
+      visits = each-weaker _ _ (λ (v : Turn A) h. (let i : front_of held v.came.ring ≤ front_of (xs ++ held) v.came.ring = front-append xs held v.came.ring in omega arith)) turns f.visits;
+      raised = each-weaker _ _ (λ (x : Raise) h. (let i : front_of held x.ring ≤ front_of (xs ++ held) x.ring = front-append xs held x.ring in omega arith)) raises f.raised;
+    }
+
+more_turns : {A : Type 0} → (v : Turn A) (held : List (Message A)) (turns : List (Turn A)) (raises : List Raise) → v.went.aru ≤ front_of held v.came.ring → IsFit held turns raises → IsFit held (v ∷ turns) raises
+more_turns {A} v held turns raises h f =
+    record {
+      window = each-weaker _ _ (λ (x : Message A) k. (let i : safe_mark turns raises x.ring ≤ safe_mark (v ∷ turns) raises x.ring = safe_mark-turn v turns raises x.ring in omega arith)) held f.window;
+      visits = (h, f.visits);
+      raised = f.raised;
+    }
+
+more_raises : {A : Type 0} → (x : Raise) (held : List (Message A)) (turns : List (Turn A)) (raises : List Raise) → x.mark ≤ front_of held x.ring → IsFit held turns raises → IsFit held turns (x ∷ raises)
+more_raises {A} y held turns raises h f =
+    record {
+      window = each-weaker _ _ (λ (x : Message A) k. (let i : safe_mark turns raises x.ring ≤ safe_mark turns (y ∷ raises) x.ring = safe_mark-raise y turns raises x.ring in omega arith)) held f.window;
+      visits = f.visits;
+      raised = (h, f.raised);
+    }
+
+-- Taking
+
+new_within : {A : Type 0} → (held : List (Message A)) (m : ℕ) (r : RingId) (n : ℕ) → is_new held m r n ≡ true → n ≤ m + window_size
+new_within held m r n h = leb-true _ _ (and_parts _ (leb n (m + window_size)) (and_parts (in_window m n) _ h).0).1
+
+inner_within : {A : Type 0} → (c : Core A) (w : WrappedMessage A) → AllByRecursion (λ (x : Message A). Within c.turns c.raises x) (inner_if_new c.installed.ring (mark c c.installed.ring) c.held w)
+inner_within {A} c w =
+    cond_both (same_ring w.ring c.installed.ring && is_new c.held (mark c c.installed.ring) c.installed.ring w.number) (record { ring = w.ring; number = w.number; sender = w.sender; payload = payload_of w.payload } ∷ []) [] (λ (xs : List (Message A)). AllByRecursion (λ (x : Message A). Within c.turns c.raises x) xs)
+    (λ e. (
+      let p = and_parts (same_ring w.ring c.installed.ring) (is_new c.held (mark c c.installed.ring) c.installed.ring w.number) e in
+          let i : w.number ≤ mark c c.installed.ring + window_size = new_within c.held (mark c c.installed.ring) c.installed.ring w.number p.1 in
+          subst (λ (q : RingId). w.number ≤ safe_mark c.turns c.raises q + window_size) (sym (ring_same w.ring c.installed.ring p.0)) i,
+      tt,
+    ))
+    (λ e. tt)
+
+payload_within : {A : Type 0} → (c : Core A) (p : Payload A) → AllByRecursion (λ (x : Message A). Within c.turns c.raises x) (unwrapped c.installed.ring (mark c c.installed.ring) c.held p)
+payload_within c (Wrapped w) = inner_within c w
+payload_within c (Call call) = tt
+payload_within c End = tt
+payload_within c (Head head) = tt
+payload_within c (Part part) = tt
+
+gives_within : {A : Type 0} → (s : State) (c : Core A) (x : Message A) → AllByRecursion (λ (x : Message A). Within c.turns c.raises x) (gives_old s c x)
+gives_within Recovery c x = payload_within c x.payload
+gives_within Gather c x = tt
+gives_within Commit c x = tt
+gives_within Operational c x = tt
+gives_within Stopped c x = tt
+
+taken_fits : {A : Type 0} → (c : Core A) (x : Message A) → is_taken c x ≡ true → Fit c → IsFit (gives_old c.state c x ++ x ∷ c.held) c.turns c.raises
+taken_fits c x h f =
+    more_held (gives_old c.state c x) (x ∷ c.held) c.turns c.raises (gives_within c.state c x)
+    (more_held (x ∷ []) c.held c.turns c.raises (new_within c.held (mark c x.ring) x.ring x.number (and_parts _ (takes_number c x.ring x.number) h).1, tt) f)
+
+-- Visiting
+
+numbered_below : {A : Type 0} → (turns : List (Turn A)) (raises : List Raise) (r : RingId) (me seq : ℕ) (ps : List (Payload A)) → length ps ≤ safe_mark turns raises r + window_size - seq → AllByRecursion (λ (x : Message A). Within turns raises x) (numbered r me seq ps)
+numbered_below turns raises r me seq [] h = tt
+numbered_below turns raises r me seq (p ∷ ps) h = (omega arith, numbered_below turns raises r me (suc seq) ps (omega arith))
+
+fresh_short : {A : Type 0} → (c : Core A) (t : Token) → length (new_payloads c t) ≤ mark c t.ring + window_size - t.seq
+fresh_short c t = (let e : length (new_payloads c t) ≡ min (room (mark c t.ring) t.seq) (length (offers c.state c)) = length-take (room (mark c t.ring) t.seq) (offers c.state c) in omega arith)
+
+aru_below : (me f : ℕ) (t : Token) → aru_after me f t ≤ f
+aru_below me f t = cond_both (may_set me f t) f t.aru (λ a. a ≤ f) (λ e. omega arith) (λ e. ltb-false f t.aru (or_parts (ltb f t.aru) (is_mine me t.aru_id) e).0)
+
+visited_fits : {A : Type 0} → (c : Core A) (t : Token) → Fit c → IsFit (held_after c t) (turn_of c t ∷ c.turns) c.raises
+visited_fits c t f =
+    more_turns (turn_of c t) (held_after c t) c.turns c.raises (aru_below c.me (front_of (held_after c t) t.ring) t)
+    (more_held (new_messages c t) c.held c.turns c.raises (numbered_below c.turns c.raises t.ring c.me t.seq (new_payloads c t) (fresh_short c t)) f)
+
+-- Learning
+
+ahead_kept : (old : RingId) (safe : ℕ) (x : CommitEntry) (ys : List CommitEntry) → same_ring x.old old ≡ true → none_behind safe (cond (same_ring x.old old) (x ∷ ys) ys) ≡ true → safe ≤ x.front
+ahead_kept old safe x ys s h =
+    leb-true safe x.front (and_parts _ (none_behind safe ys) (subst (λ (zs : List CommitEntry). none_behind safe zs ≡ true) (cond-true (same_ring x.old old) (x ∷ ys) ys s) h)).0
+
+ahead_rest : (old : RingId) (safe : ℕ) (x : CommitEntry) (ys : List CommitEntry) → none_behind safe (cond (same_ring x.old old) (x ∷ ys) ys) ≡ true → none_behind safe ys ≡ true
+ahead_rest old safe x ys h =
+    cond_both (same_ring x.old old) (x ∷ ys) ys (λ (zs : List CommitEntry). none_behind safe zs ≡ true → none_behind safe ys ≡ true) (λ e k. (and_parts (leb safe x.front) (none_behind safe ys) k).1) (λ e k. k) h
+
+-- the greatest reported mark is at most the front of each that comes from the old ring
+ahead : (old : RingId) (safe : ℕ) (entries : List CommitEntry) (i : ℕ) (e : CommitEntry) → none_behind safe (reports_of old entries) ≡ true → slice_get entries i ≡ Some e → same_ring e.old old ≡ true → safe ≤ e.front
+ahead old safe [] i e h g s = absurd (let q : ⊥ = cc in q)
+ahead old safe (x ∷ entries) zero e h g s =
+    let q : x ≡ e = cc in
+    subst (λ (y : CommitEntry). safe ≤ y.front) q (ahead_kept old safe x (reports_of old entries) (subst (λ (y : CommitEntry). same_ring y.old old ≡ true) (sym q) s) h)
+ahead old safe (x ∷ entries) (suc i) e h g s = ahead old safe entries i e (ahead_rest old safe x (reports_of old entries) h) g s
+
+-- the own entry stands in the token
+stands : (own : CommitEntry) (o : Option CommitEntry) → is_own own o ≡ true → (e : CommitEntry) × (o ≡ Some e) × (same_entry e own ≡ true)
+stands own None h = absurd (let q : ⊥ = cc in q)
+stands own (Some e) h = (e, refl, h)
+
+learned_front : {A : Type 0} → (c : Core A) (k : CommitToken) → is_own (own_entry c) (slice_get k.entries (position_of_hop k)) ≡ true → is_sound c.installed.ring k.entries ≡ true → safe_of (reports_of c.installed.ring k.entries) ≤ front c c.installed.ring
+learned_front c k h g =
+    let (e, at, same) = stands (own_entry c) (slice_get k.entries (position_of_hop k)) h in
+    let ring_and_front : (same_ring e.old c.installed.ring && eqb e.front (front c c.installed.ring)) ≡ true = (and_parts _ (eqb e.mark (mark c c.installed.ring)) (and_parts _ (pointwise nat_eq e.held (own_entry c).held) same).0).0 in
+    let i : safe_of (reports_of c.installed.ring k.entries) ≤ e.front = ahead c.installed.ring (safe_of (reports_of c.installed.ring k.entries)) k.entries (position_of_hop k) e g at (and_parts _ (eqb e.front (front c c.installed.ring)) ring_and_front).0 in
+    let j : e.front ≡ front c c.installed.ring = eqb-true _ _ (and_parts (same_ring e.old c.installed.ring) _ ring_and_front).1 in
+    subst (λ n. safe_of (reports_of c.installed.ring k.entries) ≤ n) j i
+
+learned_fits : {A : Type 0} → (c : Core A) (k : CommitToken) → takes_second_round c k ≡ true → Fit c → IsFit c.held c.turns (record { ring = c.installed.ring; mark = safe_of (reports_of c.installed.ring k.entries) } ∷ c.raises)
+learned_fits c k h f =
+    let p : (_ ≡ true) × (is_sound c.installed.ring k.entries ≡ true) = and_parts _ (is_sound c.installed.ring k.entries) h in
+    more_raises (record { ring = c.installed.ring; mark = safe_of (reports_of c.installed.ring k.entries) }) c.held c.turns c.raises
+    (learned_front c k (and_parts _ (is_own (own_entry c) (slice_get k.entries (position_of_hop k))) p.0).1 p.1) f
+
+-- Each act, and a step
+
+act_fits : {A : Type 0} → (c : Core A) (a : Act A) → HasPassed c a → Fit c → Fit (act c a).core
+act_fits c (Take x) g f = taken_fits c x g f
+act_fits c (Visit t) g f = visited_fits c t f
+act_fits c (Learn k) g f = learned_fits c k g.passes f
+act_fits c (Fill k) g f = f
+act_fits c Ignore g f = f
+act_fits c (Enqueue p) g f = f
+act_fits c Repeat g f = f
+act_fits c Announce g f = f
+act_fits c Invite g f = f
+act_fits c GiveUp g f = f
+act_fits c Regather g f = f
+act_fits c (Agree j) g f = f
+act_fits c (Widen j) g f = f
+act_fits c (RegatherAndAgree j) g f = f
+act_fits c (RegatherAndWiden j) g f = f
+
+proposed_fits : {A : Type 0} → (b : Bool) (did : Did A) → Fit did.core → Fit (proposed_after b did).core
+proposed_fits false did f = f
+proposed_fits true did f = f
+
+settled_fits : {A : Type 0} → (b : Bool) (c : Core A) (outs : List (Out A)) → Fit c → Fit (settle b c outs).core
+settled_fits false c outs f = f
+settled_fits true c outs f = f
+
+pub step_fits : {A : Type 0} → (c : Core A) (input : Input A) → Fit c → Fit (ring_step c input).core
+unfolding ring_step
+step_fits c input f =
+    settled_fits _ _ _ (proposed_fits (may_follow (decide c input) && proposes (act c (decide c input)).core) _ (act_fits c (decide c input) (guarded c input) f))
+
+pub always_fits : {A : Type 0} → (c : Core A) (inputs : List (Input A)) → Fit c → Fit (after_inputs c inputs)
+always_fits c [] f = f
+always_fits c (x ∷ inputs) f = always_fits (ring_step c x).core inputs (step_fits c x f)
+
+opening_fits : {A : Type 0} → (n me : ℕ) (inputs : List (Input A)) → Fit (after_inputs (opening n me) inputs)
+opening_fits n me inputs = always_fits (opening n me) inputs (record { window = tt; visits = tt; raised = tt })
+
+-- The laws
+
+pub marks_within : {A : Type 0} → (n me : ℕ) (inputs : List (Input A)) (r : RingId) → mark (after_inputs (opening n me) inputs) r ≤ front (after_inputs (opening n me) inputs) r
+marks_within n me inputs r =
+    let f = opening_fits n me inputs in
+    safe_mark-below (front (after_inputs (opening n me) inputs)) r _ _ f.visits f.raised
+
+-- each message held, of any ring
+in_window_of : {A : Type 0} → (turns : List (Turn A)) (raises : List Raise) (held : List (Message A)) (r : RingId) (n : ℕ) → AllByRecursion (λ (x : Message A). Within turns raises x) held → holds held r n ≡ true → n ≤ safe_mark turns raises r + window_size
+in_window_of turns raises [] r n f h = absurd (let q : ⊥ = cc in q)
+in_window_of turns raises (x ∷ held) r n f h =
+    elim (or_cases (is_numbered r n x) (holds held r n) h) [
+      | inl e ↦ (let p : (same_ring x.ring r ≡ true) × (eqb x.number n ≡ true) = and_parts _ (eqb x.number n) e in
+          let a : x.number ≤ safe_mark turns raises r + window_size = subst (λ (q : RingId). x.number ≤ safe_mark turns raises q + window_size) (ring_same x.ring r p.0) f.0 in
+          subst (λ m. m ≤ safe_mark turns raises r + window_size) (eqb-true x.number n p.1) a)
+      | inr e ↦ in_window_of turns raises held r n f.1 e
+    ]
+
+pub held_within : {A : Type 0} → (n me : ℕ) (inputs : List (Input A)) (r : RingId) (k : ℕ) → holds (after_inputs (opening n me) inputs).held r k ≡ true → k ≤ mark (after_inputs (opening n me) inputs) r + window_size
+held_within n me inputs r k h =
+    let f = opening_fits n me inputs in
+    in_window_of _ _ _ r k f.window h

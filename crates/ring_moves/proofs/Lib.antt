@@ -1,0 +1,5 @@
+pub mod Guards
+pub mod Rises
+pub mod Fits
+pub mod Agrees
+pub mod Turned

@@ -1,0 +1,74 @@
+//! Laws of the ring core: what holds of every core, whatever comes in, forged frames among it.
+
+ghost use Rattle.std.specs.Prelude.{◌≡◌, ℕ, List, ◌+◌, ◌≤◌, true};
+ghost use Rattle.std.specs.declared.alloc.Global.{Global as Heap};
+ghost use Rattle.ring_base.specs.declared.ring_id.RingId.{RingId};
+ghost use Rattle.ring_wire.specs.declared.commit.CommitToken.{CommitToken};
+ghost use Rattle.ring_window.specs.Held.{window_size, holds};
+ghost use Rattle.ring_join.specs.Gathering.{AllSaySame};
+ghost use Rattle.ring_commit.specs.Rounds.{receiver};
+ghost use Rattle.ring_srp.specs.declared.input.Input.{Input};
+ghost use Rattle.ring_srp.specs.State.{Core, opening};
+ghost use Rattle.ring_srp.specs.Views.{front, mark};
+ghost use Rattle.ring_srp.specs.Deciding.{decide};
+ghost use Rattle.ring_srp.specs.Stepping.{after_inputs};
+ghost use Rattle.ring_moves.specs.Laws.{HasPassed, IsFalling, TakesCommit, AreTurnsOf};
+
+use ring_recover::finish_law;
+use ring_token::safe_law;
+use ring_window::{bits_law, front_law};
+use std::alloc::{Allocator, Global};
+
+/// What is decided has passed its tests.
+pub fn decision_law<A: Allocator + Copy>()
+    ensures { (c : Core A) (input : Input A) → HasPassed c (decide c input) }
+{}
+
+/// A commit token is taken at one position alone: by the member that its hop goes to.
+pub fn hop_law<A: Allocator + Copy>()
+    ensures { (c : Core A) (k : CommitToken) → TakesCommit c k → receiver k ≡ c.me }
+{}
+
+/// The rings that a core takes part in strictly rise.
+pub fn rings_law<A: Allocator + Copy>()
+    ensures { (n me : ℕ) (inputs : List (Input A)) → IsFalling (after_inputs (opening n me) inputs).rings }
+{}
+
+/// A safe mark is at most the front of its ring.
+pub fn mark_law<A: Allocator + Copy>()
+    ensures { (n me : ℕ) (inputs : List (Input A)) (ring : RingId) → mark (after_inputs (opening n me) inputs) ring ≤ front (after_inputs (opening n me) inputs) ring }
+{}
+
+/// No number is held that lies past the window.
+pub fn window_law<A: Allocator + Copy>()
+    ensures { (n me : ℕ) (inputs : List (Input A)) (ring : RingId) (k : ℕ) → holds (after_inputs (opening n me) inputs).held ring k ≡ true → k ≤ mark (after_inputs (opening n me) inputs) ring + window_size }
+{}
+
+/// Each join that a core keeps as heard says exactly its sets. So consensus, as `ring_join` tests it, is of
+/// processors that said exactly these sets.
+pub fn agreement_law<A: Allocator + Copy>()
+    ensures { (n me : ℕ) (inputs : List (Input A)) → AllSaySame (after_inputs (opening n me) inputs).gathering }
+{}
+
+/// Each visit that a core took went by the rules, so that the visits of a ring are those of which `ring_token`
+/// says how far they make it safe.
+pub fn visit_law<A: Allocator + Copy>()
+    ensures { (n me : ℕ) (inputs : List (Input A)) → AreTurnsOf (after_inputs (opening n me) inputs).me (after_inputs (opening n me) inputs).held (after_inputs (opening n me) inputs).turns }
+{}
+
+/// The laws at the allocator that programs use; of one of them it says what it gives.
+pub fn laws_at_global()
+    ensures { (n me : ℕ) (inputs : List (Input Heap)) (ring : RingId) → mark (after_inputs (opening n me) inputs) ring ≤ front (after_inputs (opening n me) inputs) ring }
+{
+    front_law::<Global>();
+    bits_law::<Global>();
+    safe_law::<Global>();
+    finish_law::<Global>();
+    decision_law::<Global>();
+    hop_law::<Global>();
+    rings_law::<Global>();
+    window_law::<Global>();
+    agreement_law::<Global>();
+    visit_law::<Global>();
+    mark_law::<Global>();
+}

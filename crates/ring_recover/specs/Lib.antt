@@ -1,0 +1,6 @@
+pub mod Chosen
+pub mod Payloads
+pub mod Plans
+pub mod Wrapping
+pub mod Installing
+pub mod Deliveries

@@ -1,0 +1,71 @@
+-- How the old ring's messages are handed on, each as the new ring's Wrapped, from the lowest on, and then one End: Recovery, rules 4 to 6 of docs/PROTOCOL.md.
+use Rattle.std.specs.Prelude.{ℕ, ◌+◌, ◌-◌, Bool, false, not, ◌&&◌, ◌==◌, if◌then◌else◌, List, [], ◌∷◌, ◌++◌, filter, filter_map, Option, Some, None}
+use Rattle.std.specs.List.{list_any}
+use Rattle.ring_base.specs.Numbers.{numbers_from}
+use Rattle.ring_base.specs.declared.ring_id.RingId.{RingId}
+use Rattle.ring_payload.specs.declared.content.Content.{Content}
+use Rattle.ring_payload.specs.declared.content.Content.TheVariants.{Call as CallContent, Head as HeadContent, Part as PartContent}
+use Rattle.ring_payload.specs.declared.content.Payload.{Payload}
+use Rattle.ring_payload.specs.declared.content.Payload.TheVariants.{Call, Wrapped, End, Head, Part}
+use Rattle.ring_payload.specs.declared.content.Wrapped.{Wrapped as WrappedMessage}
+use Rattle.ring_wire.specs.declared.message.Message.{Message}
+use Rattle.ring_window.specs.Held.{same_ring, found, of_ring, highest, is_new}
+use Rattle.ring_recover.specs.Payloads.{is_end, payload_of}
+use Rattle.ring_recover.specs.Plans.{Plan, low}
+
+-- the payload wraps this number of the old ring
+abbrev pub is_wrap_of : {A : Type 0} → RingId → ℕ → Payload A → Bool
+is_wrap_of old n (Wrapped w) = same_ring w.ring old && (w.number == n)
+is_wrap_of old n (Call call) = false
+is_wrap_of old n End = false
+is_wrap_of old n (Head head) = false
+is_wrap_of old n (Part part) = false
+
+-- among the new ring's messages one wraps this number
+abbrev pub is_wrapped : {A : Type 0} → List (Message A) → RingId → ℕ → Bool
+is_wrapped fresh old n = list_any (λ (x : Message _). is_wrap_of old n x.payload) fresh
+
+-- a users' message of the old ring as a payload of the new one
+abbrev pub wrap_content : {A : Type 0} → Message A → Content A → Option (Payload A)
+wrap_content x content = Some (Wrapped (record { ring = x.ring; number = x.number; sender = x.sender; payload = content }))
+
+abbrev pub wrap_payload : {A : Type 0} → Message A → Payload A → Option (Payload A)
+wrap_payload x (Call call) = wrap_content x (CallContent call)
+wrap_payload x (Head head) = wrap_content x (HeadContent head)
+wrap_payload x (Part part) = wrap_content x (PartContent part)
+wrap_payload x (Wrapped w) = None
+wrap_payload x End = None
+
+-- a message is handed on where it is a user's
+abbrev pub wrap : {A : Type 0} → Message A → Option (Payload A)
+wrap x = wrap_payload x x.payload
+
+-- the old ring's messages above the least front, ascending
+abbrev pub above_low : {A : Type 0} → Plan → List (Message A) → List (Message A)
+above_low p held = filter_map (found held p.old) (numbers_from (low p + 1) (highest held p.old - low p))
+
+-- those not yet seen wrapped on the new ring
+abbrev pub to_wrap : {A : Type 0} → Plan → RingId → List (Message A) → List (Message A)
+to_wrap p running held = filter (λ (x : Message _). not (is_wrapped (of_ring running held) p.old x.number)) (above_low p held)
+
+-- the node's own End is held, so it went out
+abbrev pub has_ended : {A : Type 0} → ℕ → RingId → List (Message A) → Bool
+has_ended me running held = list_any (λ (x : Message _). is_end x.payload && (x.sender == me)) (of_ring running held)
+
+-- what a node in Recovery would send: first what is left to wrap, then one End
+abbrev pub wraps_and_end : {A : Type 0} → ℕ → Plan → RingId → List (Message A) → List (Payload A)
+wraps_and_end me p running held = filter_map wrap (to_wrap p running held) ++ (if has_ended me running held then [] else End ∷ [])
+
+-- what a message of the new ring gives to the old window: its inner message, if that is of the old ring and new there
+abbrev pub inner_if_new : {A : Type 0} → RingId → ℕ → List (Message A) → WrappedMessage A → List (Message A)
+inner_if_new old mark held w =
+    if same_ring w.ring old && is_new held mark old w.number
+    then record { ring = w.ring; number = w.number; sender = w.sender; payload = payload_of w.payload } ∷ []
+    else []
+
+abbrev pub unwrapped : {A : Type 0} → RingId → ℕ → List (Message A) → Payload A → List (Message A)
+unwrapped old mark held (Wrapped w) = inner_if_new old mark held w
+unwrapped old mark held (Call call) = []
+unwrapped old mark held End = []
+unwrapped old mark held (Head head) = []
+unwrapped old mark held (Part part) = []

@@ -1,0 +1,13 @@
+pub mod Words
+pub mod OfOne
+pub mod OfTwo
+pub mod OfTwoMore
+pub mod OfThree
+pub mod OfThreeMore
+pub mod OfFour
+pub mod OfFive
+pub mod OfSix
+pub mod Forged
+pub mod ForgedMore
+pub mod ForgedAgain
+pub mod ForgedLast

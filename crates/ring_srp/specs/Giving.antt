@@ -1,0 +1,81 @@
+-- What a step gives, in the order of Outputs, rule 1 of docs/PROTOCOL.md: what is sent, what is agreed and safe of the ring installed as the step began, and then, where a ring is installed, the two configurations with what they give.
+use Rattle.std.specs.Prelude.{ℕ, ◌+◌, ◌-◌, Bool, true, false, not, ◌==◌, nat_lt, if◌then◌else◌, List, [], ◌∷◌, ◌++◌, map, filter, filter_map}
+use Rattle.ring_base.specs.Numbers.{numbers_from}
+use Rattle.ring_base.specs.Processors.{nobody}
+use Rattle.ring_base.specs.declared.ring_id.RingId.{RingId}
+use Rattle.ring_wire.specs.declared.message.Message.{Message}
+use Rattle.ring_window.specs.Held.{found}
+use Rattle.ring_recover.specs.Payloads.{is_user}
+use Rattle.ring_recover.specs.Installing.{is_ready}
+use Rattle.ring_recover.specs.Deliveries.{is_complete, rests}
+use Rattle.ring_srp.specs.declared.out.Out.{Out}
+use Rattle.ring_srp.specs.declared.out.Out.TheVariants.{Send, Agreed, Safe, Trans, Rest, Regular}
+use Rattle.ring_srp.specs.declared.state.State.{State}
+use Rattle.ring_srp.specs.declared.state.State.TheVariants.{Gather, Commit, Recovery, Operational, Stopped}
+use Rattle.ring_srp.specs.State.{Core, Sent, Did, Stepped}
+use Rattle.ring_srp.specs.Views.{front, mark, plan}
+
+-- Installing
+
+-- recovery is over, and all that one of those from the old ring holds is held
+abbrev pub ready_then_complete : {A : Type 0} → Bool → Core A → Bool
+ready_then_complete false c = false
+ready_then_complete true c = is_complete (plan c) c.held
+
+abbrev pub installs_in : {A : Type 0} → State → Core A → Bool
+installs_in Recovery c = ready_then_complete (is_ready c.held c.running.ring c.running.members (mark c c.running.ring)) c
+installs_in Gather c = false
+installs_in Commit c = false
+installs_in Operational c = false
+installs_in Stopped c = false
+
+abbrev pub may_install : {A : Type 0} → Core A → Bool
+may_install c = installs_in c.state c
+
+-- the running ring becomes the installed one
+abbrev pub install : {A : Type 0} → Core A → Core A
+install c = record c { state = Operational; installed = c.running; installs = c.running ∷ c.installs }
+
+-- Sends
+
+-- a send to nobody is no frame
+abbrev pub addressed : {A : Type 0} → List (Sent A) → List (Sent A)
+addressed sends = filter (λ s. not (s.to == nobody)) sends
+
+abbrev pub sent : {A : Type 0} → List (Sent A) → List (Out A)
+sent sends = map (λ s. Send s.to s.frame) (addressed sends)
+
+-- Deliveries
+
+-- the users' messages of a ring after one number, up to another
+abbrev pub users : {A : Type 0} → Core A → RingId → ℕ → ℕ → List (Message A)
+users c ring below upto = filter (λ (x : Message _). is_user x.payload) (filter_map (found c.held ring) (numbers_from (below + 1) (upto - below)))
+
+-- what the front newly covers
+abbrev pub agreed_from : {A : Type 0} → Core A → RingId → ℕ → List (Out A)
+agreed_from c ring before = map (λ x. Agreed ring x.number x) (users c ring before (front c ring))
+
+-- the safe mark, if it rose
+abbrev pub safe_from : {A : Type 0} → Core A → RingId → ℕ → List (Out A)
+safe_from c ring before = if nat_lt before (mark c ring) then Safe ring (mark c ring) ∷ [] else []
+
+-- both, of a ring whose front and mark were these
+abbrev pub delivered_from : {A : Type 0} → Core A → RingId → ℕ → ℕ → List (Out A)
+delivered_from c ring front_before mark_before = agreed_from c ring front_before ++ safe_from c ring mark_before
+
+-- of the ring that was installed as the step began
+abbrev pub given : {A : Type 0} → Core A → Core A → List (Out A)
+given old new = delivered_from new old.installed.ring (front old old.installed.ring) (mark old old.installed.ring)
+
+-- of a ring that is installed: the transitional configuration with the rest of the old ring, then the regular one
+abbrev pub configured : {A : Type 0} → Core A → List (Out A)
+configured c =
+    Trans c.installed.ring c.running.ring (plan c).mates ∷
+    (map (λ x. Rest x.ring x.number x) (rests (plan c) c.held) ++ Regular c.running.ring c.running.members ∷ delivered_from c c.running.ring 0 0)
+
+abbrev pub settle : {A : Type 0} → Bool → Core A → List (Out A) → Stepped A
+settle false c outs = record { core = c; outs = outs }
+settle true c outs = record { core = install c; outs = outs ++ configured c }
+
+abbrev pub delivered : {A : Type 0} → Core A → Did A → Stepped A
+delivered old did = settle (may_install did.core) did.core (sent did.sends ++ given old did.core)

@@ -1,0 +1,10 @@
+pub mod State
+pub mod Naming
+pub mod Views
+pub mod Visiting
+pub mod Joining
+pub mod Handing
+pub mod Giving
+pub mod Deciding
+pub mod Acting
+pub mod Stepping

@@ -1,0 +1,40 @@
+-- Which processors a frame names: one that names a processor above their number is ignored. Processors and sets, rule 5 of docs/PROTOCOL.md.
+use Rattle.std.specs.Prelude.{ℕ, Bool, true, ◌&&◌, nat_le, Option, Some, None}
+use Rattle.std.specs.List.{list_all}
+use Rattle.ring_base.specs.Processors.{within, everybody}
+use Rattle.ring_base.specs.declared.ring_id.RingId.{RingId}
+use Rattle.ring_payload.specs.declared.content.Content.{Content}
+use Rattle.ring_payload.specs.declared.content.Content.TheVariants.{Call as CallContent, Head as HeadContent, Part as PartContent}
+use Rattle.ring_payload.specs.declared.content.Payload.{Payload}
+use Rattle.ring_payload.specs.declared.content.Payload.TheVariants.{Call, Wrapped, End, Head, Part}
+use Rattle.ring_wire.specs.declared.entries.CommitEntry.{CommitEntry}
+use Rattle.ring_wire.specs.declared.frame.Frame.{Frame}
+use Rattle.ring_wire.specs.declared.frame.Frame.TheVariants.{Message, Token, Join, Commit}
+
+-- a last primary names its representative
+abbrev pub last_named : ℕ → Option RingId → Bool
+last_named n None = true
+last_named n (Some ring) = nat_le ring.rep n
+
+abbrev pub holder_named : ℕ → Option ℕ → Bool
+holder_named n None = true
+holder_named n (Some i) = nat_le i n
+
+abbrev pub content_named : {A : Type 0} → ℕ → Content A → Bool
+content_named n (CallContent call) = true
+content_named n (HeadContent head) = last_named n head.last
+content_named n (PartContent part) = true
+
+abbrev pub payload_named : {A : Type 0} → ℕ → Payload A → Bool
+payload_named n (Call call) = true
+payload_named n (Wrapped w) = nat_le w.ring.rep n && nat_le w.sender n && content_named n w.payload
+payload_named n End = true
+payload_named n (Head head) = last_named n head.last
+payload_named n (Part part) = true
+
+-- it names processors 1 to n alone
+abbrev pub is_named : {A : Type 0} → ℕ → Frame A → Bool
+is_named n (Message x) = nat_le x.ring.rep n && nat_le x.sender n && payload_named n x.payload
+is_named n (Token t) = nat_le t.ring.rep n && holder_named n t.aru_id
+is_named n (Join j) = nat_le j.sender n && within j.proc_set (everybody n) && within j.fail_set (everybody n)
+is_named n (Commit k) = nat_le k.ring.rep n && within k.members (everybody n) && list_all (λ (e : CommitEntry). nat_le e.old.rep n) k.entries

@@ -1,0 +1,41 @@
+-- What a core's facts say of a ring: the front, the safe mark, what is new, what it would report, and its plan.
+use Rattle.std.specs.Prelude.{ℕ, Bool, if◌then◌else◌, List, [], ◌∷◌}
+use Rattle.ring_base.specs.declared.ring_id.RingId.{RingId}
+use Rattle.ring_wire.specs.declared.commit.CommitToken.{CommitToken}
+use Rattle.ring_wire.specs.declared.entries.CommitEntry.{CommitEntry}
+use Rattle.ring_window.specs.Held.{same_ring, front_of, is_new}
+use Rattle.ring_window.specs.Bits.{held_bits}
+use Rattle.ring_token.specs.Turns.{safe_mark}
+use Rattle.ring_recover.specs.Plans.{Plan, plan_of}
+use Rattle.ring_srp.specs.State.{Core}
+
+-- how far the core holds the ring's messages
+abbrev pub front : {A : Type 0} → Core A → RingId → ℕ
+front c ring = front_of c.held ring
+
+-- how far all members of the ring hold them
+abbrev pub mark : {A : Type 0} → Core A → RingId → ℕ
+mark c ring = safe_mark c.turns c.raises ring
+
+-- the core would take this number
+abbrev pub takes_number : {A : Type 0} → Core A → RingId → ℕ → Bool
+takes_number c ring n = is_new c.held (mark c ring) ring n
+
+-- what it would report now of its last installed ring
+abbrev pub own_entry : {A : Type 0} → Core A → CommitEntry
+own_entry c =
+    record {
+      old = c.installed.ring;
+      front = front c c.installed.ring;
+      mark = mark c c.installed.ring;
+      held = held_bits c.held c.installed.ring;
+    }
+
+-- the reports by which a ring is recovered: those of the newest commit token of it
+abbrev pub entries_for : RingId → List CommitToken → List CommitEntry
+entries_for ring [] = []
+entries_for ring (k ∷ ks) = if same_ring k.ring ring then k.entries else entries_for ring ks
+
+-- the plan for the running ring
+abbrev pub plan : {A : Type 0} → Core A → Plan
+plan c = plan_of c.installed.ring c.running.members (entries_for c.running.ring c.plans)

@@ -1,0 +1,85 @@
+-- A core visits the token: Token and window, rules 6 to 9 of docs/PROTOCOL.md.
+use Rattle.std.specs.Prelude.{ℕ, ◌+◌, Bool, List, [], ◌∷◌, ◌++◌, map, filter_map, drop, length, Some}
+use Rattle.ring_base.specs.Processors.{only, less, next}
+use Rattle.ring_payload.specs.declared.content.Payload.{Payload}
+use Rattle.ring_wire.specs.declared.frame.Frame.TheVariants.{Message as MessageFrame, Token as TokenFrame}
+use Rattle.ring_wire.specs.declared.message.Message.{Message}
+use Rattle.ring_wire.specs.declared.token.Token.{Token}
+use Rattle.ring_window.specs.Held.{found, holds, front_of, highest, missing}
+use Rattle.ring_token.specs.Turns.{Turn, is_accepted}
+use Rattle.ring_token.specs.Visits.{left, above_mark, fresh, numbered, requests_after, token_after}
+use Rattle.ring_recover.specs.Wrapping.{wraps_and_end}
+use Rattle.ring_srp.specs.declared.state.State.{State}
+use Rattle.ring_srp.specs.declared.state.State.TheVariants.{Gather, Commit, Recovery, Operational, Stopped}
+use Rattle.ring_srp.specs.State.{Core, Sent, Did}
+use Rattle.ring_srp.specs.Views.{mark, plan}
+
+-- the core accepts the token
+abbrev pub accepts : {A : Type 0} → Core A → Token → Bool
+accepts c t = is_accepted c.running.ring c.turns (highest c.held t.ring) t
+
+-- (a) what was asked for and is held goes out again
+abbrev pub repeated : {A : Type 0} → Core A → Token → List (Message A)
+repeated c t = filter_map (found c.held t.ring) (above_mark (mark c t.ring) t.requests)
+
+-- (b) what a core would send: in Operational its queue, in Recovery what it wraps and then its End
+abbrev pub offers : {A : Type 0} → State → Core A → List (Payload A)
+offers Operational c = c.queue
+offers Recovery c = wraps_and_end c.me (plan c) c.running.ring c.held
+offers Gather c = []
+offers Commit c = []
+offers Stopped c = []
+
+-- what it sends
+abbrev pub new_payloads : {A : Type 0} → Core A → Token → List (Payload A)
+new_payloads c t = fresh (mark c t.ring) t.seq (offers c.state c)
+
+abbrev pub new_messages : {A : Type 0} → Core A → Token → List (Message A)
+new_messages c t = numbered t.ring c.me t.seq (new_payloads c t)
+
+-- it holds them at once
+abbrev pub held_after : {A : Type 0} → Core A → Token → List (Message A)
+held_after c t = new_messages c t ++ c.held
+
+-- (c) to (e) the token as it goes, by what is held now
+abbrev pub requests_of : {A : Type 0} → Core A → Token → List (Message A) → ℕ → List ℕ
+requests_of c t held seq = requests_after (left (mark c t.ring) (holds c.held t.ring) t.requests) (missing held t.ring (mark c t.ring) seq)
+
+abbrev pub forwarded_by : {A : Type 0} → Core A → Token → List (Message A) → ℕ → Token
+forwarded_by c t held sent = token_after c.me (front_of held t.ring) sent (requests_of c t held (t.seq + sent)) t
+
+abbrev pub forwarded : {A : Type 0} → Core A → Token → Token
+forwarded c t = forwarded_by c t (held_after c t) (length (new_payloads c t))
+
+-- (f) the visit is a fact, off which the safe mark is read
+abbrev pub turn_of : {A : Type 0} → Core A → Token → Turn A
+turn_of c t = record { came = t; front = front_of (held_after c t) t.ring; fresh = new_payloads c t; went = forwarded c t }
+
+-- the queue loses what was sent
+abbrev pub queue_after : {A : Type 0} → State → ℕ → List (Payload A) → List (Payload A)
+queue_after Operational sent queue = drop sent queue
+queue_after Gather sent queue = queue
+queue_after Commit sent queue = queue
+queue_after Recovery sent queue = queue
+queue_after Stopped sent queue = queue
+
+-- messages go to all other members
+abbrev pub to_others : {A : Type 0} → Core A → List (Message A) → List (Sent A)
+to_others c xs = map (λ x. record { to = less c.running.members (only c.me); frame = MessageFrame x }) xs
+
+-- the token goes to the next member
+abbrev pub to_next : {A : Type 0} → Core A → Token → Sent A
+to_next c t = record { to = only (next c.running.members c.me); frame = TokenFrame t }
+
+-- the whole visit
+abbrev pub visited : {A : Type 0} → Core A → Token → Did A
+visited c t =
+    record {
+      core = record c {
+        held = held_after c t;
+        turns = turn_of c t ∷ c.turns;
+        queue = queue_after c.state (length (new_payloads c t)) c.queue;
+        shown = Some (to_next c (forwarded c t));
+      };
+      sends = to_others c (repeated c t ++ new_messages c t) ++ to_next c (forwarded c t) ∷ [];
+    }

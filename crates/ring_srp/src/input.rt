@@ -1,0 +1,18 @@
+//! What a ring core is given.
+
+use crate::kind::Kind;
+use ring_payload::Payload;
+use ring_wire::Frame;
+use std::alloc::{Allocator, Global};
+
+/// An input of a ring core.
+#[derive(Drop)]
+pub enum Input<A: Allocator + Copy = Global> {
+    /// A frame came.
+    Frame(Frame<A>),
+    /// A time is over.
+    Timeout(Kind),
+    /// This is to go out as a message of the ring: it is queued in Operational, and dropped elsewhere. An End or
+    /// a Wrapped is dropped everywhere.
+    Send(Payload<A>),
+}

@@ -1,0 +1,13 @@
+//! The ring core: one processor's part in the rings, as a machine that takes one input and answers what comes
+//! out of it. It knows no clock and no network.
+#![tactic(auto)]
+
+pub mod input;
+pub mod kind;
+pub mod out;
+pub mod state;
+
+pub use input::Input;
+pub use kind::Kind;
+pub use out::Out;
+pub use state::State;

@@ -1,0 +1,4 @@
+pub mod NamesPlaces
+pub mod NamesRead
+pub mod NumbersRead
+pub mod ShelfTexts

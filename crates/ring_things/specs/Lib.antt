@@ -1,0 +1,15 @@
+pub mod Counters
+pub mod CountersLaws
+pub mod Guards
+pub mod Names
+pub mod NamesLaws
+pub mod Numbers
+pub mod Outcome
+pub mod Queue
+pub mod QueueLaws
+pub mod Registers
+pub mod RegistersLaws
+pub mod Replies
+pub mod Shelf
+pub mod ShelfLaws
+pub mod Values

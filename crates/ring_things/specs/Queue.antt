@@ -1,0 +1,58 @@
+-- A queue as a table: how an operation is read, what is replied to it, and which values stand after it.
+use Rattle.std.specs.Prelude.{ℕ, ◌*◌, ◌≤◌, Bool, ◌==◌, nat_le, ◌&&◌, if◌then◌else◌, List, [], ◌∷◌, ◌++◌, length, drop, Option, Some, None, is_some}
+use Rattle.byteorder.specs.Endian.{big_bytes, big_number}
+use Rattle.ring_object.specs.Operations.{unreadable}
+use Rattle.ring_things.specs.Numbers.{spelled, numbers_of, AreNumbers}
+use Rattle.ring_things.specs.declared.queue.Operation.{Operation}
+use Rattle.ring_things.specs.declared.queue.Operation.TheVariants.{Push, Pop, Count}
+
+-- the most values that a queue may hold
+abbrev pub most : ℕ
+most = 1024
+
+pub record IsQueue (items : List ℕ) : Type 0 where
+  pub few : length items ≤ most
+  pub numbers : AreNumbers 8 items
+
+-- the operation that these bytes are: a code, and the value that it asks for
+abbrev pub reading : List ℕ → Option Operation
+reading (code ∷ rest) =
+    if code == 1 && length rest == 8 then Some (Push (big_number 8 rest))
+    else if code == 2 && length rest == 0 then Some Pop
+    else if code == 3 && length rest == 0 then Some Count
+    else None
+reading [] = None
+
+abbrev pub is_readable : List ℕ → Bool
+is_readable op = is_some (reading op)
+
+abbrev pub reply_to : List ℕ → Option Operation → List ℕ
+reply_to items (Some (Push value)) = if length items == most then 1 ∷ [] else 0 ∷ []
+reply_to [] (Some Pop) = 1 ∷ []
+reply_to (item ∷ items) (Some Pop) = 0 ∷ big_bytes 8 item
+reply_to items (Some Count) = 0 ∷ big_bytes 8 (length items)
+reply_to items None = unreadable
+
+abbrev pub after : List ℕ → Option Operation → List ℕ
+after items (Some (Push value)) = if length items == most then items else items ++ value ∷ []
+after items (Some Pop) = drop 1 items
+after items (Some Count) = items
+after items None = items
+
+abbrev pub reply : List ℕ → List ℕ → List ℕ
+reply items op = reply_to items (reading op)
+
+abbrev pub next : List ℕ → List ℕ → List ℕ
+next items op = after items (reading op)
+
+-- how many values there are, in 2 bytes, and the values, the first first
+abbrev pub snapshot_of : List ℕ → List ℕ
+snapshot_of items = big_bytes 2 (length items) ++ spelled 8 items
+
+-- whether just as many values as are announced stand there
+abbrev pub is_snapshot : List ℕ → Bool
+is_snapshot bytes = nat_le 2 (length bytes) && (nat_le (big_number 2 bytes) most && length (drop 2 bytes) == 8 * big_number 2 bytes)
+
+-- the values that these bytes are the snapshot of
+abbrev pub queue_of : List ℕ → Option (List ℕ)
+queue_of bytes = if is_snapshot bytes then Some (numbers_of 8 (big_number 2 bytes) (drop 2 bytes)) else None

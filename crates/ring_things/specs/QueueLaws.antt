@@ -1,0 +1,85 @@
+-- A queue keeps its laws.
+use Rattle.std.proofs.Common.{◌≡◌, ℕ, ◌*◌, ◌^◌, ◌<◌, ◌≤◌, false, true, ◌==◌, nat_le, ◌&&◌, List, [], ◌∷◌, ◌++◌, length, drop, Option, Some, None, refl, ap, ◌∙◌, subst, arith, eqb-true, eq-eqb}
+use Rattle.std.proofs.lemmas.Bool.{cond_both, cond-true, eqb-false, leb-true, le-leb, and_parts, and_from}
+use Rattle.std.proofs.lemmas.List.{length_push, length-drop, drop_at}
+use Rattle.std.proofs.lemmas.List.Elements.{All-nil, All-push, All-drop}
+use Rattle.byteorder.specs.Endian.{big_bytes, big_number}
+use Rattle.byteorder.specs.Numbers.{big_number-reads_back, length-bytes_high_first}
+use Rattle.ring_object.specs.Bytes.{AreBytes}
+use Rattle.ring_object.specs.Operations.{IsReply, unreadable}
+use Rattle.ring_object.specs.Snapshots.{Restores}
+use Rattle.ring_things.specs.Guards.{guarded, same_some, unread}
+use Rattle.ring_things.specs.Numbers.{spelled, numbers_of, big_number-lt, exact_2, exact_8, apart, together, length-spelled, length-numbers_of, AreNumbers-numbers_of, numbers_of-spelled, spelled-numbers_of}
+use Rattle.ring_things.specs.Replies.{code_fits, code_and_value_fits, AreBytes-rest, AreBytes-drop}
+use Rattle.ring_things.specs.Queue.{most, IsQueue, reading, is_readable, reply, next, reply_to, after, snapshot_of, is_snapshot, queue_of}
+use Rattle.ring_things.specs.declared.queue.Operation.{Operation}
+use Rattle.ring_things.specs.declared.queue.Operation.TheVariants.{Push, Pop, Count}
+
+pub empty_IsQueue : IsQueue []
+empty_IsQueue = record { few = omega arith; numbers = All-nil (λ number. number < 256 ^ 8) }
+
+-- what is pushed fits a value
+abbrev Fits : Option Operation → Type 0
+Fits (Some (Push value)) = value < 256 ^ 8
+Fits _ = Unit {0}
+
+reading_fits : (op : List ℕ) → AreBytes op → Fits (reading op)
+reading_fits [] are = tt
+reading_fits (code ∷ rest) are =
+    cond_both (code == 1 && length rest == 8) _ _ Fits (λ _. big_number-lt 8 rest (AreBytes-rest code rest are))
+    (λ _. cond_both (code == 2 && length rest == 0) _ _ Fits (λ _. tt)
+    (λ _. cond_both (code == 3 && length rest == 0) _ _ Fits (λ _. tt) (λ _. tt)))
+
+after_kept : (items : List ℕ) (op : Option Operation) → Fits op → IsQueue items → IsQueue (after items op)
+after_kept items (Some (Push value)) fits is =
+    cond_both (length items == most) _ _ IsQueue (λ _. is) (λ room. record {
+      few = omega (arith, length_push items value, is.few, eqb-false _ _ room);
+      numbers = All-push (λ number. number < 256 ^ 8) items value is.numbers fits;
+    })
+after_kept items (Some Pop) fits is = record { few = omega (arith, length-drop 1 items, is.few); numbers = All-drop (λ number. number < 256 ^ 8) 1 items is.numbers }
+after_kept items (Some Count) fits is = is
+after_kept items None fits is = is
+
+pub next_kept : (items op : List ℕ) → AreBytes op → IsQueue items → IsQueue (next items op)
+next_kept items op are is = after_kept items (reading op) (reading_fits op are) is
+
+reply_fits : (items : List ℕ) (op : Option Operation) → IsReply (reply_to items op)
+reply_fits items (Some (Push value)) = cond_both (length items == most) _ _ IsReply (λ _. code_fits 1 (omega arith)) (λ _. code_fits 0 (omega arith))
+reply_fits [] (Some Pop) = code_fits 1 (omega arith)
+reply_fits (item ∷ items) (Some Pop) = code_and_value_fits 0 item (omega arith)
+reply_fits items (Some Count) = code_and_value_fits 0 (length items) (omega arith)
+reply_fits items None = code_fits 255 (omega arith)
+
+pub replies_fit : (items op : List ℕ) → AreBytes op → IsQueue items → IsReply (reply items op)
+replies_fit items op are is = reply_fits items (reading op)
+
+pub ignored : (items op : List ℕ) → is_readable op ≡ false → (reply items op ≡ unreadable) × (next items op ≡ items)
+ignored items op none = rw (unread (reading op) none) (refl, refl)
+
+pub IsQueue-numbers_of : (count : ℕ) (bytes : List ℕ) → count ≤ most → AreBytes bytes → IsQueue (numbers_of 8 count bytes)
+IsQueue-numbers_of count bytes few are = record { few = omega (arith, length-numbers_of 8 count bytes); numbers = AreNumbers-numbers_of 8 count bytes are }
+
+restored : (items : List ℕ) → IsQueue items → queue_of (snapshot_of items) ≡ Some items
+restored items is =
+    let parts = apart 2 (length items) (spelled 8 items) (omega (arith, is.few)) in
+    let long : 2 ≤ length (snapshot_of items) = omega arith in
+    let size : length (drop 2 (snapshot_of items)) ≡ 8 * big_number 2 (snapshot_of items) = rw (parts.0, parts.1) (length-spelled 8 items) in
+    let few : big_number 2 (snapshot_of items) ≤ most = rw parts.0 is.few in
+    let holds : is_snapshot (snapshot_of items) ≡ true = and_from _ _ (le-leb _ _ long) (and_from _ _ (le-leb _ _ few) (eq-eqb _ _ size)) in
+    let whole : numbers_of 8 (big_number 2 (snapshot_of items)) (drop 2 (snapshot_of items)) ≡ items = rw (parts.0, parts.1) (numbers_of-spelled 8 items is.numbers) in
+    cond-true (is_snapshot (snapshot_of items)) _ _ holds ∙ ap Some whole
+
+only : (bytes items : List ℕ) → AreBytes bytes → queue_of bytes ≡ Some items → IsQueue items × (snapshot_of items ≡ bytes)
+only bytes items are is =
+    let count = big_number 2 bytes in
+    let rest = drop 2 bytes in
+    let g = guarded (is_snapshot bytes) (Some (numbers_of 8 count rest)) items is in
+    let a = and_parts (nat_le 2 (length bytes)) _ g.0 in
+    let b = and_parts (nat_le count most) _ a.1 in
+    let len : length (numbers_of 8 count rest) ≡ count = length-numbers_of 8 count rest in
+    let values : spelled 8 (numbers_of 8 count rest) ≡ rest = spelled-numbers_of 8 exact_8 count rest (eqb-true _ _ b.1) (AreBytes-drop 2 bytes are) in
+    let P : List ℕ → Type 0 = λ xs. IsQueue xs × (snapshot_of xs ≡ bytes) in
+    subst P (same_some _ _ g.1) (IsQueue-numbers_of count rest (leb-true _ _ b.0) (AreBytes-drop 2 bytes are), together 2 exact_2 bytes (leb-true _ _ a.0) are (length (numbers_of 8 count rest)) (spelled 8 (numbers_of 8 count rest)) len values)
+
+pub queues_restore : Restores IsQueue snapshot_of queue_of
+queues_restore = record { same = λ items is short. restored items is; only = only }

@@ -1,0 +1,38 @@
+-- Registers as a table: how an operation is read, what is replied to it, and which values stand after it.
+use Rattle.std.specs.Prelude.{ℕ, Bool, ◌==◌, ◌&&◌, if◌then◌else◌, List, [], ◌∷◌, length, drop, slice_index, slice_set, Option, Some, None, is_some}
+use Rattle.byteorder.specs.Endian.{big_bytes, big_number}
+use Rattle.ring_object.specs.Operations.{unreadable}
+use Rattle.ring_things.specs.declared.registers.Operation.{Operation}
+use Rattle.ring_things.specs.declared.registers.Operation.TheVariants.{Get, Put, CompareAndSet}
+
+-- the operation that these bytes are: a code, a key, and what the code asks for
+abbrev pub reading : List ℕ → Option Operation
+reading (code ∷ key ∷ rest) =
+    if code == 1 && length rest == 0 then Some (Get key)
+    else if code == 2 && length rest == 8 then Some (Put key (big_number 8 rest))
+    else if code == 3 && length rest == 16 then Some (CompareAndSet key (big_number 8 rest) (big_number 8 (drop 8 rest)))
+    else None
+reading _ = None
+
+abbrev pub is_readable : List ℕ → Bool
+is_readable op = is_some (reading op)
+
+abbrev pub reply_to : List ℕ → Option Operation → List ℕ
+reply_to values (Some (Get key)) = 0 ∷ big_bytes 8 (slice_index values key)
+reply_to values (Some (Put key value)) = 0 ∷ []
+reply_to values (Some (CompareAndSet key expected new)) =
+    if slice_index values key == expected then 0 ∷ [] else 1 ∷ big_bytes 8 (slice_index values key)
+reply_to values None = unreadable
+
+abbrev pub after : List ℕ → Option Operation → List ℕ
+after values (Some (Get key)) = values
+after values (Some (Put key value)) = slice_set values key value
+after values (Some (CompareAndSet key expected new)) =
+    if slice_index values key == expected then slice_set values key new else values
+after values None = values
+
+abbrev pub reply : List ℕ → List ℕ → List ℕ
+reply values op = reply_to values (reading op)
+
+abbrev pub next : List ℕ → List ℕ → List ℕ
+next values op = after values (reading op)

@@ -1,0 +1,50 @@
+-- Registers keep their laws.
+use Rattle.std.proofs.Common.{◌≡◌, ℕ, ◌^◌, ◌<◌, false, ◌==◌, ◌&&◌, List, [], ◌∷◌, length, drop, slice_index, Option, Some, None, refl, arith}
+use Rattle.std.proofs.lemmas.Bool.{cond_both}
+use Rattle.ring_object.specs.Bytes.{AreBytes}
+use Rattle.ring_object.specs.Operations.{IsReply, unreadable}
+use Rattle.ring_things.specs.Guards.{unread}
+use Rattle.ring_things.specs.Numbers.{big_number-lt}
+use Rattle.ring_things.specs.Replies.{code_fits, code_and_value_fits, AreBytes-rest, AreBytes-drop}
+use Rattle.ring_things.specs.Values.{IsValues, IsValues-set}
+use Rattle.ring_things.specs.Registers.{reading, is_readable, reply, next, reply_to, after}
+use Rattle.ring_things.specs.declared.registers.Operation.{Operation}
+use Rattle.ring_things.specs.declared.registers.Operation.TheVariants.{Get, Put, CompareAndSet}
+
+-- what is written fits a value
+abbrev Fits : Option Operation → Type 0
+Fits (Some (Put key value)) = value < 256 ^ 8
+Fits (Some (CompareAndSet key expected new)) = new < 256 ^ 8
+Fits _ = Unit {0}
+
+reading_fits : (op : List ℕ) → AreBytes op → Fits (reading op)
+reading_fits [] are = tt
+reading_fits (code ∷ []) are = tt
+reading_fits (code ∷ key ∷ rest) are =
+    let bytes : AreBytes rest = AreBytes-rest key rest (AreBytes-rest code (key ∷ rest) are) in
+    cond_both (code == 1 && length rest == 0) _ _ Fits (λ _. tt)
+    (λ _. cond_both (code == 2 && length rest == 8) _ _ Fits (λ _. big_number-lt 8 rest bytes)
+    (λ _. cond_both (code == 3 && length rest == 16) _ _ Fits (λ _. big_number-lt 8 (drop 8 rest) (AreBytes-drop 8 rest bytes)) (λ _. tt)))
+
+after_kept : (values : List ℕ) (op : Option Operation) → Fits op → IsValues values → IsValues (after values op)
+after_kept values (Some (Get key)) fits is = is
+after_kept values (Some (Put key value)) fits is = IsValues-set values key value fits is
+after_kept values (Some (CompareAndSet key expected new)) fits is =
+    cond_both (slice_index values key == expected) _ _ IsValues (λ _. IsValues-set values key new fits is) (λ _. is)
+after_kept values None fits is = is
+
+pub next_kept : (values op : List ℕ) → AreBytes op → IsValues values → IsValues (next values op)
+next_kept values op are is = after_kept values (reading op) (reading_fits op are) is
+
+reply_fits : (values : List ℕ) (op : Option Operation) → IsReply (reply_to values op)
+reply_fits values (Some (Get key)) = code_and_value_fits 0 (slice_index values key) (omega arith)
+reply_fits values (Some (Put key value)) = code_fits 0 (omega arith)
+reply_fits values (Some (CompareAndSet key expected new)) =
+    cond_both (slice_index values key == expected) _ _ IsReply (λ _. code_fits 0 (omega arith)) (λ _. code_and_value_fits 1 (slice_index values key) (omega arith))
+reply_fits values None = code_fits 255 (omega arith)
+
+pub replies_fit : (values op : List ℕ) → AreBytes op → IsValues values → IsReply (reply values op)
+replies_fit values op are is = reply_fits values (reading op)
+
+pub ignored : (values op : List ℕ) → is_readable op ≡ false → (reply values op ≡ unreadable) × (next values op ≡ values)
+ignored values op none = rw (unread (reading op) none) (refl, refl)

@@ -1,0 +1,72 @@
+-- Four objects under the numbers 0 to 3, as one object.
+use Rattle.std.specs.Prelude.{ℕ, Bool, false, ◌==◌, nat_le, ◌&&◌, if◌then◌else◌, List, [], ◌∷◌, ◌++◌, length, take, drop, Option, Some, None}
+use Rattle.std.specs.Option.{option_and_then}
+use Rattle.byteorder.specs.Endian.{big_bytes, big_number}
+use Rattle.ring_object.specs.Operations.{unreadable}
+
+-- the first byte names the object
+abbrev pub shelf_readable : (List ℕ → Bool) → (List ℕ → Bool) → (List ℕ → Bool) → (List ℕ → Bool) → List ℕ → Bool
+shelf_readable p q r s [] = false
+shelf_readable p q r s (which ∷ op) =
+    if which == 0 then p op else if which == 1 then q op else if which == 2 then r op else if which == 3 then s op else false
+
+abbrev pub shelf_reply : {P Q R S : Type 0} → (P → List ℕ → List ℕ) → (Q → List ℕ → List ℕ) → (R → List ℕ → List ℕ) → (S → List ℕ → List ℕ) → P × Q × R × S → List ℕ → List ℕ
+shelf_reply p q r s objects [] = unreadable
+shelf_reply p q r s objects (which ∷ op) =
+    if which == 0 then p objects.0 op
+    else if which == 1 then q objects.1 op
+    else if which == 2 then r objects.2 op
+    else if which == 3 then s objects.3 op
+    else unreadable
+
+abbrev pub shelf_next : {P Q R S : Type 0} → (P → List ℕ → P) → (Q → List ℕ → Q) → (R → List ℕ → R) → (S → List ℕ → S) → P × Q × R × S → List ℕ → P × Q × R × S
+shelf_next p q r s objects [] = objects
+shelf_next p q r s objects (which ∷ op) =
+    if which == 0 then (p objects.0 op, objects.1, objects.2, objects.3)
+    else if which == 1 then (objects.0, q objects.1 op, objects.2, objects.3)
+    else if which == 2 then (objects.0, objects.1, r objects.2 op, objects.3)
+    else if which == 3 then (objects.0, objects.1, objects.2, s objects.3 op)
+    else objects
+
+-- a text behind its length, a number of the width in bytes
+unfoldable pub sized : ℕ → List ℕ → List ℕ
+sized width text = big_bytes width (length text) ++ text
+
+-- the text at the front, and what stands behind it
+unfoldable pub first_text : ℕ → List ℕ → Option (List ℕ × List ℕ)
+first_text width bytes =
+    if nat_le width (length bytes) && nat_le (big_number width bytes) (length (drop width bytes))
+    then Some (take (big_number width bytes) (drop width bytes), drop (big_number width bytes) (drop width bytes))
+    else None
+
+-- just four texts, each behind its length in 8 bytes
+abbrev pub texts_of : List ℕ → Option (List ℕ × List ℕ × List ℕ × List ℕ)
+texts_of bytes =
+    option_and_then (λ (p : List ℕ × List ℕ).
+    option_and_then (λ (q : List ℕ × List ℕ).
+    option_and_then (λ (r : List ℕ × List ℕ).
+    option_and_then (λ (s : List ℕ × List ℕ). if length s.1 == 0 then Some (p.0, q.0, r.0, s.0) else None) (first_text 8 r.1))
+    (first_text 8 q.1))
+    (first_text 8 p.1))
+    (first_text 8 bytes)
+
+abbrev pub shelf_snapshot : {P Q R S : Type 0} → (P → List ℕ) → (Q → List ℕ) → (R → List ℕ) → (S → List ℕ) → P × Q × R × S → List ℕ
+shelf_snapshot p q r s objects = sized 8 (p objects.0) ++ (sized 8 (q objects.1) ++ (sized 8 (r objects.2) ++ sized 8 (s objects.3)))
+
+-- both, where both are there
+abbrev pub both_of : {A B : Type 0} → Option A → Option B → Option (A × B)
+both_of (Some a) (Some b) = Some (a, b)
+both_of (Some a) None = None
+both_of None b = None
+
+-- all four, where all are there
+abbrev pub four_of : {P Q R S : Type 0} → Option ((P × Q) × (R × S)) → Option (P × Q × R × S)
+four_of (Some pairs) = Some (pairs.0.0, pairs.0.1, pairs.1.0, pairs.1.1)
+four_of None = None
+
+abbrev pub objects_of : {P Q R S : Type 0} → (List ℕ → Option P) → (List ℕ → Option Q) → (List ℕ → Option R) → (List ℕ → Option S) → List ℕ × List ℕ × List ℕ × List ℕ → Option (P × Q × R × S)
+objects_of p q r s texts = four_of (both_of (both_of (p texts.0) (q texts.1)) (both_of (r texts.2) (s texts.3)))
+
+-- the objects whose snapshots these bytes are
+abbrev pub shelf_of : {P Q R S : Type 0} → (List ℕ → Option P) → (List ℕ → Option Q) → (List ℕ → Option R) → (List ℕ → Option S) → List ℕ → Option (P × Q × R × S)
+shelf_of p q r s bytes = option_and_then (objects_of p q r s) (texts_of bytes)

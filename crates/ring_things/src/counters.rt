@@ -1,0 +1,111 @@
+//! Counters: a count for each of 256 keys, that is added to and read.
+
+ghost use Rattle.std.specs.Prelude.{◌≡◌};
+ghost use Rattle.ring_things.specs.Counters.{reading};
+
+use crate::replies::{Outcome, reply, reply_with};
+use crate::values::Values;
+use byteorder::{BigEndian, ByteOrder};
+use ring_base::Fault;
+use ring_object::{Object, Reply};
+use std::alloc::{Allocator, Global};
+use std::marker::Model;
+
+/// 256 counts of 64 bits under the keys 0 to 255, at the start all 0. No operation takes memory.
+#[derive(Drop)]
+pub struct Counters<A: Allocator + Copy = Global> {
+    counts: Values<A>,
+}
+
+impl<A: Allocator + Copy> Model for Counters<A> {
+    ghost use Rattle.std.specs.Prelude.{ℕ, List};
+
+    ghost Value = { List ℕ };
+
+    ghost view = { λ counters. counters.counts };
+}
+
+impl<A: Allocator + Copy + Drop> Object for Counters<A> {
+    ghost use Rattle.ring_things.specs.Numbers.{spelled};
+    ghost use Rattle.ring_things.specs.Values.{IsValues, zeros, values_of, zeros_IsValues, values_restore};
+    ghost use Rattle.ring_things.specs.Counters.{is_readable, reply, next};
+    ghost use Rattle.ring_things.specs.CountersLaws.{next_kept, replies_fit, ignored};
+
+    type Alloc = A;
+
+    ghost is_content = { IsValues };
+
+    ghost initial = { zeros };
+
+    ghost is_readable = { is_readable };
+
+    ghost reply = { reply };
+
+    ghost next = { next };
+
+    ghost snapshot_of = { λ counts. spelled 8 counts };
+
+    ghost restored = { values_of };
+
+    ghost starts = { zeros_IsValues };
+
+    ghost keeps = { next_kept };
+
+    ghost replies = { replies_fit };
+
+    ghost ignores = { ignored };
+
+    ghost restores = { values_restore };
+
+    fn start(alloc: A) -> Result<Counters<A>, Fault> {
+        let counts = Values::zeros(alloc)?;
+        Ok(Counters { counts })
+    }
+
+    fn apply(&mut self, op: &[u8]) -> Result<Reply, Fault> {
+        Ok(match Operation::read(op) {
+            Some(Operation::Add(key, amount)) => match self.counts.get(key).checked_add(amount) {
+                Some(count) => {
+                    self.counts.set(key, count);
+                    reply_with(Outcome::Done, count)
+                }
+                None => reply(Outcome::NotDone),
+            },
+            Some(Operation::Read(key)) => reply_with(Outcome::Done, self.counts.get(key)),
+            None => reply(Outcome::Unreadable),
+        })
+    }
+
+    fn snapshot(&self, out: &mut Vec<u8, A>) -> Result<(), Fault> {
+        self.counts.snapshot(out)
+    }
+
+    fn restore(alloc: A, bytes: &[u8]) -> Result<Counters<A>, Fault> {
+        let counts = Values::restore(alloc, bytes)?;
+        Ok(Counters { counts })
+    }
+}
+
+/// What may be asked of counters. A key is a byte, an amount 8 bytes.
+enum Operation {
+    /// The bytes 01, the key and the amount. Replied 00 and the new count, or 01 where it would pass 2^64 - 1: then the
+    /// count stays.
+    Add(u8, u64),
+    /// 02 and the key. Replied 00 and the count.
+    Read(u8),
+}
+
+impl Operation {
+    fn read(op: &[u8]) -> Option<Operation>
+        ensures { result ≡ reading op.now }
+    {
+        let [code, key, rest @ ..] = op else {
+            return None;
+        };
+        match (*code, rest.len()) {
+            (1, 8) => Some(Operation::Add(*key, BigEndian::read_u64(rest))),
+            (2, 0) => Some(Operation::Read(*key)),
+            _ => None,
+        }
+    }
+}

@@ -1,0 +1,37 @@
+//! Numbers of 8 bytes each, big-endian, one after the other.
+
+ghost use Rattle.std.specs.Prelude.{◌≡◌, ◌+◌, ◌*◌, ◌≤◌, ◌++◌, length, IfOk, IfErr, vec_len, vec_capacity};
+ghost use Rattle.ring_things.specs.Numbers.{spelled, numbers_of};
+
+use byteorder::{BigEndian, ByteOrder};
+use ring_base::Fault;
+use std::alloc::Allocator;
+
+/// Appends the numbers, in the room that there is.
+pub fn append_numbers<A: Allocator>(out: &mut Vec<u8, A>, numbers: &[u64])
+    requires { vec_len out.old + 8 * length numbers.now ≤ vec_capacity out.old }
+    ensures items { out.new.items ≡ out.old.items ++ spelled 8 numbers.now }
+    ensures len { vec_len out.new ≡ vec_len out.old + 8 * length numbers.now }
+    ensures room { vec_capacity out.old ≤ vec_capacity out.new }
+{
+    for number in numbers {
+        let mut word = [0; 8];
+        BigEndian::write_u64(&mut word, *number);
+        out.extend_from_slice(&word).unwrap();
+    }
+}
+
+/// The numbers that the bytes hold, or `Memory`.
+pub fn read_numbers<A: Allocator + Copy + Drop>(
+    alloc: A,
+    count: usize,
+    bytes: &[u8],
+) -> Result<Vec<u64, A>, Fault>
+    requires { length bytes.now ≡ 8 * count }
+    ensures ok { IfOk result (λ numbers. numbers.items ≡ numbers_of 8 count bytes.now) }
+    ensures refused { IfErr result (λ fault. fault ≡ Fault.Memory) }
+{
+    let mut numbers = vec![in alloc; 0; count]?;
+    BigEndian::read_u64_into(bytes, numbers.as_mut_slice());
+    Ok(numbers)
+}

@@ -1,0 +1,123 @@
+//! Registers: a value for each of 256 keys, that is read, put, or put where it is as expected.
+
+ghost use Rattle.std.specs.Prelude.{◌≡◌};
+ghost use Rattle.ring_things.specs.Registers.{reading};
+
+use crate::replies::{Outcome, reply, reply_with};
+use crate::values::Values;
+use byteorder::{BigEndian, ByteOrder};
+use ring_base::Fault;
+use ring_object::{Object, Reply};
+use std::alloc::{Allocator, Global};
+use std::marker::Model;
+
+/// 256 values of 64 bits under the keys 0 to 255, at the start all 0. No operation takes memory.
+#[derive(Drop)]
+pub struct Registers<A: Allocator + Copy = Global> {
+    values: Values<A>,
+}
+
+impl<A: Allocator + Copy> Model for Registers<A> {
+    ghost use Rattle.std.specs.Prelude.{ℕ, List};
+
+    ghost Value = { List ℕ };
+
+    ghost view = { λ registers. registers.values };
+}
+
+impl<A: Allocator + Copy + Drop> Object for Registers<A> {
+    ghost use Rattle.ring_things.specs.Numbers.{spelled};
+    ghost use Rattle.ring_things.specs.Values.{IsValues, zeros, values_of, zeros_IsValues, values_restore};
+    ghost use Rattle.ring_things.specs.Registers.{is_readable, reply, next};
+    ghost use Rattle.ring_things.specs.RegistersLaws.{next_kept, replies_fit, ignored};
+
+    type Alloc = A;
+
+    ghost is_content = { IsValues };
+
+    ghost initial = { zeros };
+
+    ghost is_readable = { is_readable };
+
+    ghost reply = { reply };
+
+    ghost next = { next };
+
+    ghost snapshot_of = { λ values. spelled 8 values };
+
+    ghost restored = { values_of };
+
+    ghost starts = { zeros_IsValues };
+
+    ghost keeps = { next_kept };
+
+    ghost replies = { replies_fit };
+
+    ghost ignores = { ignored };
+
+    ghost restores = { values_restore };
+
+    fn start(alloc: A) -> Result<Registers<A>, Fault> {
+        let values = Values::zeros(alloc)?;
+        Ok(Registers { values })
+    }
+
+    fn apply(&mut self, op: &[u8]) -> Result<Reply, Fault> {
+        Ok(match Operation::read(op) {
+            Some(Operation::Get(key)) => reply_with(Outcome::Done, self.values.get(key)),
+            Some(Operation::Put(key, value)) => {
+                self.values.set(key, value);
+                reply(Outcome::Done)
+            }
+            Some(Operation::CompareAndSet(key, expected, new)) => {
+                let value = self.values.get(key);
+                if value != expected {
+                    return Ok(reply_with(Outcome::NotDone, value));
+                }
+                self.values.set(key, new);
+                reply(Outcome::Done)
+            }
+            None => reply(Outcome::Unreadable),
+        })
+    }
+
+    fn snapshot(&self, out: &mut Vec<u8, A>) -> Result<(), Fault> {
+        self.values.snapshot(out)
+    }
+
+    fn restore(alloc: A, bytes: &[u8]) -> Result<Registers<A>, Fault> {
+        let values = Values::restore(alloc, bytes)?;
+        Ok(Registers { values })
+    }
+}
+
+/// What may be asked of registers. A key is a byte, a value 8 bytes.
+enum Operation {
+    /// The bytes 01 and the key. Replied 00 and the value.
+    Get(u8),
+    /// 02, the key and the value. Replied 00.
+    Put(u8, u64),
+    /// 03, the key, the expected value and the new one. Replied 00 where the value was the expected one and is now the
+    /// new one, else 01 and the value, which stays.
+    CompareAndSet(u8, u64, u64),
+}
+
+impl Operation {
+    fn read(op: &[u8]) -> Option<Operation>
+        ensures { result ≡ reading op.now }
+    {
+        let [code, key, rest @ ..] = op else {
+            return None;
+        };
+        match (*code, rest.len()) {
+            (1, 0) => Some(Operation::Get(*key)),
+            (2, 8) => Some(Operation::Put(*key, BigEndian::read_u64(rest))),
+            (3, 16) => {
+                let expected = BigEndian::read_u64(rest);
+                let new = BigEndian::read_u64(&rest[8..]);
+                Some(Operation::CompareAndSet(*key, expected, new))
+            }
+            _ => None,
+        }
+    }
+}

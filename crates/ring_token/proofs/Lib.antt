@@ -1,0 +1,4 @@
+pub mod Marks
+pub mod Turning
+pub mod Arus
+pub mod Safe

@@ -1,0 +1,3 @@
+pub mod Bits
+pub mod Fronts
+pub mod Rings
