@@ -61,28 +61,24 @@ impl<
     ghost keeps = { shelf_kept
         P.is_content Q.is_content R.is_content S.is_content
         P.next Q.next R.next S.next
-        P.keeps Q.keeps R.keeps S.keeps
-    };
+        P.keeps Q.keeps R.keeps S.keeps };
 
     ghost replies = { shelf_replies
         P.is_content Q.is_content R.is_content S.is_content
         P.reply Q.reply R.reply S.reply
-        P.replies Q.replies R.replies S.replies
-    };
+        P.replies Q.replies R.replies S.replies };
 
     ghost ignores = { shelf_ignores
         P.reply Q.reply R.reply S.reply
         P.next Q.next R.next S.next
         P.is_readable Q.is_readable R.is_readable S.is_readable
-        P.ignores Q.ignores R.ignores S.ignores
-    };
+        P.ignores Q.ignores R.ignores S.ignores };
 
     ghost restores = { shelves_restore
         P.is_content Q.is_content R.is_content S.is_content
         P.snapshot_of Q.snapshot_of R.snapshot_of S.snapshot_of
         P.restored Q.restored R.restored S.restored
-        P.restores Q.restores R.restores S.restores
-    };
+        P.restores Q.restores R.restores S.restores };
 
     fn start(alloc: P::Alloc) -> Result<Self, Fault> {
         Ok(Shelf {
@@ -155,10 +151,10 @@ fn append_all<
 >(first: &P, second: &Q, third: &R, fourth: &S, out: &mut Vec<u8, P::Alloc>) -> Result<(), Fault>
     ensures content { OnOk result
         (AreContents P.is_content Q.is_content R.is_content S.is_content
-            (first.now, second.now, third.now, fourth.now)) }
+        (first.now, second.now, third.now, fourth.now)) }
     ensures ok { OnOk result (out.new.items ≡ out.old.items
         ++ shelf_snapshot P.snapshot_of Q.snapshot_of R.snapshot_of S.snapshot_of
-            (first.now, second.now, third.now, fourth.now)) }
+        (first.now, second.now, third.now, fourth.now)) }
     ensures front { take (vec_len out.old) out.new.items ≡ out.old.items }
     ensures refused { IfErr result (λ fault. fault ≡ Fault.Memory) }
 {
