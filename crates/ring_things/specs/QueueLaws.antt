@@ -1,10 +1,9 @@
 -- A queue keeps its laws.
-use Rattle.std.proofs.Common.{◌≡◌, ℕ, ◌*◌, ◌^◌, ◌<◌, ◌≤◌, false, true, ◌==◌, nat_le, ◌&&◌, List, [], ◌∷◌, ◌++◌, length, drop, Option, Some, None, refl, ap, ◌∙◌, subst, arith, eqb-true, eq-eqb}
+use Rattle.std.proofs.Common.{◌≡◌, ℕ, ◌*◌, ◌^◌, ◌<◌, ◌≤◌, false, true, ◌==◌, nat_le, ◌&&◌, List, [], ◌∷◌, length, drop, Option, Some, None, refl, ap, ◌∙◌, subst, arith, eqb-true, eq-eqb}
 use Rattle.std.proofs.lemmas.Bool.{cond_both, cond-true, eqb-false, leb-true, le-leb, and_parts, and_from}
-use Rattle.std.proofs.lemmas.List.{length_push, length-drop, drop_at}
+use Rattle.std.proofs.lemmas.List.{length_push, length-drop}
 use Rattle.std.proofs.lemmas.List.Elements.{All-nil, All-push, All-drop}
-use Rattle.byteorder.specs.Endian.{big_bytes, big_number}
-use Rattle.byteorder.specs.Numbers.{big_number-reads_back, length-bytes_high_first}
+use Rattle.byteorder.specs.Endian.{big_number}
 use Rattle.ring_object.specs.Bytes.{AreBytes}
 use Rattle.ring_object.specs.Operations.{IsReply, unreadable}
 use Rattle.ring_object.specs.Snapshots.{Restores}

@@ -12,6 +12,13 @@ use std::alloc::{Allocator, Global};
 use std::marker::Model;
 
 /// 256 counts of 64 bits under the keys 0 to 255, at the start all 0. No operation takes memory.
+///
+/// | Operation | Bytes | Reply |
+/// |---|---|---|
+/// | add | `01` key amount | `00` and the new count; `01` where it would pass 2^64 - 1, and nothing changes |
+/// | read | `02` key | `00` count |
+///
+/// The snapshot is the counts in the order of their keys, 2,048 bytes.
 #[derive(Drop)]
 pub struct Counters<A: Allocator + Copy = Global> {
     counts: Values<A>,
@@ -86,12 +93,11 @@ impl<A: Allocator + Copy + Drop> Object for Counters<A> {
     }
 }
 
-/// What may be asked of counters. A key is a byte, an amount 8 bytes.
+/// What may be asked of counters.
 enum Operation {
-    /// The bytes 01, the key and the amount. Replied 00 and the new count, or 01 where it would pass 2^64 - 1: then the
-    /// count stays.
+    /// To the count under this key, this amount.
     Add(u8, u64),
-    /// 02 and the key. Replied 00 and the count.
+    /// Under this key.
     Read(u8),
 }
 

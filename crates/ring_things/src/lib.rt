@@ -1,4 +1,9 @@
-//! The objects of the product.
+//! Objects to replicate: registers, counters, a queue, a set of names, and a shelf of any four.
+//!
+//! Operations, replies and snapshots are bytes, told at each type in hexadecimal. Keys are a byte, values 8
+//! bytes, and all numbers are big-endian. Other bytes are no operation: they change nothing and are replied
+//! `FF`. In `specs/` each object is a table: how an operation is read, what is replied to it, and what the
+//! content is after it.
 #![tactic(auto)]
 
 mod counters;

@@ -20,7 +20,16 @@ const MOST: usize = 1024;
 /// A name, 1 to 64 bytes.
 type Name = Short<64>;
 
-/// At most 1,024 names, each once, at the start none.
+/// A set of at most 1,024 names of 1 to 64 bytes, at the start none. A name is found in logarithmic time.
+///
+/// | Operation | Bytes | Reply |
+/// |---|---|---|
+/// | insert | `01` name | `01` where it was there; else `02` at 1,024 names; else `00`, and it is there |
+/// | remove | `02` name | `00`, and it is gone; or `01` where it wasn't there |
+/// | has | `03` name | `00` where it is there, `01` where it isn't |
+///
+/// The snapshot is how many names there are, in 2 bytes, and the names, ascending by their bytes, each
+/// behind its length in a byte.
 #[derive(Drop)]
 pub struct Names<A: Allocator + Copy = Global> {
     names: Vec<Name, A>,
@@ -159,12 +168,8 @@ impl<A: Allocator + Copy + Drop> Names<A> {
 
 /// What may be asked of a set of names.
 enum Operation {
-    /// The byte 01 and the name. Replied 01 where it is in the set; else 02 where there are 1,024
-    /// names; else 00, and it is in the set.
     Insert(Name),
-    /// 02 and the name. Replied 00, and it is no more in the set; or 01 where it wasn't.
     Remove(Name),
-    /// 03 and the name. Replied 00 where it is in the set, else 01.
     Has(Name),
 }
 

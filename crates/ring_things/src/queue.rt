@@ -16,6 +16,14 @@ use std::marker::Model;
 const MOST: usize = 1024;
 
 /// At most 1,024 values of 64 bits, the first in first, at the start none.
+///
+/// | Operation | Bytes | Reply |
+/// |---|---|---|
+/// | push | `01` value | `00`, and the value is last; `01` at 1,024 values, and nothing changes |
+/// | pop | `02` | `00` and the first value, which is taken out; `01` where there is none |
+/// | length | `03` | `00` and how many values there are, in 8 bytes |
+///
+/// The snapshot is how many values there are, in 2 bytes, and the values, the first first.
 #[derive(Drop)]
 pub struct Queue<A: Allocator + Copy = Global> {
     items: VecDeque<u64, A>,
@@ -113,13 +121,11 @@ impl<A: Allocator + Copy + Drop> Object for Queue<A> {
     }
 }
 
-/// What may be asked of a queue. A value is 8 bytes.
+/// What may be asked of a queue.
 enum Operation {
-    /// The bytes 01 and the value. Replied 00, and the value is last; or 01, and nothing changes, at 1,024 values.
+    /// This value.
     Push(u64),
-    /// 02. Replied 00 and the first value, which is taken out; or 01 where there is none.
     Pop,
-    /// 03. Replied 00 and how many values there are, in 8 bytes.
     Count,
 }
 

@@ -12,6 +12,14 @@ use std::alloc::{Allocator, Global};
 use std::marker::Model;
 
 /// 256 values of 64 bits under the keys 0 to 255, at the start all 0. No operation takes memory.
+///
+/// | Operation | Bytes | Reply |
+/// |---|---|---|
+/// | get | `01` key | `00` value |
+/// | put | `02` key value | `00` |
+/// | compare and set | `03` key expected new | `00` where the expected value stood, and the new one stands; else `01` value, and nothing changes |
+///
+/// The snapshot is the values in the order of their keys, 2,048 bytes.
 #[derive(Drop)]
 pub struct Registers<A: Allocator + Copy = Global> {
     values: Values<A>,
@@ -91,14 +99,13 @@ impl<A: Allocator + Copy + Drop> Object for Registers<A> {
     }
 }
 
-/// What may be asked of registers. A key is a byte, a value 8 bytes.
+/// What may be asked of registers.
 enum Operation {
-    /// The bytes 01 and the key. Replied 00 and the value.
+    /// Under this key.
     Get(u8),
-    /// 02, the key and the value. Replied 00.
+    /// Under this key, this value.
     Put(u8, u64),
-    /// 03, the key, the expected value and the new one. Replied 00 where the value was the expected one and is now the
-    /// new one, else 01 and the value, which stays.
+    /// Under this key, the expected value and the new one.
     CompareAndSet(u8, u64, u64),
 }
 

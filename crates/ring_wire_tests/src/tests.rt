@@ -5,10 +5,10 @@ use crate::vectors::{COMMIT, END, HEAD, HEAD_OF_NONE, JOIN, MESSAGE, PART, TOKEN
 use bytes::BytesMut;
 use refusing_alloc::{Refusing, refuse_in_turn};
 use ring_base::{Fault, Proc, ProcSet, RingId};
-use ring_payload::{Call, Content, Head, Operation, Part, Payload, Wrapped};
+use ring_payload::{Call, Calls, Content, Head, Operation, Part, Payload, Wrapped};
 use ring_wire::{
-    CommitEntry, CommitToken, Frame, Join, Message, Requests, Token, Wire, decode_frame,
-    one_spelling_law, short_law,
+    CommitEntry, CommitToken, Entries, Frame, Join, Message, Requests, Token, Wire, decode_frame,
+    one_spelling_law, short_law, spelling_law,
 };
 use std::alloc::{AllocError, Allocator, Global};
 use std::test::Fail;
@@ -477,4 +477,48 @@ fn new_calls(rt: HostRuntime) -> Result<(), Fail> {
 fn laws() {
     one_spelling_law::<Global>();
     short_law::<Global>();
+    spelling_law::<Global>();
+}
+
+/// Copies say what their sources say, and lists come out as they went in.
+#[test]
+fn copies(rt: HostRuntime) -> Result<(), Fail> {
+    let alloc = rt.alloc();
+    let token = decode_frame(alloc, &TOKEN)?;
+    assert_eq!(rt; token_fields(&token.clone()?), Some([1, 1, 4, 10, 8, 2]));
+    let commit = decode_frame(alloc, &COMMIT)?;
+    assert_eq!(rt; commit_fields(&commit.clone()?), Some([1, 1, 1, 1, 1]));
+    let wrapped = decode_frame(alloc, &WRAPPED)?;
+    assert_eq!(rt; payload_fields(&wrapped.clone()?), Some([2, 1, 3, 1]));
+    let part = decode_frame(alloc, &PART)?;
+    assert_eq!(rt; payload_fields(&part.clone()?), Some([5, 0, 1, 0]));
+    let call: Call = Call::new(alloc, 7, 1, &[1])?;
+    let mut list = Vec::new(alloc);
+    list.push(call.clone()?)?;
+    list.push(call)?;
+    let calls = Calls::from_vec(list);
+    assert_eq!(rt; calls.as_slice().len(), 2);
+    assert_eq!(rt; calls.into_vec().len(), 2);
+    Ok(())
+}
+
+#[test]
+fn what_lies_in_place(rt: HostRuntime) {
+    let mut requests = Requests::new();
+    requests.push(9);
+    assert_eq!(rt; requests.copied().as_slice(), [9].as_slice());
+    let mut entries = Entries::new();
+    let mut held = [0; 32];
+    held[0] = 2;
+    held[31] = 0x20;
+    entries.push(CommitEntry {
+        held,
+        ..CommitEntry::default()
+    });
+    let copy = entries.copied();
+    assert_eq!(rt; copy.as_slice().len(), 1);
+    for entry in copy.as_slice() {
+        assert!(rt; entry.is_held(1) && entry.is_held(253));
+        assert!(rt; !entry.is_held(0) && !entry.is_held(254));
+    }
 }

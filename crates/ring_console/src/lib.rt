@@ -1,0 +1,21 @@
+//! What the program `totem` prints: listings of frames and runs of scripts, over any reader and two
+//! writers. Each function writes what belongs on standard output and on standard error, and answers
+//! the exit status.
+#![tactic(auto)]
+
+mod failure;
+mod groups;
+mod kind;
+mod line;
+mod listed;
+mod listing;
+mod operation;
+mod script;
+mod words;
+
+pub use failure::{Failure, report};
+pub use groups::Groups;
+pub use kind::Kind;
+pub use line::Line;
+pub use listing::frames;
+pub use script::{Numbered, Rings, Script};

@@ -1,0 +1,12 @@
+//! Tests of what the program prints, and of which texts are scripts. Expected values are those of the
+//! tables and worked examples in `docs/FORMATS.md`.
+#![tactic(auto)]
+
+#[cfg(test)]
+mod inputs;
+#[cfg(test)]
+mod listings;
+#[cfg(test)]
+mod operations;
+#[cfg(test)]
+mod scripts;

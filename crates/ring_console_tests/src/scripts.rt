@@ -1,0 +1,218 @@
+//! Which texts are scripts, which line is at fault in the others, and what the lines ask for.
+
+use crate::inputs::Broken;
+use refusing_alloc::{Refusing, refuse_in_turn};
+use ring_base::{Fault, Proc};
+use ring_console::{Failure, Line, Rings, Script};
+use std::alloc::{AllocError, Global};
+use std::test::Fail;
+
+/// Why the text is no script for rings of any size, none where it is one.
+fn failure_of(alloc: Global, text: &[u8]) -> Option<Failure> {
+    Script::parse(alloc, text, Rings::OfMany).err()
+}
+
+#[test]
+fn faulty_scripts_tell_their_line(rt: HostRuntime) {
+    for (text, line) in [
+        ("", 1),
+        ("\n", 2),
+        ("# only a comment", 2),
+        ("# one\n\n", 3),
+        ("show\nnodes 3\n", 1),
+        ("nodes 3\nnodes 3\n", 2),
+        ("nodes 0", 1),
+        ("nodes 17", 1),
+        ("nodes 03", 1),
+        ("nodes +3", 1),
+        ("nodes", 1),
+        ("nodes 3 3", 1),
+        (" nodes 3", 1),
+        ("nodes 3 ", 1),
+        ("nodes  3", 1),
+        ("nodes 3\r\n", 1),
+        ("nodes 3\n \nshow\n", 2),
+        ("nodes 3\n# \u{e9}", 2),
+        ("nodes 2\ntimeout 3 join", 2),
+        ("nodes 2\ntimeout 1 Join", 2),
+        ("nodes 2\ncall 1 4294967296 1 pop", 2),
+        ("nodes 2\ncall 1 7 0 pop", 2),
+        ("nodes 2\ncall 1 7 1 add 256 1", 2),
+        ("nodes 2\ncall 1 7 1 add 0 18446744073709551616", 2),
+        ("nodes 2\ndeliver 1 0", 2),
+        ("nodes 2\nnoise 1", 2),
+        ("nodes 2\nnoise 1 545", 2),
+        ("nodes 2\nnoise 1 5A", 2),
+        ("nodes 1\ncut 1", 2),
+        ("nodes 3\ncut 1,2,3", 2),
+        ("nodes 3\ncut 1 2", 2),
+        ("nodes 3\ncut 1,1 2,3", 2),
+        ("nodes 3\ncut 1,2 2,3", 2),
+        ("nodes 3\ncut 1, 2,3", 2),
+        ("nodes 2\npump 0", 2),
+        ("nodes 2\npump 100001", 2),
+        ("nodes 2\npump 0\nnodes 99\n", 2),
+    ] {
+        assert_eq!(rt;
+            failure_of(rt.alloc(), text.as_bytes()),
+            Some(Failure::BadScript(line)),
+            "{text:?}"
+        );
+    }
+}
+
+#[test]
+fn other_lines_at_fault(rt: HostRuntime) {
+    for line in [
+        "call",
+        "call 1 7 1",
+        "call 1 7 1 frobnicate",
+        "call 1 7 1 pop 1",
+        "call 1 7 1 add 0",
+        "call 1 7 1 insert ",
+        "call 1 7 18446744073709551616 pop",
+        "call 3 7 1 pop",
+        "deliver 1",
+        "deliver 1 2 3",
+        "deliver 0 1",
+        "noise 1 0g",
+        "noise 1 00 00",
+        "stop",
+        "stop 1 1",
+        "stop 18446744073709551617",
+        "stop x",
+        "cut",
+        "cut 1,2 ",
+        "cut 1 2,3",
+        "heal now",
+        "heal ",
+        "pump 1 ",
+        "show 1",
+        "Show",
+        "nod",
+        "\t",
+        " # no comment",
+    ] {
+        let mut text = String::new(rt.alloc());
+        let made = text.push_str("nodes 2\n").and(text.push_str(line));
+        assert_eq!(rt; made, Ok(()));
+        assert_eq!(rt;
+            failure_of(rt.alloc(), text.as_bytes()),
+            Some(Failure::BadScript(2)),
+            "{line:?}"
+        );
+    }
+}
+
+#[test]
+fn good_scripts(rt: HostRuntime) {
+    for text in [
+        "nodes 1",
+        "# first\n\nnodes 16\n\n# last\n",
+        "nodes 2\ndeliver 1 99999999999999999999999",
+        "nodes 3\ncut 3,1 2",
+        "nodes 2\ncall 2 4294967295 18446744073709551615 cas 255 0 18446744073709551615",
+        "nodes 2\npump 100000\nheal\nshow\nstop 2",
+    ] {
+        assert_eq!(rt; failure_of(rt.alloc(), text.as_bytes()), None, "{text:?}");
+    }
+}
+
+#[test]
+fn rings_of_one_allow_one_node_and_its_join_timeout(rt: HostRuntime) {
+    for (text, failure) in [
+        ("nodes 1\ntimeout 1 join", None),
+        ("nodes 2\nnonsense", Some(Failure::BadScript(1))),
+        ("nodes 1\ntimeout 1 loss", Some(Failure::BadScript(2))),
+        (
+            "nodes 1\nshow\ntimeout 1 retransmit",
+            Some(Failure::BadScript(3)),
+        ),
+        ("nodes 1\ntimeout 1 consensus", Some(Failure::BadScript(2))),
+    ] {
+        let told = Script::parse(rt.alloc(), text.as_bytes(), Rings::OfOne).err();
+        assert_eq!(rt; told, failure, "{text:?}");
+    }
+}
+
+/// The script's lines, each as its number and what it asks for.
+fn lines_of(alloc: Global, text: &str) -> Result<String, Fail> {
+    let script = Script::parse(alloc, text.as_bytes(), Rings::OfMany).map_err(|_| "no script")?;
+    let mut out = String::new(alloc);
+    for numbered in &script.lines {
+        let number = numbered.number;
+        write!(out, "{number} ")?;
+        match &numbered.line {
+            Line::Call { node, call } => {
+                let (node, client, number) = (node.number(), call.client, call.number);
+                write!(out, "call {node} {client}.{number};")?;
+            }
+            Line::Deliver { node, frame } => write!(out, "deliver {} {frame:?};", node.number())?,
+            Line::Timeout { node, kind } => write!(out, "timeout {} {kind:?};", node.number())?,
+            Line::Noise { node, bytes } => write!(out, "noise {} {bytes:?};", node.number())?,
+            Line::Stop { node } => write!(out, "stop {};", node.number())?,
+            Line::Cut(groups) => {
+                let is_joined = groups.are_together(Proc::new(1), Proc::new(3));
+                let is_parted = !groups.are_together(Proc::new(2), Proc::new(3));
+                write!(out, "cut {is_joined} {is_parted};")?;
+            }
+            Line::Heal => write!(out, "heal;")?,
+            Line::Pump { turns } => write!(out, "pump {turns};")?,
+            Line::Show => write!(out, "show;")?,
+        }
+    }
+    Ok(out)
+}
+
+#[test]
+fn lines_say_what_they_ask_for(rt: HostRuntime) -> Result<(), Fail> {
+    let text =
+        "# a story\nnodes 3\n\ntimeout 1 join\ntimeout 2 retransmit\ntimeout 3 consensus\ntimeout 1 loss\n\
+        call 2 7 1 add 0 5\ndeliver 1 18446744073709551615\ndeliver 1 18446744073709551616\nnoise 3 00ff0a\n\
+        stop 2\ncut 3,1 2\nheal\npump 100000\nshow";
+    let told = "4 timeout 1 Join;5 timeout 2 Retransmit;6 timeout 3 Consensus;7 timeout 1 Loss;\
+        8 call 2 7.1;9 deliver 1 Some(18446744073709551615);10 deliver 1 None;11 noise 3 [0, 255, 10];\
+        12 stop 2;13 cut true true;14 heal;15 pump 100000;16 show;";
+    assert_eq!(rt; lines_of(rt.alloc(), text)?.as_str(), told);
+    Ok(())
+}
+
+/// A script of so many bytes: `nodes 1`, and a comment.
+fn script_of(alloc: Global, length: usize) -> Result<Vec<u8>, AllocError> {
+    let mut text = vec![in alloc; b'#'; length]?;
+    let front = b"nodes 1\n";
+    if front.len() <= text.len() {
+        text.as_mut_slice()[..front.len()].copy_from_slice(front);
+    }
+    Ok(text)
+}
+
+#[test]
+fn a_script_has_at_most_2_to_the_20_bytes(rt: HostRuntime) -> Result<(), Fail> {
+    let longest = script_of(rt.alloc(), 1_048_576)?;
+    let read = Script::read(rt.alloc(), &mut longest.as_slice(), Rings::OfOne);
+    assert_eq!(rt; read.err(), None);
+    let longer = script_of(rt.alloc(), 1_048_577)?;
+    let read = Script::read(rt.alloc(), &mut longer.as_slice(), Rings::OfOne);
+    assert_eq!(rt; read.err(), Some(Failure::BadScript(0)));
+    Ok(())
+}
+
+#[test]
+fn an_input_that_fails_is_at_fault_as_a_whole(rt: HostRuntime) {
+    for text in ["", "nodes 1\n", "nonsense\n"] {
+        let read = Script::read(rt.alloc(), &mut Broken(text.as_bytes()), Rings::OfOne);
+        assert_eq!(rt; read.err(), Some(Failure::BadScript(0)), "{text:?}");
+    }
+}
+
+#[test]
+fn each_request_for_memory_may_be_refused(rt: HostRuntime) {
+    let text = "nodes 1\ncall 1 7 1 insert name\nnoise 1 0011\nshow\nheal\nshow\nshow\nshow\n";
+    let read = |heap: &Refusing| match Script::read(heap, &mut text.as_bytes(), Rings::OfOne) {
+        Err(Failure::Refused(Fault::Memory)) => Err(AllocError),
+        _ => Ok(()),
+    };
+    let requests = refuse_in_turn(rt.alloc(), &read);
+    assert!(rt; requests > Some(4), "{requests:?}");
+}

@@ -1,0 +1,10 @@
+pub mod Fronts
+pub mod Each
+pub mod Moves
+pub mod Answering
+pub mod Linear
+pub mod Waits
+pub mod Shapes
+pub mod Places
+pub mod Telling
+pub mod Nodes

@@ -1,0 +1,18 @@
+-- The law is that of the lemmas on runs.
+use Rattle.ring_one.specs.Runs.{run, happens}
+use Rattle.ring_one.proofs.Linear.{explains, grows, one_ring, base}
+use Rattle.ring_one.proofs.laws.linear_law.Goals as goal
+
+pub returns-clause-explains : goal.returns-clause-explains
+returns-clause-explains g c = explains g.O.Object.reply g.O.Object.next g.O.Object.initial
+
+pub returns-clause-grows : goal.returns-clause-grows
+returns-clause-grows g c = grows g.O.Object.reply g.O.Object.next g.O.Object.initial
+
+pub returns-clause-base : goal.returns-clause-base
+returns-clause-base g c = λ events event unadopted adopted.
+    let w = run g.O.Object.reply g.O.Object.next g.O.Object.initial events in
+    base g.O.Object.reply g.O.Object.next g.O.Object.initial w (happens g.O.Object.reply g.O.Object.next g.O.Object.initial w event) unadopted
+
+pub returns-clause-one_ring : goal.returns-clause-one_ring
+returns-clause-one_ring g c = one_ring g.O.Object.reply g.O.Object.next g.O.Object.initial

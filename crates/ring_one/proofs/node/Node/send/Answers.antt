@@ -1,0 +1,14 @@
+-- Another state before the installation keeps what is kept, and so does a stop.
+use Rattle.std.proofs.Common.{◌≡◌, false}
+use Rattle.ring_one.specs.Machine.{is_operational, is_stopped}
+use Rattle.ring_one.proofs.Nodes.{node-state, node-stopped}
+use Rattle.ring_one.proofs.node.Node.send.Goals as goal
+
+pub invariant_of-self : goal.invariant_of-self
+invariant_of-self g c =
+    let before : is_operational c.self.inside.ring.state ≡ false = rw (← c.self.view_is) at c.requires.before in
+    let runs : is_stopped c.self.inside.ring.state ≡ false = rw (← c.self.view_is) at c.requires.runs in
+    node-state c.self.invariant c.args.state before runs c.requires.after
+
+pub invariant_of-self-in-Err-1 : goal.invariant_of-self-in-Err-1
+invariant_of-self-in-Err-1 g c = rw c.stop.ensures (node-stopped c.self.invariant c.self.inside.sessions)

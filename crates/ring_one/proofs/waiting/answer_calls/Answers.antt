@@ -1,0 +1,29 @@
+-- One committed call more: it goes through the sessions, and its answer to the tickets of the same call.
+use Rattle.std.proofs.Common.{ℕ, ◌+◌, ◌<◌, List, ◌++◌, length, drop, All, fold, subst, ap, sym, ◌∙◌}
+use Rattle.ring_session.specs.Table.{table_next}
+use Rattle.ring_one.specs.Waiting.{waiting_after, given_after}
+use Rattle.ring_one.proofs.Waits.{drop-next, answers-next, All-still_waiting}
+use Rattle.ring_one.proofs.waiting.answer_calls.Goals as goal
+
+pub loop-call-preserved : goal.loop-call-preserved
+loop-call-preserved g c =
+    let reply = g.O.Object.reply in
+    let next = g.O.Object.next in
+    let calls = c.args.calls.now in
+    let more = c.args.committed.now in
+    let i : ℕ = c.loop-call.call-index in
+    let call = c.call-item.result in
+    let rest = drop-next more i call c.loop-call-test.true c.call-item.is in
+    let still = c.in_ok-waiting.ensures.still in
+    let told = c.in_ok-waiting.ensures.answers in
+    let answer = c.in_ok-answer.ensures.answer in
+    let after = c.in_ok-answer.ensures.ok in
+    record {
+      known = subst (λ (ws : List ℕ). All (λ n. n < length calls) ws) (sym still) (All-still_waiting (λ n. n < length calls) calls call c.loop-call.waiting.items c.loop-call.invariant.known);
+      table = c.loop-call.invariant.table ∙ ap (fold (table_next reply next) c.loop-call.sessions) rest ∙ ap (λ t. fold (table_next reply next) t (drop (i + 1) more)) (sym after);
+      waiting = c.loop-call.invariant.waiting ∙ ap (λ w. waiting_after calls w c.loop-call.waiting.items) rest ∙ ap (λ w. waiting_after calls (drop (i + 1) more) w) (sym still);
+      answers =
+          answers-next reply next c.loop-call.sessions c.apply.new.self calls more i call c.in_ok-answer.answer c.loop-call.waiting.items c.in_ok-waiting.field-0.items
+          (c.args.answers.now.items ++ given_after reply next c.args.sessions.now calls more c.args.waiting.now.items) c.loop-call.answers.items c.answer_call.new.answers.items
+          rest answer after still told c.loop-call.invariant.answers;
+    }

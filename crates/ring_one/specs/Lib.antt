@@ -1,0 +1,9 @@
+pub mod Texts
+pub mod Tickets
+pub mod Machine
+pub mod Runs
+pub mod Numbers
+pub mod Examples
+pub mod Waiting
+pub mod Recent
+pub mod Kept

@@ -1,0 +1,19 @@
+-- The answers given last, as they are kept.
+use Rattle.std.specs.Prelude.{ℕ, ◌-◌, ◌==◌, List, [], ◌∷◌, length, drop, Option, Some, None, if◌then◌else◌}
+use Rattle.ring_session.specs.declared.answer.Answer.{Answer}
+use Rattle.ring_one.specs.declared.outs.Answered.{Answered}
+use Rattle.ring_one.specs.declared.recent.Kept.{Kept}
+use Rattle.ring_one.specs.declared.TheConstants.{KEPT_ANSWERS}
+
+-- the last of a list, so many as are kept
+abbrev pub last_kept : {X : Type 0} → List X → List X
+last_kept xs = drop (length xs - KEPT_ANSWERS) xs
+
+-- what is kept of an answer
+abbrev pub kept_of : {A : Type 0} → Answered A → Kept
+kept_of a = record { ticket = a.ticket; answer = a.answer }
+
+-- the answer to the ticket among those kept
+abbrev pub kept_answer : ℕ → List Kept → Option Answer
+kept_answer ticket [] = None
+kept_answer ticket (k ∷ rest) = if k.ticket == ticket then Some k.answer else kept_answer ticket rest

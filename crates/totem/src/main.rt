@@ -1,0 +1,44 @@
+//! The program `totem`: it reads its command line, opens the file that is named there, and has
+//! `ring_console` do the work.
+#![tactic(auto)]
+
+mod command_line;
+
+use clap::error::ErrorKind;
+use command_line::{Task, task_of};
+use ring_base::Fault;
+use ring_console::{Failure, frames, report};
+use std::process::ExitCode;
+use std::{env, fs, io};
+
+/// The exit status of a bad command line, and of a call for help.
+const BAD_COMMAND_LINE: u8 = 2;
+
+fn main(rt: HostRuntime) -> ExitCode {
+    let mut out = rt.stdout();
+    let mut err = rt.stderr();
+    let words = words_of(&rt);
+    let status = match task_of(rt.alloc(), &words) {
+        Ok(Task::Frames { file }) => match fs::open(&rt, file) {
+            Ok(mut input) => frames(rt.alloc(), &mut input, &mut out, &mut err),
+            Err(_) => report(&mut err, Failure::BadFrame(0)),
+        },
+        Err(error) if error.kind() == ErrorKind::OutOfMemory => {
+            report(&mut err, Failure::Refused(Fault::Memory))
+        }
+        Err(error) => {
+            let _ = rt.eprint(&error);
+            BAD_COMMAND_LINE
+        }
+    };
+    ExitCode::from(status)
+}
+
+/// The words of the command line, the program's own name first.
+fn words_of<R: env::Env + Alloc>(rt: &R) -> io::Result<Vec<String<R::A>, R::A>> {
+    let mut words = Vec::new(rt.alloc());
+    for word in env::args(rt)? {
+        words.push(word)?;
+    }
+    Ok(words)
+}
