@@ -47,14 +47,14 @@ then_Equal Less s h = absurd cc
 then_Equal Equal s h = (refl, h)
 then_Equal Greater s h = absurd cc
 
-same_ring : (a b : RingId) → a.seq ≡ b.seq → a.rep ≡ b.rep → a ≡ b
-same_ring a b seqs reps = λ i. record { seq = seqs i; rep = reps i }
+one_name : (a b : RingId) → a.seq ≡ b.seq → a.rep ≡ b.rep → a ≡ b
+one_name a b seqs reps = λ i. record { seq = seqs i; rep = reps i }
 
 -- rings that compare as equal are one
 pub ring_cmp-Equal : (a b : RingId) → ring_cmp a b ≡ Equal → a ≡ b
 ring_cmp-Equal a b h =
     let both = then_Equal (nat_cmp a.seq b.seq) (nat_cmp a.rep b.rep) h in
-    same_ring a b (equal_of a.seq b.seq both.0) (equal_of a.rep b.rep both.1)
+    one_name a b (equal_of a.seq b.seq both.0) (equal_of a.rep b.rep both.1)
 
 pub below_numbers : (a b : RingId) → IsBelow a b ↔ ((a.seq < b.seq) ⊎ ((a.seq ≡ b.seq) × (a.rep < b.rep)))
 below_numbers a b = (
@@ -74,7 +74,7 @@ pub below_total : (a b : RingId) → IsBelow a b ⊎ ((a ≡ b) ⊎ IsBelow b a)
 below_total a b =
     elim (cases_order a.seq b.seq) [
       | inl seqs ↦ elim (cases_order a.rep b.rep) [
-        | inl reps ↦ inr (inl (same_ring a b seqs reps))
+        | inl reps ↦ inr (inl (one_name a b seqs reps))
         | inr reps ↦ elim reps [
           | inl less ↦ inl ((below_numbers a b).1 (inr (seqs, less)))
           | inr more ↦ inr (inr ((below_numbers b a).1 (inr (sym seqs, more))))

@@ -1,12 +1,16 @@
 -- The order of the names of rings: by number, then by representative. A last primary may be none, which is below every ring.
 -- Also how a ring is printed.
-use Rattle.std.specs.Prelude.{◌≡◌, ℕ, Option, List, ◌++◌, codes}
+use Rattle.std.specs.Prelude.{◌≡◌, ℕ, ◌==◌, ◌&&◌, Bool, Option, List, ◌++◌, codes}
 use Rattle.std.specs.declared.cmp.Ordering.{Ordering}
 use Rattle.std.specs.declared.cmp.Ordering.TheVariants.{Less}
 use Rattle.std.specs.Fmt.{decimal}
 use Rattle.std.specs.Option.{option_cmp}
 use Rattle.std.specs.Ordering.{nat_cmp, ordering_then}
 use Rattle.ring_base.specs.declared.ring_id.RingId.{RingId}
+
+-- the two names are of one ring
+abbrev pub same_ring : RingId → RingId → Bool
+same_ring a b = (a.seq == b.seq) && (a.rep == b.rep)
 
 -- how two rings compare
 abbrev pub ring_cmp : RingId → RingId → Ordering

@@ -5,6 +5,7 @@
 
 mod fault;
 mod fixed;
+mod kind;
 mod laws;
 mod limits;
 mod members;
@@ -13,17 +14,17 @@ mod primary;
 mod proc_set;
 mod processor;
 mod ring_id;
+mod state;
 
 pub use fault::Fault;
 pub use fixed::Fixed;
+pub use kind::Kind;
 pub use laws::{front_law, members_law, primary_law, primary_order_law, ring_order_law};
-pub use limits::{MAX, MOST_PROCESSORS};
+pub use limits::{MAX, MAX_NEW, MOST_PROCESSORS, WINDOW};
 pub use members::Members;
 pub use past::{Past, past_of};
 pub use primary::is_primary_below;
 pub use proc_set::ProcSet;
 pub use processor::Proc;
 pub use ring_id::RingId;
-
-#[cfg(test)]
-mod tests;
+pub use state::State;

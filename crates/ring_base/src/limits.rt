@@ -5,3 +5,9 @@ pub const MOST_PROCESSORS: u8 = 16;
 
 /// The greatest number of a ring, a message, a token or a ticket.
 pub const MAX: u64 = 1 << 62;
+
+/// A node takes messages of so many numbers after its safe mark.
+pub const WINDOW: u64 = 256;
+
+/// At most so many new messages go out in a visit of the token.
+pub const MAX_NEW: u64 = 8;

@@ -5,7 +5,6 @@
 
 mod failure;
 mod groups;
-mod kind;
 mod line;
 mod listed;
 mod listing;
@@ -15,7 +14,6 @@ mod words;
 
 pub use failure::{Failure, report};
 pub use groups::Groups;
-pub use kind::Kind;
 pub use line::Line;
 pub use listing::frames;
 pub use script::{Numbered, Rings, Script};

@@ -1,7 +1,7 @@
 //! The lines of a script, after its first.
 
 use crate::groups::Groups;
-use crate::kind::Kind;
+use ring_base::Kind;
 use crate::operation::operation_of;
 use crate::words::{Words, decimal};
 use ring_base::{Fault, Fixed, Proc};

@@ -4,7 +4,7 @@ ghost use Rattle.std.specs.Prelude.{◌≤◌, IfErr};
 ghost use Rattle.ring_console.specs.Failures.{IsScriptFailure, IsTextFailure};
 
 use crate::failure::Failure;
-use crate::kind::Kind;
+use ring_base::Kind;
 use crate::line::Line;
 use crate::words::Words;
 use ring_base::{Fault, Fixed};

@@ -4,6 +4,8 @@ use Rattle.std.specs.Cmp.Lexicographic.{pointwise}
 use Rattle.std.specs.List.{AllByRecursion}
 use Rattle.std.proofs.lemmas.Bool.{cond_both, cond-true, and_parts, or_parts, or_cases, or_right, ltb-false, leb-true, eqb-true}
 use Rattle.std.specs.Prelude.{nat_eq}
+use Rattle.ring_base.specs.Numbers.{window_size}
+use Rattle.ring_base.specs.Rings.{same_ring}
 use Rattle.ring_base.specs.declared.ring_id.RingId.{RingId}
 use Rattle.ring_payload.specs.declared.content.Payload.{Payload}
 use Rattle.ring_payload.specs.declared.content.Payload.TheVariants.{Call, Wrapped, End, Head, Part}
@@ -12,7 +14,7 @@ use Rattle.ring_wire.specs.declared.commit.CommitToken.{CommitToken}
 use Rattle.ring_wire.specs.declared.entries.CommitEntry.{CommitEntry}
 use Rattle.ring_wire.specs.declared.message.Message.{Message}
 use Rattle.ring_wire.specs.declared.token.Token.{Token}
-use Rattle.ring_window.specs.Held.{window_size, same_ring, is_numbered, holds, front_of, in_window, is_new}
+use Rattle.ring_window.specs.Held.{is_numbered, holds, front_of, in_window, is_new}
 use Rattle.ring_window.proofs.Fronts.{front_grows}
 use Rattle.ring_window.proofs.Rings.{ring_same}
 use Rattle.ring_token.specs.Turns.{Turn, Raise, safe_mark}
@@ -20,12 +22,12 @@ use Rattle.ring_token.specs.Visits.{room, numbered, may_set, is_mine, aru_after}
 use Rattle.ring_token.proofs.Marks.{safe_mark-below, safe_mark-turn, safe_mark-raise}
 use Rattle.ring_commit.specs.Reports.{same_entry, reports_of, safe_of, none_behind, is_sound}
 use Rattle.ring_commit.specs.Rounds.{position_of_hop, is_own}
-use Rattle.ring_recover.specs.Payloads.{payload_of}
+use Rattle.ring_payload.specs.Kinds.{payload_of}
 use Rattle.ring_recover.specs.Wrapping.{inner_if_new, unwrapped}
 use Rattle.ring_srp.specs.declared.input.Input.{Input}
 use Rattle.ring_srp.specs.declared.out.Out.{Out}
-use Rattle.ring_srp.specs.declared.state.State.{State}
-use Rattle.ring_srp.specs.declared.state.State.TheVariants.{Gather, Commit, Recovery, Operational, Stopped}
+use Rattle.ring_base.specs.declared.state.State.{State}
+use Rattle.ring_base.specs.declared.state.State.TheVariants.{Gather, Commit, Recovery, Operational, Stopped}
 use Rattle.ring_srp.specs.State.{Core, Did, opening}
 use Rattle.ring_srp.specs.Views.{front, mark, own_entry, takes_number}
 use Rattle.ring_srp.specs.Visiting.{offers, new_payloads, new_messages, held_after, turn_of}

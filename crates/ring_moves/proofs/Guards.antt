@@ -15,10 +15,10 @@ use Rattle.ring_commit.specs.Rounds.{receiver}
 use Rattle.ring_commit.specs.Outcomes.{is_at}
 use Rattle.ring_srp.specs.declared.input.Input.{Input}
 use Rattle.ring_srp.specs.declared.input.Input.TheVariants.{Frame as FrameInput, Timeout, Send}
-use Rattle.ring_srp.specs.declared.kind.Kind.{Kind}
-use Rattle.ring_srp.specs.declared.kind.Kind.TheVariants.{Retransmit, Join as JoinTime, Consensus, Loss}
-use Rattle.ring_srp.specs.declared.state.State.{State}
-use Rattle.ring_srp.specs.declared.state.State.TheVariants.{Gather, Commit, Recovery, Operational, Stopped}
+use Rattle.ring_base.specs.declared.kind.Kind.{Kind}
+use Rattle.ring_base.specs.declared.kind.Kind.TheVariants.{Retransmit, Join as JoinTime, Consensus, Loss}
+use Rattle.ring_base.specs.declared.state.State.{State}
+use Rattle.ring_base.specs.declared.state.State.TheVariants.{Gather, Commit, Recovery, Operational, Stopped}
 use Rattle.ring_srp.specs.State.{Core}
 use Rattle.ring_srp.specs.Naming.{is_named}
 use Rattle.ring_srp.specs.Visiting.{accepts}

@@ -1,11 +1,12 @@
 -- Each visit that a core took is one by the rules, and its front has only grown since.
 use Rattle.std.proofs.Common.{◌≡◌, ℕ, suc, ◌+◌, ◌≤◌, Bool, true, false, ◌&&◌, ◌==◌, leb, List, [], ◌∷◌, ◌++◌, length, refl, arith, inl, inr}
 use Rattle.std.proofs.lemmas.Bool.{cases_lt, and_parts, or_cases, or_left, or_right, leb-true, eqb-true, false≢true}
+use Rattle.ring_base.specs.Rings.{same_ring}
 use Rattle.ring_base.specs.declared.ring_id.RingId.{RingId}
 use Rattle.ring_payload.specs.declared.content.Payload.{Payload}
 use Rattle.ring_wire.specs.declared.message.Message.{Message}
 use Rattle.ring_wire.specs.declared.token.Token.{Token}
-use Rattle.ring_window.specs.Held.{same_ring, is_numbered, holds, highest, front_of}
+use Rattle.ring_window.specs.Held.{is_numbered, holds, highest, front_of}
 use Rattle.ring_window.proofs.Fronts.{front_is, highest_covers}
 use Rattle.ring_token.specs.Turns.{Turn}
 use Rattle.ring_token.specs.Visits.{numbered}

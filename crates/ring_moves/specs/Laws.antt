@@ -11,8 +11,8 @@ use Rattle.ring_join.specs.Gathering.{Agrees, Widens}
 use Rattle.ring_commit.specs.Reports.{Configuration}
 use Rattle.ring_commit.specs.Outcomes.{is_at}
 use Rattle.ring_srp.specs.declared.input.Input.TheVariants.{Frame as FrameInput}
-use Rattle.ring_srp.specs.declared.state.State.{State}
-use Rattle.ring_srp.specs.declared.state.State.TheVariants.{Gather, Commit, Recovery, Operational, Stopped}
+use Rattle.ring_base.specs.declared.state.State.{State}
+use Rattle.ring_base.specs.declared.state.State.TheVariants.{Gather, Commit, Recovery, Operational, Stopped}
 use Rattle.ring_srp.specs.State.{Core}
 use Rattle.ring_srp.specs.Visiting.{accepts}
 use Rattle.ring_srp.specs.Joining.{regathered, hears, disturbs}

@@ -2,7 +2,7 @@
 
 use ring_base::Proc;
 use ring_payload::Payload;
-use ring_srp::Kind;
+use ring_base::Kind;
 use std::alloc::{Allocator, Global};
 
 /// What happens next in a world of ring cores.

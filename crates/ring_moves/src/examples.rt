@@ -10,9 +10,9 @@ ghost use Rattle.ring_join.specs.Gathering.{entered, widened, given_up, new_numb
 ghost use Rattle.ring_recover.specs.Plans.{safe, low, gap, least_mark};
 ghost use Rattle.ring_recover.specs.Deliveries.{is_complete, rests, delivery, finish};
 ghost use Rattle.ring_srp.specs.declared.input.Input.TheVariants.{Frame as FrameInput, Timeout, Send};
-ghost use Rattle.ring_srp.specs.declared.kind.Kind.TheVariants.{Retransmit, Join as JoinTime, Consensus, Loss};
+ghost use Rattle.ring_base.specs.declared.kind.Kind.TheVariants.{Retransmit, Join as JoinTime, Consensus, Loss};
 ghost use Rattle.ring_srp.specs.declared.out.Out.TheVariants.{Agreed};
-ghost use Rattle.ring_srp.specs.declared.state.State.TheVariants.{Recovery, Operational};
+ghost use Rattle.ring_base.specs.declared.state.State.TheVariants.{Recovery, Operational};
 ghost use Rattle.ring_srp.specs.State.{opening, halted};
 ghost use Rattle.ring_srp.specs.Views.{front, mark, takes_number, own_entry, plan};
 ghost use Rattle.ring_srp.specs.Visiting.{accepts, repeated, offers, new_payloads, forwarded, visited};

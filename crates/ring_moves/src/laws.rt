@@ -2,9 +2,10 @@
 
 ghost use Rattle.std.specs.Prelude.{◌≡◌, ℕ, List, ◌+◌, ◌≤◌, true};
 ghost use Rattle.std.specs.declared.alloc.Global.{Global as Heap};
+ghost use Rattle.ring_base.specs.Numbers.{window_size};
 ghost use Rattle.ring_base.specs.declared.ring_id.RingId.{RingId};
 ghost use Rattle.ring_wire.specs.declared.commit.CommitToken.{CommitToken};
-ghost use Rattle.ring_window.specs.Held.{window_size, holds};
+ghost use Rattle.ring_window.specs.Held.{holds};
 ghost use Rattle.ring_join.specs.Gathering.{AllSaySame};
 ghost use Rattle.ring_commit.specs.Rounds.{receiver};
 ghost use Rattle.ring_srp.specs.declared.input.Input.{Input};

@@ -10,9 +10,9 @@ use Rattle.ring_payload.specs.declared.content.Payload.{Payload}
 use Rattle.ring_payload.specs.declared.content.Payload.TheVariants.{Call as OneCall, Head}
 use Rattle.ring_wire.specs.declared.commit.CommitToken.{CommitToken}
 use Rattle.ring_wire.specs.declared.frame.Frame.TheVariants.{Message as OneMessage, Token as OneToken, Join as OneJoin, Commit as OneCommit}
-use Rattle.ring_one.specs.declared.kind.Kind.TheVariants.{Retransmit, Join, Consensus, Loss}
-use Rattle.ring_one.specs.declared.state.State.{State}
-use Rattle.ring_one.specs.declared.state.State.TheVariants.{Gather, Commit, Recovery, Operational, Stopped}
+use Rattle.ring_base.specs.declared.kind.Kind.TheVariants.{Retransmit, Join, Consensus, Loss}
+use Rattle.ring_base.specs.declared.state.State.{State}
+use Rattle.ring_base.specs.declared.state.State.TheVariants.{Gather, Commit, Recovery, Operational, Stopped}
 use Rattle.ring_one.specs.declared.input.Input.{Input}
 use Rattle.ring_one.specs.declared.input.Input.TheVariants.{Frame as Comes, Noise, Timeout, Stop}
 use Rattle.ring_one.specs.Tickets.{Asked, asked_calls, place_of, unanswered}

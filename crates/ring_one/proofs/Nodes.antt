@@ -15,14 +15,14 @@ use Rattle.ring_session.specs.Table.{Table, table_next, table_after, opening}
 use Rattle.ring_one.specs.declared.outs.Answered.{Answered}
 use Rattle.ring_one.specs.declared.recent.Kept.{Kept}
 use Rattle.ring_one.specs.declared.ring.Ring.{Ring}
-use Rattle.ring_one.specs.declared.state.State.{State}
-use Rattle.ring_one.specs.declared.state.State.TheVariants.{Gather, Commit, Recovery, Operational, Stopped}
+use Rattle.ring_base.specs.declared.state.State.{State}
+use Rattle.ring_base.specs.declared.state.State.TheVariants.{Gather, Commit, Recovery, Operational, Stopped}
 use Rattle.ring_wire.specs.declared.token.Token.{Token}
 use Rattle.ring_wire.specs.declared.commit.CommitToken.{CommitToken}
 use Rattle.ring_wire.specs.declared.frame.Frame.{Frame}
 use Rattle.ring_wire.specs.declared.frame.Frame.TheVariants.{Token as OneToken, Commit as OneCommit}
-use Rattle.ring_one.specs.declared.kind.Kind.{Kind}
-use Rattle.ring_one.specs.declared.kind.Kind.TheVariants.{Retransmit, Join, Consensus, Loss}
+use Rattle.ring_base.specs.declared.kind.Kind.{Kind}
+use Rattle.ring_base.specs.declared.kind.Kind.TheVariants.{Retransmit, Join, Consensus, Loss}
 use Rattle.ring_one.specs.Texts.{is_adopted, log_of}
 use Rattle.ring_one.specs.Tickets.{Asked, unanswered, answers_after, all_answers, kept_answers, answer_to}
 use Rattle.ring_one.specs.Machine.{One, Move, commit_token, is_commit_token, is_own_report, on_frame, stays, visits, accepts, on_join_timeout, on_timeout, on_commit_token, is_ring_of_one, text_after, empty_head, is_operational, is_running, is_stopped, committed_of, new_answers, one_reply, visited, submit_fault, submitted}

@@ -9,8 +9,8 @@ use Rattle.ring_payload.specs.declared.call.Call.{Call}
 use Rattle.ring_payload.specs.declared.content.Payload.{Payload}
 use Rattle.ring_payload.specs.declared.content.Payload.TheVariants.{Call as OneCall}
 use Rattle.ring_one.specs.declared.ring.Ring.{Ring}
-use Rattle.ring_one.specs.declared.state.State.{State}
-use Rattle.ring_one.specs.declared.state.State.TheVariants.{Gather, Commit, Recovery, Operational, Stopped}
+use Rattle.ring_base.specs.declared.state.State.{State}
+use Rattle.ring_base.specs.declared.state.State.TheVariants.{Gather, Commit, Recovery, Operational, Stopped}
 use Rattle.ring_one.specs.Texts.{calls_in, is_adopted, log_of}
 use Rattle.ring_one.specs.Tickets.{Asked, asked_calls, unanswered}
 use Rattle.ring_one.specs.Machine.{One, is_running, ring_before, ring_of_one, committed_of, room, new_messages, text_after, mark_after, adopts, due, queue_after, visited}

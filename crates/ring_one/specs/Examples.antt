@@ -5,7 +5,7 @@ use Rattle.ring_wire.specs.declared.frame.Frame.{Frame}
 use Rattle.ring_wire.specs.declared.frame.Frame.TheVariants.{Token as OneToken, Commit as OneCommit}
 use Rattle.ring_one.specs.declared.event.Event.{Event}
 use Rattle.ring_one.specs.declared.event.Event.TheVariants.{Issue, Deliver, Timeout}
-use Rattle.ring_one.specs.declared.kind.Kind.TheVariants.{Join}
+use Rattle.ring_base.specs.declared.kind.Kind.TheVariants.{Join}
 use Rattle.ring_one.specs.Machine.{commit_token, token_of}
 
 -- the bytes of an operation: add 5 on key 0 of an object of counters

@@ -5,7 +5,7 @@ use Rattle.std.specs.Str.{bytes_eq}
 use Rattle.ring_base.specs.declared.fault.Fault.{Fault}
 use Rattle.ring_base.specs.declared.fault.Fault.TheVariants.{Memory, PendingFull, Stopped as StoppedFault}
 use Rattle.ring_base.specs.declared.ring_id.RingId.{RingId}
-use Rattle.ring_base.specs.Numbers.{max_number}
+use Rattle.ring_base.specs.Numbers.{max_number, visit_limit, window_size}
 use Rattle.ring_payload.specs.declared.call.Call.{Call}
 use Rattle.ring_payload.specs.declared.head.Head.{Head as HeadOf}
 use Rattle.ring_payload.specs.declared.content.Payload.{Payload}
@@ -15,16 +15,16 @@ use Rattle.ring_wire.specs.declared.entries.CommitEntry.{CommitEntry}
 use Rattle.ring_wire.specs.declared.commit.CommitToken.{CommitToken}
 use Rattle.ring_wire.specs.declared.frame.Frame.{Frame}
 use Rattle.ring_wire.specs.declared.frame.Frame.TheVariants.{Message as OneMessage, Token as OneToken, Join as OneJoin, Commit as OneCommit}
-use Rattle.ring_one.specs.declared.kind.Kind.{Kind}
-use Rattle.ring_one.specs.declared.kind.Kind.TheVariants.{Retransmit, Join, Consensus, Loss}
-use Rattle.ring_one.specs.declared.state.State.{State}
-use Rattle.ring_one.specs.declared.state.State.TheVariants.{Gather, Commit, Recovery, Operational, Stopped}
+use Rattle.ring_base.specs.declared.kind.Kind.{Kind}
+use Rattle.ring_base.specs.declared.kind.Kind.TheVariants.{Retransmit, Join, Consensus, Loss}
+use Rattle.ring_base.specs.declared.state.State.{State}
+use Rattle.ring_base.specs.declared.state.State.TheVariants.{Gather, Commit, Recovery, Operational, Stopped}
 use Rattle.ring_one.specs.declared.input.Input.{Input}
 use Rattle.ring_one.specs.declared.input.Input.TheVariants.{Frame as Comes, Noise, Timeout, Stop}
 use Rattle.ring_session.specs.declared.answer.Answer.{Answer}
 use Rattle.ring_one.specs.declared.outs.Answered.{Answered}
 use Rattle.ring_one.specs.declared.outs.Outs.{Outs}
-use Rattle.ring_one.specs.declared.TheConstants.{MAX_NEW, WINDOW, MAX_UNANSWERED}
+use Rattle.ring_one.specs.declared.TheConstants.{MAX_UNANSWERED}
 use Rattle.ring_one.specs.Texts.{is_adopted, log_of}
 use Rattle.ring_one.specs.Tickets.{Asked, asked_calls, unanswered, answers_after, all_answers, kept_answers, answer_to}
 
@@ -126,7 +126,7 @@ committed_of s = log_of (take s.mark s.text)
 
 -- how many new messages of the queue may go out: at most 8, with numbers in the window and up to the greatest
 abbrev pub room : {A : Type 0} → One A → ℕ
-room s = min MAX_NEW (min (s.mark + WINDOW - length s.text) (max_number - length s.text))
+room s = min visit_limit (min (s.mark + window_size - length s.text) (max_number - length s.text))
 
 -- in Recovery one End goes out
 abbrev pub end_after : {A : Type 0} → List (Payload A) → List (Payload A)

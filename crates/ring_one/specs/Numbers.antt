@@ -1,13 +1,12 @@
 -- The ring of one by numbers: what a node keeps in place of its text and its send queue.
 use Rattle.std.specs.Prelude.{◌≡◌, ℕ, ◌+◌, ◌-◌, ◌≤◌, ◌==◌, ◌&&◌, nat_le, nat_lt, min, Bool, true, false, not, List, [], ◌∷◌, length, take, drop, map, if◌then◌else◌}
-use Rattle.ring_base.specs.Numbers.{max_number}
+use Rattle.ring_base.specs.Numbers.{max_number, visit_limit, window_size}
 use Rattle.ring_payload.specs.declared.call.Call.{Call}
 use Rattle.ring_payload.specs.declared.content.Payload.{Payload}
 use Rattle.ring_payload.specs.declared.content.Payload.TheVariants.{Call as OneCall, End, Head}
 use Rattle.ring_wire.specs.declared.token.Token.{Token}
 use Rattle.ring_one.specs.declared.ring.Ring.{Ring}
-use Rattle.ring_one.specs.declared.state.State.TheVariants.{Gather, Operational}
-use Rattle.ring_one.specs.declared.TheConstants.{MAX_NEW, WINDOW}
+use Rattle.ring_base.specs.declared.state.State.TheVariants.{Gather, Operational}
 use Rattle.ring_one.specs.Tickets.{Asked}
 use Rattle.ring_one.specs.Machine.{One, is_operational, is_running, is_stopped, is_ring_of_one, ring_before, ring_of_one, empty_head}
 
@@ -28,7 +27,7 @@ abbrev pub waits : Ring → ℕ → ℕ
 waits r submitted = if r.mark == 0 then 0 else if nat_lt r.messages 2 then 1 else submitted + 2 - r.messages
 
 abbrev pub ring_room : Ring → ℕ
-ring_room r = min MAX_NEW (min (r.mark + WINDOW - r.messages) (max_number - r.messages))
+ring_room r = min visit_limit (min (r.mark + window_size - r.messages) (max_number - r.messages))
 
 abbrev pub sent : Ring → ℕ → ℕ
 sent r submitted = if is_operational r.state then min (ring_room r) (waits r submitted) else if r.messages == 0 then 1 else 0

@@ -1,6 +1,6 @@
 //! What happens to a node, as a list of which a run is made.
 
-use crate::kind::Kind;
+use ring_base::Kind;
 use ring_payload::Call;
 use std::alloc::{Allocator, Global};
 

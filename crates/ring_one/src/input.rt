@@ -1,6 +1,6 @@
 //! What a node is given.
 
-use crate::kind::Kind;
+use ring_base::Kind;
 use ring_wire::Frame;
 use std::alloc::{Allocator, Global};
 

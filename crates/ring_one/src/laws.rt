@@ -6,7 +6,7 @@ ghost use Rattle.ring_session.specs.Deduplicated.{deduplicated};
 ghost use Rattle.ring_world.specs.Histories.{IsLinearization};
 ghost use Rattle.ring_one.specs.declared.event.Event.{Event};
 ghost use Rattle.ring_world.specs.declared.item.Item.TheVariants.{Issue, Reply as Replied};
-ghost use Rattle.ring_one.specs.declared.state.State.TheVariants.{Operational};
+ghost use Rattle.ring_base.specs.declared.state.State.TheVariants.{Operational};
 ghost use Rattle.ring_one.specs.Examples.{first_operation, first_call, call_sent, call_answered, first_frames};
 ghost use Rattle.ring_one.specs.Machine.{committed_of, ring_before, ring_of_one};
 ghost use Rattle.ring_one.specs.Texts.{is_adopted, base_of, log_of};

@@ -5,30 +5,20 @@
 mod event;
 mod frames;
 mod input;
-mod kind;
 mod laws;
 mod node;
 mod outs;
 mod recent;
 mod ring;
-mod state;
 mod ticket;
 mod waiting;
 
 pub use event::Event;
 pub use input::Input;
-pub use kind::Kind;
 pub use laws::{first_reply_example, linear_law};
 pub use node::Node;
 pub use outs::{Answered, Outs};
-pub use state::State;
 pub use ticket::Ticket;
-
-/// At most so many new messages go out in a visit.
-pub const MAX_NEW: u64 = 8;
-
-/// How many numbers after the safe mark messages may have.
-pub const WINDOW: u64 = 256;
 
 /// At most so many tickets of a node are unanswered.
 pub const MAX_UNANSWERED: usize = 64;

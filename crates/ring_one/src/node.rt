@@ -14,11 +14,11 @@ use crate::frames::{
     commit_token, is_commit_token, is_own_report, ring_before, ring_of_one, token_of,
 };
 use crate::input::Input;
-use crate::kind::Kind;
+use ring_base::Kind;
 use crate::outs::Outs;
 use crate::recent::Recent;
 use crate::ring::Ring;
-use crate::state::State;
+use ring_base::State;
 use crate::ticket::Ticket;
 use crate::waiting::{Waiting, answer_calls, copied, copy_of};
 use arrayvec::ArrayVec;

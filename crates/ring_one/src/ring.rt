@@ -7,9 +7,8 @@ ghost use Rattle.ring_one.specs.Machine.{is_operational, is_running, is_stopped}
 ghost use Rattle.ring_one.specs.Numbers.{IsRing, ring_opening, committed_length, logged_length, waits, ring_room, sent, ring_visited, ring_accepts};
 
 use crate::frames::is_ring_of_one;
-use crate::state::State;
-use crate::{MAX_NEW, WINDOW};
-use ring_base::MAX;
+use ring_base::State;
+use ring_base::{MAX, MAX_NEW, WINDOW};
 use ring_wire::Token;
 
 /// The ring of a node, by its numbers.

@@ -10,7 +10,7 @@ use Rattle.ring_wire.specs.declared.entries.CommitEntry.{CommitEntry}
 use Rattle.ring_wire.specs.declared.message.Message.{Message}
 use Rattle.ring_window.specs.Held.{is_numbered, found, holds, front_of}
 use Rattle.ring_commit.specs.Reports.{is_sound}
-use Rattle.ring_recover.specs.Payloads.{is_user}
+use Rattle.ring_payload.specs.Kinds.{is_user}
 use Rattle.ring_recover.specs.Plans.{Plan, plan_of, plan_if_sound, plan_from, safe, gap, known_above_safe}
 use Rattle.ring_recover.specs.Deliveries.{is_complete, is_from_mate, transitional_part, past_gap_part, finish, rests, SameText}
 

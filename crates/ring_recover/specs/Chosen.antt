@@ -1,7 +1,6 @@
 -- Numbers as bits: of the 256 after a number, those whose bit is set.
 use Rattle.std.specs.Prelude.{ℕ, ◌+◌, ◌-◌, ◌/◌, ◌%◌, Bool, List, filter, slice_index}
-use Rattle.ring_base.specs.Numbers.{numbers_from, has_bit}
-use Rattle.ring_window.specs.Held.{window_size}
+use Rattle.ring_base.specs.Numbers.{window_size, numbers_from, has_bit}
 
 -- four words of 64 bits, the least bit of the first for the number after + 1
 abbrev pub is_chosen : ℕ → List ℕ → ℕ → Bool

@@ -1,13 +1,13 @@
 -- What a change of the ring still delivers of the old one: Recovery, rules 8 and 9, and Outputs, rule 5 of docs/PROTOCOL.md.
 use Rattle.std.specs.Prelude.{◌≡◌, ℕ, ◌+◌, ◌-◌, min, Bool, false, ◌&&◌, nat_lt, nat_le, if◌then◌else◌, List, ◌++◌, filter, filter_map, Option, Some, None}
 use Rattle.std.specs.List.{list_all}
-use Rattle.ring_base.specs.Numbers.{numbers_from}
+use Rattle.ring_base.specs.Numbers.{window_size, numbers_from}
 use Rattle.ring_base.specs.Processors.{has}
 use Rattle.ring_base.specs.declared.ring_id.RingId.{RingId}
 use Rattle.ring_wire.specs.declared.message.Message.{Message}
-use Rattle.ring_window.specs.Held.{window_size, found, holds, front_of}
+use Rattle.ring_window.specs.Held.{found, holds, front_of}
 use Rattle.ring_recover.specs.declared.delivery.Delivery.{Delivery}
-use Rattle.ring_recover.specs.Payloads.{is_user}
+use Rattle.ring_payload.specs.Kinds.{is_user}
 use Rattle.ring_recover.specs.Plans.{Plan, safe, least_mark, gap, known_above_safe}
 
 -- all that one of those from the old ring holds is held: up to the greatest safe mark, and above it

@@ -1,5 +1,4 @@
 pub mod Chosen
-pub mod Payloads
 pub mod Plans
 pub mod Wrapping
 pub mod Installing

@@ -1,13 +1,13 @@
 -- What the members that come from one old ring make of the full commit token: who they are, and what they hold of that ring. Recovery, rules 1 and 2 of docs/PROTOCOL.md, where T is `mates`, S `safe`, low `low`, U `is_known` and g `gap`.
 use Rattle.std.specs.Prelude.{ℕ, ◌+◌, ◌-◌, min, Bool, ◌&&◌, ◌||◌, nat_lt, nat_le, if◌then◌else◌, List, [], ◌∷◌, map, filter, Option, Some, None, slice_get, length}
 use Rattle.std.specs.List.{list_any, prefix_len}
-use Rattle.ring_base.specs.Numbers.{numbers_from}
+use Rattle.ring_base.specs.Rings.{same_ring}
+use Rattle.ring_base.specs.Numbers.{window_size, numbers_from}
 use Rattle.ring_base.specs.Processors.{only, has, elements, size, position_of}
 use Rattle.ring_base.specs.declared.ring_id.RingId.{RingId}
 use Rattle.ring_wire.specs.Entries.{bit_of}
 use Rattle.ring_wire.specs.declared.commit.CommitToken.{CommitToken}
 use Rattle.ring_wire.specs.declared.entries.CommitEntry.{CommitEntry}
-use Rattle.ring_window.specs.Held.{same_ring, window_size}
 use Rattle.ring_commit.specs.Reports.{reports_of, safe_of, is_sound}
 
 -- the old ring, the members that come from it, and their reports

@@ -1,6 +1,7 @@
 -- How the old ring's messages are handed on, each as the new ring's Wrapped, from the lowest on, and then one End: Recovery, rules 4 to 6 of docs/PROTOCOL.md.
 use Rattle.std.specs.Prelude.{ℕ, ◌+◌, ◌-◌, Bool, false, not, ◌&&◌, ◌==◌, if◌then◌else◌, List, [], ◌∷◌, ◌++◌, filter, filter_map, Option, Some, None}
 use Rattle.std.specs.List.{list_any}
+use Rattle.ring_base.specs.Rings.{same_ring}
 use Rattle.ring_base.specs.Numbers.{numbers_from}
 use Rattle.ring_base.specs.declared.ring_id.RingId.{RingId}
 use Rattle.ring_payload.specs.declared.content.Content.{Content}
@@ -9,8 +10,8 @@ use Rattle.ring_payload.specs.declared.content.Payload.{Payload}
 use Rattle.ring_payload.specs.declared.content.Payload.TheVariants.{Call, Wrapped, End, Head, Part}
 use Rattle.ring_payload.specs.declared.content.Wrapped.{Wrapped as WrappedMessage}
 use Rattle.ring_wire.specs.declared.message.Message.{Message}
-use Rattle.ring_window.specs.Held.{same_ring, found, of_ring, highest, is_new}
-use Rattle.ring_recover.specs.Payloads.{is_end, payload_of}
+use Rattle.ring_window.specs.Held.{found, of_ring, highest, is_new}
+use Rattle.ring_payload.specs.Kinds.{is_end, payload_of}
 use Rattle.ring_recover.specs.Plans.{Plan, low}
 
 -- the payload wraps this number of the old ring

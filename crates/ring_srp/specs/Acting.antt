@@ -3,8 +3,8 @@ use Rattle.std.specs.Prelude.{Bool, true, false, ◌&&◌, List, [], ◌∷◌, 
 use Rattle.ring_wire.specs.declared.message.Message.{Message}
 use Rattle.ring_join.specs.Gathering.{agreed, widened, given_up}
 use Rattle.ring_recover.specs.Wrapping.{unwrapped}
-use Rattle.ring_srp.specs.declared.state.State.{State}
-use Rattle.ring_srp.specs.declared.state.State.TheVariants.{Gather, Commit, Recovery, Operational, Stopped}
+use Rattle.ring_base.specs.declared.state.State.{State}
+use Rattle.ring_base.specs.declared.state.State.TheVariants.{Gather, Commit, Recovery, Operational, Stopped}
 use Rattle.ring_srp.specs.State.{Core, Sent, Did}
 use Rattle.ring_srp.specs.Views.{mark}
 use Rattle.ring_srp.specs.Visiting.{visited}

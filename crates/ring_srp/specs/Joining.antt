@@ -4,8 +4,8 @@ use Rattle.ring_base.specs.Processors.{nobody, only, everybody, has, less}
 use Rattle.ring_wire.specs.declared.frame.Frame.TheVariants.{Join as JoinFrame}
 use Rattle.ring_wire.specs.declared.join.Join.{Join}
 use Rattle.ring_join.specs.Gathering.{Gathering, Hearing, entered, own_join, hearing, may_propose}
-use Rattle.ring_srp.specs.declared.state.State.{State}
-use Rattle.ring_srp.specs.declared.state.State.TheVariants.{Gather, Commit, Recovery, Operational, Stopped}
+use Rattle.ring_base.specs.declared.state.State.{State}
+use Rattle.ring_base.specs.declared.state.State.TheVariants.{Gather, Commit, Recovery, Operational, Stopped}
 use Rattle.ring_srp.specs.State.{Core, Sent, floor}
 
 -- whom Gather begins with: the members of the last installed ring, or all while none was installed

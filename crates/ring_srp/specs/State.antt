@@ -11,8 +11,8 @@ use Rattle.ring_token.specs.Turns.{Turn, Raise}
 use Rattle.ring_join.specs.Gathering.{Gathering, entered}
 use Rattle.ring_commit.specs.Reports.{Configuration}
 use Rattle.ring_srp.specs.declared.out.Out.{Out}
-use Rattle.ring_srp.specs.declared.state.State.{State}
-use Rattle.ring_srp.specs.declared.state.State.TheVariants.{Gather, Operational, Stopped}
+use Rattle.ring_base.specs.declared.state.State.{State}
+use Rattle.ring_base.specs.declared.state.State.TheVariants.{Gather, Operational, Stopped}
 
 -- a frame with the set of its receivers
 pub record Sent (A : Type 0) : Type 0 where

@@ -9,8 +9,8 @@ use Rattle.ring_window.specs.Held.{found, holds, front_of, highest, missing}
 use Rattle.ring_token.specs.Turns.{Turn, is_accepted}
 use Rattle.ring_token.specs.Visits.{left, above_mark, fresh, numbered, requests_after, token_after}
 use Rattle.ring_recover.specs.Wrapping.{wraps_and_end}
-use Rattle.ring_srp.specs.declared.state.State.{State}
-use Rattle.ring_srp.specs.declared.state.State.TheVariants.{Gather, Commit, Recovery, Operational, Stopped}
+use Rattle.ring_base.specs.declared.state.State.{State}
+use Rattle.ring_base.specs.declared.state.State.TheVariants.{Gather, Commit, Recovery, Operational, Stopped}
 use Rattle.ring_srp.specs.State.{Core, Sent, Did}
 use Rattle.ring_srp.specs.Views.{mark, plan}
 

@@ -1,6 +1,6 @@
 //! What a ring core is given.
 
-use crate::kind::Kind;
+use ring_base::Kind;
 use ring_payload::Payload;
 use ring_wire::Frame;
 use std::alloc::{Allocator, Global};

@@ -3,11 +3,7 @@
 #![tactic(auto)]
 
 pub mod input;
-pub mod kind;
 pub mod out;
-pub mod state;
 
 pub use input::Input;
-pub use kind::Kind;
 pub use out::Out;
-pub use state::State;

@@ -1,11 +1,11 @@
 -- The visits of the token that a node took, which tokens it accepts, and how far that makes a ring safe: Token and window, rules 3, 6 and 10 of docs/PROTOCOL.md.
 use Rattle.std.specs.Prelude.{ℕ, min, max, Bool, ◌&&◌, nat_lt, nat_le, List, [], ◌∷◌, map, filter, None}
 use Rattle.std.specs.List.{list_all}
+use Rattle.ring_base.specs.Rings.{same_ring}
 use Rattle.ring_base.specs.Numbers.{max_number, greatest}
 use Rattle.ring_base.specs.declared.ring_id.RingId.{RingId}
 use Rattle.ring_payload.specs.declared.content.Payload.{Payload}
 use Rattle.ring_wire.specs.declared.token.Token.{Token}
-use Rattle.ring_window.specs.Held.{same_ring}
 
 -- a visit as a fact: the token as it came, the front once the new messages were held, these, and the token as it went
 pub record Turn (A : Type 0) : Type 0 where

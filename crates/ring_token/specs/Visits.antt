@@ -1,15 +1,10 @@
 -- One visit of the token, in its order: Token and window, rules 7 to 9 of docs/PROTOCOL.md. What was asked for, what is new, how far all hold, and what is asked for now.
 use Rattle.std.specs.Prelude.{ℕ, suc, ◌+◌, ◌-◌, min, Bool, true, not, ◌&&◌, ◌||◌, ◌==◌, nat_lt, if◌then◌else◌, List, [], ◌∷◌, filter, take, Option, Some, None}
-use Rattle.ring_base.specs.Numbers.{max_number, merged}
+use Rattle.ring_base.specs.Numbers.{window_size, visit_limit, max_number, merged}
 use Rattle.ring_base.specs.declared.ring_id.RingId.{RingId}
 use Rattle.ring_payload.specs.declared.content.Payload.{Payload}
 use Rattle.ring_wire.specs.declared.message.Message.{Message}
 use Rattle.ring_wire.specs.declared.token.Token.{Token}
-use Rattle.ring_window.specs.Held.{window_size}
-
--- the new messages of one visit are at most
-abbrev pub visit_limit : ℕ
-visit_limit = 8
 
 -- the numbers that a token asks for are at most
 abbrev pub request_limit : ℕ

@@ -2,10 +2,11 @@
 use Rattle.std.proofs.Common.{◌≡◌, ℕ, zero, suc, ◌+◌, ◌≤◌, ◌<◌, Bool, true, false, List, [], ◌∷◌, map, inl, inr, eqb, arith}
 use Rattle.std.specs.List.{prefix_len}
 use Rattle.std.proofs.lemmas.Bool.{cases_Bool, cases_lt, cond_both, cond-true, and_parts, or_cases, eqb-true, both_ways, false≢true}
+use Rattle.ring_base.specs.Rings.{same_ring}
 use Rattle.ring_base.specs.Numbers.{numbers_from, greatest}
 use Rattle.ring_base.specs.declared.ring_id.RingId.{RingId}
 use Rattle.ring_wire.specs.declared.message.Message.{Message}
-use Rattle.ring_window.specs.Held.{same_ring, is_numbered, holds, of_ring, highest, front_of, IsFrontIn}
+use Rattle.ring_window.specs.Held.{is_numbered, holds, of_ring, highest, front_of, IsFrontIn}
 
 -- how far a test passes, of count numbers in a row: all before pass, and where it stops before the last the next fails
 record Run (p : ℕ → Bool) (first count k : ℕ) : Type 0 where

@@ -2,8 +2,8 @@
 use Rattle.std.proofs.Common.{◌≡◌, true, eqb, refl}
 use Rattle.std.proofs.lemmas.Bool.{and_parts, and_from, eqb-true}
 use Rattle.std.proofs.Common.{eq-eqb}
+use Rattle.ring_base.specs.Rings.{same_ring}
 use Rattle.ring_base.specs.declared.ring_id.RingId.{RingId}
-use Rattle.ring_window.specs.Held.{same_ring}
 
 pub ring_same : (a b : RingId) → same_ring a b ≡ true → a ≡ b
 ring_same a b h =

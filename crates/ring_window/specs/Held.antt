@@ -1,17 +1,10 @@
 -- What a node has ever held of the rings, and how far without a gap: Token and window, rules 1, 2 and 4 of docs/PROTOCOL.md. All its messages stand in one list, newest first, and none leaves it.
 use Rattle.std.specs.Prelude.{◌≡◌, ℕ, suc, ◌+◌, ◌-◌, ◌≤◌, min, Bool, true, false, not, ◌&&◌, ◌==◌, nat_lt, nat_le, List, map, filter, find, Option}
 use Rattle.std.specs.List.{list_any, prefix_len}
-use Rattle.ring_base.specs.Numbers.{numbers_from, greatest}
+use Rattle.ring_base.specs.Numbers.{window_size, numbers_from, greatest}
+use Rattle.ring_base.specs.Rings.{same_ring}
 use Rattle.ring_base.specs.declared.ring_id.RingId.{RingId}
 use Rattle.ring_wire.specs.declared.message.Message.{Message}
-
--- how many numbers after its safe mark a node takes
-abbrev pub window_size : ℕ
-window_size = 256
-
--- the two names are of one ring
-abbrev pub same_ring : RingId → RingId → Bool
-same_ring a b = (a.seq == b.seq) && (a.rep == b.rep)
 
 -- the message is the one of this number in the ring
 abbrev pub is_numbered : {A : Type 0} → RingId → ℕ → Message A → Bool

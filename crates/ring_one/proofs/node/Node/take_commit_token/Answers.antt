@@ -1,7 +1,7 @@
 -- A commit token that is not the next one moves nothing.
 use Rattle.std.proofs.Common.{◌≡◌, ◌==◌, sym, ap, ◌∙◌, arith}
 use Rattle.std.proofs.lemmas.Bool.{and_left, and_right, ne_eqb}
-use Rattle.ring_one.specs.declared.state.State.TheVariants.{Commit, Recovery}
+use Rattle.ring_base.specs.declared.state.State.TheVariants.{Commit, Recovery}
 use Rattle.ring_one.specs.Machine.{One, on_commit_token, is_commit_token, is_own_report}
 use Rattle.ring_one.proofs.Nodes.{stayed, second-stays, start-stays, commit-stays}
 use Rattle.ring_one.proofs.node.Node.take_commit_token.Goals as goal

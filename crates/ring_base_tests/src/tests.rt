@@ -1,6 +1,7 @@
-//! What no contract says: the texts and numbers that users see, that calls succeed, and worked values.
-
-use super::*;
+use ring_base::{
+    Fault, Fixed, MAX, Past, ProcSet, RingId, front_law, is_primary_below, members_law, past_of,
+    primary_law, primary_order_law, ring_order_law,
+};
 use std::alloc::AllocError;
 use std::test::Fail;
 
