@@ -1,2 +1,4 @@
 pub mod Failures
+pub mod Network
+pub mod Printed
 pub mod Words

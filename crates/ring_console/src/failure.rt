@@ -23,6 +23,16 @@ pub enum Failure {
     Output,
 }
 
+impl From<Fault> for Failure {
+    ghost use Rattle.ring_console.specs.declared.failure.Failure.TheVariants.{Refused};
+
+    ghost from_gives = { λ fault failure. failure ≡ Refused fault };
+
+    fn from(fault: Fault) -> Failure {
+        Failure::Refused(fault)
+    }
+}
+
 /// The line that stands on standard error, without its end.
 impl fmt::Display for Failure {
     fn fmt<W: fmt::Write>(&self, f: &mut fmt::Formatter<W>) -> fmt::Result {

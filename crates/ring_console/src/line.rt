@@ -1,10 +1,9 @@
 //! The lines of a script, after its first.
 
 use crate::groups::Groups;
-use ring_base::Kind;
 use crate::operation::operation_of;
 use crate::words::{Words, decimal};
-use ring_base::{Fault, Fixed, Proc};
+use ring_base::{Fault, Fixed, Kind, Proc};
 use ring_payload::Call;
 use std::alloc::{Allocator, Global};
 
@@ -38,6 +37,14 @@ pub enum Line<A: Allocator + Copy = Global> {
 }
 
 impl<A: Allocator + Copy> Line<A> {
+    /// The call, if the line submits one.
+    pub(crate) fn into_call(self) -> Option<Call<A>> {
+        match self {
+            Line::Call { node: _, call } => Some(call),
+            _ => None,
+        }
+    }
+
     /// What the line asks for, among these nodes. `BadScript` where it has none of the forms, or `Memory`.
     pub(crate) fn parse(alloc: A, nodes: Fixed, line: &[u8]) -> Result<Line<A>, Fault> {
         let mut words = Words::new(line);

@@ -227,10 +227,11 @@ opening_fits n me inputs = always_fits (opening n me) inputs (record { window = 
 
 -- The laws
 
+pub mark_below : {A : Type 0} → (c : Core A) (r : RingId) → Fit c → mark c r ≤ front c r
+mark_below c r f = safe_mark-below (front c) r _ _ f.visits f.raised
+
 pub marks_within : {A : Type 0} → (n me : ℕ) (inputs : List (Input A)) (r : RingId) → mark (after_inputs (opening n me) inputs) r ≤ front (after_inputs (opening n me) inputs) r
-marks_within n me inputs r =
-    let f = opening_fits n me inputs in
-    safe_mark-below (front (after_inputs (opening n me) inputs)) r _ _ f.visits f.raised
+marks_within n me inputs r = mark_below (after_inputs (opening n me) inputs) r (opening_fits n me inputs)
 
 -- each message held, of any ring
 in_window_of : {A : Type 0} → (turns : List (Turn A)) (raises : List Raise) (held : List (Message A)) (r : RingId) (n : ℕ) → AllByRecursion (λ (x : Message A). Within turns raises x) held → holds held r n ≡ true → n ≤ safe_mark turns raises r + window_size
@@ -243,7 +244,8 @@ in_window_of turns raises (x ∷ held) r n f h =
       | inr e ↦ in_window_of turns raises held r n f.1 e
     ]
 
+pub held_below : {A : Type 0} → (c : Core A) (r : RingId) (k : ℕ) → Fit c → holds c.held r k ≡ true → k ≤ mark c r + window_size
+held_below c r k f h = in_window_of _ _ _ r k f.window h
+
 pub held_within : {A : Type 0} → (n me : ℕ) (inputs : List (Input A)) (r : RingId) (k : ℕ) → holds (after_inputs (opening n me) inputs).held r k ≡ true → k ≤ mark (after_inputs (opening n me) inputs) r + window_size
-held_within n me inputs r k h =
-    let f = opening_fits n me inputs in
-    in_window_of _ _ _ r k f.window h
+held_within n me inputs r k h = held_below (after_inputs (opening n me) inputs) r k (opening_fits n me inputs) h

@@ -25,7 +25,7 @@ use Rattle.ring_srp.specs.Visiting.{accepts}
 use Rattle.ring_srp.specs.Joining.{regathered, hears, disturbs}
 use Rattle.ring_srp.specs.Handing.{takes_first_round, takes_second_round, takes_start}
 use Rattle.ring_srp.specs.Deciding.{Ignore, Take, Visit, Fill, Learn, is_taken, decide_message, decide_token, heard_in_gather, heard_elsewhere, overhear, decide_join, decide_round, decide_commit, decide_frame, decide_if_named, decide_time, decide_user, decide_payload, decide}
-use Rattle.ring_moves.specs.Laws.{HasPassed, TakesCommit}
+use Rattle.ring_moves.specs.Laws.{IsAway, HasPassed, TakesCommit}
 
 in_message : {A : Type 0} → (c : Core A) (x : Message A) → HasPassed c (decide_message c x)
 in_message c x = cond_both (is_taken c x) (Take x) Ignore (HasPassed c) (λ e. e) (λ e. tt)
@@ -42,20 +42,20 @@ in_gather c j Ignored h e = tt
 in_gather c j Agrees h e = (h, e)
 in_gather c j Widens h e = (h, e)
 
-in_other : {A : Type 0} → (c : Core A) (j : Join) (x : Hearing) → (c.state ≡ Stopped → ⊥) → disturbs c j ≡ true → hears (regathered c) j ≡ x → HasPassed c (heard_elsewhere x j)
-in_other c j Ignored h d e = h
-in_other c j Agrees h d e = (d, e)
-in_other c j Widens h d e = (d, e)
+in_other : {A : Type 0} → (c : Core A) (j : Join) (x : Hearing) → (c.state ≡ Stopped → ⊥) → IsAway c.state → disturbs c j ≡ true → hears (regathered c) j ≡ x → HasPassed c (heard_elsewhere x j)
+in_other c j Ignored h a d e = h
+in_other c j Agrees h a d e = record { state = a; passes = d; heard = e }
+in_other c j Widens h a d e = record { state = a; passes = d; heard = e }
 
-in_overhear : {A : Type 0} → (c : Core A) (j : Join) → (c.state ≡ Stopped → ⊥) → HasPassed c (overhear c j)
-in_overhear c j h = cond_both (disturbs c j) _ Ignore (HasPassed c) (λ d. in_other c j (hears (regathered c) j) h d refl) (λ d. tt)
+in_overhear : {A : Type 0} → (c : Core A) (j : Join) → (c.state ≡ Stopped → ⊥) → IsAway c.state → HasPassed c (overhear c j)
+in_overhear c j h a = cond_both (disturbs c j) _ Ignore (HasPassed c) (λ d. in_other c j (hears (regathered c) j) h a d refl) (λ d. tt)
 
 in_join : {A : Type 0} → (s : State) (c : Core A) (j : Join) → c.state ≡ s → HasPassed c (decide_join s c j)
 in_join Gather c j h = in_gather c j (hears c j) h refl
 in_join Stopped c j h = tt
-in_join Commit c j h = in_overhear c j (λ e. (let q : Commit ≡ Stopped = cc in cc))
-in_join Recovery c j h = in_overhear c j (λ e. (let q : Recovery ≡ Stopped = cc in cc))
-in_join Operational c j h = in_overhear c j (λ e. (let q : Operational ≡ Stopped = cc in cc))
+in_join Commit c j h = in_overhear c j (λ e. (let q : Commit ≡ Stopped = cc in cc)) (inl h)
+in_join Recovery c j h = in_overhear c j (λ e. (let q : Recovery ≡ Stopped = cc in cc)) (inr (inl h))
+in_join Operational c j h = in_overhear c j (λ e. (let q : Operational ≡ Stopped = cc in cc)) (inr (inr h))
 
 in_round : {A : Type 0} → (s : State) (c : Core A) (k : CommitToken) → c.state ≡ s → is_at c.me k ≡ true → HasPassed c (decide_round s c k)
 in_round Gather c k h at = cond_both (takes_first_round c k) (Fill k) Ignore (HasPassed c) (λ e. record { state = h; here = at; passes = e }) (λ e. tt)

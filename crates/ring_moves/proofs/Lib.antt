@@ -1,5 +1,9 @@
 pub mod Guards
+pub mod Causes
 pub mod Rises
 pub mod Fits
 pub mod Agrees
 pub mod Turned
+pub mod Everywhere
+pub mod Rounds
+pub mod Worlds

@@ -7,7 +7,7 @@ use Rattle.ring_commit.specs.Rounds.{hopped, proposal}
 use Rattle.ring_join.specs.Gathering.{candidates, new_number}
 use Rattle.ring_srp.specs.declared.input.Input.{Input}
 use Rattle.ring_srp.specs.declared.out.Out.{Out}
-use Rattle.ring_srp.specs.State.{Core, Did, floor, opening}
+use Rattle.ring_srp.specs.State.{Core, Did, floor, alone, opening}
 use Rattle.ring_srp.specs.Views.{own_entry}
 use Rattle.ring_srp.specs.Joining.{proposes}
 use Rattle.ring_srp.specs.Handing.{joined}
@@ -71,7 +71,12 @@ pub always_rises : {A : Type 0} → (c : Core A) (inputs : List (Input A)) → R
 always_rises c [] r = r
 always_rises c (x ∷ inputs) r = always_rises (ring_step c x).core inputs (step_rises c x r)
 
+-- the ring that a core opens in
+pub alone_rises : (me : ℕ) → IsRising (alone me ∷ []) (alone me)
+alone_rises me = record { older = []; newest = refl; falls = tt }
+
+pub falls_of : {A : Type 0} → (c : Core A) → Rising c → IsFalling c.rings
+falls_of c r = let P : List Configuration → Type 0 = λ rings. IsFalling rings in subst P (sym r.newest) r.falls
+
 pub rings_fall : {A : Type 0} → (n me : ℕ) (inputs : List (Input A)) → IsFalling (after_inputs (opening n me) inputs).rings
-rings_fall n me inputs =
-    let r : Rising (after_inputs (opening n me) inputs) = always_rises (opening n me) inputs (record { older = []; newest = refl; falls = tt }) in
-    let P : List Configuration → Type 0 = λ rings. IsFalling rings in subst P (sym r.newest) r.falls
+rings_fall n me inputs = falls_of (after_inputs (opening n me) inputs) (always_rises (opening n me) inputs (alone_rises me))

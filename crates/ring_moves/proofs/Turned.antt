@@ -66,7 +66,7 @@ still me xs held (v ∷ turns) h =
     let j : v.front ≤ front_of held v.came.ring = (h.0).grown in
     (record { goes = (h.0).goes; within = (h.0).within; grown = omega arith }, still me xs held turns h.1)
 
-abbrev Turned : {A : Type 0} → Core A → Type 0
+abbrev pub Turned : {A : Type 0} → Core A → Type 0
 Turned c = AreTurnsOf c.me c.held c.turns
 
 visited_turned : {A : Type 0} → (c : Core A) (t : Token) → accepts c t ≡ true → Turned c → AreTurnsOf c.me (held_after c t) (turn_of c t ∷ c.turns)

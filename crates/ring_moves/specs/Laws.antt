@@ -2,15 +2,20 @@
 use Rattle.std.specs.Prelude.{◌≡◌, ℕ, ◌<◌, ◌≤◌, ◌⊎◌, true, List, [], ◌∷◌, length}
 use Rattle.std.specs.List.{AllByRecursion}
 use Rattle.ring_wire.specs.declared.commit.CommitToken.{CommitToken}
-use Rattle.ring_wire.specs.declared.frame.Frame.TheVariants.{Commit as CommitFrame}
+use Rattle.ring_wire.specs.declared.frame.Frame.TheVariants.{Message as MessageFrame, Token as TokenFrame, Join as JoinFrame, Commit as CommitFrame}
+use Rattle.ring_wire.specs.declared.join.Join.{Join}
 use Rattle.ring_wire.specs.declared.message.Message.{Message}
+use Rattle.ring_wire.specs.declared.token.Token.{Token}
 use Rattle.ring_window.specs.Held.{front_of}
-use Rattle.ring_token.specs.Turns.{Turn}
+use Rattle.ring_token.specs.Turns.{Turn, first_token}
 use Rattle.ring_token.specs.Visits.{token_after}
-use Rattle.ring_join.specs.Gathering.{Agrees, Widens}
+use Rattle.ring_join.specs.Gathering.{Hearing, Ignored, Agrees, Widens}
 use Rattle.ring_commit.specs.Reports.{Configuration}
+use Rattle.ring_commit.specs.Rounds.{is_start}
 use Rattle.ring_commit.specs.Outcomes.{is_at}
-use Rattle.ring_srp.specs.declared.input.Input.TheVariants.{Frame as FrameInput}
+use Rattle.ring_base.specs.declared.kind.Kind.TheVariants.{Retransmit, Join as JoinTime, Consensus, Loss}
+use Rattle.ring_srp.specs.declared.input.Input.{Input}
+use Rattle.ring_srp.specs.declared.input.Input.TheVariants.{Frame as FrameInput, Timeout as TimeInput, Send as SendInput}
 use Rattle.ring_base.specs.declared.state.State.{State}
 use Rattle.ring_base.specs.declared.state.State.TheVariants.{Gather, Commit, Recovery, Operational, Stopped}
 use Rattle.ring_srp.specs.State.{Core}
@@ -22,6 +27,16 @@ use Rattle.ring_srp.specs.Deciding.{Act, Ignore, Enqueue, Repeat, Announce, Invi
 -- a ring runs
 abbrev pub IsRunning : State → Type 0
 IsRunning s = (s ≡ Recovery) ⊎ (s ≡ Operational)
+
+-- a state from which a join may lead to Gather
+abbrev pub IsAway : State → Type 0
+IsAway s = (s ≡ Commit) ⊎ ((s ≡ Recovery) ⊎ (s ≡ Operational))
+
+-- a join leads there, and with the sets that Gather begins with it is heard as this
+pub record LeadsToGather {A : Type 0} (c : Core A) (j : Join) (hearing : Hearing) : Type 0 where
+  pub state : IsAway c.state
+  pub passes : disturbs c j ≡ true
+  pub heard : hears (regathered c) j ≡ hearing
 
 -- a commit token is at the member that its hop goes to, in the state of its round, and passes the round's tests
 pub record PassesFirst {A : Type 0} (c : Core A) (k : CommitToken) : Type 0 where
@@ -45,12 +60,45 @@ HasPassed c GiveUp = c.state ≡ Gather
 HasPassed c Regather = c.state ≡ Stopped → ⊥
 HasPassed c (Agree j) = (c.state ≡ Gather) × (hears c j ≡ Agrees)
 HasPassed c (Widen j) = (c.state ≡ Gather) × (hears c j ≡ Widens)
-HasPassed c (RegatherAndAgree j) = (disturbs c j ≡ true) × (hears (regathered c) j ≡ Agrees)
-HasPassed c (RegatherAndWiden j) = (disturbs c j ≡ true) × (hears (regathered c) j ≡ Widens)
+HasPassed c (RegatherAndAgree j) = LeadsToGather c j Agrees
+HasPassed c (RegatherAndWiden j) = LeadsToGather c j Widens
 HasPassed c (Take x) = is_taken c x ≡ true
 HasPassed c (Visit t) = IsRunning c.state × (accepts c t ≡ true)
 HasPassed c (Fill k) = PassesFirst c k
 HasPassed c (Learn k) = PassesSecond c k
+
+-- a join from elsewhere leads to Gather, and says nothing there
+pub record LeavesBy {A : Type 0} (c : Core A) (input : Input A) : Type 0 where
+  pub join : Join
+  pub came : input ≡ FrameInput (JoinFrame join)
+  pub leads : LeadsToGather c join Ignored
+
+-- a commit token returned to the representative and starts this token
+pub record StartsWith {A : Type 0} (c : Core A) (input : Input A) (t : Token) : Type 0 where
+  pub commit : CommitToken
+  pub came : input ≡ FrameInput (CommitFrame commit)
+  pub state : c.state ≡ Recovery
+  pub here : is_at c.me commit ≡ true
+  pub starts : is_start c.running commit ≡ true
+  pub first : t ≡ first_token commit.ring
+
+-- the input that an act is about
+abbrev pub CameWith : {A : Type 0} → Core A → Input A → Act A → Type 0
+CameWith c input Ignore = Unit {0}
+CameWith c input (Enqueue payload) = input ≡ SendInput payload
+CameWith c input Repeat = input ≡ TimeInput Retransmit
+CameWith c input Announce = input ≡ TimeInput JoinTime
+CameWith c input Invite = input ≡ TimeInput JoinTime
+CameWith c input GiveUp = input ≡ TimeInput Consensus
+CameWith c input Regather = (input ≡ TimeInput Loss) ⊎ LeavesBy c input
+CameWith c input (Agree j) = input ≡ FrameInput (JoinFrame j)
+CameWith c input (Widen j) = input ≡ FrameInput (JoinFrame j)
+CameWith c input (RegatherAndAgree j) = input ≡ FrameInput (JoinFrame j)
+CameWith c input (RegatherAndWiden j) = input ≡ FrameInput (JoinFrame j)
+CameWith c input (Take x) = input ≡ FrameInput (MessageFrame x)
+CameWith c input (Visit t) = (input ≡ FrameInput (TokenFrame t)) ⊎ StartsWith c input t
+CameWith c input (Fill k) = input ≡ FrameInput (CommitFrame k)
+CameWith c input (Learn k) = input ≡ FrameInput (CommitFrame k)
 
 -- the numbers strictly fall along a list of rings, which is newest first
 abbrev pub IsFalling : List Configuration → Type 0

@@ -1,8 +1,12 @@
 pub mod Worlds
 pub mod Pumping
 pub mod Laws
+pub mod CommitRounds
+pub mod Texts
+pub mod Lives
 pub mod Samples
 pub mod FormedRing
 pub mod FirstRings
+pub mod ChangedRing
 pub mod SingleSteps
 pub mod Recoveries

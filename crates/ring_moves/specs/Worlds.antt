@@ -1,6 +1,8 @@
 -- Worlds of ring cores, Rings and states, rule 14 of docs/PROTOCOL.md: the cores, all frames ever sent, and all that the cores gave; and how an event changes a world.
-use Rattle.std.specs.Prelude.{ℕ, zero, suc, Bool, true, false, ◌&&◌, ◌==◌, nat_le, if◌then◌else◌, List, [], ◌∷◌, ◌++◌, map, filter_map, Option, Some, None, slice_get}
+use Rattle.std.specs.Prelude.{ℕ, zero, suc, Bool, true, false, ◌&&◌, ◌==◌, nat_le, if◌then◌else◌, List, [], ◌∷◌, ◌++◌, map, filter, filter_map, Option, Some, None, slice_get}
 use Rattle.ring_base.specs.Processors.{has}
+use Rattle.ring_base.specs.declared.kind.Kind.{Kind}
+use Rattle.ring_base.specs.declared.kind.Kind.TheVariants.{Retransmit, Join as JoinTime, Consensus, Loss}
 use Rattle.ring_wire.specs.declared.frame.Frame.{Frame}
 use Rattle.ring_token.specs.Turns.{first_token}
 use Rattle.ring_srp.specs.declared.input.Input.{Input}
@@ -111,3 +113,19 @@ started n = visited (formed n 1) (first_token (all_of n).ring)
 -- all n in one ring
 abbrev pub ring_formed : {A : Type 0} → ℕ → World A
 ring_formed n = record { total = n; cores = put (formed n) 1 (started n).core; frames = carried_from 1 (started n).sends; outs = [] }
+
+-- on a ring that is formed from the start, retransmit alone of the timeouts acts
+abbrev pub is_repeat : Kind → Bool
+is_repeat Retransmit = true
+is_repeat JoinTime = false
+is_repeat Consensus = false
+is_repeat Loss = false
+
+abbrev pub acts_on_formed : {A : Type 0} → RingEvent A → Bool
+acts_on_formed (Timeout i kind) = is_repeat kind
+acts_on_formed (Send i payload) = true
+acts_on_formed (Deliver i k) = true
+acts_on_formed (Stop i) = true
+
+abbrev pub run_formed : {A : Type 0} → ℕ → List (RingEvent A) → World A
+run_formed n events = run (ring_formed n) (filter acts_on_formed events)

@@ -1,8 +1,7 @@
 //! Events of a world of ring cores.
 
-use ring_base::Proc;
+use ring_base::{Kind, Proc};
 use ring_payload::Payload;
-use ring_base::Kind;
 use std::alloc::{Allocator, Global};
 
 /// What happens next in a world of ring cores.

@@ -20,16 +20,18 @@ ghost use Rattle.ring_srp.specs.Joining.{proposes};
 ghost use Rattle.ring_srp.specs.Giving.{may_install};
 ghost use Rattle.ring_srp.specs.Deciding.{decide, Ignore, Take, Regather, Agree, Widen, RegatherAndAgree, RegatherAndWiden, Visit, Fill, Learn};
 ghost use Rattle.ring_srp.specs.Stepping.{ring_step};
-ghost use Rattle.ring_moves.specs.Worlds.{run, ring_formed, unformed};
+ghost use Rattle.ring_moves.specs.Worlds.{run, run_formed, unformed};
 ghost use Rattle.ring_moves.specs.Samples.{first_ring, second_ring, ring_of, add_five, message_of, call_at, wrapped_call, token_of, token_frame, token_at, join_of, join_frame, report_of, empty_report, commit_of, commit_frame, holding};
-ghost use Rattle.ring_moves.specs.FormedRing.{loss_events, loss_outs};
+ghost use Rattle.ring_moves.specs.FormedRing.{loss_events, loss_outs, idle_timeouts, repeat_timeout, first_token_again};
 ghost use Rattle.ring_moves.specs.FirstRings.{three_after, three_frames, states_of_three, configurations_of, first_configurations, silent_events, silent_frames, lone_events, lone_outs, lone_hop, three_reports, join_to_others, stop_events, idle_events};
 ghost use Rattle.ring_moves.specs.SingleSteps.{comes, lacking, having, token_of_ten, asking_token, asks, sends_again, holed, marked, sending, near_greatest, floored, stranger, marked_at_five, asks_three_and_seven, gathering_from, formed_three, opened_three, in_ring_of_two, invitation, gathering_alone, gave_up_two, gives_up_and_proposes, hop_at_three, committing, returned};
 ghost use Rattle.ring_moves.specs.Recoveries.{with_four, with_three, with_all, with_ends, past_gap, mixed};
 
 /// Two in a formed ring: a message that is lost once is asked for, sent again, agreed and then safe.
 pub fn formed_ring_of_two()
-    ensures { (run (ring_formed 2) loss_events).outs ≡ loss_outs }
+    ensures loss { (run_formed 2 loss_events).outs ≡ loss_outs }
+    ensures idle { (run_formed 2 idle_timeouts).outs ≡ [] }
+    ensures again { (run_formed 2 repeat_timeout).outs ≡ first_token_again }
 {}
 
 /// Three gather and hand the commit token round twice.
@@ -207,14 +209,17 @@ pub fn commit_tokens()
     ensures elsewhere { decide (opening 3 3) (FrameInput (hop_at_three 1 (empty_report 1 ∷ []))) ≡ Ignore }
     ensures other_members { decide (opening 3 2) (FrameInput (commit_frame first_ring 3 1 (empty_report 1 ∷ []))) ≡ Ignore }
     ensures not_above_floor { decide (record (opening 3 2) { running = record { ring = ring_of 1 2; members = 2 } }) (FrameInput (hop_at_three 1 (empty_report 1 ∷ []))) ≡ Ignore }
+    ensures too_late { decide (opening 3 1) (FrameInput (hop_at_three 3 three_reports)) ≡ Ignore }
     ensures again { decide ((three_after 7).cores 2) (FrameInput (hop_at_three 1 (empty_report 1 ∷ []))) ≡ Ignore }
     ensures second { decide ((three_after 8).cores 1) (FrameInput (hop_at_three 3 three_reports)) ≡ Learn (commit_of first_ring 7 3 three_reports) }
     ensures report_changed { decide ((three_after 8).cores 1) (FrameInput (hop_at_three 3 (report_of (ring_of 0 1) 1 0 0 ∷ empty_report 2 ∷ empty_report 3 ∷ []))) ≡ Ignore }
+    ensures second_members { decide ((three_after 8).cores 1) (FrameInput (commit_frame first_ring 3 2 (empty_report 1 ∷ empty_report 2 ∷ []))) ≡ Ignore }
     ensures sound { decide committing (FrameInput (CommitFrame (returned 2))) ≡ Learn (returned 2) }
     ensures behind { decide committing (FrameInput (CommitFrame (returned 3))) ≡ Ignore }
     ensures raises_mark { mark (ring_step committing (FrameInput (CommitFrame (returned 2)))).core first_ring ≡ 2 }
     ensures starts { decide ((three_after 11).cores 1) (FrameInput (hop_at_three 6 three_reports)) ≡ Visit (first_token first_ring) }
     ensures starts_once { decide ((three_after 12).cores 1) (FrameInput (hop_at_three 6 three_reports)) ≡ Ignore }
+    ensures starts_of_members { decide ((three_after 11).cores 1) (FrameInput (commit_frame first_ring 3 4 (empty_report 1 ∷ empty_report 2 ∷ []))) ≡ Ignore }
     ensures in_operational { decide formed_three (FrameInput (hop_at_three 6 three_reports)) ≡ Ignore }
 {}
 

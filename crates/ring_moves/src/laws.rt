@@ -2,7 +2,8 @@
 
 ghost use Rattle.std.specs.Prelude.{◌≡◌, ℕ, List, ◌+◌, ◌≤◌, true};
 ghost use Rattle.std.specs.declared.alloc.Global.{Global as Heap};
-ghost use Rattle.ring_base.specs.Numbers.{window_size};
+ghost use Rattle.std.specs.List.{list_all};
+ghost use Rattle.ring_base.specs.Numbers.{numbers_from, window_size};
 ghost use Rattle.ring_base.specs.declared.ring_id.RingId.{RingId};
 ghost use Rattle.ring_wire.specs.declared.commit.CommitToken.{CommitToken};
 ghost use Rattle.ring_window.specs.Held.{holds};
@@ -13,7 +14,10 @@ ghost use Rattle.ring_srp.specs.State.{Core, opening};
 ghost use Rattle.ring_srp.specs.Views.{front, mark};
 ghost use Rattle.ring_srp.specs.Deciding.{decide};
 ghost use Rattle.ring_srp.specs.Stepping.{after_inputs};
-ghost use Rattle.ring_moves.specs.Laws.{HasPassed, IsFalling, TakesCommit, AreTurnsOf};
+ghost use Rattle.ring_moves.specs.declared.event.RingEvent.{RingEvent};
+ghost use Rattle.ring_moves.specs.Worlds.{World, run, unformed};
+ghost use Rattle.ring_moves.specs.CommitRounds.{has_rising_rings, is_taken, takings};
+ghost use Rattle.ring_moves.specs.Laws.{CameWith, HasPassed, IsFalling, TakesCommit, AreTurnsOf};
 
 use ring_recover::finish_law;
 use ring_token::safe_law;
@@ -23,6 +27,11 @@ use std::alloc::{Allocator, Global};
 /// What is decided has passed its tests.
 pub fn decision_law<A: Allocator + Copy>()
     ensures { (c : Core A) (input : Input A) → HasPassed c (decide c input) }
+{}
+
+/// What is decided is about the input that came: each act names its frame, its timeout or its payload.
+pub fn cause_law<A: Allocator + Copy>()
+    ensures { (c : Core A) (input : Input A) → CameWith c input (decide c input) }
 {}
 
 /// A commit token is taken at one position alone: by the member that its hop goes to.
@@ -57,6 +66,23 @@ pub fn visit_law<A: Allocator + Copy>()
     ensures { (n me : ℕ) (inputs : List (Input A)) → AreTurnsOf (after_inputs (opening n me) inputs).me (after_inputs (opening n me) inputs).held (after_inputs (opening n me) inputs).turns }
 {}
 
+/// The same of each processor of every world: marks never pass fronts, nothing is held past the window, each
+/// visit went by the rules, and each join kept as heard says exactly the sets.
+pub fn world_law<A: Allocator + Copy>()
+    ensures marks { (n i : ℕ) (events : List (RingEvent A)) (ring : RingId) → mark ((run (unformed n) events).cores i) ring ≤ front ((run (unformed n) events).cores i) ring }
+    ensures window { (n i : ℕ) (events : List (RingEvent A)) (ring : RingId) (k : ℕ) → holds ((run (unformed n) events).cores i).held ring k ≡ true → k ≤ mark ((run (unformed n) events).cores i) ring + window_size }
+    ensures visits { (n i : ℕ) (events : List (RingEvent A)) → AreTurnsOf ((run (unformed n) events).cores i).me ((run (unformed n) events).cores i).held ((run (unformed n) events).cores i).turns }
+    ensures joins { (n i : ℕ) (events : List (RingEvent A)) → AllSaySame ((run (unformed n) events).cores i).gathering }
+{}
+
+/// Of the commit token's rounds in every run: the rings that each processor takes part in rise; and each commit
+/// token that is taken, also a forged one, is taken by the member at its position, in the second round with a
+/// report that it would write again. Two of the five facts of `CommitRounds`.
+pub fn rounds_law<A: Allocator + Copy>()
+    ensures rings { (n : ℕ) (events : List (RingEvent A)) → list_all (λ i. has_rising_rings ((run (unformed n) events).cores i)) (numbers_from 1 n) ≡ true }
+    ensures taken { (w : World A) (events : List (RingEvent A)) → list_all is_taken (takings w events) ≡ true }
+{}
+
 /// The laws at the allocator that programs use; of one of them it says what it gives.
 pub fn laws_at_global()
     ensures { (n me : ℕ) (inputs : List (Input Heap)) (ring : RingId) → mark (after_inputs (opening n me) inputs) ring ≤ front (after_inputs (opening n me) inputs) ring }
@@ -66,10 +92,13 @@ pub fn laws_at_global()
     safe_law::<Global>();
     finish_law::<Global>();
     decision_law::<Global>();
+    cause_law::<Global>();
     hop_law::<Global>();
     rings_law::<Global>();
     window_law::<Global>();
     agreement_law::<Global>();
     visit_law::<Global>();
+    world_law::<Global>();
+    rounds_law::<Global>();
     mark_law::<Global>();
 }

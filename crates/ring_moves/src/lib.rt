@@ -3,6 +3,7 @@
 //! every core and of every world.
 #![tactic(auto)]
 
+pub mod changes;
 pub mod event;
 pub mod examples;
 pub mod laws;

@@ -8,3 +8,4 @@ pub mod Shapes
 pub mod Places
 pub mod Telling
 pub mod Nodes
+pub mod Logged

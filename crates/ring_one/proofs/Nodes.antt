@@ -11,7 +11,7 @@ use Rattle.ring_base.specs.declared.fault.Fault.TheVariants.{PendingFull, Stoppe
 use Rattle.ring_payload.specs.declared.call.Call.{Call}
 use Rattle.ring_payload.specs.declared.content.Payload.{Payload}
 use Rattle.ring_payload.specs.declared.content.Payload.TheVariants.{Call as OneCall, End, Head}
-use Rattle.ring_session.specs.Table.{Table, table_next, table_after, opening}
+use Rattle.ring_session.specs.Table.{Table, table_next, table_after}
 use Rattle.ring_one.specs.declared.outs.Answered.{Answered}
 use Rattle.ring_one.specs.declared.recent.Kept.{Kept}
 use Rattle.ring_one.specs.declared.ring.Ring.{Ring}
@@ -26,7 +26,7 @@ use Rattle.ring_base.specs.declared.kind.Kind.TheVariants.{Retransmit, Join, Con
 use Rattle.ring_one.specs.Texts.{is_adopted, log_of}
 use Rattle.ring_one.specs.Tickets.{Asked, unanswered, answers_after, all_answers, kept_answers, answer_to}
 use Rattle.ring_one.specs.Machine.{One, Move, commit_token, is_commit_token, is_own_report, on_frame, stays, visits, accepts, on_join_timeout, on_timeout, on_commit_token, is_ring_of_one, text_after, empty_head, is_operational, is_running, is_stopped, committed_of, new_answers, one_reply, visited, submit_fault, submitted}
-use Rattle.ring_one.specs.Numbers.{IsRing, ring_accepts, ring_opening, committed_length, logged_length, waits, sent, ring_visited, messages_of, asked_of, one_of}
+use Rattle.ring_one.specs.Numbers.{IsRing, ring_accepts, committed_length, logged_length, waits, sent, ring_visited, messages_of, asked_of, one_of}
 use Rattle.ring_one.specs.Recent.{last_kept, kept_of, kept_answer}
 use Rattle.ring_one.specs.Waiting.{waiting_from, waiting_after, given_after}
 use Rattle.ring_one.specs.Kept.{committed_calls, IsNode}
@@ -44,18 +44,6 @@ state-running Commit e = refl
 state-running Recovery e = refl
 state-running Operational e = refl
 state-running Stopped e = absurd (cc e)
-
-ring-opening : (n : ℕ) → n ≤ max_number → IsRing ring_opening n
-ring-opening n few = record {
-  marked = omega arith;
-  called = omega arith;
-  numbered = omega arith;
-  tokens = omega arith;
-  tickets = few;
-  opened = λ e. omega arith;
-  before = λ e f. refl;
-  installed = λ e. absurd (cc e);
-}
 
 -- the ring in another state that is not installed
 pub ring-state : (r : Ring) (n : ℕ) (state : State) → is_operational r.state ≡ false → is_stopped r.state ≡ false → is_operational state ≡ false → IsRing r n → IsRing (record r { state = state }) n
@@ -189,16 +177,6 @@ pub nothing-new : {O A : Type 0} (reply : O → List ℕ → List ℕ) (next : O
 nothing-new reply next initial s new same =
     ap (λ w. answers_after reply next initial new.tickets (committed_of s) (drop (length (committed_of s)) w)) same
     ∙ ap (λ w. answers_after reply next initial new.tickets (committed_of s) w) (ap (drop (length (committed_of s))) (sym (append-nil (committed_of s))) ∙ drop-append_seam (committed_of s) [])
-
-pub node-opening : {O A : Type 0} (reply : O → List ℕ → List ℕ) (next : O → List ℕ → O) (initial : O) → IsNode {A = A} reply next initial ring_opening [] [] [] [] (opening initial)
-node-opening reply next initial = record {
-  ring = ring-opening 0 (omega arith);
-  counted = refl;
-  early = tt;
-  waiting = refl;
-  recent = refl;
-  table = λ e. refl;
-}
 
 module _ {O A : Type 0} {reply : O → List ℕ → List ℕ} {next : O → List ℕ → O} {initial : O} {r : Ring} {calls : List (Call A)} {sinces waiting : List ℕ} {recent : List Kept} {table : Table O} (node : IsNode reply next initial r calls sinces waiting recent table) where
   -- another state before the installation
@@ -350,12 +328,12 @@ token-stays s token other = cond-false (accepts s token) (visits s token.number)
 
 -- ---- the state after a submit
 
-none_of : (a b : Bool) (x y : Fault) → (if a then Some x else if b then Some y else None) ≡ None → (a ≡ false) × (b ≡ false)
+pub none_of : (a b : Bool) (x y : Fault) → (if a then Some x else if b then Some y else None) ≡ None → (a ≡ false) × (b ≡ false)
 none_of true b x y e = absurd (cc e)
 none_of false true x y e = absurd (cc e)
 none_of false false x y e = (refl, refl)
 
-or_false : (a b : Bool) → a || b ≡ false → (a ≡ false) × (b ≡ false)
+pub or_false : (a b : Bool) → a || b ≡ false → (a ≡ false) × (b ≡ false)
 or_false true b e = absurd (cc e)
 or_false false b e = (refl, e)
 

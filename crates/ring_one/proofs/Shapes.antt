@@ -1,6 +1,6 @@
 -- The numbers of a node's ring stand for the machine's state: its text, its log, and what a visit and a submit make of
 -- them.
-use Rattle.std.proofs.Common.{◌≡◌, ℕ, zero, suc, ◌+◌, ◌-◌, ◌<◌, ◌≤◌, min, nat_lt, ◌==◌, Bool, true, false, not, List, [], ◌∷◌, ◌++◌, length, take, drop, map, refl, ap, sym, ◌∙◌, arith, if◌then◌else◌, inl, inr}
+use Rattle.std.proofs.Common.{◌≡◌, ℕ, zero, suc, ◌+◌, ◌-◌, ◌≤◌, min, nat_lt, ◌==◌, Bool, true, false, not, List, [], ◌∷◌, ◌++◌, length, take, drop, map, refl, ap, sym, ◌∙◌, arith, if◌then◌else◌, inl, inr}
 use Rattle.std.proofs.lemmas.Bool.{cond-false, cases_lt, and_right, le-ltb, ne_eqb}
 use Rattle.std.proofs.lemmas.List.{append-nil, take-take, take_all, length-take}
 use Rattle.ring_base.specs.declared.ring_id.RingId.{RingId}
@@ -99,11 +99,6 @@ pub adopted-late : {A : Type 0} (m : ℕ) (calls : List (Call A)) → 2 ≤ m �
 adopted-late zero calls le = absurd (omega arith)
 adopted-late (suc zero) calls le = absurd (omega arith)
 adopted-late (suc (suc k)) calls le = refl
-
-pub adopted-early : {A : Type 0} (m : ℕ) (calls : List (Call A)) → m < 2 → is_adopted (take m (messages_of calls)) ≡ false
-adopted-early zero calls lt = refl
-adopted-early (suc zero) calls lt = refl
-adopted-early (suc (suc k)) calls lt = absurd (omega arith)
 
 -- the committed places
 pub committed_of-one_of : {A : Type 0} (r : Ring) (calls : List (Call A)) (sinces : List ℕ) → r.mark ≤ r.messages → committed_of (one_of r calls sinces) ≡ committed_calls r calls

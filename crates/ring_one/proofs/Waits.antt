@@ -1,5 +1,5 @@
 -- One ticket more, and one committed call more, of those that are gone through.
-use Rattle.std.proofs.Common.{◌≡◌, ℕ, zero, suc, ◌+◌, ◌<◌, ◌≤◌, Bool, true, false, not, List, [], ◌∷◌, ◌++◌, length, take, drop, get_or, slice_get, Some, is_none, refl, ap, sym, ◌∙◌, append_assoc, All, if◌then◌else◌, arith}
+use Rattle.std.proofs.Common.{◌≡◌, ℕ, zero, suc, ◌+◌, ◌<◌, ◌≤◌, Bool, true, false, not, List, [], ◌∷◌, ◌++◌, length, take, drop, get_or, slice_get, Some, is_none, ap, sym, ◌∙◌, append_assoc, All, if◌then◌else◌, arith}
 use Rattle.std.proofs.lemmas.List.Elements.{All-nil, All-cons, All-head, All-tail}
 use Rattle.ring_payload.specs.declared.call.Call.{Call}
 use Rattle.ring_session.specs.declared.answer.Answer.{Answer}
@@ -63,13 +63,6 @@ still-next {A} calls c d answer ws i n whole kept all before lt at within is sam
       e ∙ ap (λ w. kept ++ still_waiting calls c w) next ∙ ap (λ w. kept ++ w) stays ∙ sym (append_assoc kept (n ∷ []) (still_waiting calls c (drop (i + 1) ws))),
       f ∙ ap (λ w. before ++ given calls c answer w) next ∙ ap (λ w. before ++ (w ++ given calls c answer (drop (i + 1) ws))) given_none,
     )
-
--- at the end nothing is to come
-pub all-gone : {X : Type 0} (xs : List X) (i : ℕ) → length xs ≤ i → drop i xs ≡ []
-all-gone [] zero le = refl
-all-gone [] (suc i) le = refl
-all-gone (x ∷ xs) zero le = absurd (omega arith)
-all-gone (x ∷ xs) (suc i) le = all-gone xs i (omega arith)
 
 filter-step : (P : ℕ → Type 0) (b : Bool) (n : ℕ) (ns : List ℕ) → P n → All P ns → All P (if b then n ∷ ns else ns)
 filter-step P true n ns h k = All-cons P n ns h k

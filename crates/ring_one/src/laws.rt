@@ -11,13 +11,15 @@ ghost use Rattle.ring_one.specs.Examples.{first_operation, first_call, call_sent
 ghost use Rattle.ring_one.specs.Machine.{committed_of, ring_before, ring_of_one};
 ghost use Rattle.ring_one.specs.Texts.{is_adopted, base_of, log_of};
 ghost use Rattle.ring_one.specs.Runs.{run, happens, order_in};
+ghost use Rattle.ring_one.specs.Tickets.{asked_calls};
 
 use ring_object::Object;
 
 /// Law, for every object and every list of events. There is one order of the calls that take effect: it explains the
 /// history, it grows with the list, and the node's committed log, repeats removed, is a front of it. As the ring is
 /// adopted, its base begins with what the node has committed. No other ring is ever installed, so what is committed
-/// in it begins the base of every later ring: there is none.
+/// in it begins the base of every later ring: there is none. What is committed are the first of the calls that were
+/// submitted, in the order of their tickets.
 pub fn linear_law<O: Object>()
     ensures explains { (events : List (Event O.Alloc)) →
         let w = run O.reply O.next O.initial events in
@@ -36,6 +38,9 @@ pub fn linear_law<O: Object>()
     ensures one_ring { (events : List (Event O.Alloc)) →
         let w = run O.reply O.next O.initial events in
         (w.node.ring ≡ ring_before) ⊎ (w.node.ring ≡ ring_of_one) }
+    ensures submitted { (events : List (Event O.Alloc)) →
+        let w = run O.reply O.next O.initial events in
+        IsFront (committed_of w.node) (asked_calls w.node.tickets) }
 {}
 
 /// The way to the first reply, for every object: the ring is formed, the call is sent at one visit of the token, and

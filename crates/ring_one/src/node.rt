@@ -14,15 +14,13 @@ use crate::frames::{
     commit_token, is_commit_token, is_own_report, ring_before, ring_of_one, token_of,
 };
 use crate::input::Input;
-use ring_base::Kind;
 use crate::outs::Outs;
 use crate::recent::Recent;
 use crate::ring::Ring;
-use ring_base::State;
 use crate::ticket::Ticket;
 use crate::waiting::{Waiting, answer_calls, copied, copy_of};
 use arrayvec::ArrayVec;
-use ring_base::{Fault, Fixed, MAX, Past, Proc, RingId, past_of};
+use ring_base::{Fault, Fixed, Kind, MAX, Past, Proc, RingId, State, past_of};
 use ring_object::Object;
 use ring_payload::Call;
 use ring_session::{Answer, Sessions};

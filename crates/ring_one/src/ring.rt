@@ -7,8 +7,7 @@ ghost use Rattle.ring_one.specs.Machine.{is_operational, is_running, is_stopped}
 ghost use Rattle.ring_one.specs.Numbers.{IsRing, ring_opening, committed_length, logged_length, waits, ring_room, sent, ring_visited, ring_accepts};
 
 use crate::frames::is_ring_of_one;
-use ring_base::State;
-use ring_base::{MAX, MAX_NEW, WINDOW};
+use ring_base::{MAX, MAX_NEW, State, WINDOW};
 use ring_wire::Token;
 
 /// The ring of a node, by its numbers.

@@ -24,9 +24,9 @@ use Rattle.ring_session.specs.declared.answer.Answer.{Answer}
 use Rattle.ring_session.specs.declared.answer.Answer.TheVariants.{Done, Kept}
 use Rattle.ring_session.specs.Deduplicated.{is_of, count_of, client_count, may_call, takes_effect, deduplicated, StandsAt, operations}
 use Rattle.ring_session.specs.DeduplicatedLaws.{get-push_last, count_of-push_own, count_of-push_other, deduplicated-push, deduplicated-front, deduplicated-numbered, numbered_once, takes_effect-number}
-use Rattle.ring_session.specs.SessionAnswer.{refusal, is_same, repeated, answer_after, call_reply, session_answer}
+use Rattle.ring_session.specs.SessionAnswer.{refusal, is_same, repeated, answer_after, call_reply, session_answer, is_done}
 use Rattle.ring_session.specs.SessionAnswerLaws.{call_reply-front, position-is_same, session_answer-at, same_cases}
-use Rattle.ring_session.specs.Table.{LastCall, Table, table_of, opening, session_of, last_number, last_call, has_room, is_taken, kept_answer, table_answer, table_next, table_after}
+use Rattle.ring_session.specs.Table.{LastCall, Table, table_of, opening, session_of, last_number, last_call, has_room, is_taken, kept_answer, other_answer, table_answer, table_next, table_after}
 use Rattle.ring_session.proofs.Entries.{set_value-known, length-new, lookup-insert_same, lookup-insert_other, sorted_none, sorted_insert}
 
 -- ---- what a table holds
@@ -294,3 +294,37 @@ module _ {O A : Type 0} (reply : O → List ℕ → List ℕ) (next : O → List
   pub answer_told : (calls : List (Call A)) (table : Table O) (c : Call A) (a : Answer) → table ≡ table_after reply next initial calls → a ≡ table_answer reply table c
       → session_answer reply next initial (calls ++ c ∷ []) (length calls) ≡ Some a
   answer_told calls table c a after answer = table_answers calls c ∙ ap (λ t. Some (table_answer reply t c)) (sym after) ∙ ap Some (sym answer)
+
+-- ---- what tells that a call takes effect
+
+kept_not-done : (b : Bool) (reply : List ℕ) → is_done (if b then Kept reply else refusal Conflict) ≡ false
+kept_not-done true reply = refl
+kept_not-done false reply = refl
+
+last_not-done : (last : Option LastCall) (operation : List ℕ) → is_done (kept_answer last operation) ≡ false
+last_not-done None operation = refl
+last_not-done (Some last) operation = kept_not-done (bytes_eq last.operation operation) last.reply
+
+other_not-done : (again old : Bool) (kept : Answer) → is_done kept ≡ false → is_done (if again then kept else if old then refusal Stale else refusal NumberGap) ≡ false
+other_not-done true old kept e = e
+other_not-done false true kept e = refl
+other_not-done false false kept e = refl
+
+done_where : (following room : Bool) (reply : List ℕ) (other : Answer) → is_done other ≡ false → is_done (if following then (if room then Done reply else refusal SessionsFull) else other) ≡ following && room
+done_where true true reply other e = refl
+done_where true false reply other e = refl
+done_where false room reply other e = e
+
+module _ {O A : Type 0} (reply : O → List ℕ → List ℕ) (next : O → List ℕ → O) (initial : O) where
+  -- a table tells a call that it is done exactly where the call is taken
+  done-taken : (table : Table O) (c : Call A) → is_done (table_answer reply table c) ≡ is_taken table c
+  done-taken table c =
+      let last = session_of table c.client in
+      let apart : is_done (other_answer last c) ≡ false = other_not-done (c.number == last_number last) (nat_lt c.number (last_number last)) (kept_answer last c.op) (last_not-done last c.op) in
+      done_where (c.number == last_number last + 1) (has_room table c.client) (reply table.content c.op) (other_answer last c) apart
+
+  -- so after a list of calls it tells that exactly where the call takes effect
+  pub table_effect : (calls : List (Call A)) (c : Call A) → is_done (table_answer reply (table_after reply next initial calls) c) ≡ takes_effect (deduplicated calls) c
+  table_effect calls c =
+      let table = table_after reply next initial calls in
+      done-taken table c ∙ taken-is reply next initial calls table c (table_holds reply next initial calls)

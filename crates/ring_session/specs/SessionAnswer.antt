@@ -1,6 +1,6 @@
 -- The session table's answer to each call of a list, as a function of the list alone: what was answered before, where
 -- and by whom plays no part.
-use Rattle.std.specs.Prelude.{◌≡◌, ℕ, ◌+◌, ◌==◌, ◌&&◌, nat_lt, Bool, List, length, take, slice_get, Option, Some, None, position, if◌then◌else◌}
+use Rattle.std.specs.Prelude.{◌≡◌, ℕ, ◌+◌, ◌==◌, ◌&&◌, nat_lt, Bool, true, false, List, length, take, slice_get, Option, Some, None, position, if◌then◌else◌}
 use Rattle.std.specs.Option.{option_map}
 use Rattle.std.specs.Str.{bytes_eq}
 use Rattle.ring_base.specs.Fault.{number_of}
@@ -39,6 +39,12 @@ abbrev pub reply_in : Answer → Option (List ℕ)
 reply_in (Done reply) = Some reply
 reply_in (Kept reply) = Some reply
 reply_in (Refused number) = None
+
+-- whether the answer tells that the call takes effect now
+abbrev pub is_done : Answer → Bool
+is_done (Done reply) = true
+is_done (Kept reply) = false
+is_done (Refused number) = false
 
 module _ {O : Type 0} (reply : O → List ℕ → List ℕ) (next : O → List ℕ → O) (initial : O) where
   -- the sequential object's reply to the call at a place of the list

@@ -4,9 +4,9 @@ ghost use Rattle.std.specs.Prelude.{◌≡◌, ℕ, ◌∷◌, [], ◌++◌, Lis
 ghost use Rattle.ring_base.specs.Fronts.{IsFront};
 ghost use Rattle.ring_object.specs.Operations.{content_after};
 ghost use Rattle.ring_payload.specs.declared.call.Call.{Call};
-ghost use Rattle.ring_session.specs.Deduplicated.{deduplicated, StandsAt, IsNumbered, operations};
+ghost use Rattle.ring_session.specs.Deduplicated.{takes_effect, deduplicated, StandsAt, IsNumbered, operations};
 ghost use Rattle.ring_session.specs.OneEffect.{EachIsDone, IsDoneOnce, RepliesAreTheObjects, RepliesAreOne, AnswersStay};
-ghost use Rattle.ring_session.specs.SessionAnswer.{session_answer};
+ghost use Rattle.ring_session.specs.SessionAnswer.{is_done, session_answer};
 ghost use Rattle.ring_session.specs.Table.{table_answer, table_after};
 
 use ring_object::Object;
@@ -31,8 +31,10 @@ pub fn session_law<O: Object>()
 {}
 
 /// Law, for every object and every list of calls: the table after the list answers the next call as the list alone
-/// determines, and its object has the content that the calls which took effect leave.
+/// determines, and its object has the content that the calls which took effect leave. It tells a call that it is done
+/// exactly where the call takes effect.
 pub fn table_law<O: Object>()
     ensures told { (calls : List (Call O.Alloc)) (c : Call O.Alloc) → session_answer O.reply O.next O.initial (calls ++ c ∷ []) (length calls) ≡ Some (table_answer O.reply (table_after O.reply O.next O.initial calls) c) }
+    ensures effect { (calls : List (Call O.Alloc)) (c : Call O.Alloc) → is_done (table_answer O.reply (table_after O.reply O.next O.initial calls) c) ≡ takes_effect (deduplicated calls) c }
     ensures content { (calls : List (Call O.Alloc)) → (table_after O.reply O.next O.initial calls).content ≡ content_after O.next O.initial (operations (deduplicated calls)) }
 {}

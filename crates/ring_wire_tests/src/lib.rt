@@ -1,14 +1,20 @@
-//! Frames against the vectors of `docs/FORMATS.md`: what no contract says.
+//! Frames against `docs/FORMATS.md`: worked bytes, each limit just kept and just passed, and memory that is
+//! refused. What no contract says.
 #![tactic(auto)]
 
-pub mod vectors;
-
-use vectors::{COMMIT, JOIN, MESSAGE, TOKEN};
-
-/// The four vectors, one of each kind of frame: the join, the token, the message, the commit token.
-pub fn one_of_each_kind() -> [&'static [u8]; 4] {
-    [&JOIN, &TOKEN, &MESSAGE, &COMMIT]
-}
-
 #[cfg(test)]
-mod tests;
+mod counts;
+#[cfg(test)]
+mod limits;
+#[cfg(test)]
+mod memory;
+#[cfg(test)]
+mod reports;
+#[cfg(test)]
+mod spelled;
+#[cfg(test)]
+mod values;
+#[cfg(test)]
+mod vectors;
+#[cfg(test)]
+mod worked;

@@ -10,6 +10,8 @@ use std::io;
 pub enum Task<'a> {
     /// To list the frames of a file.
     Frames { file: &'a str },
+    /// To run the script in a file.
+    Script { file: &'a str },
 }
 
 /// What the words ask for, the program's own name being the first. Otherwise what the parser says of them;
@@ -19,10 +21,14 @@ pub fn task_of<'a>(alloc: Global, words: &'a io::Result<Vec<String>>) -> Result<
     match words {
         Ok(words) => {
             let matches = command.try_get_matches_from_mut(words.as_slice())?;
-            if let Some(("frames", of)) = matches.subcommand()
+            if let Some((name, of)) = matches.subcommand()
                 && let Some(file) = of.get_str("FILE")
             {
-                return Ok(Task::Frames { file });
+                match name {
+                    "frames" => return Ok(Task::Frames { file }),
+                    "script" => return Ok(Task::Script { file }),
+                    _ => {}
+                }
             }
             Err(command.error(ErrorKind::MissingSubcommand, "no command was given")?)
         }
@@ -32,18 +38,27 @@ pub fn task_of<'a>(alloc: Global, words: &'a io::Result<Vec<String>>) -> Result<
 }
 
 fn command_of<'a>(alloc: Global) -> Result<Command<'a>, AllocError> {
-    let file = Arg::new(alloc, "FILE")
-        .help("The file of frames, one behind another")
-        .required(true)
-        .action(ArgAction::Set);
+    let script = Command::new(alloc, "script")
+        .about("Runs a script, and prints what comes of its events")
+        .after_help("Example:\n  totem script first_reply.script")
+        .arg(file_of(alloc, "The script"))?;
     let frames = Command::new(alloc, "frames")
         .about("Lists the frames of a file, a line each")
         .after_help("Example:\n  totem frames sent.frames")
-        .arg(file)?;
+        .arg(file_of(alloc, "The file of frames, one behind another"))?;
     Command::new(alloc, "totem")
         .bin_name("totem")?
         .about("Replicated objects on a token ring")
-        .after_help("Example:\n  totem frames sent.frames")
+        .after_help("Example:\n  totem script first_reply.script")
         .subcommand_required(true)
+        .subcommand(script)?
         .subcommand(frames)
+}
+
+/// The word that names a file.
+fn file_of<'a>(alloc: Global, help: &'a str) -> Arg<'a> {
+    Arg::new(alloc, "FILE")
+        .help(help)
+        .required(true)
+        .action(ArgAction::Set)
 }

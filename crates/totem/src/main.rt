@@ -7,7 +7,7 @@ mod command_line;
 use clap::error::ErrorKind;
 use command_line::{Task, task_of};
 use ring_base::Fault;
-use ring_console::{Failure, frames, report};
+use ring_console::{Failure, frames, report, script};
 use std::process::ExitCode;
 use std::{env, fs, io};
 
@@ -22,6 +22,10 @@ fn main(rt: HostRuntime) -> ExitCode {
         Ok(Task::Frames { file }) => match fs::open(&rt, file) {
             Ok(mut input) => frames(rt.alloc(), &mut input, &mut out, &mut err),
             Err(_) => report(&mut err, Failure::BadFrame(0)),
+        },
+        Ok(Task::Script { file }) => match fs::open(&rt, file) {
+            Ok(mut input) => script(rt.alloc(), &mut input, &mut out, &mut err),
+            Err(_) => report(&mut err, Failure::BadScript(0)),
         },
         Err(error) if error.kind() == ErrorKind::OutOfMemory => {
             report(&mut err, Failure::Refused(Fault::Memory))

@@ -54,3 +54,15 @@ returns-clause-starts_once c = refl
 pub returns-clause-in_operational : goal.returns-clause-in_operational
 unfolding ring_step elements
 returns-clause-in_operational c = refl
+
+pub returns-clause-too_late : goal.returns-clause-too_late
+unfolding ring_step elements
+returns-clause-too_late c = refl
+
+pub returns-clause-second_members : goal.returns-clause-second_members
+unfolding ring_step elements
+returns-clause-second_members c = refl
+
+pub returns-clause-starts_of_members : goal.returns-clause-starts_of_members
+unfolding ring_step elements
+returns-clause-starts_of_members c = refl

@@ -1,6 +1,7 @@
 -- The law is that of the lemmas on runs.
 use Rattle.ring_one.specs.Runs.{run, happens}
 use Rattle.ring_one.proofs.Linear.{explains, grows, one_ring, base}
+use Rattle.ring_one.proofs.Logged.{first_committed}
 use Rattle.ring_one.proofs.laws.linear_law.Goals as goal
 
 pub returns-clause-explains : goal.returns-clause-explains
@@ -16,3 +17,6 @@ returns-clause-base g c = λ events event unadopted adopted.
 
 pub returns-clause-one_ring : goal.returns-clause-one_ring
 returns-clause-one_ring g c = one_ring g.O.Object.reply g.O.Object.next g.O.Object.initial
+
+pub returns-clause-submitted : goal.returns-clause-submitted
+returns-clause-submitted g c = first_committed g.O.Object.reply g.O.Object.next g.O.Object.initial

@@ -1,0 +1,83 @@
+-- Openings that grow.
+use Rattle.std.proofs.Common.{◌≡◌, ℕ, zero, suc, ◌+◌, ◌-◌, ◌++◌, ◌≤◌, List, [], ◌∷◌, refl, ap, subst, sym, ◌∙◌, length, arith, drop, Some, slice_get, false}
+use Rattle.rtrb.specs.Ring.{received, consumer_capacity, IsPair}
+use Rattle.ring_book.specs.declared.TheConstants.{FRAME_BYTES}
+use Rattle.ring_book.specs.Books.{End, IsBook}
+use Rattle.ring_book.specs.Cells.{IsCell}
+use Rattle.ring_book.specs.Ends.{Name, Ring, ring_of_producer, ring_of_consumer}
+use Rattle.ring_book.specs.Machines.{Machine}
+use Rattle.ring_book.specs.Openings.{Writer, IsStart, IsStartEnd, AllStart, AllStartEnds, rings_of}
+
+pub AllStart-snoc : {S A : Type 0} (m : Machine S A) (i j : ℕ) (ns : List S) (ps : List (Writer A)) (n : S) (p : Writer A) → i + length ns ≡ j → AllStart m i ns ps → IsStart m j n p → AllStart m i (ns ++ n ∷ []) (ps ++ p ∷ [])
+AllStart-snoc m i j [] [] n p e h s = let same : j ≡ i = omega arith in (subst (λ (k : ℕ). IsStart m k n p) same s, tt)
+AllStart-snoc m i j [] (q ∷ ps) n p e h s = absurd h
+AllStart-snoc m i j (k ∷ ns) [] n p e h s = absurd h
+AllStart-snoc m i j (k ∷ ns) (q ∷ ps) n p e h s = (h.0, AllStart-snoc m (suc i) j ns ps n p (omega arith) h.1 s)
+
+pub AllStartEnds-snoc : {A : Type 0} (ps : List (Writer A)) (cs : List (End A)) (p : Writer A) (c : End A) → AllStartEnds ps cs → IsStartEnd p c → AllStartEnds (ps ++ p ∷ []) (cs ++ c ∷ [])
+AllStartEnds-snoc [] [] p c h s = (s, tt)
+AllStartEnds-snoc [] (d ∷ cs) p c h s = absurd h
+AllStartEnds-snoc (q ∷ ps) [] p c h s = absurd h
+AllStartEnds-snoc (q ∷ ps) (d ∷ cs) p c h s = (h.0, AllStartEnds-snoc ps cs p c h.1 s)
+
+pub pair_ring : {A : Type 0} (p : Writer A) (c : End A) → IsPair p c → ring_of_consumer c ≡ ring_of_producer p
+pair_ring p c h = cc
+
+-- the next of a list
+pub drop_next : {X : Type 0} (i : ℕ) (xs : List X) (y : X) (ys : List X) → drop i xs ≡ y ∷ ys → (slice_get xs i ≡ Some y) × (drop (suc i) xs ≡ ys)
+drop_next zero [] y ys h = cc
+drop_next zero (x ∷ xs) y ys h = (cc, cc)
+drop_next (suc i) [] y ys h = cc
+drop_next (suc i) (x ∷ xs) y ys h = drop_next i xs y ys h
+
+pub start_cell : {S A : Type 0} (m : Machine S A) (name : Name A) (i me : ℕ) (n : S) (p : Writer A) (rings : List (Ring A))
+    → me - 1 ≡ i → 1 ≤ me → me ≤ name.count → drop i name.rings ≡ ring_of_producer p ∷ rings → IsStart m me n p → IsCell m name me false n p
+start_cell m name i me n p rings is low high d s = record {
+  counted = low;
+  in_book = high;
+  ring = rw is (drop_next i name.rings (ring_of_producer p) rings d).0;
+  leads = rw s.sent_is s.node_is;
+  mine = rw s.sent_is tt;
+  free = λ _. s.free;
+  room = s.one;
+}
+
+-- the ends and the writers by place
+ends_at : {A : Type 0} (ps : List (Writer A)) (cs : List (End A)) (i : ℕ) (c : End A) → AllStartEnds ps cs → slice_get cs i ≡ Some c → (slice_get (rings_of ps) i ≡ Some (ring_of_consumer c)) × (received c ≡ []) × (consumer_capacity c ≡ 1)
+ends_at [] [] i c h e = cc
+ends_at [] (d ∷ cs) i c h e = absurd h
+ends_at (p ∷ ps) [] i c h e = absurd h
+ends_at {A} (p ∷ ps) (d ∷ cs) zero c h e =
+    let same : d ≡ c = cc in
+    subst (λ (x : End A). (Some (ring_of_producer p) ≡ Some (ring_of_consumer x)) × (received x ≡ []) × (consumer_capacity x ≡ 1)) same
+    (ap (λ r. Some r) (sym h.0.ring_is), h.0.received_is, h.0.one)
+ends_at (p ∷ ps) (d ∷ cs) (suc i) c h e = ends_at ps cs i c h.1 e
+
+ends_length : {A : Type 0} (ps : List (Writer A)) (cs : List (End A)) → AllStartEnds ps cs → length cs ≡ length ps
+ends_length [] [] h = refl
+ends_length [] (d ∷ cs) h = absurd h
+ends_length (p ∷ ps) [] h = absurd h
+ends_length (p ∷ ps) (d ∷ cs) h = ap suc (ends_length ps cs h.1)
+
+pub starts_length : {S A : Type 0} (m : Machine S A) (i : ℕ) (ns : List S) (ps : List (Writer A)) → AllStart m i ns ps → length ns ≡ length ps
+starts_length m i [] [] h = refl
+starts_length m i [] (p ∷ ps) h = absurd h
+starts_length m i (n ∷ ns) [] h = absurd h
+starts_length m i (n ∷ ns) (p ∷ ps) h = ap suc (starts_length m (suc i) ns ps h.1)
+
+pub start_book : {S A : Type 0} (m : Machine S A) (name : Name A) (ns : List S) (ps : List (Writer A)) (cs : List (End A)) (room : ℕ)
+    → AllStart m 1 ns ps → AllStartEnds ps cs → length ns ≡ 1 → name.count ≡ length ns → name.rings ≡ rings_of ps → FRAME_BYTES ≤ room → IsBook m name [] 0 cs [] [] 0 0 0 room
+start_book m name ns ps cs room a b one n r text = record {
+  alone = n ∙ one;
+  count = ends_length ps cs b ∙ (sym (starts_length m 1 ns ps a) ∙ sym n);
+  each = λ i c h. (let e = ends_at ps cs i c b h in record { ring = rw r e.0; came = e.1; one = e.2 });
+  run = record { nodes = λ i h k. (m.opening i, refl); inside = tt; found = tt };
+  kept = tt;
+  room = omega arith;
+  limit = omega arith;
+  answers = refl;
+  answers_room = omega arith;
+  numbers = refl;
+  numbers_room = omega arith;
+  text = text;
+}

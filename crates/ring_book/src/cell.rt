@@ -1,0 +1,116 @@
+//! What a node's lock holds.
+
+ghost use Rattle.std.specs.Prelude.{◌≡◌, OnErr, MatchResult};
+ghost use Rattle.ring_book.specs.declared.input.LineInput.TheVariants.{Called, Came};
+
+use crate::frame_ref::FrameRef;
+use crate::input::LineInput;
+use crate::name::BookName;
+use crate::step::Step;
+use ring_base::{Fault, Proc};
+use ring_object::Object;
+use ring_one::{Input, Node, Ticket};
+use ring_payload::Call;
+use rtrb::Producer;
+use std::marker::{Model, PhantomData};
+
+/// A node, and the sending end of its journal, which has room for one step.
+#[derive(Drop)]
+pub struct Cell<O: Object, K: BookName<O::Alloc>> {
+    pub(crate) me: Proc,
+    // Whether the journal's last step is not entered yet.
+    pub(crate) ahead: bool,
+    pub(crate) node: Node<O>,
+    pub(crate) journal: Producer<Step<O::Alloc>, O::Alloc>,
+    pub(crate) alloc: O::Alloc,
+    pub(crate) of: PhantomData<K>,
+}
+
+impl<O: Object, K: BookName<O::Alloc>> Model for Cell<O, K> {
+    ghost use Rattle.rtrb.specs.Ring.{sent};
+    ghost use Rattle.ring_one.specs.Machine.{One};
+    ghost use Rattle.ring_book.specs.Cells.{IsCell};
+    ghost use Rattle.ring_book.specs.Machines.{one_machine};
+    ghost use Rattle.ring_book.specs.Seen.{CellView};
+
+    ghost Value = { CellView (One O.Alloc) O.Alloc };
+
+    ghost view = { λ c. record { me = c.me; ahead = c.ahead; node = c.node; journal = sent c.journal } };
+
+    ghost invariant = { λ c. IsCell (one_machine O.reply O.next O.initial) K.name c.me c.ahead c.node c.journal };
+}
+
+impl<O: Object, K: BookName<O::Alloc>> Cell<O, K> {
+    ghost use Rattle.std.specs.Prelude.{length};
+    ghost use Rattle.ring_book.specs.Cells.{Journals, StepRefused, SubmitRefused};
+    ghost use Rattle.ring_book.specs.Machines.{one_machine};
+
+    /// The node.
+    pub fn node(&self) -> &Node<O>
+        ensures { result.now ≡ self.now.node }
+    {
+        &self.node
+    }
+
+    /// Hands the node an input, and adds what it did to the journal. The `FrameRef` counts for a frame alone: it says
+    /// where the frame stands in the book.
+    ///
+    /// Refused with `Stranger` while the last step isn't entered, then with `Stopped`; both change nothing. `Memory`
+    /// leaves the node stopped, and its stop in the journal. A stop takes no memory.
+    pub fn step(&mut self, input: Input<O::Alloc>, at: FrameRef) -> Result<(), Fault>
+        ensures { let m = one_machine O.reply O.next O.initial in
+            MatchResult result (λ _. Journals m self.old self.new (Came input at)) (StepRefused m self.old self.new input at) }
+    {
+        if self.ahead {
+            return Err(Fault::Stranger);
+        }
+        match self.node.step_on(&input) {
+            Ok(outs) => {
+                self.journal.push_reserved(Step {
+                    node: self.me,
+                    input: LineInput::Came(input, at),
+                    frames: outs.frames,
+                    answers: outs.answers,
+                    committed: self.node.committed().len(),
+                });
+                self.ahead = true;
+                Ok(())
+            }
+            Err(fault) => match fault {
+                Fault::Memory => {
+                    let committed = self.node.committed().len();
+                    let stop = Step::stop(self.alloc, self.me, at, committed);
+                    self.journal.push_reserved(stop);
+                    self.ahead = true;
+                    Err(Fault::Memory)
+                }
+                _ => Err(fault),
+            },
+        }
+    }
+
+    /// Submits a call at the node, and adds that to the journal.
+    ///
+    /// Refused with `Stranger` while the last step isn't entered, then as by the node; nothing is changed then.
+    pub fn submit(&mut self, call: Call<O::Alloc>) -> Result<Ticket, Fault>
+        ensures given { let m = one_machine O.reply O.next O.initial in
+            MatchResult result
+            (λ ticket. (ticket ≡ m.tickets self.old.node) × Journals m self.old self.new (Called call))
+            (SubmitRefused m self.old) }
+        ensures err { OnErr result (self.new ≡ self.old) }
+    {
+        if self.ahead {
+            return Err(Fault::Stranger);
+        }
+        let ticket = self.node.submit_on(&call)?;
+        self.journal.push_reserved(Step {
+            node: self.me,
+            input: LineInput::Called(call),
+            frames: Vec::new(self.alloc),
+            answers: Vec::new(self.alloc),
+            committed: self.node.committed().len(),
+        });
+        self.ahead = true;
+        Ok(ticket)
+    }
+}

@@ -1,0 +1,221 @@
+//! Running a script: what its lines ask for is done over a book and its cells, one event after another.
+
+ghost use Rattle.std.specs.Prelude.{◌≡◌, IfErr};
+ghost use Rattle.ring_base.specs.declared.fault.Fault.TheVariants.{Memory};
+
+use crate::failure::Failure;
+use crate::line::Line;
+use crate::network::{Network, Turn};
+use crate::printed::{print_answers, print_node, print_order, print_refused};
+use crate::scripts::Script;
+use bytes::BytesMut;
+use ring_base::{Fault, Proc};
+use ring_book::{Book, BookName, Cell, FrameRef, Opening};
+use ring_object::Object;
+use ring_one::{Answered, Input};
+use ring_payload::Call;
+use ring_session::Answer;
+use ring_wire::decode_frame;
+use std::alloc::Allocator;
+use std::io::Write;
+
+/// Stands for a place of the book where the input is no frame.
+const NOWHERE: FrameRef = FrameRef { line: 0, place: 0 };
+
+/// A script under way: the nodes, the book of all that they did, and the network between them.
+#[derive(Drop)]
+pub struct Run<O: Object, K: BookName<O::Alloc>> {
+    alloc: O::Alloc,
+    book: Book<O, K>,
+    cells: Vec<Cell<O, K>, O::Alloc>,
+    network: Network<O::Alloc>,
+    /// A frame on its way into a node.
+    text: BytesMut<O::Alloc>,
+    /// How many calls took effect.
+    effects: u64,
+}
+
+impl<O: Object, K: BookName<O::Alloc>> Run<O, K> {
+    /// The nodes at their opening, which K names, or `Memory`.
+    pub fn new(alloc: O::Alloc, opening: Opening<O>) -> Result<Run<O, K>, Fault>
+        requires { opening ≡ K.name }
+        ensures { IfErr result (λ fault. fault ≡ Memory) }
+    {
+        let (book, cells) = opening.parts::<K>()?;
+        Ok(Run {
+            alloc,
+            book,
+            cells,
+            network: Network::new(alloc),
+            text: BytesMut::new(alloc),
+            effects: 0,
+        })
+    }
+
+    /// The book of all that the nodes did so far.
+    pub fn book(&self) -> &Book<O, K> {
+        &self.book
+    }
+
+    /// Does what the lines ask for, in their order, and prints on `out` what comes of it. Otherwise `Refused`
+    /// where the book is full or memory is refused to the run itself, or `Output`. What was done stays done.
+    pub fn take<W: Write>(&mut self, script: Script<O::Alloc>, out: &mut W) -> Result<(), Failure> {
+        for numbered in script.lines {
+            self.take_line(numbered.line, out)?;
+        }
+        Ok(())
+    }
+
+    /// Does what a line asks for.
+    fn take_line<W: Write>(&mut self, line: Line<O::Alloc>, out: &mut W) -> Result<(), Failure> {
+        let node = match &line {
+            Line::Call { node, call: _ } => *node,
+            other => return self.take_event(other, out),
+        };
+        match line.into_call() {
+            Some(call) => self.submit(node, call, out),
+            None => Ok(()),
+        }
+    }
+
+    /// Does what a line asks for that submits no call.
+    fn take_event<W: Write>(&mut self, line: &Line<O::Alloc>, out: &mut W) -> Result<(), Failure> {
+        match line {
+            Line::Deliver { node, frame } => self.deliver_number(*node, *frame, out),
+            Line::Timeout { node, kind } => self.step(*node, Input::Timeout(*kind), NOWHERE, out),
+            Line::Noise { node, bytes: _ } => self.step(*node, Input::Noise, NOWHERE, out),
+            Line::Stop { node } => self.step(*node, Input::Stop, NOWHERE, out),
+            Line::Cut(groups) => {
+                self.network.groups = Some(*groups);
+                Ok(())
+            }
+            Line::Heal => {
+                self.network.groups = None;
+                Ok(())
+            }
+            Line::Pump { turns } => self.pump(*turns, out),
+            Line::Show => self.show(out),
+            Line::Call { .. } => Ok(()),
+        }
+    }
+
+    /// The frame of this number comes to a node. One that was not sent changes nothing.
+    fn deliver_number<W: Write>(
+        &mut self,
+        node: Proc,
+        number: Option<u64>,
+        out: &mut W,
+    ) -> Result<(), Failure> {
+        match number.and_then(|number| self.network.frame(number)) {
+            Some(at) => self.deliver(node, at, out),
+            None => Ok(()),
+        }
+    }
+
+    /// A client's call is submitted at a node.
+    fn submit<W: Write>(
+        &mut self,
+        node: Proc,
+        call: Call<O::Alloc>,
+        out: &mut W,
+    ) -> Result<(), Failure> {
+        let (client, number) = (call.client, call.number);
+        let Some(cell) = self.cells.get_mut(node.number() as usize - 1) else {
+            return Err(Failure::Refused(Fault::NotMember));
+        };
+        let place = self.book.reserve()?;
+        match cell.submit(call) {
+            Ok(_) => {
+                self.book.enter(place, cell)?;
+                Ok(())
+            }
+            Err(fault) => {
+                self.book.release(place);
+                print_refused(out, node, client, number, fault)
+            }
+        }
+    }
+
+    /// The frame that stands there comes to a node. It changes nothing where it was sent to others alone.
+    fn deliver<W: Write>(&mut self, node: Proc, at: FrameRef, out: &mut W) -> Result<(), Failure> {
+        self.text.clear();
+        self.book.spell(at, &mut self.text)?;
+        if self.book.check(node, at, self.text.as_slice()).is_err() {
+            return Ok(());
+        }
+        let frame = decode_frame(self.alloc, self.text.as_slice())?;
+        self.step(node, Input::Frame(frame), at, out)
+    }
+
+    /// A node does a step. Where memory is refused it stops, and that is entered.
+    fn step<W: Write>(
+        &mut self,
+        node: Proc,
+        input: Input<O::Alloc>,
+        at: FrameRef,
+        out: &mut W,
+    ) -> Result<(), Failure> {
+        let Some(cell) = self.cells.get_mut(node.number() as usize - 1) else {
+            return Err(Failure::Refused(Fault::NotMember));
+        };
+        let place = self.book.reserve()?;
+        match cell.step(input, at) {
+            Ok(()) | Err(Fault::Memory) => {
+                let line = self.book.enter(place, cell)?;
+                print_answers(out, node, line.answers())?;
+                self.effects = self.effects.saturating_add(effects_of(line.answers()));
+                let frames = u16::try_from(line.frames().len()).unwrap_or(u16::MAX);
+                self.network
+                    .send(line.number(), frames, line.node(), line.receivers())?;
+                Ok(())
+            }
+            Err(_) => {
+                self.book.release(place);
+                Ok(())
+            }
+        }
+    }
+
+    /// Takes turns of the network, fewer where no frame is under way.
+    fn pump<W: Write>(&mut self, turns: u32, out: &mut W) -> Result<(), Failure> {
+        for _ in 0..turns {
+            match self.network.turn() {
+                Some(Turn::Arrives(parcel)) => self.deliver(parcel.receiver, parcel.frame, out)?,
+                Some(Turn::Lost) => {}
+                None => return Ok(()),
+            }
+        }
+        Ok(())
+    }
+
+    /// Prints the state.
+    fn show<W: Write>(&self, out: &mut W) -> Result<(), Failure> {
+        for (before, cell) in self.cells.iter().enumerate() {
+            let (number, node) = ((before as u64).saturating_add(1), cell.node());
+            let committed = node.committed().len();
+            print_node(
+                out,
+                number,
+                node.state(),
+                node.ring(),
+                committed,
+                node.log_len(),
+            )?;
+        }
+        print_order(out, self.effects)
+    }
+}
+
+/// How many calls took effect, by the answers of one step: tickets of the same call are answered together.
+fn effects_of<A: Allocator + Copy + Drop>(answers: &[Answered<A>]) -> u64 {
+    let mut effects = 0u64;
+    let mut last = None;
+    for answered in answers {
+        let call = (answered.call.client, answered.call.number);
+        if matches!(answered.answer, Answer::Done(_)) && last != Some(call) {
+            effects = effects.saturating_add(1);
+            last = Some(call);
+        }
+    }
+    effects
+}

@@ -1,0 +1,71 @@
+//! What the program prints of a script.
+
+ghost use Rattle.std.specs.Prelude.{◌≡◌, ◌≤◌};
+ghost use Rattle.std.specs.Io.KnownBytes.{Keeps};
+
+use crate::failure::{Failure, exit_status, report};
+use crate::run::Run;
+use crate::scripts::{Rings, Script};
+use ring_base::{Fault, Fixed};
+use ring_book::{BookName, Opening};
+use ring_object::Object;
+use ring_things::{Counters, Names, Queue, Registers, Shelf};
+use std::alloc::Allocator;
+use std::io::{BufWriter, Read, Write};
+use std::marker::Brand;
+
+/// The program's object.
+pub type Things<A> = Shelf<Registers<A>, Counters<A>, Queue<A>, Names<A>>;
+
+/// Reads a script, checks the whole of it, and runs it: what comes of its events is printed on `out`. The exit
+/// status is 0, or else 1:
+///
+/// - where the input is no script, or one of more than one node, `err` is told so, and nothing is printed;
+/// - where the book is full, or memory is refused to the run itself, `err` is told so;
+/// - where `out` fails, nothing is told.
+///
+/// The lines of the events that were done before that stand on `out`.
+pub fn script<A: Allocator + Copy + Drop, R: Read, O: Write, E: Write>(
+    alloc: A,
+    input: &mut R,
+    out: &mut O,
+    err: &mut E,
+) -> u8
+    ensures status { result ≤ 1 }
+    ensures quiet { result ≡ 0 → Keeps (E.contents err.old) (E.contents err.new) }
+{
+    let script = match Script::read(alloc, input, Rings::OfOne) {
+        Ok(script) => script,
+        Err(failure) => return report(err, failure),
+    };
+    match BufWriter::new(alloc, out) {
+        Ok(mut out) => {
+            let done = run_script(alloc, script, &mut out);
+            exit_status(out, err, done)
+        }
+        Err(_) => report(err, Failure::Refused(Fault::Memory)),
+    }
+}
+
+/// Opens a book for the script's node, and runs the script over it.
+fn run_script<A: Allocator + Copy + Drop, W: Write>(
+    alloc: A,
+    script: Script<A>,
+    out: &mut W,
+) -> Result<(), Failure> {
+    let opening = Opening::<Things<A>>::new(alloc, Fixed::new(1)?)?;
+    run_over::<Things<A>, Brand, W>(alloc, opening, script, out)
+}
+
+/// Runs the script over the book that K names.
+fn run_over<O: Object, K: BookName<O::Alloc>, W: Write>(
+    alloc: O::Alloc,
+    opening: Opening<O>,
+    script: Script<O::Alloc>,
+    out: &mut W,
+) -> Result<(), Failure>
+    requires { opening ≡ K.name }
+{
+    let mut run = Run::<O, K>::new(alloc, opening)?;
+    run.take(script, out)
+}

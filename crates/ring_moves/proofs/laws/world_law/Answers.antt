@@ -1,0 +1,14 @@
+use Rattle.ring_moves.proofs.Worlds.{marks_below, all_held_below, all_turns, all_same_sets}
+use Rattle.ring_moves.proofs.laws.world_law.Goals as goal
+
+pub returns-clause-marks : goal.returns-clause-marks
+returns-clause-marks g c = marks_below
+
+pub returns-clause-window : goal.returns-clause-window
+returns-clause-window g c = all_held_below
+
+pub returns-clause-visits : goal.returns-clause-visits
+returns-clause-visits g c = all_turns
+
+pub returns-clause-joins : goal.returns-clause-joins
+returns-clause-joins g c = all_same_sets

@@ -1,0 +1,251 @@
+//! Lists at their limits: the requests of a token, the entries of a commit token, the calls of a part. The
+//! least and the greatest frames.
+
+use crate::spelled::{bytes_of, framed, is_frame};
+use crate::vectors::NOTHING_HELD;
+use std::alloc::Global;
+use std::test::Fail;
+
+/// Whether the bytes are as many as wanted, and are a frame as wanted.
+fn is_as_wanted(alloc: Global, bytes: &[u8], length: usize, wanted: bool) -> Result<bool, Fail> {
+    Ok(bytes.len() == length && is_frame(alloc, bytes)? == wanted)
+}
+
+/// Token 1 of ring 1.1, with `seq` 100 and so many requests, from 1 on.
+fn token_of(alloc: Global, requests: u8) -> Result<Vec<u8>, Fail> {
+    let mut body = bytes_of(
+        alloc,
+        &[
+            "000000000000000101",
+            "0000000000000001",
+            "0000000000000064",
+            "0000000000000000",
+            "01",
+        ],
+    )?;
+    body.push(requests)?;
+    for before in 0..requests {
+        body.extend_from_slice(&(u64::from(before) + 1).to_be_bytes())?;
+    }
+    framed(alloc, 2, body.as_slice())
+}
+
+#[test]
+fn requests_of_a_token(rt: HostRuntime) -> Result<(), Fail> {
+    let alloc = rt.alloc();
+    for (requests, length, wanted) in [
+        (0, 43, true),
+        (1, 51, true),
+        (32, 299, true),
+        (33, 307, false),
+        (255, 2083, false),
+    ] {
+        let bytes = token_of(alloc, requests)?;
+        assert!(rt;
+            is_as_wanted(alloc, bytes.as_slice(), length, wanted)?,
+            "{requests}"
+        );
+    }
+    Ok(())
+}
+
+/// The commit token of ring 1.1 with these members, this hop, and entries of processors that were in no
+/// ring yet.
+fn commit_of(alloc: Global, members: [u8; 2], hop: u8, entries: &[u8]) -> Result<Vec<u8>, Fail> {
+    let mut body = bytes_of(alloc, &["000000000000000101"])?;
+    body.extend_from_slice(&members)?;
+    body.push(hop)?;
+    for processor in entries {
+        body.extend_from_slice(&[0, 0, 0, 0, 0, 0, 0, 0, *processor])?;
+        body.extend_from_slice(&[0; 16])?;
+        body.extend_from_slice(bytes_of(alloc, &[NOTHING_HELD])?.as_slice())?;
+    }
+    framed(alloc, 4, body.as_slice())
+}
+
+/// Sixteen processors, and one of them again.
+const PROCESSORS: [u8; 17] = [1, 2, 3, 4, 5, 6, 7, 8, 9, 10, 11, 12, 13, 14, 15, 16, 16];
+
+/// Sixteen members: each has one entry, up to the hop.
+#[test]
+fn entries_of_sixteen_members(rt: HostRuntime) -> Result<(), Fail> {
+    let alloc = rt.alloc();
+    for (hop, entries, length, wanted) in [
+        (1, &PROCESSORS[..1], 77, true),
+        (15, &PROCESSORS[..15], 875, true),
+        (16, &PROCESSORS[..16], 932, true),
+        (17, &PROCESSORS[..16], 932, true),
+        (32, &PROCESSORS[..16], 932, true),
+        (33, &PROCESSORS[..16], 932, false),
+        (0, &PROCESSORS[..0], 20, false),
+        (16, &PROCESSORS[..15], 875, false),
+        (15, &PROCESSORS[..16], 932, false),
+        (16, &PROCESSORS[..17], 989, false),
+        (17, &PROCESSORS[..17], 989, false),
+    ] {
+        let bytes = commit_of(alloc, [0xff, 0xff], hop, entries)?;
+        assert!(rt;
+            is_as_wanted(alloc, bytes.as_slice(), length, wanted)?,
+            "{hop}"
+        );
+    }
+    Ok(())
+}
+
+/// The entries are those of the members, ascending: here of 1 and 3.
+#[test]
+fn entries_of_two_members(rt: HostRuntime) -> Result<(), Fail> {
+    let alloc = rt.alloc();
+    for (hop, entries, length, wanted) in [
+        (1, &[1u8][..], 77, true),
+        (1, &[3][..], 77, false),
+        (2, &[1, 3][..], 134, true),
+        (2, &[1, 2][..], 134, false),
+        (2, &[3, 1][..], 134, false),
+        (3, &[1, 3][..], 134, true),
+        (3, &[1][..], 77, false),
+        (4, &[1, 3][..], 134, true),
+        (5, &[1, 3][..], 134, false),
+    ] {
+        let bytes = commit_of(alloc, [0, 5], hop, entries)?;
+        assert!(rt;
+            is_as_wanted(alloc, bytes.as_slice(), length, wanted)?,
+            "{hop}"
+        );
+    }
+    Ok(())
+}
+
+/// Message 1 of ring 3.1 from 2 with this payload, or with what wraps it, of ring 2.1.
+pub fn message_of(alloc: Global, wraps: bool, payload: &[u8]) -> Result<Vec<u8>, Fail> {
+    let mut body = bytes_of(alloc, &["000000000000000301", "0000000000000001", "02"])?;
+    if wraps {
+        let around = ["02", "000000000000000201", "0000000000000001", "01"];
+        body.extend_from_slice(bytes_of(alloc, &around)?.as_slice())?;
+    }
+    body.extend_from_slice(payload)?;
+    framed(alloc, 1, body.as_slice())
+}
+
+/// The start of a payload, and behind it the calls 7.1 and so on, with operations of so many bytes.
+pub fn payload_of(alloc: Global, start: &[u8], calls: u8, op_bytes: u16) -> Result<Vec<u8>, Fail> {
+    let mut payload = Vec::from_slice(alloc, start)?;
+    for before in 0..calls {
+        payload.extend_from_slice(&[0, 0, 0, 7])?;
+        payload.extend_from_slice(&(u64::from(before) + 1).to_be_bytes())?;
+        payload.extend_from_slice(&op_bytes.to_be_bytes())?;
+        for _ in 0..op_bytes {
+            payload.push(before)?;
+        }
+    }
+    Ok(payload)
+}
+
+#[test]
+fn bytes_of_a_call(rt: HostRuntime) -> Result<(), Fail> {
+    let alloc = rt.alloc();
+    for (wraps, op_bytes, length, wanted) in [
+        (false, 0, 41, true),
+        (false, 1024, 1065, true),
+        (false, 1025, 1066, false),
+        (true, 0, 60, true),
+        (true, 1024, 1084, true),
+        (true, 1025, 1085, false),
+    ] {
+        let payload = payload_of(alloc, &[1], 1, op_bytes)?;
+        let bytes = message_of(alloc, wraps, payload.as_slice())?;
+        assert!(rt;
+            is_as_wanted(alloc, bytes.as_slice(), length, wanted)?,
+            "{op_bytes}"
+        );
+    }
+    Ok(())
+}
+
+/// The greatest frame is the wrapped part of seven calls of 1,024 bytes each.
+#[test]
+fn calls_of_a_part(rt: HostRuntime) -> Result<(), Fail> {
+    let alloc = rt.alloc();
+    for (wraps, calls, op_bytes, length, wanted) in [
+        (false, 0, 0, 36, false),
+        (false, 1, 0, 50, true),
+        (false, 7, 0, 134, true),
+        (false, 8, 0, 148, false),
+        (false, 7, 1024, 7302, true),
+        (false, 7, 1025, 7309, false),
+        (false, 8, 1024, 8340, false),
+        (true, 0, 0, 55, false),
+        (true, 7, 0, 153, true),
+        (true, 8, 0, 167, false),
+        (true, 7, 1024, 7321, true),
+        (true, 7, 1025, 7328, false),
+        (true, 8, 1024, 8359, false),
+    ] {
+        let payload = payload_of(alloc, &[5, 0, 0, 0, 0, 0, 0, 0, 0, calls], calls, op_bytes)?;
+        let bytes = message_of(alloc, wraps, payload.as_slice())?;
+        assert!(rt;
+            is_as_wanted(alloc, bytes.as_slice(), length, wanted)?,
+            "{calls} of {op_bytes}"
+        );
+    }
+    Ok(())
+}
+
+/// A payload, and whether it may stand in a message, and in a message as what is wrapped.
+type Inner = (&'static [&'static str], bool, bool);
+
+const CALL: [&str; 4] = ["01", "00000007", "0000000000000001", "000102"];
+
+const HEAD: [&str; 4] = [
+    "04",
+    "000000000000000101",
+    "0000000000000003",
+    "0000000000000002",
+];
+
+const PART: [&str; 4] = [
+    "05",
+    "000000000000000001",
+    "000000070000000000000001",
+    "0000",
+];
+
+const WRAPPED: [&str; 5] = [
+    "02",
+    "000000000000000101",
+    "000000000000000101",
+    "0100000007",
+    "00000000000000010000",
+];
+
+const PAYLOADS: [Inner; 6] = [
+    (&CALL, true, true),
+    (&HEAD, true, true),
+    (&PART, true, true),
+    (&WRAPPED, true, false),
+    (&["03"], true, false),
+    (&[], false, false),
+];
+
+/// Whether the payload may stand in a message, and as what is wrapped.
+fn standing(alloc: Global, payload: &[&str]) -> Result<(bool, bool), Fail> {
+    let bytes = bytes_of(alloc, payload)?;
+    let alone = message_of(alloc, false, bytes.as_slice())?;
+    let inside = message_of(alloc, true, bytes.as_slice())?;
+    Ok((
+        is_frame(alloc, alone.as_slice())?,
+        is_frame(alloc, inside.as_slice())?,
+    ))
+}
+
+#[test]
+fn what_may_be_wrapped(rt: HostRuntime) -> Result<(), Fail> {
+    for (payload, alone, inside) in PAYLOADS {
+        assert_eq!(rt;
+            standing(rt.alloc(), payload)?,
+            (alone, inside),
+            "{payload:?}"
+        );
+    }
+    Ok(())
+}

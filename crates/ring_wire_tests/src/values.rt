@@ -1,0 +1,306 @@
+//! The values that bytes are read to, copies of them, and the parts that stand alone.
+
+use crate::spelled::bytes_of;
+use crate::vectors::{
+    COMMIT, COMMIT_AFTER_A_RING, END, HEAD, HEAD_OF_NONE, JOIN, MESSAGE, PART, TOKEN, WRAPPED,
+};
+use bytes::BytesMut;
+use refusing_alloc::Refusing;
+use ring_base::{Fault, Proc, ProcSet, RingId};
+use ring_payload::{Call, Calls, Content, Head, Operation, Part, Payload, Wrapped};
+use ring_wire::{
+    CommitEntry, CommitToken, Entries, Frame, Join, Message, Requests, Token, Wire, decode_frame,
+    one_spelling_law, short_law, spelling_law,
+};
+use std::alloc::Global;
+use std::test::Fail;
+
+/// The ring of a number, with the smallest representative.
+fn ring(number: u64) -> RingId {
+    RingId {
+        seq: number,
+        rep: Proc::new(1),
+    }
+}
+
+/// The frame that the texts spell.
+fn frame_of(alloc: Global, vector: &[&str]) -> Result<Frame, Fail> {
+    let bytes = bytes_of(alloc, vector)?;
+    Ok(decode_frame(alloc, bytes.as_slice())?)
+}
+
+fn is_the_join(join: &Join) -> bool {
+    *join
+        == Join {
+            sender: Proc::new(2),
+            number: 5,
+            proc_set: ProcSet::from_bits(0b111),
+            fail_set: ProcSet::from_bits(0b100),
+        }
+}
+
+fn is_the_token(token: &Token) -> bool {
+    token.ring == ring(1)
+        && token.number == 4
+        && (token.seq, token.aru) == (10, 8)
+        && token.aru_id == Some(Proc::new(2))
+        && token.requests.as_slice() == [9, 10].as_slice()
+}
+
+fn is_the_commit_token(commit: &CommitToken) -> bool {
+    commit.ring == ring(1)
+        && commit.members == ProcSet::from_bits(1)
+        && commit.hop == 1
+        && commit.entries.as_slice() == [CommitEntry::default()].as_slice()
+}
+
+/// Whether the frame, no message, is the vector of its kind.
+fn is_a_vector(frame: &Frame) -> bool {
+    match frame {
+        Frame::Join(join) => is_the_join(join),
+        Frame::Token(token) => is_the_token(token),
+        Frame::Commit(commit) => is_the_commit_token(commit),
+        Frame::Message(_) => false,
+    }
+}
+
+/// Ring, number, sender.
+fn message_fields(frame: &Frame) -> Option<(u64, u64, u8)> {
+    match frame {
+        Frame::Message(message) => {
+            Some((message.ring.seq, message.number, message.sender.number()))
+        }
+        _ => None,
+    }
+}
+
+/// The tag of the payload, and three of its numbers: client, number and length of a call; last primary's
+/// number, length and committed length of a head; first place and count of a part; ring, number and sender
+/// of what is wrapped.
+fn payload_fields(frame: &Frame) -> Option<[u64; 4]> {
+    let Frame::Message(message) = frame else {
+        return None;
+    };
+    match &message.payload {
+        Payload::Call(call) => {
+            let length = call.op.as_slice().len() as u64;
+            Some([1, u64::from(call.client), call.number, length])
+        }
+        Payload::Wrapped(wrapped) => {
+            let sender = u64::from(wrapped.sender.number());
+            Some([2, wrapped.ring.seq, wrapped.number, sender])
+        }
+        Payload::End => Some([3, 0, 0, 0]),
+        Payload::Head(head) => {
+            let last = head.last.map_or(0, |ring| ring.seq);
+            Some([4, last, head.length, head.committed])
+        }
+        Payload::Part(part) => Some([5, part.first, part.calls.as_slice().len() as u64, 0]),
+    }
+}
+
+/// Whether the texts spell the vector of a kind, and its copy is it, too.
+fn spell_a_vector(alloc: Global, vector: &[&str]) -> Result<bool, Fail> {
+    let frame = frame_of(alloc, vector)?;
+    let copy = frame.clone()?;
+    Ok(is_a_vector(&frame) && is_a_vector(&copy))
+}
+
+#[test]
+fn fields_of_the_vectors(rt: HostRuntime) -> Result<(), Fail> {
+    for vector in [&JOIN[..], &TOKEN[..], &COMMIT[..]] {
+        assert!(rt; spell_a_vector(rt.alloc(), vector)?, "{vector:?}");
+    }
+    Ok(())
+}
+
+/// Whether the texts spell a message with these fields, and its copy has them, too.
+fn spell_a_message(
+    alloc: Global,
+    vector: &[&str],
+    message: (u64, u64, u8),
+    payload: [u64; 4],
+) -> Result<bool, Fail> {
+    let frame = frame_of(alloc, vector)?;
+    let copy = frame.clone()?;
+    let is_right = message_fields(&frame) == Some(message)
+        && payload_fields(&frame) == Some(payload);
+    let is_copied = message_fields(&copy) == Some(message)
+        && payload_fields(&copy) == Some(payload);
+    Ok(is_right && is_copied)
+}
+
+#[test]
+fn fields_of_the_messages(rt: HostRuntime) -> Result<(), Fail> {
+    for (vector, message, payload) in [
+        (&MESSAGE[..], (1, 3, 1), [1, 7, 1, 11]),
+        (&END[..], (1, 1, 1), [3, 0, 0, 0]),
+        (&HEAD_OF_NONE[..], (1, 5, 2), [4, 0, 0, 0]),
+        (&HEAD[..], (8, 4, 1), [4, 4, 3, 2]),
+        (&PART[..], (8, 7, 1), [5, 0, 1, 0]),
+        (&WRAPPED[..], (2, 1, 2), [2, 1, 3, 1]),
+    ] {
+        assert!(rt;
+            spell_a_message(rt.alloc(), vector, message, payload)?,
+            "{vector:?}"
+        );
+    }
+    Ok(())
+}
+
+/// Whether these bytes of a frame are read alone, all of them, and written so again.
+fn read_alone<T: Wire<Global> + Drop>(alloc: Global, part: &[u8]) -> Result<bool, Fault> {
+    let (value, length): (T, usize) = T::get(alloc, part)?;
+    let mut out = BytesMut::new(alloc);
+    value.put(&mut out)?;
+    Ok(out.as_slice() == part && length == part.len())
+}
+
+/// The same of so many bytes from a place on, and no fault is met.
+fn stands_alone<T: Wire<Global> + Drop>(
+    alloc: Global,
+    frame: &[u8],
+    from: usize,
+    length: usize,
+) -> bool {
+    match frame.get(from..from.wrapping_add(length)) {
+        Some(part) => read_alone::<T>(alloc, part) == Ok(true),
+        None => false,
+    }
+}
+
+#[test]
+fn bodies_stand_alone(rt: HostRuntime) -> Result<(), Fail> {
+    let alloc = rt.alloc();
+    let message = bytes_of(alloc, &MESSAGE)?;
+    let token = bytes_of(alloc, &TOKEN)?;
+    let join = bytes_of(alloc, &JOIN)?;
+    let commit = bytes_of(alloc, &COMMIT)?;
+    let commit_after_a_ring = bytes_of(alloc, &COMMIT_AFTER_A_RING)?;
+    assert!(rt; stands_alone::<Message>(alloc, message.as_slice(), 8, 44));
+    assert!(rt; stands_alone::<Token>(alloc, token.as_slice(), 8, 51));
+    assert!(rt; stands_alone::<Join>(alloc, join.as_slice(), 8, 13));
+    assert!(rt; stands_alone::<CommitToken>(alloc, commit.as_slice(), 8, 69));
+    assert!(rt; stands_alone::<CommitEntry>(alloc, commit_after_a_ring.as_slice(), 20, 57));
+    assert!(rt; stands_alone::<Requests>(alloc, token.as_slice(), 42, 17));
+    Ok(())
+}
+
+#[test]
+fn payloads_stand_alone(rt: HostRuntime) -> Result<(), Fail> {
+    let alloc = rt.alloc();
+    let message = bytes_of(alloc, &MESSAGE)?;
+    let head = bytes_of(alloc, &HEAD)?;
+    let part = bytes_of(alloc, &PART)?;
+    let wrapped = bytes_of(alloc, &WRAPPED)?;
+    assert!(rt; stands_alone::<Payload>(alloc, message.as_slice(), 26, 26));
+    assert!(rt; stands_alone::<Call>(alloc, message.as_slice(), 27, 25));
+    assert!(rt; stands_alone::<Operation>(alloc, message.as_slice(), 39, 13));
+    assert!(rt; stands_alone::<Head>(alloc, head.as_slice(), 27, 25));
+    assert!(rt; stands_alone::<Part>(alloc, part.as_slice(), 27, 34));
+    assert!(rt; stands_alone::<Content>(alloc, part.as_slice(), 26, 35));
+    assert!(rt; stands_alone::<Wrapped>(alloc, wrapped.as_slice(), 27, 44));
+    Ok(())
+}
+
+#[test]
+fn fields_stand_alone(rt: HostRuntime) -> Result<(), Fail> {
+    let alloc = rt.alloc();
+    let commit = bytes_of(alloc, &COMMIT)?;
+    let head_of_none = bytes_of(alloc, &HEAD_OF_NONE)?;
+    let join = bytes_of(alloc, &JOIN)?;
+    let token = bytes_of(alloc, &TOKEN)?;
+    let message = bytes_of(alloc, &MESSAGE)?;
+    assert!(rt; stands_alone::<[u8; 32]>(alloc, commit.as_slice(), 45, 32));
+    assert!(rt; stands_alone::<RingId>(alloc, commit.as_slice(), 20, 9));
+    assert!(rt; stands_alone::<Option<RingId>>(alloc, head_of_none.as_slice(), 27, 9));
+    assert!(rt; stands_alone::<Proc>(alloc, join.as_slice(), 8, 1));
+    assert!(rt; stands_alone::<Option<Proc>>(alloc, token.as_slice(), 41, 1));
+    assert!(rt; stands_alone::<ProcSet>(alloc, join.as_slice(), 17, 2));
+    assert!(rt; stands_alone::<u8>(alloc, token.as_slice(), 3, 1));
+    assert!(rt; stands_alone::<u16>(alloc, message.as_slice(), 39, 2));
+    assert!(rt; stands_alone::<u32>(alloc, message.as_slice(), 4, 4));
+    assert!(rt; stands_alone::<u64>(alloc, message.as_slice(), 17, 8));
+    Ok(())
+}
+
+/// A call whose operation has so many bytes.
+fn call_of<'a>(
+    heap: &'a Refusing,
+    alloc: Global,
+    number: u64,
+    length: usize,
+) -> Result<Call<&'a Refusing>, Fault> {
+    let mut op = Vec::new(alloc);
+    for _ in 0..length {
+        op.push(7)?;
+    }
+    Call::new(heap, 1, number, op.as_slice())
+}
+
+/// A new call is refused in this order: too long, number 0, want of memory.
+#[test]
+fn new_calls(rt: HostRuntime) -> Result<(), Fail> {
+    let alloc = rt.alloc();
+    let heap = Refusing::new(alloc, 0);
+    assert_eq!(rt;
+        call_of(&heap, alloc, 0, 1025).err(),
+        Some(Fault::OpTooLong)
+    );
+    assert_eq!(rt;
+        call_of(&heap, alloc, 0, 1024).err(),
+        Some(Fault::NumberGap)
+    );
+    assert_eq!(rt; call_of(&heap, alloc, 1, 1024).err(), Some(Fault::Memory));
+    let call = call_of(&heap, alloc, 1, 1024)?;
+    assert_eq!(rt;
+        (call.client, call.number, call.op.as_slice().len()),
+        (1, 1, 1024)
+    );
+    Ok(())
+}
+
+/// A list of calls comes out as it went in.
+#[test]
+fn lists_of_calls(rt: HostRuntime) -> Result<(), Fail> {
+    let mut list: Vec<Call> = Vec::new(rt.alloc());
+    for number in 1..3 {
+        list.push(Call::new(rt.alloc(), 7, number, &[])?)?;
+    }
+    let calls = Calls::from_vec(list).clone()?;
+    assert_eq!(rt; calls.as_slice().len(), 2);
+    for (i, call) in calls.into_vec().iter().enumerate() {
+        assert_eq!(rt; (call.client, call.number), (7, i as u64 + 1));
+    }
+    Ok(())
+}
+
+/// Bit 1 and bit 253 of a front 2 stand for the numbers 4 and 256.
+#[test]
+fn lists_in_place(rt: HostRuntime) {
+    let mut requests = Requests::new();
+    requests.push(9);
+    assert_eq!(rt; requests.copied().as_slice(), [9].as_slice());
+    let mut entries = Entries::new();
+    let mut held = [0; 32];
+    held[0] = 2;
+    held[31] = 0x20;
+    entries.push(CommitEntry {
+        held,
+        ..CommitEntry::default()
+    });
+    let copy = entries.copied();
+    assert_eq!(rt; copy.as_slice().len(), 1);
+    for entry in copy.as_slice() {
+        assert!(rt; entry.is_held(1) && entry.is_held(253));
+        assert!(rt; !entry.is_held(0) && !entry.is_held(254));
+    }
+}
+
+/// The laws are calls like any other.
+#[test]
+fn laws() {
+    one_spelling_law::<Global>();
+    short_law::<Global>();
+    spelling_law::<Global>();
+}
