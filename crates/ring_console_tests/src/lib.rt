@@ -3,10 +3,14 @@
 #![tactic(auto)]
 
 #[cfg(test)]
+mod explained;
+#[cfg(test)]
 mod inputs;
 #[cfg(test)]
 mod listings;
 #[cfg(test)]
 mod operations;
+#[cfg(test)]
+mod runs;
 #[cfg(test)]
 mod scripts;

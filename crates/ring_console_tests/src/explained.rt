@@ -1,0 +1,68 @@
+//! What clients see of a script is explained by the order of its book, also where memory was refused on the way.
+
+ghost use Rattle.std.specs.Prelude.{◌≡◌};
+
+use refusing_alloc::{Refusing, refuse_in_turn};
+use ring_base::{Fault, Fixed};
+use ring_book::{BookName, Opening};
+use ring_console::{Failure, Rings, Run, Script, Things};
+use ring_object::Object;
+use ring_world::is_linearization;
+use std::alloc::{AllocError, Allocator, Global};
+use std::marker::Brand;
+
+/// Two clients; the first of them tries its call twice.
+const TWO_CLIENTS: &str =
+    "nodes 1\ntimeout 1 join\npump 4\ncall 1 7 1 add 0 5\ncall 1 7 1 add 0 5\npump 2\n\
+    call 1 8 1 read 0\npump 2\nshow\n";
+
+/// Why a script was not run to its end.
+fn fault_of(failure: Failure) -> Fault {
+    match failure {
+        Failure::Refused(fault) => fault,
+        _ => Fault::BadScript,
+    }
+}
+
+/// Whether the order of the script's book explains its history, as far as the script came.
+fn is_explained<A: Allocator + Copy + Drop>(heap: A, alloc: Global) -> Result<bool, Fault> {
+    let script = Script::read(heap, &mut TWO_CLIENTS.as_bytes(), Rings::OfOne).map_err(fault_of)?;
+    let opening = Opening::<Things<A>>::new(heap, Fixed::new(1)?)?;
+    is_explained_over::<Things<A>, Brand>(heap, alloc, opening, script)
+}
+
+fn is_explained_over<O: Object, K: BookName<O::Alloc>>(
+    heap: O::Alloc,
+    alloc: Global,
+    opening: Opening<O>,
+    script: Script<O::Alloc>,
+) -> Result<bool, Fault>
+    requires { opening ≡ K.name }
+{
+    let mut run = Run::<O, K>::new(heap, opening)?;
+    let mut out = Vec::<u8>::new(alloc);
+    let _ = run.take(script, &mut out);
+    let order = run.book().order()?;
+    let history = run.book().history()?;
+    is_linearization::<O>(heap, order.as_slice(), history.as_slice())
+}
+
+/// Answers an error exactly where memory was refused and all is explained; where it isn't, the other answer.
+fn one_refused(heap: &Refusing, alloc: Global) -> Result<(), AllocError> {
+    match is_explained(heap, alloc) {
+        Ok(true) | Err(Fault::Memory) => refusal_of(heap.has_refused()),
+        _ => refusal_of(!heap.has_refused()),
+    }
+}
+
+fn refusal_of(is_refused: bool) -> Result<(), AllocError> {
+    if is_refused { Err(AllocError) } else { Ok(()) }
+}
+
+#[test]
+fn each_refused_run_is_explained(rt: HostRuntime) {
+    let alloc = rt.alloc();
+    assert!(rt; is_explained(alloc, alloc) == Ok(true));
+    let requests = refuse_in_turn(alloc, &|heap: &Refusing| one_refused(heap, alloc));
+    assert!(rt; requests > Some(20), "{requests:?}");
+}
