@@ -1,4 +1,4 @@
-use Rattle.ring_book_tests.proofs.tests.first_reply.Given as goal
+use Rattle.ring_book_tests.proofs.tests.replies.first_reply.Given as goal
 
 -- the opening that was just made
 abbrev pub ghosts-replies : goal.ghosts-replies

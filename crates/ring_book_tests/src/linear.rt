@@ -1,0 +1,50 @@
+//! What a caller knows who takes the law of the book's list together with the law of all runs.
+
+ghost use Rattle.std.specs.Prelude.{◌≡◌, IfOk, IfErr};
+ghost use Rattle.ring_base.specs.Fronts.{IsFront};
+ghost use Rattle.ring_base.specs.declared.fault.Fault.TheVariants.{Memory};
+ghost use Rattle.ring_session.specs.Deduplicated.{deduplicated};
+ghost use Rattle.ring_world.specs.Histories.{IsLinearization};
+ghost use Rattle.ring_one.specs.Machine.{committed_of};
+ghost use Rattle.ring_one.specs.Runs.{run, order_in};
+ghost use Rattle.ring_book.specs.Events.{events_of};
+ghost use Rattle.ring_book.specs.Lines.{steps_of};
+
+use ring_base::Fault;
+use ring_book::{Book, BookName, Cell};
+use ring_object::Object;
+use ring_one::linear_law;
+use ring_payload::Call;
+use ring_world::Item;
+use std::alloc::{Allocator, Global};
+
+/// What a book shows: its history, and an order of calls that explains it.
+#[derive(Drop)]
+pub struct Seen<A: Allocator + Copy + Drop = Global> {
+    pub order: Vec<Call<A>, A>,
+    pub history: Vec<Item<A>, A>,
+}
+
+/// The book's history with the book's order, which explains it: each reply is the object's at its call's place in the
+/// order, and a call that was replied before another was issued stands before it. Or `Memory`.
+pub fn explained<O: Object, K: BookName<O::Alloc>>(
+    book: &Book<O, K>,
+) -> Result<Seen<O::Alloc>, Fault>
+    ensures ok { IfOk result (λ seen. IsLinearization O.reply O.next O.initial seen.order.items seen.history.items) }
+    ensures refused { IfErr result (λ fault. fault ≡ Memory) }
+{
+    book.run_law();
+    linear_law::<O>();
+    let order = book.order()?;
+    let history = book.history()?;
+    Ok(Seen { order, history })
+}
+
+/// The committed calls of a cell whose steps are all entered, repeats removed, are a front of the book's order.
+pub fn in_order<O: Object, K: BookName<O::Alloc>>(book: &Book<O, K>, cell: &Cell<O, K>)
+    requires { cell.now.journal ≡ steps_of cell.now.me book.now.lines }
+    ensures { IsFront (deduplicated (committed_of cell.now.node)) (order_in (run O.reply O.next O.initial (events_of book.now.lines))) }
+{
+    book.node_law(cell);
+    linear_law::<O>();
+}
