@@ -5,27 +5,27 @@ ghost use Rattle.std.specs.Prelude.{◌≡◌};
 use crate::{Driven, FIRST};
 use ring_base::{Fault, Fixed};
 use ring_book::{BookName, Opening};
+use ring_object::Object;
 use ring_one::Input;
 use ring_things::Counters;
-use std::alloc::Global;
 use std::marker::Brand;
 use std::process::Abort;
 
 #[test]
 fn all_places(rt: HostRuntime) -> Result<(), Fault> {
     let opening = Opening::<Counters>::new(rt.alloc(), Fixed::new(1)?)?;
-    fills::<Brand, _>(&rt, rt.alloc(), opening)
+    fills::<Counters, Brand, _>(&rt, rt.alloc(), opening)
 }
 
 /// One place is used and all others are reserved.
-fn fills<K: BookName<Global>, R: Abort>(
+fn fills<O: Object, K: BookName<O::Alloc>, R: Abort>(
     rt: &R,
-    alloc: Global,
-    opening: Opening<Counters>,
+    alloc: O::Alloc,
+    opening: Opening<O>,
 ) -> Result<(), Fault>
     requires { opening ≡ K.name }
 {
-    let mut driven = Driven::<Counters, K>::new(alloc, opening)?;
+    let mut driven = Driven::<O, K>::new(alloc, opening)?;
     driven.step(Input::Noise, FIRST)?;
     for _ in 1..262143 {
         driven.book.reserve()?;

@@ -6,29 +6,30 @@ use super::{ADD, commit_token, five};
 use crate::{Driven, FIRST};
 use ring_base::{Fault, Fixed, Kind};
 use ring_book::{BookName, FrameRef, Line, LineInput, Opening};
+use ring_object::Object;
 use ring_one::Input;
 use ring_payload::Call;
 use ring_session::Answer;
 use ring_things::Counters;
 use ring_wire::{Frame, decode_frame};
-use std::alloc::Global;
+use std::alloc::Allocator;
 use std::marker::Brand;
 use std::process::Abort;
 
 #[test]
 fn lent_lines(rt: HostRuntime) -> Result<(), Fault> {
     let opening = Opening::<Counters>::new(rt.alloc(), Fixed::new(1)?)?;
-    lends::<Brand, _>(&rt, rt.alloc(), opening)
+    lends::<Counters, Brand, _>(&rt, rt.alloc(), opening)
 }
 
-fn lends<K: BookName<Global>, R: Abort>(
+fn lends<O: Object, K: BookName<O::Alloc>, R: Abort>(
     rt: &R,
-    alloc: Global,
-    opening: Opening<Counters>,
+    alloc: O::Alloc,
+    opening: Opening<O>,
 ) -> Result<(), Fault>
     requires { opening ≡ K.name }
 {
-    let mut driven = Driven::<Counters, K>::new(alloc, opening)?;
+    let mut driven = Driven::<O, K>::new(alloc, opening)?;
     lends_a_timeout(rt, &mut driven)?;
     lends_a_delivery(rt, &mut driven)?;
     for line in 1..4 {
@@ -40,7 +41,12 @@ fn lends<K: BookName<Global>, R: Abort>(
 }
 
 /// Whether the line has this number, so many frames and so many answers.
-fn is_line(line: &Line, number: u32, frames: usize, answers: usize) -> bool {
+fn is_line<A: Allocator + Copy + Drop>(
+    line: &Line<A>,
+    number: u32,
+    frames: usize,
+    answers: usize,
+) -> bool {
     line.number() == number
         && line.node().number() == 1
         && line.receivers().bits() == 1
@@ -49,9 +55,9 @@ fn is_line(line: &Line, number: u32, frames: usize, answers: usize) -> bool {
 }
 
 /// The first line: its number is 0, and its one frame has place 0.
-fn lends_a_timeout<K: BookName<Global>, R: Abort>(
+fn lends_a_timeout<O: Object, K: BookName<O::Alloc>, R: Abort>(
     rt: &R,
-    driven: &mut Driven<Counters, K>,
+    driven: &mut Driven<O, K>,
 ) -> Result<(), Fault> {
     let place = driven.book.reserve()?;
     driven.cell.step(Input::Timeout(Kind::Join), FIRST)?;
@@ -63,7 +69,7 @@ fn lends_a_timeout<K: BookName<Global>, R: Abort>(
     Ok(())
 }
 
-fn is_join_timeout(input: &LineInput) -> bool {
+fn is_join_timeout<A: Allocator + Copy + Drop>(input: &LineInput<A>) -> bool {
     match input {
         LineInput::Came(Input::Timeout(kind), _) => *kind == Kind::Join,
         _ => false,
@@ -71,9 +77,9 @@ fn is_join_timeout(input: &LineInput) -> bool {
 }
 
 /// The second line: the frame of the first came.
-fn lends_a_delivery<K: BookName<Global>, R: Abort>(
+fn lends_a_delivery<O: Object, K: BookName<O::Alloc>, R: Abort>(
     rt: &R,
-    driven: &mut Driven<Counters, K>,
+    driven: &mut Driven<O, K>,
 ) -> Result<(), Fault> {
     let frame = decode_frame(driven.alloc, &commit_token(1))?;
     let place = driven.book.reserve()?;
@@ -84,7 +90,7 @@ fn lends_a_delivery<K: BookName<Global>, R: Abort>(
     Ok(())
 }
 
-fn is_first_frame(input: &LineInput) -> bool {
+fn is_first_frame<A: Allocator + Copy + Drop>(input: &LineInput<A>) -> bool {
     match input {
         LineInput::Came(Input::Frame(Frame::Commit(token)), at) => token.hop == 1 && *at == FIRST,
         _ => false,
@@ -92,9 +98,9 @@ fn is_first_frame(input: &LineInput) -> bool {
 }
 
 /// A line of a call has neither frames nor answers.
-fn lends_a_call<K: BookName<Global>, R: Abort>(
+fn lends_a_call<O: Object, K: BookName<O::Alloc>, R: Abort>(
     rt: &R,
-    driven: &mut Driven<Counters, K>,
+    driven: &mut Driven<O, K>,
 ) -> Result<(), Fault> {
     let call = Call::new(driven.alloc, 7, 1, &ADD)?;
     let place = driven.book.reserve()?;
@@ -106,7 +112,7 @@ fn lends_a_call<K: BookName<Global>, R: Abort>(
     Ok(())
 }
 
-fn is_first_call(input: &LineInput) -> bool {
+fn is_first_call<A: Allocator + Copy + Drop>(input: &LineInput<A>) -> bool {
     match input {
         LineInput::Called(call) => call.client == 7 && call.number == 1,
         _ => false,
@@ -114,9 +120,9 @@ fn is_first_call(input: &LineInput) -> bool {
 }
 
 /// The line that answers the call.
-fn lends_an_answer<K: BookName<Global>, R: Abort>(
+fn lends_an_answer<O: Object, K: BookName<O::Alloc>, R: Abort>(
     rt: &R,
-    driven: &mut Driven<Counters, K>,
+    driven: &mut Driven<O, K>,
 ) -> Result<(), Fault> {
     let at = FrameRef { line: 6, place: 0 };
     let bytes = driven.spelled(at)?;

@@ -6,26 +6,26 @@ use super::ADD;
 use crate::Driven;
 use ring_base::{Fault, Fixed};
 use ring_book::{BookName, Opening};
+use ring_object::Object;
 use ring_things::Counters;
-use std::alloc::Global;
 use std::marker::Brand;
 use std::process::Abort;
 
 #[test]
 fn order_without_repeats(rt: HostRuntime) -> Result<(), Fault> {
     let opening = Opening::<Counters>::new(rt.alloc(), Fixed::new(1)?)?;
-    orders::<Brand, _>(&rt, rt.alloc(), opening)
+    orders::<Counters, Brand, _>(&rt, rt.alloc(), opening)
 }
 
 /// The first call is submitted twice. No call stands in the order before it is committed.
-fn orders<K: BookName<Global>, R: Abort>(
+fn orders<O: Object, K: BookName<O::Alloc>, R: Abort>(
     rt: &R,
-    alloc: Global,
-    opening: Opening<Counters>,
+    alloc: O::Alloc,
+    opening: Opening<O>,
 ) -> Result<(), Fault>
     requires { opening ≡ K.name }
 {
-    let mut driven = Driven::<Counters, K>::new(alloc, opening)?;
+    let mut driven = Driven::<O, K>::new(alloc, opening)?;
     assert!(rt; driven.book.order()?.is_empty());
     driven.form()?;
     driven.submit(1, &ADD)?;

@@ -6,6 +6,7 @@ use super::{commit_token, token};
 use crate::{Driven, FIRST};
 use ring_base::{Fault, Fixed, Kind, Proc};
 use ring_book::{BookName, FrameRef, Opening, Place};
+use ring_object::Object;
 use ring_one::Input;
 use ring_things::Counters;
 use ring_wire::decode_frame;
@@ -16,17 +17,17 @@ use std::process::Abort;
 #[test]
 fn strange_bytes(rt: HostRuntime) -> Result<(), Fault> {
     let opening = Opening::<Counters>::new(rt.alloc(), Fixed::new(1)?)?;
-    refuses_bytes::<Brand, _>(&rt, rt.alloc(), opening)
+    refuses_bytes::<Counters, Brand, _>(&rt, rt.alloc(), opening)
 }
 
-fn refuses_bytes<K: BookName<Global>, R: Abort>(
+fn refuses_bytes<O: Object, K: BookName<O::Alloc>, R: Abort>(
     rt: &R,
-    alloc: Global,
-    opening: Opening<Counters>,
+    alloc: O::Alloc,
+    opening: Opening<O>,
 ) -> Result<(), Fault>
     requires { opening ≡ K.name }
 {
-    let mut driven = Driven::<Counters, K>::new(alloc, opening)?;
+    let mut driven = Driven::<O, K>::new(alloc, opening)?;
     assert!(rt; is_strange(&mut driven, FIRST, &commit_token(1)));
     driven.step(Input::Timeout(Kind::Join), FIRST)?;
     refuses_changed_bits(rt, &mut driven);
@@ -37,8 +38,8 @@ fn refuses_bytes<K: BookName<Global>, R: Abort>(
 }
 
 /// Whether these bytes don't stand there for the node.
-fn is_strange<K: BookName<Global>>(
-    driven: &mut Driven<Counters, K>,
+fn is_strange<O: Object, K: BookName<O::Alloc>>(
+    driven: &mut Driven<O, K>,
     at: FrameRef,
     bytes: &[u8],
 ) -> bool {
@@ -46,7 +47,10 @@ fn is_strange<K: BookName<Global>>(
 }
 
 /// Each bit of the frame is changed in turn.
-fn refuses_changed_bits<K: BookName<Global>, R: Abort>(rt: &R, driven: &mut Driven<Counters, K>) {
+fn refuses_changed_bits<O: Object, K: BookName<O::Alloc>, R: Abort>(
+    rt: &R,
+    driven: &mut Driven<O, K>,
+) {
     let sent = commit_token(1);
     assert!(rt; !is_strange(driven, FIRST, &sent));
     for i in 0..77 {
@@ -60,9 +64,9 @@ fn refuses_changed_bits<K: BookName<Global>, R: Abort>(rt: &R, driven: &mut Driv
 }
 
 /// No such place, no such line, and another processor's number.
-fn refuses_other_places<K: BookName<Global>, R: Abort>(
+fn refuses_other_places<O: Object, K: BookName<O::Alloc>, R: Abort>(
     rt: &R,
-    driven: &mut Driven<Counters, K>,
+    driven: &mut Driven<O, K>,
 ) -> Result<(), Fault> {
     let sent = commit_token(1);
     for (line, place) in [(0, 1), (0, 65535), (1, 0), (u32::MAX, 0)] {
@@ -80,17 +84,17 @@ fn refuses_other_places<K: BookName<Global>, R: Abort>(
 #[test]
 fn strange_entries(rt: HostRuntime) -> Result<(), Fault> {
     let opening = Opening::<Counters>::new(rt.alloc(), Fixed::new(1)?)?;
-    refuses_entries::<Brand, _>(&rt, rt.alloc(), opening)
+    refuses_entries::<Counters, Brand, _>(&rt, rt.alloc(), opening)
 }
 
-fn refuses_entries<K: BookName<Global>, R: Abort>(
+fn refuses_entries<O: Object, K: BookName<O::Alloc>, R: Abort>(
     rt: &R,
-    alloc: Global,
-    opening: Opening<Counters>,
+    alloc: O::Alloc,
+    opening: Opening<O>,
 ) -> Result<(), Fault>
     requires { opening ≡ K.name }
 {
-    let mut driven = Driven::<Counters, K>::new(alloc, opening)?;
+    let mut driven = Driven::<O, K>::new(alloc, opening)?;
     refuses_with_all_entered(rt, &mut driven)?;
     driven.step(Input::Timeout(Kind::Join), FIRST)?;
     refuses_with_all_entered(rt, &mut driven)?;
@@ -101,15 +105,15 @@ fn refuses_entries<K: BookName<Global>, R: Abort>(
 }
 
 /// Whether `enter` refuses, and leaves the count of places as it is.
-fn is_refused<K: BookName<Global>>(driven: &mut Driven<Counters, K>, place: Place) -> bool {
+fn is_refused<O: Object, K: BookName<O::Alloc>>(driven: &mut Driven<O, K>, place: Place) -> bool {
     let before = driven.book.places();
     driven.enter(place) == Err(Fault::Stranger) && driven.book.places() == before
 }
 
 /// Nothing is left to enter. What was reserved stays reserved.
-fn refuses_with_all_entered<K: BookName<Global>, R: Abort>(
+fn refuses_with_all_entered<O: Object, K: BookName<O::Alloc>, R: Abort>(
     rt: &R,
-    driven: &mut Driven<Counters, K>,
+    driven: &mut Driven<O, K>,
 ) -> Result<(), Fault> {
     let lines = driven.book.places();
     let place = driven.book.reserve()?;
@@ -121,9 +125,9 @@ fn refuses_with_all_entered<K: BookName<Global>, R: Abort>(
 }
 
 /// No place is reserved: then `release` changes nothing, and the step waits until one is.
-fn refuses_without_a_place<K: BookName<Global>, R: Abort>(
+fn refuses_without_a_place<O: Object, K: BookName<O::Alloc>, R: Abort>(
     rt: &R,
-    driven: &mut Driven<Counters, K>,
+    driven: &mut Driven<O, K>,
 ) -> Result<(), Fault> {
     let lines = driven.book.places();
     let place = driven.book.reserve()?;
@@ -155,20 +159,20 @@ fn refuses_this_frame<R: Abort>(
     bytes: &[u8],
 ) -> Result<(), Fault> {
     let opening = Opening::<Counters>::new(alloc, Fixed::new(1)?)?;
-    refuses_frame::<Brand, R>(rt, alloc, opening, at, bytes)
+    refuses_frame::<Counters, Brand, R>(rt, alloc, opening, at, bytes)
 }
 
 /// The cell stays a step ahead for good, and the book goes on as before.
-fn refuses_frame<K: BookName<Global>, R: Abort>(
+fn refuses_frame<O: Object, K: BookName<O::Alloc>, R: Abort>(
     rt: &R,
-    alloc: Global,
-    opening: Opening<Counters>,
+    alloc: O::Alloc,
+    opening: Opening<O>,
     at: FrameRef,
     bytes: &[u8],
 ) -> Result<(), Fault>
     requires { opening ≡ K.name }
 {
-    let mut driven = Driven::<Counters, K>::new(alloc, opening)?;
+    let mut driven = Driven::<O, K>::new(alloc, opening)?;
     driven.step(Input::Timeout(Kind::Join), FIRST)?;
     let frame = decode_frame(alloc, bytes)?;
     driven.cell.step(Input::Frame(frame), at)?;

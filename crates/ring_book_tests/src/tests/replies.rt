@@ -6,27 +6,28 @@ use super::{ADD, five, token};
 use crate::{Driven, explained};
 use ring_base::{Fault, Fixed, Proc, State};
 use ring_book::{BookName, FrameRef, Opening};
+use ring_object::Object;
 use ring_session::Answer;
 use ring_things::Counters;
 use ring_world::Item;
-use std::alloc::Global;
+use std::alloc::Allocator;
 use std::marker::Brand;
 use std::process::Abort;
 
 #[test]
 fn first_reply(rt: HostRuntime) -> Result<(), Fault> {
     let opening = Opening::<Counters>::new(rt.alloc(), Fixed::new(1)?)?;
-    replies::<Brand, _>(&rt, rt.alloc(), opening)
+    replies::<Counters, Brand, _>(&rt, rt.alloc(), opening)
 }
 
-fn replies<K: BookName<Global>, R: Abort>(
+fn replies<O: Object, K: BookName<O::Alloc>, R: Abort>(
     rt: &R,
-    alloc: Global,
-    opening: Opening<Counters>,
+    alloc: O::Alloc,
+    opening: Opening<O>,
 ) -> Result<(), Fault>
     requires { opening ≡ K.name }
 {
-    let mut driven = Driven::<Counters, K>::new(alloc, opening)?;
+    let mut driven = Driven::<O, K>::new(alloc, opening)?;
     assert!(rt; driven.cell.node().state() == State::Gather);
     driven.form()?;
     assert!(rt; driven.cell.node().state() == State::Operational);
@@ -45,7 +46,10 @@ fn replies<K: BookName<Global>, R: Abort>(
 }
 
 /// What clients saw on that way, and the last frame sent.
-fn seen<K: BookName<Global>, R: Abort>(rt: &R, driven: &Driven<Counters, K>) -> Result<(), Fault> {
+fn seen<O: Object, K: BookName<O::Alloc>, R: Abort>(
+    rt: &R,
+    driven: &Driven<O, K>,
+) -> Result<(), Fault> {
     let seen = explained(&driven.book)?;
     assert_eq!(rt; seen.order.len(), 1);
     assert_eq!(rt; seen.history.len(), 2);
@@ -57,7 +61,7 @@ fn seen<K: BookName<Global>, R: Abort>(rt: &R, driven: &Driven<Counters, K>) -> 
 }
 
 /// Whether the first call was issued.
-fn is_issue(item: &Item) -> bool {
+fn is_issue<A: Allocator + Copy + Drop>(item: &Item<A>) -> bool {
     match item {
         Item::Issue(call) => call.client == 7
             && call.number == 1
@@ -67,7 +71,7 @@ fn is_issue(item: &Item) -> bool {
 }
 
 /// Whether the first call was replied.
-fn is_reply(item: &Item) -> bool {
+fn is_reply<A: Allocator + Copy + Drop>(item: &Item<A>) -> bool {
     match item {
         Item::Issue(_) => false,
         Item::Reply(call, reply) => call.client == 7 && call.number == 1 && *reply == five(),
