@@ -53,32 +53,46 @@ fn each_collection_answers_a_refusal(rt: HostRuntime) {
     }
 }
 
+/// Pushes until a push is refused, or the tape holds 40 bytes.
+fn push_until_refused<A: Allocator + Copy>(tape: &mut Tape<A>) {
+    for byte in tape.as_slice().len()..40 {
+        if tape.push(byte as u8) == Err(AllocError) {
+            return;
+        }
+    }
+}
+
 /// A refused call leaves the tape as it was, and the same call succeeds once memory is left.
 #[test]
 fn a_refused_push_can_be_tried_again(rt: HostRuntime) {
     for passed in 0..3 {
         let heap = Refusing::new(rt.alloc(), passed);
         let mut tape = Tape::<&Refusing>::new(&heap);
-        for byte in 0..40u8 {
-            if tape.push(byte) == Err(AllocError) {
-                assert!(rt; heap.has_refused(), "at {passed}");
-                assert_eq!(rt; tape.as_slice().len(), usize::from(byte), "at {passed}");
-                assert_eq!(rt; tape.push(byte), Ok(()), "at {passed}");
-            }
-        }
-        assert!(rt; heap.has_refused(), "at {passed}");
-        assert_eq!(rt; tape.as_slice().len(), 40, "at {passed}");
-        assert_eq!(rt; tape.as_slice().last(), Some(&39), "at {passed}");
+        push_until_refused(&mut tape);
+        assert!(rt;
+            heap.has_refused() && tape.as_slice().len() < 40,
+            "at {passed}"
+        );
+        push_until_refused(&mut tape);
+        assert!(rt;
+            tape.as_slice().len() == 40 && tape.as_slice().last() == Some(&39),
+            "at {passed}"
+        );
     }
+}
+
+/// Notes once, and answers whether it was noted. The desk then holds one note, or none.
+fn notes_whole_or_not_at_all<A: Allocator + Copy>(alloc: A) -> Option<bool> {
+    let mut desk = Desk::<A>::new(alloc);
+    let noted = desk.note(3, 5, b'x').is_ok();
+    (desk.tape().len() == usize::from(noted)).then_some(noted)
 }
 
 #[test]
 fn a_desk_changes_whole_or_not_at_all(rt: HostRuntime) {
     for passed in 0..4 {
         let heap = Refusing::new(rt.alloc(), passed);
-        let mut desk = Desk::<&Refusing>::new(&heap);
-        let noted = desk.note(3, 5, b'x').is_ok();
-        assert_eq!(rt; noted, !heap.has_refused(), "at {passed}");
-        assert_eq!(rt; desk.tape().len(), usize::from(noted), "at {passed}");
+        let noted = notes_whole_or_not_at_all(&heap);
+        assert!(rt; noted == Some(!heap.has_refused()), "at {passed}");
     }
 }

@@ -1,6 +1,6 @@
 use ring_base::{
-    Fault, Fixed, MAX, Past, ProcSet, RingId, front_law, is_primary_below, members_law, past_of,
-    primary_law, primary_order_law, ring_order_law,
+    Fault, Fixed, MAX, Past, Proc, ProcSet, RingId, front_law, is_primary_below, members_law,
+    past_of, primary_law, primary_order_law, ring_order_law,
 };
 use std::alloc::AllocError;
 use std::test::Fail;
@@ -37,20 +37,25 @@ fn memory_is_a_fault(rt: HostRuntime) {
     assert!(rt; Fault::from(AllocError) == Fault::Memory);
 }
 
+/// Whether the group has just the processors 1 to `count`.
+fn has_processors_up_to(fixed: Fixed, count: u8) -> bool {
+    let mut all = true;
+    for number in 0..18u8 {
+        all = all && fixed.proc(number).is_ok() == (1 <= number && number <= count);
+    }
+    all
+}
+
 #[test]
 fn groups(rt: HostRuntime) {
     assert!(rt; Fixed::new(0) == Err(Fault::NotMember));
     assert!(rt; Fixed::new(17) == Err(Fault::NotMember));
     for count in 1..17u8 {
-        let Ok(fixed) = Fixed::new(count) else {
-            panic!(rt; "{count} processors are a group");
-        };
-        assert_eq!(rt; fixed.count(), count);
-        assert!(rt; fixed.proc(0) == Err(Fault::NotMember));
-        assert!(rt; fixed.proc(count + 1) == Err(Fault::NotMember));
-        for number in 1..count + 1 {
-            assert!(rt; fixed.proc(number).is_ok(), "{number} of {count}");
-        }
+        let fixed = Fixed::new(count);
+        assert!(rt;
+            fixed.is_ok_and(|fixed| fixed.count() == count && has_processors_up_to(fixed, count)),
+            "{count} processors"
+        );
     }
 }
 
@@ -88,53 +93,76 @@ fn primaries(rt: HostRuntime) -> Result<(), Fail> {
 }
 
 #[test]
-fn sets(rt: HostRuntime) -> Result<(), Fail> {
+fn insertions(rt: HostRuntime) -> Result<(), Fail> {
     let fixed = Fixed::new(5)?;
-    let (two, three, five) = (fixed.proc(2)?, fixed.proc(3)?, fixed.proc(5)?);
+    let (two, five) = (fixed.proc(2)?, fixed.proc(5)?);
     let mut set = ProcSet::new();
     assert!(rt; set.is_empty() && set.smallest().is_none() && set == ProcSet::default());
     assert!(rt; set.insert(five) && set.insert(two) && !set.insert(five));
-    assert_eq!(rt; set.bits(), 0b10010);
-    assert_eq!(rt; set.len(), 2);
+    assert!(rt; set.bits() == 0b10010 && set.len() == 2);
+    Ok(())
+}
+
+fn two_and_five() -> ProcSet {
+    ProcSet::from_bits(0b10010)
+}
+
+#[test]
+fn positions(rt: HostRuntime) -> Result<(), Fail> {
+    let fixed = Fixed::new(5)?;
+    let (two, three, five) = (fixed.proc(2)?, fixed.proc(3)?, fixed.proc(5)?);
+    let set = two_and_five();
     assert!(rt; set.contains(two) && !set.contains(three));
     assert!(rt; set.smallest() == Some(two) && set.at(1) == Some(five) && set.at(2).is_none());
-    assert_eq!(rt; set.position_of(five), 1);
-    assert!(rt; set.next(two) == five && set.next(five) == two);
-    let all = fixed.everybody();
-    assert_eq!(rt; all.bits(), 0b11111);
+    assert!(rt; set.position_of(five) == 1 && set.next(two) == five && set.next(five) == two);
+    Ok(())
+}
+
+#[test]
+fn algebra(rt: HostRuntime) -> Result<(), Fail> {
+    let (all, set) = (Fixed::new(5)?.everybody(), two_and_five());
+    assert!(rt; all.bits() == 0b11111 && all.less(set).bits() == 0b01101);
     assert!(rt; set.is_subset(all) && !all.is_subset(set));
-    assert_eq!(rt; all.less(set).bits(), 0b01101);
     assert!(rt; all.intersection(set) == set && all.less(set).union(set) == all);
-    let mut members = set.iter();
-    assert!(rt; members.next() == Some(two) && members.next() == Some(five));
-    assert!(rt; members.next().is_none());
-    for proc in all.iter() {
-        assert!(rt; all.contains(proc));
-        assert!(rt; all.next(proc) == fixed.proc(proc.number() % 5 + 1)?);
-    }
     members_law();
     Ok(())
 }
 
 #[test]
+fn members(rt: HostRuntime) -> Result<(), Fail> {
+    let fixed = Fixed::new(5)?;
+    let mut members = two_and_five().iter();
+    assert!(rt; members.next() == Some(fixed.proc(2)?) && members.next() == Some(fixed.proc(5)?));
+    assert!(rt; members.next().is_none());
+    let all = fixed.everybody();
+    for proc in all.iter() {
+        assert!(rt; all.contains(proc));
+        assert!(rt; all.next(proc) == fixed.proc(proc.number() % 5 + 1)?);
+    }
+    Ok(())
+}
+
+fn ring(seq: u64, rep: Proc) -> RingId {
+    RingId { seq, rep }
+}
+
+#[test]
 fn rings(rt: HostRuntime) -> Result<(), Fail> {
     let fixed = Fixed::new(3)?;
-    let early = RingId {
-        seq: 1,
-        rep: fixed.proc(3)?,
-    };
-    let late = RingId {
-        seq: 2,
-        rep: fixed.proc(1)?,
-    };
+    let (early, late) = (ring(1, fixed.proc(3)?), ring(2, fixed.proc(1)?));
     assert!(rt; early.is_below(&late) && !late.is_below(&early) && !late.is_below(&late));
     assert!(rt; is_primary_below(None, Some(early)) && is_primary_below(Some(early), Some(late)));
     assert!(rt; !is_primary_below(None, None) && !is_primary_below(Some(early), None));
-    let shown = format!(in rt.alloc(); "{early} {}", late.rep)?;
-    assert_eq!(rt; shown.as_str(), "1.3 1");
-    assert_eq!(rt; MAX, 4_611_686_018_427_387_904);
     ring_order_law();
     primary_order_law();
+    Ok(())
+}
+
+#[test]
+fn names_and_numbers(rt: HostRuntime) -> Result<(), Fail> {
+    let rep = Fixed::new(3)?.proc(3)?;
+    let shown = format!(in rt.alloc(); "{} {rep}", ring(1, rep))?;
+    assert!(rt; shown.as_str() == "1.3 3" && MAX == 4_611_686_018_427_387_904);
     front_law::<u8>();
     Ok(())
 }
