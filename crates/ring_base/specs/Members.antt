@@ -137,23 +137,3 @@ within_members a b = (
             omega arith
       ])),
 )
-
--- sets with the same members are one set
-pub same_members : (a b : ℕ) → IsSubset a b → IsSubset b a → a ≡ b
-same_members a b there back = same_from_bits a b (λ k.
-    let is : k + 1 - 1 ≡ k = omega arith in
-    let al = bit_at-lt a k in
-    let bl = bit_at-lt b k in
-    elim (cases_lt (bit_at a k) 1) [
-      | inl none ↦ elim (cases_lt (bit_at b k) 1) [
-        | inl neither ↦ omega arith
-        | inr some ↦
-            let one : bit_at b k ≡ 1 = omega arith in
-            let other : bit_at a k ≡ 1 = rw is at (back (k + 1) (member_at b k one)).1 in
-            omega arith
-      ]
-      | inr some ↦
-          let one : bit_at a k ≡ 1 = omega arith in
-          let other : bit_at b k ≡ 1 = rw is at (there (k + 1) (member_at a k one)).1 in
-          omega arith
-    ])

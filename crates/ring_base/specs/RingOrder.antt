@@ -42,19 +42,8 @@ then_Less Less s h = inl refl
 then_Less Equal s h = inr (refl, h)
 then_Less Greater s h = absurd cc
 
-then_Equal : (r s : Ordering) → ordering_then r s ≡ Equal → (r ≡ Equal) × (s ≡ Equal)
-then_Equal Less s h = absurd cc
-then_Equal Equal s h = (refl, h)
-then_Equal Greater s h = absurd cc
-
 one_name : (a b : RingId) → a.seq ≡ b.seq → a.rep ≡ b.rep → a ≡ b
 one_name a b seqs reps = λ i. record { seq = seqs i; rep = reps i }
-
--- rings that compare as equal are one
-pub ring_cmp-Equal : (a b : RingId) → ring_cmp a b ≡ Equal → a ≡ b
-ring_cmp-Equal a b h =
-    let both = then_Equal (nat_cmp a.seq b.seq) (nat_cmp a.rep b.rep) h in
-    one_name a b (equal_of a.seq b.seq both.0) (equal_of a.rep b.rep both.1)
 
 pub below_numbers : (a b : RingId) → IsBelow a b ↔ ((a.seq < b.seq) ⊎ ((a.seq ≡ b.seq) × (a.rep < b.rep)))
 below_numbers a b = (

@@ -1,5 +1,5 @@
 -- Gather, rules 1 to 10 of docs/PROTOCOL.md: the two sets of a node, the joins that it hears, who agrees, giving up, consensus, and who proposes.
-use Rattle.std.specs.Prelude.{◌≡◌, ℕ, suc, max, Bool, true, false, ◌&&◌, ◌||◌, ◌==◌, nat_le, ◌≤◌, if◌then◌else◌, ◌⊎◌, List, [], ◌∷◌, map}
+use Rattle.std.specs.Prelude.{◌≡◌, ℕ, suc, max, Bool, ◌&&◌, ◌||◌, ◌==◌, nat_le, ◌≤◌, if◌then◌else◌, ◌⊎◌, List, [], ◌∷◌, map}
 use Rattle.std.specs.List.{AllByRecursion, Any}
 use Rattle.ring_base.specs.Numbers.{max_number, greatest}
 use Rattle.ring_base.specs.Processors.{IsMember, nobody, only, has, within, union, less, smallest}
@@ -67,14 +67,6 @@ abbrev pub heard_as : Hearing → ℕ → Gathering → Join → Gathering
 heard_as Ignored me g j = g
 heard_as Agrees me g j = agreed g j
 heard_as Widens me g j = widened me g j
-
-abbrev pub after_join : ℕ → Gathering → Join → Gathering
-after_join me g j = heard_as (hearing me g j) me g j
-
--- the sets of the node changed
-abbrev pub changes_sets : Hearing → Bool
-changes_sets Widens = true
-changes_sets _ = false
 
 -- Agreeing
 

@@ -45,13 +45,6 @@ text_bytes n bytes x fits e =
     let P : List ℕ × List ℕ → Type 0 = λ y. IsBytes y.0 in
     subst P g.1 (IsBytes-take n bytes fits)
 
-pub text_taken : (n : ℕ) (bytes text rest : List ℕ) → text_at n bytes ≡ Some (text, rest) → length text ≡ n
-text_taken n bytes text rest e =
-    let g = guard_some (ltb (length bytes) n) (take n bytes, drop n bytes) (text, rest) e in
-    let long : n ≤ length bytes = ltb-false _ _ g.0 in
-    let t : take n bytes ≡ text = ap (λ (p : List ℕ × List ℕ). p.0) g.1 in
-    rw (← t) (omega (arith, length-take n bytes))
-
 pub nothing_format : {A : Type 0} (s : A → List ℕ) (F : A → Type 0) → ((a : A) → F a → ⊥) → IsFormat s F nothing_at
 nothing_format s F none = record {
   takes = λ bytes x fits e. absurd cc;
