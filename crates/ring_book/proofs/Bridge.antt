@@ -7,6 +7,7 @@ use Rattle.ring_base.specs.declared.fault.Fault.{Fault}
 use Rattle.ring_base.specs.Fronts.{IsFront, front_append, front_get, front_length}
 use Rattle.ring_payload.specs.declared.call.Call.{Call}
 use Rattle.ring_session.specs.Deduplicated.{deduplicated}
+use Rattle.ring_session.specs.declared.answer.Answer.{Answer}
 use Rattle.ring_wire.specs.declared.frame.Frame.{Frame}
 use Rattle.ring_world.specs.declared.item.Item.TheVariants.{Issue as Issued}
 use Rattle.ring_one.specs.declared.input.Input.{Input}
@@ -20,14 +21,18 @@ use Rattle.ring_book.specs.declared.frame_ref.FrameRef.{FrameRef}
 use Rattle.ring_book.specs.declared.input.LineInput.{LineInput}
 use Rattle.ring_book.specs.declared.input.LineInput.TheVariants.{Called, Came}
 use Rattle.ring_book.specs.declared.line.Line.{Line}
-use Rattle.ring_book.specs.Events.{frames_of, frame_number, event_of, events_after, events_of, items_of, history_of, IsDone, AreDone, IsRun}
+use Rattle.ring_book.specs.Answers.{answered_in, told_by, told_from}
+use Rattle.ring_book.specs.Events.{answers_of, frames_of, frame_number, event_of, events_after, events_of, items_of, history_of, IsDone, AreDone, IsRun}
 use Rattle.ring_book.specs.Lines.{steps, steps_of, frame_to, IsFound}
 use Rattle.ring_book.specs.Machines.{Machine, one_machine}
 use Rattle.ring_book.specs.Orders.{call_in, call_lines, calls_at, calls_of, committed_after}
 use Rattle.ring_book.specs.Runs.{Makes, Leads, AllFound, IsBookRun}
 use Rattle.ring_book.specs.Steps.{StepView}
+use Rattle.ring_book.proofs.Given.{answers_of-stepped, answers_of-submitted}
+use Rattle.ring_book.proofs.Leading.{steps-snoc}
 use Rattle.ring_book.proofs.Ordering.{calls_of-snoc, committed_from-snoc, length-call_lines, one_order}
 use Rattle.ring_book.proofs.Standing.{there_line}
+use Rattle.ring_book.proofs.Telling.{told_from-snoc}
 
 -- ---- where a frame stands among all frames
 
@@ -78,6 +83,7 @@ module _ {O A : Type 0} (reply : O → List ℕ → List ℕ) (next : O → List
     frames : after.frames ≡ w.frames ++ l.frames
     history : after.history ≡ w.history ++ items_of input l.answers
     calls : asked_calls after.node.tickets ≡ asked_calls w.node.tickets ++ call_in input
+    answers : answers_of reply next initial after.node ≡ told_by (answers_of reply next initial w.node) input l.answers
 
   issued : (w : World A) (c : Call A) (o : Option Fault) → o ≡ None → runs.issues w c o ≡ record { node = submitted w.node c; frames = w.frames; history = w.history ++ Issued c ∷ [] }
   issued w c None h = refl
@@ -94,15 +100,17 @@ module _ {O A : Type 0} (reply : O → List ℕ → List ℕ) (next : O → List
     frames = ap (λ x. x.frames) e ∙ (sym (append-nil w.frames) ∙ ap (λ fs. w.frames ++ fs) (sym none));
     history = ap (λ x. x.history) e;
     calls = ap (λ x. asked_calls x.node.tickets) e ∙ map-append (λ (t : Asked A). t.call) w.node.tickets (record { call = c; since = length (committed_of w.node) } ∷ []);
+    answers = ap (λ x. answers_of reply next initial x.node) e ∙ answers_of-submitted reply next initial w.node c;
   }
 
   next_done : (w after : World A) (input : Input A) (at : FrameRef) (l : StepView A) (u : One A) (d : Did A) → after ≡ runs.did w d
-      → d.new.tickets ≡ w.node.tickets → u ≡ d.new → l.frames ≡ d.frames → l.answers ≡ d.answers → IsNext w after (Came input at) l u
-  next_done w after input at l u d e kept new sent told = record {
+      → d.new.tickets ≡ w.node.tickets → answers_of reply next initial d.new ≡ answered_in (answers_of reply next initial w.node) d.answers → u ≡ d.new → l.frames ≡ d.frames → l.answers ≡ d.answers → IsNext w after (Came input at) l u
+  next_done w after input at l u d e kept tells new sent told = record {
     node = ap (λ x. x.node) e ∙ sym new;
     frames = ap (λ x. x.frames) e ∙ ap (λ fs. w.frames ++ fs) (sym sent);
     history = ap (λ x. x.history) e ∙ ap (λ as'. w.history ++ replies as') (sym told);
     calls = ap (λ x. asked_calls x.node.tickets) e ∙ (ap asked_calls kept ∙ sym (append-nil (asked_calls w.node.tickets)));
+    answers = ap (λ x. answers_of reply next initial x.node) e ∙ (tells ∙ ap (answered_in (answers_of reply next initial w.node)) (sym told));
   }
 
   steps_on : (w : World A) (input : Input A) → is_stopped w.node.state ≡ false → runs.steps reply next initial w input ≡ runs.did w (one_step reply next initial w.node input)
@@ -132,19 +140,19 @@ module _ {O A : Type 0} (reply : O → List ℕ → List ℕ) (next : O → List
       record {
         done = (made.0, made.2, made.3, sent);
         moved = next_done w (runs.happens reply next initial w (event_of before (Came (Comes f) at))) (Comes f) at l u (one_step reply next initial w.node (Comes f))
-            (ap (runs.delivers reply next initial w) sent ∙ steps_on w (Comes f) made.0) (tickets_stay w.node (Comes f)) made.1 made.2 made.3;
+            (ap (runs.delivers reply next initial w) sent ∙ steps_on w (Comes f) made.0) (tickets_stay w.node (Comes f)) (answers_of-stepped reply next initial w.node (Comes f)) made.1 made.2 made.3;
       }
   follows w before (Came Noise at) l u e made found = record {
     done = (made.0, made.2, made.3, tt);
-    moved = next_done w (runs.happens reply next initial w (event_of before (Came Noise at))) Noise at l u (one_step reply next initial w.node Noise) (steps_on w Noise made.0) (tickets_stay w.node Noise) made.1 made.2 made.3;
+    moved = next_done w (runs.happens reply next initial w (event_of before (Came Noise at))) Noise at l u (one_step reply next initial w.node Noise) (steps_on w Noise made.0) (tickets_stay w.node Noise) (answers_of-stepped reply next initial w.node Noise) made.1 made.2 made.3;
   }
   follows w before (Came (Timeout kind) at) l u e made found = record {
     done = (made.0, made.2, made.3, tt);
-    moved = next_done w (runs.happens reply next initial w (event_of before (Came (Timeout kind) at))) (Timeout kind) at l u (one_step reply next initial w.node (Timeout kind)) (steps_on w (Timeout kind) made.0) (tickets_stay w.node (Timeout kind)) made.1 made.2 made.3;
+    moved = next_done w (runs.happens reply next initial w (event_of before (Came (Timeout kind) at))) (Timeout kind) at l u (one_step reply next initial w.node (Timeout kind)) (steps_on w (Timeout kind) made.0) (tickets_stay w.node (Timeout kind)) (answers_of-stepped reply next initial w.node (Timeout kind)) made.1 made.2 made.3;
   }
   follows w before (Came Stop at) l u e made found = record {
     done = (made.0, made.2, made.3, tt);
-    moved = next_done w (runs.happens reply next initial w (event_of before (Came Stop at))) Stop at l u (one_step reply next initial w.node Stop) (steps_on w Stop made.0) (tickets_stay w.node Stop) made.1 made.2 made.3;
+    moved = next_done w (runs.happens reply next initial w (event_of before (Came Stop at))) Stop at l u (one_step reply next initial w.node Stop) (steps_on w Stop made.0) (tickets_stay w.node Stop) (answers_of-stepped reply next initial w.node Stop) made.1 made.2 made.3;
   }
 
   -- the world after the lines, and how it came about
@@ -154,19 +162,21 @@ module _ {O A : Type 0} (reply : O → List ℕ → List ℕ) (next : O → List
     pub frames : (runs.run_from reply next initial w (events_after before ls)).frames ≡ frames_of (before ++ ls)
     pub history : (runs.run_from reply next initial w (events_after before ls)).history ≡ history_of (before ++ ls)
     pub calls : asked_calls (runs.run_from reply next initial w (events_after before ls)).node.tickets ≡ calls_of (before ++ ls)
+    pub answers : answers_of reply next initial (runs.run_from reply next initial w (events_after before ls)).node ≡ told_from [] (steps (before ++ ls))
     pub committed : length (committed_of (runs.run_from reply next initial w (events_after before ls)).node) ≡ committed_after (before ++ ls)
 
   ran : (w : World A) (before ls : List (Line A)) (t : One A) → w.frames ≡ frames_of before → w.history ≡ history_of before
-      → asked_calls w.node.tickets ≡ calls_of before → length (committed_of w.node) ≡ committed_after before → Leads machine w.node (steps ls) t → AllFound machine before ls → Ran w before ls t
-  ran w before [] t fs hs cs ks led found = record {
+      → asked_calls w.node.tickets ≡ calls_of before → answers_of reply next initial w.node ≡ told_from [] (steps before) → length (committed_of w.node) ≡ committed_after before → Leads machine w.node (steps ls) t → AllFound machine before ls → Ran w before ls t
+  ran w before [] t fs hs cs ts ks led found = record {
     done = tt;
     node = sym led;
     frames = rw append-nil fs;
     history = rw append-nil hs;
     calls = rw append-nil cs;
+    answers = rw append-nil ts;
     committed = rw append-nil ks;
   }
-  ran w before (l ∷ ls) t fs hs cs ks led found =
+  ran w before (l ∷ ls) t fs hs cs ts ks led found =
       let after : World A = runs.happens reply next initial w (event_of before l.step.input) in
       let f = follows w before l.step.input l.step led.0 fs led.1.0.0 found.0 in
       let led' : Leads machine after.node (steps ls) t = subst (λ (s : One A). Leads machine s (steps ls) t) (sym f.moved.node) led.1.1 in
@@ -174,6 +184,7 @@ module _ {O A : Type 0} (reply : O → List ℕ → List ℕ) (next : O → List
       (f.moved.frames ∙ (ap (λ xs. xs ++ l.step.frames) fs ∙ sym (frames_of-snoc before l)))
       (f.moved.history ∙ (ap (λ xs. xs ++ items_of l.step.input l.step.answers) hs ∙ sym (history_of-snoc before l)))
       (f.moved.calls ∙ (ap (λ xs. xs ++ call_in l.step.input) cs ∙ sym (calls_of-snoc before l)))
+      (f.moved.answers ∙ (ap (λ (xs : List (Option Answer)). told_by xs l.step.input l.step.answers) ts ∙ sym (ap (told_from []) (steps-snoc before l) ∙ told_from-snoc [] (steps before) l.step)))
       (ap (λ (s : One A). length (committed_of s)) f.moved.node ∙ (sym led.1.0.1 ∙ sym (committed_from-snoc 0 before l)))
       led' found.1 in
       record {
@@ -182,6 +193,7 @@ module _ {O A : Type 0} (reply : O → List ℕ → List ℕ) (next : O → List
         frames = rest.frames ∙ ap frames_of (append_assoc before (l ∷ []) ls);
         history = rest.history ∙ ap history_of (append_assoc before (l ∷ []) ls);
         calls = rest.calls ∙ ap calls_of (append_assoc before (l ∷ []) ls);
+        answers = rest.answers ∙ ap (λ (xs : List (Line A)). told_from [] (steps xs)) (append_assoc before (l ∷ []) ls);
         committed = rest.committed ∙ ap committed_after (append_assoc before (l ∷ []) ls);
       }
 
@@ -194,14 +206,21 @@ module _ {O A : Type 0} (reply : O → List ℕ → List ℕ) (next : O → List
 
   -- a node whose steps are all in the book is the node of the run
   pub book_ran : (n : ℕ) (ls : List (Line A)) (t : One A) → n ≡ 1 → IsBookRun machine n ls → Leads machine one_opening (steps_of 1 ls) t → Ran runs.world_opening [] ls t
-  book_ran n ls t one r led = ran runs.world_opening [] ls t refl refl refl refl (subst (λ (xs : List (StepView A)). Leads machine one_opening xs t) (all_own n ls one r.inside) led) r.found
+  book_ran n ls t one r led = ran runs.world_opening [] ls t refl refl refl refl refl (subst (λ (xs : List (StepView A)). Leads machine one_opening xs t) (all_own n ls one r.inside) led) r.found
 
   -- the lines of a book of one node are a run
   pub book_is_run : (n : ℕ) (ls : List (Line A)) → n ≡ 1 → IsBookRun machine n ls → IsRun reply next initial ls
   book_is_run n ls one r =
       let first = r.nodes 1 (omega arith) (omega arith) in
       let b = book_ran n ls first.0 one r first.1 in
-      record { done = b.done; frames = b.frames; history = b.history; calls = b.calls; committed = b.committed }
+      record {
+        done = b.done;
+        frames = b.frames;
+        history = b.history;
+        calls = b.calls;
+        answers = b.answers ∙ sym (ap (told_from []) (all_own n ls one r.inside));
+        committed = b.committed;
+      }
 
   pub book_node : (n : ℕ) (ls : List (Line A)) (t : One A) → n ≡ 1 → IsBookRun machine n ls → Leads machine one_opening (steps_of 1 ls) t
       → (runs.run reply next initial (events_of ls)).node ≡ t

@@ -16,7 +16,7 @@ Leads-snoc {S} m s [] u t l h step = (t, (subst (λ (x : S). IsStep m x l t) h s
 Leads-snoc m s (x ∷ ls) u t l h step = (h.0, (h.1.0, Leads-snoc m h.0 ls u t l h.1.1 step))
 
 -- the steps of the lines with one more
-steps-snoc : {A : Type 0} (ls : List (Line A)) (l : Line A) → steps (ls ++ l ∷ []) ≡ steps ls ++ l.step ∷ []
+pub steps-snoc : {A : Type 0} (ls : List (Line A)) (l : Line A) → steps (ls ++ l ∷ []) ≡ steps ls ++ l.step ∷ []
 steps-snoc [] l = refl
 steps-snoc (x ∷ ls) l = ap (λ ys. x.step ∷ ys) (steps-snoc ls l)
 

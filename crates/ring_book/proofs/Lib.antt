@@ -10,4 +10,5 @@ pub mod Ones
 pub mod Bridge
 pub mod Histories
 pub mod Telling
+pub mod Given
 pub mod Ordering

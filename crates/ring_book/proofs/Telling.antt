@@ -1,8 +1,9 @@
 -- Answers by ticket, answer by answer and step by step.
-use Rattle.std.proofs.Common.{◌≡◌, ℕ, zero, suc, ◌+◌, ◌≤◌, Bool, false, List, [], ◌∷◌, ◌++◌, length, take, Option, Some, None, slice_get, refl, ap, sym, ◌∙◌, arith, length-append, length-set}
+use Rattle.std.proofs.Common.{◌≡◌, ℕ, zero, suc, ◌+◌, ◌<◌, ◌≤◌, Bool, false, List, [], ◌∷◌, ◌++◌, length, take, Option, Some, None, slice_get, refl, ap, subst, sym, ◌∙◌, arith, length-append, length-set}
 use Rattle.std.specs.Prelude.{slice_set, ◌==◌, if◌then◌else◌}
 use Rattle.std.specs.Option.{option_and_then}
 use Rattle.std.proofs.lemmas.Bool.Decides.{nat_tests}
+use Rattle.std.proofs.lemmas.List.{set-append_left}
 use Rattle.std.specs.List.{AllByRecursion}
 use Rattle.ring_session.specs.declared.answer.Answer.{Answer}
 use Rattle.ring_one.specs.declared.outs.Answered.{Answered}
@@ -26,6 +27,19 @@ answered_in-all told [] zero h = refl
 answered_in-all told [] (suc k) h = refl
 answered_in-all told (a ∷ as') zero h = absurd (omega arith)
 answered_in-all told (a ∷ as') (suc k) h = answered_in-all (slice_set told a.ticket (Some a.answer)) as' k (omega arith)
+
+-- answers after others
+pub answered_in-append : {A : Type 0} (told : List (Option Answer)) (as' more : List (Answered A)) → answered_in told (as' ++ more) ≡ answered_in (answered_in told as') more
+answered_in-append told [] more = refl
+answered_in-append told (a ∷ as') more = answered_in-append (slice_set told a.ticket (Some a.answer)) as' more
+
+-- answers of the first tickets leave the others
+pub answered_in-left : {A : Type 0} (told others : List (Option Answer)) (as' : List (Answered A)) → AllByRecursion (λ (a : Answered A). a.ticket < length told) as' → answered_in (told ++ others) as' ≡ answered_in told as' ++ others
+answered_in-left told others [] h = refl
+answered_in-left {A} told others (a ∷ as') h =
+    let set = slice_set told a.ticket (Some a.answer) in
+    ap (λ ts. answered_in ts as') (set-append_left told others a.ticket (Some a.answer) h.0)
+    ∙ answered_in-left set others as' (subst (λ (n : ℕ). AllByRecursion (λ (b : Answered A). b.ticket < n) as') (sym (length-set told a.ticket (Some a.answer))) h.1)
 
 -- one more step
 pub told_from-snoc : {A : Type 0} (told : List (Option Answer)) (ss : List (StepView A)) (s : StepView A) → told_from told (ss ++ s ∷ []) ≡ told_by (told_from told ss) s.input s.answers

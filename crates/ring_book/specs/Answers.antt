@@ -1,5 +1,5 @@
 -- Answers by ticket.
-use Rattle.std.specs.Prelude.{ℕ, List, [], ◌∷◌, ◌++◌, Option, Some, None, slice_get, slice_set}
+use Rattle.std.specs.Prelude.{ℕ, List, [], ◌∷◌, ◌++◌, Option, Some, None, replicate, slice_get, slice_set}
 use Rattle.std.specs.Option.{option_and_then}
 use Rattle.ring_session.specs.declared.answer.Answer.{Answer}
 use Rattle.ring_one.specs.declared.outs.Answered.{Answered}
@@ -14,6 +14,10 @@ abbrev pub answered_in : {A : Type 0} → List (Option Answer) → List (Answere
 answered_in told [] = told
 answered_in told (a ∷ rest) = answered_in (slice_set told a.ticket (Some a.answer)) rest
 
+-- the answers of so many tickets, as these tell
+abbrev pub by_ticket : {A : Type 0} → ℕ → List (Answered A) → List (Option Answer)
+by_ticket count answers = answered_in (replicate count None) answers
+
 -- a call that was submitted has the next ticket
 abbrev pub told_by : {A : Type 0} → List (Option Answer) → LineInput A → List (Answered A) → List (Option Answer)
 told_by told (Called c) answers = told ++ None ∷ []
@@ -27,6 +31,10 @@ told_from told (s ∷ ss) = told_from (told_by told s.input s.answers) ss
 abbrev pub told_to : {A : Type 0} → ℕ → List (Line A) → List (Option Answer)
 told_to node lines = told_from [] (steps_of node lines)
 
+-- the answer under a ticket, if there is one
+abbrev pub told_at : List (Option Answer) → ℕ → Option Answer
+told_at told ticket = option_and_then (λ (answer : Option Answer). answer) (slice_get told ticket)
+
 -- the answer that the lines give to a ticket of the node
 abbrev pub answer_in : {A : Type 0} → List (Line A) → ℕ → ℕ → Option Answer
-answer_in lines node ticket = option_and_then (λ (told : Option Answer). told) (slice_get (told_to node lines) ticket)
+answer_in lines node ticket = told_at (told_to node lines) ticket

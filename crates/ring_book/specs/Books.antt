@@ -41,10 +41,12 @@ module _ {S A : Type 0} (m : Machine S A) where
     pub text : FRAME_BYTES ≤ space
 
 module _ {S A : Type 0} where
-  -- The cell's one step went to the end of the list, as its line. Then the journal is the node's steps in the book.
+  -- The cell's one step went to the end of the list, as its line, and what it delivers stood in the list before. Then
+  -- the journal is the node's steps in the book.
   pub record Enters (old new : BookView A) (cell cell' : CellView S A) : Type 0 where
     pub step : StepView A
     pub was : cell.journal ≡ steps_of cell.me old.lines ++ step ∷ []
+    pub found : IsFound old.lines step.node step.input
     pub lines : new.lines ≡ old.lines ++ record { number = length old.lines; step = step } ∷ []
     pub reserved : old.reserved ≡ new.reserved + 1
     pub journal : cell'.journal ≡ steps_of cell.me new.lines

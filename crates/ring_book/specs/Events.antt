@@ -1,5 +1,5 @@
 -- The book's lines as the events of a run of the node of a ring of one.
-use Rattle.std.specs.Prelude.{ℕ, suc, ◌≡◌, ◌+◌, false, List, [], ◌∷◌, ◌++◌, length, take, None, Some}
+use Rattle.std.specs.Prelude.{ℕ, suc, ◌≡◌, ◌+◌, false, List, [], ◌∷◌, ◌++◌, length, take, Option, None, Some}
 use Rattle.ring_wire.specs.declared.frame.Frame.{Frame}
 use Rattle.ring_world.specs.declared.item.Item.{Item}
 use Rattle.ring_world.specs.declared.item.Item.TheVariants.{Issue as Issued}
@@ -8,9 +8,11 @@ use Rattle.ring_one.specs.declared.event.Event.TheVariants as events
 use Rattle.ring_one.specs.declared.input.Input.{Input}
 use Rattle.ring_one.specs.declared.input.Input.TheVariants.{Frame as Comes, Noise, Timeout, Stop}
 use Rattle.ring_one.specs.declared.outs.Answered.{Answered}
-use Rattle.ring_one.specs.Machine.{committed_of, one_step, is_stopped, submit_fault}
-use Rattle.ring_one.specs.Tickets.{asked_calls}
+use Rattle.ring_session.specs.declared.answer.Answer.{Answer}
+use Rattle.ring_one.specs.Machine.{One, committed_of, one_step, is_stopped, submit_fault}
+use Rattle.ring_one.specs.Tickets.{all_answers, asked_calls}
 use Rattle.ring_one.specs.Runs.{World, frame_of, happens, replies, run, world_opening}
+use Rattle.ring_book.specs.Answers.{by_ticket, told_to}
 use Rattle.ring_book.specs.declared.frame_ref.FrameRef.{FrameRef}
 use Rattle.ring_book.specs.declared.input.LineInput.{LineInput}
 use Rattle.ring_book.specs.declared.input.LineInput.TheVariants.{Called, Came}
@@ -78,11 +80,17 @@ module _ {O : Type 0} (reply : O → List ℕ → List ℕ) (next : O → List �
   AreDone w before (l ∷ ls) =
       IsDone w before l.step.input l.step × AreDone (happens reply next initial w (event_of before l.step.input)) (before ++ l ∷ []) ls
 
-  -- The lines are a run: their inputs are its events, with just these frames and answers. Its frames, its history and
-  -- its calls, of which a ticket is a place, are those of the lines, and so is the length of its committed log.
+  -- the answers of the node's tickets that its committed log gives
+  abbrev pub answers_of : {A : Type 0} → One A → List (Option Answer)
+  answers_of s = by_ticket (length s.tickets) (all_answers reply next initial s.tickets (committed_of s))
+
+  -- The lines are a run: their inputs are its events, with just these frames and answers. Its frames, its history, its
+  -- calls, of which a ticket is a place, and the answers of its tickets are those of the lines, and so is the length of
+  -- its committed log.
   pub record IsRun {A : Type 0} (lines : List (Line A)) : Type 0 where
     pub done : AreDone world_opening [] lines
     pub frames : (run reply next initial (events_of lines)).frames ≡ frames_of lines
     pub history : (run reply next initial (events_of lines)).history ≡ history_of lines
     pub calls : asked_calls (run reply next initial (events_of lines)).node.tickets ≡ calls_of lines
+    pub answers : answers_of (run reply next initial (events_of lines)).node ≡ told_to 1 lines
     pub committed : length (committed_of (run reply next initial (events_of lines)).node) ≡ committed_after lines

@@ -96,7 +96,7 @@ impl<O: Object, K: BookName<O::Alloc>> Book<O, K> {
 
     /// Law: the list is a run. Its inputs are the events of a run of the group, with just these frames and answers: of the
     /// very run of which `ring_one::linear_law` speaks. So `order` and `history` are that run's, and `answer` tells what
-    /// its steps answered (`done`) to the ticket, which is a place among its calls (`calls`).
+    /// the session table answers to the ticket, a place among its calls (`calls`), along its committed log (`answers`).
     pub fn run_law(&self)
         ensures { IsRun O.reply O.next O.initial self.now.lines }
     {

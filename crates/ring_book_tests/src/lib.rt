@@ -6,7 +6,7 @@ mod driven;
 mod linear;
 
 pub use driven::{Driven, FIRST};
-pub use linear::{Seen, explained, in_order};
+pub use linear::{Seen, answered, explained, in_order};
 
 #[cfg(test)]
 mod tests;

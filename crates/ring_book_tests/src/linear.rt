@@ -7,14 +7,16 @@ ghost use Rattle.ring_session.specs.Deduplicated.{deduplicated};
 ghost use Rattle.ring_world.specs.Histories.{IsLinearization};
 ghost use Rattle.ring_one.specs.Machine.{committed_of};
 ghost use Rattle.ring_one.specs.Runs.{run, order_in};
-ghost use Rattle.ring_book.specs.Events.{events_of};
+ghost use Rattle.ring_book.specs.Answers.{told_at};
+ghost use Rattle.ring_book.specs.Events.{answers_of, events_of};
 ghost use Rattle.ring_book.specs.Lines.{steps_of};
 
-use ring_base::Fault;
+use ring_base::{Fault, Proc};
 use ring_book::{Book, BookName, Cell};
 use ring_object::Object;
-use ring_one::linear_law;
+use ring_one::{Ticket, linear_law};
 use ring_payload::Call;
+use ring_session::Answer;
 use ring_world::Item;
 use std::alloc::{Allocator, Global};
 
@@ -47,4 +49,17 @@ pub fn in_order<O: Object, K: BookName<O::Alloc>>(book: &Book<O, K>, cell: &Cell
 {
     book.node_law(cell);
     linear_law::<O>();
+}
+
+/// The book's answer to a ticket of the one processor: what the session table answers to it along the committed log of
+/// the book's run.
+pub fn answered<O: Object, K: BookName<O::Alloc>>(
+    book: &Book<O, K>,
+    ticket: Ticket,
+) -> Option<Answer>
+    ensures { let node = (run O.reply O.next O.initial (events_of book.now.lines)).node in
+        result ≡ told_at (answers_of O.reply O.next O.initial node) ticket }
+{
+    book.run_law();
+    book.answer(Proc::new(1), ticket)
 }

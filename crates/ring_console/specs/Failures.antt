@@ -1,13 +1,44 @@
--- Why a script is not taken.
-use Rattle.std.specs.Prelude.{◌≡◌, ℕ, ◌≤◌, ◌⊎◌}
-use Rattle.ring_base.specs.declared.fault.Fault.TheVariants.{Memory}
+-- Why a function ends before its work is done, and the line that says so.
+use Rattle.std.specs.Prelude.{ℕ, List, [], ◌++◌, codes}
+use Rattle.std.specs.Fmt.{decimal}
+use Rattle.ring_base.specs.Fault.{number_of}
+use Rattle.ring_base.specs.declared.fault.Fault.{Fault}
+use Rattle.ring_base.specs.declared.fault.Fault.TheVariants as fault
 use Rattle.ring_console.specs.declared.failure.Failure.{Failure}
-use Rattle.ring_console.specs.declared.failure.Failure.TheVariants.{BadScript, Refused}
+use Rattle.ring_console.specs.declared.failure.Failure.TheVariants.{Refused, BadFrame, BadScript, Output}
+use Rattle.ring_script.specs.declared.scripts.ScriptFault.{ScriptFault}
+use Rattle.ring_script.specs.declared.scripts.ScriptFault.TheVariants as script
 
--- memory was refused, or a line is at fault, 0 standing for the file as a whole
-abbrev pub IsScriptFailure : Failure → Type 0
-IsScriptFailure failure = (failure ≡ Refused Memory) ⊎ ((line : ℕ) × (failure ≡ BadScript line))
+-- what an unread script comes to
+abbrev pub script_failure : ScriptFault → Failure
+script_failure script.Memory = Refused fault.Memory
+script_failure (script.AtLine line) = BadScript line
 
--- the same for a text, whose lines are counted from 1
-abbrev pub IsTextFailure : Failure → Type 0
-IsTextFailure failure = (failure ≡ Refused Memory) ⊎ ((line : ℕ) × (1 ≤ line) × (failure ≡ BadScript line))
+-- the text of a refusal
+abbrev pub fault_words : Fault → List ℕ
+fault_words fault.NotMember = codes "not a member"
+fault_words fault.PendingFull = codes "too many pending calls"
+fault_words fault.OpTooLong = codes "operation too long"
+fault_words fault.Conflict = codes "number used for another call"
+fault_words fault.Stale = codes "stale number"
+fault_words fault.NumberGap = codes "number gap"
+fault_words fault.SessionsFull = codes "sessions full"
+fault_words fault.Stopped = codes "stopped"
+fault_words fault.BookFull = codes "book full"
+fault_words fault.Stranger = codes "stranger"
+fault_words fault.Memory = codes "out of memory"
+fault_words fault.BadFrame = codes "bad frame"
+fault_words fault.BadScript = codes "bad script"
+fault_words fault.NoAnswer = codes "no answer"
+fault_words fault.BadSnapshot = codes "bad snapshot"
+
+-- a refusal's number and text, as they begin each line on standard error
+abbrev pub numbered_text : Fault → List ℕ
+numbered_text f = codes "totem: " ++ decimal (number_of f) ++ codes " " ++ fault_words f
+
+-- the line on standard error, without its end. Of a failed output nothing is said
+abbrev pub failure_text : Failure → List ℕ
+failure_text (Refused f) = numbered_text f
+failure_text (BadFrame byte) = numbered_text fault.BadFrame ++ codes " at byte " ++ decimal byte
+failure_text (BadScript line) = numbered_text fault.BadScript ++ codes " at line " ++ decimal line
+failure_text Output = []

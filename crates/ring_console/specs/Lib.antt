@@ -1,4 +1,3 @@
 pub mod Failures
 pub mod Network
 pub mod Printed
-pub mod Words

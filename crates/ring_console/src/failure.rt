@@ -1,11 +1,15 @@
 //! Why the program ends before its work is done, and how it says so.
 
-ghost use Rattle.std.specs.Prelude.{◌≡◌, ◌≤◌, IsOk};
+ghost use Rattle.std.specs.Prelude.{◌≡◌, ◌≤◌, IsOk, OnOk};
+ghost use Rattle.std.specs.Io.KnownBytes.{Appends};
+ghost use Rattle.ring_console.specs.Failures.{fault_words, failure_text};
+ghost use Rattle.ring_console.specs.Printed.{line_of};
 
 use ring_base::Fault;
+use ring_script::ScriptFault;
 use std::alloc::Allocator;
-use std::fmt;
 use std::io::{BufWriter, Write};
+use std::{fmt, io};
 
 /// The exit status where the work was not done.
 const FAILED: u8 = 1;
@@ -33,28 +37,72 @@ impl From<Fault> for Failure {
     }
 }
 
+impl From<ScriptFault> for Failure {
+    ghost use Rattle.ring_console.specs.Failures.{script_failure};
+
+    ghost from_gives = { λ fault failure. failure ≡ script_failure fault };
+
+    fn from(fault: ScriptFault) -> Failure {
+        match fault {
+            ScriptFault::Memory => Failure::Refused(Fault::Memory),
+            ScriptFault::AtLine(line) => Failure::BadScript(line),
+        }
+    }
+}
+
 /// The line that stands on standard error, without its end.
 impl fmt::Display for Failure {
+    ghost use Rattle.std.specs.Prelude.{Some};
+    ghost use Rattle.ring_console.specs.Failures.{failure_text};
+
+    ghost output = { λ failure. Some (failure_text failure) };
+
     fn fmt<W: fmt::Write>(&self, f: &mut fmt::Formatter<W>) -> fmt::Result {
         match self {
-            Failure::Refused(fault) => numbered(f, *fault),
-            Failure::BadFrame(byte) => {
-                numbered(f, Fault::BadFrame)?;
-                write!(f, " at byte {byte}")
-            }
-            Failure::BadScript(line) => {
-                numbered(f, Fault::BadScript)?;
-                write!(f, " at line {line}")
-            }
+            Failure::Refused(fault) => write!(f, "{}", Numbered(*fault)),
+            Failure::BadFrame(byte) => write!(f, "{} at byte {byte}", Numbered(Fault::BadFrame)),
+            Failure::BadScript(line) => write!(f, "{} at line {line}", Numbered(Fault::BadScript)),
             Failure::Output => Ok(()),
         }
     }
 }
 
-/// The refusal's number and text, as they stand in each line on standard error.
-fn numbered<W: fmt::Write>(f: &mut fmt::Formatter<W>, fault: Fault) -> fmt::Result {
-    let number = fault.number();
-    write!(f, "totem: {number} {fault}")
+/// A refusal's number and text, as they begin each line on standard error.
+#[derive(Clone, Copy)]
+struct Numbered(Fault);
+
+impl fmt::Display for Numbered {
+    ghost use Rattle.std.specs.Prelude.{Some};
+    ghost use Rattle.ring_console.specs.Failures.{numbered_text};
+
+    ghost output = { λ numbered. Some (numbered_text numbered.0) };
+
+    fn fmt<W: fmt::Write>(&self, f: &mut fmt::Formatter<W>) -> fmt::Result {
+        write!(f, "totem: {} {}", self.0.number(), words_of(self.0))
+    }
+}
+
+/// The text of a refusal, as its own `Display` writes it.
+fn words_of(fault: Fault) -> &'static str
+    ensures { result.now ≡ fault_words fault }
+{
+    match fault {
+        Fault::NotMember => "not a member",
+        Fault::PendingFull => "too many pending calls",
+        Fault::OpTooLong => "operation too long",
+        Fault::Conflict => "number used for another call",
+        Fault::Stale => "stale number",
+        Fault::NumberGap => "number gap",
+        Fault::SessionsFull => "sessions full",
+        Fault::Stopped => "stopped",
+        Fault::BookFull => "book full",
+        Fault::Stranger => "stranger",
+        Fault::Memory => "out of memory",
+        Fault::BadFrame => "bad frame",
+        Fault::BadScript => "bad script",
+        Fault::NoAnswer => "no answer",
+        Fault::BadSnapshot => "bad snapshot",
+    }
 }
 
 /// Says on standard error why the work was not done, and answers the exit status: 1.
@@ -63,9 +111,16 @@ pub fn report<E: Write>(err: &mut E, failure: Failure) -> u8
     ensures output { failure ≡ Failure.Output → err.new ≡ err.old }
 {
     if failure != Failure::Output {
-        let _ = writeln!(err, "{failure}");
+        let _ = tell(err, failure);
     }
     FAILED
+}
+
+/// Writes the line that says why the work was not done. Of a failed output nothing is told.
+fn tell<E: Write>(err: &mut E, failure: Failure) -> io::Result<()>
+    ensures { OnOk result (Appends (E.contents err.old) (E.contents err.new) (line_of (failure_text failure))) }
+{
+    writeln!(err, "{failure}")
 }
 
 /// Ends what writes on standard output by a buffer: what was written stands there before anything is said

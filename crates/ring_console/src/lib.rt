@@ -4,22 +4,15 @@
 #![tactic(auto)]
 
 mod failure;
-mod groups;
-mod line;
 mod listed;
 mod listing;
 mod network;
-mod operation;
 mod printed;
 mod run;
 mod running;
-mod scripts;
-mod words;
 
 pub use failure::{Failure, report};
-pub use groups::Groups;
-pub use line::Line;
 pub use listing::frames;
+pub use ring_script::{Groups, Line, Numbered, Rings, Script, ScriptFault};
 pub use run::Run;
 pub use running::{Things, script};
-pub use scripts::{Numbered, Rings, Script};

@@ -5,9 +5,9 @@ ghost use Rattle.std.specs.Prelude.{◌≡◌, [], ◌∷◌, ◌++◌, drop, On
 ghost use Rattle.ring_base.specs.declared.fault.Fault.TheVariants.{Memory};
 ghost use Rattle.ring_console.specs.Network.{places_of, copies_of, all_copies_of, place_of, hears, next_turn};
 
-use crate::groups::Groups;
 use ring_base::{Fault, Proc, ProcSet};
 use ring_book::FrameRef;
+use ring_script::Groups;
 use std::alloc::Allocator;
 use std::collections::VecDeque;
 

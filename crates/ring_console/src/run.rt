@@ -4,16 +4,15 @@ ghost use Rattle.std.specs.Prelude.{◌≡◌, IfErr};
 ghost use Rattle.ring_base.specs.declared.fault.Fault.TheVariants.{Memory};
 
 use crate::failure::Failure;
-use crate::line::Line;
 use crate::network::{Network, Turn};
 use crate::printed::{print_answers, print_node, print_order, print_refused};
-use crate::scripts::Script;
 use bytes::BytesMut;
 use ring_base::{Fault, Proc};
 use ring_book::{Book, BookName, Cell, FrameRef, Opening};
 use ring_object::Object;
 use ring_one::{Answered, Input};
 use ring_payload::Call;
+use ring_script::{Line, Script};
 use ring_session::Answer;
 use ring_wire::decode_frame;
 use std::alloc::Allocator;
@@ -68,34 +67,22 @@ impl<O: Object, K: BookName<O::Alloc>> Run<O, K> {
 
     /// Does what a line asks for.
     fn take_line<W: Write>(&mut self, line: Line<O::Alloc>, out: &mut W) -> Result<(), Failure> {
-        let node = match &line {
-            Line::Call { node, call: _ } => *node,
-            other => return self.take_event(other, out),
-        };
-        match line.into_call() {
-            Some(call) => self.submit(node, call, out),
-            None => Ok(()),
-        }
-    }
-
-    /// Does what a line asks for that submits no call.
-    fn take_event<W: Write>(&mut self, line: &Line<O::Alloc>, out: &mut W) -> Result<(), Failure> {
         match line {
-            Line::Deliver { node, frame } => self.deliver_number(*node, *frame, out),
-            Line::Timeout { node, kind } => self.step(*node, Input::Timeout(*kind), NOWHERE, out),
-            Line::Noise { node, bytes: _ } => self.step(*node, Input::Noise, NOWHERE, out),
-            Line::Stop { node } => self.step(*node, Input::Stop, NOWHERE, out),
+            Line::Call { node, call } => self.submit(node, call, out),
+            Line::Deliver { node, frame } => self.deliver_number(node, frame, out),
+            Line::Timeout { node, kind } => self.step(node, Input::Timeout(kind), NOWHERE, out),
+            Line::Noise { node, bytes: _ } => self.step(node, Input::Noise, NOWHERE, out),
+            Line::Stop { node } => self.step(node, Input::Stop, NOWHERE, out),
             Line::Cut(groups) => {
-                self.network.groups = Some(*groups);
+                self.network.groups = Some(groups);
                 Ok(())
             }
             Line::Heal => {
                 self.network.groups = None;
                 Ok(())
             }
-            Line::Pump { turns } => self.pump(*turns, out),
+            Line::Pump { turns } => self.pump(turns, out),
             Line::Show => self.show(out),
-            Line::Call { .. } => Ok(()),
         }
     }
 

@@ -5,10 +5,10 @@ ghost use Rattle.std.specs.Io.KnownBytes.{Keeps};
 
 use crate::failure::{Failure, exit_status, report};
 use crate::run::Run;
-use crate::scripts::{Rings, Script};
-use ring_base::{Fault, Fixed};
+use ring_base::Fault;
 use ring_book::{BookName, Opening};
 use ring_object::Object;
+use ring_script::{Rings, Script};
 use ring_things::{Counters, Names, Queue, Registers, Shelf};
 use std::alloc::Allocator;
 use std::io::{BufWriter, Read, Write};
@@ -36,7 +36,7 @@ pub fn script<A: Allocator + Copy + Drop, R: Read, O: Write, E: Write>(
 {
     let script = match Script::read(alloc, input, Rings::OfOne) {
         Ok(script) => script,
-        Err(failure) => return report(err, failure),
+        Err(fault) => return report(err, Failure::from(fault)),
     };
     match BufWriter::new(alloc, out) {
         Ok(mut out) => {
@@ -47,13 +47,15 @@ pub fn script<A: Allocator + Copy + Drop, R: Read, O: Write, E: Write>(
     }
 }
 
-/// Opens a book for the script's node, and runs the script over it.
+/// Opens a book for the script's one node, and runs the script over it.
 fn run_script<A: Allocator + Copy + Drop, W: Write>(
     alloc: A,
     script: Script<A>,
     out: &mut W,
-) -> Result<(), Failure> {
-    let opening = Opening::<Things<A>>::new(alloc, Fixed::new(1)?)?;
+) -> Result<(), Failure>
+    requires { script.nodes.count ≡ 1 }
+{
+    let opening = Opening::<Things<A>>::new(alloc, script.nodes)?;
     run_over::<Things<A>, Brand, W>(alloc, opening, script, out)
 }
 

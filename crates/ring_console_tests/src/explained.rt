@@ -5,7 +5,7 @@ ghost use Rattle.std.specs.Prelude.{◌≡◌};
 use refusing_alloc::{Refusing, refuse_in_turn};
 use ring_base::{Fault, Fixed};
 use ring_book::{BookName, Opening};
-use ring_console::{Failure, Rings, Run, Script, Things};
+use ring_console::{Rings, Run, Script, ScriptFault, Things};
 use ring_object::Object;
 use ring_world::is_linearization;
 use std::alloc::{AllocError, Allocator, Global};
@@ -16,11 +16,11 @@ const TWO_CLIENTS: &str =
     "nodes 1\ntimeout 1 join\npump 4\ncall 1 7 1 add 0 5\ncall 1 7 1 add 0 5\npump 2\n\
     call 1 8 1 read 0\npump 2\nshow\n";
 
-/// Why a script was not run to its end.
-fn fault_of(failure: Failure) -> Fault {
-    match failure {
-        Failure::Refused(fault) => fault,
-        _ => Fault::BadScript,
+/// The refusal that an unread script comes to.
+fn fault_of(fault: ScriptFault) -> Fault {
+    match fault {
+        ScriptFault::Memory => Fault::Memory,
+        ScriptFault::AtLine(_) => Fault::BadScript,
     }
 }
 

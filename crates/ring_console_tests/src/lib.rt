@@ -5,11 +5,15 @@
 #[cfg(test)]
 mod explained;
 #[cfg(test)]
+mod failures;
+#[cfg(test)]
 mod inputs;
 #[cfg(test)]
 mod listings;
 #[cfg(test)]
 mod operations;
+#[cfg(test)]
+mod orders;
 #[cfg(test)]
 mod runs;
 #[cfg(test)]

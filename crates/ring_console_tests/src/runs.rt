@@ -18,6 +18,10 @@ const AGREED_ONLY: &str =
 
 const AGREED_ONLY_LINES: &str = "node 1 operational 1.1 committed 0 log 1\norder 0\n";
 
+/// The token of a ring of one goes round in each turn, so the book is full before the last line.
+const FULL_BOOK: &str = "nodes 1\ntimeout 1 join\npump 4\ncall 1 7 1 add 0 5\n\
+    pump 100000\npump 100000\npump 100000\nshow\n";
+
 /// What stands on standard output and on standard error, and the exit status.
 #[derive(Drop)]
 struct Printed {
@@ -73,6 +77,13 @@ fn a_faulty_script_prints_nothing(rt: HostRuntime) {
         let printed = run_of(rt.alloc(), rt.alloc(), text);
         assert!(rt; is_printed(&printed, "", err, 1), "{text}");
     }
+}
+
+#[test]
+fn a_full_book_ends_the_run(rt: HostRuntime) {
+    let printed = run_of(rt.alloc(), rt.alloc(), FULL_BOOK);
+    let lines = "reply 1 7.1 done 000000000000000005\n";
+    assert!(rt; is_printed(&printed, lines, "totem: 9 book full\n", 1));
 }
 
 #[test]

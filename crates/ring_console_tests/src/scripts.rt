@@ -2,13 +2,13 @@
 
 use crate::inputs::Broken;
 use refusing_alloc::{Refusing, refuse_in_turn};
-use ring_base::{Fault, Proc};
-use ring_console::{Failure, Line, Rings, Script};
+use ring_base::Proc;
+use ring_console::{Line, Rings, Script, ScriptFault};
 use std::alloc::{AllocError, Global};
 use std::test::Fail;
 
 /// Why the text is no script for rings of any size, none where it is one.
-fn failure_of(alloc: Global, text: &[u8]) -> Option<Failure> {
+fn fault_of(alloc: Global, text: &[u8]) -> Option<ScriptFault> {
     Script::parse(alloc, text, Rings::OfMany).err()
 }
 
@@ -54,8 +54,8 @@ fn faulty_scripts_tell_their_line(rt: HostRuntime) {
         ("nodes 2\npump 0\nnodes 99\n", 2),
     ] {
         assert_eq!(rt;
-            failure_of(rt.alloc(), text.as_bytes()),
-            Some(Failure::BadScript(line)),
+            fault_of(rt.alloc(), text.as_bytes()),
+            Some(ScriptFault::AtLine(line)),
             "{text:?}"
         );
     }
@@ -97,8 +97,8 @@ fn other_lines_at_fault(rt: HostRuntime) {
         let made = text.push_str("nodes 2\n").and(text.push_str(line));
         assert_eq!(rt; made, Ok(()));
         assert_eq!(rt;
-            failure_of(rt.alloc(), text.as_bytes()),
-            Some(Failure::BadScript(2)),
+            fault_of(rt.alloc(), text.as_bytes()),
+            Some(ScriptFault::AtLine(2)),
             "{line:?}"
         );
     }
@@ -114,24 +114,24 @@ fn good_scripts(rt: HostRuntime) {
         "nodes 2\ncall 2 4294967295 18446744073709551615 cas 255 0 18446744073709551615",
         "nodes 2\npump 100000\nheal\nshow\nstop 2",
     ] {
-        assert_eq!(rt; failure_of(rt.alloc(), text.as_bytes()), None, "{text:?}");
+        assert_eq!(rt; fault_of(rt.alloc(), text.as_bytes()), None, "{text:?}");
     }
 }
 
 #[test]
 fn rings_of_one_allow_one_node_and_its_join_timeout(rt: HostRuntime) {
-    for (text, failure) in [
+    for (text, fault) in [
         ("nodes 1\ntimeout 1 join", None),
-        ("nodes 2\nnonsense", Some(Failure::BadScript(1))),
-        ("nodes 1\ntimeout 1 loss", Some(Failure::BadScript(2))),
+        ("nodes 2\nnonsense", Some(ScriptFault::AtLine(1))),
+        ("nodes 1\ntimeout 1 loss", Some(ScriptFault::AtLine(2))),
         (
             "nodes 1\nshow\ntimeout 1 retransmit",
-            Some(Failure::BadScript(3)),
+            Some(ScriptFault::AtLine(3)),
         ),
-        ("nodes 1\ntimeout 1 consensus", Some(Failure::BadScript(2))),
+        ("nodes 1\ntimeout 1 consensus", Some(ScriptFault::AtLine(2))),
     ] {
         let told = Script::parse(rt.alloc(), text.as_bytes(), Rings::OfOne).err();
-        assert_eq!(rt; told, failure, "{text:?}");
+        assert_eq!(rt; told, fault, "{text:?}");
     }
 }
 
@@ -194,7 +194,7 @@ fn a_script_has_at_most_2_to_the_20_bytes(rt: HostRuntime) -> Result<(), Fail> {
     assert_eq!(rt; read.err(), None);
     let longer = script_of(rt.alloc(), 1_048_577)?;
     let read = Script::read(rt.alloc(), &mut longer.as_slice(), Rings::OfOne);
-    assert_eq!(rt; read.err(), Some(Failure::BadScript(0)));
+    assert_eq!(rt; read.err(), Some(ScriptFault::AtLine(0)));
     Ok(())
 }
 
@@ -202,7 +202,7 @@ fn a_script_has_at_most_2_to_the_20_bytes(rt: HostRuntime) -> Result<(), Fail> {
 fn an_input_that_fails_is_at_fault_as_a_whole(rt: HostRuntime) {
     for text in ["", "nodes 1\n", "nonsense\n"] {
         let read = Script::read(rt.alloc(), &mut Broken(text.as_bytes()), Rings::OfOne);
-        assert_eq!(rt; read.err(), Some(Failure::BadScript(0)), "{text:?}");
+        assert_eq!(rt; read.err(), Some(ScriptFault::AtLine(0)), "{text:?}");
     }
 }
 
@@ -210,7 +210,7 @@ fn an_input_that_fails_is_at_fault_as_a_whole(rt: HostRuntime) {
 fn each_request_for_memory_may_be_refused(rt: HostRuntime) {
     let text = "nodes 1\ncall 1 7 1 insert name\nnoise 1 0011\nshow\nheal\nshow\nshow\nshow\n";
     let read = |heap: &Refusing| match Script::read(heap, &mut text.as_bytes(), Rings::OfOne) {
-        Err(Failure::Refused(Fault::Memory)) => Err(AllocError),
+        Err(ScriptFault::Memory) => Err(AllocError),
         _ => Ok(()),
     };
     let requests = refuse_in_turn(rt.alloc(), &read);

@@ -130,6 +130,7 @@ fn takes_no_memory<O: Object, K: BookName<O::Alloc>, R: Abort>(
     driven.book.check(Proc::new(1), FIRST, bytes.as_slice())?;
     assert!(rt; driven.book.answer(Proc::new(1), ticket).is_none());
     assert_eq!(rt; driven.book.places(), driven.lines);
+    assert!(rt; driven.cell.node().state() == State::Operational);
     driven.cell.step(Input::Stop, FIRST)?;
     assert_eq!(rt; heap.requests(), before);
     stays_stopped(rt, heap, &mut driven)

@@ -3,7 +3,7 @@
 ghost use Rattle.std.specs.Prelude.{◌≡◌};
 
 use super::{ADD, five, token};
-use crate::{Driven, explained};
+use crate::{Driven, answered, explained};
 use ring_base::{Fault, Fixed, Proc, State};
 use ring_book::{BookName, FrameRef, Opening};
 use ring_object::Object;
@@ -39,7 +39,7 @@ fn replies<O: Object, K: BookName<O::Alloc>, R: Abort>(
     assert_eq!(rt; driven.book.history()?.len(), 1);
     driven.deliver(6)?;
     assert_eq!(rt; driven.book.places(), 8);
-    assert!(rt; driven.book.answer(Proc::new(1), ticket) == Some(Answer::Done(five())));
+    assert!(rt; answered(&driven.book, ticket) == Some(Answer::Done(five())));
     assert!(rt; driven.book.answer(Proc::new(2), ticket).is_none());
     assert_eq!(rt; driven.cell.node().committed().len(), 1);
     seen(rt, &driven)

@@ -169,11 +169,15 @@ returns g c =
     let pre : IsPrefix (x ∷ []) (known_items c.slots_beside.new.self) = (known_items c.pop_known-step.new.self, sym c.pop_known-step.ensures.received.1) in
     let left = one_left g.K.BookName.name c.self.inside.lines.items i c.cell.inside.journal c.slots_beside.new.producer c.index_mut-end.result.now c.slots_beside.new.self x (c.self.invariant.each i c.index_mut-end.result.now at) look pre in
     let was = subst (λ (k : ℕ). sent c.cell.inside.journal ≡ steps_of k c.self.inside.lines.items ++ x ∷ []) is left.1 in
+    let z : StepView g.row.O-Alloc.Denot = c.peek_known.result.now in
+    let same : z ≡ x = first_same (known_items c.slots_beside.new.self) z x c.peek_known.ensures pre in
+    let there : IsFound c.self.inside.lines.items z.node z.input = rw c.as_slice.ensures.value at (c.if-not-is_found.ensures.0 refl) in
     let mine : x.node ≡ c.cell.inside.me = AllOf-last c.cell.inside.me (steps_of c.cell.inside.me c.self.inside.lines.items) x (subst (λ (xs : List (StepView g.row.O-Alloc.Denot)). AllOf c.cell.inside.me xs) was c.cell.invariant.mine) in
     let lines : c.push_reserved.new.self.items ≡ c.self.inside.lines.items ++ y ∷ [] = rw (c.len-number.ensures, c.self.inside.lines.ok.0) at c.push_reserved.ensures.items in
     rw (← c.self.view_is, ← c.cell.view_is) record {
       step = x;
       was = was;
+      found = subst (λ (w : StepView g.row.O-Alloc.Denot). IsFound c.self.inside.lines.items w.node w.input) same there;
       lines = lines;
       reserved = omega (arith, c.if-self-eq0.false);
       journal = m.looked.1 ∙ (l.producer.1 ∙ (was ∙ (sym (steps_of-own c.cell.inside.me c.self.inside.lines.items y mine) ∙ ap (steps_of c.cell.inside.me) (sym lines))));

@@ -37,14 +37,6 @@ pub enum Line<A: Allocator + Copy = Global> {
 }
 
 impl<A: Allocator + Copy> Line<A> {
-    /// The call, if the line submits one.
-    pub(crate) fn into_call(self) -> Option<Call<A>> {
-        match self {
-            Line::Call { node: _, call } => Some(call),
-            _ => None,
-        }
-    }
-
     /// What the line asks for, among these nodes. `BadScript` where it has none of the forms, or `Memory`.
     pub(crate) fn parse(alloc: A, nodes: Fixed, line: &[u8]) -> Result<Line<A>, Fault> {
         let mut words = Words::new(line);

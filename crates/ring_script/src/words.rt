@@ -1,7 +1,7 @@
 //! The words of a script's line, and what a word can stand for.
 
-ghost use Rattle.std.specs.Prelude.{◌≤◌, IfOk};
-ghost use Rattle.std.specs.Iterator.{at_most};
+ghost use Rattle.std.specs.Prelude.{◌<◌, ◌≤◌, IsSome, IfOk};
+ghost use Rattle.ring_script.specs.Words.{most_pieces};
 
 use ring_base::{Fault, Fixed, Proc};
 
@@ -49,23 +49,30 @@ impl<'a> Words<'a> {
 }
 
 impl<'a> Iterator for Words<'a> {
-    ghost use Rattle.ring_console.specs.Words.{most_words};
+    ghost use Rattle.std.specs.Iterator.{at_most};
 
     type Item = &'a [u8];
 
-    ghost remaining = { λ words. at_most (most_words words.rest) };
+    ghost remaining = { λ words. at_most (most_pieces words.rest) };
 
     fn next(&mut self) -> Option<&'a [u8]> {
-        let rest = self.rest?;
-        match rest.iter().position(|byte| *byte == b' ') {
-            Some(end) => {
-                self.rest = Some(&rest[end + 1..]);
-                Some(&rest[..end])
-            }
-            None => {
-                self.rest = None;
-                Some(rest)
-            }
+        next_piece(&mut self.rest, b' ')
+    }
+}
+
+/// Takes the first of the pieces that are parted by this byte. `None` after the last.
+pub(crate) fn next_piece<'a>(rest: &mut Option<&'a [u8]>, separator: u8) -> Option<&'a [u8]>
+    ensures { IsSome result → most_pieces rest.new < most_pieces rest.old }
+{
+    let text = (*rest)?;
+    match text.iter().position(|byte| *byte == separator) {
+        Some(end) => {
+            *rest = Some(&text[end + 1..]);
+            Some(&text[..end])
+        }
+        None => {
+            *rest = None;
+            Some(text)
         }
     }
 }

@@ -1,0 +1,37 @@
+//! What is said on standard error of each refusal.
+
+use ring_base::Fault;
+use ring_console::{Failure, report};
+use std::test::Fail;
+
+/// Each refusal, and the line that says so.
+const TOLD: [(Fault, &str); 15] = [
+    (Fault::NotMember, "totem: 1 not a member\n"),
+    (Fault::PendingFull, "totem: 2 too many pending calls\n"),
+    (Fault::OpTooLong, "totem: 3 operation too long\n"),
+    (Fault::Conflict, "totem: 4 number used for another call\n"),
+    (Fault::Stale, "totem: 5 stale number\n"),
+    (Fault::NumberGap, "totem: 6 number gap\n"),
+    (Fault::SessionsFull, "totem: 7 sessions full\n"),
+    (Fault::Stopped, "totem: 8 stopped\n"),
+    (Fault::BookFull, "totem: 9 book full\n"),
+    (Fault::Stranger, "totem: 10 stranger\n"),
+    (Fault::Memory, "totem: 11 out of memory\n"),
+    (Fault::BadFrame, "totem: 12 bad frame\n"),
+    (Fault::BadScript, "totem: 13 bad script\n"),
+    (Fault::NoAnswer, "totem: 14 no answer\n"),
+    (Fault::BadSnapshot, "totem: 15 bad snapshot\n"),
+];
+
+#[test]
+fn each_refusal_is_told_by_its_number_and_its_text(rt: HostRuntime) -> Result<(), Fail> {
+    for (fault, told) in TOLD {
+        let mut err = Vec::new(rt.alloc());
+        let status = report(&mut err, Failure::Refused(fault));
+        assert_eq!(rt; err.as_slice(), told.as_bytes());
+        assert_eq!(rt; status, 1);
+        let own = format!(in rt.alloc(); "totem: {} {fault}\n", fault.number())?;
+        assert_eq!(rt; err.as_slice(), own.as_bytes());
+    }
+    Ok(())
+}

@@ -1,0 +1,101 @@
+//! The line `order K` of `show` tells the length of the book's order, after each line of a script.
+
+ghost use Rattle.std.specs.Prelude.{◌≡◌};
+
+use ring_base::Fixed;
+use ring_book::{BookName, Opening};
+use ring_console::{Rings, Run, Script, Things};
+use ring_object::Object;
+use std::alloc::Global;
+use std::marker::Brand;
+use std::test::Fail;
+
+/// A call is tried again while it waits, and once more after it took effect. How long the order is after each line.
+const RETRIES: [(&str, usize); 9] = [
+    ("timeout 1 join", 0),
+    ("pump 4", 0),
+    ("call 1 7 1 add 0 5", 0),
+    ("call 1 7 1 add 0 5", 0),
+    ("pump 2", 1),
+    ("call 1 7 1 add 0 5", 1),
+    ("pump 2", 1),
+    ("call 1 8 1 read 0", 1),
+    ("pump 2", 2),
+];
+
+/// Calls that take no effect stand among those that do: stale, in conflict, with a gap, and kept.
+const REFUSALS: [(&str, usize); 11] = [
+    ("timeout 1 join", 0),
+    ("pump 4", 0),
+    ("call 1 7 1 add 0 5", 0),
+    ("call 1 7 2 add 0 1", 0),
+    ("pump 2", 2),
+    ("call 1 7 1 add 0 5", 2),
+    ("call 1 7 2 add 0 2", 2),
+    ("call 1 7 4 add 0 1", 2),
+    ("call 1 7 2 add 0 1", 2),
+    ("call 1 7 3 read 0", 2),
+    ("pump 2", 3),
+];
+
+/// A node stops while a call of two is sent and not yet safe; what comes after changes nothing.
+const STOP: [(&str, usize); 9] = [
+    ("timeout 1 join", 0),
+    ("pump 4", 0),
+    ("call 1 7 1 add 0 5", 0),
+    ("pump 2", 1),
+    ("call 1 7 2 add 0 1", 1),
+    ("pump 1", 1),
+    ("stop 1", 1),
+    ("pump 10", 1),
+    ("call 1 7 3 read 0", 1),
+];
+
+/// Does what a line asks for and shows the state. Answers the line shown last, without its word, and how long
+/// the book's order is then.
+fn shown_after<O: Object<Alloc = Global>, K: BookName<Global>>(
+    run: &mut Run<O, K>,
+    alloc: Global,
+    line: &str,
+) -> Result<(String, usize), Fail> {
+    let text = format!(in alloc; "nodes 1\n{line}\nshow\n")?;
+    let script = Script::parse(alloc, text.as_bytes(), Rings::OfOne).map_err(|_| "no script")?;
+    let mut out = Vec::<u8>::new(alloc);
+    run.take(script, &mut out).map_err(|_| "it did not run")?;
+    let printed = str::from_utf8(out.as_slice()).map_err(|_| "it is no text")?;
+    let last = printed.lines().last().ok_or("nothing is printed")?;
+    let order = run.book().order().map_err(|_| "no order")?;
+    Ok((String::from_str(alloc, last)?, order.len()))
+}
+
+/// Whether the order is as long as told after each line, and the line shown says so.
+fn tells_its_order(alloc: Global, script: &[(&str, usize)]) -> Result<bool, Fail> {
+    let group = Fixed::new(1).map_err(|_| "no group")?;
+    let opening = Opening::<Things<Global>>::new(alloc, group).map_err(|_| "no opening")?;
+    tells_its_order_over::<Things<Global>, Brand>(alloc, opening, script)
+}
+
+fn tells_its_order_over<O: Object<Alloc = Global>, K: BookName<Global>>(
+    alloc: Global,
+    opening: Opening<O>,
+    script: &[(&str, usize)],
+) -> Result<bool, Fail>
+    requires { opening ≡ K.name }
+{
+    let mut run = Run::<O, K>::new(alloc, opening).map_err(|_| "no run")?;
+    let mut is_told = true;
+    for (line, length) in script {
+        let (last, order) = shown_after(&mut run, alloc, line)?;
+        let told = format!(in alloc; "order {length}")?;
+        is_told = is_told && order == *length && last.as_str() == told.as_str();
+    }
+    Ok(is_told)
+}
+
+#[test]
+fn show_tells_the_length_of_the_order(rt: HostRuntime) -> Result<(), Fail> {
+    assert!(rt; tells_its_order(rt.alloc(), &RETRIES)?);
+    assert!(rt; tells_its_order(rt.alloc(), &REFUSALS)?);
+    assert!(rt; tells_its_order(rt.alloc(), &STOP)?);
+    Ok(())
+}

@@ -1,0 +1,14 @@
+//! The language of scripts, as a text: how many nodes there are, and which events come, in their order. The
+//! reader takes a text whole or tells its first fault; it runs nothing.
+#![tactic(auto)]
+
+mod groups;
+mod line;
+mod lines;
+mod operation;
+mod scripts;
+mod words;
+
+pub use groups::Groups;
+pub use line::Line;
+pub use scripts::{Numbered, Rings, Script, ScriptFault};
