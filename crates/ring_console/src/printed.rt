@@ -1,57 +1,78 @@
 //! The lines that a script prints.
 
-ghost use Rattle.std.specs.Prelude.{◌≡◌, OnOk};
+ghost use Rattle.std.specs.Prelude.{◌≡◌, IfErr, OnOk};
 ghost use Rattle.std.specs.Io.KnownBytes.{Appends};
 ghost use Rattle.ring_base.specs.Fault.{number_of};
-ghost use Rattle.ring_console.specs.Printed.{line_of, refused_text, order_text, state_text};
+ghost use Rattle.ring_console.specs.declared.failure.Failure.TheVariants.{Output};
+ghost use Rattle.ring_console.specs.Printed.{line_of, answer_text, answers_text, refused_text, node_text, order_text, state_text};
 
 use crate::failure::Failure;
 use ring_base::{Fault, Proc, RingId, State};
+use ring_object::Reply;
 use ring_one::Answered;
 use ring_session::Answer;
 use std::alloc::Allocator;
-use std::fmt;
 use std::io::Write;
+use std::{fmt, str};
 
-/// Bytes, as two hexadecimal digits each.
+/// The hexadecimal digits of the longest reply: two for each of its 64 bytes.
+const MOST_DIGITS: usize = 128;
+
+/// A reply, as two hexadecimal digits a byte, in lower case.
 #[derive(Clone, Copy)]
-struct Hex<'a>(&'a [u8]);
+struct Hex<'a>(&'a Reply);
 
 impl fmt::Display for Hex<'_> {
+    ghost use Rattle.std.specs.Prelude.{Some};
+    ghost use Rattle.hex.specs.Hex.{encode_lower};
+
+    ghost output = { λ hex. Some (encode_lower hex.0.now) };
+
     fn fmt<W: fmt::Write>(&self, f: &mut fmt::Formatter<W>) -> fmt::Result {
-        for byte in self.0 {
-            write!(f, "{byte:02x}")?;
-        }
-        Ok(())
+        let mut room = [0u8; MOST_DIGITS];
+        let digits = &mut room[..2 * self.0.len()];
+        let Ok(()) = hex::encode_to_slice(self.0.as_slice(), digits) else {
+            unreachable!();
+        };
+        let Ok(text) = str::from_utf8(digits) else {
+            unreachable!();
+        };
+        f.write_str(text)
     }
 }
 
-/// Prints the answers that a node gives, in their order.
+/// Prints the answers that a node gives, in their order. Otherwise `Output`.
 pub fn print_answers<A: Allocator + Copy + Drop, W: Write>(
     out: &mut W,
     node: Proc,
     answers: &[Answered<A>],
-) -> Result<(), Failure> {
+) -> Result<(), Failure>
+    ensures lines { OnOk result (Appends (W.contents out.old) (W.contents out.new) (answers_text node answers.now)) }
+    ensures failed { IfErr result (λ failure. failure ≡ Output) }
+{
     for answered in answers {
         print_answer(out, node, answered)?;
     }
     Ok(())
 }
 
-/// Prints the answer that a node gives to a ticket.
+/// Prints the answer that a node gives to a ticket. Otherwise `Output`.
 fn print_answer<A: Allocator + Copy + Drop, W: Write>(
     out: &mut W,
     node: Proc,
     answered: &Answered<A>,
-) -> Result<(), Failure> {
+) -> Result<(), Failure>
+    ensures line { OnOk result (Appends (W.contents out.old) (W.contents out.new) (line_of (answer_text node answered.now))) }
+    ensures failed { IfErr result (λ failure. failure ≡ Output) }
+{
     let (node, client, number) = (node.number(), answered.call.client, answered.call.number);
     let printed = match &answered.answer {
         Answer::Done(reply) => {
-            let reply = Hex(reply.as_slice());
+            let reply = Hex(reply);
             writeln!(out, "reply {node} {client}.{number} done {reply}")
         }
         Answer::Kept(reply) => {
-            let reply = Hex(reply.as_slice());
+            let reply = Hex(reply);
             writeln!(out, "reply {node} {client}.{number} kept {reply}")
         }
         Answer::Refused(reason) => {
@@ -61,7 +82,7 @@ fn print_answer<A: Allocator + Copy + Drop, W: Write>(
     printed.map_err(|_| Failure::Output)
 }
 
-/// Prints that a node does not take a client's call.
+/// Prints that a node does not take a client's call. Otherwise `Output`.
 pub fn print_refused<W: Write>(
     out: &mut W,
     node: Proc,
@@ -69,13 +90,14 @@ pub fn print_refused<W: Write>(
     number: u64,
     fault: Fault,
 ) -> Result<(), Failure>
-    ensures { OnOk result (Appends (W.contents out.old) (W.contents out.new) (line_of (refused_text node client number (number_of fault)))) }
+    ensures line { OnOk result (Appends (W.contents out.old) (W.contents out.new) (line_of (refused_text node client number (number_of fault)))) }
+    ensures failed { IfErr result (λ failure. failure ≡ Output) }
 {
     let (node, reason) = (node.number(), fault.number());
     writeln!(out, "refused {node} {client}.{number} {reason}").map_err(|_| Failure::Output)
 }
 
-/// Prints a node's state, its last installed ring, and how much of its log is committed.
+/// Prints a node's state, its last installed ring, and how much of its log is committed. Otherwise `Output`.
 pub fn print_node<W: Write>(
     out: &mut W,
     number: u64,
@@ -83,7 +105,10 @@ pub fn print_node<W: Write>(
     ring: RingId,
     committed: usize,
     log: u64,
-) -> Result<(), Failure> {
+) -> Result<(), Failure>
+    ensures line { OnOk result (Appends (W.contents out.old) (W.contents out.new) (line_of (node_text number state ring committed log))) }
+    ensures failed { IfErr result (λ failure. failure ≡ Output) }
+{
     let state = name_of(state);
     writeln!(
         out,
@@ -92,9 +117,10 @@ pub fn print_node<W: Write>(
     .map_err(|_| Failure::Output)
 }
 
-/// Prints the length of the one order.
+/// Prints the length of the one order. Otherwise `Output`.
 pub fn print_order<W: Write>(out: &mut W, length: u64) -> Result<(), Failure>
-    ensures { OnOk result (Appends (W.contents out.old) (W.contents out.new) (line_of (order_text length))) }
+    ensures line { OnOk result (Appends (W.contents out.old) (W.contents out.new) (line_of (order_text length))) }
+    ensures failed { IfErr result (λ failure. failure ≡ Output) }
 {
     writeln!(out, "order {length}").map_err(|_| Failure::Output)
 }

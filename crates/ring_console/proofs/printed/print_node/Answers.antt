@@ -1,0 +1,24 @@
+use Rattle.std.proofs.Common.{rules, ◌≡◌, OnOk, ℕ, List, [], ◌∷◌, ◌++◌, sym, subst, ◌∙◌, append_assoc}
+use Rattle.std.specs.Prelude.{codes}
+use Rattle.std.specs.Fmt.{decimal}
+use Rattle.std.specs.Io.KnownBytes.{Appends}
+use Rattle.ring_base.specs.Rings.{ring_text}
+use Rattle.ring_console.specs.Printed.{line_of, node_text, state_text}
+use Rattle.ring_console.proofs.printed.print_node.Goals as goal
+
+-- ten pieces and the end of a line, as `writeln!` joins them
+joined : (a b c d e f g h i j : List ℕ)
+    → a ++ (b ++ (c ++ (d ++ (e ++ (f ++ (g ++ (h ++ (i ++ (j ++ 10 ∷ []))))))))) ≡ line_of (a ++ b ++ c ++ d ++ e ++ f ++ g ++ h ++ i ++ j)
+joined a b c d e f g h i j =
+    sym (append_assoc _ j _ ∙ append_assoc _ i _ ∙ append_assoc _ h _ ∙ append_assoc _ g _ ∙ append_assoc _ f _ ∙ append_assoc _ e _
+    ∙ append_assoc _ d _ ∙ append_assoc _ c _ ∙ append_assoc a b _)
+
+pub returns-clause-line : goal.returns-clause-line
+returns-clause-line g c =
+    let a = c.args in
+    let Told : List ℕ → Type 0 = λ text. OnOk c.writeln.result (Appends (g.W.Write.contents a.out.now) (g.W.Write.contents c.writeln.new.self) text) in
+    let written : Told _ = c.writeln.ensures.bytes in
+    let word = c.name_of-state.ensures in
+    let told : Told (line_of (node_text a.number a.state a.ring a.committed a.log)) =
+    subst Told (joined (codes "node ") (decimal a.number) (codes " ") (state_text a.state) (codes " ") (ring_text a.ring) (codes " committed ") (decimal a.committed) (codes " log ") (decimal a.log)) (rw word at written) in
+    search (rules, told)
