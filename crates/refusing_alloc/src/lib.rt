@@ -85,6 +85,3 @@ pub fn refuse_in_turn<F: Fn(&Refusing) -> Result<(), AllocError>>(
     }
     None
 }
-
-#[cfg(test)]
-mod tests;

@@ -1,10 +1,11 @@
 //! Why a call is refused.
 
 ghost use Rattle.std.specs.Prelude.{◌≡◌};
-ghost use Rattle.ring_base.specs.Fault.{number_of};
+ghost use Rattle.ring_base.specs.Fault.{number_of, text_of};
 ghost use Rattle.ring_base.specs.declared.fault.Fault.TheVariants.{Memory};
 
 use std::alloc::{AllocError, AllocFailed};
+use std::fmt::{self, Display};
 use thiserror::Error;
 
 /// A refusal. Its text is what a user is shown, its [`number`](Fault::number) what stands in a file or an
@@ -12,50 +13,35 @@ use thiserror::Error;
 #[derive(Clone, Copy, Debug, PartialEq, Eq, Error)]
 pub enum Fault {
     /// A number of processors, or a processor's number, is out of range.
-    #[error("not a member")]
-    NotMember,
+    NotMember = 1,
     /// As many calls as a node may have unanswered are unanswered, or its tickets are used up.
-    #[error("too many pending calls")]
-    PendingFull,
+    PendingFull = 2,
     /// An operation has more bytes than one may have.
-    #[error("operation too long")]
-    OpTooLong,
+    OpTooLong = 3,
     /// The call's number was used for another operation.
-    #[error("number used for another call")]
-    Conflict,
+    Conflict = 4,
     /// The call's number is below the client's last.
-    #[error("stale number")]
-    Stale,
+    Stale = 5,
     /// The call's number is 0, or not the next after the client's last.
-    #[error("number gap")]
-    NumberGap,
+    NumberGap = 6,
     /// As many clients as may be known are known.
-    #[error("sessions full")]
-    SessionsFull,
+    SessionsFull = 7,
     /// The node has stopped.
-    #[error("stopped")]
-    Stopped,
+    Stopped = 8,
     /// Each place of the book is used or reserved.
-    #[error("book full")]
-    BookFull,
+    BookFull = 9,
     /// The book has no such frame for this node, or nothing to enter.
-    #[error("stranger")]
-    Stranger,
+    Stranger = 10,
     /// Memory was refused, or a thread can't be started.
-    #[error("out of memory")]
-    Memory,
+    Memory = 11,
     /// The bytes are no frame.
-    #[error("bad frame")]
-    BadFrame,
+    BadFrame = 12,
     /// The text is no script, or its file can't be read.
-    #[error("bad script")]
-    BadScript,
+    BadScript = 13,
     /// A client has no answer, or no call that it could make now.
-    #[error("no answer")]
-    NoAnswer,
+    NoAnswer = 14,
     /// The bytes are no snapshot.
-    #[error("bad snapshot")]
-    BadSnapshot,
+    BadSnapshot = 15,
 }
 
 impl Fault {
@@ -63,23 +49,41 @@ impl Fault {
     pub fn number(&self) -> u8
         ensures { result ≡ number_of self.now }
     {
+        *self as u8
+    }
+
+    /// The refusal's text.
+    fn text(&self) -> &'static str
+        ensures { result.now ≡ text_of self.now }
+    {
         match self {
-            Fault::NotMember => 1,
-            Fault::PendingFull => 2,
-            Fault::OpTooLong => 3,
-            Fault::Conflict => 4,
-            Fault::Stale => 5,
-            Fault::NumberGap => 6,
-            Fault::SessionsFull => 7,
-            Fault::Stopped => 8,
-            Fault::BookFull => 9,
-            Fault::Stranger => 10,
-            Fault::Memory => 11,
-            Fault::BadFrame => 12,
-            Fault::BadScript => 13,
-            Fault::NoAnswer => 14,
-            Fault::BadSnapshot => 15,
+            Fault::NotMember => "not a member",
+            Fault::PendingFull => "too many pending calls",
+            Fault::OpTooLong => "operation too long",
+            Fault::Conflict => "number used for another call",
+            Fault::Stale => "stale number",
+            Fault::NumberGap => "number gap",
+            Fault::SessionsFull => "sessions full",
+            Fault::Stopped => "stopped",
+            Fault::BookFull => "book full",
+            Fault::Stranger => "stranger",
+            Fault::Memory => "out of memory",
+            Fault::BadFrame => "bad frame",
+            Fault::BadScript => "bad script",
+            Fault::NoAnswer => "no answer",
+            Fault::BadSnapshot => "bad snapshot",
         }
+    }
+}
+
+/// The refusal's text, without its number.
+impl Display for Fault {
+    ghost use Rattle.std.specs.Prelude.{Some};
+
+    ghost output = { λ fault. Some (text_of fault) };
+
+    fn fmt<W: fmt::Write>(&self, f: &mut fmt::Formatter<W>) -> fmt::Result {
+        f.write_str(self.text())
     }
 }
 

@@ -1,8 +1,8 @@
 //! What is fixed for a run.
 
-ghost use Rattle.std.specs.Prelude.{◌≡◌, ℕ, ◌≤◌, ◌↔◌, IsTrue, IfErr, OkIff};
+ghost use Rattle.std.specs.Prelude.{◌≡◌, ℕ, ◌*◌, ◌≤◌, ◌↔◌, IsTrue, IfErr, OkIff, nat_lt};
 ghost use Rattle.ring_base.specs.Group.{IsPrimary, is_primary};
-ghost use Rattle.ring_base.specs.Processors.{IsProc, IsMember, everybody};
+ghost use Rattle.ring_base.specs.Processors.{IsProc, IsMember, everybody, most_processors};
 
 use crate::fault::Fault;
 use crate::limits::MOST_PROCESSORS;
@@ -73,6 +73,14 @@ impl Fixed {
         ensures primary { IsTrue result ↔ IsPrimary self set }
         ensures value { result ≡ is_primary self set }
     {
-        set.is_subset(self.everybody()) && 2 * set.len() > u32::from(self.count)
+        set.is_subset(self.everybody()) && self.are_most(set.len())
+    }
+
+    /// Whether so many processors are more than half of them.
+    fn are_most(self, processors: u32) -> bool
+        requires { processors ≤ most_processors }
+        ensures { result ≡ nat_lt self.count (2 * processors) }
+    {
+        2 * processors > u32::from(self.count)
     }
 }

@@ -9,10 +9,5 @@ use crate::ring_id::RingId;
 pub fn is_primary_below(last: Option<RingId>, other: Option<RingId>) -> bool
     ensures { IsTrue result ↔ IsPrimaryBelow last other }
 {
-    match (last, other) {
-        (None, None) => false,
-        (None, Some(_)) => true,
-        (Some(_), None) => false,
-        (Some(ring), Some(above)) => ring.is_below(&above),
-    }
+    last < other
 }

@@ -20,7 +20,7 @@ impl RingId {
     pub fn is_below(&self, other: &RingId) -> bool
         ensures { IsTrue result ↔ IsBelow self.now other.now }
     {
-        self.seq < other.seq || (self.seq == other.seq && self.rep < other.rep)
+        self < other
     }
 }
 

@@ -2,8 +2,14 @@ use ring_base::{
     Fault, Fixed, MAX, Past, Proc, ProcSet, RingId, front_law, is_primary_below, members_law,
     past_of, primary_law, primary_order_law, ring_order_law,
 };
-use std::alloc::AllocError;
+use std::alloc::{AllocError, Global};
 use std::test::Fail;
+
+/// Whether a refusal has this number, and shows this text.
+fn is_told_as(alloc: Global, fault: Fault, number: u8, text: &str) -> Result<bool, Fail> {
+    let shown = format!(in alloc; "{fault}")?;
+    Ok(fault.number() == number && shown.as_str() == text)
+}
 
 #[test]
 fn refusals(rt: HostRuntime) -> Result<(), Fail> {
@@ -25,9 +31,7 @@ fn refusals(rt: HostRuntime) -> Result<(), Fail> {
         (Fault::BadSnapshot, 15, "bad snapshot"),
     ];
     for (fault, number, text) in table {
-        assert_eq!(rt; fault.number(), number);
-        let shown = format!(in rt.alloc(); "{fault}")?;
-        assert_eq!(rt; shown.as_str(), text);
+        assert!(rt; is_told_as(rt.alloc(), fault, number, text)?, "{text}");
     }
     Ok(())
 }
@@ -113,8 +117,17 @@ fn positions(rt: HostRuntime) -> Result<(), Fail> {
     let (two, three, five) = (fixed.proc(2)?, fixed.proc(3)?, fixed.proc(5)?);
     let set = two_and_five();
     assert!(rt; set.contains(two) && !set.contains(three));
-    assert!(rt; set.smallest() == Some(two) && set.at(1) == Some(five) && set.at(2).is_none());
-    assert!(rt; set.position_of(five) == 1 && set.next(two) == five && set.next(five) == two);
+    assert!(rt; set.position_of(two) == 0 && set.position_of(five) == 1);
+    assert!(rt; set.next(two) == five && set.next(five) == two);
+    Ok(())
+}
+
+#[test]
+fn members_by_position(rt: HostRuntime) -> Result<(), Fail> {
+    let fixed = Fixed::new(5)?;
+    let set = two_and_five();
+    assert!(rt; set.smallest() == Some(fixed.proc(2)?) && set.at(0) == set.smallest());
+    assert!(rt; set.at(1) == Some(fixed.proc(5)?) && set.at(2).is_none());
     Ok(())
 }
 
@@ -134,11 +147,24 @@ fn members(rt: HostRuntime) -> Result<(), Fail> {
     let mut members = two_and_five().iter();
     assert!(rt; members.next() == Some(fixed.proc(2)?) && members.next() == Some(fixed.proc(5)?));
     assert!(rt; members.next().is_none());
+    Ok(())
+}
+
+/// Whether each of the group is a member of everybody, followed by the next, and the last by the first.
+fn go_round(fixed: Fixed) -> Result<bool, Fail> {
     let all = fixed.everybody();
     for proc in all.iter() {
-        assert!(rt; all.contains(proc));
-        assert!(rt; all.next(proc) == fixed.proc(proc.number() % 5 + 1)?);
+        let following = fixed.proc(proc.number() % fixed.count() + 1)?;
+        if !all.contains(proc) || all.next(proc) != following {
+            return Ok(false);
+        }
     }
+    Ok(true)
+}
+
+#[test]
+fn everybody_stands_round_the_ring(rt: HostRuntime) -> Result<(), Fail> {
+    assert!(rt; go_round(Fixed::new(5)?)? && go_round(Fixed::new(16)?)?);
     Ok(())
 }
 

@@ -1,16 +1,14 @@
 //! Which requests are refused, for one thread and for two.
-use crate::{Refusing, refuse_in_turn};
+use refusing_alloc::{Refusing, refuse_in_turn};
 use std::alloc::{AllocError, Allocator, Global};
-use std::test::Fail;
 use std::thread;
 
-/// Makes three requests, one after another, and answers which of them were passed on.
+/// Makes three requests of three kinds, one after another, and answers which of them were passed on.
 fn three_requests<A: Allocator + Copy>(heap: A) -> [bool; 3] {
-    let mut passed = [false; 3];
-    for request in passed.iter_mut() {
-        *request = Box::new(heap, 1u64).is_ok();
-    }
-    passed
+    let number = Box::new(heap, 1u64).is_ok();
+    let room = Vec::<u8, A>::with_capacity(heap, 100).is_ok();
+    let bytes = Vec::from_slice(heap, &[1u8, 2]).is_ok();
+    [number, room, bytes]
 }
 
 #[test]
@@ -31,25 +29,33 @@ fn refuses_only_the_request_after_those_passed(rt: HostRuntime) {
     }
 }
 
+/// A list of one byte, in room for so many.
+fn list_in<A: Allocator>(heap: A, room: usize) -> Result<Vec<u8, A>, AllocError> {
+    let mut list = Vec::with_capacity(heap, room)?;
+    list.push(7)?;
+    Ok(list)
+}
+
+/// Makes room for so many more bytes, and answers whether there is.
+fn makes_room<A: Allocator>(list: &mut Vec<u8, A>, more: usize) -> bool {
+    list.reserve_exact(more).is_ok()
+}
+
 #[test]
-fn counts_growth(rt: HostRuntime) -> Result<(), Fail> {
+fn counts_growth(rt: HostRuntime) -> Result<(), AllocError> {
     let heap = Refusing::new(rt.alloc(), 2);
-    let mut list = Vec::with_capacity(&heap, 1)?;
-    list.push(7u8)?;
-    assert!(rt; heap.requests() == 1);
-    list.push(8u8)?;
-    assert!(rt; heap.requests() == 2);
-    list.reserve_exact(100).err();
-    assert!(rt; heap.requests() == 3 && heap.has_refused());
-    assert!(rt; list.as_slice() == [7, 8].as_slice());
+    let mut list = list_in(&heap, 1)?;
+    assert!(rt; heap.requests() == 1 && makes_room(&mut list, 1) && heap.requests() == 2);
+    assert!(rt; !makes_room(&mut list, 100) && heap.requests() == 3 && heap.has_refused());
+    assert!(rt; makes_room(&mut list, 100) && heap.requests() == 4);
+    assert!(rt; list.as_slice() == [7].as_slice());
     Ok(())
 }
 
 #[test]
-fn counts_shrinking(rt: HostRuntime) -> Result<(), Fail> {
+fn counts_shrinking(rt: HostRuntime) -> Result<(), AllocError> {
     let heap = Refusing::new(rt.alloc(), 9);
-    let mut list = Vec::with_capacity(&heap, 100)?;
-    list.push(7u8)?;
+    let mut list = list_in(&heap, 100)?;
     list.shrink_to_fit();
     assert!(rt; heap.requests() == 2 && list.as_slice() == [7].as_slice());
     Ok(())

@@ -1,11 +1,17 @@
-//! Each request for memory is refused in turn: the call answers `Err`, and what it was to change is as
-//! it was.
-use crate::desk::Desk;
-use crate::packet::Packet;
-use crate::scores::Scores;
-use crate::tape::Tape;
+//! Types that are generic in their allocator. Each has a method that asks for memory, and that leaves the value as
+//! it was where it gets none: proved, and run with each request refused in turn.
+
+mod desk;
+mod packet;
+mod scores;
+mod tape;
+
+use desk::Desk;
+use packet::Packet;
 use refusing_alloc::{Refusing, refuse_in_turn};
+use scores::Scores;
 use std::alloc::{AllocError, Allocator};
+use tape::Tape;
 
 /// Grows a tape past its first block.
 fn fill_tape<A: Allocator + Copy>(alloc: A) -> Result<(), AllocError> {

@@ -17,7 +17,7 @@ pub struct Desk<A: Allocator + Copy = Global> {
 }
 
 impl<A: Allocator + Copy> Model for Desk<A> {
-    ghost use Rattle.refusing_forms.specs.Desk.{Kept};
+    ghost use Rattle.refusing_alloc_tests.specs.Desk.{Kept};
 
     ghost Value = { Kept };
 
