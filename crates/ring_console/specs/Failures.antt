@@ -1,7 +1,7 @@
 -- Why a function ends before its work is done, and the line that says so.
 use Rattle.std.specs.Prelude.{ℕ, List, [], ◌++◌, codes}
 use Rattle.std.specs.Fmt.{decimal}
-use Rattle.ring_base.specs.Fault.{number_of}
+use Rattle.ring_base.specs.Fault.{number_of, text_of}
 use Rattle.ring_base.specs.declared.fault.Fault.{Fault}
 use Rattle.ring_base.specs.declared.fault.Fault.TheVariants as fault
 use Rattle.ring_console.specs.declared.failure.Failure.{Failure}
@@ -14,27 +14,9 @@ abbrev pub script_failure : ScriptFault → Failure
 script_failure script.Memory = Refused fault.Memory
 script_failure (script.AtLine line) = BadScript line
 
--- the text of a refusal
-abbrev pub fault_words : Fault → List ℕ
-fault_words fault.NotMember = codes "not a member"
-fault_words fault.PendingFull = codes "too many pending calls"
-fault_words fault.OpTooLong = codes "operation too long"
-fault_words fault.Conflict = codes "number used for another call"
-fault_words fault.Stale = codes "stale number"
-fault_words fault.NumberGap = codes "number gap"
-fault_words fault.SessionsFull = codes "sessions full"
-fault_words fault.Stopped = codes "stopped"
-fault_words fault.BookFull = codes "book full"
-fault_words fault.Stranger = codes "stranger"
-fault_words fault.Memory = codes "out of memory"
-fault_words fault.BadFrame = codes "bad frame"
-fault_words fault.BadScript = codes "bad script"
-fault_words fault.NoAnswer = codes "no answer"
-fault_words fault.BadSnapshot = codes "bad snapshot"
-
 -- a refusal's number and text, as they begin each line on standard error
 abbrev pub numbered_text : Fault → List ℕ
-numbered_text f = codes "totem: " ++ decimal (number_of f) ++ codes " " ++ fault_words f
+numbered_text f = codes "totem: " ++ decimal (number_of f) ++ codes " " ++ text_of f
 
 -- the line on standard error, without its end. Of a failed output nothing is said
 abbrev pub failure_text : Failure → List ℕ

@@ -2,7 +2,7 @@
 
 ghost use Rattle.std.specs.Prelude.{◌≡◌, ◌≤◌, IsOk, OnOk};
 ghost use Rattle.std.specs.Io.KnownBytes.{Appends};
-ghost use Rattle.ring_console.specs.Failures.{fault_words, failure_text};
+ghost use Rattle.ring_console.specs.Failures.{failure_text};
 ghost use Rattle.ring_console.specs.Printed.{line_of};
 
 use ring_base::Fault;
@@ -78,30 +78,7 @@ impl fmt::Display for Numbered {
     ghost output = { λ numbered. Some (numbered_text numbered.0) };
 
     fn fmt<W: fmt::Write>(&self, f: &mut fmt::Formatter<W>) -> fmt::Result {
-        write!(f, "totem: {} {}", self.0.number(), words_of(self.0))
-    }
-}
-
-/// The text of a refusal, as its own `Display` writes it.
-fn words_of(fault: Fault) -> &'static str
-    ensures { result.now ≡ fault_words fault }
-{
-    match fault {
-        Fault::NotMember => "not a member",
-        Fault::PendingFull => "too many pending calls",
-        Fault::OpTooLong => "operation too long",
-        Fault::Conflict => "number used for another call",
-        Fault::Stale => "stale number",
-        Fault::NumberGap => "number gap",
-        Fault::SessionsFull => "sessions full",
-        Fault::Stopped => "stopped",
-        Fault::BookFull => "book full",
-        Fault::Stranger => "stranger",
-        Fault::Memory => "out of memory",
-        Fault::BadFrame => "bad frame",
-        Fault::BadScript => "bad script",
-        Fault::NoAnswer => "no answer",
-        Fault::BadSnapshot => "bad snapshot",
+        write!(f, "totem: {} {}", self.0.number(), self.0)
     }
 }
 
