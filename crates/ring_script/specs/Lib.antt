@@ -1,3 +1,9 @@
+pub mod Cuts
+pub mod Examples
 pub mod Faults
+pub mod Lines
+pub mod Numbers
+pub mod Operations
+pub mod Reading
 pub mod Scripts
 pub mod Words

@@ -1,7 +1,9 @@
 //! The groups that a cut parts the nodes into.
 
 ghost use Rattle.std.specs.Prelude.{◌≡◌, ◌-◌, slice_index};
-ghost use Rattle.ring_base.specs.Processors.{has};
+ghost use Rattle.ring_base.specs.Processors.{has, nobody};
+ghost use Rattle.ring_script.specs.Cuts.{cut_at, placed_from, group_of, gathered};
+ghost use Rattle.ring_script.specs.Reading.{Tells};
 
 use crate::words::{Words, node_of};
 use ring_base::{Fault, Fixed, Proc, ProcSet};
@@ -34,29 +36,37 @@ impl Groups {
     }
 
     /// The groups that the words name, at least two. `BadScript` where they name none.
-    pub(crate) fn parse(words: &mut Words<'_>, nodes: Fixed) -> Result<Groups, Fault> {
+    #[tactic(auto, unfolding(crate::proofs::Cutting::cut_after))]
+    pub(crate) fn parse(words: &mut Words<'_>, nodes: Fixed) -> Result<Groups, Fault>
+        ensures { Tells (λ groups. (groups, words.new)) result (cut_at nodes words.old) }
+    {
         let mut groups = Groups {
             group_of: [ProcSet::new(); 16],
         };
+        let mut count = 0u8;
         let mut placed = ProcSet::new();
-        for word in words {
+        while let Some(word) = words.next_word() {
             let group = group_of(word, nodes)?;
-            if !placed.intersection(group).is_empty() || group == nodes.everybody() {
+            if !placed.intersection(group).is_empty() {
                 return Err(Fault::BadScript);
             }
+            count = count.saturating_add(1);
             placed = placed.union(group);
             groups.place(group);
         }
-        if placed != nodes.everybody() {
+        if count < 2 || placed != nodes.everybody() {
             return Err(Fault::BadScript);
         }
         Ok(groups)
     }
 
-    fn place(&mut self, group: ProcSet) {
-        for i in 1..17u8 {
-            if group.contains(Proc::new(i)) {
-                self.group_of[i as usize - 1] = group;
+    /// Makes this the group of each of its members.
+    fn place(&mut self, group: ProcSet)
+        ensures { self.new ≡ placed_from 1 group self.old }
+    {
+        for (i, kept) in self.group_of.iter_mut().enumerate() {
+            if group.contains(Proc::new(i as u8 + 1)) {
+                *kept = group;
             }
         }
     }
@@ -64,12 +74,25 @@ impl Groups {
 
 /// The nodes whose numbers the word has, parted by commas. `BadScript` where a number is that of no node,
 /// or stands twice.
-fn group_of(word: &[u8], nodes: Fixed) -> Result<ProcSet, Fault> {
+#[tactic(auto, unfolding(crate::specs::Cuts::group_of))]
+fn group_of(word: &[u8], nodes: Fixed) -> Result<ProcSet, Fault>
+    ensures { Tells (λ set. set) result (group_of nodes word.now) }
+{
+    gathered(nodes, &mut Words::new(word, b','))
+}
+
+/// The nodes whose numbers these are. `BadScript` where a number is that of no node, or stands twice.
+#[tactic(auto, unfolding(crate::specs::Cuts::gathered))]
+fn gathered(nodes: Fixed, numbers: &mut Words<'_>) -> Result<ProcSet, Fault>
+    ensures { Tells (λ set. set) result (gathered nodes nobody numbers.old) }
+{
     let mut group = ProcSet::new();
-    for number in word.split(|byte| *byte == b',') {
-        if !group.insert(node_of(number, nodes)?) {
+    while let Some(number) = numbers.next_word() {
+        let node = node_of(number, nodes)?;
+        if group.contains(node) {
             return Err(Fault::BadScript);
         }
+        group.insert(node);
     }
     Ok(group)
 }

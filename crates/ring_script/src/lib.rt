@@ -2,6 +2,7 @@
 //! reader takes a text whole or tells its first fault; it runs nothing.
 #![tactic(auto)]
 
+mod examples;
 mod groups;
 mod line;
 mod lines;
@@ -9,6 +10,7 @@ mod operation;
 mod scripts;
 mod words;
 
+pub use examples::script_example;
 pub use groups::Groups;
 pub use line::Line;
 pub use scripts::{Numbered, Rings, Script, ScriptFault};

@@ -1,8 +1,14 @@
 //! The lines of a script, after its first.
 
+ghost use Rattle.std.specs.Char.{is_ascii_uppercase};
+ghost use Rattle.std.specs.List.{list_any};
+ghost use Rattle.std.specs.Prelude.{◌≡◌};
+ghost use Rattle.ring_script.specs.Lines.{asked_by, asked_of, form_at, call_at, deliver_at, timeout_at, noise_at, stop_at, cut_line_at, pump_at, frame_of, kind_of, bytes_of};
+ghost use Rattle.ring_script.specs.Reading.{Gives, Tells};
+
 use crate::groups::Groups;
 use crate::operation::operation_of;
-use crate::words::{Words, decimal};
+use crate::words::{Words, decimal, is};
 use ring_base::{Fault, Fixed, Kind, Proc};
 use ring_payload::Call;
 use std::alloc::{Allocator, Global};
@@ -38,44 +44,60 @@ pub enum Line<A: Allocator + Copy = Global> {
 
 impl<A: Allocator + Copy> Line<A> {
     /// What the line asks for, among these nodes. `BadScript` where it has none of the forms, or `Memory`.
-    pub(crate) fn parse(alloc: A, nodes: Fixed, line: &[u8]) -> Result<Line<A>, Fault> {
-        let mut words = Words::new(line);
-        let line = match words.word()? {
-            b"call" => call_of(alloc, nodes, &mut words)?,
-            b"deliver" => Line::Deliver {
-                node: words.node(nodes)?,
-                frame: frame_of(words.word()?)?,
-            },
-            b"timeout" => Line::Timeout {
-                node: words.node(nodes)?,
-                kind: kind_of(words.word()?)?,
-            },
-            b"noise" => Line::Noise {
-                node: words.node(nodes)?,
-                bytes: bytes_of(alloc, words.word()?)?,
-            },
-            b"stop" => Line::Stop {
-                node: words.node(nodes)?,
-            },
-            b"cut" => Line::Cut(Groups::parse(&mut words, nodes)?),
-            b"heal" => Line::Heal,
-            b"pump" => Line::Pump {
-                turns: words.number(1, MOST_TURNS)? as u32,
-            },
-            b"show" => Line::Show,
-            _ => return Err(Fault::BadScript),
-        };
+    #[tactic(auto, unfolding(crate::specs::Lines::asked_of))]
+    pub(crate) fn parse(alloc: A, nodes: Fixed, line: &[u8]) -> Result<Line<A>, Fault>
+        ensures { Gives asked_by result (asked_of nodes line.now) }
+    {
+        let mut words = Words::new(line, b' ');
+        let word = words.word()?;
+        let asked = form_of(alloc, nodes, word, &mut words)?;
         words.end()?;
-        Ok(line)
+        Ok(asked)
     }
 }
 
-/// The call that the rest of the words say.
+/// What the form with this first word asks for, by the words after it.
+#[tactic(auto, unfolding(crate::specs::Lines::form_at))]
+fn form_of<A: Allocator + Copy>(
+    alloc: A,
+    nodes: Fixed,
+    word: &[u8],
+    words: &mut Words<'_>,
+) -> Result<Line<A>, Fault>
+    ensures { Gives (λ line. (asked_by line, words.new)) result (form_at nodes word.now words.old) }
+{
+    if is(word, b"call") {
+        call_of(alloc, nodes, words)
+    } else if is(word, b"deliver") {
+        deliver_of(nodes, words)
+    } else if is(word, b"timeout") {
+        timeout_of(nodes, words)
+    } else if is(word, b"noise") {
+        noise_of(alloc, nodes, words)
+    } else if is(word, b"stop") {
+        stop_of(nodes, words)
+    } else if is(word, b"cut") {
+        cut_of(nodes, words)
+    } else if is(word, b"heal") {
+        Ok(Line::Heal)
+    } else if is(word, b"pump") {
+        pump_of(words)
+    } else if is(word, b"show") {
+        Ok(Line::Show)
+    } else {
+        Err(Fault::BadScript)
+    }
+}
+
+/// The call that the words say.
+#[tactic(auto, unfolding(crate::specs::Lines::call_at))]
 fn call_of<A: Allocator + Copy>(
     alloc: A,
     nodes: Fixed,
     words: &mut Words<'_>,
-) -> Result<Line<A>, Fault> {
+) -> Result<Line<A>, Fault>
+    ensures { Gives (λ line. (asked_by line, words.new)) result (call_at nodes words.old) }
+{
     let node = words.node(nodes)?;
     let client = words.number(0, u64::from(u32::MAX))? as u32;
     let number = words.number(1, u64::MAX)?;
@@ -84,8 +106,72 @@ fn call_of<A: Allocator + Copy>(
     Ok(Line::Call { node, call })
 }
 
+/// The delivery that the words say.
+#[tactic(auto, unfolding(crate::specs::Lines::deliver_at))]
+fn deliver_of<A: Allocator + Copy>(nodes: Fixed, words: &mut Words<'_>) -> Result<Line<A>, Fault>
+    ensures { Gives (λ line. (asked_by line, words.new)) result (deliver_at nodes words.old) }
+{
+    let node = words.node(nodes)?;
+    let frame = frame_of(words.word()?)?;
+    Ok(Line::Deliver { node, frame })
+}
+
+/// The timeout that the words say.
+#[tactic(auto, unfolding(crate::specs::Lines::timeout_at))]
+fn timeout_of<A: Allocator + Copy>(nodes: Fixed, words: &mut Words<'_>) -> Result<Line<A>, Fault>
+    ensures { Gives (λ line. (asked_by line, words.new)) result (timeout_at nodes words.old) }
+{
+    let node = words.node(nodes)?;
+    let kind = kind_of(words.word()?)?;
+    Ok(Line::Timeout { node, kind })
+}
+
+/// The noise that the words say.
+#[tactic(auto, unfolding(crate::specs::Lines::noise_at))]
+fn noise_of<A: Allocator + Copy>(
+    alloc: A,
+    nodes: Fixed,
+    words: &mut Words<'_>,
+) -> Result<Line<A>, Fault>
+    ensures { Gives (λ line. (asked_by line, words.new)) result (noise_at nodes words.old) }
+{
+    let node = words.node(nodes)?;
+    let bytes = bytes_of(alloc, words.word()?)?;
+    Ok(Line::Noise { node, bytes })
+}
+
+/// The stop that the words say.
+#[tactic(auto, unfolding(crate::specs::Lines::stop_at))]
+fn stop_of<A: Allocator + Copy>(nodes: Fixed, words: &mut Words<'_>) -> Result<Line<A>, Fault>
+    ensures { Gives (λ line. (asked_by line, words.new)) result (stop_at nodes words.old) }
+{
+    let node = words.node(nodes)?;
+    Ok(Line::Stop { node })
+}
+
+/// The cut that the words say.
+#[tactic(auto, unfolding(crate::specs::Lines::cut_line_at))]
+fn cut_of<A: Allocator + Copy>(nodes: Fixed, words: &mut Words<'_>) -> Result<Line<A>, Fault>
+    ensures { Gives (λ line. (asked_by line, words.new)) result (cut_line_at nodes words.old) }
+{
+    let groups = Groups::parse(words, nodes)?;
+    Ok(Line::Cut(groups))
+}
+
+/// The turns of delivery that the words say.
+#[tactic(auto, unfolding(crate::specs::Lines::pump_at))]
+fn pump_of<A: Allocator + Copy>(words: &mut Words<'_>) -> Result<Line<A>, Fault>
+    ensures { Gives (λ line. (asked_by line, words.new)) result (pump_at words.old) }
+{
+    let turns = words.number(1, MOST_TURNS)? as u32;
+    Ok(Line::Pump { turns })
+}
+
 /// The number of a frame, none if no u64 holds it.
-fn frame_of(word: &[u8]) -> Result<Option<u64>, Fault> {
+#[tactic(auto, unfolding(crate::specs::Lines::frame_of))]
+fn frame_of(word: &[u8]) -> Result<Option<u64>, Fault>
+    ensures { Tells (λ frame. frame) result (frame_of word.now) }
+{
     match decimal(word)? {
         Some(0) => Err(Fault::BadScript),
         frame => Ok(frame),
@@ -93,20 +179,29 @@ fn frame_of(word: &[u8]) -> Result<Option<u64>, Fault> {
 }
 
 /// The timeout of this name.
-fn kind_of(word: &[u8]) -> Result<Kind, Fault> {
-    match word {
-        b"retransmit" => Ok(Kind::Retransmit),
-        b"join" => Ok(Kind::Join),
-        b"consensus" => Ok(Kind::Consensus),
-        b"loss" => Ok(Kind::Loss),
-        _ => Err(Fault::BadScript),
+#[tactic(auto, unfolding(crate::specs::Lines::kind_of))]
+fn kind_of(word: &[u8]) -> Result<Kind, Fault>
+    ensures { Tells (λ kind. kind) result (kind_of word.now) }
+{
+    if is(word, b"retransmit") {
+        Ok(Kind::Retransmit)
+    } else if is(word, b"join") {
+        Ok(Kind::Join)
+    } else if is(word, b"consensus") {
+        Ok(Kind::Consensus)
+    } else if is(word, b"loss") {
+        Ok(Kind::Loss)
+    } else {
+        Err(Fault::BadScript)
     }
 }
 
 /// The bytes that the word spells in lower case hex, 1 to 8,192 of them.
-fn bytes_of<A: Allocator + Copy>(alloc: A, word: &[u8]) -> Result<Vec<u8, A>, Fault> {
-    let fits = !word.is_empty() && word.len() <= 2 * MOST_NOISE;
-    if !fits || word.iter().any(|byte| byte.is_ascii_uppercase()) {
+#[tactic(auto, unfolding(crate::specs::Lines::bytes_of))]
+fn bytes_of<A: Allocator + Copy>(alloc: A, word: &[u8]) -> Result<Vec<u8, A>, Fault>
+    ensures { Gives (λ bytes. bytes.items) result (bytes_of word.now) }
+{
+    if word.is_empty() || word.len() > 2 * MOST_NOISE || has_upper_case(word) {
         return Err(Fault::BadScript);
     }
     match hex::decode(alloc, word) {
@@ -114,4 +209,11 @@ fn bytes_of<A: Allocator + Copy>(alloc: A, word: &[u8]) -> Result<Vec<u8, A>, Fa
         Err(hex::FromHexError::OutOfMemory) => Err(Fault::Memory),
         Err(_) => Err(Fault::BadScript),
     }
+}
+
+/// Whether a byte is an upper case letter.
+fn has_upper_case(word: &[u8]) -> bool
+    ensures { result ≡ list_any is_ascii_uppercase word.now }
+{
+    word.iter().any(|byte| byte.is_ascii_uppercase())
 }

@@ -1,36 +1,68 @@
 //! The lines of a text.
 
-use crate::words::next_piece;
+ghost use Rattle.std.specs.Prelude.{◌≡◌, ◌+◌};
+ghost use Rattle.ring_script.specs.Words.{lines_of, TakesLine};
 
-/// The lines of a text that are left, each with how many stood before it. A line feed ends a line, so after the
-/// last line feed there is one more line, which may be empty.
+use crate::words::end_of_piece;
+use std::marker::Model;
+
+/// The lines of a text that are left, each with its number, counted from 1. A line feed ends a line, so after the
+/// last line feed there is one more line exactly if bytes follow. Contracts see the lines, and how many
+/// stood before them.
 #[derive(Drop)]
 pub(crate) struct Lines<'a> {
-    rest: Option<&'a [u8]>,
+    rest: &'a [u8],
     before: u64,
 }
 
+impl<'a> Model for Lines<'a> {
+    ghost use Rattle.std.specs.Prelude.{◌+◌, ◌^◌, ◌<◌, length};
+    ghost use Rattle.ring_script.specs.Words.{LinesLeft, lines_of};
+
+    ghost Value = { LinesLeft };
+
+    ghost view = { λ lines. record { before = lines.before; lines = lines_of lines.rest.now } };
+
+    ghost invariant = { λ lines. lines.before + length lines.rest.now < 2 ^ 63 };
+}
+
 impl<'a> Lines<'a> {
-    pub fn new(text: &'a [u8]) -> Lines<'a> {
+    /// All lines of the text.
+    pub fn new(text: &'a [u8]) -> Lines<'a>
+        ensures { result ≡ record { before = 0; lines = lines_of text.now } }
+    {
         Lines {
-            rest: Some(text),
+            rest: text,
             before: 0,
         }
     }
-}
 
-impl<'a> Iterator for Lines<'a> {
-    ghost use Rattle.std.specs.Iterator.{at_most};
-    ghost use Rattle.ring_script.specs.Words.{most_pieces};
+    /// The number that the next line has or would have.
+    pub fn number(&self) -> u64
+        ensures { result ≡ self.now.before + 1 }
+    {
+        self.before + 1
+    }
 
-    type Item = (u64, &'a [u8]);
-
-    ghost remaining = { λ lines. at_most (most_pieces lines.rest) };
-
-    fn next(&mut self) -> Option<(u64, &'a [u8])> {
-        let line = next_piece(&mut self.rest, b'\n')?;
-        let before = self.before;
-        self.before = before.saturating_add(1);
-        Some((before, line))
+    /// The next line with its number, none after the last.
+    pub fn next_line(&mut self) -> Option<(u64, &'a [u8])>
+        ensures { TakesLine self.old result self.new }
+    {
+        if self.rest.is_empty() {
+            return None;
+        }
+        let text = self.rest;
+        let line = match end_of_piece(text, b'\n') {
+            Some(end) => {
+                self.rest = &text[end + 1..];
+                &text[..end]
+            }
+            None => {
+                self.rest = &[];
+                text
+            }
+        };
+        self.before += 1;
+        Some((self.before, line))
     }
 }

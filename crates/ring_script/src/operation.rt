@@ -1,6 +1,12 @@
 //! The operations of the program's object, by their words.
 
-use crate::words::Words;
+ghost use Rattle.std.specs.Prelude.{◌≡◌, [], ◌∷◌, option_map};
+ghost use Rattle.std.specs.Char.{is_ascii_graphic};
+ghost use Rattle.std.specs.List.{list_all};
+ghost use Rattle.ring_script.specs.Operations.{said, form_of, is_name, operation_at, argument_after, arguments_after};
+ghost use Rattle.ring_script.specs.Reading.{Gives};
+
+use crate::words::{Words, is};
 use ring_base::Fault;
 use std::alloc::Allocator;
 
@@ -40,25 +46,42 @@ const NAMES: u8 = 3;
 const LONGEST_NAME: usize = 64;
 
 /// The form of the operation that is called by this word.
-fn form_of(word: &[u8]) -> Option<Form> {
-    let (object, code, arguments): (u8, u8, &'static [Argument]) = match word {
-        b"get" => (REGISTERS, 1, &[Argument::Key]),
-        b"put" => (REGISTERS, 2, &[Argument::Key, Argument::Value]),
-        b"cas" => (
-            REGISTERS,
-            3,
-            &[Argument::Key, Argument::Value, Argument::Value],
-        ),
-        b"add" => (COUNTERS, 1, &[Argument::Key, Argument::Value]),
-        b"read" => (COUNTERS, 2, &[Argument::Key]),
-        b"push" => (QUEUE, 1, &[Argument::Value]),
-        b"pop" => (QUEUE, 2, &[]),
-        b"length" => (QUEUE, 3, &[]),
-        b"insert" => (NAMES, 1, &[Argument::Name]),
-        b"remove" => (NAMES, 2, &[Argument::Name]),
-        b"has" => (NAMES, 3, &[Argument::Name]),
-        _ => return None,
-    };
+#[tactic(auto, unfolding(crate::specs::Operations::form_of))]
+fn form_of(word: &[u8]) -> Option<Form>
+    ensures { option_map said result ≡ form_of word.now }
+{
+    use Argument::{Key, Name, Value};
+    if is(word, b"get") {
+        made_of(REGISTERS, 1, &[Key])
+    } else if is(word, b"put") {
+        made_of(REGISTERS, 2, &[Key, Value])
+    } else if is(word, b"cas") {
+        made_of(REGISTERS, 3, &[Key, Value, Value])
+    } else if is(word, b"add") {
+        made_of(COUNTERS, 1, &[Key, Value])
+    } else if is(word, b"read") {
+        made_of(COUNTERS, 2, &[Key])
+    } else if is(word, b"push") {
+        made_of(QUEUE, 1, &[Value])
+    } else if is(word, b"pop") {
+        made_of(QUEUE, 2, &[])
+    } else if is(word, b"length") {
+        made_of(QUEUE, 3, &[])
+    } else if is(word, b"insert") {
+        made_of(NAMES, 1, &[Name])
+    } else if is(word, b"remove") {
+        made_of(NAMES, 2, &[Name])
+    } else if is(word, b"has") {
+        made_of(NAMES, 3, &[Name])
+    } else {
+        None
+    }
+}
+
+/// The form that is made of these parts.
+fn made_of(object: u8, code: u8, arguments: &'static [Argument]) -> Option<Form>
+    ensures { option_map said result ≡ Some (object ∷ code ∷ [], arguments.now) }
+{
     Some(Form {
         object,
         code,
@@ -67,26 +90,46 @@ fn form_of(word: &[u8]) -> Option<Form> {
 }
 
 /// The bytes of the operation that the words say. `BadScript` where they say none, or `Memory`.
+#[tactic(auto, unfolding(crate::specs::Operations::operation_at))]
 pub(crate) fn operation_of<A: Allocator + Copy>(
     alloc: A,
     words: &mut Words<'_>,
-) -> Result<Vec<u8, A>, Fault> {
+) -> Result<Vec<u8, A>, Fault>
+    ensures { Gives (λ bytes. (bytes.items, words.new)) result (operation_at words.old) }
+{
     let form = form_of(words.word()?).ok_or(Fault::BadScript)?;
     let mut bytes = Vec::new(alloc);
     bytes.push(form.object)?;
     bytes.push(form.code)?;
-    for argument in form.arguments {
-        spell(*argument, words, &mut bytes)?;
-    }
+    spell_all(form.arguments, words, &mut bytes)?;
     Ok(bytes)
 }
 
+/// Appends the next words' spellings as these arguments.
+fn spell_all<A: Allocator + Copy>(
+    arguments: &[Argument],
+    words: &mut Words<'_>,
+    bytes: &mut Vec<u8, A>,
+) -> Result<(), Fault>
+    ensures { Gives (λ _. (bytes.new.items, words.new)) result
+        (arguments_after bytes.old.items arguments.now words.old) }
+{
+    for argument in arguments {
+        spell(*argument, words, bytes)?;
+    }
+    Ok(())
+}
+
 /// Appends the next word's spelling as this argument.
+#[tactic(auto, unfolding(crate::specs::Operations::argument_at))]
 fn spell<A: Allocator + Copy>(
     argument: Argument,
     words: &mut Words<'_>,
     bytes: &mut Vec<u8, A>,
-) -> Result<(), Fault> {
+) -> Result<(), Fault>
+    ensures { Gives (λ _. (bytes.new.items, words.new)) result
+        (argument_after bytes.old.items argument words.old) }
+{
     match argument {
         Argument::Key => {
             let key = words.number(0, 255)?;
@@ -108,7 +151,15 @@ fn spell<A: Allocator + Copy>(
 }
 
 /// Whether the word may be a name.
-fn is_name(word: &[u8]) -> bool {
-    let fits = !word.is_empty() && word.len() <= LONGEST_NAME;
-    fits && word.iter().all(|byte| byte.is_ascii_graphic())
+fn is_name(word: &[u8]) -> bool
+    ensures { result ≡ is_name word.now }
+{
+    !word.is_empty() && word.len() <= LONGEST_NAME && are_graphic(word)
+}
+
+/// Whether each byte is one from `!` to `~`.
+fn are_graphic(word: &[u8]) -> bool
+    ensures { result ≡ list_all is_ascii_graphic word.now }
+{
+    word.iter().all(|byte| byte.is_ascii_graphic())
 }

@@ -1,12 +1,16 @@
 //! Scripts: schedules of events, as a text.
 
-ghost use Rattle.std.specs.Prelude.{◌≡◌, ◌≤◌, IsTrue, IfOk, IfErr, IfSome};
+ghost use Rattle.std.specs.Char.{is_ascii};
+ghost use Rattle.std.specs.List.{list_all};
+ghost use Rattle.std.specs.Prelude.{◌≡◌, ℕ, ◌≤◌, Some, None, List, length, map, option_map, if◌then◌else◌, IsTrue, IfOk, IfErr, IfSome};
 ghost use Rattle.ring_script.specs.Faults.{IsOfText};
-ghost use Rattle.ring_script.specs.Scripts.{CanForm};
+ghost use Rattle.ring_script.specs.Lines.{asked_by};
+ghost use Rattle.ring_script.specs.Reading.{Gives, Tells};
+ghost use Rattle.ring_script.specs.Scripts.{CanForm, allowed, is_skipped, are_ascii, nodes_of, is_useful, useful_of, unless_skipped, at_line, nodes_in, asked_in, script_of, numbered_by, schedule_by, Answers, longest_text, IsAllOf, AnswersInput, IsUnread};
 
 use crate::line::Line;
 use crate::lines::Lines;
-use crate::words::Words;
+use crate::words::{Words, is};
 use ring_base::{Fault, Fixed, Kind};
 use std::alloc::{Allocator, Global};
 use std::io::{ErrorKind, Read};
@@ -49,7 +53,8 @@ pub enum Rings {
 impl Rings {
     /// Whether a script may have so many nodes and such a timeout.
     fn allow(self, nodes: Fixed, timeout: Kind) -> bool
-        ensures { IsTrue result → CanForm self nodes }
+        ensures value { result ≡ allowed self nodes timeout }
+        ensures form { IsTrue result → CanForm self nodes }
     {
         self == Rings::OfMany || (nodes.count() == 1 && timeout == Kind::Join)
     }
@@ -60,6 +65,8 @@ impl<A: Allocator + Copy> Script<A> {
     /// than 1,048,576 bytes.
     pub fn read<R: Read>(alloc: A, input: &mut R, rings: Rings) -> Result<Script<A>, ScriptFault>
         ensures nodes { IfOk result (λ script. CanForm rings script.nodes) }
+        ensures read { (bytes : List ℕ) × IsAllOf (R.remaining input.old) bytes
+            × AnswersInput rings result bytes }
     {
         let text = read_text(alloc, input)?;
         Script::parse(alloc, text.as_slice(), rings)
@@ -67,18 +74,16 @@ impl<A: Allocator + Copy> Script<A> {
 
     /// The script that the text is. Otherwise `AtLine` with the first line at fault, or with the line after the
     /// last where no line asks for anything, or `Memory`.
+    #[tactic(auto, unfolding(crate::specs::Scripts::script_of))]
     pub fn parse(alloc: A, text: &[u8], rings: Rings) -> Result<Script<A>, ScriptFault>
         ensures nodes { IfOk result (λ script. CanForm rings script.nodes) }
+        ensures read { Answers schedule_by result (script_of rings text.now) }
         ensures refused { IfErr result IsOfText }
     {
         let mut rest = Lines::new(text);
-        match read_nodes(&mut rest, rings)? {
-            Some(nodes) => {
-                let lines = read_lines(alloc, nodes, rings, &mut rest)?;
-                Ok(Script { nodes, lines })
-            }
-            None => Err(ScriptFault::AtLine(line_after(text))),
-        }
+        let nodes = read_nodes(&mut rest, rings)?;
+        let lines = read_lines(alloc, nodes, rings, &mut rest)?;
+        Ok(Script { nodes, lines })
     }
 }
 
@@ -86,7 +91,11 @@ impl<A: Allocator + Copy> Script<A> {
 fn read_text<A: Allocator + Copy, R: Read>(
     alloc: A,
     input: &mut R,
-) -> Result<Vec<u8, A>, ScriptFault> {
+) -> Result<Vec<u8, A>, ScriptFault>
+    ensures whole { IfOk result (λ text. IsAllOf (R.remaining input.old) text.items) }
+    ensures fits { IfOk result (λ text. length text.items ≤ longest_text) }
+    ensures refused { IfErr result IsUnread }
+{
     let mut text = Vec::new(alloc);
     match input.take(LONGEST_TEXT + 1).read_to_end(&mut text) {
         Ok(length) if length as u64 <= LONGEST_TEXT => Ok(text),
@@ -95,113 +104,150 @@ fn read_text<A: Allocator + Copy, R: Read>(
     }
 }
 
-/// The number that a line after the text's last would have.
-fn line_after(text: &[u8]) -> u64
-    ensures { 1 ≤ result }
+/// The nodes that the first line tells that is not skipped. Where all are skipped, the line after them is at
+/// fault.
+#[tactic(auto, unfolding(crate::specs::Scripts::nodes_in))]
+fn read_nodes(lines: &mut Lines<'_>, rings: Rings) -> Result<Fixed, ScriptFault>
+    ensures nodes { IfOk result (CanForm rings) }
+    ensures read { Answers (λ nodes. (nodes, lines.new)) result
+        (nodes_in rings lines.old.before lines.old.lines) }
 {
-    let ended = text.iter().filter(|byte| **byte == b'\n').count() as u64;
-    match text.last() {
-        None | Some(b'\n') => ended.saturating_add(1),
-        Some(_) => ended.saturating_add(2),
-    }
-}
-
-/// The nodes that the first line tells that is not skipped, none where all are skipped.
-fn read_nodes(lines: &mut Lines<'_>, rings: Rings) -> Result<Option<Fixed>, ScriptFault>
-    ensures nodes { IfOk result (λ told. IfSome told (CanForm rings)) }
-    ensures refused { IfErr result IsOfText }
-{
-    for (before, line) in lines {
-        match is_skipped(line) {
-            Ok(true) => {}
-            Ok(false) => match nodes_of(line, rings) {
-                Ok(nodes) => return Ok(Some(nodes)),
-                Err(fault) => return Err(at_line(fault, before)),
-            },
-            Err(fault) => return Err(at_line(fault, before)),
+    while let Some((number, line)) = lines.next_line() {
+        match first_of(line, rings) {
+            Ok(None) => {}
+            Ok(Some(nodes)) => return Ok(nodes),
+            Err(fault) => return Err(at_line(fault, number)),
         }
     }
-    Ok(None)
+    Err(ScriptFault::AtLine(lines.number()))
 }
 
 /// What the other lines ask for, in their order.
+#[tactic(auto, unfolding(crate::specs::Scripts::asked_in))]
 fn read_lines<A: Allocator + Copy>(
     alloc: A,
     nodes: Fixed,
     rings: Rings,
     lines: &mut Lines<'_>,
 ) -> Result<Vec<Numbered<A>, A>, ScriptFault>
-    ensures { IfErr result IsOfText }
+    ensures { Answers (λ asked. map numbered_by asked.items) result
+        (asked_in rings nodes lines.old.before lines.old.lines) }
 {
     let mut asked = Vec::new(alloc);
-    for (before, line) in lines {
+    while let Some((number, line)) = lines.next_line() {
         match line_of(alloc, nodes, rings, line) {
             Ok(None) => {}
             Ok(Some(line)) => {
-                let number = before.saturating_add(1);
                 if asked.push(Numbered { number, line }).is_err() {
                     return Err(ScriptFault::Memory);
                 }
             }
-            Err(fault) => return Err(at_line(fault, before)),
+            Err(fault) => return Err(at_line(fault, number)),
         }
     }
     Ok(asked)
 }
 
-/// What a fault comes to in the line that has so many before it: but for want of memory, it is the line's.
-fn at_line(fault: Fault, before: u64) -> ScriptFault
-    ensures { IsOfText result }
+/// What a fault comes to in the line of this number: but for want of memory, it is the line's.
+fn at_line(fault: Fault, number: u64) -> ScriptFault
+    ensures { result ≡ at_line fault number }
 {
     match fault {
         Fault::Memory => ScriptFault::Memory,
-        _ => ScriptFault::AtLine(before.saturating_add(1)),
+        _ => ScriptFault::AtLine(number),
     }
 }
 
-/// Whether the line asks for nothing: it is empty, or a comment. A fault where it is not ASCII.
-fn is_skipped(line: &[u8]) -> Result<bool, Fault> {
-    if line.is_ascii() {
-        Ok(line.is_empty() || line.starts_with(b"#"))
-    } else {
-        Err(Fault::BadScript)
-    }
-}
-
-/// The nodes that a line `nodes N` tells. A fault where the line is none, or so many can't form such rings.
-fn nodes_of(line: &[u8], rings: Rings) -> Result<Fixed, Fault>
-    ensures { IfOk result (CanForm rings) }
+/// The nodes that a line tells, none where it is skipped. `BadScript` where it has not the form `nodes N`.
+fn first_of(line: &[u8], rings: Rings) -> Result<Option<Fixed>, Fault>
+    ensures nodes { IfOk result (λ told. IfSome told (CanForm rings)) }
+    ensures read { Tells (λ told. told) result (unless_skipped (nodes_of rings) line.now) }
 {
-    let mut words = Words::new(line);
-    if words.word()? != b"nodes".as_slice() {
-        return Err(Fault::BadScript);
+    if is_skipped(line)? {
+        return Ok(None);
     }
-    let count = words.number(1, 16)? as u8;
-    words.end()?;
-    let nodes = Fixed::new(count)?;
-    if rings.allow(nodes, Kind::Join) {
-        Ok(nodes)
-    } else {
-        Err(Fault::BadScript)
-    }
+    Ok(Some(nodes_of(line, rings)?))
 }
 
-/// What a line asks for, none where it is skipped. A fault where it has none of the forms, or its timeout has
-/// no use for such rings.
+/// What a line asks for, none where it is skipped. `BadScript` where it has none of the forms, or its timeout has
+/// no use for such rings, or `Memory`.
 fn line_of<A: Allocator + Copy>(
     alloc: A,
     nodes: Fixed,
     rings: Rings,
     line: &[u8],
-) -> Result<Option<Line<A>>, Fault> {
+) -> Result<Option<Line<A>>, Fault>
+    ensures { Gives (option_map asked_by) result (unless_skipped (useful_of rings nodes) line.now) }
+{
     if is_skipped(line)? {
         return Ok(None);
     }
-    let line = Line::parse(alloc, nodes, line)?;
-    if let Line::Timeout { node: _, kind } = &line
-        && !rings.allow(nodes, *kind)
-    {
+    Ok(Some(useful_of(alloc, nodes, rings, line)?))
+}
+
+/// Whether the line asks for nothing: it is empty, or a comment. `BadScript` where it is not ASCII.
+fn is_skipped(line: &[u8]) -> Result<bool, Fault>
+    ensures { Tells (λ skipped. skipped) result
+        (if are_ascii line.now then Some (is_skipped line.now) else None) }
+{
+    if !are_ascii(line) {
         return Err(Fault::BadScript);
     }
-    Ok(Some(line))
+    match line.first() {
+        None => Ok(true),
+        Some(first) => Ok(*first == b'#'),
+    }
+}
+
+/// Whether each byte is below 128.
+fn are_ascii(line: &[u8]) -> bool
+    ensures { result ≡ are_ascii line.now }
+{
+    line.iter().all(|byte| byte.is_ascii())
+}
+
+/// The nodes that a line `nodes N` tells. `BadScript` where the line is none, or so many can't form such rings.
+#[tactic(auto, unfolding(crate::specs::Scripts::nodes_of))]
+fn nodes_of(line: &[u8], rings: Rings) -> Result<Fixed, Fault>
+    ensures nodes { IfOk result (CanForm rings) }
+    ensures read { Tells (λ nodes. nodes) result (nodes_of rings line.now) }
+{
+    let mut words = Words::new(line, b' ');
+    if !is(words.word()?, b"nodes") {
+        return Err(Fault::BadScript);
+    }
+    let count = words.number(1, 16)? as u8;
+    words.end()?;
+    match Fixed::new(count) {
+        Ok(nodes) if rings.allow(nodes, Kind::Join) => Ok(nodes),
+        _ => Err(Fault::BadScript),
+    }
+}
+
+/// What a line asks for. `BadScript` where it has none of the forms, or its timeout has no use for such rings.
+#[tactic(auto, unfolding(crate::specs::Scripts::useful_of))]
+fn useful_of<A: Allocator + Copy>(
+    alloc: A,
+    nodes: Fixed,
+    rings: Rings,
+    line: &[u8],
+) -> Result<Line<A>, Fault>
+    ensures { Gives asked_by result (useful_of rings nodes line.now) }
+{
+    let asked = Line::parse(alloc, nodes, line)?;
+    if is_useful(rings, nodes, &asked) {
+        Ok(asked)
+    } else {
+        Err(Fault::BadScript)
+    }
+}
+
+/// Whether such rings have a use for what a line asks for.
+fn is_useful<A: Allocator + Copy>(rings: Rings, nodes: Fixed, line: &Line<A>) -> bool
+    ensures { result ≡ is_useful rings nodes (asked_by line.now) }
+{
+    match line {
+        Line::Timeout { node: _, kind } => rings.allow(nodes, *kind),
+        _ => true,
+    }
 }

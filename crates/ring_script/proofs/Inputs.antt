@@ -1,0 +1,25 @@
+-- The bytes of an input that was read whole.
+use Rattle.std.proofs.Common.{◌≡◌, ℕ, ◌<◌, List, [], ◌++◌, length, take, Option, Some, None, Err, inl, refl, ap, ◌∙◌, arith}
+use Rattle.std.specs.Prelude.{IfSome, option_map, unwrap_or}
+use Rattle.std.proofs.lemmas.List.{length-take, take_all}
+use Rattle.ring_script.specs.declared.scripts.Rings.{Rings}
+use Rattle.ring_script.specs.declared.scripts.ScriptFault.{ScriptFault}
+use Rattle.ring_script.specs.declared.scripts.ScriptFault.TheVariants.{Memory, AtLine}
+use Rattle.ring_script.specs.Scripts.{IsAllOf, AnswersInput, IsUnread}
+
+-- what was read up to a limit, and stayed below it, is all
+pub whole_below : (limit : ℕ) (known : Option (List ℕ)) (bytes : List ℕ) → IfSome (option_map (take limit) known) (λ xs. bytes ≡ [] ++ xs) → length bytes < limit → IsAllOf known bytes
+whole_below limit None bytes e lt = tt
+whole_below limit (Some xs) bytes e lt =
+    let same : bytes ≡ take limit xs = e in
+    same ∙ take_all limit xs (omega (arith, ap length same, length-take limit xs))
+
+-- some bytes are all of an input
+pub whole_is : (known : Option (List ℕ)) → IsAllOf known (unwrap_or known [])
+whole_is None = tt
+whole_is (Some xs) = refl
+
+-- an input that was not read is answered so whatever its bytes are
+pub unread : (A : Type 0) (rings : Rings) (fault : ScriptFault) (bytes : List ℕ) → IsUnread fault → AnswersInput {A = A} rings (Err fault) bytes
+unread A rings Memory bytes refused = tt
+unread A rings (AtLine line) bytes refused = inl refused

@@ -1,0 +1,99 @@
+-- An operation of a script is short enough for a call.
+use Rattle.std.proofs.Common.{◌≡◌, ℕ, ◌+◌, ◌-◌, ◌*◌, ◌^◌, ◌≤◌, Bool, true, false, List, [], ◌∷◌, ◌++◌, length, Option, Some, None, Err, refl, ap, arith, inl, inr}
+use Rattle.std.specs.Prelude.{option_and_then, if◌then◌else◌, IfSome, codes, nat_le, ◌&&◌}
+use Rattle.std.specs.Char.{is_ascii_graphic}
+use Rattle.std.specs.List.{list_all}
+use Rattle.std.specs.Int.{w64, to_be_bytes}
+use Rattle.std.proofs.lemmas.Bool.{cases_Bool, and_parts, leb-true}
+use Rattle.std.proofs.lemmas.List.{length-append}
+use Rattle.ring_base.specs.declared.fault.Fault.{Fault}
+use Rattle.ring_base.specs.declared.fault.Fault.TheVariants.{NotMember, PendingFull, OpTooLong, Conflict, Stale, NumberGap, SessionsFull, Stopped, BookFull, Stranger, Memory, BadFrame, BadScript, NoAnswer, BadSnapshot}
+use Rattle.ring_payload.specs.Calls.{IsNewCall}
+use Rattle.ring_script.specs.declared.operation.Argument.{Argument}
+use Rattle.ring_script.specs.declared.operation.Argument.TheVariants.{Key, Value, Name}
+use Rattle.ring_script.specs.Numbers.{is, word_at, number_at}
+use Rattle.ring_script.specs.Operations.{is_name, argument_at, argument_after, arguments_after, Form, form_of, operation_at}
+use Rattle.ring_script.specs.Reading.{Refuses}
+
+-- what a step and then another have given
+and_then_some : {A B : Type 0} (o : Option A) (f : A → Option B) (y : B) → option_and_then f o ≡ Some y → (x : A) × (o ≡ Some x) × (f x ≡ Some y)
+and_then_some None f y e = absurd cc
+and_then_some (Some x) f y e = (x, refl, e)
+
+-- a word that may be a name
+name_short : (word x : List ℕ × List (List ℕ)) → (if is_name word.0 then Some word else None) ≡ Some x → length x.0 ≤ 64
+name_short word x e =
+    elim (cases_Bool (is_name word.0)) [
+      | inl kept ↦
+          let parts = and_parts (nat_le 1 (length word.0) && nat_le (length word.0) 64) (list_all is_ascii_graphic word.0) kept in
+          let low = and_parts (nat_le 1 (length word.0)) (nat_le (length word.0) 64) parts.0 in
+          let same : word ≡ x = (let taken = rw kept at e in cc) in
+          omega (arith, leb-true (length word.0) 64 low.1, ap (λ (w : List ℕ × List (List ℕ)). length w.0) same)
+      | inr lost ↦ let none = rw lost at e in absurd (cc)
+    ]
+
+argument_short : (argument : Argument) (words : List (List ℕ)) (x : List ℕ × List (List ℕ)) → argument_at argument words ≡ Some x → length x.0 ≤ 64
+unfolding argument_at
+argument_short Key words x e =
+    let (key, at, made) = and_then_some (number_at 0 255 words) _ x e in
+    let same : key.0 ∷ [] ≡ x.0 = cc in
+    omega (arith, ap length same)
+argument_short Value words x e =
+    let (value, at, made) = and_then_some (number_at 0 (2 ^ 64 - 1) words) _ x e in
+    let same : to_be_bytes w64 value.0 ≡ x.0 = cc in
+    omega (arith, ap length same)
+argument_short Name words x e =
+    let (word, at, made) = and_then_some (word_at words) _ x e in
+    name_short word x made
+
+arguments_short : (bytes : List ℕ) (arguments : List Argument) (words : List (List ℕ)) (x : List ℕ × List (List ℕ)) → arguments_after bytes arguments words ≡ Some x → length x.0 ≤ length bytes + 64 * length arguments
+unfolding arguments_after
+arguments_short bytes [] words x e = let same : bytes ≡ x.0 = cc in omega (arith, ap length same)
+arguments_short bytes (argument ∷ others) words x e =
+    let (next, at, made) = and_then_some (argument_after bytes argument words) _ x e in
+    let (first, read, put) = and_then_some (argument_at argument words) _ next at in
+    let same : bytes ++ first.0 ≡ next.0 = cc in
+    omega (arith, ap length same, length-append bytes first.0, argument_short argument words first read, arguments_short next.0 others next.1 x made)
+
+-- two bytes and at most three arguments
+abbrev IsShort : Form → Type 0
+IsShort form = (length form.0 ≡ 2) × (length form.1 ≤ 3)
+
+pick : (b : Bool) (form : Form) (rest : Option Form) → IsShort form → IfSome rest IsShort → IfSome (if b then Some form else rest) IsShort
+pick true form rest short others = short
+pick false form rest short others = others
+
+form_short : (word : List ℕ) → IfSome (form_of word) IsShort
+unfolding form_of
+form_short word =
+    pick (is (codes "get") word) _ _ (refl, omega arith) (pick (is (codes "put") word) _ _ (refl, omega arith) (pick (is (codes "cas") word) _ _ (refl, omega arith) (pick (is (codes "add") word) _ _ (refl, omega arith) (pick (is (codes "read") word) _ _ (refl, omega arith) (pick (is (codes "push") word) _ _ (refl, omega arith) (pick (is (codes "pop") word) _ _ (refl, omega arith) (pick (is (codes "length") word) _ _ (refl, omega arith) (pick (is (codes "insert") word) _ _ (refl, omega arith) (pick (is (codes "remove") word) _ _ (refl, omega arith) (pick (is (codes "has") word) _ _ (refl, omega arith) (tt)))))))))))
+
+some_has : {X : Type 0} (P : X → Type 0) (o : Option X) (x : X) → o ≡ Some x → IfSome o P → P x
+some_has P o x e h = rw e at h
+
+pub operation_short : (words : List (List ℕ)) (x : List ℕ × List (List ℕ)) → operation_at words ≡ Some x → length x.0 ≤ 1024
+unfolding operation_at
+operation_short words x e =
+    let (word, at, next) = and_then_some (word_at words) _ x e in
+    let (form, named, made) = and_then_some (form_of word.0) _ x next in
+    let short = some_has IsShort (form_of word.0) form named (form_short word.0) in
+    let bound = arguments_short form.0 form.1 word.1 x made in
+    omega (arith, short.0, short.1, bound)
+
+-- a call of such an operation is refused for want of memory alone
+pub call_refused : {Y : Type 0} (A : Type 0) (e : Fault) (client number : ℕ) (op : List ℕ) (read : Option Y) → length op ≤ 1024 → 1 ≤ number → IsNewCall {A = A} client number op (Err e) → Refuses e read
+call_refused A NotMember client number op read short some h = h
+call_refused A PendingFull client number op read short some h = h
+call_refused A OpTooLong client number op read short some h = absurd (omega (arith, h))
+call_refused A Conflict client number op read short some h = h
+call_refused A Stale client number op read short some h = h
+call_refused A NumberGap client number op read short some h = absurd (omega (arith, h.1))
+call_refused A SessionsFull client number op read short some h = h
+call_refused A Stopped client number op read short some h = h
+call_refused A BookFull client number op read short some h = h
+call_refused A Stranger client number op read short some h = h
+call_refused A Memory client number op read short some h = tt
+call_refused A BadFrame client number op read short some h = h
+call_refused A BadScript client number op read short some h = absurd h
+call_refused A NoAnswer client number op read short some h = h
+call_refused A BadSnapshot client number op read short some h = h

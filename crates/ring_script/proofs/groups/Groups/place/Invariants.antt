@@ -1,0 +1,10 @@
+use Rattle.std.proofs.Common.{◌≡◌, ◌+◌, ◌++◌, length, take, drop}
+use Rattle.ring_script.specs.Cuts.{placed_from}
+use Rattle.ring_script.proofs.groups.Groups.place.Given as goal
+
+-- the groups so far, and then those that are still to be placed over, make what all of them make
+abbrev pub invariant-loop-i : goal.invariant-loop-i
+invariant-loop-i l = record {
+  long : length l.kept-items ≡ 16;
+  same : take l.i l.kept-items ++ placed_from (l.i + 1) l.group (drop l.i l.kept-items) ≡ placed_from 1 l.group l.initial.kept-items;
+}

@@ -1,0 +1,10 @@
+use Rattle.std.proofs.Common.{◌≡◌, length}
+use Rattle.ring_script.specs.Cuts.{gathered}
+use Rattle.ring_script.proofs.groups.gathered.Given as goal
+
+-- the numbers that are left make of the group so far what all of them make of nobody
+abbrev pub invariant-loop-number : goal.invariant-loop-number
+invariant-loop-number l = gathered l.nodes l.group l.numbers ≡ gathered l.nodes l.initial.group l.initial.numbers
+
+abbrev pub decreases-loop-number : goal.decreases-loop-number
+decreases-loop-number l = length l.numbers

@@ -1,0 +1,89 @@
+-- Worked texts: which line of each is at fault, what good ones ask for, and how operations are spelled.
+use Rattle.std.specs.Prelude.{◌≡◌, ℕ, List, [], ◌∷◌, ◌++◌, map, codes, Some, None, Ok, Err}
+use Rattle.std.specs.List.{join_with_byte}
+use Rattle.ring_base.specs.declared.kind.Kind.TheVariants.{Loss}
+use Rattle.ring_script.specs.declared.scripts.Rings.TheVariants.{OfMany}
+use Rattle.ring_script.specs.Lines.{Call, Deliver, Timeout, Noise, Stop, Cut, Heal, Pump, Show}
+use Rattle.ring_script.specs.Operations.{operation_at}
+use Rattle.ring_script.specs.Scripts.{Schedule, script_of}
+use Rattle.ring_script.specs.Words.{words_of}
+
+-- lines with a line feed between each two
+abbrev pub text : List (List ℕ) → List ℕ
+text lines = join_with_byte 10 lines
+
+-- the line that is at fault, and the lines of the text
+abbrev pub faulty : List (ℕ × List (List ℕ))
+faulty =
+    (1, []) ∷
+    (2, [] ∷ [] ∷ []) ∷
+    (2, codes "# only a comment" ∷ []) ∷
+    (3, codes "# one" ∷ [] ∷ [] ∷ []) ∷
+    (1, codes "show" ∷ codes "nodes 3" ∷ [] ∷ []) ∷
+    (2, codes "nodes 3" ∷ codes "nodes 3" ∷ [] ∷ []) ∷
+    (1, codes "nodes 0" ∷ []) ∷
+    (1, codes "nodes 17" ∷ []) ∷
+    (1, codes "nodes 03" ∷ []) ∷
+    (1, codes "nodes +3" ∷ []) ∷
+    (1, codes "nodes" ∷ []) ∷
+    (1, codes "nodes 3 3" ∷ []) ∷
+    (1, codes " nodes 3" ∷ []) ∷
+    (1, codes "nodes 3 " ∷ []) ∷
+    (1, codes "nodes  3" ∷ []) ∷
+    (1, (codes "nodes 3" ++ 13 ∷ []) ∷ [] ∷ []) ∷
+    (2, codes "nodes 3" ∷ codes " " ∷ codes "show" ∷ [] ∷ []) ∷
+    (2, codes "nodes 3" ∷ (codes "# " ++ 195 ∷ []) ∷ []) ∷
+    (2, codes "nodes 2" ∷ codes "timeout 3 join" ∷ []) ∷
+    (2, codes "nodes 2" ∷ codes "timeout 1 Join" ∷ []) ∷
+    (2, codes "nodes 2" ∷ codes "call 1 4294967296 1 pop" ∷ []) ∷
+    (2, codes "nodes 2" ∷ codes "call 1 7 0 pop" ∷ []) ∷
+    (2, codes "nodes 2" ∷ codes "call 1 7 1 add 256 1" ∷ []) ∷
+    (2, codes "nodes 2" ∷ codes "call 1 7 1 add 0 18446744073709551616" ∷ []) ∷
+    (2, codes "nodes 2" ∷ codes "deliver 1 0" ∷ []) ∷
+    (2, codes "nodes 2" ∷ codes "noise 1" ∷ []) ∷
+    (2, codes "nodes 2" ∷ codes "noise 1 545" ∷ []) ∷
+    (2, codes "nodes 2" ∷ codes "noise 1 5A" ∷ []) ∷
+    (2, codes "nodes 1" ∷ codes "cut 1" ∷ []) ∷
+    (2, codes "nodes 3" ∷ codes "cut 1,2,3" ∷ []) ∷
+    (2, codes "nodes 3" ∷ codes "cut 1 2" ∷ []) ∷
+    (2, codes "nodes 3" ∷ codes "cut 1,1 2,3" ∷ []) ∷
+    (2, codes "nodes 3" ∷ codes "cut 1,2 2,3" ∷ []) ∷
+    (2, codes "nodes 3" ∷ codes "cut 1, 2,3" ∷ []) ∷
+    (2, codes "nodes 2" ∷ codes "pump 0" ∷ []) ∷
+    (2, codes "nodes 2" ∷ codes "pump 100001" ∷ []) ∷
+    (2, codes "nodes 2" ∷ codes "pump 0" ∷ codes "nodes 99" ∷ [] ∷ []) ∷
+    []
+
+abbrev pub FaultsTold : Type 0
+FaultsTold = map (λ row. script_of OfMany (text row.1)) faulty ≡ map (λ row. Err row.0) faulty
+
+-- the lines of a text, and what they ask for
+abbrev pub good : List (List (List ℕ) × Schedule)
+good =
+    (codes "nodes 3" ∷ codes "cut 3,1 2" ∷ [], record { nodes = record { count = 3 }; asked = (2, Cut (5 ∷ 2 ∷ 5 ∷ 0 ∷ 0 ∷ 0 ∷ 0 ∷ 0 ∷ 0 ∷ 0 ∷ 0 ∷ 0 ∷ 0 ∷ 0 ∷ 0 ∷ 0 ∷ [])) ∷ [] }) ∷
+    (codes "nodes 2" ∷ codes "deliver 1 99999999999999999999999" ∷ [], record { nodes = record { count = 2 }; asked = (2, Deliver 1 None) ∷ [] }) ∷
+    (codes "# one" ∷ [] ∷ codes "nodes 16" ∷ codes "timeout 16 loss" ∷ codes "noise 2 5452" ∷ codes "stop 3" ∷ codes "heal" ∷ codes "pump 100000" ∷ codes "show" ∷ [] ∷ [], record { nodes = record { count = 16 }; asked = (4, Timeout 16 Loss) ∷ (5, Noise 2 (84 ∷ 82 ∷ [])) ∷ (6, Stop 3) ∷ (7, Heal) ∷ (8, Pump 100000) ∷ (9, Show) ∷ [] }) ∷
+    (codes "nodes 1" ∷ codes "deliver 1 18446744073709551615" ∷ codes "call 1 7 1 add 0 5" ∷ [], record { nodes = record { count = 1 }; asked = (2, Deliver 1 (Some 18446744073709551615)) ∷ (3, Call 1 7 1 (1 ∷ 1 ∷ 0 ∷ 0 ∷ 0 ∷ 0 ∷ 0 ∷ 0 ∷ 0 ∷ 0 ∷ 5 ∷ [])) ∷ [] }) ∷
+    []
+
+abbrev pub SchedulesTold : Type 0
+SchedulesTold = map (λ row. script_of OfMany (text row.0)) good ≡ map (λ row. Ok row.1) good
+
+-- the words of an operation, and its bytes
+abbrev pub operations : List (List ℕ × List ℕ)
+operations =
+    (codes "get 255", 0 ∷ 1 ∷ 255 ∷ []) ∷
+    (codes "put 1 2", 0 ∷ 2 ∷ 1 ∷ 0 ∷ 0 ∷ 0 ∷ 0 ∷ 0 ∷ 0 ∷ 0 ∷ 2 ∷ []) ∷
+    (codes "cas 0 1 258", 0 ∷ 3 ∷ 0 ∷ 0 ∷ 0 ∷ 0 ∷ 0 ∷ 0 ∷ 0 ∷ 0 ∷ 1 ∷ 0 ∷ 0 ∷ 0 ∷ 0 ∷ 0 ∷ 0 ∷ 1 ∷ 2 ∷ []) ∷
+    (codes "add 0 5", 1 ∷ 1 ∷ 0 ∷ 0 ∷ 0 ∷ 0 ∷ 0 ∷ 0 ∷ 0 ∷ 0 ∷ 5 ∷ []) ∷
+    (codes "read 9", 1 ∷ 2 ∷ 9 ∷ []) ∷
+    (codes "push 18446744073709551615", 2 ∷ 1 ∷ 255 ∷ 255 ∷ 255 ∷ 255 ∷ 255 ∷ 255 ∷ 255 ∷ 255 ∷ []) ∷
+    (codes "pop", 2 ∷ 2 ∷ []) ∷
+    (codes "length", 2 ∷ 3 ∷ []) ∷
+    (codes "insert a~", 3 ∷ 1 ∷ 97 ∷ 126 ∷ []) ∷
+    (codes "remove !", 3 ∷ 2 ∷ 33 ∷ []) ∷
+    (codes "has b", 3 ∷ 3 ∷ 98 ∷ []) ∷
+    []
+
+abbrev pub OperationsTold : Type 0
+OperationsTold = map (λ row. operation_at (words_of row.0)) operations ≡ map (λ row. Some (row.1, [])) operations

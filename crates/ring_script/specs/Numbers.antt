@@ -1,0 +1,54 @@
+-- What a word can stand for: a number, a node.
+use Rattle.std.specs.Prelude.{ℕ, ◌^◌, Bool, false, ◌&&◌, ◌==◌, nat_lt, nat_le, if◌then◌else◌, List, [], ◌∷◌, length, Option, Some, None, option_map, bytes_eq}
+use Rattle.std.specs.Char.{is_ascii_digit}
+use Rattle.std.specs.List.{list_all}
+use Rattle.std.specs.Str.Parse.{digits_value}
+use Rattle.ring_base.specs.Group.{Group}
+use Rattle.ring_script.specs.Reading.{◌>>=◌}
+
+-- whether the word is just this name
+unfoldable pub is : List ℕ → List ℕ → Bool
+is name word = bytes_eq word name
+
+-- whether the word is digits alone, at least one, with no leading zero but in `0` itself
+abbrev pub is_decimal : List ℕ → Bool
+is_decimal [] = false
+is_decimal (c ∷ word) = if c == 48 then length word == 0 else list_all is_ascii_digit (c ∷ word)
+
+-- the number that the word spells
+unfoldable pub number_of : List ℕ → Option ℕ
+number_of word = if is_decimal word then Some (digits_value 10 word) else None
+
+-- the number that the word spells, if it is one from `least` to `most`
+abbrev pub number_within : ℕ → ℕ → List ℕ → Option ℕ
+number_within least most word = do
+  number ← number_of word
+  if nat_le least number && nat_le number most then Some number else None
+
+-- the node whose number the word is
+abbrev pub node_of : Group → List ℕ → Option ℕ
+node_of nodes word = number_within 1 nodes.count word
+
+-- the number where a u64 holds it
+abbrev pub as_u64 : ℕ → Option ℕ
+as_u64 number = if nat_lt number (2 ^ 64) then Some number else None
+
+-- the number that the word spells, where a u64 holds it
+abbrev pub decimal_of : List ℕ → Option (Option ℕ)
+decimal_of word = option_map as_u64 (number_of word)
+
+-- the next word, and the words after it
+abbrev pub word_at : List (List ℕ) → Option (List ℕ × List (List ℕ))
+word_at [] = None
+word_at (word ∷ words) = Some (word, words)
+
+-- the next word's number, from `least` to `most`, and the words after it
+abbrev pub number_at : ℕ → ℕ → List (List ℕ) → Option (ℕ × List (List ℕ))
+number_at least most words = do
+  word ← word_at words
+  number ← number_within least most word.0
+  Some (number, word.1)
+
+-- the node that the next word is, and the words after it
+abbrev pub node_at : Group → List (List ℕ) → Option (ℕ × List (List ℕ))
+node_at nodes words = number_at 1 nodes.count words
