@@ -1,7 +1,8 @@
 //! Why the program ends before its work is done, and how it says so.
 
-ghost use Rattle.std.specs.Prelude.{◌≡◌, ◌≤◌, IsOk, OnOk};
-ghost use Rattle.std.specs.Io.KnownBytes.{Appends};
+ghost use Rattle.std.specs.Prelude.{◌≡◌, ◌≤◌, [], IsOk, OnOk};
+ghost use Rattle.std.specs.Io.Buffered.{writer_buffer, writer_contents};
+ghost use Rattle.std.specs.Io.KnownBytes.{Appends, Keeps};
 ghost use Rattle.ring_console.specs.Failures.{failure_text};
 ghost use Rattle.ring_console.specs.Printed.{line_of};
 
@@ -103,16 +104,17 @@ fn tell<E: Write>(err: &mut E, failure: Failure) -> io::Result<()>
 /// Ends what writes on standard output by a buffer: what was written stands there before anything is said
 /// on standard error. Answers the exit status, 0 where the work was done.
 pub(crate) fn exit_status<O: Write + Drop, A: Allocator, E: Write>(
-    mut out: BufWriter<O, A>,
+    out: &mut BufWriter<O, A>,
     err: &mut E,
     done: Result<(), Failure>,
 ) -> u8
     ensures status { result ≤ 1 }
     ensures ok { result ≡ 0 → IsOk done }
     ensures quiet { result ≡ 0 → err.new ≡ err.old }
+    ensures kept { Keeps (writer_contents O.contents out.old) (writer_contents O.contents out.new) }
+    ensures flushed { result ≡ 0 → writer_buffer out.new ≡ [] }
 {
     let has_failed = done == Err(Failure::Output) || out.flush().is_err();
-    let _ = out.into_parts();
     match done {
         _ if has_failed => FAILED,
         Ok(()) => 0,

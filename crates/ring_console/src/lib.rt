@@ -3,7 +3,9 @@
 //! the exit status.
 #![tactic(auto)]
 
+mod ahead;
 mod failure;
+mod lent;
 mod listed;
 mod listing;
 mod network;

@@ -4,6 +4,7 @@ ghost use Rattle.std.specs.Prelude.{◌≡◌, ◌≤◌};
 ghost use Rattle.std.specs.Io.KnownBytes.{Keeps};
 
 use crate::failure::{Failure, exit_status, report};
+use crate::lent::Lent;
 use crate::run::Run;
 use ring_base::Fault;
 use ring_book::{BookName, Opening};
@@ -38,10 +39,14 @@ pub fn script<A: Allocator + Copy + Drop, R: Read, O: Write, E: Write>(
         Ok(script) => script,
         Err(fault) => return report(err, Failure::from(fault)),
     };
-    match BufWriter::new(alloc, out) {
-        Ok(mut out) => {
-            let done = run_script(alloc, script, &mut out);
-            exit_status(out, err, done)
+    match BufWriter::new(alloc, Lent { writer: out }) {
+        Ok(mut buffer) => {
+            let done = run_script(alloc, script, &mut buffer);
+            let status = exit_status(&mut buffer, err, done);
+            let (Lent { writer }, _) = buffer.into_parts();
+            // No effect at run time. The proof reads what `out` holds from this use.
+            let _ = &*writer;
+            status
         }
         Err(_) => report(err, Failure::Refused(Fault::Memory)),
     }

@@ -1,0 +1,3 @@
+mod LentLemmas
+mod ListedLemmas
+mod ListingLemmas
