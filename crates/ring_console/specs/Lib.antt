@@ -4,3 +4,4 @@ pub mod Listed
 pub mod Listings
 pub mod Network
 pub mod Printed
+pub mod Running

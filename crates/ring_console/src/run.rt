@@ -1,22 +1,25 @@
 //! Running a script: what its lines ask for is done over a book and its cells, one event after another.
 
-ghost use Rattle.std.specs.Prelude.{◌≡◌, IfErr};
+ghost use Rattle.std.specs.Prelude.{◌≡◌, OnOk, IfOk, IfErr};
 ghost use Rattle.ring_base.specs.declared.fault.Fault.TheVariants.{Memory};
+ghost use Rattle.ring_book.specs.Lines.{IsThere};
+ghost use Rattle.ring_console.specs.Running.{run_opening, effects_of as effects_in, sent_of, Prints, Grows, EndsRun, Submits, Acted, Steps, Delivers, DeliversNumber, Comes, Pumps, Shows, Does, Runs};
 
 use crate::failure::Failure;
 use crate::network::{Network, Turn};
 use crate::printed::{print_answers, print_node, print_order, print_refused};
 use bytes::BytesMut;
 use ring_base::{Fault, Proc};
-use ring_book::{Book, BookName, Cell, FrameRef, Opening};
+use ring_book::{Book, BookName, Cell, FrameRef, Line as BookLine, Opening};
 use ring_object::Object;
 use ring_one::{Answered, Input};
 use ring_payload::Call;
 use ring_script::{Line, Script};
 use ring_session::Answer;
-use ring_wire::decode_frame;
+use ring_wire::{decode_frame, one_spelling_law, spelling_law};
 use std::alloc::Allocator;
 use std::io::Write;
+use std::marker::Model;
 
 /// Stands for a place of the book where the input is no frame.
 const NOWHERE: FrameRef = FrameRef { line: 0, place: 0 };
@@ -34,11 +37,22 @@ pub struct Run<O: Object, K: BookName<O::Alloc>> {
     effects: u64,
 }
 
+impl<O: Object, K: BookName<O::Alloc>> Model for Run<O, K> {
+    ghost use Rattle.ring_console.specs.Running.{RunView, IsOfBook};
+
+    ghost Value = { RunView O.Alloc };
+
+    ghost view = { λ r. record { lines = r.book.lines; sent = r.network.sent.items; under_way = r.network.under_way.items; groups = r.network.groups; effects = r.effects } };
+
+    ghost invariant = { λ r. IsOfBook K.name.count r.book.lines r.cells.items };
+}
+
 impl<O: Object, K: BookName<O::Alloc>> Run<O, K> {
     /// The nodes at their opening, which K names, or `Memory`.
     pub fn new(alloc: O::Alloc, opening: Opening<O>) -> Result<Run<O, K>, Fault>
         requires { opening ≡ K.name }
-        ensures { IfErr result (λ fault. fault ≡ Memory) }
+        ensures ok { IfOk result (λ run. run ≡ run_opening) }
+        ensures refused { IfErr result (λ fault. fault ≡ Memory) }
     {
         let (book, cells) = opening.parts::<K>()?;
         Ok(Run {
@@ -52,13 +66,20 @@ impl<O: Object, K: BookName<O::Alloc>> Run<O, K> {
     }
 
     /// The book of all that the nodes did so far.
-    pub fn book(&self) -> &Book<O, K> {
+    pub fn book(&self) -> &Book<O, K>
+        ensures { result.now.lines ≡ self.now.lines }
+    {
         &self.book
     }
 
-    /// Does what the lines ask for, in their order, and prints on `out` what comes of it. Otherwise `Refused`
-    /// where the book is full or memory is refused to the run itself, or `Output`. What was done stays done.
-    pub fn take<W: Write>(&mut self, script: Script<O::Alloc>, out: &mut W) -> Result<(), Failure> {
+    /// Does what the lines ask for, in their order, and prints on `out` what comes of it. Otherwise `Output`, or
+    /// `Refused`: with `BookFull`, with `Memory` where it is refused to the run itself, with `NotMember` where a
+    /// line names no node of the run; `Stranger` does not come, though no clause says so. What was done stays done.
+    pub fn take<W: Write>(&mut self, script: Script<O::Alloc>, out: &mut W) -> Result<(), Failure>
+        ensures done { OnOk result (Prints (W.contents out.old) (W.contents out.new) (λ text. Runs O.reply O.next O.initial K.name.count script.lines.items self.old self.new text)) }
+        ensures kept { Grows self.old.lines self.new.lines }
+        ensures failed { IfErr result EndsRun }
+    {
         for numbered in script.lines {
             self.take_line(numbered.line, out)?;
         }
@@ -66,7 +87,11 @@ impl<O: Object, K: BookName<O::Alloc>> Run<O, K> {
     }
 
     /// Does what a line asks for.
-    fn take_line<W: Write>(&mut self, line: Line<O::Alloc>, out: &mut W) -> Result<(), Failure> {
+    fn take_line<W: Write>(&mut self, line: Line<O::Alloc>, out: &mut W) -> Result<(), Failure>
+        ensures done { OnOk result (Prints (W.contents out.old) (W.contents out.new) (λ text. Does O.reply O.next O.initial K.name.count line self.old self.new text)) }
+        ensures kept { Grows self.old.lines self.new.lines }
+        ensures failed { IfErr result EndsRun }
+    {
         match line {
             Line::Call { node, call } => self.submit(node, call, out),
             Line::Deliver { node, frame } => self.deliver_number(node, frame, out),
@@ -92,8 +117,15 @@ impl<O: Object, K: BookName<O::Alloc>> Run<O, K> {
         node: Proc,
         number: Option<u64>,
         out: &mut W,
-    ) -> Result<(), Failure> {
-        match number.and_then(|number| self.network.frame(number)) {
+    ) -> Result<(), Failure>
+        ensures done { OnOk result (Prints (W.contents out.old) (W.contents out.new) (λ text. DeliversNumber O.reply O.next O.initial node number self.old self.new text)) }
+        ensures kept { Grows self.old.lines self.new.lines }
+        ensures failed { IfErr result EndsRun }
+    {
+        let Some(number) = number else {
+            return Ok(());
+        };
+        match self.network.frame(number) {
             Some(at) => self.deliver(node, at, out),
             None => Ok(()),
         }
@@ -105,15 +137,21 @@ impl<O: Object, K: BookName<O::Alloc>> Run<O, K> {
         node: Proc,
         call: Call<O::Alloc>,
         out: &mut W,
-    ) -> Result<(), Failure> {
+    ) -> Result<(), Failure>
+        ensures done { OnOk result (Prints (W.contents out.old) (W.contents out.new) (λ text. Submits O.reply O.next O.initial node call self.old self.new text)) }
+        ensures kept { Grows self.old.lines self.new.lines }
+        ensures failed { IfErr result EndsRun }
+    {
         let (client, number) = (call.client, call.number);
         let Some(cell) = self.cells.get_mut(node.number() as usize - 1) else {
             return Err(Failure::Refused(Fault::NotMember));
         };
+        self.book.node_law(cell);
         let place = self.book.reserve()?;
         match cell.submit(call) {
             Ok(_) => {
                 self.book.enter(place, cell)?;
+                self.book.node_law(cell);
                 Ok(())
             }
             Err(fault) => {
@@ -124,7 +162,13 @@ impl<O: Object, K: BookName<O::Alloc>> Run<O, K> {
     }
 
     /// The frame that stands there comes to a node. It changes nothing where it was sent to others alone.
-    fn deliver<W: Write>(&mut self, node: Proc, at: FrameRef, out: &mut W) -> Result<(), Failure> {
+    fn deliver<W: Write>(&mut self, node: Proc, at: FrameRef, out: &mut W) -> Result<(), Failure>
+        ensures done { OnOk result (Prints (W.contents out.old) (W.contents out.new) (λ text. Delivers O.reply O.next O.initial node at self.old self.new text)) }
+        ensures kept { Grows self.old.lines self.new.lines }
+        ensures failed { IfErr result EndsRun }
+    {
+        spelling_law::<O::Alloc>();
+        one_spelling_law::<O::Alloc>();
         self.text.clear();
         self.book.spell(at, &mut self.text)?;
         if self.book.check(node, at, self.text.as_slice()).is_err() {
@@ -141,43 +185,69 @@ impl<O: Object, K: BookName<O::Alloc>> Run<O, K> {
         input: Input<O::Alloc>,
         at: FrameRef,
         out: &mut W,
-    ) -> Result<(), Failure> {
+    ) -> Result<(), Failure>
+        requires { IsThere self.old.lines node at input }
+        ensures done { OnOk result (Prints (W.contents out.old) (W.contents out.new) (λ text. Steps O.reply O.next O.initial node input at self.old self.new text)) }
+        ensures kept { Grows self.old.lines self.new.lines }
+        ensures failed { IfErr result EndsRun }
+    {
         let Some(cell) = self.cells.get_mut(node.number() as usize - 1) else {
             return Err(Failure::Refused(Fault::NotMember));
         };
+        self.book.node_law(cell);
         let place = self.book.reserve()?;
-        match cell.step(input, at) {
-            Ok(()) | Err(Fault::Memory) => {
-                let line = self.book.enter(place, cell)?;
-                print_answers(out, node, line.answers())?;
-                self.effects = self.effects.saturating_add(effects_of(line.answers()));
-                let frames = u16::try_from(line.frames().len()).unwrap_or(u16::MAX);
-                self.network
-                    .send(line.number(), frames, line.node(), line.receivers())?;
-                Ok(())
-            }
-            Err(_) => {
-                self.book.release(place);
-                Ok(())
-            }
+        if act(cell, input, at) {
+            let line = self.book.enter(place, cell)?;
+            print_answers(out, node, line.answers())?;
+            self.effects = self.effects.saturating_add(effects_of(line.answers()));
+            self.network.send(
+                line.number(),
+                frames_of(line),
+                line.node(),
+                line.receivers(),
+            )?;
+            self.book.node_law(cell);
+            Ok(())
+        } else {
+            self.book.release(place);
+            Ok(())
         }
     }
 
     /// Takes turns of the network, fewer where no frame is under way.
-    fn pump<W: Write>(&mut self, turns: u32, out: &mut W) -> Result<(), Failure> {
+    fn pump<W: Write>(&mut self, turns: u32, out: &mut W) -> Result<(), Failure>
+        ensures done { OnOk result (Prints (W.contents out.old) (W.contents out.new) (λ text. Pumps O.reply O.next O.initial turns self.old self.new text)) }
+        ensures kept { Grows self.old.lines self.new.lines }
+        ensures failed { IfErr result EndsRun }
+    {
         for _ in 0..turns {
-            match self.network.turn() {
-                Some(Turn::Arrives(parcel)) => self.deliver(parcel.receiver, parcel.frame, out)?,
-                Some(Turn::Lost) => {}
-                None => return Ok(()),
-            }
+            let Some(turn) = self.network.turn() else {
+                return Ok(());
+            };
+            self.take_turn(turn, out)?;
         }
         Ok(())
     }
 
+    /// A copy that was under way comes to its receiver, or is lost.
+    fn take_turn<W: Write>(&mut self, turn: Turn, out: &mut W) -> Result<(), Failure>
+        ensures done { OnOk result (Prints (W.contents out.old) (W.contents out.new) (λ text. Comes O.reply O.next O.initial turn self.old self.new text)) }
+        ensures kept { Grows self.old.lines self.new.lines }
+        ensures failed { IfErr result EndsRun }
+    {
+        match turn {
+            Turn::Arrives(parcel) => self.deliver(parcel.receiver, parcel.frame, out),
+            Turn::Lost => Ok(()),
+        }
+    }
+
     /// Prints the state.
-    fn show<W: Write>(&self, out: &mut W) -> Result<(), Failure> {
+    fn show<W: Write>(&self, out: &mut W) -> Result<(), Failure>
+        ensures done { OnOk result (Prints (W.contents out.old) (W.contents out.new) (λ text. Shows O.reply O.next O.initial K.name.count self.now self.now text)) }
+        ensures failed { IfErr result EndsRun }
+    {
         for (before, cell) in self.cells.iter().enumerate() {
+            self.book.node_law(cell);
             let (number, node) = ((before as u64).saturating_add(1), cell.node());
             let committed = node.committed().len();
             print_node(
@@ -193,8 +263,31 @@ impl<O: Object, K: BookName<O::Alloc>> Run<O, K> {
     }
 }
 
+/// Hands a cell an input. Whether it did a step: that of the input, or a stop where memory is refused.
+fn act<O: Object, K: BookName<O::Alloc>>(
+    cell: &mut Cell<O, K>,
+    input: Input<O::Alloc>,
+    at: FrameRef,
+) -> bool
+    ensures { Acted O.reply O.next O.initial cell.old cell.new input at result }
+{
+    match cell.step(input, at) {
+        Ok(()) | Err(Fault::Memory) => true,
+        Err(_) => false,
+    }
+}
+
+/// How many of a line's frames are sent: the first 65,535.
+fn frames_of<A: Allocator + Copy + Drop>(line: &BookLine<A>) -> u16
+    ensures { result ≡ sent_of line.now.step }
+{
+    u16::try_from(line.frames().len()).unwrap_or(u16::MAX)
+}
+
 /// How many calls took effect, by the answers of one step: tickets of the same call are answered together.
-fn effects_of<A: Allocator + Copy + Drop>(answers: &[Answered<A>]) -> u64 {
+fn effects_of<A: Allocator + Copy + Drop>(answers: &[Answered<A>]) -> u64
+    ensures { result ≡ effects_in answers.now }
+{
     let mut effects = 0u64;
     let mut last = None;
     for answered in answers {

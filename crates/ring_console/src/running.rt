@@ -1,7 +1,11 @@
 //! What the program prints of a script.
 
-ghost use Rattle.std.specs.Prelude.{◌≡◌, ◌≤◌};
+ghost use Rattle.std.specs.Prelude.{◌≡◌, ℕ, ◌≤◌, List, Ok, OnOk};
 ghost use Rattle.std.specs.Io.KnownBytes.{Keeps};
+ghost use Rattle.ring_script.specs.Scripts.{IsAllOf, AnswersInput};
+ghost use Rattle.ring_script.specs.declared.scripts.Rings.TheVariants.{OfOne};
+ghost use Rattle.ring_script.specs.declared.scripts.Script.{Script};
+ghost use Rattle.ring_console.specs.Running.{Prints, IsTextOf};
 
 use crate::failure::{Failure, exit_status, report};
 use crate::lent::Lent;
@@ -25,7 +29,8 @@ pub type Things<A> = Shelf<Registers<A>, Counters<A>, Queue<A>, Names<A>>;
 /// - where the book is full, or memory is refused to the run itself, `err` is told so;
 /// - where `out` fails, nothing is told.
 ///
-/// The lines of the events that were done before that stand on `out`.
+/// The lines of the events that were done before that stand on `out`. Where the status is 0, the whole input was a
+/// script, and what was printed is the text of a run of it.
 pub fn script<A: Allocator + Copy + Drop, R: Read, O: Write, E: Write>(
     alloc: A,
     input: &mut R,
@@ -34,6 +39,9 @@ pub fn script<A: Allocator + Copy + Drop, R: Read, O: Write, E: Write>(
 ) -> u8
     ensures status { result ≤ 1 }
     ensures quiet { result ≡ 0 → Keeps (E.contents err.old) (E.contents err.new) }
+    ensures printed { let object = ⟦<Things<A> as Object>⟧ in
+        result ≡ 0 → (script : Script A) × (bytes : List ℕ) × IsAllOf (R.remaining input.old) bytes × AnswersInput OfOne (Ok script) bytes
+        × Prints (O.contents out.old) (O.contents out.new) (λ text. IsTextOf object.reply object.next object.initial 1 script.lines.items text) }
 {
     let script = match Script::read(alloc, input, Rings::OfOne) {
         Ok(script) => script,
@@ -59,6 +67,8 @@ fn run_script<A: Allocator + Copy + Drop, W: Write>(
     out: &mut W,
 ) -> Result<(), Failure>
     requires { script.nodes.count ≡ 1 }
+    ensures { let object = ⟦<Things<A> as Object>⟧ in
+        OnOk result (Prints (W.contents out.old) (W.contents out.new) (λ text. IsTextOf object.reply object.next object.initial 1 script.lines.items text)) }
 {
     let opening = Opening::<Things<A>>::new(alloc, script.nodes)?;
     run_over::<Things<A>, Brand, W>(alloc, opening, script, out)
@@ -72,6 +82,7 @@ fn run_over<O: Object, K: BookName<O::Alloc>, W: Write>(
     out: &mut W,
 ) -> Result<(), Failure>
     requires { opening ≡ K.name }
+    ensures { OnOk result (Prints (W.contents out.old) (W.contents out.new) (λ text. IsTextOf O.reply O.next O.initial K.name.count script.lines.items text)) }
 {
     let mut run = Run::<O, K>::new(alloc, opening)?;
     run.take(script, out)

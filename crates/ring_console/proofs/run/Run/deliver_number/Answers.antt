@@ -1,0 +1,30 @@
+use Rattle.std.proofs.Common.{◌≡◌, [], Option, None, Some, refl, sym, ap, subst, ◌∙◌}
+use Rattle.std.specs.Prelude.{MatchOption}
+use Rattle.std.proofs.KnownBytes.{Appends-nil}
+use Rattle.ring_book.specs.declared.frame_ref.FrameRef.{FrameRef}
+use Rattle.ring_console.specs.Network.{place_of}
+use Rattle.ring_console.specs.Running.{RunView, Rests, Delivers}
+use Rattle.ring_console.proofs.Printing.{ok_printed_as}
+use Rattle.ring_console.proofs.run.Run.deliver_number.Goals as goal
+
+pub returns-in_default-clause-done : goal.returns-in_default-clause-done
+returns-in_default-clause-done g c = rw c.in_default.is record { text = []; appended = Appends-nil _; holds = (refl, refl) }
+
+pub returns-in-None-clause-done : goal.returns-in-None-clause-done
+returns-in-None-clause-done g c =
+    let old : RunView g.row.O-Alloc.Denot = record { lines = c.self.inside.book.lines; sent = c.self.inside.network.sent.items; under_way = c.self.inside.network.under_way.items; groups = c.self.inside.network.groups; effects = c.self.inside.effects } in
+    let none : place_of old.sent c.in-Some.number ≡ None = sym c.frame.ensures ∙ c.in-None.is in
+    rw (← c.self.view_is, c.in-Some.is) record {
+      text = [];
+      appended = Appends-nil _;
+      holds = subst (λ (o : Option FrameRef). MatchOption o (Rests old old []) (λ at. Delivers g.O.Object.reply g.O.Object.next g.O.Object.initial c.args.node at old old [])) (sym none) (refl, refl);
+    }
+
+pub returns-in-Some-frame-clause-done : goal.returns-in-Some-frame-clause-done
+returns-in-Some-frame-clause-done g c =
+    let old : RunView g.row.O-Alloc.Denot = c.args.self.now in
+    let some : place_of old.sent c.in-Some.number ≡ Some c.in-Some-frame.at = ap (λ (r : RunView g.row.O-Alloc.Denot). place_of r.sent c.in-Some.number) (sym c.self.view_is) ∙ (sym c.frame.ensures ∙ c.in-Some-frame.is) in
+    let told = ok_printed_as c.deliver.result _ _ (λ text. Delivers g.O.Object.reply g.O.Object.next g.O.Object.initial c.args.node c.in-Some-frame.at old c.deliver.new.self text)
+    (λ text. MatchOption (place_of old.sent c.in-Some.number) (Rests old c.deliver.new.self text) (λ at. Delivers g.O.Object.reply g.O.Object.next g.O.Object.initial c.args.node at old c.deliver.new.self text))
+    (λ text h. subst (λ (o : Option FrameRef). MatchOption o (Rests old c.deliver.new.self text) (λ at. Delivers g.O.Object.reply g.O.Object.next g.O.Object.initial c.args.node at old c.deliver.new.self text)) (sym some) h) c.deliver.ensures.done in
+    rw c.in-Some.is told

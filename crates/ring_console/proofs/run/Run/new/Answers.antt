@@ -1,0 +1,9 @@
+use Rattle.std.proofs.Common.{ap}
+use Rattle.ring_book.specs.Seen.{BookView}
+use Rattle.ring_console.proofs.Opened.{new_run}
+use Rattle.ring_console.proofs.run.Run.new.Goals as goal
+
+pub invariant_of-result : goal.invariant_of-result
+invariant_of-result g c =
+    new_run g.O.Object.reply g.O.Object.next g.O.Object.initial g.K.BookName.name.count c.in_ok-book.book.lines c.in_ok-book.cells.items
+    (ap (λ (b : BookView g.row.O-Alloc.Denot). b.lines) c.in_ok-book.ensures.ok.0) c.in_ok-book.ensures.ok.1

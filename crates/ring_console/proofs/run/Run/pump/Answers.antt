@@ -1,0 +1,33 @@
+use Rattle.std.proofs.Common.{◌≡◌, ◌+◌, ◌∙◌, Some, drop, refl, sym, arith}
+use Rattle.ring_console.specs.Network.{next_turn}
+use Rattle.ring_console.specs.Running.{RunView, Comes, TurnsTimes}
+use Rattle.ring_console.proofs.Entered.{same_run}
+use Rattle.ring_console.proofs.Printing.{printed_as, printed_then, grows_more, turned, pumped, none_left}
+use Rattle.ring_console.proofs.run.Run.pump.Goals as goal
+
+pub returns-in_default-clause-done : goal.returns-in_default-clause-done
+returns-in_default-clause-done g c =
+    let lines = c.self.inside.book.lines in
+    let new : RunView g.row.O-Alloc.Denot = record { lines = lines; sent = c.turn.new.self.sent.items; under_way = c.turn.new.self.under_way.items; groups = c.turn.new.self.groups; effects = c.self.inside.effects } in
+    let left = none_left c.self.inside.network.groups c.self.inside.network.under_way.items c.turn.new.self.under_way.items (sym c.turn.ensures.turn ∙ c.in_default.is) c.turn.ensures.under_way in
+    let same : new ≡ c.loop.self = same_run lines lines _ _ _ _ _ _ c.self.inside.effects _ refl c.turn.ensures.sent left.1 c.turn.ensures.groups refl ∙ c.self.view_is in
+    printed_as _ _ _ _ (λ text h. pumped g.O.Object.reply g.O.Object.next g.O.Object.initial c.args.turns c.loop.counter c.args.self.now c.loop.self new text (omega (arith, c.loop.auto.counter-end)) (λ less. left.0) same h) c.loop.invariant.0
+
+pub returns-clause-done : goal.returns-clause-done
+returns-clause-done g c =
+    printed_as _ _ _ _ (λ text h. pumped g.O.Object.reply g.O.Object.next g.O.Object.initial c.args.turns c.loop.counter c.args.self.now c.loop.self c.loop.self text (omega (arith, c.loop.auto.counter-end)) (λ less. absurd (omega (arith, c.loop-test.false))) refl h) c.loop.invariant.0
+
+pub loop-preserved : goal.loop-preserved
+loop-preserved g c =
+    let mid : RunView g.row.O-Alloc.Denot = record { lines = c.self.inside.book.lines; sent = c.self.inside.network.sent.items; under_way = c.self.inside.network.under_way.items; groups = c.self.inside.network.groups; effects = c.self.inside.effects } in
+    let taken : RunView g.row.O-Alloc.Denot = record { lines = c.self.inside.book.lines; sent = c.turn.new.self.sent.items; under_way = c.turn.new.self.under_way.items; groups = c.turn.new.self.groups; effects = c.self.inside.effects } in
+    let same : taken ≡ record mid { under_way = drop 1 mid.under_way } = same_run c.self.inside.book.lines _ _ _ _ _ _ _ c.self.inside.effects _ refl c.turn.ensures.sent c.turn.ensures.under_way c.turn.ensures.groups refl in
+    let is : next_turn mid.groups mid.under_way ≡ Some c.in-Some.turn = sym c.turn.ensures.turn ∙ c.in-Some.is in (
+      printed_then _ _ _
+          (λ text. TurnsTimes g.O.Object.reply g.O.Object.next g.O.Object.initial c.loop.counter c.args.self.now mid text)
+          (λ text. Comes g.O.Object.reply g.O.Object.next g.O.Object.initial c.in-Some.turn taken c.take_turn.new.self text)
+          (λ text. TurnsTimes g.O.Object.reply g.O.Object.next g.O.Object.initial (c.loop.counter + 1) c.args.self.now c.take_turn.new.self text)
+          (λ a b h comes. turned g.O.Object.reply g.O.Object.next g.O.Object.initial c.loop.counter c.in-Some.turn c.args.self.now mid taken c.take_turn.new.self a b is same h comes)
+          (rw (← c.self.view_is) at c.loop.invariant.0) c.in_ok-take_turn.ensures.done,
+      grows_more c.args.self.now.lines c.self.inside.book.lines c.take_turn.new.self.lines (rw (← c.self.view_is) at c.loop.invariant.1) c.in_ok-take_turn.ensures.kept,
+    )

@@ -1,0 +1,28 @@
+use Rattle.std.proofs.Common.{◌≡◌, List, ◌++◌, ◌∷◌, [], ◌∙◌, sym, subst}
+use Rattle.std.proofs.lemmas.List.{map-id}
+use Rattle.std.proofs.lemmas.Iterator.Adapters.{YieldsList-from_vec}
+use Rattle.std.proofs.lemmas.Iterator.Consumers.{YieldsList-end}
+use Rattle.ring_script.specs.declared.scripts.Numbered.{Numbered}
+use Rattle.ring_console.specs.Running.{Runs, Does}
+use Rattle.ring_console.proofs.Printing.{printed_as, printed_then, grows_more, Runs-snoc}
+use Rattle.ring_console.proofs.run.Run.take.Goals as goal
+
+pub loop-numbered-preserved : goal.loop-numbered-preserved
+loop-numbered-preserved g c = (
+  printed_then _ _ _
+      (λ text. Runs g.O.Object.reply g.O.Object.next g.O.Object.initial g.K.BookName.name.count c.loop-numbered.yielded c.args.self.now c.loop-numbered.self text)
+      (λ text. Does g.O.Object.reply g.O.Object.next g.O.Object.initial g.K.BookName.name.count c.in-Some.numbered.line c.loop-numbered.self c.take_line.new.self text)
+      (λ text. Runs g.O.Object.reply g.O.Object.next g.O.Object.initial g.K.BookName.name.count (c.loop-numbered.yielded ++ c.in-Some.numbered ∷ []) c.args.self.now c.take_line.new.self text)
+      (λ a b runs does. Runs-snoc g.O.Object.reply g.O.Object.next g.O.Object.initial g.K.BookName.name.count c.loop-numbered.yielded c.in-Some.numbered c.args.self.now c.loop-numbered.self c.take_line.new.self a b runs does)
+      c.loop-numbered.invariant.0 c.in_ok-take_line.ensures.done,
+  grows_more _ _ _ c.loop-numbered.invariant.1 c.in_ok-take_line.ensures.kept,
+)
+
+pub returns-clause-done : goal.returns-clause-done
+returns-clause-done g c =
+    let begun = c.into_iter-numbered-iterator.ensures.into_iter_gives in
+    let ended = YieldsList-end (YieldsList-from_vec c.args.script.lines.items begun.0 (begun.1 ∙ c.args.script.lines.ok.0)) c.loop-numbered.yielded c.loop-numbered.numbered-iterator c.loop-numbered.yielded_by c.next.result c.next.new.self c.in-None.is c.next.ensures.steps in
+    let all : c.loop-numbered.yielded ≡ c.args.script.lines.items = sym (map-id c.loop-numbered.yielded) ∙ ended.0 in
+    printed_as _ _ _ _
+    (λ text runs. subst (λ (ls : List (Numbered g.row.O-Alloc.Denot)). Runs g.O.Object.reply g.O.Object.next g.O.Object.initial g.K.BookName.name.count ls c.args.self.now c.loop-numbered.self text) all runs)
+    c.loop-numbered.invariant.0
