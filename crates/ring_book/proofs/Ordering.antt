@@ -136,7 +136,8 @@ front_take (x ∷ xs) (y ∷ ys) front =
     let rest = front_take xs ys (front.0, cc (front.1)) in
     cc (heads, rest)
 
-nothing_longer : {X : Type 0} (xs : List X) → longer xs [] ≡ xs
+-- nothing is longer than any list
+pub nothing_longer : {X : Type 0} (xs : List X) → longer xs [] ≡ xs
 nothing_longer [] = refl
 nothing_longer (x ∷ xs) = let none : nat_lt (length (x ∷ xs)) 0 ≡ false = grind (arith, nat_tests) in cond-false (nat_lt (length (x ∷ xs)) 0) [] (x ∷ xs) none
 

@@ -66,12 +66,14 @@ impl<O: Object> Opening<O> {
         })
     }
 
-    /// The book and the cells, one for each processor, ascending. K names this opening. `Memory` drops it.
+    /// The book and the cells, one for each processor, ascending. K names this opening, which is of one processor. `Memory`
+    /// drops it.
     pub fn parts<K: BookName<O::Alloc>>(
         self,
     ) -> Result<(Book<O, K>, Vec<Cell<O, K>, O::Alloc>), Fault>
         requires { self ≡ K.name }
         ensures ok { IfOk result (λ r. (r.0 ≡ new_book) × (r.1.items ≡ new_cells (one_machine O.reply O.next O.initial) K.name.count)) }
+        ensures alone { IfOk result (λ _. K.name.count ≡ 1) }
         ensures refused { IfErr result (λ fault. fault ≡ Memory) }
     {
         let Opening {

@@ -1,6 +1,6 @@
 -- Frames on their way from the book to a node.
 use Rattle.std.proofs.Common.{◌≡◌, ℕ, ◌++◌, ◌⊎◌, inl, inr, true, List, [], Option, Some, None, Result, Ok, Err, slice_get, refl, sym, ap, subst, ◌∙◌}
-use Rattle.std.specs.Prelude.{IsSomeAnd, MatchOption, IsOk, ◌↔◌}
+use Rattle.std.specs.Prelude.{IsSome, IsSomeAnd, MatchOption, IsOk, ◌↔◌}
 use Rattle.std.specs.Option.{option_and_then}
 use Rattle.std.specs.Result.{is_err}
 use Rattle.ring_base.specs.declared.fault.Fault.{Fault}
@@ -24,9 +24,10 @@ pub is_fine : {T E : Type 0} (r : Result T E) → (is_err r ≡ true → ⊥) �
 is_fine (Ok x) h = refl
 is_fine (Err x) h = absurd (h refl)
 
-pub spell_fault : {A : Type 0} (o : Option (Frame A)) (fault : Fault) → MatchOption o (fault ≡ Stranger) (λ f. fault ≡ Memory) → (fault ≡ Stranger) ⊎ (fault ≡ Memory)
-spell_fault None fault h = inl h
-spell_fault (Some f) fault h = inr h
+-- a frame that stands there is refused for want of memory alone
+pub spell_fault : {A : Type 0} (o : Option (Frame A)) (fault : Fault) → IsSome o → MatchOption o (fault ≡ Stranger) (λ f. fault ≡ Memory) → fault ≡ Memory
+spell_fault None fault there h = absurd cc
+spell_fault (Some f) fault there h = h
 
 module _ {A : Type 0} (lines : List (Line A)) (at : FrameRef) (node : ℕ) where
   -- a frame that goes to the node stands there

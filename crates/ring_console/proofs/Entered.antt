@@ -8,7 +8,8 @@ use Rattle.ring_base.specs.declared.fault.Fault.{Fault}
 use Rattle.ring_base.specs.Processors.{only}
 use Rattle.ring_one.specs.declared.input.Input.{Input}
 use Rattle.ring_one.specs.declared.input.Input.TheVariants.{Stop}
-use Rattle.ring_one.specs.Machine.{One, is_stopped, submit_fault}
+use Rattle.ring_session.specs.Deduplicated.{deduplicated}
+use Rattle.ring_one.specs.Machine.{One, committed_of, is_stopped, submit_fault}
 use Rattle.ring_one.specs.Runs.{run}
 use Rattle.ring_book.specs.declared.frame_ref.FrameRef.{FrameRef}
 use Rattle.ring_book.specs.declared.input.LineInput.{LineInput}
@@ -26,10 +27,11 @@ use Rattle.ring_book.specs.Steps.{StepView}
 use Rattle.ring_book.proofs.Keeping.{Leads-last}
 use Rattle.ring_book.proofs.Leading.{steps_of-other}
 use Rattle.ring_book.proofs.Ones.{one_keeps, IsBounded}
+use Rattle.ring_book.proofs.Ordering.{nothing_longer}
 use Rattle.ring_book.proofs.Places.{set_cases, all-snoc}
 use Rattle.ring_console.specs.declared.network.Parcel.{Parcel}
 use Rattle.ring_console.specs.Network.{places_of, all_copies_of}
-use Rattle.ring_console.specs.Running.{RunView, IsEntered, IsOfBook, Enters, Acted, node_after, after_step, effects_of, sent_of}
+use Rattle.ring_console.specs.Running.{RunView, IsEntered, IsOfBook, Enters, Acted, node_after, order_length, after_step, sent_of}
 
 -- two lists with one more each, where the lists are the same
 snoc_same : {X : Type 0} (xs : List X) (a b : X) → xs ++ a ∷ [] ≡ xs ++ b ∷ [] → a ≡ b
@@ -56,6 +58,13 @@ module _ {O A : Type 0} (reply : O → List ℕ → List ℕ) (next : O → List
       → (cell.journal ≡ steps_of cell.me lines → (run reply next initial (events_of lines)).node ≡ cell.node) → node_after reply next initial lines ≡ cell.node
   unfolding node_after
   after_entered lines i cell here law = law (here.journal ∙ ap (λ (k : ℕ). steps_of k lines) (sym here.me))
+
+  -- and its committed log makes the one order
+  pub order_entered : (lines : List (Line A)) (i : ℕ) (cell : CellView (One A) A) → IsEntered lines i cell
+      → (cell.journal ≡ steps_of cell.me lines → (run reply next initial (events_of lines)).node ≡ cell.node) → length (deduplicated (committed_of cell.node)) ≡ order_length reply next initial lines
+  order_entered lines i cell here law =
+      let node = law (here.journal ∙ ap (λ (k : ℕ). steps_of k lines) (sym here.me)) in
+      sym (ap length (nothing_longer (deduplicated (committed_of (run reply next initial (events_of lines)).node))) ∙ ap (λ (n : One A). length (deduplicated (committed_of n))) node)
 
   module _ (lines : List (Line A)) (i : ℕ) (cell cell1 : CellView (One A) A) (old : BookView A) (input : LineInput A)
       (here : IsEntered lines i cell) (same : old.lines ≡ lines) (did : Journals (one_machine reply next initial) cell cell1 input) where
@@ -84,7 +93,7 @@ module _ {O A : Type 0} (reply : O → List ℕ → List ℕ) (next : O → List
       one_step : entered.step ≡ did.step
       one_step = snoc_same (steps_of cell1.me old.lines) entered.step did.step (sym entered.was ∙ journal_is)
 
-      node_is : entered.step.node ≡ suc i
+      pub node_is : entered.step.node ≡ suc i
       node_is = ap (λ (s : StepView A). s.node) one_step ∙ (did.step_node ∙ here.me)
 
       pub new_is : new.lines ≡ lines ++ record { number = length lines; step = entered.step } ∷ []
@@ -169,29 +178,28 @@ module _ {A : Type 0} where
   found_done lines node i at input done (inr stop) there is = subst (λ (x : Input A). IsThere lines (suc i) at x) (sym stop) tt
 
   -- two runs with the same parts
-  pub same_run : (lines lines' : List (Line A)) (sent sent' : List FrameRef) (under_way under_way' : List Parcel) (groups groups' : Option (List ℕ)) (effects effects' : ℕ)
-      → lines ≡ lines' → sent ≡ sent' → under_way ≡ under_way' → groups ≡ groups' → effects ≡ effects'
-      → ◌≡◌ {A = RunView A} record { lines = lines; sent = sent; under_way = under_way; groups = groups; effects = effects } record { lines = lines'; sent = sent'; under_way = under_way'; groups = groups'; effects = effects' }
-  same_run lines lines' sent sent' under_way under_way' groups groups' effects effects' a b d e f = cc
+  pub same_run : (lines lines' : List (Line A)) (sent sent' : List FrameRef) (under_way under_way' : List Parcel) (groups groups' : Option (List ℕ))
+      → lines ≡ lines' → sent ≡ sent' → under_way ≡ under_way' → groups ≡ groups'
+      → ◌≡◌ {A = RunView A} record { lines = lines; sent = sent; under_way = under_way; groups = groups } record { lines = lines'; sent = sent'; under_way = under_way'; groups = groups' }
+  same_run lines lines' sent sent' under_way under_way' groups groups' a b d e = cc
 
   -- the run after a step, as its parts were made
-  pub after_is : (old : RunView A) (step : StepView A) (line : Line A) (lines : List (Line A)) (sent : List FrameRef) (under_way : List Parcel) (groups : Option (List ℕ)) (effects number count node receivers more : ℕ)
+  pub after_is : (old : RunView A) (step : StepView A) (line : Line A) (lines : List (Line A)) (sent : List FrameRef) (under_way : List Parcel) (groups : Option (List ℕ)) (number count node receivers : ℕ)
       → line ≡ record { number = length old.lines; step = step } → lines ≡ old.lines ++ record { number = length old.lines; step = step } ∷ []
-      → number ≡ line.number → count ≡ sent_of line.step → node ≡ line.step.node → receivers ≡ only line.step.node → more ≡ effects_of line.step.answers
-      → sent ≡ old.sent ++ places_of number count → under_way ≡ old.under_way ++ all_copies_of number count node receivers → groups ≡ old.groups → effects ≡ min (old.effects + more) (2 ^ 64 - 1)
-      → ◌≡◌ {A = RunView A} record { lines = lines; sent = sent; under_way = under_way; groups = groups; effects = effects } (after_step old step)
-  after_is old step line lines sent under_way groups effects number count node receivers more is all n k p r m s u e f =
+      → number ≡ line.number → count ≡ sent_of line.step → node ≡ line.step.node → receivers ≡ only line.step.node
+      → sent ≡ old.sent ++ places_of number count → under_way ≡ old.under_way ++ all_copies_of number count node receivers → groups ≡ old.groups
+      → ◌≡◌ {A = RunView A} record { lines = lines; sent = sent; under_way = under_way; groups = groups } (after_step old step)
+  after_is old step line lines sent under_way groups number count node receivers is all n k p r s u e =
       let numbered : number ≡ length old.lines = n ∙ ap (λ (l : Line A). l.number) is in
       let counted : count ≡ sent_of step = k ∙ ap (λ (l : Line A). sent_of l.step) is in
       let here : node ≡ step.node = p ∙ ap (λ (l : Line A). l.step.node) is in
       let there : receivers ≡ only step.node = r ∙ ap (λ (l : Line A). only l.step.node) is in
-      let done : more ≡ effects_of step.answers = m ∙ ap (λ (l : Line A). effects_of l.step.answers) is in
-      same_run lines _ sent _ under_way _ groups _ effects _ all
+      same_run lines _ sent _ under_way _ groups _ all
       (s ∙ ap (λ (ps : List FrameRef). old.sent ++ ps) (ap (λ (x : ℕ). places_of x count) numbered ∙ ap (λ (x : ℕ). places_of (length old.lines) x) counted))
       (u ∙ ap (λ (ps : List Parcel). old.under_way ++ ps)
       (ap (λ (x : ℕ). all_copies_of x count node receivers) numbered ∙ (ap (λ (x : ℕ). all_copies_of (length old.lines) x node receivers) counted
       ∙ (ap (λ (x : ℕ). all_copies_of (length old.lines) (sent_of step) x receivers) here ∙ ap (λ (x : ℕ). all_copies_of (length old.lines) (sent_of step) step.node x) there))))
-      e (f ∙ ap (λ (x : ℕ). min (old.effects + x) (2 ^ 64 - 1)) done)
+      e
 
 -- a test that came out so
 pub acted_so : {O A : Type 0} (reply : O → List ℕ → List ℕ) (next : O → List ℕ → O) (initial : O) (old new : CellView (One A) A) (input : Input A) (at : FrameRef) (b c : Bool) → Acted reply next initial old new input at b → b ≡ c → Acted reply next initial old new input at c

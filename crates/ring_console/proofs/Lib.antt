@@ -1,7 +1,6 @@
 pub mod Delivering
 pub mod Entered
-mod LentLemmas
-mod ListedLemmas
-mod ListingLemmas
+pub mod Kept
 pub mod Opened
 pub mod Printing
+pub mod Sending

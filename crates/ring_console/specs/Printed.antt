@@ -1,18 +1,15 @@
 -- The lines that a script prints.
-use Rattle.std.specs.Prelude.{ℕ, List, [], ◌∷◌, ◌++◌, flat_map, codes}
+use Rattle.std.specs.Prelude.{ℕ, List, ◌++◌, flat_map, codes}
 use Rattle.std.specs.Fmt.{decimal}
 use Rattle.hex.specs.Hex.{encode_lower}
 use Rattle.ring_base.specs.Rings.{ring_text}
 use Rattle.ring_base.specs.declared.ring_id.RingId.{RingId}
 use Rattle.ring_one.specs.declared.outs.Answered.{Answered}
+use Rattle.ring_report.specs.Texts.{line_of}
 use Rattle.ring_session.specs.declared.answer.Answer.{Answer}
 use Rattle.ring_session.specs.declared.answer.Answer.TheVariants.{Done, Kept, Refused}
 use Rattle.ring_base.specs.declared.state.State.{State}
 use Rattle.ring_base.specs.declared.state.State.TheVariants.{Gather, Commit, Recovery, Operational, Stopped}
-
--- the text as a line: a line feed ends it
-abbrev pub line_of : List ℕ → List ℕ
-line_of text = text ++ 10 ∷ []
 
 -- whether the call took effect, and its reply, or the number of the reason why it did not
 abbrev pub outcome_text : Answer → List ℕ

@@ -1,5 +1,6 @@
 -- What the lines of a script do to the book and to the network, and what they print.
-use Rattle.std.specs.Prelude.{◌≡◌, ℕ, zero, suc, ◌+◌, ◌-◌, ◌^◌, ◌<◌, ◌≤◌, ◌⊎◌, ◌==◌, ◌&&◌, Bool, true, false, not, min, List, [], ◌∷◌, ◌++◌, length, drop, Option, None, Some, MatchOption, IsSomeAnd, slice_get, if◌then◌else◌}
+use Rattle.std.specs.Prelude.{◌≡◌, ℕ, zero, suc, ◌+◌, ◌-◌, ◌^◌, ◌<◌, ◌≤◌, ◌⊎◌, Bool, true, false, min, List, [], ◌∷◌, ◌++◌, length, drop, Option, None, Some, MatchOption, IsSome, IsSomeAnd, slice_get, if◌then◌else◌, ⊤}
+use Rattle.std.specs.List.{AllByRecursion}
 use Rattle.std.specs.Option.{option_and_then}
 use Rattle.std.specs.Io.KnownBytes.{Appends}
 use Rattle.ring_base.specs.declared.fault.Fault.{Fault}
@@ -8,13 +9,10 @@ use Rattle.ring_base.specs.Fault.{number_of}
 use Rattle.ring_base.specs.Numbers.{max_number}
 use Rattle.ring_base.specs.Processors.{only}
 use Rattle.ring_payload.specs.declared.call.Call.{Call}
-use Rattle.ring_session.specs.declared.answer.Answer.{Answer}
-use Rattle.ring_session.specs.declared.answer.Answer.TheVariants.{Done, Kept, Refused}
 use Rattle.ring_one.specs.declared.input.Input.{Input}
 use Rattle.ring_one.specs.declared.input.Input.TheVariants as inputs
-use Rattle.ring_one.specs.declared.outs.Answered.{Answered}
 use Rattle.ring_one.specs.Machine.{One, committed_of, is_stopped, submit_fault}
-use Rattle.ring_one.specs.Runs.{run}
+use Rattle.ring_one.specs.Runs.{order_in, run}
 use Rattle.ring_one.specs.Texts.{log_of}
 use Rattle.ring_book.specs.declared.frame_ref.FrameRef.{FrameRef}
 use Rattle.ring_book.specs.declared.input.LineInput.{LineInput}
@@ -22,21 +20,23 @@ use Rattle.ring_book.specs.declared.input.LineInput.TheVariants.{Called, Came}
 use Rattle.ring_book.specs.declared.line.Line.{Line}
 use Rattle.ring_book.specs.Cells.{IsRefusal, Journals}
 use Rattle.ring_book.specs.Events.{events_of}
-use Rattle.ring_book.specs.Lines.{frame_to, steps_of, AreKept}
+use Rattle.ring_book.specs.declared.TheConstants.{PLACES}
+use Rattle.ring_book.specs.Lines.{frame_at, frame_to, steps_of, AreKept}
 use Rattle.ring_book.specs.Machines.{one_machine}
 use Rattle.ring_book.specs.Runs.{IsStep}
-use Rattle.ring_book.specs.Seen.{CellView}
+use Rattle.ring_book.specs.Seen.{BookView, CellView}
 use Rattle.ring_book.specs.Steps.{StepView}
 use Rattle.ring_script.specs.declared.line.Line.{Line as Request}
 use Rattle.ring_script.specs.declared.line.Line.TheVariants as requests
 use Rattle.ring_script.specs.declared.scripts.Numbered.{Numbered}
-use Rattle.ring_console.specs.declared.failure.Failure.{Failure}
-use Rattle.ring_console.specs.declared.failure.Failure.TheVariants as failures
+use Rattle.ring_report.specs.declared.failure.Failure.{Failure}
+use Rattle.ring_report.specs.declared.failure.Failure.TheVariants as failures
+use Rattle.ring_report.specs.Texts.{line_of}
 use Rattle.ring_console.specs.declared.network.Parcel.{Parcel}
 use Rattle.ring_console.specs.declared.network.Turn.{Turn}
 use Rattle.ring_console.specs.declared.network.Turn.TheVariants.{Arrives, Lost}
 use Rattle.ring_console.specs.Network.{places_of, all_copies_of, place_of, next_turn}
-use Rattle.ring_console.specs.Printed.{line_of, answers_text, refused_text, node_text, order_text}
+use Rattle.ring_console.specs.Printed.{answers_text, refused_text, node_text, order_text}
 
 -- What contracts see of a run.
 pub record RunView (A : Type 0) : Type 0 where
@@ -48,12 +48,10 @@ pub record RunView (A : Type 0) : Type 0 where
   pub under_way : List Parcel
   -- the groups of the cut, if there is one
   pub groups : Option (List ℕ)
-  -- how many calls took effect
-  pub effects : ℕ
 
 -- the run before its first line
 abbrev pub run_opening : {A : Type 0} → RunView A
-run_opening = record { lines = []; sent = []; under_way = []; groups = None; effects = 0 }
+run_opening = record { lines = []; sent = []; under_way = []; groups = None }
 
 -- the place that stands for none
 abbrev pub nowhere : FrameRef
@@ -69,33 +67,15 @@ pub record Prints (old new : Option (List ℕ)) (Holds : List ℕ → Type 0) : 
 abbrev pub Grows : {A : Type 0} → List (Line A) → List (Line A) → Type 0
 Grows {A} old new = (more : List (Line A)) × (new ≡ old ++ more)
 
--- why a run ends before its script does
-abbrev pub EndsRun : Failure → Type 0
-EndsRun failure =
-    (failure ≡ failures.Output) ⊎ (failure ≡ failures.Refused fault.Memory) ⊎ (failure ≡ failures.Refused fault.BookFull) ⊎ (failure ≡ failures.Refused fault.NotMember) ⊎ (failure ≡ failures.Refused fault.Stranger)
+-- Why a run ends before its script does: its output fails, memory is refused, the book is full, or a node is named that it does not have.
+abbrev pub EndsRun : {A : Type 0} → List (Line A) → Type 0 → Failure → Type 0
+EndsRun lines IsAmongAll failure =
+    (failure ≡ failures.Output) ⊎ (failure ≡ failures.Refused fault.Memory) ⊎ ((failure ≡ failures.Refused fault.BookFull) × (length lines ≡ PLACES))
+    ⊎ ((failure ≡ failures.Refused fault.NotMember) × (IsAmongAll → ⊥))
 
--- ---- how many calls take effect
-
--- the answer says that the call took effect
-abbrev pub is_done : Answer → Bool
-is_done (Done reply) = true
-is_done (Kept reply) = false
-is_done (Refused reason) = false
-
--- the call is this one
-abbrev pub is_call : Option (ℕ × ℕ) → ℕ → ℕ → Bool
-is_call None client number = false
-is_call (Some call) client number = (call.0 == client) && (call.1 == number)
-
--- how many calls take effect by these answers, after the call that took effect last. Tickets of one call are answered together
-abbrev pub effects_from : {A : Type 0} → Option (ℕ × ℕ) → List (Answered A) → ℕ
-effects_from last [] = 0
-effects_from last (a ∷ rest) =
-    if is_done a.answer && not (is_call last a.call.client a.call.number) then suc (effects_from (Some (a.call.client, a.call.number)) rest) else effects_from last rest
-
--- how many calls take effect by the answers of one step
-abbrev pub effects_of : {A : Type 0} → List (Answered A) → ℕ
-effects_of answers = effects_from None answers
+-- why the run of a script ends before it, whatever its book came to: never for a node that is not there
+abbrev pub EndsScript : Type 0 → Failure → Type 0
+EndsScript A failure = (lines : List (Line A)) × EndsRun lines ⊤ failure
 
 -- ---- what one thing does to a run, and what it prints
 
@@ -116,14 +96,13 @@ pub record Then {A : Type 0} (P Q : RunView A → RunView A → List ℕ → Typ
 abbrev pub sent_of : {A : Type 0} → StepView A → ℕ
 sent_of step = min (length step.frames) (2 ^ 16 - 1)
 
--- the run with the next line of the book: its frames are sent to the node itself, and its answers take effect
+-- the run with the next line of the book: its frames are sent to the node itself
 abbrev pub after_step : {A : Type 0} → RunView A → StepView A → RunView A
 after_step old step = record {
   lines = old.lines ++ record { number = length old.lines; step = step } ∷ [];
   sent = old.sent ++ places_of (length old.lines) (sent_of step);
   under_way = old.under_way ++ all_copies_of (length old.lines) (sent_of step) step.node (only step.node);
   groups = old.groups;
-  effects = min (old.effects + effects_of step.answers) (2 ^ 64 - 1);
 }
 
 -- a line for each of the first nodes: all have the state of this one
@@ -135,6 +114,10 @@ module _ {O A : Type 0} (reply : O → List ℕ → List ℕ) (next : O → List
   -- the node after these lines of the book
   unfoldable pub node_after : List (Line A) → One A
   node_after lines = (run reply next initial (events_of lines)).node
+
+  -- how long the one order is after these lines
+  abbrev pub order_length : List (Line A) → ℕ
+  order_length lines = length (order_in (run reply next initial (events_of lines)))
 
   -- The next line of the book is of this node and this input: just what the input makes of the node.
   pub record Enters (old : List (Line A)) (node : ℕ) (input : LineInput A) (step : StepView A) (new : List (Line A)) : Type 0 where
@@ -210,7 +193,7 @@ module _ {O A : Type 0} (reply : O → List ℕ → List ℕ) (next : O → List
 
   -- the state is printed, of so many nodes
   abbrev pub Shows : ℕ → RunView A → RunView A → List ℕ → Type 0
-  Shows count old new text = (new ≡ old) × (text ≡ nodes_text count (node_after old.lines) ++ line_of (order_text old.effects))
+  Shows count old new text = (new ≡ old) × (text ≡ nodes_text count (node_after old.lines) ++ line_of (order_text (order_length old.lines)))
 
   -- what a line of a script asks for is done, among so many nodes
   abbrev pub Does : ℕ → Request A → RunView A → RunView A → List ℕ → Type 0
@@ -247,3 +230,24 @@ pub record IsOfBook {A : Type 0} (count : ℕ) (lines : List (Line A)) (cells : 
   pub counted : length cells ≡ count
   pub each : (place : ℕ) (cell : CellView (One A) A) → slice_get cells place ≡ Some cell → IsEntered lines place cell
   pub kept : AreKept lines
+
+-- a frame stands there
+abbrev pub IsSent : {A : Type 0} → List (Line A) → FrameRef → Type 0
+IsSent lines at = IsSome (frame_at lines at)
+
+-- the copy's frame stands in the book, and its receiver is one of so many nodes
+abbrev pub IsOnItsWay : {A : Type 0} → ℕ → List (Line A) → Parcel → Type 0
+IsOnItsWay count lines parcel = IsSent lines parcel.frame × (parcel.receiver ≤ count)
+
+-- the same of the copy that a turn brings
+abbrev pub IsBrought : {A : Type 0} → ℕ → List (Line A) → Turn → Type 0
+IsBrought count lines Lost = ⊤
+IsBrought count lines (Arrives parcel) = IsOnItsWay count lines parcel
+
+-- What a run keeps: there are nodes, no place of the book is reserved, and what was sent stands in the book and is under way to its nodes.
+pub record IsOfRun {A : Type 0} (count : ℕ) (book : BookView A) (cells : List (CellView (One A) A)) (sent : List FrameRef) (under_way : List Parcel) : Type 0 where
+  pub some : 1 ≤ count
+  pub entered : IsOfBook count book.lines cells
+  pub none_reserved : book.reserved ≡ 0
+  pub all_sent : AllByRecursion (IsSent book.lines) sent
+  pub on_their_way : AllByRecursion (IsOnItsWay count book.lines) under_way

@@ -3,18 +3,13 @@
 //! the exit status.
 #![tactic(auto)]
 
-mod ahead;
-mod failure;
-mod lent;
-mod listed;
-mod listing;
 mod network;
 mod printed;
 mod run;
 mod running;
 
-pub use failure::{Failure, report};
-pub use listing::frames;
+pub use ring_listing::frames;
+pub use ring_report::{Failure, report};
 pub use ring_script::{Groups, Line, Numbered, Rings, Script, ScriptFault};
 pub use run::Run;
 pub use running::{Things, script};

@@ -2,6 +2,7 @@
 //! them that are under way.
 
 ghost use Rattle.std.specs.Prelude.{◌≡◌, [], ◌∷◌, ◌++◌, drop, OnOk, IfErr};
+ghost use Rattle.ring_base.specs.Fronts.{IsFront};
 ghost use Rattle.ring_base.specs.declared.fault.Fault.TheVariants.{Memory};
 ghost use Rattle.ring_console.specs.Network.{places_of, copies_of, all_copies_of, place_of, hears, next_turn};
 
@@ -55,7 +56,7 @@ impl<A: Allocator + Copy> Network<A> {
     }
 
     /// So many frames, the first of a line of the book, are sent to all these receivers. `Memory` is the
-    /// only refusal.
+    /// only refusal: what was sent before it stays sent.
     pub fn send(
         &mut self,
         line: u32,
@@ -65,6 +66,8 @@ impl<A: Allocator + Copy> Network<A> {
     ) -> Result<(), Fault>
         ensures sent { OnOk result (self.new.sent.items ≡ self.old.sent.items ++ places_of line count) }
         ensures under_way { OnOk result (self.new.under_way.items ≡ self.old.under_way.items ++ all_copies_of line count sender receivers) }
+        ensures sent_so_far { IsFront self.new.sent.items (self.old.sent.items ++ places_of line count) }
+        ensures under_way_so_far { IsFront self.new.under_way.items (self.old.under_way.items ++ all_copies_of line count sender receivers) }
         ensures groups { self.new.groups ≡ self.old.groups }
         ensures refused { IfErr result (λ fault. fault ≡ Memory) }
     {
@@ -78,6 +81,8 @@ impl<A: Allocator + Copy> Network<A> {
     fn send_frame(&mut self, frame: FrameRef, sender: Proc, receivers: ProcSet) -> Result<(), Fault>
         ensures sent { OnOk result (self.new.sent.items ≡ self.old.sent.items ++ frame ∷ []) }
         ensures under_way { OnOk result (self.new.under_way.items ≡ self.old.under_way.items ++ copies_of frame sender receivers) }
+        ensures sent_so_far { IsFront self.new.sent.items (self.old.sent.items ++ frame ∷ []) }
+        ensures under_way_so_far { IsFront self.new.under_way.items (self.old.under_way.items ++ copies_of frame sender receivers) }
         ensures groups { self.new.groups ≡ self.old.groups }
         ensures refused { IfErr result (λ fault. fault ≡ Memory) }
     {

@@ -3,13 +3,14 @@
 ghost use Rattle.std.specs.Prelude.{◌≡◌, IfErr, OnOk};
 ghost use Rattle.std.specs.Io.KnownBytes.{Appends};
 ghost use Rattle.ring_base.specs.Fault.{number_of};
-ghost use Rattle.ring_console.specs.declared.failure.Failure.TheVariants.{Output};
-ghost use Rattle.ring_console.specs.Printed.{line_of, answer_text, answers_text, refused_text, node_text, order_text, state_text};
+ghost use Rattle.ring_report.specs.declared.failure.Failure.TheVariants.{Output};
+ghost use Rattle.ring_report.specs.Texts.{line_of};
+ghost use Rattle.ring_console.specs.Printed.{answer_text, answers_text, refused_text, node_text, order_text, state_text};
 
-use crate::failure::Failure;
 use ring_base::{Fault, Proc, RingId, State};
 use ring_object::Reply;
 use ring_one::Answered;
+use ring_report::Failure;
 use ring_session::Answer;
 use std::alloc::Allocator;
 use std::io::Write;

@@ -1,21 +1,22 @@
 //! Running a script: what its lines ask for is done over a book and its cells, one event after another.
 
-ghost use Rattle.std.specs.Prelude.{◌≡◌, OnOk, IfOk, IfErr};
+ghost use Rattle.std.specs.Prelude.{◌≡◌, ◌≤◌, OnOk, IfOk, IfErr, ⊤};
 ghost use Rattle.ring_base.specs.declared.fault.Fault.TheVariants.{Memory};
 ghost use Rattle.ring_book.specs.Lines.{IsThere};
-ghost use Rattle.ring_console.specs.Running.{run_opening, effects_of as effects_in, sent_of, Prints, Grows, EndsRun, Submits, Acted, Steps, Delivers, DeliversNumber, Comes, Pumps, Shows, Does, Runs};
+ghost use Rattle.ring_console.specs.Running.{run_opening, order_length, sent_of, Prints, Grows, EndsRun, Submits, Acted, Steps, Delivers, DeliversNumber, Comes, Pumps, Shows, Does, Runs, IsSent, IsBrought};
+ghost use Rattle.ring_script.specs.Lines.{asked_by, IsAmong};
+ghost use Rattle.ring_script.specs.Scripts.{AreAmong};
 
-use crate::failure::Failure;
 use crate::network::{Network, Turn};
 use crate::printed::{print_answers, print_node, print_order, print_refused};
 use bytes::BytesMut;
 use ring_base::{Fault, Proc};
 use ring_book::{Book, BookName, Cell, FrameRef, Line as BookLine, Opening};
 use ring_object::Object;
-use ring_one::{Answered, Input};
+use ring_one::Input;
 use ring_payload::Call;
+use ring_report::Failure;
 use ring_script::{Line, Script};
-use ring_session::Answer;
 use ring_wire::{decode_frame, one_spelling_law, spelling_law};
 use std::alloc::Allocator;
 use std::io::Write;
@@ -33,18 +34,16 @@ pub struct Run<O: Object, K: BookName<O::Alloc>> {
     network: Network<O::Alloc>,
     /// A frame on its way into a node.
     text: BytesMut<O::Alloc>,
-    /// How many calls took effect.
-    effects: u64,
 }
 
 impl<O: Object, K: BookName<O::Alloc>> Model for Run<O, K> {
-    ghost use Rattle.ring_console.specs.Running.{RunView, IsOfBook};
+    ghost use Rattle.ring_console.specs.Running.{RunView, IsOfRun};
 
     ghost Value = { RunView O.Alloc };
 
-    ghost view = { λ r. record { lines = r.book.lines; sent = r.network.sent.items; under_way = r.network.under_way.items; groups = r.network.groups; effects = r.effects } };
+    ghost view = { λ r. record { lines = r.book.lines; sent = r.network.sent.items; under_way = r.network.under_way.items; groups = r.network.groups } };
 
-    ghost invariant = { λ r. IsOfBook K.name.count r.book.lines r.cells.items };
+    ghost invariant = { λ r. IsOfRun K.name.count r.book r.cells.items r.network.sent.items r.network.under_way.items };
 }
 
 impl<O: Object, K: BookName<O::Alloc>> Run<O, K> {
@@ -61,7 +60,6 @@ impl<O: Object, K: BookName<O::Alloc>> Run<O, K> {
             cells,
             network: Network::new(alloc),
             text: BytesMut::new(alloc),
-            effects: 0,
         })
     }
 
@@ -73,12 +71,12 @@ impl<O: Object, K: BookName<O::Alloc>> Run<O, K> {
     }
 
     /// Does what the lines ask for, in their order, and prints on `out` what comes of it. Otherwise `Output`, or
-    /// `Refused`: with `BookFull`, with `Memory` where it is refused to the run itself, with `NotMember` where a
-    /// line names no node of the run; `Stranger` does not come, though no clause says so. What was done stays done.
+    /// `Refused`: with `BookFull` where the book has its greatest length, with `Memory` where it is refused to the
+    /// run itself, with `NotMember` where a line names no node of the run. What was done stays done.
     pub fn take<W: Write>(&mut self, script: Script<O::Alloc>, out: &mut W) -> Result<(), Failure>
         ensures done { OnOk result (Prints (W.contents out.old) (W.contents out.new) (λ text. Runs O.reply O.next O.initial K.name.count script.lines.items self.old self.new text)) }
         ensures kept { Grows self.old.lines self.new.lines }
-        ensures failed { IfErr result EndsRun }
+        ensures failed { IfErr result (EndsRun self.new.lines (AreAmong K.name.count script.lines.items)) }
     {
         for numbered in script.lines {
             self.take_line(numbered.line, out)?;
@@ -90,7 +88,7 @@ impl<O: Object, K: BookName<O::Alloc>> Run<O, K> {
     fn take_line<W: Write>(&mut self, line: Line<O::Alloc>, out: &mut W) -> Result<(), Failure>
         ensures done { OnOk result (Prints (W.contents out.old) (W.contents out.new) (λ text. Does O.reply O.next O.initial K.name.count line self.old self.new text)) }
         ensures kept { Grows self.old.lines self.new.lines }
-        ensures failed { IfErr result EndsRun }
+        ensures failed { IfErr result (EndsRun self.new.lines (IsAmong K.name.count (asked_by line))) }
     {
         match line {
             Line::Call { node, call } => self.submit(node, call, out),
@@ -120,7 +118,7 @@ impl<O: Object, K: BookName<O::Alloc>> Run<O, K> {
     ) -> Result<(), Failure>
         ensures done { OnOk result (Prints (W.contents out.old) (W.contents out.new) (λ text. DeliversNumber O.reply O.next O.initial node number self.old self.new text)) }
         ensures kept { Grows self.old.lines self.new.lines }
-        ensures failed { IfErr result EndsRun }
+        ensures failed { IfErr result (EndsRun self.new.lines (node ≤ K.name.count)) }
     {
         let Some(number) = number else {
             return Ok(());
@@ -140,7 +138,7 @@ impl<O: Object, K: BookName<O::Alloc>> Run<O, K> {
     ) -> Result<(), Failure>
         ensures done { OnOk result (Prints (W.contents out.old) (W.contents out.new) (λ text. Submits O.reply O.next O.initial node call self.old self.new text)) }
         ensures kept { Grows self.old.lines self.new.lines }
-        ensures failed { IfErr result EndsRun }
+        ensures failed { IfErr result (EndsRun self.new.lines (node ≤ K.name.count)) }
     {
         let (client, number) = (call.client, call.number);
         let Some(cell) = self.cells.get_mut(node.number() as usize - 1) else {
@@ -163,9 +161,10 @@ impl<O: Object, K: BookName<O::Alloc>> Run<O, K> {
 
     /// The frame that stands there comes to a node. It changes nothing where it was sent to others alone.
     fn deliver<W: Write>(&mut self, node: Proc, at: FrameRef, out: &mut W) -> Result<(), Failure>
+        requires { IsSent self.old.lines at }
         ensures done { OnOk result (Prints (W.contents out.old) (W.contents out.new) (λ text. Delivers O.reply O.next O.initial node at self.old self.new text)) }
         ensures kept { Grows self.old.lines self.new.lines }
-        ensures failed { IfErr result EndsRun }
+        ensures failed { IfErr result (EndsRun self.new.lines (node ≤ K.name.count)) }
     {
         spelling_law::<O::Alloc>();
         one_spelling_law::<O::Alloc>();
@@ -189,7 +188,7 @@ impl<O: Object, K: BookName<O::Alloc>> Run<O, K> {
         requires { IsThere self.old.lines node at input }
         ensures done { OnOk result (Prints (W.contents out.old) (W.contents out.new) (λ text. Steps O.reply O.next O.initial node input at self.old self.new text)) }
         ensures kept { Grows self.old.lines self.new.lines }
-        ensures failed { IfErr result EndsRun }
+        ensures failed { IfErr result (EndsRun self.new.lines (node ≤ K.name.count)) }
     {
         let Some(cell) = self.cells.get_mut(node.number() as usize - 1) else {
             return Err(Failure::Refused(Fault::NotMember));
@@ -199,7 +198,6 @@ impl<O: Object, K: BookName<O::Alloc>> Run<O, K> {
         if act(cell, input, at) {
             let line = self.book.enter(place, cell)?;
             print_answers(out, node, line.answers())?;
-            self.effects = self.effects.saturating_add(effects_of(line.answers()));
             self.network.send(
                 line.number(),
                 frames_of(line),
@@ -218,7 +216,7 @@ impl<O: Object, K: BookName<O::Alloc>> Run<O, K> {
     fn pump<W: Write>(&mut self, turns: u32, out: &mut W) -> Result<(), Failure>
         ensures done { OnOk result (Prints (W.contents out.old) (W.contents out.new) (λ text. Pumps O.reply O.next O.initial turns self.old self.new text)) }
         ensures kept { Grows self.old.lines self.new.lines }
-        ensures failed { IfErr result EndsRun }
+        ensures failed { IfErr result (EndsRun self.new.lines ⊤) }
     {
         for _ in 0..turns {
             let Some(turn) = self.network.turn() else {
@@ -231,9 +229,10 @@ impl<O: Object, K: BookName<O::Alloc>> Run<O, K> {
 
     /// A copy that was under way comes to its receiver, or is lost.
     fn take_turn<W: Write>(&mut self, turn: Turn, out: &mut W) -> Result<(), Failure>
+        requires { IsBrought K.name.count self.old.lines turn }
         ensures done { OnOk result (Prints (W.contents out.old) (W.contents out.new) (λ text. Comes O.reply O.next O.initial turn self.old self.new text)) }
         ensures kept { Grows self.old.lines self.new.lines }
-        ensures failed { IfErr result EndsRun }
+        ensures failed { IfErr result (EndsRun self.new.lines ⊤) }
     {
         match turn {
             Turn::Arrives(parcel) => self.deliver(parcel.receiver, parcel.frame, out),
@@ -244,7 +243,7 @@ impl<O: Object, K: BookName<O::Alloc>> Run<O, K> {
     /// Prints the state.
     fn show<W: Write>(&self, out: &mut W) -> Result<(), Failure>
         ensures done { OnOk result (Prints (W.contents out.old) (W.contents out.new) (λ text. Shows O.reply O.next O.initial K.name.count self.now self.now text)) }
-        ensures failed { IfErr result EndsRun }
+        ensures failed { IfErr result (EndsRun self.now.lines ⊤) }
     {
         for (before, cell) in self.cells.iter().enumerate() {
             self.book.node_law(cell);
@@ -259,7 +258,16 @@ impl<O: Object, K: BookName<O::Alloc>> Run<O, K> {
                 node.log_len(),
             )?;
         }
-        print_order(out, self.effects)
+        print_order(out, self.order_len())
+    }
+
+    /// How long the one order is.
+    fn order_len(&self) -> u64
+        ensures { result ≡ order_length O.reply O.next O.initial self.now.lines }
+    {
+        let cell = &self.cells[0];
+        self.book.node_law(cell);
+        cell.node().order_len()
     }
 }
 
@@ -282,20 +290,4 @@ fn frames_of<A: Allocator + Copy + Drop>(line: &BookLine<A>) -> u16
     ensures { result ≡ sent_of line.now.step }
 {
     u16::try_from(line.frames().len()).unwrap_or(u16::MAX)
-}
-
-/// How many calls took effect, by the answers of one step: tickets of the same call are answered together.
-fn effects_of<A: Allocator + Copy + Drop>(answers: &[Answered<A>]) -> u64
-    ensures { result ≡ effects_in answers.now }
-{
-    let mut effects = 0u64;
-    let mut last = None;
-    for answered in answers {
-        let call = (answered.call.client, answered.call.number);
-        if matches!(answered.answer, Answer::Done(_)) && last != Some(call) {
-            effects = effects.saturating_add(1);
-            last = Some(call);
-        }
-    }
-    effects
 }

@@ -1,18 +1,17 @@
 //! What the program prints of a script.
 
-ghost use Rattle.std.specs.Prelude.{◌≡◌, ℕ, ◌≤◌, List, Ok, OnOk};
+ghost use Rattle.std.specs.Prelude.{◌≡◌, ℕ, ◌≤◌, List, Ok, OnOk, IfErr};
 ghost use Rattle.std.specs.Io.KnownBytes.{Keeps};
-ghost use Rattle.ring_script.specs.Scripts.{IsAllOf, AnswersInput};
+ghost use Rattle.ring_script.specs.Scripts.{AreAmong, IsAllOf, AnswersInput};
 ghost use Rattle.ring_script.specs.declared.scripts.Rings.TheVariants.{OfOne};
 ghost use Rattle.ring_script.specs.declared.scripts.Script.{Script};
-ghost use Rattle.ring_console.specs.Running.{Prints, IsTextOf};
+ghost use Rattle.ring_console.specs.Running.{EndsScript, Prints, IsTextOf};
 
-use crate::failure::{Failure, exit_status, report};
-use crate::lent::Lent;
 use crate::run::Run;
 use ring_base::Fault;
 use ring_book::{BookName, Opening};
 use ring_object::Object;
+use ring_report::{Failure, Lent, exit_status, report};
 use ring_script::{Rings, Script};
 use ring_things::{Counters, Names, Queue, Registers, Shelf};
 use std::alloc::Allocator;
@@ -60,15 +59,18 @@ pub fn script<A: Allocator + Copy + Drop, R: Read, O: Write, E: Write>(
     }
 }
 
-/// Opens a book for the script's one node, and runs the script over it.
+/// Opens a book for the script's one node, and runs the script over it. It ends before the script for one of three
+/// reasons alone: `Output`, or refused with `Memory` or `BookFull`.
 fn run_script<A: Allocator + Copy + Drop, W: Write>(
     alloc: A,
     script: Script<A>,
     out: &mut W,
 ) -> Result<(), Failure>
-    requires { script.nodes.count ≡ 1 }
-    ensures { let object = ⟦<Things<A> as Object>⟧ in
+    requires one { script.nodes.count ≡ 1 }
+    requires among { AreAmong script.nodes.count script.lines.items }
+    ensures printed { let object = ⟦<Things<A> as Object>⟧ in
         OnOk result (Prints (W.contents out.old) (W.contents out.new) (λ text. IsTextOf object.reply object.next object.initial 1 script.lines.items text)) }
+    ensures ended { IfErr result (EndsScript A) }
 {
     let opening = Opening::<Things<A>>::new(alloc, script.nodes)?;
     run_over::<Things<A>, Brand, W>(alloc, opening, script, out)
@@ -81,8 +83,10 @@ fn run_over<O: Object, K: BookName<O::Alloc>, W: Write>(
     script: Script<O::Alloc>,
     out: &mut W,
 ) -> Result<(), Failure>
-    requires { opening ≡ K.name }
-    ensures { OnOk result (Prints (W.contents out.old) (W.contents out.new) (λ text. IsTextOf O.reply O.next O.initial K.name.count script.lines.items text)) }
+    requires named { opening ≡ K.name }
+    requires among { AreAmong K.name.count script.lines.items }
+    ensures printed { OnOk result (Prints (W.contents out.old) (W.contents out.new) (λ text. IsTextOf O.reply O.next O.initial K.name.count script.lines.items text)) }
+    ensures ended { IfErr result (EndsScript O.Alloc) }
 {
     let mut run = Run::<O, K>::new(alloc, opening)?;
     run.take(script, out)

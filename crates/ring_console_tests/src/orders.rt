@@ -51,6 +51,19 @@ const STOP: [(&str, usize); 9] = [
     ("call 1 7 3 read 0", 1),
 ];
 
+/// A call that left a number out is tried again before it is committed: both tries are answered by its first place, and
+/// it takes effect at its second.
+const GAP: [(&str, usize); 8] = [
+    ("timeout 1 join", 0),
+    ("pump 4", 0),
+    ("call 1 7 2 add 0 5", 0),
+    ("call 1 7 1 add 0 1", 0),
+    ("call 1 7 2 add 0 5", 0),
+    ("pump 2", 2),
+    ("call 1 7 3 read 0", 2),
+    ("pump 2", 3),
+];
+
 /// Does what a line asks for and shows the state. Answers the line shown last, without its word, and how long
 /// the book's order is then.
 fn shown_after<O: Object<Alloc = Global>, K: BookName<Global>>(
@@ -97,5 +110,6 @@ fn show_tells_the_length_of_the_order(rt: HostRuntime) -> Result<(), Fail> {
     assert!(rt; tells_its_order(rt.alloc(), &RETRIES)?);
     assert!(rt; tells_its_order(rt.alloc(), &REFUSALS)?);
     assert!(rt; tells_its_order(rt.alloc(), &STOP)?);
+    assert!(rt; tells_its_order(rt.alloc(), &GAP)?);
     Ok(())
 }

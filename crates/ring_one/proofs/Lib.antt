@@ -7,5 +7,6 @@ pub mod Waits
 pub mod Shapes
 pub mod Places
 pub mod Telling
+pub mod Effects
 pub mod Nodes
 pub mod Logged

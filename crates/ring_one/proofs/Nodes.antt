@@ -11,6 +11,7 @@ use Rattle.ring_base.specs.declared.fault.Fault.TheVariants.{PendingFull, Stoppe
 use Rattle.ring_payload.specs.declared.call.Call.{Call}
 use Rattle.ring_payload.specs.declared.content.Payload.{Payload}
 use Rattle.ring_payload.specs.declared.content.Payload.TheVariants.{Call as OneCall, End, Head}
+use Rattle.ring_session.specs.Deduplicated.{deduplicated}
 use Rattle.ring_session.specs.Table.{Table, table_next, table_after}
 use Rattle.ring_one.specs.declared.outs.Answered.{Answered}
 use Rattle.ring_one.specs.declared.recent.Kept.{Kept}
@@ -28,9 +29,10 @@ use Rattle.ring_one.specs.Tickets.{Asked, unanswered, answers_after, all_answers
 use Rattle.ring_one.specs.Machine.{One, Move, commit_token, is_commit_token, is_own_report, on_frame, stays, visits, accepts, on_join_timeout, on_timeout, on_commit_token, is_ring_of_one, text_after, empty_head, is_operational, is_running, is_stopped, committed_of, new_answers, one_reply, visited, submit_fault, submitted}
 use Rattle.ring_one.specs.Numbers.{IsRing, ring_accepts, committed_length, logged_length, waits, sent, ring_visited, messages_of, asked_of, one_of}
 use Rattle.ring_one.specs.Recent.{last_kept, kept_of, kept_answer}
-use Rattle.ring_one.specs.Waiting.{waiting_from, waiting_after, given_after}
+use Rattle.ring_one.specs.Waiting.{waiting_from, waiting_after, given_after, done_after}
 use Rattle.ring_one.specs.Kept.{committed_calls, IsNode}
 use Rattle.ring_one.proofs.Each.{each-weaker}
+use Rattle.ring_one.proofs.Effects.{length-deduplicated, deduplicated_after-few, done_after-few}
 use Rattle.ring_one.proofs.Shapes.{length-messages_of, map-push, log_of-messages, committed_of-one_of, asked_calls-asked_of, asked_of-push, visited-one_of, take-more, waits-late}
 use Rattle.ring_one.proofs.Places.{Goes, goes-on}
 use Rattle.ring_one.proofs.Telling.{length-unanswered, waiting_from-push, answers_after-push, answers_after-append, kept-more, kept_answer-map}
@@ -178,9 +180,9 @@ nothing-new reply next initial s new same =
     ap (λ w. answers_after reply next initial new.tickets (committed_of s) (drop (length (committed_of s)) w)) same
     ∙ ap (λ w. answers_after reply next initial new.tickets (committed_of s) w) (ap (drop (length (committed_of s))) (sym (append-nil (committed_of s))) ∙ drop-append_seam (committed_of s) [])
 
-module _ {O A : Type 0} {reply : O → List ℕ → List ℕ} {next : O → List ℕ → O} {initial : O} {r : Ring} {calls : List (Call A)} {sinces waiting : List ℕ} {recent : List Kept} {table : Table O} (node : IsNode reply next initial r calls sinces waiting recent table) where
+module _ {O A : Type 0} {reply : O → List ℕ → List ℕ} {next : O → List ℕ → O} {initial : O} {r : Ring} {calls : List (Call A)} {sinces waiting : List ℕ} {recent : List Kept} {table : Table O} {effects : ℕ} (node : IsNode reply next initial r calls sinces waiting recent table effects) where
   -- another state before the installation
-  pub node-state : (state : State) → is_operational r.state ≡ false → is_stopped r.state ≡ false → is_operational state ≡ false → IsNode reply next initial (record r { state = state }) calls sinces waiting recent table
+  pub node-state : (state : State) → is_operational r.state ≡ false → is_stopped r.state ≡ false → is_operational state ≡ false → IsNode reply next initial (record r { state = state }) calls sinces waiting recent table effects
   node-state state uninstalled runs after = record {
     ring = ring-state r (length calls) state uninstalled runs after node.ring;
     counted = node.counted;
@@ -188,10 +190,11 @@ module _ {O A : Type 0} {reply : O → List ℕ → List ℕ} {next : O → List
     waiting = node.waiting;
     recent = node.recent;
     table = λ e. node.table runs;
+    order = node.order;
   }
 
   -- a stop, whatever the sessions are
-  pub node-stopped : (table' : Table O) → IsNode reply next initial (record r { state = Stopped }) calls sinces waiting recent table'
+  pub node-stopped : (table' : Table O) → IsNode reply next initial (record r { state = Stopped }) calls sinces waiting recent table' effects
   node-stopped table' = record {
     ring = ring-stopped r (length calls) node.ring;
     counted = node.counted;
@@ -199,6 +202,7 @@ module _ {O A : Type 0} {reply : O → List ℕ → List ℕ} {next : O → List
     waiting = node.waiting;
     recent = node.recent;
     table = λ e. absurd (cc e);
+    order = node.order;
   }
 
   -- the committed places of the state
@@ -206,16 +210,16 @@ module _ {O A : Type 0} {reply : O → List ℕ → List ℕ} {next : O → List
   node-committed = committed_of-one_of r calls sinces node.ring.marked
 
   -- what a visit does to what is kept
-  pub record Visited (number : ℕ) (waiting' : List ℕ) (answers : List (Answered A)) (table' : Table O) : Type 0 where
-    pub after : IsNode reply next initial (ring_visited r (length calls) number) calls sinces waiting' (last_kept (recent ++ map kept_of answers)) table'
+  pub record Visited (number : ℕ) (waiting' : List ℕ) (answers : List (Answered A)) (table' : Table O) (effects' : ℕ) : Type 0 where
+    pub after : IsNode reply next initial (ring_visited r (length calls) number) calls sinces waiting' (last_kept (recent ++ map kept_of answers)) table' effects'
     pub shape : one_of (ring_visited r (length calls) number) calls sinces ≡ visited (one_of r calls sinces) number
     pub told : answers ≡ new_answers reply next initial (one_of r calls sinces) (visited (one_of r calls sinces) number)
 
-  pub node-visited : (number : ℕ) (waiting' : List ℕ) (answers : List (Answered A)) (table' : Table O) → is_running r.state ≡ true → number < max_number →
+  pub node-visited : (number : ℕ) (waiting' : List ℕ) (answers : List (Answered A)) (table' : Table O) (effects' : ℕ) → is_running r.state ≡ true → number < max_number →
       let more = slice_range calls (committed_length r) (committed_length (ring_visited r (length calls) number)) in
-      waiting' ≡ waiting_after calls more waiting → answers ≡ given_after reply next table calls more waiting → table' ≡ fold (table_next reply next) table more
-      → Visited number waiting' answers table'
-  node-visited number waiting' answers table' running token is_waiting is_answers is_table =
+      waiting' ≡ waiting_after calls more waiting → answers ≡ given_after reply next table calls more waiting → table' ≡ fold (table_next reply next) table more → effects' ≡ effects + done_after reply next table more
+      → Visited number waiting' answers table' effects'
+  node-visited number waiting' answers table' effects' running token is_waiting is_answers is_table is_effects =
       let n = length calls in
       let r' : Ring = ring_visited r n number in
       let tickets : List (Asked A) = asked_of calls sinces in
@@ -248,11 +252,14 @@ module _ {O A : Type 0} {reply : O → List ℕ → List ℕ} {next : O → List
               ∙ kept-more (all_answers reply next initial tickets before) answers
               ∙ ap (λ w. map (kept_of {A = A}) (kept_answers w)) (ap (λ w. all_answers reply next initial tickets before ++ w) told ∙ sym (answers_after-append reply next initial tickets [] before more) ∙ ap (all_answers reply next initial tickets) whole);
           table = λ e. is_table ∙ ap (λ (t : Table O). fold (table_next reply next) t more) old ∙ goes.table ∙ ap (λ (w : List (Call A)). table_after reply next initial w) whole;
+          order =
+              is_effects ∙ ap (λ (k : ℕ). k + done_after reply next table more) node.order ∙ ap (λ (t : Table O). length (deduplicated before) + done_after reply next t more) old
+              ∙ length-deduplicated reply next initial before more ∙ ap (λ (w : List (Call A)). length (deduplicated w)) whole;
         };
       }
 
   -- a submit
-  pub node-submitted : (c : Call A) → length calls + 1 ≤ max_number → IsNode reply next initial r (calls ++ c ∷ []) (sinces ++ committed_length r ∷ []) (waiting ++ length calls ∷ []) recent table
+  pub node-submitted : (c : Call A) → length calls + 1 ≤ max_number → IsNode reply next initial r (calls ++ c ∷ []) (sinces ++ committed_length r ∷ []) (waiting ++ length calls ∷ []) recent table effects
   node-submitted c few =
       let tickets : List (Asked A) = asked_of calls sinces in
       let t : Asked A = record { call = c; since = committed_length r } in
@@ -276,6 +283,7 @@ module _ {O A : Type 0} {reply : O → List ℕ → List ℕ} {next : O → List
             ∙ ap (λ (ts : List (Asked A)). all_answers reply next initial ts (committed_calls r calls)) (sym all)
             ∙ ap (all_answers reply next initial (asked_of (calls ++ c ∷ []) (sinces ++ committed_length r ∷ []))) (sym same));
         table = λ e. node.table e ∙ ap (λ (w : List (Call A)). table_after reply next initial w) (sym same);
+        order = node.order ∙ ap (λ (w : List (Call A)). length (deduplicated w)) (sym same);
       }
     where
       each-push : (P : Asked A → Type 0) (ts : List (Asked A)) (t : Asked A) → AllByRecursion P ts → P t → AllByRecursion P (ts ++ t ∷ [])
@@ -389,7 +397,7 @@ submitted-one_of {A} r calls sinces c ring runs counted =
 
 -- ---- what the node's functions owe
 
-module _ {O A : Type 0} {reply : O → List ℕ → List ℕ} {next : O → List ℕ → O} {initial : O} {r : Ring} {calls : List (Call A)} {sinces waiting : List ℕ} {recent : List Kept} {table : Table O} (node : IsNode reply next initial r calls sinces waiting recent table) where
+module _ {O A : Type 0} {reply : O → List ℕ → List ℕ} {next : O → List ℕ → O} {initial : O} {r : Ring} {calls : List (Call A)} {sinces waiting : List ℕ} {recent : List Kept} {table : Table O} {effects : ℕ} (node : IsNode reply next initial r calls sinces waiting recent table effects) where
   -- as many tickets are unanswered as wait
   pub unanswered-waiting : length (unanswered (committed_of (one_of r calls sinces)) (asked_of calls sinces)) ≡ length waiting
   unanswered-waiting =
@@ -434,11 +442,11 @@ module _ {O A : Type 0} {reply : O → List ℕ → List ℕ} {next : O → List
 
   -- what is kept after a submit
   pub submitted-kept : (c : Call A) (calls' : List (Call A)) (sinces' waiting' : List ℕ) (n : ℕ) → length calls + 1 ≤ max_number → calls' ≡ calls ++ c ∷ [] → sinces' ≡ sinces ++ committed_length r ∷ [] → waiting' ≡ waiting ++ n ∷ [] → n ≡ length calls
-      → IsNode reply next initial r calls' sinces' waiting' recent table
+      → IsNode reply next initial r calls' sinces' waiting' recent table effects
   submitted-kept c calls' sinces' waiting' n few is_calls is_sinces is_waiting is_number =
-      subst (λ (w : List (Call A)). IsNode reply next initial r w sinces' waiting' recent table) (sym is_calls)
-      (subst (λ (w : List ℕ). IsNode reply next initial r (calls ++ c ∷ []) w waiting' recent table) (sym is_sinces)
-      (subst (λ (w : List ℕ). IsNode reply next initial r (calls ++ c ∷ []) (sinces ++ committed_length r ∷ []) w recent table) (sym (is_waiting ∙ ap (λ k. waiting ++ k ∷ []) is_number))
+      subst (λ (w : List (Call A)). IsNode reply next initial r w sinces' waiting' recent table effects) (sym is_calls)
+      (subst (λ (w : List ℕ). IsNode reply next initial r (calls ++ c ∷ []) w waiting' recent table effects) (sym is_sinces)
+      (subst (λ (w : List ℕ). IsNode reply next initial r (calls ++ c ∷ []) (sinces ++ committed_length r ∷ []) w recent table effects) (sym (is_waiting ∙ ap (λ k. waiting ++ k ∷ []) is_number))
       (node-submitted node c few)))
 
   -- the state after a submit
@@ -447,31 +455,32 @@ module _ {O A : Type 0} {reply : O → List ℕ → List ℕ} {next : O → List
       ap (λ (w : List (Call A)). one_of r w sinces') is_calls ∙ ap (λ (w : List ℕ). one_of r (calls ++ c ∷ []) w) is_sinces ∙ submitted-one_of r calls sinces c node.ring runs node.counted
 
   -- What a visit makes.
-  pub record IsVisited (number : ℕ) (r' : Ring) (waiting' : List ℕ) (answers : List (Answered A)) (table' : Table O) (recent' : List Kept) : Type 0 where
-    pub kept : IsNode reply next initial r' calls sinces waiting' recent' table'
+  pub record IsVisited (number : ℕ) (r' : Ring) (waiting' : List ℕ) (answers : List (Answered A)) (table' : Table O) (recent' : List Kept) (effects' : ℕ) : Type 0 where
+    pub kept : IsNode reply next initial r' calls sinces waiting' recent' table' effects'
     pub shape : one_of r' calls sinces ≡ visited (one_of r calls sinces) number
     pub told : answers ≡ new_answers reply next initial (one_of r calls sinces) (visited (one_of r calls sinces) number)
     pub seq : r'.messages ≡ length (text_after (one_of r calls sinces))
 
-  pub visited-kept : (number : ℕ) (r' : Ring) (n : ℕ) (before waiting' : List ℕ) (more : List (Call A)) (answers : List (Answered A)) (table' : Table O) (recent' : List Kept)
+  pub visited-kept : (number : ℕ) (r' : Ring) (n : ℕ) (before waiting' : List ℕ) (more : List (Call A)) (answers : List (Answered A)) (table' : Table O) (recent' : List Kept) (effects' : ℕ)
       → is_running r.state ≡ true → number < max_number → n ≡ length calls → r' ≡ ring_visited r n number → more ≡ slice_range calls (committed_length r) (committed_length r') → before ≡ waiting
-      → waiting' ≡ waiting_after calls more before → answers ≡ given_after reply next table calls more before → table' ≡ fold (table_next reply next) table more → recent' ≡ last_kept (recent ++ map kept_of answers)
-      → IsVisited number r' waiting' answers table' recent'
-  visited-kept number r' n before waiting' more answers table' recent' running token is_n is_ring is_more is_before is_waiting is_answers is_table is_recent =
+      → waiting' ≡ waiting_after calls more before → answers ≡ given_after reply next table calls more before → table' ≡ fold (table_next reply next) table more → recent' ≡ last_kept (recent ++ map kept_of answers) → effects' ≡ effects + done_after reply next table more
+      → IsVisited number r' waiting' answers table' recent' effects'
+  visited-kept number r' n before waiting' more answers table' recent' effects' running token is_n is_ring is_more is_before is_waiting is_answers is_table is_recent is_effects =
       let same : r' ≡ ring_visited r (length calls) number = is_ring ∙ ap (λ k. ring_visited r k number) is_n in
       let range : more ≡ slice_range calls (committed_length r) (committed_length (ring_visited r (length calls) number)) = is_more ∙ ap (λ (x : Ring). slice_range calls (committed_length r) (committed_length x)) same in
-      let v : Visited node number waiting' answers table' = node-visited node number waiting' answers table' running token
+      let v : Visited node number waiting' answers table' effects' = node-visited node number waiting' answers table' effects' running token
       (is_waiting ∙ ap (λ (w : List (Call A)). waiting_after calls w before) range ∙ ap (waiting_after calls (slice_range calls (committed_length r) (committed_length (ring_visited r (length calls) number)))) is_before)
       (is_answers ∙ ap (λ (w : List (Call A)). given_after reply next table calls w before) range ∙ ap (given_after reply next table calls (slice_range calls (committed_length r) (committed_length (ring_visited r (length calls) number)))) is_before)
-      (is_table ∙ ap (fold (table_next reply next) table) range) in
+      (is_table ∙ ap (fold (table_next reply next) table) range)
+      (is_effects ∙ ap (λ (w : List (Call A)). effects + done_after reply next table w) range) in
       let shape : one_of r' calls sinces ≡ visited (one_of r calls sinces) number = ap (λ (x : Ring). one_of x calls sinces) same ∙ v.shape in
       record {
         shape = shape;
         told = v.told;
         seq = ap (λ (s : One A). s.aru) shape;
         kept =
-            subst (λ (x : Ring). IsNode reply next initial x calls sinces waiting' recent' table') (sym same)
-            (subst (λ (w : List Kept). IsNode reply next initial (ring_visited r (length calls) number) calls sinces waiting' w table') (sym is_recent) v.after);
+            subst (λ (x : Ring). IsNode reply next initial x calls sinces waiting' recent' table' effects') (sym same)
+            (subst (λ (w : List Kept). IsNode reply next initial (ring_visited r (length calls) number) calls sinces waiting' w table' effects') (sym is_recent) v.after);
       }
 
   -- the token is accepted as the numbers say
@@ -490,6 +499,25 @@ module _ {O A : Type 0} {reply : O → List ℕ → List ℕ} {next : O → List
   -- the length of the log
   pub node-log_len : logged_length r ≡ length (log_of (one_of r calls sinces).text)
   node-log_len = omega (arith, ap length (log_of-messages r.messages calls), length-take (logged_length r) calls, node.ring.called)
+
+  -- how many calls took effect
+  pub node-order_len : effects ≡ length (deduplicated (committed_of (one_of r calls sinces)))
+  node-order_len = node.order ∙ ap (λ (w : List (Call A)). length (deduplicated w)) (sym (node-committed node))
+
+  -- the calls that took effect before a visit, and those that do in it, are few enough to be counted
+  pub visited-few : (i j done : ℕ) → done ≡ done_after reply next table (slice_range calls i j) → effects + done ≤ max_number + max_number
+  visited-few i j done is_done =
+      omega (
+        arith,
+        node.order,
+        deduplicated_after-few [] (committed_calls r calls),
+        length-take (committed_length r) calls,
+        is_done,
+        done_after-few reply next table (slice_range calls i j),
+        length-take (j - i) (drop i calls),
+        length-drop i calls,
+        node.ring.tickets,
+      )
 
   -- the tickets that wait are tickets
   pub node-known : All (λ n. n < length calls) waiting

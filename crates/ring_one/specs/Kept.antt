@@ -2,6 +2,7 @@
 use Rattle.std.specs.Prelude.{◌≡◌, ℕ, ◌≤◌, false, List, length, take, map}
 use Rattle.std.specs.List.{AllByRecursion}
 use Rattle.ring_payload.specs.declared.call.Call.{Call}
+use Rattle.ring_session.specs.Deduplicated.{deduplicated}
 use Rattle.ring_session.specs.Table.{Table, table_after}
 use Rattle.ring_one.specs.declared.recent.Kept.{Kept}
 use Rattle.ring_one.specs.declared.ring.Ring.{Ring}
@@ -15,7 +16,7 @@ use Rattle.ring_one.specs.Waiting.{waiting_from}
 abbrev pub committed_calls : {A : Type 0} → Ring → List (Call A) → List (Call A)
 committed_calls r calls = take (committed_length r) calls
 
-pub record IsNode {O A : Type 0} (reply : O → List ℕ → List ℕ) (next : O → List ℕ → O) (initial : O) (r : Ring) (calls : List (Call A)) (sinces : List ℕ) (waits : List ℕ) (kept : List Kept) (sessions : Table O) : Type 0 where
+pub record IsNode {O A : Type 0} (reply : O → List ℕ → List ℕ) (next : O → List ℕ → O) (initial : O) (r : Ring) (calls : List (Call A)) (sinces : List ℕ) (waits : List ℕ) (kept : List Kept) (sessions : Table O) (effects : ℕ) : Type 0 where
   pub ring : IsRing r (length calls)
   -- each call was submitted when no more was committed than now
   pub counted : length sinces ≡ length calls
@@ -26,3 +27,5 @@ pub record IsNode {O A : Type 0} (reply : O → List ℕ → List ℕ) (next : O
   pub recent : kept ≡ map kept_of (kept_answers (all_answers reply next initial (asked_of calls sinces) (committed_calls r calls)))
   -- the session table
   pub table : is_stopped r.state ≡ false → sessions ≡ table_after reply next initial (committed_calls r calls)
+  -- how many of the committed calls took effect
+  pub order : effects ≡ length (deduplicated (committed_calls r calls))

@@ -1,9 +1,10 @@
--- The tickets without an answer, by their numbers, and how one committed call after the other answers them.
+-- The tickets without an answer, by their numbers, how one committed call after the other answers them, and how many of
+-- those calls take effect.
 use Rattle.std.specs.Prelude.{ℕ, ◌+◌, Bool, false, not, List, [], ◌∷◌, ◌++◌, Option, Some, None, is_none, slice_get, if◌then◌else◌}
 use Rattle.std.specs.List.{filter}
 use Rattle.ring_payload.specs.declared.call.Call.{Call}
 use Rattle.ring_session.specs.declared.answer.Answer.{Answer}
-use Rattle.ring_session.specs.SessionAnswer.{is_same}
+use Rattle.ring_session.specs.SessionAnswer.{is_done, is_same}
 use Rattle.ring_session.specs.Table.{Table, table_answer, table_next}
 use Rattle.ring_one.specs.declared.outs.Answered.{Answered}
 use Rattle.ring_one.specs.Tickets.{Asked, place_of}
@@ -42,3 +43,8 @@ abbrev pub given_after : {O A : Type 0} → (O → List ℕ → List ℕ) → (O
 given_after reply next table calls [] waiting = []
 given_after reply next table calls (c ∷ more) waiting =
     given calls c (table_answer reply table c) waiting ++ given_after reply next (table_next reply next table c) calls more (still_waiting calls c waiting)
+
+-- how many of these calls, one after the other, take effect by the session table
+abbrev pub done_after : {O A : Type 0} → (O → List ℕ → List ℕ) → (O → List ℕ → O) → Table O → List (Call A) → ℕ
+done_after reply next table [] = 0
+done_after reply next table (c ∷ more) = (if is_done (table_answer reply table c) then 1 else 0) + done_after reply next (table_next reply next table c) more

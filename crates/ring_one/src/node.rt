@@ -4,8 +4,9 @@ ghost use Rattle.std.specs.Prelude.{◌≡◌, ◌<◌, ◌≤◌, [], ◌∷◌
 ghost use Rattle.ring_base.specs.Numbers.{max_number};
 ghost use Rattle.ring_base.specs.declared.fault.Fault.TheVariants.{Memory, Stopped as StoppedFault};
 ghost use Rattle.ring_wire.specs.declared.frame.Frame.TheVariants.{Token as OneToken, Commit as OneCommit};
+ghost use Rattle.ring_session.specs.Deduplicated.{deduplicated};
 ghost use Rattle.ring_session.specs.Table.{table_next};
-ghost use Rattle.ring_one.specs.Waiting.{waiting_after, given_after};
+ghost use Rattle.ring_one.specs.Waiting.{waiting_after, given_after, done_after};
 ghost use Rattle.ring_one.specs.Machine.{one_opening, one_stopped, one_step, one_reply, is_stopped, is_operational, is_running, committed_of, submit_fault, submitted, on_frame, on_commit_token, on_join_timeout, on_timeout, visits, IsMove};
 ghost use Rattle.ring_one.specs.Texts.{log_of};
 
@@ -42,6 +43,8 @@ pub struct Node<O: Object> {
     recent: Recent<O::Alloc>,
     /// The sessions after the committed places, unless the node has stopped.
     sessions: Sessions<O>,
+    /// How many calls of the committed places took effect.
+    effects: u64,
 }
 
 impl<O: Object> Model for Node<O> {
@@ -53,7 +56,7 @@ impl<O: Object> Model for Node<O> {
 
     ghost view = { λ node. one_of node.ring node.calls.items node.sinces.value };
 
-    ghost invariant = { λ node. IsNode O.reply O.next O.initial node.ring node.calls.items node.sinces.value node.waiting.items node.recent node.sessions };
+    ghost invariant = { λ node. IsNode O.reply O.next O.initial node.ring node.calls.items node.sinces.value node.waiting.items node.recent node.sessions node.effects };
 }
 
 impl<O: Object> Node<O> {
@@ -75,6 +78,7 @@ impl<O: Object> Node<O> {
             waiting: ArrayVec::new(),
             recent: Recent::new(alloc)?,
             sessions: Sessions::new(alloc)?,
+            effects: 0,
         })
     }
 }
@@ -181,6 +185,13 @@ impl<O: Object> Node<O> {
         ensures { result ≡ length (log_of self.now.text) }
     {
         self.ring.logged()
+    }
+
+    /// How many calls of the committed places took effect: how long the committed log is, repeats removed.
+    pub fn order_len(&self) -> u64
+        ensures { result ≡ length (deduplicated (committed_of self.now)) }
+    {
+        self.effects
     }
 }
 
@@ -322,10 +333,11 @@ impl<O: Object> Node<O> {
             token,
             &mut waiting,
         ) {
-            Ok(outs) => {
+            Ok((outs, effects)) => {
                 self.ring = next;
                 self.waiting = waiting;
                 self.recent.extend(outs.answers.as_slice());
+                self.effects += effects;
                 Ok(outs)
             }
             Err(fault) => {
@@ -336,7 +348,8 @@ impl<O: Object> Node<O> {
     }
 }
 
-/// What a visit gives: the token that it sends on, and the answers of the calls that it commits.
+/// What a visit gives: the token that it sends on, and the answers of the calls that it commits. Beside it, how many of
+/// those calls took effect.
 fn answer_visit<O: Object>(
     alloc: O::Alloc,
     sessions: &mut Sessions<O>,
@@ -344,16 +357,17 @@ fn answer_visit<O: Object>(
     committed: &[Call<O::Alloc>],
     token: Token,
     waiting: &mut Waiting,
-) -> Result<Outs<O::Alloc>, Fault>
+) -> Result<(Outs<O::Alloc>, u64), Fault>
     requires { All (λ n. n < length calls.now) waiting.old.items }
-    ensures frames { IfOk result (λ outs. outs.frames.items ≡ OneToken token ∷ []) }
+    ensures frames { IfOk result (λ visit. visit.0.frames.items ≡ OneToken token ∷ []) }
     ensures table { OnOk result (sessions.new ≡ fold (table_next O.reply O.next) sessions.old committed.now) }
     ensures waiting { OnOk result (waiting.new.items ≡ waiting_after calls.now committed.now waiting.old.items) }
-    ensures answers { IfOk result (λ outs. outs.answers.items ≡ given_after O.reply O.next sessions.old calls.now committed.now waiting.old.items) }
+    ensures answers { IfOk result (λ visit. visit.0.answers.items ≡ given_after O.reply O.next sessions.old calls.now committed.now waiting.old.items) }
+    ensures effects { IfOk result (λ visit. visit.1 ≡ done_after O.reply O.next sessions.old committed.now) }
     ensures refused { IfErr result (λ fault. fault ≡ Memory) }
 {
     let mut outs = Outs::new(alloc);
     outs.frames.push(Frame::Token(token))?;
-    answer_calls(sessions, calls, committed, waiting, &mut outs.answers)?;
-    Ok(outs)
+    let effects = answer_calls(sessions, calls, committed, waiting, &mut outs.answers)?;
+    Ok((outs, effects))
 }

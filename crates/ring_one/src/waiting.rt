@@ -2,9 +2,9 @@
 
 ghost use Rattle.std.specs.Prelude.{◌≡◌, ◌<◌, ◌++◌, length, All, fold, IfOk, IfErr, OnOk};
 ghost use Rattle.ring_base.specs.declared.fault.Fault.TheVariants.{Memory};
-ghost use Rattle.ring_session.specs.SessionAnswer.{is_same};
+ghost use Rattle.ring_session.specs.SessionAnswer.{is_done, is_same};
 ghost use Rattle.ring_session.specs.Table.{table_next};
-ghost use Rattle.ring_one.specs.Waiting.{still_waiting, given, waiting_after, given_after};
+ghost use Rattle.ring_one.specs.Waiting.{still_waiting, given, waiting_after, given_after, done_after};
 
 use crate::outs::Answered;
 use crate::ticket::Ticket;
@@ -73,24 +73,36 @@ fn answer_call<A: Allocator + Copy + Drop>(
     Ok(still)
 }
 
-/// Applies committed calls to the sessions, one after the other, and gives each answer to the tickets of the same call.
-/// Refused with `Memory` alone.
+/// Whether the answer tells that its call takes effect now.
+fn is_done(answer: &Answer) -> bool
+    ensures { result ≡ is_done answer.now }
+{
+    matches!(answer, Answer::Done(_))
+}
+
+/// Applies committed calls to the sessions, one after the other, gives each answer to the tickets of the same call, and
+/// tells how many of the calls took effect. Refused with `Memory` alone.
 pub fn answer_calls<O: Object>(
     sessions: &mut Sessions<O>,
     calls: &[Call<O::Alloc>],
     committed: &[Call<O::Alloc>],
     waiting: &mut Waiting,
     answers: &mut Vec<Answered<O::Alloc>, O::Alloc>,
-) -> Result<(), Fault>
+) -> Result<u64, Fault>
     requires { All (λ n. n < length calls.now) waiting.old.items }
     ensures table { OnOk result (sessions.new ≡ fold (table_next O.reply O.next) sessions.old committed.now) }
     ensures waiting { OnOk result (waiting.new.items ≡ waiting_after calls.now committed.now waiting.old.items) }
     ensures answers { OnOk result (answers.new.items ≡ answers.old.items ++ given_after O.reply O.next sessions.old calls.now committed.now waiting.old.items) }
+    ensures effects { IfOk result (λ effects. effects ≡ done_after O.reply O.next sessions.old committed.now) }
     ensures refused { IfErr result (λ fault. fault ≡ Memory) }
 {
+    let mut effects = 0;
     for call in committed {
         let answer = sessions.apply(call)?;
+        if is_done(&answer) {
+            effects += 1;
+        }
         *waiting = answer_call(calls, call, answer, waiting, answers)?;
     }
-    Ok(())
+    Ok(effects)
 }

@@ -9,6 +9,9 @@ use ring_session::Answer;
 /// Add 5 on key 0 of an object of counters.
 pub const ADD: [u8; 10] = [1, 0, 0, 0, 0, 0, 0, 0, 0, 5];
 
+/// Add 1 on key 0 of an object of counters.
+pub const ADD_ONE: [u8; 10] = [1, 0, 0, 0, 0, 0, 0, 0, 0, 1];
+
 /// Read key 0 of an object of counters.
 pub const READ: [u8; 2] = [2, 0];
 
@@ -108,6 +111,10 @@ impl<O: Object> Driven<O> {
 
     pub fn reply(&self, ticket: Ticket) -> Option<Answer> {
         self.node.reply(ticket)
+    }
+
+    pub fn order_len(&self) -> u64 {
+        self.node.order_len()
     }
 
     pub fn seen(&self) -> Seen {

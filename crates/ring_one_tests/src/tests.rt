@@ -1,6 +1,6 @@
 //! Worked runs. Expected values are those of `docs/FORMATS.md` and `docs/PROTOCOL.md`.
 
-use crate::driven::{ADD, Driven, READ, Seen, counted};
+use crate::driven::{ADD, ADD_ONE, Driven, READ, Seen, counted};
 use ring_base::{Fault, Kind, State};
 use ring_object::Object;
 use ring_one::{Input, KEPT_ANSWERS, MAX_UNANSWERED, Ticket, first_reply_example, linear_law};
@@ -190,6 +190,30 @@ fn two_tickets_of_one_call(rt: HostRuntime) -> Result<(), Fail> {
     Ok(())
 }
 
+/// A call that leaves a number out is tried again before it is committed. It takes effect at its second place, which
+/// answers no ticket: both tickets were answered at the first.
+#[test]
+fn counts_an_effect_that_is_told_nobody(rt: HostRuntime) -> Result<(), Fail> {
+    let mut driven = Driven::<Counters>::new(rt.alloc(), rt.alloc())?;
+    driven.form()?;
+    let early = driven.submit(7, 2, &ADD)?;
+    let first = driven.submit(7, 1, &ADD_ONE)?;
+    let again = driven.submit(7, 2, &ADD)?;
+    driven.visit()?;
+    assert_eq!(rt; driven.order_len(), 0);
+    driven.visit()?;
+    for ticket in [early, again] {
+        assert_told(&rt, &driven, ticket, Some(Answer::Refused(6)));
+    }
+    assert_told(&rt, &driven, first, Some(Answer::Done(counted(1))));
+    assert_seen(&rt, &driven, (State::Operational, 1, 3, 3, 7, 3));
+    assert_eq!(rt; driven.order_len(), 2);
+    let third = driven.ask(7, 3, &READ)?;
+    assert_told(&rt, &driven, third, Some(Answer::Done(counted(6))));
+    assert_eq!(rt; driven.order_len(), 3);
+    Ok(())
+}
+
 #[test]
 fn a_stop_is_for_good(rt: HostRuntime) -> Result<(), Fail> {
     let mut driven = Driven::<Counters>::new(rt.alloc(), rt.alloc())?;
@@ -216,17 +240,16 @@ fn assert_counted<O: Object>(rt: &impl Abort, driven: &Driven<O>, tickets: &[Tic
 
 #[test]
 fn tells_the_last_answers(rt: HostRuntime) -> Result<(), Fail> {
-    let add_one = [1, 0, 0, 0, 0, 0, 0, 0, 0, 1];
     let mut driven = Driven::<Counters>::new(rt.alloc(), rt.alloc())?;
     driven.form()?;
-    let first = driven.ask(7, 1, &add_one)?;
+    let first = driven.ask(7, 1, &ADD_ONE)?;
     let mut later = Vec::new(rt.alloc());
     for number in 2..=KEPT_ANSWERS as u64 {
-        later.push(driven.ask(7, number, &add_one)?)?;
+        later.push(driven.ask(7, number, &ADD_ONE)?)?;
     }
     assert_told(&rt, &driven, first, Some(Answer::Done(counted(1))));
-    let last = driven.ask(7, 65, &add_one)?;
-    let waiting = driven.submit(7, 66, &add_one)?;
+    let last = driven.ask(7, 65, &ADD_ONE)?;
+    let waiting = driven.submit(7, 66, &ADD_ONE)?;
     assert_told(&rt, &driven, first, None);
     assert_counted(&rt, &driven, later.as_slice());
     assert_told(&rt, &driven, last, Some(Answer::Done(counted(65))));

@@ -1,5 +1,5 @@
 -- The lines of a script after its first: what they ask for, by their words.
-use Rattle.std.specs.Prelude.{ℕ, ◌*◌, ◌^◌, ◌-◌, Bool, false, not, nat_le, ◌&&◌, ◌==◌, if◌then◌else◌, List, length, codes, Option, Some, None}
+use Rattle.std.specs.Prelude.{ℕ, ◌*◌, ◌^◌, ◌-◌, ◌≤◌, Bool, false, not, nat_le, ◌&&◌, ◌==◌, if◌then◌else◌, List, length, codes, Option, Some, None, IfSome}
 use Rattle.std.specs.Char.{is_ascii_uppercase}
 use Rattle.std.specs.List.{list_any}
 use Rattle.std.specs.Result.{result_ok}
@@ -43,6 +43,19 @@ asked_by (lines.Cut groups) = Cut groups
 asked_by lines.Heal = Heal
 asked_by (lines.Pump turns) = Pump turns
 asked_by lines.Show = Show
+
+-- the node at which something is asked for, where it is asked at one
+abbrev pub asked_at : Asked → Option ℕ
+asked_at (Call node client number operation) = Some node
+asked_at (Deliver node frame) = Some node
+asked_at (Timeout node kind) = Some node
+asked_at (Noise node bytes) = Some node
+asked_at (Stop node) = Some node
+asked_at _ = None
+
+-- what is asked for is asked at one of so many nodes, or at none
+abbrev pub IsAmong : ℕ → Asked → Type 0
+IsAmong count asked = IfSome (asked_at asked) (λ node. node ≤ count)
 
 -- ---- what single words stand for
 

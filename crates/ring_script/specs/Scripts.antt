@@ -1,7 +1,7 @@
 -- What scripts are for, and the whole language of them: which script a text is, or which line of it is at fault.
 use Rattle.std.specs.Prelude.{◌≡◌, ℕ, ◌+◌, ◌≤◌, ◌⊎◌, Bool, true, false, ◌==◌, ◌&&◌, if◌then◌else◌, List, [], ◌∷◌, length, map, codes, Option, Some, None, option_map, Result, Ok, Err, ⊤}
 use Rattle.std.specs.Char.{is_ascii}
-use Rattle.std.specs.List.{list_all}
+use Rattle.std.specs.List.{list_all, AllByRecursion}
 use Rattle.ring_base.specs.Group.{Group}
 use Rattle.ring_base.specs.declared.fault.Fault.{Fault}
 use Rattle.ring_base.specs.declared.fault.Fault.TheVariants as faults
@@ -13,7 +13,7 @@ use Rattle.ring_script.specs.declared.scripts.Rings.TheVariants.{OfOne, OfMany}
 use Rattle.ring_script.specs.declared.scripts.Script.{Script}
 use Rattle.ring_script.specs.declared.scripts.ScriptFault.{ScriptFault}
 use Rattle.ring_script.specs.declared.scripts.ScriptFault.TheVariants.{Memory, AtLine}
-use Rattle.ring_script.specs.Lines.{Asked, Timeout, asked_by, asked_of, whole}
+use Rattle.ring_script.specs.Lines.{Asked, Timeout, asked_by, asked_of, whole, IsAmong}
 use Rattle.ring_script.specs.Numbers.{is, word_at, number_at}
 use Rattle.ring_script.specs.Reading.{◌>>=◌}
 use Rattle.ring_script.specs.Words.{LinesLeft, words_of, lines_of}
@@ -125,6 +125,10 @@ numbered_by numbered = (numbered.number, asked_by numbered.line)
 -- the schedule that a script of the program is
 abbrev pub schedule_by : {A : Type 0} → Script A → Schedule
 schedule_by script = record { nodes = script.nodes; asked = map numbered_by script.lines.items }
+
+-- no line names a node that there is not
+abbrev pub AreAmong : {A : Type 0} → ℕ → List (Numbered A) → Type 0
+AreAmong count lines = AllByRecursion (λ (l : Numbered _). IsAmong count (asked_by l.line)) lines
 
 -- a refusal: memory may be refused at any time, and a line is at fault where it is the first
 abbrev pub Faults : {Y : Type 0} → ScriptFault → Result Y ℕ → Type 0

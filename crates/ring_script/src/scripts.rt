@@ -6,7 +6,7 @@ ghost use Rattle.std.specs.Prelude.{◌≡◌, ℕ, ◌≤◌, Some, None, List,
 ghost use Rattle.ring_script.specs.Faults.{IsOfText};
 ghost use Rattle.ring_script.specs.Lines.{asked_by};
 ghost use Rattle.ring_script.specs.Reading.{Gives, Tells};
-ghost use Rattle.ring_script.specs.Scripts.{CanForm, allowed, is_skipped, are_ascii, nodes_of, is_useful, useful_of, unless_skipped, at_line, nodes_in, asked_in, script_of, numbered_by, schedule_by, Answers, longest_text, IsAllOf, AnswersInput, IsUnread};
+ghost use Rattle.ring_script.specs.Scripts.{CanForm, allowed, is_skipped, are_ascii, nodes_of, is_useful, useful_of, unless_skipped, at_line, nodes_in, asked_in, script_of, numbered_by, schedule_by, AreAmong, Answers, longest_text, IsAllOf, AnswersInput, IsUnread};
 
 use crate::line::Line;
 use crate::lines::Lines;
@@ -61,10 +61,11 @@ impl Rings {
 }
 
 impl<A: Allocator + Copy> Script<A> {
-    /// The script that the whole input is, as `parse` reads it. `AtLine(0)` where it can't be read or is longer
-    /// than 1,048,576 bytes.
+    /// The script that the whole input is, as `parse` reads it: no line names a node past the script's nodes.
+    /// `AtLine(0)` where it can't be read or is longer than 1,048,576 bytes.
     pub fn read<R: Read>(alloc: A, input: &mut R, rings: Rings) -> Result<Script<A>, ScriptFault>
         ensures nodes { IfOk result (λ script. CanForm rings script.nodes) }
+        ensures among { IfOk result (λ script. AreAmong script.nodes.count script.lines.items) }
         ensures read { (bytes : List ℕ) × IsAllOf (R.remaining input.old) bytes
             × AnswersInput rings result bytes }
     {
@@ -72,11 +73,12 @@ impl<A: Allocator + Copy> Script<A> {
         Script::parse(alloc, text.as_slice(), rings)
     }
 
-    /// The script that the text is. Otherwise `AtLine` with the first line at fault, or with the line after the
-    /// last where no line asks for anything, or `Memory`.
+    /// The script that the text is, in which no line names a node past the script's nodes. Otherwise `AtLine` with
+    /// the first line at fault, or with the line after the last where no line asks for anything, or `Memory`.
     #[tactic(auto, unfolding(crate::specs::Scripts::script_of))]
     pub fn parse(alloc: A, text: &[u8], rings: Rings) -> Result<Script<A>, ScriptFault>
         ensures nodes { IfOk result (λ script. CanForm rings script.nodes) }
+        ensures among { IfOk result (λ script. AreAmong script.nodes.count script.lines.items) }
         ensures read { Answers schedule_by result (script_of rings text.now) }
         ensures refused { IfErr result IsOfText }
     {

@@ -1,10 +1,10 @@
 use Rattle.std.proofs.Common.{rules}
-use Rattle.ring_console.proofs.LentLemmas.{at_ok, given_back, where_known}
+use Rattle.ring_report.proofs.LentLemmas.{at_ok, given_back, where_known}
 use Rattle.ring_console.proofs.running.script.Goals as goal
 
 pub returns-in-Ok-new-clause-printed : goal.returns-in-Ok-new-clause-printed
 returns-in-Ok-new-clause-printed g c = λ zero_is.
-    let told = at_ok c.run_script-done.result c.run_script-done.ensures (c.exit_status-status.ensures.ok zero_is) in (
+    let told = at_ok c.run_script-done.result c.run_script-done.ensures.printed (c.exit_status-status.ensures.ok zero_is) in (
       c.in-Ok.script,
       c.in-Ok.ensures.read.0,
       c.in-Ok.ensures.read.1,

@@ -1,9 +1,11 @@
 -- One committed call more: it goes through the sessions, and its answer to the tickets of the same call.
-use Rattle.std.proofs.Common.{ℕ, ◌+◌, ◌<◌, List, ◌++◌, length, drop, All, fold, subst, ap, sym, ◌∙◌}
+use Rattle.std.proofs.Common.{ℕ, ◌+◌, ◌<◌, List, ◌++◌, length, drop, All, fold, subst, ap, sym, ◌∙◌, arith, if◌then◌else◌}
 use Rattle.ring_session.specs.Table.{table_next}
-use Rattle.ring_one.specs.Waiting.{waiting_after, given_after}
+use Rattle.ring_one.specs.Waiting.{waiting_after, given_after, done_after}
+use Rattle.ring_one.proofs.Effects.{done-next}
 use Rattle.ring_one.proofs.Waits.{drop-next, answers-next, All-still_waiting}
 use Rattle.ring_one.proofs.waiting.answer_calls.Goals as goal
+use Rattle.ring_one.proofs.waiting.answer_calls.Goals.{then-is_done, else-is_done}
 
 pub loop-call-preserved : goal.loop-call-preserved
 loop-call-preserved g c =
@@ -20,6 +22,15 @@ loop-call-preserved g c =
     let after = c.in_ok-answer.ensures.ok in
     record {
       known = subst (λ (ws : List ℕ). All (λ n. n < length calls) ws) (sym still) (All-still_waiting (λ n. n < length calls) calls call c.loop-call.waiting.items c.loop-call.invariant.known);
+      few = elim c.if-is_done.branch [ then-is_done w ↦ omega arith | else-is_done w ↦ omega arith ];
+      effects =
+          done-next reply next c.loop-call.sessions c.apply.new.self more i call c.in_ok-answer.answer (done_after reply next c.args.sessions.now more) c.loop-call.effects c.if-is_done.effects
+          rest answer after
+          (elim c.if-is_done.branch [
+            | then-is_done w ↦ let one = ap {B = ℕ} (λ b. if b then 1 else 0) (sym c.is_done.ensures ∙ w.if-is_done.true) in omega (arith, one)
+            | else-is_done w ↦ let none = ap {B = ℕ} (λ b. if b then 1 else 0) (sym c.is_done.ensures ∙ w.if-is_done.false) in omega (arith, none)
+          ])
+          c.loop-call.invariant.effects;
       table = c.loop-call.invariant.table ∙ ap (fold (table_next reply next) c.loop-call.sessions) rest ∙ ap (λ t. fold (table_next reply next) t (drop (i + 1) more)) (sym after);
       waiting = c.loop-call.invariant.waiting ∙ ap (λ w. waiting_after calls w c.loop-call.waiting.items) rest ∙ ap (λ w. waiting_after calls (drop (i + 1) more) w) (sym still);
       answers =

@@ -6,15 +6,15 @@ use Rattle.ring_one.specs.declared.input.Input.TheVariants.{Frame as Came}
 use Rattle.ring_wire.specs.declared.frame.Frame.{Frame}
 use Rattle.ring_book.specs.Lines.{Stands, frame_to}
 use Rattle.ring_book.specs.Seen.{BookView}
-use Rattle.ring_console.specs.Running.{RunView, Rests, Steps, Delivers}
+use Rattle.ring_console.specs.Running.{RunView, Rests, Steps, Delivers, IsSent}
 use Rattle.ring_console.proofs.Delivering.{no_ok, is_fine, spell_fault, none_there, is_readable, is_read}
 use Rattle.ring_console.proofs.Printing.{ok_printed_as}
 use Rattle.ring_console.proofs.run.Run.deliver.Goals as goal
 
 pub returns-in_err-spell-clause-failed : goal.returns-in_err-spell-clause-failed
 returns-in_err-spell-clause-failed g c =
-    let fault = c.in_err-spell.field-0.0 in
-    let is : (fault ≡ Stranger) ⊎ (fault ≡ Memory) = spell_fault _ fault c.in_err-spell.ensures.refused in
+    let sent : IsSent c.self.inside.book.lines c.args.at = rw (← c.self.view_is) at c.requires in
+    let is : c.in_err-spell.field-0.0 ≡ Memory = spell_fault _ c.in_err-spell.field-0.0 sent c.in_err-spell.ensures.refused in
     search rules
 
 pub returns-then-is_err-clause-done : goal.returns-then-is_err-clause-done
@@ -22,7 +22,7 @@ returns-then-is_err-clause-done g c =
     let lines = c.self.inside.book.lines in
     let lost = λ (s : Stands lines c.args.at c.args.node c.as_slice.result.now). no_ok c.check.result (sym c.is_err.ensures.value ∙ c.if-is_err.true) (c.check.ensures.ok.1 s) in
     let none = none_there lines c.args.at c.args.node c.as_slice.result.now c.clear.new.self.items c.spell.new.out.items c.clear.ensures.items (sym c.as_slice.ensures) c.in_ok-spell.ensures.ok lost in
-    let old : RunView g.row.O-Alloc.Denot = record { lines = lines; sent = c.self.inside.network.sent.items; under_way = c.self.inside.network.under_way.items; groups = c.self.inside.network.groups; effects = c.self.inside.effects } in
+    let old : RunView g.row.O-Alloc.Denot = record { lines = lines; sent = c.self.inside.network.sent.items; under_way = c.self.inside.network.under_way.items; groups = c.self.inside.network.groups } in
     let same = ap (λ (b : BookView g.row.O-Alloc.Denot). record old { lines = b.lines }) c.check.ensures.same in
     rw (← c.self.view_is) record {
       text = [];
@@ -36,7 +36,7 @@ returns-in_err-frame-clause-failed g c =
     let fine = is_fine c.check.result (λ e. let no_way : true ≡ false = sym (c.is_err.ensures.value ∙ e) ∙ c.if-is_err.false in absurd cc) in
     let bytes = c.as_slice-2.ensures ∙ sym c.as_slice.ensures in
     let stands : Stands lines c.args.at c.args.node c.as_slice-2.result.now = subst (λ (xs : List _). Stands lines c.args.at c.args.node xs) (sym bytes) (c.check.ensures.ok.0 fine) in
-    let is : c.in_err-frame.field-0.0 ≡ Memory = is_readable lines c.args.at c.args.node c.self.invariant.kept c.spelling_law.ensures c.as_slice-2.result.now c.in_err-frame.field-0.0 stands c.in_err-frame.ensures.bad c.in_err-frame.ensures.faults in
+    let is : c.in_err-frame.field-0.0 ≡ Memory = is_readable lines c.args.at c.args.node c.self.invariant.entered.kept c.spelling_law.ensures c.as_slice-2.result.now c.in_err-frame.field-0.0 stands c.in_err-frame.ensures.bad c.in_err-frame.ensures.faults in
     search rules
 
 pub step-requires : goal.step-requires
@@ -45,7 +45,7 @@ step-requires g c =
     let fine = is_fine c.check.result (λ e. let no_way : true ≡ false = sym (c.is_err.ensures.value ∙ e) ∙ c.if-is_err.false in absurd cc) in
     let bytes = c.as_slice-2.ensures ∙ sym c.as_slice.ensures in
     let stands : Stands lines c.args.at c.args.node c.as_slice-2.result.now = subst (λ (xs : List _). Stands lines c.args.at c.args.node xs) (sym bytes) (c.check.ensures.ok.0 fine) in
-    let there = is_read lines c.args.at c.args.node c.self.invariant.kept c.spelling_law.ensures c.as_slice-2.result.now c.in_ok-frame.frame c.one_spelling_law.ensures stands c.in_ok-frame.ensures.found in
+    let there = is_read lines c.args.at c.args.node c.self.invariant.entered.kept c.spelling_law.ensures c.as_slice-2.result.now c.in_ok-frame.frame c.one_spelling_law.ensures stands c.in_ok-frame.ensures.found in
     ap (λ (b : BookView g.row.O-Alloc.Denot). frame_to b.lines c.args.at c.args.node) c.check.ensures.same ∙ there
 
 pub returns-clause-done : goal.returns-clause-done
@@ -54,8 +54,8 @@ returns-clause-done g c =
     let fine = is_fine c.check.result (λ e. let no_way : true ≡ false = sym (c.is_err.ensures.value ∙ e) ∙ c.if-is_err.false in absurd cc) in
     let bytes = c.as_slice-2.ensures ∙ sym c.as_slice.ensures in
     let stands : Stands lines c.args.at c.args.node c.as_slice-2.result.now = subst (λ (xs : List _). Stands lines c.args.at c.args.node xs) (sym bytes) (c.check.ensures.ok.0 fine) in
-    let there = is_read lines c.args.at c.args.node c.self.invariant.kept c.spelling_law.ensures c.as_slice-2.result.now c.in_ok-frame.frame c.one_spelling_law.ensures stands c.in_ok-frame.ensures.found in
-    let old : RunView g.row.O-Alloc.Denot = record { lines = lines; sent = c.self.inside.network.sent.items; under_way = c.self.inside.network.under_way.items; groups = c.self.inside.network.groups; effects = c.self.inside.effects } in
+    let there = is_read lines c.args.at c.args.node c.self.invariant.entered.kept c.spelling_law.ensures c.as_slice-2.result.now c.in_ok-frame.frame c.one_spelling_law.ensures stands c.in_ok-frame.ensures.found in
+    let old : RunView g.row.O-Alloc.Denot = record { lines = lines; sent = c.self.inside.network.sent.items; under_way = c.self.inside.network.under_way.items; groups = c.self.inside.network.groups } in
     let mid : RunView g.row.O-Alloc.Denot = record old { lines = c.check.new.self.lines } in
     let same = ap (λ (b : BookView g.row.O-Alloc.Denot). record old { lines = b.lines }) c.check.ensures.same in
     let told = ok_printed_as c.step.result _ _ (λ text. Steps g.O.Object.reply g.O.Object.next g.O.Object.initial c.args.node (Came c.in_ok-frame.frame) c.args.at mid c.step.new.self text)

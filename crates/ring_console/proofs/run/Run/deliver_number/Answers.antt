@@ -3,7 +3,8 @@ use Rattle.std.specs.Prelude.{MatchOption}
 use Rattle.std.proofs.KnownBytes.{Appends-nil}
 use Rattle.ring_book.specs.declared.frame_ref.FrameRef.{FrameRef}
 use Rattle.ring_console.specs.Network.{place_of}
-use Rattle.ring_console.specs.Running.{RunView, Rests, Delivers}
+use Rattle.ring_console.specs.Running.{RunView, Rests, Delivers, IsSent}
+use Rattle.ring_console.proofs.Sending.{place_sent}
 use Rattle.ring_console.proofs.Printing.{ok_printed_as}
 use Rattle.ring_console.proofs.run.Run.deliver_number.Goals as goal
 
@@ -12,7 +13,7 @@ returns-in_default-clause-done g c = rw c.in_default.is record { text = []; appe
 
 pub returns-in-None-clause-done : goal.returns-in-None-clause-done
 returns-in-None-clause-done g c =
-    let old : RunView g.row.O-Alloc.Denot = record { lines = c.self.inside.book.lines; sent = c.self.inside.network.sent.items; under_way = c.self.inside.network.under_way.items; groups = c.self.inside.network.groups; effects = c.self.inside.effects } in
+    let old : RunView g.row.O-Alloc.Denot = record { lines = c.self.inside.book.lines; sent = c.self.inside.network.sent.items; under_way = c.self.inside.network.under_way.items; groups = c.self.inside.network.groups } in
     let none : place_of old.sent c.in-Some.number ≡ None = sym c.frame.ensures ∙ c.in-None.is in
     rw (← c.self.view_is, c.in-Some.is) record {
       text = [];
@@ -28,3 +29,8 @@ returns-in-Some-frame-clause-done g c =
     (λ text. MatchOption (place_of old.sent c.in-Some.number) (Rests old c.deliver.new.self text) (λ at. Delivers g.O.Object.reply g.O.Object.next g.O.Object.initial c.args.node at old c.deliver.new.self text))
     (λ text h. subst (λ (o : Option FrameRef). MatchOption o (Rests old c.deliver.new.self text) (λ at. Delivers g.O.Object.reply g.O.Object.next g.O.Object.initial c.args.node at old c.deliver.new.self text)) (sym some) h) c.deliver.ensures.done in
     rw c.in-Some.is told
+
+pub deliver-requires : goal.deliver-requires
+deliver-requires g c =
+    let sent : IsSent c.self.inside.book.lines c.in-Some-frame.at = place_sent c.self.inside.book.lines c.self.inside.network.sent.items c.in-Some.number c.in-Some-frame.at c.self.invariant.all_sent (sym c.frame.ensures ∙ c.in-Some-frame.is) in
+    rw (← c.self.view_is) sent

@@ -2,15 +2,17 @@ use Rattle.std.proofs.Common.{◌≡◌, ◌+◌, ◌∙◌, Some, drop, refl, s
 use Rattle.ring_console.specs.Network.{next_turn}
 use Rattle.ring_console.specs.Running.{RunView, Comes, TurnsTimes}
 use Rattle.ring_console.proofs.Entered.{same_run}
+use Rattle.ring_console.proofs.Kept.{keeps_turn}
+use Rattle.ring_console.proofs.Sending.{turn_brings}
 use Rattle.ring_console.proofs.Printing.{printed_as, printed_then, grows_more, turned, pumped, none_left}
 use Rattle.ring_console.proofs.run.Run.pump.Goals as goal
 
 pub returns-in_default-clause-done : goal.returns-in_default-clause-done
 returns-in_default-clause-done g c =
     let lines = c.self.inside.book.lines in
-    let new : RunView g.row.O-Alloc.Denot = record { lines = lines; sent = c.turn.new.self.sent.items; under_way = c.turn.new.self.under_way.items; groups = c.turn.new.self.groups; effects = c.self.inside.effects } in
+    let new : RunView g.row.O-Alloc.Denot = record { lines = lines; sent = c.turn.new.self.sent.items; under_way = c.turn.new.self.under_way.items; groups = c.turn.new.self.groups } in
     let left = none_left c.self.inside.network.groups c.self.inside.network.under_way.items c.turn.new.self.under_way.items (sym c.turn.ensures.turn ∙ c.in_default.is) c.turn.ensures.under_way in
-    let same : new ≡ c.loop.self = same_run lines lines _ _ _ _ _ _ c.self.inside.effects _ refl c.turn.ensures.sent left.1 c.turn.ensures.groups refl ∙ c.self.view_is in
+    let same : new ≡ c.loop.self = same_run lines lines _ _ _ _ _ _ refl c.turn.ensures.sent left.1 c.turn.ensures.groups ∙ c.self.view_is in
     printed_as _ _ _ _ (λ text h. pumped g.O.Object.reply g.O.Object.next g.O.Object.initial c.args.turns c.loop.counter c.args.self.now c.loop.self new text (omega (arith, c.loop.auto.counter-end)) (λ less. left.0) same h) c.loop.invariant.0
 
 pub returns-clause-done : goal.returns-clause-done
@@ -19,9 +21,9 @@ returns-clause-done g c =
 
 pub loop-preserved : goal.loop-preserved
 loop-preserved g c =
-    let mid : RunView g.row.O-Alloc.Denot = record { lines = c.self.inside.book.lines; sent = c.self.inside.network.sent.items; under_way = c.self.inside.network.under_way.items; groups = c.self.inside.network.groups; effects = c.self.inside.effects } in
-    let taken : RunView g.row.O-Alloc.Denot = record { lines = c.self.inside.book.lines; sent = c.turn.new.self.sent.items; under_way = c.turn.new.self.under_way.items; groups = c.turn.new.self.groups; effects = c.self.inside.effects } in
-    let same : taken ≡ record mid { under_way = drop 1 mid.under_way } = same_run c.self.inside.book.lines _ _ _ _ _ _ _ c.self.inside.effects _ refl c.turn.ensures.sent c.turn.ensures.under_way c.turn.ensures.groups refl in
+    let mid : RunView g.row.O-Alloc.Denot = record { lines = c.self.inside.book.lines; sent = c.self.inside.network.sent.items; under_way = c.self.inside.network.under_way.items; groups = c.self.inside.network.groups } in
+    let taken : RunView g.row.O-Alloc.Denot = record { lines = c.self.inside.book.lines; sent = c.turn.new.self.sent.items; under_way = c.turn.new.self.under_way.items; groups = c.turn.new.self.groups } in
+    let same : taken ≡ record mid { under_way = drop 1 mid.under_way } = same_run c.self.inside.book.lines _ _ _ _ _ _ _ refl c.turn.ensures.sent c.turn.ensures.under_way c.turn.ensures.groups in
     let is : next_turn mid.groups mid.under_way ≡ Some c.in-Some.turn = sym c.turn.ensures.turn ∙ c.in-Some.is in (
       printed_then _ _ _
           (λ text. TurnsTimes g.O.Object.reply g.O.Object.next g.O.Object.initial c.loop.counter c.args.self.now mid text)
@@ -31,3 +33,12 @@ loop-preserved g c =
           (rw (← c.self.view_is) at c.loop.invariant.0) c.in_ok-take_turn.ensures.done,
       grows_more c.args.self.now.lines c.self.inside.book.lines c.take_turn.new.self.lines (rw (← c.self.view_is) at c.loop.invariant.1) c.in_ok-take_turn.ensures.kept,
     )
+
+pub invariant_of-self : goal.invariant_of-self
+invariant_of-self g c = keeps_turn _ _ _ _ _ _ _ c.self.invariant c.turn.ensures.sent c.turn.ensures.under_way
+
+pub invariant_of-self-in-loop : goal.invariant_of-self-in-loop
+invariant_of-self-in-loop g c = keeps_turn _ _ _ _ _ _ _ c.self.invariant c.turn.ensures.sent c.turn.ensures.under_way
+
+pub take_turn-requires : goal.take_turn-requires
+take_turn-requires g c = turn_brings _ _ c.self.inside.network.groups c.self.inside.network.under_way.items c.in-Some.turn c.self.invariant.on_their_way (sym c.turn.ensures.turn ∙ c.in-Some.is)

@@ -7,8 +7,9 @@ use Rattle.ring_base.specs.declared.state.State.{State}
 use Rattle.ring_base.specs.declared.ring_id.RingId.{RingId}
 use Rattle.ring_one.specs.Machine.{One, committed_of}
 use Rattle.ring_one.specs.Texts.{log_of}
-use Rattle.ring_console.specs.Printed.{line_of, node_text}
-use Rattle.ring_console.specs.Running.{RunView, Shows, node_after, nodes_text}
+use Rattle.ring_report.specs.Texts.{line_of}
+use Rattle.ring_console.specs.Printed.{node_text}
+use Rattle.ring_console.specs.Running.{RunView, Shows, node_after, order_length, nodes_text}
 use Rattle.ring_console.proofs.Entered.{after_entered}
 use Rattle.ring_console.proofs.Printing.{printed, ok_after}
 use Rattle.ring_console.proofs.run.Run.show.Goals as goal
@@ -34,7 +35,7 @@ loop-before-preserved g c =
     let within : i < length cells = omega (arith, c.loop-before-test.true, ap length c.deref-cell-items.ensures.value) in
     let read = rw c.deref-cell-items.ensures.value at c.cell-item.is in
     let at : slice_get cells i ≡ Some c.cell-item.result = slice_get_read cells (length cells) i c.cell-item.result refl within read in
-    let here = c.self.invariant.each i c.cell-item.result at in
+    let here = c.self.invariant.entered.each i c.cell-item.result at in
     let after = after_entered g.O.Object.reply g.O.Object.next g.O.Object.initial c.self.inside.book.lines i c.cell-item.result here c.node_law.ensures in
     let number : c.saturating_add-number.result ≡ suc i = omega (arith, c.saturating_add-number.ensures, c.self.inside.cells.ok, c.self.inside.cells.small) in
     let node : c.node-node.result.now ≡ m = c.node-node.ensures ∙ sym after in
@@ -47,9 +48,10 @@ loop-before-preserved g c =
 pub returns-clause-done : goal.returns-clause-done
 returns-clause-done g c =
     let m = node_after g.O.Object.reply g.O.Object.next g.O.Object.initial c.self.inside.book.lines in
-    let count : c.loop-before.before ≡ g.K.BookName.name.count = omega (arith, c.loop-before-test.false, c.loop-before.auto.before-end, ap length c.deref-cell-items.ensures.value, c.self.invariant.counted) in
+    let count : c.loop-before.before ≡ g.K.BookName.name.count = omega (arith, c.loop-before-test.false, c.loop-before.auto.before-end, ap length c.deref-cell-items.ensures.value, c.self.invariant.entered.counted) in
     let nodes : Appends (g.W.Write.contents c.args.out.now) (g.W.Write.contents c.loop-before.out) (nodes_text g.K.BookName.name.count m) = subst (λ (k : ℕ). Appends (g.W.Write.contents c.args.out.now) (g.W.Write.contents c.loop-before.out) (nodes_text k m)) count c.loop-before.invariant in
-    let old : RunView g.row.O-Alloc.Denot = record { lines = c.self.inside.book.lines; sent = c.self.inside.network.sent.items; under_way = c.self.inside.network.under_way.items; groups = c.self.inside.network.groups; effects = c.self.inside.effects } in
+    let old : RunView g.row.O-Alloc.Denot = record { lines = c.self.inside.book.lines; sent = c.self.inside.network.sent.items; under_way = c.self.inside.network.under_way.items; groups = c.self.inside.network.groups } in
+    let order : c.order_len.result ≡ order_length g.O.Object.reply g.O.Object.next g.O.Object.initial c.self.inside.book.lines = c.order_len.ensures ∙ ap (λ (r : RunView g.row.O-Alloc.Denot). order_length g.O.Object.reply g.O.Object.next g.O.Object.initial r.lines) (sym c.self.view_is) in
     let told = printed c.print_order.result (g.W.Write.contents c.args.out.now) (g.W.Write.contents c.print_order.new.out) _ (λ text. Shows g.O.Object.reply g.O.Object.next g.O.Object.initial g.K.BookName.name.count old old text) (refl, refl)
-    (ok_after c.print_order.result _ (g.W.Write.contents c.loop-before.out) _ _ _ nodes c.print_order.ensures.line) in
+    (ok_after c.print_order.result _ (g.W.Write.contents c.loop-before.out) _ _ _ nodes (rw order at c.print_order.ensures.line)) in
     rw (← c.self.view_is) told

@@ -1,9 +1,15 @@
-use Rattle.std.proofs.Common.{◌≡◌, List, ◌++◌, ◌∷◌, [], ◌∙◌, sym, subst}
+use Rattle.std.proofs.Common.{◌≡◌, List, ◌++◌, ◌∷◌, [], ◌∙◌, refl, sym, subst}
 use Rattle.std.proofs.lemmas.List.{map-id}
 use Rattle.std.proofs.lemmas.Iterator.Adapters.{YieldsList-from_vec}
-use Rattle.std.proofs.lemmas.Iterator.Consumers.{YieldsList-end}
+use Rattle.std.proofs.lemmas.Iterator.Consumers.{YieldsList-end, YieldsList-turn}
+use Rattle.std.proofs.lemmas.Option.{slice_get_read}
+use Rattle.std.proofs.lemmas.Result.{err_from_is_err_and}
 use Rattle.ring_script.specs.declared.scripts.Numbered.{Numbered}
-use Rattle.ring_console.specs.Running.{Runs, Does}
+use Rattle.ring_script.specs.Lines.{asked_by, IsAmong}
+use Rattle.ring_script.specs.Scripts.{AreAmong}
+use Rattle.ring_console.specs.Running.{EndsRun, Runs, Does}
+use Rattle.ring_console.proofs.Kept.{ends_as}
+use Rattle.ring_console.proofs.Sending.{all_get}
 use Rattle.ring_console.proofs.Printing.{printed_as, printed_then, grows_more, Runs-snoc}
 use Rattle.ring_console.proofs.run.Run.take.Goals as goal
 
@@ -26,3 +32,14 @@ returns-clause-done g c =
     printed_as _ _ _ _
     (λ text runs. subst (λ (ls : List (Numbered g.row.O-Alloc.Denot)). Runs g.O.Object.reply g.O.Object.next g.O.Object.initial g.K.BookName.name.count ls c.args.self.now c.loop-numbered.self text) all runs)
     c.loop-numbered.invariant.0
+
+pub returns-in_err-take_line-clause-failed : goal.returns-in_err-take_line-clause-failed
+returns-in_err-take_line-clause-failed g c =
+    let begun = c.into_iter-numbered-iterator.ensures.into_iter_gives in
+    let turn = YieldsList-turn (YieldsList-from_vec c.args.script.lines.items begun.0 (begun.1 ∙ c.args.script.lines.ok.0)) c.loop-numbered.yielded c.loop-numbered.numbered-iterator c.loop-numbered.yielded_by c.next.result c.next.new.self c.in-Some.numbered c.in-Some.is c.next.ensures.steps in
+    let stands = slice_get_read c.args.script.lines.items _ _ c.in-Some.numbered refl turn.0 turn.1 in
+    let ends : EndsRun c.take_line.new.self.lines (AreAmong g.K.BookName.name.count c.args.script.lines.items) c.in_err-take_line.field-0.0 =
+    ends_as _ (IsAmong g.K.BookName.name.count (asked_by c.in-Some.numbered.line)) (AreAmong g.K.BookName.name.count c.args.script.lines.items) c.in_err-take_line.field-0.0
+    (λ all. all_get (λ (l : Numbered g.row.O-Alloc.Denot). IsAmong g.K.BookName.name.count (asked_by l.line)) c.args.script.lines.items _ c.in-Some.numbered all stands) c.in_err-take_line.ensures.failed in
+    let p = err_from_is_err_and c.from_residual.result c.from_residual.ensures.1 in
+    rw (p.1, p.2) ends

@@ -1,0 +1,2 @@
+mod ListedLemmas
+mod ListingLemmas

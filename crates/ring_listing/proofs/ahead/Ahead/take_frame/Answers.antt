@@ -1,0 +1,22 @@
+use Rattle.std.proofs.Common.{ℕ, ◌+◌, ◌-◌, sym, ◌∙◌, ap, subst}
+use Rattle.std.specs.Prelude.{length, drop, take}
+use Rattle.std.specs.Io.Iter.{u64_saturate}
+use Rattle.ring_wire.specs.Frames.{spelling_of, FrameFits}
+use Rattle.ring_wire.specs.Fronts.{IsGot}
+use Rattle.ring_listing.specs.Listings.{BeginsWithNone}
+use Rattle.ring_listing.proofs.ListingLemmas.{got_front, from_place, stop_here}
+use Rattle.ring_listing.proofs.ahead.Ahead.take_frame.Goals as goal
+
+pub returns-in-Ok-clause-next : goal.returns-in-Ok-clause-next
+returns-in-Ok-clause-next g c =
+    let self = c.args.self.now in
+    let found : IsGot spelling_of FrameFits (take (length self.bytes.items - self.taken) (drop self.taken self.bytes.items)) c.in-Ok.frame c.in-Ok.length = rw c.deref.ensures.value at c.in-Ok.ensures.found in
+    let front = got_front self.bytes.items self.taken c.in-Ok.length c.in-Ok.frame found in
+    (found.fits, front.0, c.saturating_add-self.ensures ∙ ap (λ (n : ℕ). u64_saturate (self.position + n)) (sym front.1))
+
+pub returns-in-Err-BadFrame-2-clause-stopped : goal.returns-in-Err-BadFrame-2-clause-stopped
+returns-in-Err-BadFrame-2-clause-stopped g c =
+    let self = c.args.self.now in
+    let none : BeginsWithNone g.row.A.Denot (take (length c.deref.result.now - self.taken) (drop self.taken c.deref.result.now)) = c.in-Err-BadFrame.ensures.bad c.in-Err-BadFrame.field-0-is in
+    let here = subst (BeginsWithNone g.row.A.Denot) (from_place c.deref.result.now self.taken ∙ ap (drop self.taken) c.deref.ensures.value) none in
+    stop_here g.row.A.Denot (drop self.taken self.bytes.items) self.position self.state (λ failed. let same = rw failed at c.if-eq-2.ensures in cc) here

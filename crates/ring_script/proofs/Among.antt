@@ -1,0 +1,100 @@
+-- No line of a script names a node past the script's nodes.
+use Rattle.std.proofs.Common.{◌≡◌, ℕ, ◌+◌, ◌≤◌, List, [], ◌∷◌, map, Option, Result, Ok, arith}
+use Rattle.std.specs.Prelude.{IfSome, IfOk}
+use Rattle.std.specs.List.{AllByRecursion}
+use Rattle.std.proofs.lemmas.Grind.{common_steps}
+use Rattle.std.proofs.lemmas.Result.{IfOk-at_ok}
+use Rattle.ring_base.specs.Group.{Group}
+use Rattle.ring_script.specs.declared.scripts.Numbered.{Numbered}
+use Rattle.ring_script.specs.declared.scripts.Rings.{Rings}
+use Rattle.ring_script.specs.Lines.{Asked, IsAmong, call_at, deliver_at, timeout_at, noise_at, stop_at, cut_line_at, pump_at, form_at, whole, asked_of}
+use Rattle.ring_script.specs.Numbers.{word_at, node_at}
+use Rattle.ring_script.specs.Reading.{◌>>=◌}
+use Rattle.ring_script.specs.Scripts.{unless_skipped, useful_of, then_asked, asked_in, numbered_by, AreAmong}
+use Rattle.ring_script.specs.Words.{words_of}
+
+-- ---- the forms of lines
+
+node_low : (nodes : Group) (words : List (List ℕ)) → IfSome (node_at nodes words) (λ node. node.0 ≤ nodes.count)
+node_low nodes words = grind (arith, common_steps)
+
+-- what a form reads, and the words after it: it is asked at one of so many nodes, or at none
+abbrev ReadAmong : ℕ → Option (Asked × List (List ℕ)) → Type 0
+ReadAmong count read = IfSome read (λ asked. IsAmong count asked.0)
+
+call_among : (nodes : Group) (words : List (List ℕ)) → ReadAmong nodes.count (call_at nodes words)
+unfolding call_at
+call_among nodes words = grind (arith, node_low)
+
+deliver_among : (nodes : Group) (words : List (List ℕ)) → ReadAmong nodes.count (deliver_at nodes words)
+unfolding deliver_at
+deliver_among nodes words = grind (arith, node_low)
+
+timeout_among : (nodes : Group) (words : List (List ℕ)) → ReadAmong nodes.count (timeout_at nodes words)
+unfolding timeout_at
+timeout_among nodes words = grind (arith, node_low)
+
+noise_among : (nodes : Group) (words : List (List ℕ)) → ReadAmong nodes.count (noise_at nodes words)
+unfolding noise_at
+noise_among nodes words = grind (arith, node_low)
+
+stop_among : (nodes : Group) (words : List (List ℕ)) → ReadAmong nodes.count (stop_at nodes words)
+unfolding stop_at
+stop_among nodes words = grind (arith, node_low)
+
+cut_among : (nodes : Group) (words : List (List ℕ)) → ReadAmong nodes.count (cut_line_at nodes words)
+unfolding cut_line_at
+cut_among nodes words = grind arith
+
+pump_among : (count : ℕ) (words : List (List ℕ)) → ReadAmong count (pump_at words)
+unfolding pump_at
+pump_among count words = grind arith
+
+form_among : (nodes : Group) (word : List ℕ) (words : List (List ℕ)) → ReadAmong nodes.count (form_at nodes word words)
+unfolding form_at
+form_among nodes word words = grind (arith, call_among, deliver_among, timeout_among, noise_among, stop_among, cut_among, pump_among)
+
+-- ---- one line
+
+whole_among : (count : ℕ) (read : Option (Asked × List (List ℕ))) → ReadAmong count read → IfSome (read >>= whole) (IsAmong count)
+whole_among count read among = grind arith
+
+words_among : (nodes : Group) (words : List (List ℕ)) → IfSome (word_at words >>= (λ word. form_at nodes word.0 word.1 >>= whole)) (IsAmong nodes.count)
+words_among nodes [] = tt
+words_among nodes (word ∷ words) = whole_among nodes.count (form_at nodes word words) (form_among nodes word words)
+
+asked_among : (nodes : Group) (line : List ℕ) → IfSome (asked_of nodes line) (IsAmong nodes.count)
+unfolding asked_of
+asked_among nodes line = words_among nodes (words_of line)
+
+useful_among : (rings : Rings) (nodes : Group) (line : List ℕ) → IfSome (useful_of rings nodes line) (IsAmong nodes.count)
+unfolding useful_of
+useful_among rings nodes line = grind (arith, asked_among nodes line)
+
+-- ---- all lines
+
+-- what is asked for, with its number: each is asked at one of so many nodes, or at none
+abbrev AllAmong : ℕ → List (ℕ × Asked) → Type 0
+AllAmong count asked = AllByRecursion (λ (a : ℕ × Asked). IsAmong count a.1) asked
+
+told_among : (rings : Rings) (nodes : Group) (line : List ℕ) → IfSome (unless_skipped (useful_of rings nodes) line) (λ told. IfSome told (IsAmong nodes.count))
+told_among rings nodes line = grind (arith, useful_among rings nodes line)
+
+then_among : (count number : ℕ) (told : Option (Option Asked)) (others : Result (List (ℕ × Asked)) ℕ) → IfSome told (λ asked. IfSome asked (IsAmong count)) → IfOk others (AllAmong count) → IfOk (then_asked number told others) (AllAmong count)
+then_among count number told others first later = grind arith
+
+all_among : (rings : Rings) (nodes : Group) (before : ℕ) (lines : List (List ℕ)) → IfOk (asked_in rings nodes before lines) (AllAmong nodes.count)
+unfolding asked_in
+all_among rings nodes before [] = tt
+all_among rings nodes before (line ∷ lines) =
+    then_among nodes.count (before + 1) (unless_skipped (useful_of rings nodes) line) (asked_in rings nodes (before + 1) lines) (told_among rings nodes line) (all_among rings nodes (before + 1) lines)
+
+-- the same of the program's lines
+AreAmong-numbered : {A : Type 0} (count : ℕ) (lines : List (Numbered A)) → AllAmong count (map numbered_by lines) → AreAmong count lines
+AreAmong-numbered count [] among = tt
+AreAmong-numbered count (line ∷ lines) among = (among.0, AreAmong-numbered count lines among.1)
+
+-- the lines that were read of a text
+pub lines_among : {A : Type 0} (rings : Rings) (nodes : Group) (before : ℕ) (text : List (List ℕ)) (lines : List (Numbered A)) → asked_in rings nodes before text ≡ Ok (map numbered_by lines) → AreAmong nodes.count lines
+lines_among rings nodes before text lines read =
+    AreAmong-numbered nodes.count lines (IfOk-at_ok (AllAmong nodes.count) read (all_among rings nodes before text))
