@@ -22,7 +22,8 @@ use Rattle.ring_book.proofs.Journaling.{ring_stays}
 use Rattle.ring_book.proofs.Keeping.{Leads-last}
 use Rattle.ring_book.proofs.Leading.{steps_of-own, steps_of-other, AllOf-last}
 use Rattle.ring_book.proofs.Ordering.{call_lines-snoc, length-number_in}
-use Rattle.ring_book.proofs.Places.{set_cases, all-snoc}
+use Rattle.ring_base.proofs.Each.{each-push}
+use Rattle.ring_book.proofs.Places.{set_cases}
 use Rattle.ring_book.proofs.Telling.{told_from-snoc, length-told_by}
 
 pub end_ring : {A : Type 0} (c d : End A) → SameConsumer c d → ring_of_consumer d ≡ ring_of_consumer c
@@ -65,7 +66,7 @@ pub run_adds : {S A : Type 0} (m : Machine S A) (n : ℕ) (ls : List (Line A)) (
     → IsBookRun m n (ls ++ l ∷ [])
 run_adds {S} {A} m n ls l me t r mine low high leads found = record {
   nodes = λ i h k. same_or_other i h k (l.step.node == i) refl;
-  inside = all-snoc (λ (x : Line A). (1 ≤ x.step.node) × (x.step.node ≤ n)) ls l r.inside (omega arith, omega arith);
+  inside = each-push (λ (x : Line A). (1 ≤ x.step.node) × (x.step.node ≤ n)) ls l r.inside (omega arith, omega arith);
   found = AllFound-snoc m [] ls l r.found found;
 }
   where
@@ -140,7 +141,7 @@ book_enters {S} {A} m sound name lines reserved ends told calls capacity tickets
         }
       ];
       run = run_adds m name.count lines l me node b.run mine k.counted k.in_book leads found;
-      kept = all-snoc (λ (y : Line A). AllByRecursion IsKept y.step.frames) lines l b.kept (Leads-last m sound (m.opening me) (steps_of me lines) x node (sound.opens me) leads);
+      kept = each-push (λ (y : Line A). AllByRecursion IsKept y.step.frames) lines l b.kept (Leads-last m sound (m.opening me) (steps_of me lines) x node (sound.opens me) leads);
       room = omega (arith, length-append lines (l ∷ []), b.room);
       limit = omega (arith, length-append lines (l ∷ []), b.limit);
       answers = ap (λ (ts : List (Option Answer)). told_by ts x.input x.answers) b.answers ∙ sym (ap (told_from []) (steps_of-own 1 lines l first) ∙ told_from-snoc [] (steps_of 1 lines) x);

@@ -13,7 +13,7 @@ use Rattle.ring_book.specs.declared.line.Line.{Line}
 use Rattle.ring_book.specs.declared.TheConstants.{FRAME_BYTES}
 use Rattle.ring_book.specs.Lines.{frame_at, frame_of, frame_to, AreKept}
 use Rattle.ring_book.specs.Machines.{IsKept}
-use Rattle.ring_book.proofs.Places.{all-get}
+use Rattle.ring_base.proofs.Each.{each-get}
 
 if_some : {X : Type 0} (b : Bool) (o : Option X) (x : X) → (if b then o else None) ≡ Some x → o ≡ Some x
 if_some true o x h = h
@@ -28,7 +28,7 @@ there_line (Some l) place node f h = (l, (refl, if_some (l.step.node == node) (s
 pub frame_kept : {A : Type 0} (lines : List (Line A)) (at : FrameRef) (node : ℕ) (f : Frame A) → AreKept lines → frame_to lines at node ≡ Some f → IsKept f
 frame_kept {A} lines at node f kept h =
     let t = there_line (slice_get lines at.line) at.place node f h in
-    all-get IsKept t.0.step.frames at.place f (all-get (λ (l : Line A). AllByRecursion IsKept l.step.frames) lines at.line t.0 kept t.1.0) t.1.1
+    each-get IsKept t.0.step.frames at.place f (each-get (λ (l : Line A). AllByRecursion IsKept l.step.frames) lines at.line t.0 kept t.1.0) t.1.1
 
 -- a frame is there exactly where it is the one that stands there
 pub found_same : {A : Type 0} (lines : List (Line A)) (at : FrameRef) (node : ℕ) (f sent : Frame A) (b : Bool) → frame_to lines at node ≡ Some sent → IsTrue b ↔ (sent ≡ f) → IsTrue b ↔ (frame_to lines at node ≡ Some f)
@@ -46,7 +46,7 @@ frame_line (Some l) place f h = (l, (refl, h))
 pub standing_kept : {A : Type 0} (lines : List (Line A)) (at : FrameRef) (f : Frame A) → AreKept lines → frame_at lines at ≡ Some f → IsKept f
 standing_kept {A} lines at f kept h =
     let t = frame_line (slice_get lines at.line) at.place f h in
-    all-get IsKept t.0.step.frames at.place f (all-get (λ (l : Line A). AllByRecursion IsKept l.step.frames) lines at.line t.0 kept t.1.0) t.1.1
+    each-get IsKept t.0.step.frames at.place f (each-get (λ (l : Line A). AllByRecursion IsKept l.step.frames) lines at.line t.0 kept t.1.0) t.1.1
 
 past : {X : Type 0} (xs : List X) (i : ℕ) → length xs ≤ i → None ≡ slice_get xs i
 past [] zero h = refl

@@ -5,6 +5,7 @@ use Rattle.std.specs.Borrow.{Bor}
 use Rattle.std.specs.List.{AllByRecursion}
 use Rattle.std.proofs.lemmas.Bool.Decides.{nat_tests}
 use Rattle.ring_base.specs.declared.fault.Fault.{Fault}
+use Rattle.ring_base.specs.Fronts.{IsFront}
 use Rattle.ring_base.specs.Processors.{only}
 use Rattle.ring_one.specs.declared.input.Input.{Input}
 use Rattle.ring_one.specs.declared.input.Input.TheVariants.{Stop}
@@ -28,10 +29,11 @@ use Rattle.ring_book.proofs.Keeping.{Leads-last}
 use Rattle.ring_book.proofs.Leading.{steps_of-other}
 use Rattle.ring_book.proofs.Ones.{one_keeps, IsBounded}
 use Rattle.ring_book.proofs.Ordering.{nothing_longer}
-use Rattle.ring_book.proofs.Places.{set_cases, all-snoc}
+use Rattle.ring_base.proofs.Each.{each-push}
+use Rattle.ring_book.proofs.Places.{set_cases}
 use Rattle.ring_console.specs.declared.network.Parcel.{Parcel}
 use Rattle.ring_console.specs.Network.{places_of, all_copies_of}
-use Rattle.ring_console.specs.Running.{RunView, IsEntered, IsOfBook, Enters, Acted, node_after, order_length, after_step, sent_of}
+use Rattle.ring_console.specs.Running.{RunView, IsEntered, IsOfBook, Enters, Acted, IsCutShort, node_after, order_length, after_step, sent_of}
 
 -- two lists with one more each, where the lists are the same
 snoc_same : {X : Type 0} (xs : List X) (a b : X) → xs ++ a ∷ [] ≡ xs ++ b ∷ [] → a ≡ b
@@ -138,7 +140,7 @@ module _ {O A : Type 0} (reply : O → List ℕ → List ℕ) (next : O → List
           }
         ];
         kept = subst (λ (ls : List (Line A)). AllByRecursion (λ (l : Line A). AllByRecursion IsKept l.step.frames) ls) (sym new_is)
-            (all-snoc (λ (l : Line A). AllByRecursion IsKept l.step.frames) lines (record { number = length lines; step = entered.step }) k.kept
+            (each-push (λ (l : Line A). AllByRecursion IsKept l.step.frames) lines (record { number = length lines; step = entered.step }) k.kept
             (Leads-last (one_machine reply next initial) (one_keeps reply next initial) cell.node [] entered.step cell2.node here.sound (cell2.node, (stepped, refl))));
       }
 
@@ -200,6 +202,21 @@ module _ {A : Type 0} where
       (ap (λ (x : ℕ). all_copies_of x count node receivers) numbered ∙ (ap (λ (x : ℕ). all_copies_of (length old.lines) x node receivers) counted
       ∙ (ap (λ (x : ℕ). all_copies_of (length old.lines) (sent_of step) x receivers) here ∙ ap (λ (x : ℕ). all_copies_of (length old.lines) (sent_of step) step.node x) there))))
       e
+
+  -- the run after a step of which not all frames were sent
+  pub cut_short : (old : RunView A) (step : StepView A) (line : Line A) (lines : List (Line A)) (sent : List FrameRef) (under_way : List Parcel) (groups : Option (List ℕ)) (number count node receivers : ℕ)
+      → line ≡ record { number = length old.lines; step = step } → lines ≡ old.lines ++ record { number = length old.lines; step = step } ∷ []
+      → number ≡ line.number → count ≡ sent_of line.step → node ≡ line.step.node → receivers ≡ only line.step.node
+      → IsFront sent (old.sent ++ places_of number count) → IsFront under_way (old.under_way ++ all_copies_of number count node receivers) → groups ≡ old.groups
+      → IsCutShort (after_step old step) (record { lines = lines; sent = sent; under_way = under_way; groups = groups })
+  cut_short old step line lines sent under_way groups number count node receivers is all n k p r s u e =
+      let whole = after_is old step line lines (old.sent ++ places_of number count) (old.under_way ++ all_copies_of number count node receivers) groups number count node receivers is all n k p r refl refl e in
+      record {
+        lines = all;
+        groups = e;
+        sent = subst (λ (ps : List FrameRef). IsFront sent ps) (ap (λ (w : RunView A). w.sent) whole) s;
+        under_way = subst (λ (ps : List Parcel). IsFront under_way ps) (ap (λ (w : RunView A). w.under_way) whole) u;
+      }
 
 -- a test that came out so
 pub acted_so : {O A : Type 0} (reply : O → List ℕ → List ℕ) (next : O → List ℕ → O) (initial : O) (old new : CellView (One A) A) (input : Input A) (at : FrameRef) (b c : Bool) → Acted reply next initial old new input at b → b ≡ c → Acted reply next initial old new input at c

@@ -19,7 +19,8 @@ use Rattle.ring_console.specs.declared.network.Parcel.{Parcel}
 use Rattle.ring_console.specs.Network.{places_of, all_copies_of}
 use Rattle.ring_console.specs.Running.{EndsRun, EndsScript, IsOfBook, IsOfRun, IsSent, IsOnItsWay, sent_of}
 use Rattle.ring_console.proofs.Entered.{keeps_same}
-use Rattle.ring_console.proofs.Sending.{all_append, all_front, all_sent_later, all_on_their_way_later, rest_on_their_way, places_sent, all_copies_on_their_way}
+use Rattle.ring_base.proofs.Each.{each-append, each-front}
+use Rattle.ring_console.proofs.Sending.{all_sent_later, all_on_their_way_later, rest_on_their_way, places_sent, all_copies_on_their_way}
 
 -- why no place is reserved
 pub place_fault : {A T : Type 0} (book book' : BookView A) (AreAmong : Type 0) (fault : Fault) (r : Result T Fault) → r ≡ Err fault → book.reserved ≡ 0 → book' ≡ book → (fault ≡ Memory) ⊎ (fault ≡ BookFull)
@@ -29,19 +30,19 @@ place_fault {A} book book' AreAmong fault r is none same (inr book_full) full =
     let all : length book.lines + book.reserved ≡ PLACES = full.0 (is ∙ ap Err book_full) in
     inr (inr (inl (ap Refused book_full, omega (arith, all, none, ap (λ (b : BookView A). length b.lines) same))))
 
--- a run ends for a node that it does not have, also where this says more of the nodes
+-- a run that ends for the nodes of one line ends for those of all
 pub ends_as : {A : Type 0} (lines : List (Line A)) (IsAmong AreAmong : Type 0) (failure : Failure) → (AreAmong → IsAmong) → EndsRun lines IsAmong failure → EndsRun lines AreAmong failure
 ends_as lines IsAmong AreAmong failure f (inl h) = inl h
 ends_as lines IsAmong AreAmong failure f (inr (inl h)) = inr (inl h)
 ends_as lines IsAmong AreAmong failure f (inr (inr (inl h))) = inr (inr (inl h))
 ends_as lines IsAmong AreAmong failure f (inr (inr (inr h))) = inr (inr (inr (h.0, λ all. h.1 (f all))))
 
--- where all lines are for its nodes, it ends for none of them
+-- where all nodes named are among its own, it does not end for them
 pub ends_script : {A T : Type 0} (r : Result T Failure) (lines : List (Line A)) (AreAmong : Type 0) → AreAmong → IfErr r (EndsRun lines AreAmong) → IfErr r (EndsScript A)
 ends_script (Ok x) lines AreAmong all h = tt
 ends_script (Err failure) lines AreAmong all h = (lines, ends_as lines AreAmong ⊤ failure (λ u. all) h)
 
--- a new run keeps it
+-- what a new run keeps
 pub keeps_opening : {A : Type 0} (count : ℕ) (book : BookView A) (cells : List (CellView (One A) A)) (sent : List FrameRef) (under_way : List Parcel) → 1 ≤ count → IsOfBook count book.lines cells → book ≡ new_book → sent ≡ [] → under_way ≡ []
     → IsOfRun count book cells sent under_way
 keeps_opening {A} count book cells sent under_way some entered new none nobody = record {
@@ -110,6 +111,6 @@ module _ {A : Type 0} (count : ℕ) (book book' : BookView A) (cells : List (Cel
           some = k.some;
           entered = entered;
           none_reserved = none;
-          all_sent = all_front (IsSent book'.lines) sent' (sent ++ places_of number frames) s (all_append (IsSent book'.lines) sent (places_of number frames) sent_still places);
-          on_their_way = all_front (IsOnItsWay count book'.lines) under_way' (under_way ++ all_copies_of number frames node receivers) u (all_append (IsOnItsWay count book'.lines) under_way (all_copies_of number frames node receivers) on_their_way_still copies);
+          all_sent = each-front (IsSent book'.lines) sent' (sent ++ places_of number frames) s (each-append (IsSent book'.lines) sent (places_of number frames) sent_still places);
+          on_their_way = each-front (IsOnItsWay count book'.lines) under_way' (under_way ++ all_copies_of number frames node receivers) u (each-append (IsOnItsWay count book'.lines) under_way (all_copies_of number frames node receivers) on_their_way_still copies);
         }

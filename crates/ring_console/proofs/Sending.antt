@@ -6,6 +6,7 @@ use Rattle.std.specs.Option.{option_and_then}
 use Rattle.std.proofs.lemmas.Bool.{cases_lt}
 use Rattle.std.proofs.lemmas.List.{map-id, take-append-drop}
 use Rattle.std.proofs.lemmas.Option.{slice_get_cases, slice_get_within, get_or_from_slice_get}
+use Rattle.ring_base.proofs.Each.{each-weaker, each-append, each-get, each-placed, each-map}
 use Rattle.ring_base.specs.Elements.{elements_members}
 use Rattle.ring_base.specs.Fronts.{IsFront, front_self, front_trans, front_get, front_append}
 use Rattle.ring_base.specs.Members.{only_members}
@@ -22,42 +23,7 @@ use Rattle.ring_console.specs.declared.network.Turn.TheVariants.{Arrives, Lost}
 use Rattle.ring_console.specs.Network.{places_of, copies_of, all_copies_of, place_of, hears, next_turn}
 use Rattle.ring_console.specs.Running.{IsSent, IsOnItsWay, IsBrought}
 
--- ---- what holds of all of a list
-
-pub all_append : {X : Type 0} (P : X → Type 0) (xs ys : List X) → AllByRecursion P xs → AllByRecursion P ys → AllByRecursion P (xs ++ ys)
-all_append P [] ys h k = k
-all_append P (x ∷ xs) ys h k = (h.0, all_append P xs ys h.1 k)
-
--- and so of all of a front
-pub all_front : {X : Type 0} (P : X → Type 0) (xs ys : List X) → IsFront xs ys → AllByRecursion P ys → AllByRecursion P xs
-all_front P [] ys f h = tt
-all_front P (x ∷ xs) [] f h = absurd (cc (f.1))
-all_front P (x ∷ xs) (y ∷ ys) f h =
-    let same : y ≡ x = cc (f.1) in
-    (subst P same h.0, all_front P xs ys (f.0, cc (f.1)) h.1)
-
-pub all_get : {X : Type 0} (P : X → Type 0) (xs : List X) (i : ℕ) (x : X) → AllByRecursion P xs → slice_get xs i ≡ Some x → P x
-all_get P [] i x h is = absurd cc
-all_get P (y ∷ xs) zero x h is = let same : y ≡ x = cc in subst P same h.0
-all_get P (y ∷ xs) (suc i) x h is = all_get P xs i x h.1 is
-
-all_as : {X : Type 0} (P Q : X → Type 0) (xs : List X) → ((x : X) → P x → Q x) → AllByRecursion P xs → AllByRecursion Q xs
-all_as P Q [] f h = tt
-all_as P Q (x ∷ xs) f h = (f x h.0, all_as P Q xs f h.1)
-
-all_map : {X Y : Type 0} (P : Y → Type 0) (f : X → Y) (xs : List X) → AllByRecursion (λ x. P (f x)) xs → AllByRecursion P (map f xs)
-all_map P f [] h = tt
-all_map P f (x ∷ xs) h = (h.0, all_map P f xs h.1)
-
-all_inside : {X : Type 0} (P : X → Type 0) (xs : List X) → ((i : ℕ) (x : X) → slice_get xs i ≡ Some x → P x) → AllByRecursion P xs
-all_inside P [] f = tt
-all_inside P (x ∷ xs) f = (f zero x refl, all_inside P xs (λ i y h. f (suc i) y h))
-
 -- ---- lists that are made piece by piece
-
--- a list with nothing behind it
-pub front_same : {X : Type 0} (xs ys : List X) → xs ≡ ys → IsFront xs ys
-front_same xs ys e = subst (λ zs. IsFront xs zs) e (front_self xs)
 
 front_behind : {X : Type 0} (old xs ys : List X) → IsFront xs ys → IsFront (old ++ xs) (old ++ ys)
 front_behind old xs ys f = (f.0, append_assoc old xs f.0 ∙ ap (λ zs. old ++ zs) f.1)
@@ -123,10 +89,10 @@ module _ {A : Type 0} where
   sent_later lines more at h = sent_in lines more at (slice_get lines at.line) refl h
 
   pub all_sent_later : (lines more : List (Line A)) (sent : List FrameRef) → AllByRecursion (IsSent lines) sent → AllByRecursion (IsSent (lines ++ more)) sent
-  all_sent_later lines more sent h = all_as (IsSent lines) (IsSent (lines ++ more)) sent (sent_later lines more) h
+  all_sent_later lines more sent h = each-weaker (IsSent lines) (IsSent (lines ++ more)) (sent_later lines more) sent h
 
   pub all_on_their_way_later : (count : ℕ) (lines more : List (Line A)) (parcels : List Parcel) → AllByRecursion (IsOnItsWay count lines) parcels → AllByRecursion (IsOnItsWay count (lines ++ more)) parcels
-  all_on_their_way_later count lines more parcels h = all_as (IsOnItsWay count lines) (IsOnItsWay count (lines ++ more)) parcels (λ p w. (sent_later lines more p.frame w.0, w.1)) h
+  all_on_their_way_later count lines more parcels h = each-weaker (IsOnItsWay count lines) (IsOnItsWay count (lines ++ more)) (λ p w. (sent_later lines more p.frame w.0, w.1)) parcels h
 
   module _ (lines : List (Line A)) (step : StepView A) where
     -- each frame of a new line stands there
@@ -137,12 +103,12 @@ module _ {A : Type 0} where
     pub places_sent : (n : ℕ) → n ≤ length step.frames → AllByRecursion (IsSent (lines ++ record { number = length lines; step = step } ∷ [])) (places_of (length lines) n)
     places_sent zero within = tt
     places_sent (suc n) within =
-        all_append (IsSent (lines ++ record { number = length lines; step = step } ∷ [])) (places_of (length lines) n) (record { line = length lines; place = n } ∷ []) (places_sent n (omega (arith, within)))
+        each-append (IsSent (lines ++ record { number = length lines; step = step } ∷ [])) (places_of (length lines) n) (record { line = length lines; place = n } ∷ []) (places_sent n (omega (arith, within)))
         (new_sent n (omega (arith, within)), tt)
 
     module _ (count node : ℕ) (low : 1 ≤ node) (high : node ≤ count) where
       receivers_inside : AllByRecursion (λ (receiver : ℕ). receiver ≤ count) (elements (only node))
-      receivers_inside = all_inside (λ (receiver : ℕ). receiver ≤ count) (elements (only node)) (λ i receiver h.
+      receivers_inside = each-placed (λ (receiver : ℕ). receiver ≤ count) (elements (only node)) (λ i receiver h.
           let member = (elements_members (only node) receiver).0 (i, slice_get_within (elements (only node)) i receiver h, get_or_from_slice_get (elements (only node)) i receiver receiver h) in
           let is : receiver ≡ node = (only_members node receiver low).0 member.1 in
           omega (arith, is, high))
@@ -150,21 +116,21 @@ module _ {A : Type 0} where
       copies_on_their_way : (n : ℕ) → n < length step.frames
           → AllByRecursion (IsOnItsWay count (lines ++ record { number = length lines; step = step } ∷ [])) (copies_of (record { line = length lines; place = n }) node (only node))
       copies_on_their_way n within =
-          all_map (IsOnItsWay count (lines ++ record { number = length lines; step = step } ∷ [])) (λ (receiver : ℕ). record { frame = record { line = length lines; place = n }; sender = node; receiver = receiver }) (elements (only node))
-          (all_as (λ (receiver : ℕ). receiver ≤ count) (λ (receiver : ℕ). IsSent (lines ++ record { number = length lines; step = step } ∷ []) (record { line = length lines; place = n }) × (receiver ≤ count)) (elements (only node))
-          (λ receiver inside. (new_sent n within, inside)) receivers_inside)
+          each-map (IsOnItsWay count (lines ++ record { number = length lines; step = step } ∷ [])) (λ (receiver : ℕ). record { frame = record { line = length lines; place = n }; sender = node; receiver = receiver }) (elements (only node))
+          (each-weaker (λ (receiver : ℕ). receiver ≤ count) (λ (receiver : ℕ). IsSent (lines ++ record { number = length lines; step = step } ∷ []) (record { line = length lines; place = n }) × (receiver ≤ count))
+          (λ receiver inside. (new_sent n within, inside)) (elements (only node)) receivers_inside)
 
       pub all_copies_on_their_way : (n : ℕ) → n ≤ length step.frames
           → AllByRecursion (IsOnItsWay count (lines ++ record { number = length lines; step = step } ∷ [])) (all_copies_of (length lines) n node (only node))
       all_copies_on_their_way zero within = tt
       all_copies_on_their_way (suc n) within =
-          all_append (IsOnItsWay count (lines ++ record { number = length lines; step = step } ∷ [])) (all_copies_of (length lines) n node (only node)) (copies_of (record { line = length lines; place = n }) node (only node))
+          each-append (IsOnItsWay count (lines ++ record { number = length lines; step = step } ∷ [])) (all_copies_of (length lines) n node (only node)) (copies_of (record { line = length lines; place = n }) node (only node))
           (all_copies_on_their_way n (omega (arith, within))) (copies_on_their_way n (omega (arith, within)))
 
   -- the frame of a number stands in the book
   pub place_sent : (lines : List (Line A)) (sent : List FrameRef) (number : ℕ) (at : FrameRef) → AllByRecursion (IsSent lines) sent → place_of sent number ≡ Some at → IsSent lines at
   place_sent lines sent zero at h is = absurd cc
-  place_sent lines sent (suc n) at h is = all_get (IsSent lines) sent n at h is
+  place_sent lines sent (suc n) at h is = each-get (IsSent lines) sent n at h is
 
   brought : (count : ℕ) (lines : List (Line A)) (p : Parcel) (turn : Turn) (b : Bool) → IsOnItsWay count lines p → Some (if b then Arrives p else Lost) ≡ Some turn → IsBrought count lines turn
   brought count lines p turn true h is = let same : Arrives p ≡ turn = cc in subst (IsBrought count lines) same h

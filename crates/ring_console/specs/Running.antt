@@ -6,6 +6,7 @@ use Rattle.std.specs.Io.KnownBytes.{Appends}
 use Rattle.ring_base.specs.declared.fault.Fault.{Fault}
 use Rattle.ring_base.specs.declared.fault.Fault.TheVariants as fault
 use Rattle.ring_base.specs.Fault.{number_of}
+use Rattle.ring_base.specs.Fronts.{IsFront}
 use Rattle.ring_base.specs.Numbers.{max_number}
 use Rattle.ring_base.specs.Processors.{only}
 use Rattle.ring_payload.specs.declared.call.Call.{Call}
@@ -67,13 +68,13 @@ pub record Prints (old new : Option (List ℕ)) (Holds : List ℕ → Type 0) : 
 abbrev pub Grows : {A : Type 0} → List (Line A) → List (Line A) → Type 0
 Grows {A} old new = (more : List (Line A)) × (new ≡ old ++ more)
 
--- Why a run ends before its script does: its output fails, memory is refused, the book is full, or a node is named that it does not have.
+-- Why a run ends before its script does: its output fails, memory is refused, the book has its greatest length, or the nodes named are not all among its own.
 abbrev pub EndsRun : {A : Type 0} → List (Line A) → Type 0 → Failure → Type 0
-EndsRun lines IsAmongAll failure =
+EndsRun lines AreAmong failure =
     (failure ≡ failures.Output) ⊎ (failure ≡ failures.Refused fault.Memory) ⊎ ((failure ≡ failures.Refused fault.BookFull) × (length lines ≡ PLACES))
-    ⊎ ((failure ≡ failures.Refused fault.NotMember) × (IsAmongAll → ⊥))
+    ⊎ ((failure ≡ failures.Refused fault.NotMember) × (AreAmong → ⊥))
 
--- why the run of a script ends before it, whatever its book came to: never for a node that is not there
+-- why the run of a script ends before it, whatever its book came to: its nodes are among the run's
 abbrev pub EndsScript : Type 0 → Failure → Type 0
 EndsScript A failure = (lines : List (Line A)) × EndsRun lines ⊤ failure
 
@@ -91,6 +92,21 @@ pub record Then {A : Type 0} (P Q : RunView A → RunView A → List ℕ → Typ
   pub first : P old between before
   pub second : Q between new after
   pub text_is : text ≡ before ++ after
+
+-- All was done but for the sending of some of the frames, or their copies.
+pub record IsCutShort {A : Type 0} (whole new : RunView A) : Type 0 where
+  pub lines : new.lines ≡ whole.lines
+  pub groups : new.groups ≡ whole.groups
+  pub sent : IsFront new.sent whole.sent
+  pub under_way : IsFront new.under_way whole.under_way
+
+-- one thing breaks off: it changes and prints nothing, or all is done and printed but for the sending of some frames
+abbrev pub Breaks : {A : Type 0} → (RunView A → RunView A → List ℕ → Type 0) → RunView A → RunView A → List ℕ → Type 0
+Breaks {A} Does old new text = Rests old new text ⊎ ((whole : RunView A) × (Does old whole text × IsCutShort whole new))
+
+-- where it is not the output that failed
+abbrev pub UnlessOutput : Failure → Type 0 → Type 0
+UnlessOutput failure P = (failure ≡ failures.Output → ⊥) → P
 
 -- how many frames of a step are sent: no line has more than 65,535
 abbrev pub sent_of : {A : Type 0} → StepView A → ℕ
@@ -211,6 +227,32 @@ module _ {O A : Type 0} (reply : O → List ℕ → List ℕ) (next : O → List
   abbrev pub Runs : ℕ → List (Numbered A) → RunView A → RunView A → List ℕ → Type 0
   Runs count [] = Rests
   Runs count (l ∷ ls) = Then (Does count l.line) (Runs count ls)
+
+  -- a turn breaks off: the first copy under way is taken, and what its coming does breaks off
+  abbrev pub BreaksTurn : RunView A → RunView A → List ℕ → Type 0
+  BreaksTurn old new text = IsSomeAnd (next_turn old.groups old.under_way) (λ turn. Breaks (Comes turn) (record old { under_way = drop 1 old.under_way }) new text)
+
+  -- some turns are taken, and the next breaks off
+  abbrev pub BreaksPump : ℕ → RunView A → RunView A → List ℕ → Type 0
+  BreaksPump turns old new text = (taken : ℕ) × ((taken < turns) × Then (TurnsTimes taken) BreaksTurn old new text)
+
+  -- what a line of a script asks for breaks off: the others can't, while the output holds
+  abbrev pub BreaksLine : Request A → RunView A → RunView A → List ℕ → Type 0
+  BreaksLine (requests.Call node call) old new text = Breaks (Submits node call) old new text
+  BreaksLine (requests.Deliver node number) old new text = Breaks (DeliversNumber node number) old new text
+  BreaksLine (requests.Timeout node kind) old new text = Breaks (Steps node (inputs.Timeout kind) nowhere) old new text
+  BreaksLine (requests.Noise node bytes) old new text = Breaks (Steps node inputs.Noise nowhere) old new text
+  BreaksLine (requests.Stop node) old new text = Breaks (Steps node inputs.Stop nowhere) old new text
+  BreaksLine (requests.Pump turns) old new text = BreaksPump turns old new text
+  BreaksLine _ old new text = ⊥
+
+  -- A run of these lines breaks off: some are done, and the next breaks off.
+  pub record BreaksRun (count : ℕ) (lines : List (Numbered A)) (old new : RunView A) (text : List ℕ) : Type 0 where
+    pub done : List (Numbered A)
+    pub line : Numbered A
+    pub rest : List (Numbered A)
+    pub lines_are : lines ≡ done ++ line ∷ rest
+    pub broken : Then (Runs count done) (BreaksLine line.line) old new text
 
   -- the text is what a run of these lines prints, from its opening
   abbrev pub IsTextOf : ℕ → List (Numbered A) → List ℕ → Type 0

@@ -3,7 +3,8 @@
 ghost use Rattle.std.specs.Prelude.{◌≡◌, ◌≤◌, OnOk, IfOk, IfErr, ⊤};
 ghost use Rattle.ring_base.specs.declared.fault.Fault.TheVariants.{Memory};
 ghost use Rattle.ring_book.specs.Lines.{IsThere};
-ghost use Rattle.ring_console.specs.Running.{run_opening, order_length, sent_of, Prints, Grows, EndsRun, Submits, Acted, Steps, Delivers, DeliversNumber, Comes, Pumps, Shows, Does, Runs, IsSent, IsBrought};
+ghost use Rattle.ring_report.specs.declared.failure.Failure.TheVariants.{Output};
+ghost use Rattle.ring_console.specs.Running.{run_opening, order_length, sent_of, Prints, Grows, EndsRun, Submits, Acted, Steps, Delivers, DeliversNumber, Comes, Pumps, Shows, Does, Runs, IsSent, IsBrought, UnlessOutput, Breaks, BreaksPump, BreaksLine, BreaksRun};
 ghost use Rattle.ring_script.specs.Lines.{asked_by, IsAmong};
 ghost use Rattle.ring_script.specs.Scripts.{AreAmong};
 
@@ -72,11 +73,13 @@ impl<O: Object, K: BookName<O::Alloc>> Run<O, K> {
 
     /// Does what the lines ask for, in their order, and prints on `out` what comes of it. Otherwise `Output`, or
     /// `Refused`: with `BookFull` where the book has its greatest length, with `Memory` where it is refused to the
-    /// run itself, with `NotMember` where a line names no node of the run. What was done stays done.
+    /// run itself, with `NotMember` where a line names no node of the run. What was done before stays done, and printed
+    /// where the output holds; the event that breaks off does nothing, or all but the sending of some of its frames.
     pub fn take<W: Write>(&mut self, script: Script<O::Alloc>, out: &mut W) -> Result<(), Failure>
         ensures done { OnOk result (Prints (W.contents out.old) (W.contents out.new) (λ text. Runs O.reply O.next O.initial K.name.count script.lines.items self.old self.new text)) }
         ensures kept { Grows self.old.lines self.new.lines }
         ensures failed { IfErr result (EndsRun self.new.lines (AreAmong K.name.count script.lines.items)) }
+        ensures broken { IfErr result (λ failure. UnlessOutput failure (Prints (W.contents out.old) (W.contents out.new) (λ text. BreaksRun O.reply O.next O.initial K.name.count script.lines.items self.old self.new text))) }
     {
         for numbered in script.lines {
             self.take_line(numbered.line, out)?;
@@ -89,6 +92,7 @@ impl<O: Object, K: BookName<O::Alloc>> Run<O, K> {
         ensures done { OnOk result (Prints (W.contents out.old) (W.contents out.new) (λ text. Does O.reply O.next O.initial K.name.count line self.old self.new text)) }
         ensures kept { Grows self.old.lines self.new.lines }
         ensures failed { IfErr result (EndsRun self.new.lines (IsAmong K.name.count (asked_by line))) }
+        ensures broken { IfErr result (λ failure. UnlessOutput failure (Prints (W.contents out.old) (W.contents out.new) (λ text. BreaksLine O.reply O.next O.initial line self.old self.new text))) }
     {
         match line {
             Line::Call { node, call } => self.submit(node, call, out),
@@ -119,6 +123,7 @@ impl<O: Object, K: BookName<O::Alloc>> Run<O, K> {
         ensures done { OnOk result (Prints (W.contents out.old) (W.contents out.new) (λ text. DeliversNumber O.reply O.next O.initial node number self.old self.new text)) }
         ensures kept { Grows self.old.lines self.new.lines }
         ensures failed { IfErr result (EndsRun self.new.lines (node ≤ K.name.count)) }
+        ensures broken { IfErr result (λ failure. UnlessOutput failure (Prints (W.contents out.old) (W.contents out.new) (λ text. Breaks (DeliversNumber O.reply O.next O.initial node number) self.old self.new text))) }
     {
         let Some(number) = number else {
             return Ok(());
@@ -139,6 +144,7 @@ impl<O: Object, K: BookName<O::Alloc>> Run<O, K> {
         ensures done { OnOk result (Prints (W.contents out.old) (W.contents out.new) (λ text. Submits O.reply O.next O.initial node call self.old self.new text)) }
         ensures kept { Grows self.old.lines self.new.lines }
         ensures failed { IfErr result (EndsRun self.new.lines (node ≤ K.name.count)) }
+        ensures broken { IfErr result (λ failure. UnlessOutput failure (Prints (W.contents out.old) (W.contents out.new) (λ text. Breaks (Submits O.reply O.next O.initial node call) self.old self.new text))) }
     {
         let (client, number) = (call.client, call.number);
         let Some(cell) = self.cells.get_mut(node.number() as usize - 1) else {
@@ -165,6 +171,7 @@ impl<O: Object, K: BookName<O::Alloc>> Run<O, K> {
         ensures done { OnOk result (Prints (W.contents out.old) (W.contents out.new) (λ text. Delivers O.reply O.next O.initial node at self.old self.new text)) }
         ensures kept { Grows self.old.lines self.new.lines }
         ensures failed { IfErr result (EndsRun self.new.lines (node ≤ K.name.count)) }
+        ensures broken { IfErr result (λ failure. UnlessOutput failure (Prints (W.contents out.old) (W.contents out.new) (λ text. Breaks (Delivers O.reply O.next O.initial node at) self.old self.new text))) }
     {
         spelling_law::<O::Alloc>();
         one_spelling_law::<O::Alloc>();
@@ -189,6 +196,7 @@ impl<O: Object, K: BookName<O::Alloc>> Run<O, K> {
         ensures done { OnOk result (Prints (W.contents out.old) (W.contents out.new) (λ text. Steps O.reply O.next O.initial node input at self.old self.new text)) }
         ensures kept { Grows self.old.lines self.new.lines }
         ensures failed { IfErr result (EndsRun self.new.lines (node ≤ K.name.count)) }
+        ensures broken { IfErr result (λ failure. UnlessOutput failure (Prints (W.contents out.old) (W.contents out.new) (λ text. Breaks (Steps O.reply O.next O.initial node input at) self.old self.new text))) }
     {
         let Some(cell) = self.cells.get_mut(node.number() as usize - 1) else {
             return Err(Failure::Refused(Fault::NotMember));
@@ -198,13 +206,14 @@ impl<O: Object, K: BookName<O::Alloc>> Run<O, K> {
         if act(cell, input, at) {
             let line = self.book.enter(place, cell)?;
             print_answers(out, node, line.answers())?;
-            self.network.send(
+            let sent = self.network.send(
                 line.number(),
                 frames_of(line),
                 line.node(),
                 line.receivers(),
-            )?;
+            );
             self.book.node_law(cell);
+            sent?;
             Ok(())
         } else {
             self.book.release(place);
@@ -217,6 +226,7 @@ impl<O: Object, K: BookName<O::Alloc>> Run<O, K> {
         ensures done { OnOk result (Prints (W.contents out.old) (W.contents out.new) (λ text. Pumps O.reply O.next O.initial turns self.old self.new text)) }
         ensures kept { Grows self.old.lines self.new.lines }
         ensures failed { IfErr result (EndsRun self.new.lines ⊤) }
+        ensures broken { IfErr result (λ failure. UnlessOutput failure (Prints (W.contents out.old) (W.contents out.new) (λ text. BreaksPump O.reply O.next O.initial turns self.old self.new text))) }
     {
         for _ in 0..turns {
             let Some(turn) = self.network.turn() else {
@@ -233,6 +243,7 @@ impl<O: Object, K: BookName<O::Alloc>> Run<O, K> {
         ensures done { OnOk result (Prints (W.contents out.old) (W.contents out.new) (λ text. Comes O.reply O.next O.initial turn self.old self.new text)) }
         ensures kept { Grows self.old.lines self.new.lines }
         ensures failed { IfErr result (EndsRun self.new.lines ⊤) }
+        ensures broken { IfErr result (λ failure. UnlessOutput failure (Prints (W.contents out.old) (W.contents out.new) (λ text. Breaks (Comes O.reply O.next O.initial turn) self.old self.new text))) }
     {
         match turn {
             Turn::Arrives(parcel) => self.deliver(parcel.receiver, parcel.frame, out),
@@ -240,10 +251,10 @@ impl<O: Object, K: BookName<O::Alloc>> Run<O, K> {
         }
     }
 
-    /// Prints the state.
+    /// Prints the state. Otherwise `Output`.
     fn show<W: Write>(&self, out: &mut W) -> Result<(), Failure>
         ensures done { OnOk result (Prints (W.contents out.old) (W.contents out.new) (λ text. Shows O.reply O.next O.initial K.name.count self.now self.now text)) }
-        ensures failed { IfErr result (EndsRun self.now.lines ⊤) }
+        ensures failed { IfErr result (λ failure. failure ≡ Output) }
     {
         for (before, cell) in self.cells.iter().enumerate() {
             self.book.node_law(cell);

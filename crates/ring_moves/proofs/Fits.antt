@@ -38,18 +38,10 @@ use Rattle.ring_srp.specs.Deciding.{Act, Ignore, Enqueue, Repeat, Announce, Invi
 use Rattle.ring_srp.specs.Acting.{gives_old, act, may_follow, proposed_after}
 use Rattle.ring_srp.specs.Stepping.{ring_step, after_inputs}
 use Rattle.ring_moves.specs.Laws.{HasPassed}
+use Rattle.ring_base.proofs.Each.{each-weaker, each-append}
 use Rattle.ring_moves.proofs.Guards.{guarded}
 
 -- Lists of facts
-
--- what holds of each is kept by a weaker fact
-each-weaker : {X : Type 0} (P Q : X → Type 0) → ((x : X) → P x → Q x) → (xs : List X) → AllByRecursion P xs → AllByRecursion Q xs
-each-weaker P Q f [] h = tt
-each-weaker P Q f (x ∷ xs) h = (f x h.0, each-weaker P Q f xs h.1)
-
-each-append : {X : Type 0} (P : X → Type 0) (xs ys : List X) → AllByRecursion P xs → AllByRecursion P ys → AllByRecursion P (xs ++ ys)
-each-append P [] ys h k = k
-each-append P (x ∷ xs) ys h k = (h.0, each-append P xs ys h.1 k)
 
 -- with messages more, what was held is held, and no front is smaller
 holds-append : {A : Type 0} → (xs ys : List (Message A)) (r : RingId) (n : ℕ) → holds ys r n ≡ true → holds (xs ++ ys) r n ≡ true

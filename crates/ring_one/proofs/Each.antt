@@ -11,10 +11,6 @@ use Rattle.ring_one.specs.Tickets.{Asked, asked_calls}
 abbrev pub EachCall : {A : Type 0} → (Call A → Type 0) → List (Payload A) → Type 0
 EachCall P text = Each P (calls_in text)
 
-pub each-weaker : {X : Type 0} (P Q : X → Type 0) (xs : List X) → ((x : X) → P x → Q x) → Each P xs → Each Q xs
-each-weaker P Q [] f h = h
-each-weaker P Q (x ∷ xs) f h = (f x h.0, each-weaker P Q xs f h.1)
-
 module _ {A : Type 0} (P : Call A → Type 0) where
   pub call-append : (xs ys : List (Payload A)) → EachCall P xs → EachCall P ys → EachCall P (xs ++ ys)
   call-append [] ys h k = k

@@ -27,7 +27,8 @@ use Rattle.ring_one.specs.Tickets.{Asked, asked_calls}
 use Rattle.ring_one.specs.Machine.{One, committed_of, move_on, one_step, new_answers, is_stopped, is_operational, submit_fault}
 use Rattle.ring_one.specs.Runs.{World, frame_of, replies, issues, did, world_opening, moment_of, order_in, steps, delivers, happens, run_from, run}
 use Rattle.ring_one.proofs.Fronts.{take-front, log_of-front, log_of-unadopted}
-use Rattle.ring_one.proofs.Each.{EachCall, each-weaker, call-append, call-take, call-log, asked-append}
+use Rattle.ring_base.proofs.Each.{each-weaker}
+use Rattle.ring_one.proofs.Each.{EachCall, call-append, call-take, call-log, asked-append}
 use Rattle.ring_one.proofs.Moves.{IsRingOfOne, Goes, goes-on}
 use Rattle.ring_one.proofs.Answering.{told-after}
 
@@ -46,7 +47,7 @@ issued-more : {A : Type 0} (history more : List (Item A)) (c : Call A) → IsIss
 issued-more history more c h = (h.0, front_get history (history ++ more) h.0 (Issued c) (front_append history more) h.1)
 
 weaker : {A : Type 0} (history more : List (Item A)) (calls : List (Call A)) → Each (IsIssued history) calls → Each (IsIssued (history ++ more)) calls
-weaker history more calls h = each-weaker (IsIssued history) (IsIssued (history ++ more)) calls (λ c k. issued-more history more c k) h
+weaker history more calls h = each-weaker (IsIssued history) (IsIssued (history ++ more)) (λ c k. issued-more history more c k) calls h
 
 stands-issued : {A : Type 0} (history : List (Item A)) (calls : List (Call A)) (p : ℕ) (c : Call A) → Each (IsIssued history) calls → StandsAt calls p c → IsIssued history c
 stands-issued history [] p c h at = absurd (cc at)

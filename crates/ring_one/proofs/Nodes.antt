@@ -31,7 +31,7 @@ use Rattle.ring_one.specs.Numbers.{IsRing, ring_accepts, committed_length, logge
 use Rattle.ring_one.specs.Recent.{last_kept, kept_of, kept_answer}
 use Rattle.ring_one.specs.Waiting.{waiting_from, waiting_after, given_after, done_after}
 use Rattle.ring_one.specs.Kept.{committed_calls, IsNode}
-use Rattle.ring_one.proofs.Each.{each-weaker}
+use Rattle.ring_base.proofs.Each.{each-weaker}
 use Rattle.ring_one.proofs.Effects.{length-deduplicated, deduplicated_after-few, done_after-few}
 use Rattle.ring_one.proofs.Shapes.{length-messages_of, map-push, log_of-messages, committed_of-one_of, asked_calls-asked_of, asked_of-push, visited-one_of, take-more, waits-late}
 use Rattle.ring_one.proofs.Places.{Goes, goes-on}
@@ -172,7 +172,7 @@ length-committed r calls ring = omega (arith, length-take (committed_length r) c
 early-at : {A : Type 0} (r : Ring) (calls : List (Call A)) (ts : List (Asked A)) → IsRing r (length calls) → AllByRecursion (λ (t : Asked A). t.since ≤ committed_length r) ts → AllByRecursion (λ (t : Asked A). t.since ≤ length (committed_calls r calls)) ts
 early-at {A} r calls ts ring early =
     let same = length-committed r calls ring in
-    each-weaker (λ (t : Asked A). t.since ≤ committed_length r) (λ (t : Asked A). t.since ≤ length (committed_calls r calls)) ts (λ t le. omega (arith, le, same)) early
+    each-weaker (λ (t : Asked A). t.since ≤ committed_length r) (λ (t : Asked A). t.since ≤ length (committed_calls r calls)) (λ t le. omega (arith, le, same)) ts early
 
 -- where no call is committed anew, no answer comes
 pub nothing-new : {O A : Type 0} (reply : O → List ℕ → List ℕ) (next : O → List ℕ → O) (initial : O) (s new : One A) → committed_of new ≡ committed_of s → new_answers reply next initial s new ≡ []
@@ -245,7 +245,7 @@ module _ {O A : Type 0} {reply : O → List ℕ → List ℕ} {next : O → List
         after = record {
           ring = ring';
           counted = node.counted;
-          early = each-weaker (λ (t : Asked A). t.since ≤ committed_length r) (λ (t : Asked A). t.since ≤ committed_length r') tickets (λ t le. omega (arith, le, node.ring.marked)) node.early;
+          early = each-weaker (λ (t : Asked A). t.since ≤ committed_length r) (λ (t : Asked A). t.since ≤ committed_length r') (λ t le. omega (arith, le, node.ring.marked)) tickets node.early;
           waiting = is_waiting ∙ ap (waiting_after calls more) node.waiting ∙ goes.waiting ∙ ap (λ (w : List (Call A)). waiting_from w 0 tickets) whole;
           recent =
               ap (λ w. last_kept (w ++ map (kept_of {A = A}) answers)) node.recent

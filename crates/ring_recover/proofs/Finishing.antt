@@ -3,6 +3,7 @@ use Rattle.std.proofs.Common.{◌≡◌, ℕ, Bool, true, ◌&&◌, List, [], �
 use Rattle.std.specs.List.{list_all, AllByRecursion}
 use Rattle.std.proofs.lemmas.Bool.{cond_both, cond-true, cond-false, cases_Bool, and_parts, or_cases}
 use Rattle.std.specs.Prelude.{nat_lt}
+use Rattle.ring_base.proofs.Each.{each-append}
 use Rattle.ring_base.specs.Processors.{has, size, position_of}
 use Rattle.ring_base.specs.declared.ring_id.RingId.{RingId}
 use Rattle.ring_wire.specs.declared.commit.CommitToken.{CommitToken}
@@ -69,10 +70,6 @@ each_found ring a b same (n ∷ ns) h k =
 each-filter : {X : Type 0} (P : X → Type 0) (t : X → Bool) (xs : List X) → AllByRecursion P xs → AllByRecursion P (filter t xs)
 each-filter P t [] h = tt
 each-filter P t (x ∷ xs) h = cond_both (t x) (x ∷ filter t xs) (filter t xs) (λ (ys : List _). AllByRecursion P ys) (λ e. (h.0, each-filter P t xs h.1)) (λ e. each-filter P t xs h.1)
-
-each-append : {X : Type 0} (P : X → Type 0) (xs ys : List X) → AllByRecursion P xs → AllByRecursion P ys → AllByRecursion P (xs ++ ys)
-each-append P [] ys h k = k
-each-append P (x ∷ xs) ys h k = (h.0, each-append P xs ys h.1 k)
 
 -- so the same senders come from the old ring, and the same messages stand there
 mates_same : {A : Type 0} → (p : Plan) (a b : List (Message A)) (ns : List ℕ) → AllByRecursion (Both p.old a b) ns → filter (is_from_mate p a) ns ≡ filter (is_from_mate p b) ns

@@ -7,3 +7,4 @@ pub mod Pieces
 pub mod Readings
 pub mod Refusals
 pub mod Spelling
+pub mod Together

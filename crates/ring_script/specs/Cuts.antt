@@ -1,7 +1,7 @@
 -- The groups that a cut parts the nodes into: GROUP GROUP.. of a line `cut`.
-use Rattle.std.specs.Prelude.{ℕ, ◌+◌, Bool, true, nat_le, ◌&&◌, ◌==◌, if◌then◌else◌, List, [], ◌∷◌, length, replicate, Option, Some, None}
+use Rattle.std.specs.Prelude.{◌≡◌, ℕ, ◌+◌, Bool, true, nat_le, ◌&&◌, ◌==◌, if◌then◌else◌, List, [], ◌∷◌, length, replicate, Contains, Option, Some, None}
 use Rattle.ring_base.specs.Group.{Group}
-use Rattle.ring_base.specs.Processors.{most_processors, has, nobody, only, everybody, union, common}
+use Rattle.ring_base.specs.Processors.{IsMember, most_processors, has, nobody, only, everybody, union, common}
 use Rattle.ring_script.specs.Numbers.{node_of}
 use Rattle.ring_script.specs.Reading.{◌>>=◌}
 use Rattle.ring_script.specs.Words.{pieces}
@@ -16,6 +16,14 @@ gathered nodes set (number ∷ numbers) = do
 -- the set that the word tells: numbers of nodes, parted by single commas
 unfoldable pub group_of : Group → List ℕ → Option ℕ
 group_of nodes word = gathered nodes nobody (pieces 44 word)
+
+-- one of these is the number of the node
+abbrev pub HasNumber : Group → List (List ℕ) → ℕ → Type 0
+HasNumber nodes numbers node = (number : List ℕ) × Contains numbers number × (node_of nodes number ≡ Some node)
+
+-- the word has the number of the node, parted from others by single commas
+abbrev pub Names : Group → List ℕ → ℕ → Type 0
+Names nodes word node = HasNumber nodes (pieces 44 word) node
 
 -- the sets that the words tell
 unfoldable pub groups_of : Group → List (List ℕ) → Option (List ℕ)
@@ -38,6 +46,10 @@ are_apart (group ∷ groups) = (common group (together groups) == nobody) && are
 -- whether the groups are a cut: at least two of them, in which every node stands in exactly one
 abbrev pub is_cut : Group → List ℕ → Bool
 is_cut nodes groups = nat_le 2 (length groups) && are_apart groups && (together groups == everybody nodes.count)
+
+-- one of the groups has both nodes
+abbrev pub AreTogether : List ℕ → ℕ → ℕ → Type 0
+AreTogether groups a b = (group : ℕ) × Contains groups group × IsMember group a × IsMember group b
 
 -- the groups of the processors from i on, with this one as the group of each of its members
 unfoldable pub placed_from : ℕ → ℕ → List ℕ → List ℕ

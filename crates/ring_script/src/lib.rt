@@ -4,6 +4,7 @@
 
 mod examples;
 mod groups;
+mod laws;
 mod line;
 mod lines;
 mod operation;
@@ -12,5 +13,6 @@ mod words;
 
 pub use examples::script_example;
 pub use groups::Groups;
+pub use laws::cut_law;
 pub use line::Line;
 pub use scripts::{Numbered, Rings, Script, ScriptFault};

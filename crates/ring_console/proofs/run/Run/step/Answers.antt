@@ -3,13 +3,14 @@ use Rattle.std.proofs.lemmas.Option.{slice_get_read}
 use Rattle.std.proofs.KnownBytes.{Appends-nil}
 use Rattle.ring_book.specs.declared.input.LineInput.TheVariants.{Came}
 use Rattle.ring_book.specs.Lines.{IsThere}
-use Rattle.ring_console.specs.Running.{RunView, EndsRun}
+use Rattle.ring_console.specs.Running.{RunView, EndsRun, Enters, after_step}
 use Rattle.ring_console.specs.Printed.{answers_text}
 use Rattle.ring_one.specs.declared.outs.Answered.{Answered}
 use Rattle.ring_book.specs.declared.line.Line.{Line}
 use Rattle.std.specs.Io.KnownBytes.{Appends}
-use Rattle.ring_console.proofs.Entered.{gives_ok, is_entered, after_entered, again, new_is, enters_line, keeps_entered, node_is, acted_so, is_stopped_after, found_done, lent_line, after_is}
+use Rattle.ring_console.proofs.Entered.{gives_ok, is_entered, after_entered, again, new_is, enters_line, keeps_entered, node_is, acted_so, is_stopped_after, found_done, lent_line, after_is, cut_short}
 use Rattle.ring_book.specs.Seen.{BookView}
+use Rattle.ring_console.proofs.Printing.{if_err}
 use Rattle.ring_console.proofs.Kept.{place_fault, keeps_rest, keeps_more, keeps_sent}
 use Rattle.ring_report.specs.declared.failure.Failure.TheVariants.{Refused}
 use Rattle.ring_console.proofs.run.Run.step.Goals as goal
@@ -61,8 +62,8 @@ invariant_of-self-in_err-print_answers g c =
     (new_is g.O.Object.reply g.O.Object.next g.O.Object.initial lines i c.in-Some.cell.now c.act.new.cell c.reserve.new.self (Came acted.0 c.args.at) here c.reserve.ensures.lines acted.1.1
     c.enter.follows.lender-at-none c.enter.new.cell entered)
 
-pub invariant_of-self-in_err-send : goal.invariant_of-self-in_err-send
-invariant_of-self-in_err-send g c =
+pub invariant_of-self-in_err-sent : goal.invariant_of-self-in_err-sent
+invariant_of-self-in_err-sent g c =
     let cells = c.self.inside.cells.items in
     let lines = c.self.inside.book.lines in
     let i = c.number.result - 1 in
@@ -82,7 +83,7 @@ invariant_of-self-in_err-send g c =
     keeps_sent _ _ _ cells _ _ c.self.invariant none _ (keeps_entered g.O.Object.reply g.O.Object.next g.O.Object.initial lines i c.in-Some.cell.now c.act.new.cell c.reserve.new.self (Came acted.0 c.args.at) here c.reserve.ensures.lines acted.1.1
     c.enter.follows.lender-at-none c.enter.new.cell entered _ cells c.self.invariant.entered at) entered.step
     entered_line _ _ c.in_ok-line.line.now c.number-then-act.result c.frames_of.result c.node.result c.receivers.result
-    lent c.number-then-act.ensures c.frames_of.ensures c.node.ensures c.receivers.ensures (omega (arith, node)) (omega (arith, node, within, c.self.invariant.entered.counted)) c.send.ensures.sent_so_far c.send.ensures.under_way_so_far
+    lent c.number-then-act.ensures c.frames_of.ensures c.node.ensures c.receivers.ensures (omega (arith, node)) (omega (arith, node, within, c.self.invariant.entered.counted)) c.send-sent.ensures.sent_so_far c.send-sent.ensures.under_way_so_far
 
 pub invariant_of-self-then-act : goal.invariant_of-self-then-act
 invariant_of-self-then-act g c =
@@ -105,7 +106,7 @@ invariant_of-self-then-act g c =
     keeps_sent _ _ _ cells _ _ c.self.invariant none _ (keeps_entered g.O.Object.reply g.O.Object.next g.O.Object.initial lines i c.in-Some.cell.now c.act.new.cell c.reserve.new.self (Came acted.0 c.args.at) here c.reserve.ensures.lines acted.1.1
     c.enter.follows.lender-at-none c.enter.new.cell entered _ cells c.self.invariant.entered at) entered.step
     entered_line _ _ c.in_ok-line.line.now c.number-then-act.result c.frames_of.result c.node.result c.receivers.result
-    lent c.number-then-act.ensures c.frames_of.ensures c.node.ensures c.receivers.ensures (omega (arith, node)) (omega (arith, node, within, c.self.invariant.entered.counted)) c.send.ensures.sent_so_far c.send.ensures.under_way_so_far
+    lent c.number-then-act.ensures c.frames_of.ensures c.node.ensures c.receivers.ensures (omega (arith, node)) (omega (arith, node, within, c.self.invariant.entered.counted)) c.send-sent.ensures.sent_so_far c.send-sent.ensures.under_way_so_far
 
 pub returns-in_err-print_answers-clause-kept : goal.returns-in_err-print_answers-clause-kept
 returns-in_err-print_answers-clause-kept g c =
@@ -124,8 +125,8 @@ returns-in_err-print_answers-clause-kept g c =
           c.enter.follows.lender-at-none c.enter.new.cell entered,
     )
 
-pub returns-in_err-send-clause-kept : goal.returns-in_err-send-clause-kept
-returns-in_err-send-clause-kept g c =
+pub returns-in_err-sent-clause-kept : goal.returns-in_err-sent-clause-kept
+returns-in_err-sent-clause-kept g c =
     let cells = c.self.inside.cells.items in
     let lines = c.self.inside.book.lines in
     let i = c.number.result - 1 in
@@ -141,8 +142,8 @@ returns-in_err-send-clause-kept g c =
           c.enter.follows.lender-at-none c.enter.new.cell entered,
     )
 
-pub returns-in_ok-send-clause-kept : goal.returns-in_ok-send-clause-kept
-returns-in_ok-send-clause-kept g c =
+pub returns-in_ok-sent-clause-kept : goal.returns-in_ok-sent-clause-kept
+returns-in_ok-sent-clause-kept g c =
     let cells = c.self.inside.cells.items in
     let lines = c.self.inside.book.lines in
     let i = c.number.result - 1 in
@@ -188,8 +189,8 @@ returns-else-act-clause-done g c =
       holds = inr (stopped, (ap (λ ls. record old { lines = ls }) (c.release.ensures.lines ∙ c.reserve.ensures.lines), refl));
     }
 
-pub returns-in_ok-send-clause-done : goal.returns-in_ok-send-clause-done
-returns-in_ok-send-clause-done g c =
+pub returns-in_ok-sent-clause-done : goal.returns-in_ok-sent-clause-done
+returns-in_ok-sent-clause-done g c =
     let cells = c.self.inside.cells.items in
     let lines = c.self.inside.book.lines in
     let i = c.number.result - 1 in
@@ -207,10 +208,10 @@ returns-in_ok-send-clause-done g c =
     let enters = enters_line g.O.Object.reply g.O.Object.next g.O.Object.initial lines i c.in-Some.cell.now c.act.new.cell c.reserve.new.self (Came acted.0 c.args.at) here c.reserve.ensures.lines acted.1.1
     c.enter.follows.lender-at-none c.enter.new.cell entered c.args.node is before after in
     let lent = lent_line lines c.enter.follows.lender-at-none.lines (record { number = length lines; step = entered.step }) c.in_ok-line.line.now enters.lines gave.1 in
-    let done = after_is old entered.step c.in_ok-line.line.now c.enter.follows.lender-at-none.lines c.send.new.self.sent.items c.send.new.self.under_way.items c.send.new.self.groups
+    let done = after_is old entered.step c.in_ok-line.line.now c.enter.follows.lender-at-none.lines c.send-sent.new.self.sent.items c.send-sent.new.self.under_way.items c.send-sent.new.self.groups
     c.number-then-act.result c.frames_of.result c.node.result c.receivers.result
     lent enters.lines c.number-then-act.ensures c.frames_of.ensures c.node.ensures c.receivers.ensures
-    c.in_ok-send.ensures.sent c.in_ok-send.ensures.under_way c.send.ensures.groups in
+    c.in_ok-sent.ensures.sent c.in_ok-sent.ensures.under_way c.send-sent.ensures.groups in
     let answers = c.answers.ensures ∙ ap (λ (l : Line g.row.O-Alloc.Denot). l.step.answers) lent in
     let Told : List (Answered g.row.O-Alloc.Denot) → Type 0 = λ xs. Appends (g.W.Write.contents c.args.out.now) (g.W.Write.contents c.print_answers.new.out) (answers_text c.args.node xs) in
     rw (← c.self.view_is) record {
@@ -232,3 +233,43 @@ invariant_of-self-in_err-place g c =
     let within : i < length cells = omega (arith, c.in-Some.ensures.variant.0 refl, c.self.inside.cells.ok.0) in
     let at : slice_get cells i ≡ Some c.in-Some.cell.now = slice_get_read cells (length cells) i c.in-Some.cell.now refl within c.in-Some.ensures.value in
     keeps_rest _ _ _ cells _ _ c.self.invariant (ap (λ (b : BookView g.row.O-Alloc.Denot). b.reserved) c.in_err-place.ensures.err.0 ∙ c.self.invariant.none_reserved) i c.in-Some.cell.now _ at refl c.reserve.ensures.lines
+
+pub returns-in_default-clause-broken : goal.returns-in_default-clause-broken
+returns-in_default-clause-broken g c = rw (← c.self.view_is) (λ unless. record { text = []; appended = Appends-nil _; holds = inl (refl, refl) })
+
+pub returns-in_err-place-clause-broken : goal.returns-in_err-place-clause-broken
+returns-in_err-place-clause-broken g c =
+    let old : RunView g.row.O-Alloc.Denot = record { lines = c.self.inside.book.lines; sent = c.self.inside.network.sent.items; under_way = c.self.inside.network.under_way.items; groups = c.self.inside.network.groups } in
+    if_err c.from_residual.result _ (rw (← c.self.view_is) (λ failure unless. record { text = []; appended = Appends-nil _; holds = inl (ap (λ ls. record old { lines = ls }) c.reserve.ensures.lines, refl) }))
+
+pub returns-in_err-sent-clause-broken : goal.returns-in_err-sent-clause-broken
+returns-in_err-sent-clause-broken g c =
+    let cells = c.self.inside.cells.items in
+    let lines = c.self.inside.book.lines in
+    let i = c.number.result - 1 in
+    let within : i < length cells = omega (arith, c.in-Some.ensures.variant.0 refl, c.self.inside.cells.ok.0) in
+    let at : slice_get cells i ≡ Some c.in-Some.cell.now = slice_get_read cells (length cells) i c.in-Some.cell.now refl within c.in-Some.ensures.value in
+    let here = c.self.invariant.entered.each i c.in-Some.cell.now at in
+    let acted = acted_so g.O.Object.reply g.O.Object.next g.O.Object.initial c.in-Some.cell.now c.act.new.cell c.args.input c.args.at c.act.result true c.act.ensures c.if-act.true in
+    let is : c.args.node ≡ suc i = omega (arith, c.number.ensures.value, c.number.ensures.in_range) in
+    let gave = gives_ok c.reserve.new.self c.enter.follows.lender-at-none c.act.new.cell c.enter.new.cell c.enter.result _ c.enter.follows.holds-at-none c.in_ok-line.was in
+    let entered = gave.0 in
+    let old : RunView g.row.O-Alloc.Denot = record { lines = lines; sent = c.self.inside.network.sent.items; under_way = c.self.inside.network.under_way.items; groups = c.self.inside.network.groups } in
+    let before = after_entered g.O.Object.reply g.O.Object.next g.O.Object.initial lines i c.in-Some.cell.now here c.node_law.ensures in
+    let after = after_entered g.O.Object.reply g.O.Object.next g.O.Object.initial c.enter.follows.lender-at-none.lines i c.enter.new.cell (again g.O.Object.reply g.O.Object.next g.O.Object.initial lines i c.in-Some.cell.now c.act.new.cell c.reserve.new.self (Came acted.0 c.args.at) here c.reserve.ensures.lines acted.1.1
+    c.enter.follows.lender-at-none c.enter.new.cell entered) c.node_law-then-act.ensures in
+    let enters = enters_line g.O.Object.reply g.O.Object.next g.O.Object.initial lines i c.in-Some.cell.now c.act.new.cell c.reserve.new.self (Came acted.0 c.args.at) here c.reserve.ensures.lines acted.1.1
+    c.enter.follows.lender-at-none c.enter.new.cell entered c.args.node is before after in
+    let lent = lent_line lines c.enter.follows.lender-at-none.lines (record { number = length lines; step = entered.step }) c.in_ok-line.line.now enters.lines gave.1 in
+    let short = cut_short old entered.step c.in_ok-line.line.now c.enter.follows.lender-at-none.lines c.send-sent.new.self.sent.items c.send-sent.new.self.under_way.items c.send-sent.new.self.groups
+    c.number-then-act.result c.frames_of.result c.node.result c.receivers.result
+    lent enters.lines c.number-then-act.ensures c.frames_of.ensures c.node.ensures c.receivers.ensures
+    c.send-sent.ensures.sent_so_far c.send-sent.ensures.under_way_so_far c.send-sent.ensures.groups in
+    let answers = c.answers.ensures ∙ ap (λ (l : Line g.row.O-Alloc.Denot). l.step.answers) lent in
+    let Told : List (Answered g.row.O-Alloc.Denot) → Type 0 = λ xs. Appends (g.W.Write.contents c.args.out.now) (g.W.Write.contents c.print_answers.new.out) (answers_text c.args.node xs) in
+    let all = subst (λ (ls : List (Line g.row.O-Alloc.Denot)). Enters g.O.Object.reply g.O.Object.next g.O.Object.initial lines c.args.node (Came acted.0 c.args.at) entered.step ls) enters.lines enters in
+    if_err c.from_residual-in_err-sent.result _ (rw (← c.self.view_is) (λ failure unless. record {
+      text = answers_text c.args.node entered.step.answers;
+      appended = subst Told answers c.in_ok-print_answers.ensures.lines;
+      holds = inr (after_step old entered.step, (inl record { step = entered.step; done = acted.0; done_is = acted.1.0; enters = all; new_is = refl; text_is = refl }, short));
+    }))

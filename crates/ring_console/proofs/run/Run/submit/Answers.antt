@@ -5,7 +5,7 @@ use Rattle.ring_book.specs.declared.input.LineInput.TheVariants.{Called}
 use Rattle.ring_console.proofs.Entered.{gives_ok, is_entered, after_entered, again, new_is, enters_line, keeps_entered, same_reason}
 use Rattle.ring_console.proofs.Kept.{place_fault, keeps_rest, keeps_more}
 use Rattle.ring_book.specs.Seen.{BookView}
-use Rattle.ring_console.proofs.Printing.{printed}
+use Rattle.ring_console.proofs.Printing.{printed, if_err}
 use Rattle.ring_console.specs.Running.{RunView, EndsRun, Submits}
 use Rattle.ring_report.specs.declared.failure.Failure.TheVariants.{Refused}
 use Rattle.ring_console.proofs.run.Run.submit.Goals as goal
@@ -124,3 +124,11 @@ returns-in_err-place-clause-failed g c =
     let ends : EndsRun c.reserve.new.self.lines (c.args.node ≤ g.K.BookName.name.count) (Refused c.in_err-place.field-0.0) =
     place_fault c.self.inside.book c.reserve.new.self _ c.in_err-place.field-0.0 c.reserve.result c.in_err-place.was c.self.invariant.none_reserved c.in_err-place.ensures.err.0 c.in_err-place.ensures.err.1 c.reserve.ensures.full in
     search rules
+
+pub returns-in_default-clause-broken : goal.returns-in_default-clause-broken
+returns-in_default-clause-broken g c = rw (← c.self.view_is) (λ unless. record { text = []; appended = Appends-nil _; holds = inl (refl, refl) })
+
+pub returns-in_err-place-clause-broken : goal.returns-in_err-place-clause-broken
+returns-in_err-place-clause-broken g c =
+    let old : RunView g.row.O-Alloc.Denot = record { lines = c.self.inside.book.lines; sent = c.self.inside.network.sent.items; under_way = c.self.inside.network.under_way.items; groups = c.self.inside.network.groups } in
+    if_err c.from_residual.result _ (rw (← c.self.view_is) (λ failure unless. record { text = []; appended = Appends-nil _; holds = inl (ap (λ ls. record old { lines = ls }) c.reserve.ensures.lines, refl) }))
