@@ -14,6 +14,32 @@ pub enum Task<'a> {
     Script { file: &'a str },
 }
 
+/// What `totem --help` ends with.
+const TOTEM_HELP: &str = "\
+Exit status:
+  0  all went well
+  1  `totem: NUMBER TEXT` on standard error says why; nothing is there where the output failed
+  2  a bad command line, or a call for help
+
+Example:
+  totem script first_reply.script";
+
+/// What `totem script --help` ends with.
+const SCRIPT_HELP: &str = "\
+Today a script has one node, and `join` is its one timeout. A script at fault is refused before
+anything runs, by its line; line 0 is a file that can't be read or is too long.
+
+Example:
+  totem script first_reply.script";
+
+/// What `totem frames --help` ends with.
+const FRAMES_HELP: &str = "\
+Where the rest of the file doesn't begin with a frame the listing ends, and tells the byte, counted
+from 0; byte 0 is also a file that can't be read.
+
+Example:
+  totem frames sent.frames";
+
 /// What the words ask for, the program's own name being the first. Otherwise what the parser says of them;
 /// it speaks up too where it was asked for help.
 pub fn task_of<'a>(alloc: Global, words: &'a io::Result<Vec<String>>) -> Result<Task<'a>, Error> {
@@ -40,16 +66,17 @@ pub fn task_of<'a>(alloc: Global, words: &'a io::Result<Vec<String>>) -> Result<
 fn command_of<'a>(alloc: Global) -> Result<Command<'a>, AllocError> {
     let script = Command::new(alloc, "script")
         .about("Runs a script, and prints what comes of its events")
-        .after_help("Example:\n  totem script first_reply.script")
+        .after_help(SCRIPT_HELP)
         .arg(file_of(alloc, "The script"))?;
     let frames = Command::new(alloc, "frames")
         .about("Lists the frames of a file, a line each")
-        .after_help("Example:\n  totem frames sent.frames")
+        .after_help(FRAMES_HELP)
         .arg(file_of(alloc, "The file of frames, one behind another"))?;
     Command::new(alloc, "totem")
         .bin_name("totem")?
+        .version("0.1.0")
         .about("Replicated objects on a token ring")
-        .after_help("Example:\n  totem script first_reply.script")
+        .after_help(TOTEM_HELP)
         .subcommand_required(true)
         .subcommand(script)?
         .subcommand(frames)
