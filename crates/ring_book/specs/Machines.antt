@@ -34,10 +34,10 @@ pub record Machine (S A : Type 0) : Type 0 where
 
 -- the node of a ring of one
 abbrev pub one_machine : {O A : Type 0} → (O → List ℕ → List ℕ) → (O → List ℕ → O) → O → Machine (One A) A
-one_machine reply next initial = record {
+one_machine object = record {
   opening = λ me. one_opening;
   is_stopped = λ s. is_stopped s.state;
-  step = λ s input. (let did = one_step reply next initial s input in record { new = did.new; frames = did.frames; answers = did.answers });
+  step = λ s input. (let did = one_step object s input in record { new = did.new; frames = did.frames; answers = did.answers });
   refusal = submit_fault;
   submitted = submitted;
   tickets = λ s. length s.tickets;

@@ -2,6 +2,7 @@
 use Rattle.std.proofs.Common.{◌≡◌, ℕ, suc, ◌+◌, ◌≤◌, Bool, true, false, List, [], ◌∷◌, ◌++◌, length, drop, ap, sym, ◌∙◌, arith, append_assoc, length-append, if◌then◌else◌}
 use Rattle.std.proofs.lemmas.List.{append-nil}
 use Rattle.std.proofs.lemmas.List.Sums.{fold-append}
+use Rattle.ring_object.specs.Operations.{Sequential}
 use Rattle.ring_payload.specs.declared.call.Call.{Call}
 use Rattle.ring_session.specs.Deduplicated.{takes_effect, deduplicated_after, deduplicated}
 use Rattle.ring_session.specs.DeduplicatedLaws.{deduplicated-push}
@@ -17,16 +18,16 @@ length-push_if xs x true = length-append xs (x ∷ [])
 length-push_if xs x false = length-append xs []
 
 -- the calls that are told that they take effect are those by which the order grows
-pub length-deduplicated : {O A : Type 0} (reply : O → List ℕ → List ℕ) (next : O → List ℕ → O) (initial : O) (before more : List (Call A))
-    → length (deduplicated before) + done_after reply next (table_after reply next initial before) more ≡ length (deduplicated (before ++ more))
-length-deduplicated reply next initial before [] = omega (arith, ap (λ w. length (deduplicated w)) (append-nil before))
-length-deduplicated {O} {A} reply next initial before (c ∷ more) =
-    let table : Table O = table_after reply next initial before in
-    let after : table_next reply next table c ≡ table_after reply next initial (before ++ c ∷ []) = sym (fold-append (table_next reply next) (opening initial) before (c ∷ [])) in
+pub length-deduplicated : {O A : Type 0} (object : Sequential O) (before more : List (Call A))
+    → length (deduplicated before) + done_after reply next (table_after object before) more ≡ length (deduplicated (before ++ more))
+length-deduplicated object before [] = omega (arith, ap (λ w. length (deduplicated w)) (append-nil before))
+length-deduplicated {O} {A} object before (c ∷ more) =
+    let table : Table O = table_after object before in
+    let after : table_next reply next table c ≡ table_after object (before ++ c ∷ []) = sym (fold-append (table_next reply next) (opening initial) before (c ∷ [])) in
     let one : length (deduplicated (before ++ c ∷ [])) ≡ length (deduplicated before) + (if is_done (table_answer reply table c) then 1 else 0) =
     ap length (deduplicated-push before c) ∙ length-push_if (deduplicated before) c (takes_effect (deduplicated before) c)
-    ∙ ap (λ b. length (deduplicated before) + (if b then 1 else 0)) (sym (table_effect reply next initial before c)) in
-    let rest = length-deduplicated reply next initial (before ++ c ∷ []) more in
+    ∙ ap (λ b. length (deduplicated before) + (if b then 1 else 0)) (sym (table_effect object before c)) in
+    let rest = length-deduplicated object (before ++ c ∷ []) more in
     let same = ap (λ (t : Table O). done_after reply next t more) after in
     let whole = ap (λ (w : List (Call A)). length (deduplicated w)) (append_assoc before (c ∷ []) more) in
     omega (arith, one, rest, same, whole)

@@ -9,8 +9,8 @@ use Rattle.ring_one.proofs.waiting.answer_calls.Goals.{then-is_done, else-is_don
 
 pub loop-call-preserved : goal.loop-call-preserved
 loop-call-preserved g c =
-    let reply = g.O.Object.reply in
-    let next = g.O.Object.next in
+    let reply = g.O.Object.sequential.reply in
+    let next = g.O.Object.sequential.next in
     let calls = c.args.calls.now in
     let more = c.args.committed.now in
     let i : ℕ = c.loop-call.call-index in
