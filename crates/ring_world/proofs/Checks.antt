@@ -74,17 +74,17 @@ right_at-none places at k r is = (λ so. absurd (cc so), λ right. absurd (cc (i
 
 -- ---- the object's run over the order
 
-content-next : {O A : Type 0} (next : O → List ℕ → O) (o : O) (order : List (Call A)) (n : ℕ) (c : Call A) → StandsAt order n c
-    → content_after object o (take (suc n) (operations order)) ≡ next (content_after object o (take n (operations order))) c.op
-content-next next o [] n c at = absurd (cc at)
-content-next {O} {A} next o (d ∷ ds) zero c at = let is : d ≡ c = cc at in ap (λ (w : Call A). next o w.op) is
-content-next next o (d ∷ ds) (suc n) c at = content-next next (next o d.op) ds n c at
+content-next : {O A : Type 0} (object : Sequential O) (o : O) (order : List (Call A)) (n : ℕ) (c : Call A) → StandsAt order n c
+    → content_after object o (take (suc n) (operations order)) ≡ object.next (content_after object o (take n (operations order))) c.op
+content-next object o [] n c at = absurd (cc at)
+content-next {O} {A} object o (d ∷ ds) zero c at = let is : d ≡ c = cc at in ap (λ (w : Call A). object.next o w.op) is
+content-next object o (d ∷ ds) (suc n) c at = content-next object (object.next o d.op) ds n c at
 
 -- the content after one more call
-pub content-step : {O A : Type 0} (next : O → List ℕ → O) (initial o more : O) (order : List (Call A)) (n : ℕ) (c : Call A) → StandsAt order n c
-    → o ≡ content_after object object.initial (take n (operations order)) → more ≡ next o c.op → more ≡ content_after object object.initial (take (n + 1) (operations order))
-content-step next initial o more order n c at is done =
-    done ∙ ap (λ w. next w c.op) is ∙ sym (content-next next initial order n c at) ∙ ap (λ m. content_after object object.initial (take m (operations order))) (sym (add-one n))
+pub content-step : {O A : Type 0} (object : Sequential O) (o more : O) (order : List (Call A)) (n : ℕ) (c : Call A) → StandsAt order n c
+    → o ≡ content_after object object.initial (take n (operations order)) → more ≡ object.next o c.op → more ≡ content_after object object.initial (take (n + 1) (operations order))
+content-step object o more order n c at is done =
+    done ∙ ap (λ w. object.next w c.op) is ∙ sym (content-next object object.initial order n c at) ∙ ap (λ m. content_after object object.initial (take m (operations order))) (sym (add-one n))
 
 operation-at : {A : Type 0} (order : List (Call A)) (n : ℕ) (c : Call A) → StandsAt order n c → slice_index_or (operations order) n [] ≡ c.op
 operation-at [] n c at = absurd (cc at)
@@ -101,7 +101,7 @@ place-is place issued reply first told =
 module _ {O A : Type 0} (object : Sequential O) where
   -- one more place
   pub places-push : (order : List (Call A)) (history : List (Item A)) (n : ℕ) (places : List Place) (o : O) (c : Call A) (place : Place) → ArePlaces object order history n places → StandsAt order n c
-      → o ≡ content_after object object.initial (take n (operations order)) → place.issued ≡ first_issue history c → place.reply ≡ reply o c.op
+      → o ≡ content_after object object.initial (take n (operations order)) → place.issued ≡ first_issue history c → place.reply ≡ object.reply o c.op
       → ArePlaces object order history (n + 1) (places ++ place ∷ [])
   places-push order history n places o c place are at is issued replied = record {
     many = length-append places (place ∷ []) ∙ ap (λ m. m + 1) are.many;
@@ -112,7 +112,7 @@ module _ {O A : Type 0} (object : Sequential O) where
           let one : Some c ≡ Some d = sym at ∙ ap (slice_get order) same ∙ there in
           let call : c ≡ d = cc one in
           let told : place.reply ≡ call_reply object order n =
-          replied ∙ ap (λ w. reply w c.op) is ∙ ap (object.reply (content_after object object.initial (take n (operations order)))) (sym (operation-at order n c at)) in
+          replied ∙ ap (λ w. object.reply w c.op) is ∙ ap (object.reply (content_after object object.initial (take n (operations order)))) (sym (operation-at order n c at)) in
           let kept : place.reply ≡ call_reply object order q = told ∙ ap (call_reply object order) same in
           let first : place.issued ≡ first_issue history d = issued ∙ ap (first_issue history) call in
           let count : length places ≡ q = are.many ∙ same in
