@@ -51,5 +51,5 @@ committed_after lines = committed_from 0 lines
 
 -- The session table and the order are those after these calls.
 pub record IsOrdered {A : Type 0} (calls : List (Call A)) (table : Table Content) (order : List (Call A)) : Type 0 where
-  pub table_is : table ≡ table_after reply next tt calls
+  pub table_is : table ≡ table_after object tt calls
   pub order_is : order ≡ deduplicated calls

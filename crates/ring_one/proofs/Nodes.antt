@@ -181,7 +181,7 @@ nothing-new object s new same =
     ap (λ w. answers_after object new.tickets (committed_of s) (drop (length (committed_of s)) w)) same
     ∙ ap (λ w. answers_after object new.tickets (committed_of s) w) (ap (drop (length (committed_of s))) (sym (append-nil (committed_of s))) ∙ drop-append_seam (committed_of s) [])
 
-module _ {O A : Type 0} {reply : O → List ℕ → List ℕ} {next : O → List ℕ → O} {initial : O} {r : Ring} {calls : List (Call A)} {sinces waiting : List ℕ} {recent : List Kept} {table : Table O} {effects : ℕ} (node : IsNode object r calls sinces waiting recent table effects) where
+module _ {O A : Type 0} {object : Sequential O} {r : Ring} {calls : List (Call A)} {sinces waiting : List ℕ} {recent : List Kept} {table : Table O} {effects : ℕ} (node : IsNode object r calls sinces waiting recent table effects) where
   -- another state before the installation
   pub node-state : (state : State) → is_operational r.state ≡ false → is_stopped r.state ≡ false → is_operational state ≡ false → IsNode object (record r { state = state }) calls sinces waiting recent table effects
   node-state state uninstalled runs after = record {
@@ -218,7 +218,7 @@ module _ {O A : Type 0} {reply : O → List ℕ → List ℕ} {next : O → List
 
   pub node-visited : (number : ℕ) (waiting' : List ℕ) (answers : List (Answered A)) (table' : Table O) (effects' : ℕ) → is_running r.state ≡ true → number < max_number →
       let more = slice_range calls (committed_length r) (committed_length (ring_visited r (length calls) number)) in
-      waiting' ≡ waiting_after calls more waiting → answers ≡ given_after reply next table calls more waiting → table' ≡ fold (table_next reply next) table more → effects' ≡ effects + done_after reply next table more
+      waiting' ≡ waiting_after calls more waiting → answers ≡ given_after object table calls more waiting → table' ≡ fold (table_next object) table more → effects' ≡ effects + done_after object table more
       → Visited number waiting' answers table' effects'
   node-visited number waiting' answers table' effects' running token is_waiting is_answers is_table is_effects =
       let n = length calls in
@@ -234,7 +234,7 @@ module _ {O A : Type 0} {reply : O → List ℕ → List ℕ} {next : O → List
       let old : table ≡ table_after object before = node.table runs in
       let state : one_of r' calls sinces ≡ visited (one_of r calls sinces) number = visited-one_of r number calls sinces node.ring running in
       let told : answers ≡ answers_after object tickets before more =
-      is_answers ∙ ap (λ (t : Table O). given_after reply next t calls more waiting) old ∙ ap (given_after reply next (table_after object before) calls more) node.waiting ∙ goes.answers in
+      is_answers ∙ ap (λ (t : Table O). given_after object t calls more waiting) old ∙ ap (given_after object (table_after object before) calls more) node.waiting ∙ goes.answers in
       let committed' : committed_of (visited (one_of r calls sinces) number) ≡ after = ap committed_of (sym state) ∙ committed_of-one_of r' calls sinces ring'.marked in
       let left : drop (length before) after ≡ more = ap (drop (length before)) (sym whole) ∙ drop-append_seam before more in
       record {
@@ -252,9 +252,9 @@ module _ {O A : Type 0} {reply : O → List ℕ → List ℕ} {next : O → List
               ap (λ w. last_kept (w ++ map (kept_of {A = A}) answers)) node.recent
               ∙ kept-more (all_answers object tickets before) answers
               ∙ ap (λ w. map (kept_of {A = A}) (kept_answers w)) (ap (λ w. all_answers object tickets before ++ w) told ∙ sym (answers_after-append object tickets [] before more) ∙ ap (all_answers object tickets) whole);
-          table = λ e. is_table ∙ ap (λ (t : Table O). fold (table_next reply next) t more) old ∙ goes.table ∙ ap (λ (w : List (Call A)). table_after object w) whole;
+          table = λ e. is_table ∙ ap (λ (t : Table O). fold (table_next object) t more) old ∙ goes.table ∙ ap (λ (w : List (Call A)). table_after object w) whole;
           order =
-              is_effects ∙ ap (λ (k : ℕ). k + done_after reply next table more) node.order ∙ ap (λ (t : Table O). length (deduplicated before) + done_after reply next t more) old
+              is_effects ∙ ap (λ (k : ℕ). k + done_after object table more) node.order ∙ ap (λ (t : Table O). length (deduplicated before) + done_after object t more) old
               ∙ length-deduplicated object before more ∙ ap (λ (w : List (Call A)). length (deduplicated w)) whole;
         };
       }
@@ -398,7 +398,7 @@ submitted-one_of {A} r calls sinces c ring runs counted =
 
 -- ---- what the node's functions owe
 
-module _ {O A : Type 0} {reply : O → List ℕ → List ℕ} {next : O → List ℕ → O} {initial : O} {r : Ring} {calls : List (Call A)} {sinces waiting : List ℕ} {recent : List Kept} {table : Table O} {effects : ℕ} (node : IsNode object r calls sinces waiting recent table effects) where
+module _ {O A : Type 0} {object : Sequential O} {r : Ring} {calls : List (Call A)} {sinces waiting : List ℕ} {recent : List Kept} {table : Table O} {effects : ℕ} (node : IsNode object r calls sinces waiting recent table effects) where
   -- as many tickets are unanswered as wait
   pub unanswered-waiting : length (unanswered (committed_of (one_of r calls sinces)) (asked_of calls sinces)) ≡ length waiting
   unanswered-waiting =
@@ -464,16 +464,16 @@ module _ {O A : Type 0} {reply : O → List ℕ → List ℕ} {next : O → List
 
   pub visited-kept : (number : ℕ) (r' : Ring) (n : ℕ) (before waiting' : List ℕ) (more : List (Call A)) (answers : List (Answered A)) (table' : Table O) (recent' : List Kept) (effects' : ℕ)
       → is_running r.state ≡ true → number < max_number → n ≡ length calls → r' ≡ ring_visited r n number → more ≡ slice_range calls (committed_length r) (committed_length r') → before ≡ waiting
-      → waiting' ≡ waiting_after calls more before → answers ≡ given_after reply next table calls more before → table' ≡ fold (table_next reply next) table more → recent' ≡ last_kept (recent ++ map kept_of answers) → effects' ≡ effects + done_after reply next table more
+      → waiting' ≡ waiting_after calls more before → answers ≡ given_after object table calls more before → table' ≡ fold (table_next object) table more → recent' ≡ last_kept (recent ++ map kept_of answers) → effects' ≡ effects + done_after object table more
       → IsVisited number r' waiting' answers table' recent' effects'
   visited-kept number r' n before waiting' more answers table' recent' effects' running token is_n is_ring is_more is_before is_waiting is_answers is_table is_recent is_effects =
       let same : r' ≡ ring_visited r (length calls) number = is_ring ∙ ap (λ k. ring_visited r k number) is_n in
       let range : more ≡ slice_range calls (committed_length r) (committed_length (ring_visited r (length calls) number)) = is_more ∙ ap (λ (x : Ring). slice_range calls (committed_length r) (committed_length x)) same in
       let v : Visited node number waiting' answers table' effects' = node-visited node number waiting' answers table' effects' running token
       (is_waiting ∙ ap (λ (w : List (Call A)). waiting_after calls w before) range ∙ ap (waiting_after calls (slice_range calls (committed_length r) (committed_length (ring_visited r (length calls) number)))) is_before)
-      (is_answers ∙ ap (λ (w : List (Call A)). given_after reply next table calls w before) range ∙ ap (given_after reply next table calls (slice_range calls (committed_length r) (committed_length (ring_visited r (length calls) number)))) is_before)
-      (is_table ∙ ap (fold (table_next reply next) table) range)
-      (is_effects ∙ ap (λ (w : List (Call A)). effects + done_after reply next table w) range) in
+      (is_answers ∙ ap (λ (w : List (Call A)). given_after object table calls w before) range ∙ ap (given_after object table calls (slice_range calls (committed_length r) (committed_length (ring_visited r (length calls) number)))) is_before)
+      (is_table ∙ ap (fold (table_next object) table) range)
+      (is_effects ∙ ap (λ (w : List (Call A)). effects + done_after object table w) range) in
       let shape : one_of r' calls sinces ≡ visited (one_of r calls sinces) number = ap (λ (x : Ring). one_of x calls sinces) same ∙ v.shape in
       record {
         shape = shape;
@@ -506,7 +506,7 @@ module _ {O A : Type 0} {reply : O → List ℕ → List ℕ} {next : O → List
   node-order_len = node.order ∙ ap (λ (w : List (Call A)). length (deduplicated w)) (sym (node-committed node))
 
   -- the calls that took effect before a visit, and those that do in it, are few enough to be counted
-  pub visited-few : (i j done : ℕ) → done ≡ done_after reply next table (slice_range calls i j) → effects + done ≤ max_number + max_number
+  pub visited-few : (i j done : ℕ) → done ≡ done_after object table (slice_range calls i j) → effects + done ≤ max_number + max_number
   visited-few i j done is_done =
       omega (
         arith,
@@ -514,7 +514,7 @@ module _ {O A : Type 0} {reply : O → List ℕ → List ℕ} {next : O → List
         deduplicated_after-few [] (committed_calls r calls),
         length-take (committed_length r) calls,
         is_done,
-        done_after-few reply next table (slice_range calls i j),
+        done_after-few object table (slice_range calls i j),
         length-take (j - i) (drop i calls),
         length-drop i calls,
         node.ring.tickets,

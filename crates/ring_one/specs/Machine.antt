@@ -257,7 +257,7 @@ module _ {O : Type 0} (object : Sequential O) where
 
 -- What a step that makes a move answers, and leaves of the node: the move with the answers that come with it, or, for
 -- want of memory, the node stopped as it was.
-abbrev pub IsMove : {O A : Type 0} → (O → List ℕ → List ℕ) → (O → List ℕ → O) → O → One A → Move A → Result (Outs A) Fault → One A → Type 0
+abbrev pub IsMove : {O A : Type 0} → Sequential O → One A → Move A → Result (Outs A) Fault → One A → Type 0
 IsMove object s move (Ok outs) new = (outs.frames.items ≡ move.frames) × (outs.answers.items ≡ new_answers object s move.new) × (new ≡ move.new)
 IsMove object s move (Err fault) new = (fault ≡ Memory) × (new ≡ one_stopped s)
 

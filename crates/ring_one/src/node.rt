@@ -362,8 +362,8 @@ fn answer_visit<O: Object>(
     ensures frames { IfOk result (λ visit. visit.0.frames.items ≡ OneToken token ∷ []) }
     ensures table { OnOk result (sessions.new ≡ fold (table_next O.sequential) sessions.old committed.now) }
     ensures waiting { OnOk result (waiting.new.items ≡ waiting_after calls.now committed.now waiting.old.items) }
-    ensures answers { IfOk result (λ visit. visit.0.answers.items ≡ given_after O.sequential.reply O.sequential.next sessions.old calls.now committed.now waiting.old.items) }
-    ensures effects { IfOk result (λ visit. visit.1 ≡ done_after O.sequential.reply O.sequential.next sessions.old committed.now) }
+    ensures answers { IfOk result (λ visit. visit.0.answers.items ≡ given_after O.sequential sessions.old calls.now committed.now waiting.old.items) }
+    ensures effects { IfOk result (λ visit. visit.1 ≡ done_after O.sequential sessions.old committed.now) }
     ensures refused { IfErr result (λ fault. fault ≡ Memory) }
 {
     let mut outs = Outs::new(alloc);
