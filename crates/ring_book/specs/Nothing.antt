@@ -2,7 +2,7 @@
 use Rattle.std.proofs.Common.{◌≡◌, ℕ, ◌<◌, Bool, false, List, [], ◌∷◌, Option, Some, None, refl, arith}
 use Rattle.std.proofs.lemmas.List.Elements.{All-nil, All-cons}
 use Rattle.ring_object.specs.Bytes.{AreBytes}
-use Rattle.ring_object.specs.Operations.{IsReply, unreadable}
+use Rattle.ring_object.specs.Operations.{Sequential, IsReply, unreadable}
 use Rattle.ring_object.specs.Snapshots.{Restores}
 
 -- its one content
@@ -16,10 +16,14 @@ abbrev pub is_readable : List ℕ → Bool
 is_readable op = false
 
 abbrev pub reply : Content → List ℕ → List ℕ
-object.reply content op = unreadable
+reply content op = unreadable
 
 abbrev pub next : Content → List ℕ → Content
-object.next content op = content
+next content op = content
+
+-- the object: it has one content
+abbrev pub nothing : Sequential Content
+nothing = record { initial = tt; reply = reply; next = next }
 
 abbrev pub snapshot_of : Content → List ℕ
 snapshot_of content = []
@@ -30,10 +34,10 @@ restored (byte ∷ bytes) = None
 
 -- ---- the laws
 
-pub ignores : (content : Content) (op : List ℕ) → is_readable op ≡ false → (object.reply content op ≡ unreadable) × (object.next content op ≡ content)
+pub ignores : (content : Content) (op : List ℕ) → is_readable op ≡ false → (reply content op ≡ unreadable) × (next content op ≡ content)
 ignores content op unread = (refl, refl)
 
-pub replies : (content : Content) (op : List ℕ) → AreBytes op → is_content content → IsReply (object.reply content op)
+pub replies : (content : Content) (op : List ℕ) → AreBytes op → is_content content → IsReply (reply content op)
 replies content op bytes is = (omega arith, All-cons (λ byte. byte < 256) 255 [] (omega arith) (All-nil (λ byte. byte < 256)))
 
 only : (bytes : List ℕ) (content : Content) → AreBytes bytes → restored bytes ≡ Some content → is_content content × (snapshot_of content ≡ bytes)
