@@ -5,6 +5,7 @@ use Rattle.std.specs.List.{AllByRecursion}
 use Rattle.std.proofs.lemmas.List.{map-append}
 use Rattle.ring_base.specs.declared.fault.Fault.{Fault}
 use Rattle.ring_base.specs.Fronts.{IsFront, front_append, front_get, front_length}
+use Rattle.ring_object.specs.Operations.{Sequential}
 use Rattle.ring_payload.specs.declared.call.Call.{Call}
 use Rattle.ring_session.specs.Deduplicated.{deduplicated}
 use Rattle.ring_session.specs.declared.answer.Answer.{Answer}
@@ -73,9 +74,9 @@ history_of-snoc : {A : Type 0} (ls : List (Line A)) (l : Line A) → history_of 
 history_of-snoc [] l = append-nil (items_of l.step.input l.step.answers)
 history_of-snoc (x ∷ ls) l = ap (λ ys. items_of x.step.input x.step.answers ++ ys) (history_of-snoc ls l) ∙ sym (append_assoc (items_of x.step.input x.step.answers) (history_of ls) (items_of l.step.input l.step.answers))
 
-module _ {O A : Type 0} (reply : O → List ℕ → List ℕ) (next : O → List ℕ → O) (initial : O) where
+module _ {O A : Type 0} (object : Sequential O) where
   abbrev machine : Machine (One A) A
-  machine = one_machine reply next initial
+  machine = one_machine object
 
   -- what a line makes of the world
   record IsNext (w after : World A) (input : LineInput A) (l : StepView A) (u : One A) : Type 0 where
@@ -83,7 +84,7 @@ module _ {O A : Type 0} (reply : O → List ℕ → List ℕ) (next : O → List
     frames : after.frames ≡ w.frames ++ l.frames
     history : after.history ≡ w.history ++ items_of input l.answers
     calls : asked_calls after.node.tickets ≡ asked_calls w.node.tickets ++ call_in input
-    answers : answers_of reply next initial after.node ≡ told_by (answers_of reply next initial w.node) input l.answers
+    answers : answers_of object after.node ≡ told_by (answers_of object w.node) input l.answers
 
   issued : (w : World A) (c : Call A) (o : Option Fault) → o ≡ None → runs.issues w c o ≡ record { node = submitted w.node c; frames = w.frames; history = w.history ++ Issued c ∷ [] }
   issued w c None h = refl
@@ -100,24 +101,24 @@ module _ {O A : Type 0} (reply : O → List ℕ → List ℕ) (next : O → List
     frames = ap (λ x. x.frames) e ∙ (sym (append-nil w.frames) ∙ ap (λ fs. w.frames ++ fs) (sym none));
     history = ap (λ x. x.history) e;
     calls = ap (λ x. asked_calls x.node.tickets) e ∙ map-append (λ (t : Asked A). t.call) w.node.tickets (record { call = c; since = length (committed_of w.node) } ∷ []);
-    answers = ap (λ x. answers_of reply next initial x.node) e ∙ answers_of-submitted reply next initial w.node c;
+    answers = ap (λ x. answers_of object x.node) e ∙ answers_of-submitted object w.node c;
   }
 
   next_done : (w after : World A) (input : Input A) (at : FrameRef) (l : StepView A) (u : One A) (d : Did A) → after ≡ runs.did w d
-      → d.new.tickets ≡ w.node.tickets → answers_of reply next initial d.new ≡ answered_in (answers_of reply next initial w.node) d.answers → u ≡ d.new → l.frames ≡ d.frames → l.answers ≡ d.answers → IsNext w after (Came input at) l u
+      → d.new.tickets ≡ w.node.tickets → answers_of object d.new ≡ answered_in (answers_of object w.node) d.answers → u ≡ d.new → l.frames ≡ d.frames → l.answers ≡ d.answers → IsNext w after (Came input at) l u
   next_done w after input at l u d e kept tells new sent told = record {
     node = ap (λ x. x.node) e ∙ sym new;
     frames = ap (λ x. x.frames) e ∙ ap (λ fs. w.frames ++ fs) (sym sent);
     history = ap (λ x. x.history) e ∙ ap (λ as'. w.history ++ replies as') (sym told);
     calls = ap (λ x. asked_calls x.node.tickets) e ∙ (ap asked_calls kept ∙ sym (append-nil (asked_calls w.node.tickets)));
-    answers = ap (λ x. answers_of reply next initial x.node) e ∙ (tells ∙ ap (answered_in (answers_of reply next initial w.node)) (sym told));
+    answers = ap (λ x. answers_of object x.node) e ∙ (tells ∙ ap (answered_in (answers_of object w.node)) (sym told));
   }
 
-  steps_on : (w : World A) (input : Input A) → is_stopped w.node.state ≡ false → runs.steps reply next initial w input ≡ runs.did w (one_step reply next initial w.node input)
-  steps_on w input h = goes_on (is_stopped w.node.state) w (runs.did w (one_step reply next initial w.node input)) h
+  steps_on : (w : World A) (input : Input A) → is_stopped w.node.state ≡ false → runs.steps object w input ≡ runs.did w (one_step object w.node input)
+  steps_on w input h = goes_on (is_stopped w.node.state) w (runs.did w (one_step object w.node input)) h
 
   -- a step leaves the tickets
-  tickets_stay : (s : One A) (input : Input A) → (one_step reply next initial s input).new.tickets ≡ s.tickets
+  tickets_stay : (s : One A) (input : Input A) → (one_step object s input).new.tickets ≡ s.tickets
   tickets_stay s input = (goes-on (λ (c : Call A). Unit {0}) s input).tickets
 
   -- the frame that stands there was sent in the world
@@ -125,48 +126,48 @@ module _ {O A : Type 0} (reply : O → List ℕ → List ℕ) (next : O → List
   is_sent w before at node f e h = ap (λ fs. runs.frame_of fs (frame_number before at)) e ∙ number_stands before at node f h
 
   record Follows (w : World A) (before : List (Line A)) (input : LineInput A) (l : StepView A) (u : One A) : Type 0 where
-    done : IsDone reply next initial w before input l
-    moved : IsNext w (runs.happens reply next initial w (event_of before input)) input l u
+    done : IsDone object w before input l
+    moved : IsNext w (runs.happens object w (event_of before input)) input l u
 
   -- a line of a book run is a line of the run
   follows : (w : World A) (before : List (Line A)) (input : LineInput A) (l : StepView A) (u : One A) → w.frames ≡ frames_of before
       → Makes machine w.node input l u → IsFound before l.node input → Follows w before input l u
   follows w before (Called c) l u e made found = record {
     done = (made.0, made.2, made.3);
-    moved = next_issued w (runs.happens reply next initial w (event_of before (Called c))) c l u (issued w c (machine.refusal w.node) made.0) made.1 made.2;
+    moved = next_issued w (runs.happens object w (event_of before (Called c))) c l u (issued w c (machine.refusal w.node) made.0) made.1 made.2;
   }
   follows w before (Came (Comes f) at) l u e made found =
       let sent = is_sent w before at l.node f e found in
       record {
         done = (made.0, made.2, made.3, sent);
-        moved = next_done w (runs.happens reply next initial w (event_of before (Came (Comes f) at))) (Comes f) at l u (one_step reply next initial w.node (Comes f))
-            (ap (runs.delivers reply next initial w) sent ∙ steps_on w (Comes f) made.0) (tickets_stay w.node (Comes f)) (answers_of-stepped reply next initial w.node (Comes f)) made.1 made.2 made.3;
+        moved = next_done w (runs.happens object w (event_of before (Came (Comes f) at))) (Comes f) at l u (one_step object w.node (Comes f))
+            (ap (runs.delivers object w) sent ∙ steps_on w (Comes f) made.0) (tickets_stay w.node (Comes f)) (answers_of-stepped object w.node (Comes f)) made.1 made.2 made.3;
       }
   follows w before (Came Noise at) l u e made found = record {
     done = (made.0, made.2, made.3, tt);
-    moved = next_done w (runs.happens reply next initial w (event_of before (Came Noise at))) Noise at l u (one_step reply next initial w.node Noise) (steps_on w Noise made.0) (tickets_stay w.node Noise) (answers_of-stepped reply next initial w.node Noise) made.1 made.2 made.3;
+    moved = next_done w (runs.happens object w (event_of before (Came Noise at))) Noise at l u (one_step object w.node Noise) (steps_on w Noise made.0) (tickets_stay w.node Noise) (answers_of-stepped object w.node Noise) made.1 made.2 made.3;
   }
   follows w before (Came (Timeout kind) at) l u e made found = record {
     done = (made.0, made.2, made.3, tt);
-    moved = next_done w (runs.happens reply next initial w (event_of before (Came (Timeout kind) at))) (Timeout kind) at l u (one_step reply next initial w.node (Timeout kind)) (steps_on w (Timeout kind) made.0) (tickets_stay w.node (Timeout kind)) (answers_of-stepped reply next initial w.node (Timeout kind)) made.1 made.2 made.3;
+    moved = next_done w (runs.happens object w (event_of before (Came (Timeout kind) at))) (Timeout kind) at l u (one_step object w.node (Timeout kind)) (steps_on w (Timeout kind) made.0) (tickets_stay w.node (Timeout kind)) (answers_of-stepped object w.node (Timeout kind)) made.1 made.2 made.3;
   }
   follows w before (Came Stop at) l u e made found = record {
     done = (made.0, made.2, made.3, tt);
-    moved = next_done w (runs.happens reply next initial w (event_of before (Came Stop at))) Stop at l u (one_step reply next initial w.node Stop) (steps_on w Stop made.0) (tickets_stay w.node Stop) (answers_of-stepped reply next initial w.node Stop) made.1 made.2 made.3;
+    moved = next_done w (runs.happens object w (event_of before (Came Stop at))) Stop at l u (one_step object w.node Stop) (steps_on w Stop made.0) (tickets_stay w.node Stop) (answers_of-stepped object w.node Stop) made.1 made.2 made.3;
   }
 
   -- the world after the lines, and how it came about
   pub record Ran (w : World A) (before ls : List (Line A)) (t : One A) : Type 0 where
-    pub done : AreDone reply next initial w before ls
-    pub node : (runs.run_from reply next initial w (events_after before ls)).node ≡ t
-    pub frames : (runs.run_from reply next initial w (events_after before ls)).frames ≡ frames_of (before ++ ls)
-    pub history : (runs.run_from reply next initial w (events_after before ls)).history ≡ history_of (before ++ ls)
-    pub calls : asked_calls (runs.run_from reply next initial w (events_after before ls)).node.tickets ≡ calls_of (before ++ ls)
-    pub answers : answers_of reply next initial (runs.run_from reply next initial w (events_after before ls)).node ≡ told_from [] (steps (before ++ ls))
-    pub committed : length (committed_of (runs.run_from reply next initial w (events_after before ls)).node) ≡ committed_after (before ++ ls)
+    pub done : AreDone object w before ls
+    pub node : (runs.run_from object w (events_after before ls)).node ≡ t
+    pub frames : (runs.run_from object w (events_after before ls)).frames ≡ frames_of (before ++ ls)
+    pub history : (runs.run_from object w (events_after before ls)).history ≡ history_of (before ++ ls)
+    pub calls : asked_calls (runs.run_from object w (events_after before ls)).node.tickets ≡ calls_of (before ++ ls)
+    pub answers : answers_of object (runs.run_from object w (events_after before ls)).node ≡ told_from [] (steps (before ++ ls))
+    pub committed : length (committed_of (runs.run_from object w (events_after before ls)).node) ≡ committed_after (before ++ ls)
 
   ran : (w : World A) (before ls : List (Line A)) (t : One A) → w.frames ≡ frames_of before → w.history ≡ history_of before
-      → asked_calls w.node.tickets ≡ calls_of before → answers_of reply next initial w.node ≡ told_from [] (steps before) → length (committed_of w.node) ≡ committed_after before → Leads machine w.node (steps ls) t → AllFound machine before ls → Ran w before ls t
+      → asked_calls w.node.tickets ≡ calls_of before → answers_of object w.node ≡ told_from [] (steps before) → length (committed_of w.node) ≡ committed_after before → Leads machine w.node (steps ls) t → AllFound machine before ls → Ran w before ls t
   ran w before [] t fs hs cs ts ks led found = record {
     done = tt;
     node = sym led;
@@ -177,7 +178,7 @@ module _ {O A : Type 0} (reply : O → List ℕ → List ℕ) (next : O → List
     committed = rw append-nil ks;
   }
   ran w before (l ∷ ls) t fs hs cs ts ks led found =
-      let after : World A = runs.happens reply next initial w (event_of before l.step.input) in
+      let after : World A = runs.happens object w (event_of before l.step.input) in
       let f = follows w before l.step.input l.step led.0 fs led.1.0.0 found.0 in
       let led' : Leads machine after.node (steps ls) t = subst (λ (s : One A). Leads machine s (steps ls) t) (sym f.moved.node) led.1.1 in
       let rest = ran after (before ++ l ∷ []) ls t
@@ -209,7 +210,7 @@ module _ {O A : Type 0} (reply : O → List ℕ → List ℕ) (next : O → List
   book_ran n ls t one r led = ran runs.world_opening [] ls t refl refl refl refl refl (subst (λ (xs : List (StepView A)). Leads machine one_opening xs t) (all_own n ls one r.inside) led) r.found
 
   -- the lines of a book of one node are a run
-  pub book_is_run : (n : ℕ) (ls : List (Line A)) → n ≡ 1 → IsBookRun machine n ls → IsRun reply next initial ls
+  pub book_is_run : (n : ℕ) (ls : List (Line A)) → n ≡ 1 → IsBookRun machine n ls → IsRun object ls
   book_is_run n ls one r =
       let first = r.nodes 1 (omega arith) (omega arith) in
       let b = book_ran n ls first.0 one r first.1 in
@@ -223,16 +224,16 @@ module _ {O A : Type 0} (reply : O → List ℕ → List ℕ) (next : O → List
       }
 
   pub book_node : (n : ℕ) (ls : List (Line A)) (t : One A) → n ≡ 1 → IsBookRun machine n ls → Leads machine one_opening (steps_of 1 ls) t
-      → (runs.run reply next initial (events_of ls)).node ≡ t
+      → (runs.run object (events_of ls)).node ≡ t
   book_node n ls t one r led = (book_ran n ls t one r led).node
 
   -- the calls submitted and the committed length are those of the lines, so the order is that of so many of the calls
   pub book_order : (n : ℕ) (ls : List (Line A)) → n ≡ 1 → IsBookRun machine n ls
-      → (let w = runs.run reply next initial (events_of ls) in IsFront (committed_of w.node) (asked_calls w.node.tickets))
-      → (committed_after ls ≤ length (call_lines ls)) × (deduplicated (calls_at ls (take (committed_after ls) (call_lines ls))) ≡ order_in (runs.run reply next initial (events_of ls)))
+      → (let w = runs.run object (events_of ls) in IsFront (committed_of w.node) (asked_calls w.node.tickets))
+      → (committed_after ls ≤ length (call_lines ls)) × (deduplicated (calls_at ls (take (committed_after ls) (call_lines ls))) ≡ order_in (runs.run object (events_of ls)))
   book_order n ls one r front =
       let first = r.nodes 1 (omega arith) (omega arith) in
       let b = book_ran n ls first.0 one r first.1 in
-      let w = runs.run reply next initial (events_of ls) in
+      let w = runs.run object (events_of ls) in
       let most = front_length (committed_of w.node) (asked_calls w.node.tickets) front in
       (omega (arith, most, ap length b.calls, b.committed, length-call_lines ls), one_order ls (committed_of w.node) (asked_calls w.node.tickets) (committed_after ls) front b.calls b.committed)

@@ -5,6 +5,7 @@ use Rattle.std.specs.List.{AllByRecursion}
 use Rattle.std.proofs.lemmas.List.{length-replicate, replicate-append-replicate}
 use Rattle.std.proofs.Math.Seq.{drop-append_seam}
 use Rattle.ring_base.specs.Fronts.{IsFront}
+use Rattle.ring_object.specs.Operations.{Sequential}
 use Rattle.ring_payload.specs.declared.call.Call.{Call}
 use Rattle.ring_session.specs.SessionAnswer.{session_answer}
 use Rattle.ring_session.specs.declared.answer.Answer.{Answer}
@@ -32,51 +33,51 @@ below-answered n ticket c None true h = tt
 below-answered n ticket c (Some answer) true h = (h, tt)
 below-answered n ticket c answer false h = tt
 
-module _ {O A : Type 0} (reply : O → List ℕ → List ℕ) (next : O → List ℕ → O) (initial : O) where
-  below-at : (n : ℕ) (committed : List (Call A)) (place ticket : ℕ) (ts : List (Asked A)) → ticket + length ts ≤ n → AreBelow n (answers_at reply next initial committed place ticket ts)
+module _ {O A : Type 0} (object : Sequential O) where
+  below-at : (n : ℕ) (committed : List (Call A)) (place ticket : ℕ) (ts : List (Asked A)) → ticket + length ts ≤ n → AreBelow n (answers_at object committed place ticket ts)
   below-at n committed place ticket [] h = tt
   below-at n committed place ticket (t ∷ ts) h =
-      below-append n (if is_place place (place_of committed t) then answered ticket t.call (session_answer reply next initial committed place) else []) (answers_at reply next initial committed place (ticket + 1) ts)
-      (below-answered n ticket t.call (session_answer reply next initial committed place) (is_place place (place_of committed t)) (omega arith))
+      below-append n (if is_place place (place_of committed t) then answered ticket t.call (session_answer object committed place) else []) (answers_at object committed place (ticket + 1) ts)
+      (below-answered n ticket t.call (session_answer object committed place) (is_place place (place_of committed t)) (omega arith))
       (below-at n committed place (ticket + 1) ts (omega arith))
 
   -- all answers are of the tickets
-  below-after : (tickets : List (Asked A)) (committed more : List (Call A)) → AreBelow (length tickets) (answers_after reply next initial tickets committed more)
+  below-after : (tickets : List (Asked A)) (committed more : List (Call A)) → AreBelow (length tickets) (answers_after object tickets committed more)
   below-after tickets committed [] = tt
   below-after tickets committed (c ∷ more) =
-      below-append (length tickets) (answers_at reply next initial (committed ++ c ∷ []) (length committed) 0 tickets) (answers_after reply next initial tickets (committed ++ c ∷ []) more)
+      below-append (length tickets) (answers_at object (committed ++ c ∷ []) (length committed) 0 tickets) (answers_after object tickets (committed ++ c ∷ []) more)
       (below-at (length tickets) (committed ++ c ∷ []) (length committed) 0 tickets (omega arith)) (below-after tickets (committed ++ c ∷ []) more)
 
   -- a submit adds a ticket without an answer
-  pub answers_of-submitted : (s : One A) (c : Call A) → answers_of reply next initial (submitted s c) ≡ answers_of reply next initial s ++ None ∷ []
+  pub answers_of-submitted : (s : One A) (c : Call A) → answers_of object (submitted s c) ≡ answers_of object s ++ None ∷ []
   answers_of-submitted s c =
       let committed = committed_of s in
       let t : Asked A = record { call = c; since = length committed } in
       let n = length s.tickets in
       let none : Option Answer = None in
-      let all = all_answers reply next initial s.tickets committed in
-      let same : all_answers reply next initial (s.tickets ++ t ∷ []) committed ≡ all = answers_after-push reply next initial s.tickets t [] committed (omega arith) in
+      let all = all_answers object s.tickets committed in
+      let same : all_answers object (s.tickets ++ t ∷ []) committed ≡ all = answers_after-push object s.tickets t [] committed (omega arith) in
       let below = subst (λ (k : ℕ). AreBelow k all) (sym (length-replicate n none)) (below-after s.tickets [] committed) in
-      ap (λ (k : ℕ). by_ticket k (all_answers reply next initial (s.tickets ++ t ∷ []) committed)) (length-append s.tickets (t ∷ []))
+      ap (λ (k : ℕ). by_ticket k (all_answers object (s.tickets ++ t ∷ []) committed)) (length-append s.tickets (t ∷ []))
       ∙ (ap (by_ticket (n + 1)) same
       ∙ (ap (λ (ts : List (Option Answer)). answered_in ts all) (sym (replicate-append-replicate n 1 none))
       ∙ answered_in-left (replicate n None) (None ∷ []) all below))
 
   -- a step tells the answers that come with it
-  pub answers_of-stepped : (s : One A) (input : Input A) → answers_of reply next initial (one_step reply next initial s input).new ≡ answered_in (answers_of reply next initial s) (one_step reply next initial s input).answers
+  pub answers_of-stepped : (s : One A) (input : Input A) → answers_of object (one_step object s input).new ≡ answered_in (answers_of object s) (one_step object s input).answers
   answers_of-stepped s input =
       let new : One A = (move_on s input).new in
       let goes = goes-on (λ (c : Call A). Unit {0}) s input in
       let front : IsFront (committed_of s) (committed_of new) = committed-front s new goes.text goes.mark in
       let rest : List (Call A) = front.0 in
       let n = length s.tickets in
-      let before = all_answers reply next initial s.tickets (committed_of s) in
+      let before = all_answers object s.tickets (committed_of s) in
       let left : drop (length (committed_of s)) (committed_of new) ≡ rest = ap (drop (length (committed_of s))) (sym front.1) ∙ drop-append_seam (committed_of s) rest in
-      let came : new_answers reply next initial s new ≡ answers_after reply next initial s.tickets (committed_of s) rest =
-      ap (λ (ts : List (Asked A)). answers_after reply next initial ts (committed_of s) (drop (length (committed_of s)) (committed_of new))) goes.tickets
-      ∙ ap (answers_after reply next initial s.tickets (committed_of s)) left in
-      ap (λ (ts : List (Asked A)). by_ticket (length ts) (all_answers reply next initial ts (committed_of new))) goes.tickets
-      ∙ (ap (λ (cs : List (Call A)). by_ticket n (all_answers reply next initial s.tickets cs)) (sym front.1)
-      ∙ (ap (by_ticket n) (answers_after-append reply next initial s.tickets [] (committed_of s) rest)
-      ∙ (answered_in-append (replicate n None) before (answers_after reply next initial s.tickets (committed_of s) rest)
-      ∙ ap (answered_in (answers_of reply next initial s)) (sym came))))
+      let came : new_answers object s new ≡ answers_after object s.tickets (committed_of s) rest =
+      ap (λ (ts : List (Asked A)). answers_after object ts (committed_of s) (drop (length (committed_of s)) (committed_of new))) goes.tickets
+      ∙ ap (answers_after object s.tickets (committed_of s)) left in
+      ap (λ (ts : List (Asked A)). by_ticket (length ts) (all_answers object ts (committed_of new))) goes.tickets
+      ∙ (ap (λ (cs : List (Call A)). by_ticket n (all_answers object s.tickets cs)) (sym front.1)
+      ∙ (ap (by_ticket n) (answers_after-append object s.tickets [] (committed_of s) rest)
+      ∙ (answered_in-append (replicate n None) before (answers_after object s.tickets (committed_of s) rest)
+      ∙ ap (answered_in (answers_of object s)) (sym came))))

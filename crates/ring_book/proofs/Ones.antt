@@ -7,6 +7,7 @@ use Rattle.std.proofs.lemmas.List.{length-take}
 use Rattle.ring_base.specs.Numbers.{max_number}
 use Rattle.ring_base.specs.Processors.{elements}
 use Rattle.ring_layout.specs.Rings.{RingFits}
+use Rattle.ring_object.specs.Operations.{Sequential}
 use Rattle.ring_payload.specs.declared.content.Payload.{Payload}
 use Rattle.ring_wire.specs.declared.commit.CommitToken.{CommitToken}
 use Rattle.ring_wire.specs.declared.frame.Frame.{Frame}
@@ -139,8 +140,8 @@ module _ {A : Type 0} where
   move_good s (Timeout kind) h = timeout_good s kind h
   move_good s Stop h = (h, tt)
 
-pub one_keeps : {O A : Type 0} (reply : O → List ℕ → List ℕ) (next : O → List ℕ → O) (initial : O) → Keeps (one_machine {A = A} reply next initial) IsBounded
-one_keeps reply next initial = record {
+pub one_keeps : {O A : Type 0} (object : Sequential O) → Keeps (one_machine {A = A} object) IsBounded
+one_keeps object = record {
   opens = λ i. omega arith;
   steps = λ s input h. (move_good s input h).0;
   submits = λ s c h. h;

@@ -6,6 +6,7 @@ use Rattle.ring_base.specs.declared.fault.Fault.{Fault}
 use Rattle.ring_base.specs.declared.fault.Fault.TheVariants.{Memory, Stopped as StoppedFault}
 use Rattle.ring_base.specs.declared.state.State.{State}
 use Rattle.ring_base.specs.declared.state.State.TheVariants.{Gather, Commit, Recovery, Operational, Stopped}
+use Rattle.ring_object.specs.Operations.{Sequential}
 use Rattle.ring_one.specs.Machine.{One, committed_of, is_stopped, new_answers, one_stopped}
 use Rattle.ring_one.specs.Tickets.{answers_after}
 
@@ -35,8 +36,8 @@ drop_all [] = refl
 drop_all (x ∷ xs) = drop_all xs
 
 -- as a node stops, no ticket is answered
-pub stop_answers : {O A : Type 0} (reply : O → List ℕ → List ℕ) (next : O → List ℕ → O) (initial : O) (s : One A) → new_answers reply next initial s (one_stopped s) ≡ []
-stop_answers reply next initial s = ap (answers_after reply next initial s.tickets (committed_of s)) (drop_all (committed_of s))
+pub stop_answers : {O A : Type 0} (object : Sequential O) (s : One A) → new_answers object s (one_stopped s) ≡ []
+stop_answers object s = ap (answers_after object s.tickets (committed_of s)) (drop_all (committed_of s))
 
 -- a node refuses where its cell is not a step ahead
 pub node_refuses : (ahead : Bool) (refusal : Option Fault) (fault : Fault) → ahead ≡ false → MatchOption refusal (fault ≡ Memory) (λ first. fault ≡ first) → IsRefusal ahead refusal fault

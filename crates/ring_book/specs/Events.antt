@@ -1,6 +1,7 @@
 -- The book's lines as the events of a run of the node of a ring of one.
 use Rattle.std.specs.Prelude.{ℕ, suc, ◌≡◌, ◌+◌, false, List, [], ◌∷◌, ◌++◌, length, take, Option, None, Some}
 use Rattle.ring_wire.specs.declared.frame.Frame.{Frame}
+use Rattle.ring_object.specs.Operations.{Sequential}
 use Rattle.ring_world.specs.declared.item.Item.{Item}
 use Rattle.ring_world.specs.declared.item.Item.TheVariants.{Issue as Issued}
 use Rattle.ring_one.specs.declared.event.Event.{Event}
@@ -59,7 +60,7 @@ abbrev pub history_of : {A : Type 0} → List (Line A) → List (Item A)
 history_of [] = []
 history_of (l ∷ ls) = items_of l.step.input l.step.answers ++ history_of ls
 
-module _ {O : Type 0} (reply : O → List ℕ → List ℕ) (next : O → List ℕ → O) (initial : O) where
+module _ {O : Type 0} (object : Sequential O) where
   -- The frame that comes in this world is the one that was sent under its number.
   abbrev pub IsSent : {A : Type 0} → World A → List (Line A) → FrameRef → Input A → Type 0
   IsSent w before at (Comes f) = frame_of w.frames (frame_number before at) ≡ Some f
@@ -71,26 +72,26 @@ module _ {O : Type 0} (reply : O → List ℕ → List ℕ) (next : O → List �
   abbrev pub IsDone : {A : Type 0} → World A → List (Line A) → LineInput A → StepView A → Type 0
   IsDone w before (Called c) l = (submit_fault w.node ≡ None) × (l.frames ≡ []) × (l.answers ≡ [])
   IsDone w before (Came input at) l =
-      let did = one_step reply next initial w.node input in
+      let did = one_step object w.node input in
       (is_stopped w.node.state ≡ false) × (l.frames ≡ did.frames) × (l.answers ≡ did.answers) × IsSent w before at input
 
   -- line by line, from this world on
   abbrev pub AreDone : {A : Type 0} → World A → List (Line A) → List (Line A) → Type 0
   AreDone w before [] = Unit {0}
   AreDone w before (l ∷ ls) =
-      IsDone w before l.step.input l.step × AreDone (happens reply next initial w (event_of before l.step.input)) (before ++ l ∷ []) ls
+      IsDone w before l.step.input l.step × AreDone (happens object w (event_of before l.step.input)) (before ++ l ∷ []) ls
 
   -- the answers of the node's tickets that its committed log gives
   abbrev pub answers_of : {A : Type 0} → One A → List (Option Answer)
-  answers_of s = by_ticket (length s.tickets) (all_answers reply next initial s.tickets (committed_of s))
+  answers_of s = by_ticket (length s.tickets) (all_answers object s.tickets (committed_of s))
 
   -- The lines are a run: their inputs are its events, with just these frames and answers. Its frames, its history, its
   -- calls, of which a ticket is a place, and the answers of its tickets are those of the lines, and so is the length of
   -- its committed log.
   pub record IsRun {A : Type 0} (lines : List (Line A)) : Type 0 where
     pub done : AreDone world_opening [] lines
-    pub frames : (run reply next initial (events_of lines)).frames ≡ frames_of lines
-    pub history : (run reply next initial (events_of lines)).history ≡ history_of lines
-    pub calls : asked_calls (run reply next initial (events_of lines)).node.tickets ≡ calls_of lines
-    pub answers : answers_of (run reply next initial (events_of lines)).node ≡ told_to 1 lines
-    pub committed : length (committed_of (run reply next initial (events_of lines)).node) ≡ committed_after lines
+    pub frames : (run object (events_of lines)).frames ≡ frames_of lines
+    pub history : (run object (events_of lines)).history ≡ history_of lines
+    pub calls : asked_calls (run object (events_of lines)).node.tickets ≡ calls_of lines
+    pub answers : answers_of (run object (events_of lines)).node ≡ told_to 1 lines
+    pub committed : length (committed_of (run object (events_of lines)).node) ≡ committed_after lines

@@ -2,6 +2,7 @@
 use Rattle.std.specs.Prelude.{ℕ, Bool, List, length, Option}
 use Rattle.std.specs.List.{AllByRecursion}
 use Rattle.ring_base.specs.declared.fault.Fault.{Fault}
+use Rattle.ring_object.specs.Operations.{Sequential}
 use Rattle.ring_payload.specs.declared.call.Call.{Call}
 use Rattle.ring_wire.specs.declared.frame.Frame.{Frame}
 use Rattle.ring_wire.specs.declared.frame.Frame.TheVariants as frames
@@ -33,11 +34,11 @@ pub record Machine (S A : Type 0) : Type 0 where
   pub committed : S → List (Call A)
 
 -- the node of a ring of one
-abbrev pub one_machine : {O A : Type 0} → (O → List ℕ → List ℕ) → (O → List ℕ → O) → O → Machine (One A) A
-one_machine reply next initial = record {
+abbrev pub one_machine : {O A : Type 0} → Sequential O → Machine (One A) A
+one_machine object = record {
   opening = λ me. one_opening;
   is_stopped = λ s. is_stopped s.state;
-  step = λ s input. (let did = one_step reply next initial s input in record { new = did.new; frames = did.frames; answers = did.answers });
+  step = λ s input. (let did = one_step object s input in record { new = did.new; frames = did.frames; answers = did.answers });
   refusal = submit_fault;
   submitted = submitted;
   tickets = λ s. length s.tickets;

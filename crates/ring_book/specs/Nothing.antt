@@ -2,7 +2,7 @@
 use Rattle.std.proofs.Common.{◌≡◌, ℕ, ◌<◌, Bool, false, List, [], ◌∷◌, Option, Some, None, refl, arith}
 use Rattle.std.proofs.lemmas.List.Elements.{All-nil, All-cons}
 use Rattle.ring_object.specs.Bytes.{AreBytes}
-use Rattle.ring_object.specs.Operations.{IsReply, unreadable}
+use Rattle.ring_object.specs.Operations.{Sequential, IsReply, unreadable}
 use Rattle.ring_object.specs.Snapshots.{Restores}
 
 -- its one content
@@ -20,6 +20,10 @@ reply content op = unreadable
 
 abbrev pub next : Content → List ℕ → Content
 next content op = content
+
+-- the object: it has one content
+abbrev pub nothing : Sequential Content
+nothing = record { initial = tt; reply = reply; next = next }
 
 abbrev pub snapshot_of : Content → List ℕ
 snapshot_of content = []

@@ -6,7 +6,7 @@ use Rattle.ring_session.specs.Table.{Table, table_after}
 use Rattle.ring_book.specs.declared.input.LineInput.{LineInput}
 use Rattle.ring_book.specs.declared.input.LineInput.TheVariants.{Called, Came}
 use Rattle.ring_book.specs.declared.line.Line.{Line}
-use Rattle.ring_book.specs.Nothing.{Content, reply, next}
+use Rattle.ring_book.specs.Nothing.{Content, nothing}
 
 -- the call that was submitted, if one was
 abbrev pub call_in : {A : Type 0} → LineInput A → List (Call A)
@@ -51,5 +51,5 @@ committed_after lines = committed_from 0 lines
 
 -- The session table and the order are those after these calls.
 pub record IsOrdered {A : Type 0} (calls : List (Call A)) (table : Table Content) (order : List (Call A)) : Type 0 where
-  pub table_is : table ≡ table_after reply next tt calls
+  pub table_is : table ≡ table_after nothing calls
   pub order_is : order ≡ deduplicated calls

@@ -57,7 +57,7 @@ impl<O: Object, K: BookName<O::Alloc>> Model for Book<O, K> {
 
     ghost view = { λ b. record { lines = b.lines.items; reserved = b.reserved } };
 
-    ghost invariant = { λ b. IsBook (one_machine O.reply O.next O.initial) K.name b.lines.items b.reserved b.ends.items b.told.items b.calls.items (vec_capacity b.lines) (vec_capacity b.told) (vec_capacity b.calls) (length b.text.items + b.text.spare) };
+    ghost invariant = { λ b. IsBook (one_machine O.sequential) K.name b.lines.items b.reserved b.ends.items b.told.items b.calls.items (vec_capacity b.lines) (vec_capacity b.told) (vec_capacity b.calls) (length b.text.items + b.text.spare) };
 }
 
 impl<O: Object, K: BookName<O::Alloc>> Book<O, K> {
@@ -80,7 +80,7 @@ impl<O: Object, K: BookName<O::Alloc>> Book<O, K> {
         ends: Vec<Consumer<Step<O::Alloc>, O::Alloc>, O::Alloc>,
         text: BytesMut<O::Alloc>,
     ) -> Book<O, K>
-        requires { IsBook (one_machine O.reply O.next O.initial) K.name [] 0 ends.items [] [] 0 0 0 (length text.items + text.spare) }
+        requires { IsBook (one_machine O.sequential) K.name [] 0 ends.items [] [] 0 0 0 (length text.items + text.spare) }
         ensures { result ≡ new_book }
     {
         Book {
@@ -98,7 +98,7 @@ impl<O: Object, K: BookName<O::Alloc>> Book<O, K> {
     /// very run of which `ring_one::linear_law` speaks. So `order` and `history` are that run's, and `answer` tells what
     /// the session table answers to the ticket, a place among its calls (`calls`), along its committed log (`answers`).
     pub fn run_law(&self)
-        ensures { IsRun O.reply O.next O.initial self.now.lines }
+        ensures { IsRun O.sequential self.now.lines }
     {
         let _lines = &self.lines;
     }
@@ -106,7 +106,7 @@ impl<O: Object, K: BookName<O::Alloc>> Book<O, K> {
     /// Law: where all steps of a cell are entered, its node is the node of the list's run.
     pub fn node_law(&self, cell: &Cell<O, K>)
         ensures { cell.now.journal ≡ steps_of cell.now.me self.now.lines →
-            (run O.reply O.next O.initial (events_of self.now.lines)).node ≡ cell.now.node }
+            (run O.sequential (events_of self.now.lines)).node ≡ cell.now.node }
     {
         let _lines = &self.lines;
         let _me = cell.me;
@@ -188,7 +188,7 @@ impl<O: Object, K: BookName<O::Alloc>> Book<O, K> {
 
     /// The order of the list's run, or `Memory`: the calls that take effect of the node's committed log.
     pub fn order(&self) -> Result<Vec<Call<O::Alloc>, O::Alloc>, Fault>
-        ensures ok { IfOk result (λ calls. calls.items ≡ order_in (run O.reply O.next O.initial (events_of self.now.lines))) }
+        ensures ok { IfOk result (λ calls. calls.items ≡ order_in (run O.sequential (events_of self.now.lines))) }
         ensures refused { IfErr result (λ e. e ≡ Memory) }
     {
         linear_law::<O>();

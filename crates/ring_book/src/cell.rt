@@ -37,7 +37,7 @@ impl<O: Object, K: BookName<O::Alloc>> Model for Cell<O, K> {
 
     ghost view = { λ c. record { me = c.me; ahead = c.ahead; node = c.node; journal = sent c.journal } };
 
-    ghost invariant = { λ c. IsCell (one_machine O.reply O.next O.initial) K.name c.me c.ahead c.node c.journal };
+    ghost invariant = { λ c. IsCell (one_machine O.sequential) K.name c.me c.ahead c.node c.journal };
 }
 
 impl<O: Object, K: BookName<O::Alloc>> Cell<O, K> {
@@ -58,7 +58,7 @@ impl<O: Object, K: BookName<O::Alloc>> Cell<O, K> {
     /// Refused with `Stranger` while the last step isn't entered, then with `Stopped`; both change nothing. `Memory`
     /// leaves the node stopped, and its stop in the journal. A stop takes no memory.
     pub fn step(&mut self, input: Input<O::Alloc>, at: FrameRef) -> Result<(), Fault>
-        ensures { let m = one_machine O.reply O.next O.initial in
+        ensures { let m = one_machine O.sequential in
             MatchResult result (λ _. Journals m self.old self.new (Came input at)) (StepRefused m self.old self.new input at) }
     {
         if self.ahead {
@@ -93,7 +93,7 @@ impl<O: Object, K: BookName<O::Alloc>> Cell<O, K> {
     ///
     /// Refused with `Stranger` while the last step isn't entered, then as by the node; nothing is changed then.
     pub fn submit(&mut self, call: Call<O::Alloc>) -> Result<Ticket, Fault>
-        ensures given { let m = one_machine O.reply O.next O.initial in
+        ensures given { let m = one_machine O.sequential in
             MatchResult result
             (λ ticket. (ticket ≡ m.tickets self.old.node) × Journals m self.old self.new (Called call))
             (SubmitRefused m self.old) }

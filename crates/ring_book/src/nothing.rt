@@ -21,19 +21,15 @@ impl<A: Allocator + Copy> Model for Nothing<A> {
 }
 
 impl<A: Allocator + Copy + Drop> Object for Nothing<A> {
-    ghost use Rattle.ring_book.specs.Nothing.{is_content, is_readable, reply, next, snapshot_of, restored, ignores, replies, restores};
+    ghost use Rattle.ring_book.specs.Nothing.{is_content, is_readable, nothing, snapshot_of, restored, ignores, replies, restores};
 
     type Alloc = A;
 
     ghost is_content = { is_content };
 
-    ghost initial = { tt };
-
     ghost is_readable = { is_readable };
 
-    ghost reply = { reply };
-
-    ghost next = { next };
+    ghost sequential = { nothing };
 
     ghost snapshot_of = { snapshot_of };
 

@@ -37,7 +37,7 @@ impl<O: Object> Model for Opening<O> {
 
     ghost view = { λ o. record { count = length o.nodes.items; rings = rings_of o.writers.items } };
 
-    ghost invariant = { λ o. AllStart (one_machine O.reply O.next O.initial) 1 o.nodes.items o.writers.items × AllStartEnds o.writers.items o.ends.items × (length o.nodes.items ≡ 1) };
+    ghost invariant = { λ o. AllStart (one_machine O.sequential) 1 o.nodes.items o.writers.items × AllStartEnds o.writers.items o.ends.items × (length o.nodes.items ≡ 1) };
 }
 
 impl<O: Object> Opening<O> {
@@ -72,7 +72,7 @@ impl<O: Object> Opening<O> {
         self,
     ) -> Result<(Book<O, K>, Vec<Cell<O, K>, O::Alloc>), Fault>
         requires { self ≡ K.name }
-        ensures ok { IfOk result (λ r. (r.0 ≡ new_book) × (r.1.items ≡ new_cells (one_machine O.reply O.next O.initial) K.name.count)) }
+        ensures ok { IfOk result (λ r. (r.0 ≡ new_book) × (r.1.items ≡ new_cells (one_machine O.sequential) K.name.count)) }
         ensures alone { IfOk result (λ _. K.name.count ≡ 1) }
         ensures refused { IfErr result (λ fault. fault ≡ Memory) }
     {

@@ -32,7 +32,7 @@ pub struct Seen<A: Allocator + Copy + Drop = Global> {
 pub fn explained<O: Object, K: BookName<O::Alloc>>(
     book: &Book<O, K>,
 ) -> Result<Seen<O::Alloc>, Fault>
-    ensures ok { IfOk result (λ seen. IsLinearization O.reply O.next O.initial seen.order.items seen.history.items) }
+    ensures ok { IfOk result (λ seen. IsLinearization O.sequential seen.order.items seen.history.items) }
     ensures refused { IfErr result (λ fault. fault ≡ Memory) }
 {
     book.run_law();
@@ -45,7 +45,7 @@ pub fn explained<O: Object, K: BookName<O::Alloc>>(
 /// The committed calls of a cell whose steps are all entered, repeats removed, are a front of the book's order.
 pub fn in_order<O: Object, K: BookName<O::Alloc>>(book: &Book<O, K>, cell: &Cell<O, K>)
     requires { cell.now.journal ≡ steps_of cell.now.me book.now.lines }
-    ensures { IsFront (deduplicated (committed_of cell.now.node)) (order_in (run O.reply O.next O.initial (events_of book.now.lines))) }
+    ensures { IsFront (deduplicated (committed_of cell.now.node)) (order_in (run O.sequential (events_of book.now.lines))) }
 {
     book.node_law(cell);
     linear_law::<O>();
@@ -57,8 +57,8 @@ pub fn answered<O: Object, K: BookName<O::Alloc>>(
     book: &Book<O, K>,
     ticket: Ticket,
 ) -> Option<Answer>
-    ensures { let node = (run O.reply O.next O.initial (events_of book.now.lines)).node in
-        result ≡ told_at (answers_of O.reply O.next O.initial node) ticket }
+    ensures { let node = (run O.sequential (events_of book.now.lines)).node in
+        result ≡ told_at (answers_of O.sequential node) ticket }
 {
     book.run_law();
     book.answer(Proc::new(1), ticket)

@@ -7,6 +7,7 @@ use Rattle.std.proofs.lemmas.Bool.Decides.{nat_tests}
 use Rattle.ring_base.specs.declared.fault.Fault.{Fault}
 use Rattle.ring_base.specs.Fronts.{IsFront}
 use Rattle.ring_base.specs.Processors.{only}
+use Rattle.ring_object.specs.Operations.{Sequential}
 use Rattle.ring_one.specs.declared.input.Input.{Input}
 use Rattle.ring_one.specs.declared.input.Input.TheVariants.{Stop}
 use Rattle.ring_session.specs.Deduplicated.{deduplicated}
@@ -49,27 +50,27 @@ set_there (z ∷ xs) (suc i) x y h e = ap (λ ws. z ∷ ws) (set_there xs i x y 
 differs : (i j n : ℕ) → (j ≡ i → ⊥) → n ≡ suc i → (n == suc j) ≡ false
 differs i j n apart is = grind (arith, nat_tests)
 
-module _ {O A : Type 0} (reply : O → List ℕ → List ℕ) (next : O → List ℕ → O) (initial : O) where
+module _ {O A : Type 0} (object : Sequential O) where
   -- a step keeps the node's numbers in their limits
-  Makes-sound : (s : One A) (input : LineInput A) (l : StepView A) (t : One A) → IsBounded s → Makes (one_machine reply next initial) s input l t → IsBounded t
-  Makes-sound s (Called c) l t h made = subst IsBounded (sym made.1) ((one_keeps reply next initial).submits s c h)
-  Makes-sound s (Came i at) l t h made = subst IsBounded (sym made.1) ((one_keeps reply next initial).steps s i h)
+  Makes-sound : (s : One A) (input : LineInput A) (l : StepView A) (t : One A) → IsBounded s → Makes (one_machine object) s input l t → IsBounded t
+  Makes-sound s (Called c) l t h made = subst IsBounded (sym made.1) ((one_keeps object).submits s c h)
+  Makes-sound s (Came i at) l t h made = subst IsBounded (sym made.1) ((one_keeps object).steps s i h)
 
   -- the node of a cell that is entered is the node after the lines
   pub after_entered : (lines : List (Line A)) (i : ℕ) (cell : CellView (One A) A) → IsEntered lines i cell
-      → (cell.journal ≡ steps_of cell.me lines → (run reply next initial (events_of lines)).node ≡ cell.node) → node_after reply next initial lines ≡ cell.node
+      → (cell.journal ≡ steps_of cell.me lines → (run object (events_of lines)).node ≡ cell.node) → node_after object lines ≡ cell.node
   unfolding node_after
   after_entered lines i cell here law = law (here.journal ∙ ap (λ (k : ℕ). steps_of k lines) (sym here.me))
 
   -- and its committed log makes the one order
   pub order_entered : (lines : List (Line A)) (i : ℕ) (cell : CellView (One A) A) → IsEntered lines i cell
-      → (cell.journal ≡ steps_of cell.me lines → (run reply next initial (events_of lines)).node ≡ cell.node) → length (deduplicated (committed_of cell.node)) ≡ order_length reply next initial lines
+      → (cell.journal ≡ steps_of cell.me lines → (run object (events_of lines)).node ≡ cell.node) → length (deduplicated (committed_of cell.node)) ≡ order_length object lines
   order_entered lines i cell here law =
       let node = law (here.journal ∙ ap (λ (k : ℕ). steps_of k lines) (sym here.me)) in
-      sym (ap length (nothing_longer (deduplicated (committed_of (run reply next initial (events_of lines)).node))) ∙ ap (λ (n : One A). length (deduplicated (committed_of n))) node)
+      sym (ap length (nothing_longer (deduplicated (committed_of (run object (events_of lines)).node))) ∙ ap (λ (n : One A). length (deduplicated (committed_of n))) node)
 
   module _ (lines : List (Line A)) (i : ℕ) (cell cell1 : CellView (One A) A) (old : BookView A) (input : LineInput A)
-      (here : IsEntered lines i cell) (same : old.lines ≡ lines) (did : Journals (one_machine reply next initial) cell cell1 input) where
+      (here : IsEntered lines i cell) (same : old.lines ≡ lines) (did : Journals (one_machine object) cell cell1 input) where
     -- the journal of the cell that did a step
     journal_is : cell1.journal ≡ steps_of cell1.me old.lines ++ did.step ∷ []
     journal_is =
@@ -101,10 +102,10 @@ module _ {O A : Type 0} (reply : O → List ℕ → List ℕ) (next : O → List
       pub new_is : new.lines ≡ lines ++ record { number = length lines; step = entered.step } ∷ []
       new_is = subst (λ (ls : List (Line A)). new.lines ≡ ls ++ record { number = length ls; step = entered.step } ∷ []) same entered.lines
 
-      stepped : IsStep (one_machine reply next initial) cell.node entered.step cell2.node
+      stepped : IsStep (one_machine object) cell.node entered.step cell2.node
       stepped =
-          subst (λ (n : One A). IsStep (one_machine reply next initial) cell.node entered.step n) (sym (ap (λ (x : CellView (One A) A). x.node) entered.cell_is))
-          (subst (λ (s : StepView A). IsStep (one_machine reply next initial) cell.node s cell1.node) (sym one_step) did.stepped)
+          subst (λ (n : One A). IsStep (one_machine object) cell.node entered.step n) (sym (ap (λ (x : CellView (One A) A). x.node) entered.cell_is))
+          (subst (λ (s : StepView A). IsStep (one_machine object) cell.node s cell1.node) (sym one_step) did.stepped)
 
       -- the cell is entered again
       pub again : IsEntered new.lines i cell2
@@ -116,13 +117,13 @@ module _ {O A : Type 0} (reply : O → List ℕ → List ℕ) (next : O → List
       }
 
       -- the book has the line
-      pub enters_line : (node : ℕ) → node ≡ suc i → node_after reply next initial lines ≡ cell.node → node_after reply next initial new.lines ≡ cell2.node
-          → Enters reply next initial lines node input entered.step new.lines
+      pub enters_line : (node : ℕ) → node ≡ suc i → node_after object lines ≡ cell.node → node_after object new.lines ≡ cell2.node
+          → Enters object lines node input entered.step new.lines
       enters_line node is before after = record {
         node_is = node_is ∙ sym is;
         input_is = ap (λ (s : StepView A). s.input) one_step ∙ did.step_input;
-        made = subst (λ (n : One A). IsStep (one_machine reply next initial) n entered.step (node_after reply next initial new.lines)) (sym before)
-            (subst (λ (n : One A). IsStep (one_machine reply next initial) cell.node entered.step n) (sym after) stepped);
+        made = subst (λ (n : One A). IsStep (one_machine object) n entered.step (node_after object new.lines)) (sym before)
+            (subst (λ (n : One A). IsStep (one_machine object) cell.node entered.step n) (sym after) stepped);
         lines = new_is;
       }
 
@@ -141,7 +142,7 @@ module _ {O A : Type 0} (reply : O → List ℕ → List ℕ) (next : O → List
         ];
         kept = subst (λ (ls : List (Line A)). AllByRecursion (λ (l : Line A). AllByRecursion IsKept l.step.frames) ls) (sym new_is)
             (each-push (λ (l : Line A). AllByRecursion IsKept l.step.frames) lines (record { number = length lines; step = entered.step }) k.kept
-            (Leads-last (one_machine reply next initial) (one_keeps reply next initial) cell.node [] entered.step cell2.node here.sound (cell2.node, (stepped, refl))));
+            (Leads-last (one_machine object) (one_keeps object) cell.node [] entered.step cell2.node here.sound (cell2.node, (stepped, refl))));
       }
 
 -- where nothing was done, all cells are entered as before
@@ -219,11 +220,11 @@ module _ {A : Type 0} where
       }
 
 -- a test that came out so
-pub acted_so : {O A : Type 0} (reply : O → List ℕ → List ℕ) (next : O → List ℕ → O) (initial : O) (old new : CellView (One A) A) (input : Input A) (at : FrameRef) (b c : Bool) → Acted reply next initial old new input at b → b ≡ c → Acted reply next initial old new input at c
-acted_so reply next initial old new input at b c h e = subst (λ (x : Bool). Acted reply next initial old new input at x) e h
+pub acted_so : {O A : Type 0} (object : Sequential O) (old new : CellView (One A) A) (input : Input A) (at : FrameRef) (b c : Bool) → Acted object old new input at b → b ≡ c → Acted object old new input at c
+acted_so object old new input at b c h e = subst (λ (x : Bool). Acted object old new input at x) e h
 
 -- a cell that is entered and does nothing has stopped
-pub is_stopped_after : {O A : Type 0} (reply : O → List ℕ → List ℕ) (next : O → List ℕ → O) (initial : O) (lines : List (Line A)) (cell : CellView (One A) A) → cell.ahead ≡ false → node_after reply next initial lines ≡ cell.node
-    → (cell.ahead ≡ true) ⊎ (is_stopped cell.node.state ≡ true) → is_stopped (node_after reply next initial lines).state ≡ true
-is_stopped_after reply next initial lines cell not_ahead is (inl ahead) = let no_way : true ≡ false = sym ahead ∙ not_ahead in absurd cc
-is_stopped_after reply next initial lines cell not_ahead is (inr stopped) = ap (λ (n : One _). is_stopped n.state) is ∙ stopped
+pub is_stopped_after : {O A : Type 0} (object : Sequential O) (lines : List (Line A)) (cell : CellView (One A) A) → cell.ahead ≡ false → node_after object lines ≡ cell.node
+    → (cell.ahead ≡ true) ⊎ (is_stopped cell.node.state ≡ true) → is_stopped (node_after object lines).state ≡ true
+is_stopped_after object lines cell not_ahead is (inl ahead) = let no_way : true ≡ false = sym ahead ∙ not_ahead in absurd cc
+is_stopped_after object lines cell not_ahead is (inr stopped) = ap (λ (n : One _). is_stopped n.state) is ∙ stopped

@@ -3,6 +3,7 @@ use Rattle.std.proofs.Common.{◌≡◌, ℕ, suc, ◌+◌, ◌<◌, ◌≤◌, 
 use Rattle.std.specs.Io.KnownBytes.{Appends}
 use Rattle.std.proofs.KnownBytes.{Appends-trans}
 use Rattle.std.proofs.lemmas.List.{take-append-drop}
+use Rattle.ring_object.specs.Operations.{Sequential}
 use Rattle.ring_one.proofs.Waits.{drop-next}
 use Rattle.std.specs.Prelude.{IsSomeAnd, IfErr}
 use Rattle.ring_report.specs.declared.failure.Failure.{Failure}
@@ -61,15 +62,15 @@ pub broken_then : {T : Type 0} (r : Result T Failure) (old mid new : Option (Lis
 broken_then (Ok x) old mid new P Q R f p h = tt
 broken_then (Err e) old mid new P Q R f p h = λ unless. printed_then old mid new P Q R f p (h unless)
 
-module _ {O A : Type 0} (reply : O → List ℕ → List ℕ) (next : O → List ℕ → O) (initial : O) where
+module _ {O A : Type 0} (object : Sequential O) where
   -- one more line of the script
-  pub Runs-snoc : (count : ℕ) (ls : List (Numbered A)) (l : Numbered A) (old mid new : RunView A) (a b : List ℕ) → Runs reply next initial count ls old mid a → Does reply next initial count l.line mid new b
-      → Runs reply next initial count (ls ++ l ∷ []) old new (a ++ b)
+  pub Runs-snoc : (count : ℕ) (ls : List (Numbered A)) (l : Numbered A) (old mid new : RunView A) (a b : List ℕ) → Runs object count ls old mid a → Does object count l.line mid new b
+      → Runs object count (ls ++ l ∷ []) old new (a ++ b)
   Runs-snoc count [] l old mid new a b h does = record {
     between = new;
     before = b;
     after = [];
-    first = subst (λ (s : RunView A). Does reply next initial count l.line s new b) h.0 does;
+    first = subst (λ (s : RunView A). Does object count l.line s new b) h.0 does;
     second = (refl, refl);
     text_is = ap (λ t. t ++ b) h.1 ∙ sym (append-nil b);
   }
@@ -84,7 +85,7 @@ module _ {O A : Type 0} (reply : O → List ℕ → List ℕ) (next : O → List
 
   -- the line after these breaks off
   pub broken_run : (count : ℕ) (lines done : List (Numbered A)) (line : Numbered A) (old mid new : RunView A) (a b : List ℕ) → done ≡ take (length done) lines → length done < length lines → line ≡ get_or lines (length done) line
-      → Runs reply next initial count done old mid a → BreaksLine reply next initial line.line mid new b → BreaksRun reply next initial count lines old new (a ++ b)
+      → Runs object count done old mid a → BreaksLine object line.line mid new b → BreaksRun object count lines old new (a ++ b)
   broken_run count lines done line old mid new a b first within at h breaks = record {
     done = done;
     line = line;
@@ -95,24 +96,24 @@ module _ {O A : Type 0} (reply : O → List ℕ → List ℕ) (next : O → List
 
   -- one more turn of the network
   pub turned : (n : ℕ) (turn : Turn) (old mid taken new : RunView A) (a b : List ℕ) → next_turn mid.groups mid.under_way ≡ Some turn → taken ≡ record mid { under_way = drop 1 mid.under_way }
-      → TurnsTimes reply next initial n old mid a → Comes reply next initial turn taken new b → TurnsTimes reply next initial (n + 1) old new (a ++ b)
+      → TurnsTimes object n old mid a → Comes object turn taken new b → TurnsTimes object (n + 1) old new (a ++ b)
   turned n turn old mid taken new a b is took h comes =
-      let second : Turns reply next initial mid new b =
-      subst (λ (o : Option Turn). IsSomeAnd o (λ t. Comes reply next initial t (record mid { under_way = drop 1 mid.under_way }) new b)) (sym is) (subst (λ (s : RunView A). Comes reply next initial turn s new b) took comes) in
-      let more : TurnsTimes reply next initial (suc n) old new (a ++ b) = record { between = mid; before = a; after = b; first = h; second = second; text_is = refl } in
-      subst (λ (k : ℕ). TurnsTimes reply next initial k old new (a ++ b)) (sym (add-one n)) more
+      let second : Turns object mid new b =
+      subst (λ (o : Option Turn). IsSomeAnd o (λ t. Comes object t (record mid { under_way = drop 1 mid.under_way }) new b)) (sym is) (subst (λ (s : RunView A). Comes object turn s new b) took comes) in
+      let more : TurnsTimes object (suc n) old new (a ++ b) = record { between = mid; before = a; after = b; first = h; second = second; text_is = refl } in
+      subst (λ (k : ℕ). TurnsTimes object k old new (a ++ b)) (sym (add-one n)) more
 
   -- one more turn breaks off
   pub broken_turn : (turns n : ℕ) (turn : Turn) (old mid taken new : RunView A) (a b : List ℕ) → n < turns → next_turn mid.groups mid.under_way ≡ Some turn → taken ≡ record mid { under_way = drop 1 mid.under_way }
-      → TurnsTimes reply next initial n old mid a → Breaks (Comes reply next initial turn) taken new b → BreaksPump reply next initial turns old new (a ++ b)
+      → TurnsTimes object n old mid a → Breaks (Comes object turn) taken new b → BreaksPump object turns old new (a ++ b)
   broken_turn turns n turn old mid taken new a b less is took h breaks =
-      let second : BreaksTurn reply next initial mid new b =
-      subst (λ (o : Option Turn). IsSomeAnd o (λ t. Breaks (Comes reply next initial t) (record mid { under_way = drop 1 mid.under_way }) new b)) (sym is) (subst (λ (s : RunView A). Breaks (Comes reply next initial turn) s new b) took breaks) in
+      let second : BreaksTurn object mid new b =
+      subst (λ (o : Option Turn). IsSomeAnd o (λ t. Breaks (Comes object t) (record mid { under_way = drop 1 mid.under_way }) new b)) (sym is) (subst (λ (s : RunView A). Breaks (Comes object turn) s new b) took breaks) in
       (n, (less, record { between = mid; before = a; after = b; first = h; second = second; text_is = refl }))
 
   -- no copy is left after so many turns
-  pub pumped : (turns n : ℕ) (old mid new : RunView A) (text : List ℕ) → n ≤ turns → (n < turns → new.under_way ≡ []) → new ≡ mid → TurnsTimes reply next initial n old mid text → Pumps reply next initial turns old new text
-  pumped turns n old mid new text most rest is h = record { taken = n; most = most; turn = subst (λ (s : RunView A). TurnsTimes reply next initial n old s text) (sym is) h; rest = rest }
+  pub pumped : (turns n : ℕ) (old mid new : RunView A) (text : List ℕ) → n ≤ turns → (n < turns → new.under_way ≡ []) → new ≡ mid → TurnsTimes object n old mid text → Pumps object turns old new text
+  pumped turns n old mid new text most rest is h = record { taken = n; most = most; turn = subst (λ (s : RunView A). TurnsTimes object n old s text) (sym is) h; rest = rest }
 
 -- where no turn is left, no copy was under way
 pub none_left : (groups : Option (List ℕ)) (us us' : List Parcel) → next_turn groups us ≡ None → us' ≡ drop 1 us → (us' ≡ []) × (us' ≡ us)

@@ -9,6 +9,7 @@ use Rattle.ring_base.specs.Fault.{number_of}
 use Rattle.ring_base.specs.Fronts.{IsFront}
 use Rattle.ring_base.specs.Numbers.{max_number}
 use Rattle.ring_base.specs.Processors.{only}
+use Rattle.ring_object.specs.Operations.{Sequential}
 use Rattle.ring_payload.specs.declared.call.Call.{Call}
 use Rattle.ring_one.specs.declared.input.Input.{Input}
 use Rattle.ring_one.specs.declared.input.Input.TheVariants as inputs
@@ -126,20 +127,20 @@ abbrev pub nodes_text : {A : Type 0} → ℕ → One A → List ℕ
 nodes_text zero node = []
 nodes_text (suc n) node = nodes_text n node ++ line_of (node_text (suc n) node.state node.ring (length (committed_of node)) (length (log_of node.text)))
 
-module _ {O A : Type 0} (reply : O → List ℕ → List ℕ) (next : O → List ℕ → O) (initial : O) where
+module _ {O A : Type 0} (object : Sequential O) where
   -- the node after these lines of the book
   unfoldable pub node_after : List (Line A) → One A
-  node_after lines = (run reply next initial (events_of lines)).node
+  node_after lines = (run object (events_of lines)).node
 
   -- how long the one order is after these lines
   abbrev pub order_length : List (Line A) → ℕ
-  order_length lines = length (order_in (run reply next initial (events_of lines)))
+  order_length lines = length (order_in (run object (events_of lines)))
 
   -- The next line of the book is of this node and this input: just what the input makes of the node.
   pub record Enters (old : List (Line A)) (node : ℕ) (input : LineInput A) (step : StepView A) (new : List (Line A)) : Type 0 where
     pub node_is : step.node ≡ node
     pub input_is : step.input ≡ input
-    pub made : IsStep (one_machine reply next initial) (node_after old) step (node_after new)
+    pub made : IsStep (one_machine object) (node_after old) step (node_after new)
     pub lines : new ≡ old ++ record { number = length old; step = step } ∷ []
 
   -- The node takes the call: that is the next line of the book, and nothing is printed.
@@ -171,7 +172,7 @@ module _ {O A : Type 0} (reply : O → List ℕ → List ℕ) (next : O → List
 
   -- What a cell does on an input: the step of the input or a stop, or else nothing, since it is ahead or has stopped.
   abbrev pub Acted : CellView (One A) A → CellView (One A) A → Input A → FrameRef → Bool → Type 0
-  Acted old new input at true = (done : Input A) × (((done ≡ input) ⊎ (done ≡ inputs.Stop)) × Journals (one_machine reply next initial) old new (Came done at))
+  Acted old new input at true = (done : Input A) × (((done ≡ input) ⊎ (done ≡ inputs.Stop)) × Journals (one_machine object) old new (Came done at))
   Acted old new input at false = (new ≡ old) × ((old.ahead ≡ true) ⊎ (is_stopped old.node.state ≡ true))
 
   -- an input comes to a node: where it has stopped, that changes nothing

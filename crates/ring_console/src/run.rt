@@ -76,10 +76,10 @@ impl<O: Object, K: BookName<O::Alloc>> Run<O, K> {
     /// run itself, with `NotMember` where a line names no node of the run. What was done before stays done, and printed
     /// where the output holds; the event that breaks off does nothing, or all but the sending of some of its frames.
     pub fn take<W: Write>(&mut self, script: Script<O::Alloc>, out: &mut W) -> Result<(), Failure>
-        ensures done { OnOk result (Prints (W.contents out.old) (W.contents out.new) (λ text. Runs O.reply O.next O.initial K.name.count script.lines.items self.old self.new text)) }
+        ensures done { OnOk result (Prints (W.contents out.old) (W.contents out.new) (λ text. Runs O.sequential K.name.count script.lines.items self.old self.new text)) }
         ensures kept { Grows self.old.lines self.new.lines }
         ensures failed { IfErr result (EndsRun self.new.lines (AreAmong K.name.count script.lines.items)) }
-        ensures broken { IfErr result (λ failure. UnlessOutput failure (Prints (W.contents out.old) (W.contents out.new) (λ text. BreaksRun O.reply O.next O.initial K.name.count script.lines.items self.old self.new text))) }
+        ensures broken { IfErr result (λ failure. UnlessOutput failure (Prints (W.contents out.old) (W.contents out.new) (λ text. BreaksRun O.sequential K.name.count script.lines.items self.old self.new text))) }
     {
         for numbered in script.lines {
             self.take_line(numbered.line, out)?;
@@ -89,10 +89,10 @@ impl<O: Object, K: BookName<O::Alloc>> Run<O, K> {
 
     /// Does what a line asks for.
     fn take_line<W: Write>(&mut self, line: Line<O::Alloc>, out: &mut W) -> Result<(), Failure>
-        ensures done { OnOk result (Prints (W.contents out.old) (W.contents out.new) (λ text. Does O.reply O.next O.initial K.name.count line self.old self.new text)) }
+        ensures done { OnOk result (Prints (W.contents out.old) (W.contents out.new) (λ text. Does O.sequential K.name.count line self.old self.new text)) }
         ensures kept { Grows self.old.lines self.new.lines }
         ensures failed { IfErr result (EndsRun self.new.lines (IsAmong K.name.count (asked_by line))) }
-        ensures broken { IfErr result (λ failure. UnlessOutput failure (Prints (W.contents out.old) (W.contents out.new) (λ text. BreaksLine O.reply O.next O.initial line self.old self.new text))) }
+        ensures broken { IfErr result (λ failure. UnlessOutput failure (Prints (W.contents out.old) (W.contents out.new) (λ text. BreaksLine O.sequential line self.old self.new text))) }
     {
         match line {
             Line::Call { node, call } => self.submit(node, call, out),
@@ -120,10 +120,10 @@ impl<O: Object, K: BookName<O::Alloc>> Run<O, K> {
         number: Option<u64>,
         out: &mut W,
     ) -> Result<(), Failure>
-        ensures done { OnOk result (Prints (W.contents out.old) (W.contents out.new) (λ text. DeliversNumber O.reply O.next O.initial node number self.old self.new text)) }
+        ensures done { OnOk result (Prints (W.contents out.old) (W.contents out.new) (λ text. DeliversNumber O.sequential node number self.old self.new text)) }
         ensures kept { Grows self.old.lines self.new.lines }
         ensures failed { IfErr result (EndsRun self.new.lines (node ≤ K.name.count)) }
-        ensures broken { IfErr result (λ failure. UnlessOutput failure (Prints (W.contents out.old) (W.contents out.new) (λ text. Breaks (DeliversNumber O.reply O.next O.initial node number) self.old self.new text))) }
+        ensures broken { IfErr result (λ failure. UnlessOutput failure (Prints (W.contents out.old) (W.contents out.new) (λ text. Breaks (DeliversNumber O.sequential node number) self.old self.new text))) }
     {
         let Some(number) = number else {
             return Ok(());
@@ -141,10 +141,10 @@ impl<O: Object, K: BookName<O::Alloc>> Run<O, K> {
         call: Call<O::Alloc>,
         out: &mut W,
     ) -> Result<(), Failure>
-        ensures done { OnOk result (Prints (W.contents out.old) (W.contents out.new) (λ text. Submits O.reply O.next O.initial node call self.old self.new text)) }
+        ensures done { OnOk result (Prints (W.contents out.old) (W.contents out.new) (λ text. Submits O.sequential node call self.old self.new text)) }
         ensures kept { Grows self.old.lines self.new.lines }
         ensures failed { IfErr result (EndsRun self.new.lines (node ≤ K.name.count)) }
-        ensures broken { IfErr result (λ failure. UnlessOutput failure (Prints (W.contents out.old) (W.contents out.new) (λ text. Breaks (Submits O.reply O.next O.initial node call) self.old self.new text))) }
+        ensures broken { IfErr result (λ failure. UnlessOutput failure (Prints (W.contents out.old) (W.contents out.new) (λ text. Breaks (Submits O.sequential node call) self.old self.new text))) }
     {
         let (client, number) = (call.client, call.number);
         let Some(cell) = self.cells.get_mut(node.number() as usize - 1) else {
@@ -168,10 +168,10 @@ impl<O: Object, K: BookName<O::Alloc>> Run<O, K> {
     /// The frame that stands there comes to a node. It changes nothing where it was sent to others alone.
     fn deliver<W: Write>(&mut self, node: Proc, at: FrameRef, out: &mut W) -> Result<(), Failure>
         requires { IsSent self.old.lines at }
-        ensures done { OnOk result (Prints (W.contents out.old) (W.contents out.new) (λ text. Delivers O.reply O.next O.initial node at self.old self.new text)) }
+        ensures done { OnOk result (Prints (W.contents out.old) (W.contents out.new) (λ text. Delivers O.sequential node at self.old self.new text)) }
         ensures kept { Grows self.old.lines self.new.lines }
         ensures failed { IfErr result (EndsRun self.new.lines (node ≤ K.name.count)) }
-        ensures broken { IfErr result (λ failure. UnlessOutput failure (Prints (W.contents out.old) (W.contents out.new) (λ text. Breaks (Delivers O.reply O.next O.initial node at) self.old self.new text))) }
+        ensures broken { IfErr result (λ failure. UnlessOutput failure (Prints (W.contents out.old) (W.contents out.new) (λ text. Breaks (Delivers O.sequential node at) self.old self.new text))) }
     {
         spelling_law::<O::Alloc>();
         one_spelling_law::<O::Alloc>();
@@ -193,10 +193,10 @@ impl<O: Object, K: BookName<O::Alloc>> Run<O, K> {
         out: &mut W,
     ) -> Result<(), Failure>
         requires { IsThere self.old.lines node at input }
-        ensures done { OnOk result (Prints (W.contents out.old) (W.contents out.new) (λ text. Steps O.reply O.next O.initial node input at self.old self.new text)) }
+        ensures done { OnOk result (Prints (W.contents out.old) (W.contents out.new) (λ text. Steps O.sequential node input at self.old self.new text)) }
         ensures kept { Grows self.old.lines self.new.lines }
         ensures failed { IfErr result (EndsRun self.new.lines (node ≤ K.name.count)) }
-        ensures broken { IfErr result (λ failure. UnlessOutput failure (Prints (W.contents out.old) (W.contents out.new) (λ text. Breaks (Steps O.reply O.next O.initial node input at) self.old self.new text))) }
+        ensures broken { IfErr result (λ failure. UnlessOutput failure (Prints (W.contents out.old) (W.contents out.new) (λ text. Breaks (Steps O.sequential node input at) self.old self.new text))) }
     {
         let Some(cell) = self.cells.get_mut(node.number() as usize - 1) else {
             return Err(Failure::Refused(Fault::NotMember));
@@ -223,10 +223,10 @@ impl<O: Object, K: BookName<O::Alloc>> Run<O, K> {
 
     /// Takes turns of the network, fewer where no frame is under way.
     fn pump<W: Write>(&mut self, turns: u32, out: &mut W) -> Result<(), Failure>
-        ensures done { OnOk result (Prints (W.contents out.old) (W.contents out.new) (λ text. Pumps O.reply O.next O.initial turns self.old self.new text)) }
+        ensures done { OnOk result (Prints (W.contents out.old) (W.contents out.new) (λ text. Pumps O.sequential turns self.old self.new text)) }
         ensures kept { Grows self.old.lines self.new.lines }
         ensures failed { IfErr result (EndsRun self.new.lines ⊤) }
-        ensures broken { IfErr result (λ failure. UnlessOutput failure (Prints (W.contents out.old) (W.contents out.new) (λ text. BreaksPump O.reply O.next O.initial turns self.old self.new text))) }
+        ensures broken { IfErr result (λ failure. UnlessOutput failure (Prints (W.contents out.old) (W.contents out.new) (λ text. BreaksPump O.sequential turns self.old self.new text))) }
     {
         for _ in 0..turns {
             let Some(turn) = self.network.turn() else {
@@ -240,10 +240,10 @@ impl<O: Object, K: BookName<O::Alloc>> Run<O, K> {
     /// A copy that was under way comes to its receiver, or is lost.
     fn take_turn<W: Write>(&mut self, turn: Turn, out: &mut W) -> Result<(), Failure>
         requires { IsBrought K.name.count self.old.lines turn }
-        ensures done { OnOk result (Prints (W.contents out.old) (W.contents out.new) (λ text. Comes O.reply O.next O.initial turn self.old self.new text)) }
+        ensures done { OnOk result (Prints (W.contents out.old) (W.contents out.new) (λ text. Comes O.sequential turn self.old self.new text)) }
         ensures kept { Grows self.old.lines self.new.lines }
         ensures failed { IfErr result (EndsRun self.new.lines ⊤) }
-        ensures broken { IfErr result (λ failure. UnlessOutput failure (Prints (W.contents out.old) (W.contents out.new) (λ text. Breaks (Comes O.reply O.next O.initial turn) self.old self.new text))) }
+        ensures broken { IfErr result (λ failure. UnlessOutput failure (Prints (W.contents out.old) (W.contents out.new) (λ text. Breaks (Comes O.sequential turn) self.old self.new text))) }
     {
         match turn {
             Turn::Arrives(parcel) => self.deliver(parcel.receiver, parcel.frame, out),
@@ -253,7 +253,7 @@ impl<O: Object, K: BookName<O::Alloc>> Run<O, K> {
 
     /// Prints the state. Otherwise `Output`.
     fn show<W: Write>(&self, out: &mut W) -> Result<(), Failure>
-        ensures done { OnOk result (Prints (W.contents out.old) (W.contents out.new) (λ text. Shows O.reply O.next O.initial K.name.count self.now self.now text)) }
+        ensures done { OnOk result (Prints (W.contents out.old) (W.contents out.new) (λ text. Shows O.sequential K.name.count self.now self.now text)) }
         ensures failed { IfErr result (λ failure. failure ≡ Output) }
     {
         for (before, cell) in self.cells.iter().enumerate() {
@@ -274,7 +274,7 @@ impl<O: Object, K: BookName<O::Alloc>> Run<O, K> {
 
     /// How long the one order is.
     fn order_len(&self) -> u64
-        ensures { result ≡ order_length O.reply O.next O.initial self.now.lines }
+        ensures { result ≡ order_length O.sequential self.now.lines }
     {
         let cell = &self.cells[0];
         self.book.node_law(cell);
@@ -288,7 +288,7 @@ fn act<O: Object, K: BookName<O::Alloc>>(
     input: Input<O::Alloc>,
     at: FrameRef,
 ) -> bool
-    ensures { Acted O.reply O.next O.initial cell.old cell.new input at result }
+    ensures { Acted O.sequential cell.old cell.new input at result }
 {
     match cell.step(input, at) {
         Ok(()) | Err(Fault::Memory) => true,

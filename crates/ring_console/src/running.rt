@@ -40,7 +40,7 @@ pub fn script<A: Allocator + Copy + Drop, R: Read, O: Write, E: Write>(
     ensures quiet { result ≡ 0 → Keeps (E.contents err.old) (E.contents err.new) }
     ensures printed { let object = ⟦<Things<A> as Object>⟧ in
         result ≡ 0 → (script : Script A) × (bytes : List ℕ) × IsAllOf (R.remaining input.old) bytes × AnswersInput OfOne (Ok script) bytes
-        × Prints (O.contents out.old) (O.contents out.new) (λ text. IsTextOf object.reply object.next object.initial 1 script.lines.items text) }
+        × Prints (O.contents out.old) (O.contents out.new) (λ text. IsTextOf object.sequential 1 script.lines.items text) }
 {
     let script = match Script::read(alloc, input, Rings::OfOne) {
         Ok(script) => script,
@@ -69,7 +69,7 @@ fn run_script<A: Allocator + Copy + Drop, W: Write>(
     requires one { script.nodes.count ≡ 1 }
     requires among { AreAmong script.nodes.count script.lines.items }
     ensures printed { let object = ⟦<Things<A> as Object>⟧ in
-        OnOk result (Prints (W.contents out.old) (W.contents out.new) (λ text. IsTextOf object.reply object.next object.initial 1 script.lines.items text)) }
+        OnOk result (Prints (W.contents out.old) (W.contents out.new) (λ text. IsTextOf object.sequential 1 script.lines.items text)) }
     ensures ended { IfErr result (EndsScript A) }
 {
     let opening = Opening::<Things<A>>::new(alloc, script.nodes)?;
@@ -85,7 +85,7 @@ fn run_over<O: Object, K: BookName<O::Alloc>, W: Write>(
 ) -> Result<(), Failure>
     requires named { opening ≡ K.name }
     requires among { AreAmong K.name.count script.lines.items }
-    ensures printed { OnOk result (Prints (W.contents out.old) (W.contents out.new) (λ text. IsTextOf O.reply O.next O.initial K.name.count script.lines.items text)) }
+    ensures printed { OnOk result (Prints (W.contents out.old) (W.contents out.new) (λ text. IsTextOf O.sequential K.name.count script.lines.items text)) }
     ensures ended { IfErr result (EndsScript O.Alloc) }
 {
     let mut run = Run::<O, K>::new(alloc, opening)?;

@@ -10,11 +10,17 @@ IsReply reply = (length reply ≤ 64) × AreBytes reply
 abbrev pub unreadable : List ℕ
 unreadable = 255 ∷ []
 
+-- a sequential object: its content at the start, and what an operation is replied and makes of a content
+pub record Sequential (O : Type 0) : Type 0 where
+  pub initial : O
+  pub reply : O → List ℕ → List ℕ
+  pub next : O → List ℕ → O
+
 -- the content after a list of operations, from a content on
-abbrev pub content_after : {O : Type 0} → (O → List ℕ → O) → O → List (List ℕ) → O
-content_after next o [] = o
-content_after next o (op ∷ ops) = content_after next (next o op) ops
+abbrev pub content_after : {O : Type 0} → Sequential O → O → List (List ℕ) → O
+content_after object o [] = o
+content_after object o (op ∷ ops) = content_after object (object.next o op) ops
 
 -- the reply to the operation at place p of a list, after those before it
-abbrev pub reply_at : {O : Type 0} → (O → List ℕ → List ℕ) → (O → List ℕ → O) → O → List (List ℕ) → ℕ → List ℕ
-reply_at reply next initial ops p = reply (content_after next initial (take p ops)) (slice_index_or ops p [])
+abbrev pub reply_at : {O : Type 0} → Sequential O → List (List ℕ) → ℕ → List ℕ
+reply_at object ops p = object.reply (content_after object object.initial (take p ops)) (slice_index_or ops p [])

@@ -10,16 +10,16 @@ use crate::object::Object;
 /// its snapshot is restored to it. Each reply has at most 64 bytes, and stays the same as the list grows.
 pub fn object_law<O: Object>()
     ensures reached { (ops : List (List ℕ)) → All AreBytes ops →
-        O.is_content (content_after O.next O.initial ops) }
+        O.is_content (content_after O.sequential O.sequential.initial ops) }
     ensures comes_back { (ops : List (List ℕ)) → All AreBytes ops →
-        let content = content_after O.next O.initial ops in
+        let content = content_after O.sequential O.sequential.initial ops in
         length (O.snapshot_of content) < 2 ^ 64 → O.restored (O.snapshot_of content) ≡ Some content }
     ensures grows { (ops more : List (List ℕ)) →
-        content_after O.next O.initial (ops ++ more)
-        ≡ content_after O.next (content_after O.next O.initial ops) more }
+        content_after O.sequential O.sequential.initial (ops ++ more)
+        ≡ content_after O.sequential (content_after O.sequential O.sequential.initial ops) more }
 
     ensures replied { (ops : List (List ℕ)) (p : ℕ) → All AreBytes ops → p < length ops →
-        IsReply (reply_at O.reply O.next O.initial ops p) }
+        IsReply (reply_at O.sequential ops p) }
     ensures stays { (ops more : List (List ℕ)) (p : ℕ) → p < length ops →
-        reply_at O.reply O.next O.initial (ops ++ more) p ≡ reply_at O.reply O.next O.initial ops p }
+        reply_at O.sequential (ops ++ more) p ≡ reply_at O.sequential ops p }
 {}

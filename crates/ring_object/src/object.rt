@@ -3,7 +3,7 @@
 ghost use Rattle.std.specs.Prelude.{◌≡◌, ℕ, Bool, false, ◌^◌, ◌<◌, List, ◌++◌, length, Option, Some, IfOk, IfErr, OnOk, OnErr};
 ghost use Rattle.ring_base.specs.declared.fault.Fault.TheVariants.{Memory};
 ghost use Rattle.ring_object.specs.Bytes.{AreBytes};
-ghost use Rattle.ring_object.specs.Operations.{IsReply, unreadable};
+ghost use Rattle.ring_object.specs.Operations.{IsReply, Sequential, unreadable};
 ghost use Rattle.ring_object.specs.Snapshots.{Restores, Refuses};
 
 use crate::short::Reply;
@@ -21,17 +21,11 @@ pub trait Object: Sized + Drop {
     /// Holds of the contents that there are.
     ghost is_content: { Self → Type 0 };
 
-    /// The content at the start.
-    ghost initial: { Self };
-
     /// The operations that can be read.
     ghost is_readable: { List ℕ → Bool };
 
-    /// The reply to an operation, by the content before it.
-    ghost reply: { Self → List ℕ → List ℕ };
-
-    /// The content after an operation, by the content before it.
-    ghost next: { Self → List ℕ → Self };
+    /// The content at the start, and what an operation is replied and makes of the content before it.
+    ghost sequential: { Sequential Self };
 
     /// The content as bytes.
     ghost snapshot_of: { Self → List ℕ };
@@ -41,13 +35,13 @@ pub trait Object: Sized + Drop {
 
     /// An object at the start, or `Memory`.
     fn start(alloc: Self::Alloc) -> Result<Self, Fault>
-        ensures ok { IfOk result (λ object. object ≡ initial) }
+        ensures ok { IfOk result (λ object. object ≡ sequential.initial) }
         ensures refused { IfErr result (λ fault. fault ≡ Memory) };
 
     /// Does an operation. `Memory` leaves the content as it was.
     fn apply(&mut self, op: &[u8]) -> Result<Reply, Fault>
-        ensures reply { IfOk result (λ r. r ≡ reply self.old op.now) }
-        ensures ok { OnOk result (self.new ≡ next self.old op.now) }
+        ensures reply { IfOk result (λ r. r ≡ sequential.reply self.old op.now) }
+        ensures ok { OnOk result (self.new ≡ sequential.next self.old op.now) }
         ensures err { OnErr result (self.new ≡ self.old) }
         ensures refused { IfErr result (λ fault. fault ≡ Memory) };
 
@@ -63,14 +57,14 @@ pub trait Object: Sized + Drop {
         ensures ok { IfOk result (λ object. restored bytes.now ≡ Some object) }
         ensures refused { IfErr result (Refuses (restored bytes.now)) };
 
-    ghost starts: { is_content initial };
+    ghost starts: { is_content sequential.initial };
 
-    ghost keeps: { (content : Self) (op : List ℕ) → AreBytes op → is_content content → is_content (next content op) };
+    ghost keeps: { (content : Self) (op : List ℕ) → AreBytes op → is_content content → is_content (sequential.next content op) };
 
-    ghost replies: { (content : Self) (op : List ℕ) → AreBytes op → is_content content → IsReply (reply content op) };
+    ghost replies: { (content : Self) (op : List ℕ) → AreBytes op → is_content content → IsReply (sequential.reply content op) };
 
     ghost ignores: { (content : Self) (op : List ℕ) → is_readable op ≡ false →
-        (reply content op ≡ unreadable) × (next content op ≡ content) };
+        (sequential.reply content op ≡ unreadable) × (sequential.next content op ≡ content) };
 
     ghost restores: { Restores is_content snapshot_of restored };
 }

@@ -3,6 +3,7 @@ use Rattle.std.proofs.Common.{◌≡◌, ℕ, suc, ◌+◌, ◌-◌, ◌&&◌, n
 use Rattle.std.proofs.lemmas.Bool.{eqb-true, and_parts}
 use Rattle.std.proofs.lemmas.List.Elements.{All-nil, All-cons, All-append}
 use Rattle.ring_base.specs.Fronts.{IsFront, front_get}
+use Rattle.ring_object.specs.Operations.{Sequential}
 use Rattle.ring_payload.specs.declared.call.Call.{Call}
 use Rattle.ring_session.specs.declared.answer.Answer.{Answer}
 use Rattle.ring_session.specs.declared.answer.Answer.TheVariants.{Done, Kept, Refused}
@@ -41,12 +42,12 @@ is_place-true : (place : ℕ) (o : Option ℕ) → is_place place o ≡ true →
 is_place-true place None e = absurd (cc e)
 is_place-true place (Some p) e = ap Some (eqb-true p place e)
 
-module _ {O A : Type 0} (reply : O → List ℕ → List ℕ) (next : O → List ℕ → O) (initial : O) (all : List (Call A)) where
+module _ {O A : Type 0} (object : Sequential O) (all : List (Call A)) where
   -- a right item of the history
   abbrev IsRight : Item A → Type 0
-  IsRight item = IsGiven reply next initial (all ∷ []) item
+  IsRight item = IsGiven object (all ∷ []) item
 
-  told-one : (place ticket : ℕ) (c : Call A) (o : Option Answer) → StandsAt all place c → session_answer reply next initial all place ≡ o → All IsRight (replies (answered ticket c o))
+  told-one : (place ticket : ℕ) (c : Call A) (o : Option Answer) → StandsAt all place c → session_answer object all place ≡ o → All IsRight (replies (answered ticket c o))
   told-one place ticket c None at is = All-nil IsRight
   told-one place ticket c (Some (Refused n)) at is = All-nil IsRight
   told-one place ticket c (Some (Done r)) at is =
@@ -62,22 +63,22 @@ module _ {O A : Type 0} (reply : O → List ℕ → List ℕ) (next : O → List
   right-append xs ys h k = rw (replies-append xs ys) (All-append IsRight (replies xs) (replies ys) h k)
 
   told-if : (committed : List (Call A)) (place ticket : ℕ) (t : Asked A) → IsFront committed all → (b : Bool) → is_place place (place_of committed t) ≡ b
-      → All IsRight (replies (if b then answered ticket t.call (session_answer reply next initial committed place) else []))
+      → All IsRight (replies (if b then answered ticket t.call (session_answer object committed place) else []))
   told-if committed place ticket t front false e = All-nil IsRight
   told-if committed place ticket t front true e =
       let at : StandsAt committed place t.call = place_of-stands committed t place (is_place-true place (place_of committed t) e) in
-      told-one place ticket t.call (session_answer reply next initial committed place) (front_get committed all place t.call front at) (session_answer-front reply next initial committed all place t.call at front)
+      told-one place ticket t.call (session_answer object committed place) (front_get committed all place t.call front at) (session_answer-front object committed all place t.call at front)
 
-  told-at : (committed : List (Call A)) (place ticket : ℕ) (ts : List (Asked A)) → IsFront committed all → All IsRight (replies (answers_at reply next initial committed place ticket ts))
+  told-at : (committed : List (Call A)) (place ticket : ℕ) (ts : List (Asked A)) → IsFront committed all → All IsRight (replies (answers_at object committed place ticket ts))
   told-at committed place ticket [] front = All-nil IsRight
   told-at committed place ticket (t ∷ ts) front =
-      right-append (if is_place place (place_of committed t) then answered ticket t.call (session_answer reply next initial committed place) else []) (answers_at reply next initial committed place (ticket + 1) ts)
+      right-append (if is_place place (place_of committed t) then answered ticket t.call (session_answer object committed place) else []) (answers_at object committed place (ticket + 1) ts)
       (told-if committed place ticket t front (is_place place (place_of committed t)) refl) (told-at committed place (ticket + 1) ts front)
 
   -- the answers that come as all is committed
-  pub told-after : (tickets : List (Asked A)) (committed more : List (Call A)) → committed ++ more ≡ all → All IsRight (replies (answers_after reply next initial tickets committed more))
+  pub told-after : (tickets : List (Asked A)) (committed more : List (Call A)) → committed ++ more ≡ all → All IsRight (replies (answers_after object tickets committed more))
   told-after tickets committed [] e = All-nil IsRight
   told-after tickets committed (c ∷ more) e =
       let whole : (committed ++ c ∷ []) ++ more ≡ all = append_assoc committed (c ∷ []) more ∙ e in
-      right-append (answers_at reply next initial (committed ++ c ∷ []) (length committed) 0 tickets) (answers_after reply next initial tickets (committed ++ c ∷ []) more)
+      right-append (answers_at object (committed ++ c ∷ []) (length committed) 0 tickets) (answers_after object tickets (committed ++ c ∷ []) more)
       (told-at (committed ++ c ∷ []) (length committed) 0 tickets (more, whole)) (told-after tickets (committed ++ c ∷ []) more whole)

@@ -6,6 +6,7 @@ use Rattle.std.proofs.lemmas.List.Elements.{All-nil, All-cons}
 use Rattle.std.proofs.Math.Seq.{drop-append_seam}
 use Rattle.ring_base.specs.declared.fault.Fault.{Fault}
 use Rattle.ring_base.specs.Fronts.{IsFront, front_self, front_trans, front_get, front_append}
+use Rattle.ring_object.specs.Operations.{Sequential}
 use Rattle.ring_payload.specs.declared.call.Call.{Call}
 use Rattle.ring_payload.specs.declared.content.Payload.{Payload}
 use Rattle.ring_payload.specs.declared.content.Payload.TheVariants.{Call as OneCall}
@@ -69,10 +70,10 @@ drop-front xs ys front = ap (λ w. xs ++ drop (length xs) w) (sym front.1) ∙ a
 one-log : {A : Type 0} (calls : List (Call A)) → All (λ w. IsFront w calls) (calls ∷ [])
 one-log {A} calls = let P : List (Call A) → Type 0 = λ w. IsFront w calls in All-cons P calls [] (front_self calls) (All-nil P)
 
-module _ {O A : Type 0} (reply : O → List ℕ → List ℕ) (next : O → List ℕ → O) (initial : O) where
+module _ {O A : Type 0} (object : Sequential O) where
   -- a world is explained
   abbrev pub IsExplained : World A → Type 0
-  IsExplained w = IsLinearization reply next initial (order_in w) w.history
+  IsExplained w = IsLinearization object (order_in w) w.history
 
   -- What an event keeps.
   pub record Right (w after : World A) : Type 0 where
@@ -84,10 +85,10 @@ module _ {O A : Type 0} (reply : O → List ℕ → List ℕ) (next : O → List
   right-same w good = record { good = good; linear = λ h. h; grows = front_self (order_in w) }
 
   right-step : (w after : World A) → Good after → IsFront (committed_of w.node) (committed_of after.node)
-      → (items : List (Item A)) → w.history ++ items ≡ after.history → IsAdded reply next initial (committed_of after.node ∷ []) items → Right w after
+      → (items : List (Item A)) → w.history ++ items ≡ after.history → IsAdded object (committed_of after.node ∷ []) items → Right w after
   right-step w after good front items whole added =
       let issued : List (Call A) → Type 0 = AreIssued after.history in
-      let step : IsOrderStep reply next initial (moment_of w) (moment_of after) = record {
+      let step : IsOrderStep object (moment_of w) (moment_of after) = record {
         grows = (front, tt);
         agrees = (committed_of after.node, one-log (committed_of after.node));
         issued = All-cons issued (committed_of after.node) [] (committed-issued after good) (All-nil issued);
@@ -95,23 +96,23 @@ module _ {O A : Type 0} (reply : O → List ℕ → List ℕ) (next : O → List
       } in
       record {
         good = good;
-        linear = linear-step reply next initial (moment_of w) (moment_of after) step;
+        linear = linear-step object (moment_of w) (moment_of after) step;
         grows = order_of-grows (committed_of w.node ∷ []) (committed_of after.node ∷ []) (front, tt) (committed_of after.node, one-log (committed_of after.node));
       }
 
-  right-did : (w : World A) (input : Input A) → Good w → Right w (did w (one_step reply next initial w.node input))
+  right-did : (w : World A) (input : Input A) → Good w → Right w (did w (one_step object w.node input))
   right-did w input good =
       let new = (move_on w.node input).new in
-      let items : List (Item A) = replies (new_answers reply next initial w.node new) in
+      let items : List (Item A) = replies (new_answers object w.node new) in
       let g : Goes (IsIssued (w.history ++ items)) w.node new = goes-on (IsIssued (w.history ++ items)) w.node input in
       let calls = g.calls (weaker w.history items (calls_in w.node.text) good.text) (weaker w.history items (calls_in w.node.queue) good.queue) (weaker w.history items (asked_calls w.node.tickets) good.tickets) in
       let front = committed-front w.node new g.text g.mark in
-      right-step w (did w (one_step reply next initial w.node input))
+      right-step w (did w (one_step object w.node input))
       (record { text = calls.0; queue = calls.1; tickets = subst (λ (ts : List (Asked A)). Each (IsIssued (w.history ++ items)) (asked_calls ts)) (sym g.tickets) (weaker w.history items (asked_calls w.node.tickets) good.tickets); ring = g.ring good.ring }) front items refl
-      (inr (told-after reply next initial (committed_of new) new.tickets (committed_of w.node) (drop (length (committed_of w.node)) (committed_of new)) (drop-front (committed_of w.node) (committed_of new) front)))
+      (inr (told-after object (committed_of new) new.tickets (committed_of w.node) (drop (length (committed_of w.node)) (committed_of new)) (drop-front (committed_of w.node) (committed_of new) front)))
 
-  right-steps : (w : World A) (input : Input A) → Good w → Right w (steps reply next initial w input)
-  right-steps w input good = cond_both (is_stopped w.node.state) w (did w (one_step reply next initial w.node input)) (λ (after : World A). Right w after) (λ e. right-same w good) (λ e. right-did w input good)
+  right-steps : (w : World A) (input : Input A) → Good w → Right w (steps object w input)
+  right-steps w input good = cond_both (is_stopped w.node.state) w (did w (one_step object w.node input)) (λ (after : World A). Right w after) (λ e. right-same w good) (λ e. right-did w input good)
 
   queued : (P : Call A → Type 0) (b : Bool) (queue : List (Payload A)) (c : Call A) → EachCall P queue → P c → EachCall P (if b then queue ++ OneCall c ∷ [] else queue)
   queued P true queue c h k = call-append P queue (OneCall c ∷ []) h (k, tt)
@@ -131,12 +132,12 @@ module _ {O A : Type 0} (reply : O → List ℕ → List ℕ) (next : O → List
         ring = good.ring;
       }) (front_self (committed_of w.node)) (Issued c ∷ []) refl (inl (c, refl))
 
-  right-deliver : (w : World A) (frame : Option (Frame A)) → Good w → Right w (delivers reply next initial w frame)
+  right-deliver : (w : World A) (frame : Option (Frame A)) → Good w → Right w (delivers object w frame)
   right-deliver w None good = right-same w good
   right-deliver w (Some frame) good = right-steps w (Comes frame) good
 
   -- each event
-  pub right-event : (w : World A) (event : Event A) → Good w → Right w (happens reply next initial w event)
+  pub right-event : (w : World A) (event : Event A) → Good w → Right w (happens object w event)
   right-event w (Issue c) good = right-issue w c (submit_fault w.node) good
   right-event w (Deliver k) good = right-deliver w (frame_of w.frames k) good
   right-event w Noise good = right-steps w NoiseComes good
@@ -144,32 +145,32 @@ module _ {O A : Type 0} (reply : O → List ℕ → List ℕ) (next : O → List
   right-event w Stop good = right-steps w IsToStop good
 
   -- each list of events
-  pub right-run : (w : World A) (events : List (Event A)) → Good w → Right w (run_from reply next initial w events)
+  pub right-run : (w : World A) (events : List (Event A)) → Good w → Right w (run_from object w events)
   right-run w [] good = right-same w good
   right-run w (event ∷ events) good =
       let first = right-event w event good in
-      let after = happens reply next initial w event in
-      let last = run_from reply next initial after events in
+      let after = happens object w event in
+      let last = run_from object after events in
       let rest = right-run after events first.good in
       record { good = rest.good; linear = λ h. rest.linear (first.linear h); grows = front_trans (order_in w) (order_in after) (order_in last) first.grows rest.grows }
 
   pub good-opening : Good (world_opening {A = A})
   good-opening = record { text = tt; queue = tt; tickets = tt; ring = inl refl }
 
-  run-append : (w : World A) (events more : List (Event A)) → run_from reply next initial w (events ++ more) ≡ run_from reply next initial (run_from reply next initial w events) more
+  run-append : (w : World A) (events more : List (Event A)) → run_from object w (events ++ more) ≡ run_from object (run_from object w events) more
   run-append w [] more = refl
-  run-append w (event ∷ events) more = run-append (happens reply next initial w event) events more
+  run-append w (event ∷ events) more = run-append (happens object w event) events more
 
-  pub explains : (events : List (Event A)) → IsExplained (run reply next initial events)
-  explains events = (right-run world_opening events good-opening).linear (linear-nothing reply next initial)
+  pub explains : (events : List (Event A)) → IsExplained (run object events)
+  explains events = (right-run world_opening events good-opening).linear (linear-nothing object)
 
-  pub grows : (events more : List (Event A)) → IsFront (order_in (run reply next initial events)) (order_in (run reply next initial (events ++ more)))
+  pub grows : (events more : List (Event A)) → IsFront (order_in (run object events)) (order_in (run object (events ++ more)))
   grows events more =
-      let w = run reply next initial events in
+      let w = run object events in
       let good : Good w = (right-run world_opening events good-opening).good in
       rw (run-append world_opening events more) (right-run w more good).grows
 
-  pub one_ring : (events : List (Event A)) → IsRingOfOne (run reply next initial events).node.ring
+  pub one_ring : (events : List (Event A)) → IsRingOfOne (run object events).node.ring
   one_ring events = (right-run world_opening events good-opening).good.ring
 
   -- as the ring is adopted, nothing is committed

@@ -10,6 +10,7 @@ use Rattle.ring_base.specs.declared.fault.Fault.TheVariants.{PendingFull, Stoppe
 use Rattle.ring_base.specs.declared.kind.Kind.TheVariants.{Retransmit, Join, Consensus, Loss}
 use Rattle.ring_base.specs.declared.state.State.{State}
 use Rattle.ring_base.specs.declared.state.State.TheVariants.{Gather, Commit, Recovery, Operational, Stopped}
+use Rattle.ring_object.specs.Operations.{Sequential}
 use Rattle.ring_payload.specs.declared.call.Call.{Call}
 use Rattle.ring_wire.specs.declared.commit.CommitToken.{CommitToken}
 use Rattle.ring_wire.specs.declared.frame.Frame.{Frame}
@@ -153,25 +154,25 @@ issued w c (Some fault) e h = h
 issued {A} w c None e h =
     subst (λ (x : One A). IsCounted (submitted x c)) (sym h.is) (submit-counted h.numbers h.calls h.sinces h.kept h.counted c (ap submit_fault (sym h.is) ∙ e))
 
-module _ {O A : Type 0} (reply : O → List ℕ → List ℕ) (next : O → List ℕ → O) (initial : O) where
-  stepped : (w : World A) (input : Input A) → IsCounted w.node → IsCounted (steps reply next initial w input).node
-  stepped w input h = cond_both (is_stopped w.node.state) w (did w (one_step reply next initial w.node input)) (λ (after : World A). IsCounted after.node) (λ e. h) (λ e. moved w.node input h)
+module _ {O A : Type 0} (object : Sequential O) where
+  stepped : (w : World A) (input : Input A) → IsCounted w.node → IsCounted (steps object w input).node
+  stepped w input h = cond_both (is_stopped w.node.state) w (did w (one_step object w.node input)) (λ (after : World A). IsCounted after.node) (λ e. h) (λ e. moved w.node input h)
 
-  delivered : (w : World A) (frame : Option (Frame A)) → IsCounted w.node → IsCounted (delivers reply next initial w frame).node
+  delivered : (w : World A) (frame : Option (Frame A)) → IsCounted w.node → IsCounted (delivers object w frame).node
   delivered w None h = h
   delivered w (Some frame) h = stepped w (Comes frame) h
 
-  happened : (w : World A) (event : Event A) → IsCounted w.node → IsCounted (happens reply next initial w event).node
+  happened : (w : World A) (event : Event A) → IsCounted w.node → IsCounted (happens object w event).node
   happened w (Issue c) h = issued w c (submit_fault w.node) refl h
   happened w (Deliver k) h = delivered w (frame_of w.frames k) h
   happened w Noise h = stepped w NoiseComes h
   happened w (Timeout kind) h = stepped w (TimeIsOver kind) h
   happened w Stop h = stepped w IsToStop h
 
-  ran : (w : World A) (events : List (Event A)) → IsCounted w.node → IsCounted (run_from reply next initial w events).node
+  ran : (w : World A) (events : List (Event A)) → IsCounted w.node → IsCounted (run_from object w events).node
   ran w [] h = h
-  ran w (event ∷ events) h = ran (happens reply next initial w event) events (happened w event h)
+  ran w (event ∷ events) h = ran (happens object w event) events (happened w event h)
 
   -- what is committed are the first of the calls submitted
-  pub first_committed : (events : List (Event A)) → let w = run reply next initial events in IsFront (committed_of w.node) (asked_calls w.node.tickets)
-  first_committed events = committed-first (run reply next initial events).node (ran world_opening events opening-counted)
+  pub first_committed : (events : List (Event A)) → let w = run object events in IsFront (committed_of w.node) (asked_calls w.node.tickets)
+  first_committed events = committed-first (run object events).node (ran world_opening events opening-counted)

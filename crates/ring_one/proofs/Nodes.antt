@@ -8,6 +8,7 @@ use Rattle.std.proofs.Math.Seq.{drop-append_seam}
 use Rattle.ring_base.specs.Numbers.{max_number}
 use Rattle.ring_base.specs.declared.fault.Fault.{Fault}
 use Rattle.ring_base.specs.declared.fault.Fault.TheVariants.{PendingFull, Stopped as StoppedFault}
+use Rattle.ring_object.specs.Operations.{Sequential}
 use Rattle.ring_payload.specs.declared.call.Call.{Call}
 use Rattle.ring_payload.specs.declared.content.Payload.{Payload}
 use Rattle.ring_payload.specs.declared.content.Payload.TheVariants.{Call as OneCall, End, Head}
@@ -175,14 +176,14 @@ early-at {A} r calls ts ring early =
     each-weaker (λ (t : Asked A). t.since ≤ committed_length r) (λ (t : Asked A). t.since ≤ length (committed_calls r calls)) (λ t le. omega (arith, le, same)) ts early
 
 -- where no call is committed anew, no answer comes
-pub nothing-new : {O A : Type 0} (reply : O → List ℕ → List ℕ) (next : O → List ℕ → O) (initial : O) (s new : One A) → committed_of new ≡ committed_of s → new_answers reply next initial s new ≡ []
-nothing-new reply next initial s new same =
-    ap (λ w. answers_after reply next initial new.tickets (committed_of s) (drop (length (committed_of s)) w)) same
-    ∙ ap (λ w. answers_after reply next initial new.tickets (committed_of s) w) (ap (drop (length (committed_of s))) (sym (append-nil (committed_of s))) ∙ drop-append_seam (committed_of s) [])
+pub nothing-new : {O A : Type 0} (object : Sequential O) (s new : One A) → committed_of new ≡ committed_of s → new_answers object s new ≡ []
+nothing-new object s new same =
+    ap (λ w. answers_after object new.tickets (committed_of s) (drop (length (committed_of s)) w)) same
+    ∙ ap (λ w. answers_after object new.tickets (committed_of s) w) (ap (drop (length (committed_of s))) (sym (append-nil (committed_of s))) ∙ drop-append_seam (committed_of s) [])
 
-module _ {O A : Type 0} {reply : O → List ℕ → List ℕ} {next : O → List ℕ → O} {initial : O} {r : Ring} {calls : List (Call A)} {sinces waiting : List ℕ} {recent : List Kept} {table : Table O} {effects : ℕ} (node : IsNode reply next initial r calls sinces waiting recent table effects) where
+module _ {O A : Type 0} {object : Sequential O} {r : Ring} {calls : List (Call A)} {sinces waiting : List ℕ} {recent : List Kept} {table : Table O} {effects : ℕ} (node : IsNode object r calls sinces waiting recent table effects) where
   -- another state before the installation
-  pub node-state : (state : State) → is_operational r.state ≡ false → is_stopped r.state ≡ false → is_operational state ≡ false → IsNode reply next initial (record r { state = state }) calls sinces waiting recent table effects
+  pub node-state : (state : State) → is_operational r.state ≡ false → is_stopped r.state ≡ false → is_operational state ≡ false → IsNode object (record r { state = state }) calls sinces waiting recent table effects
   node-state state uninstalled runs after = record {
     ring = ring-state r (length calls) state uninstalled runs after node.ring;
     counted = node.counted;
@@ -194,7 +195,7 @@ module _ {O A : Type 0} {reply : O → List ℕ → List ℕ} {next : O → List
   }
 
   -- a stop, whatever the sessions are
-  pub node-stopped : (table' : Table O) → IsNode reply next initial (record r { state = Stopped }) calls sinces waiting recent table' effects
+  pub node-stopped : (table' : Table O) → IsNode object (record r { state = Stopped }) calls sinces waiting recent table' effects
   node-stopped table' = record {
     ring = ring-stopped r (length calls) node.ring;
     counted = node.counted;
@@ -211,13 +212,13 @@ module _ {O A : Type 0} {reply : O → List ℕ → List ℕ} {next : O → List
 
   -- what a visit does to what is kept
   pub record Visited (number : ℕ) (waiting' : List ℕ) (answers : List (Answered A)) (table' : Table O) (effects' : ℕ) : Type 0 where
-    pub after : IsNode reply next initial (ring_visited r (length calls) number) calls sinces waiting' (last_kept (recent ++ map kept_of answers)) table' effects'
+    pub after : IsNode object (ring_visited r (length calls) number) calls sinces waiting' (last_kept (recent ++ map kept_of answers)) table' effects'
     pub shape : one_of (ring_visited r (length calls) number) calls sinces ≡ visited (one_of r calls sinces) number
-    pub told : answers ≡ new_answers reply next initial (one_of r calls sinces) (visited (one_of r calls sinces) number)
+    pub told : answers ≡ new_answers object (one_of r calls sinces) (visited (one_of r calls sinces) number)
 
   pub node-visited : (number : ℕ) (waiting' : List ℕ) (answers : List (Answered A)) (table' : Table O) (effects' : ℕ) → is_running r.state ≡ true → number < max_number →
       let more = slice_range calls (committed_length r) (committed_length (ring_visited r (length calls) number)) in
-      waiting' ≡ waiting_after calls more waiting → answers ≡ given_after reply next table calls more waiting → table' ≡ fold (table_next reply next) table more → effects' ≡ effects + done_after reply next table more
+      waiting' ≡ waiting_after calls more waiting → answers ≡ given_after object table calls more waiting → table' ≡ fold (table_next object) table more → effects' ≡ effects + done_after object table more
       → Visited number waiting' answers table' effects'
   node-visited number waiting' answers table' effects' running token is_waiting is_answers is_table is_effects =
       let n = length calls in
@@ -229,19 +230,19 @@ module _ {O A : Type 0} {reply : O → List ℕ → List ℕ} {next : O → List
       let runs : is_stopped r.state ≡ false = state-running r.state running in
       let ring' : IsRing r' n = ring-visited r n number running token node.ring in
       let whole : before ++ more ≡ after = newly r n number calls node.ring.marked in
-      let goes : Goes reply next initial calls tickets before more = goes-on reply next initial calls tickets before more (sym (asked_calls-asked_of calls sinces)) (early-at r calls tickets node.ring node.early) in
-      let old : table ≡ table_after reply next initial before = node.table runs in
+      let goes : Goes object calls tickets before more = goes-on object calls tickets before more (sym (asked_calls-asked_of calls sinces)) (early-at r calls tickets node.ring node.early) in
+      let old : table ≡ table_after object before = node.table runs in
       let state : one_of r' calls sinces ≡ visited (one_of r calls sinces) number = visited-one_of r number calls sinces node.ring running in
-      let told : answers ≡ answers_after reply next initial tickets before more =
-      is_answers ∙ ap (λ (t : Table O). given_after reply next t calls more waiting) old ∙ ap (given_after reply next (table_after reply next initial before) calls more) node.waiting ∙ goes.answers in
+      let told : answers ≡ answers_after object tickets before more =
+      is_answers ∙ ap (λ (t : Table O). given_after object t calls more waiting) old ∙ ap (given_after object (table_after object before) calls more) node.waiting ∙ goes.answers in
       let committed' : committed_of (visited (one_of r calls sinces) number) ≡ after = ap committed_of (sym state) ∙ committed_of-one_of r' calls sinces ring'.marked in
       let left : drop (length before) after ≡ more = ap (drop (length before)) (sym whole) ∙ drop-append_seam before more in
       record {
         shape = state;
         told = told
-            ∙ sym (ap (λ (w : List (Call A)). answers_after reply next initial tickets w (drop (length w) (committed_of (visited (one_of r calls sinces) number)))) node-committed
-            ∙ ap (λ (w : List (Call A)). answers_after reply next initial tickets before (drop (length before) w)) committed'
-            ∙ ap (answers_after reply next initial tickets before) left);
+            ∙ sym (ap (λ (w : List (Call A)). answers_after object tickets w (drop (length w) (committed_of (visited (one_of r calls sinces) number)))) node-committed
+            ∙ ap (λ (w : List (Call A)). answers_after object tickets before (drop (length before) w)) committed'
+            ∙ ap (answers_after object tickets before) left);
         after = record {
           ring = ring';
           counted = node.counted;
@@ -249,17 +250,17 @@ module _ {O A : Type 0} {reply : O → List ℕ → List ℕ} {next : O → List
           waiting = is_waiting ∙ ap (waiting_after calls more) node.waiting ∙ goes.waiting ∙ ap (λ (w : List (Call A)). waiting_from w 0 tickets) whole;
           recent =
               ap (λ w. last_kept (w ++ map (kept_of {A = A}) answers)) node.recent
-              ∙ kept-more (all_answers reply next initial tickets before) answers
-              ∙ ap (λ w. map (kept_of {A = A}) (kept_answers w)) (ap (λ w. all_answers reply next initial tickets before ++ w) told ∙ sym (answers_after-append reply next initial tickets [] before more) ∙ ap (all_answers reply next initial tickets) whole);
-          table = λ e. is_table ∙ ap (λ (t : Table O). fold (table_next reply next) t more) old ∙ goes.table ∙ ap (λ (w : List (Call A)). table_after reply next initial w) whole;
+              ∙ kept-more (all_answers object tickets before) answers
+              ∙ ap (λ w. map (kept_of {A = A}) (kept_answers w)) (ap (λ w. all_answers object tickets before ++ w) told ∙ sym (answers_after-append object tickets [] before more) ∙ ap (all_answers object tickets) whole);
+          table = λ e. is_table ∙ ap (λ (t : Table O). fold (table_next object) t more) old ∙ goes.table ∙ ap (λ (w : List (Call A)). table_after object w) whole;
           order =
-              is_effects ∙ ap (λ (k : ℕ). k + done_after reply next table more) node.order ∙ ap (λ (t : Table O). length (deduplicated before) + done_after reply next t more) old
-              ∙ length-deduplicated reply next initial before more ∙ ap (λ (w : List (Call A)). length (deduplicated w)) whole;
+              is_effects ∙ ap (λ (k : ℕ). k + done_after object table more) node.order ∙ ap (λ (t : Table O). length (deduplicated before) + done_after object t more) old
+              ∙ length-deduplicated object before more ∙ ap (λ (w : List (Call A)). length (deduplicated w)) whole;
         };
       }
 
   -- a submit
-  pub node-submitted : (c : Call A) → length calls + 1 ≤ max_number → IsNode reply next initial r (calls ++ c ∷ []) (sinces ++ committed_length r ∷ []) (waiting ++ length calls ∷ []) recent table effects
+  pub node-submitted : (c : Call A) → length calls + 1 ≤ max_number → IsNode object r (calls ++ c ∷ []) (sinces ++ committed_length r ∷ []) (waiting ++ length calls ∷ []) recent table effects
   node-submitted c few =
       let tickets : List (Asked A) = asked_of calls sinces in
       let t : Asked A = record { call = c; since = committed_length r } in
@@ -279,10 +280,10 @@ module _ {O A : Type 0} {reply : O → List ℕ → List ℕ} {next : O → List
         recent =
             node.recent
             ∙ ap (λ w. map (kept_of {A = A}) (kept_answers w))
-            (sym (answers_after-push reply next initial tickets t [] (committed_calls r calls) (omega (arith, len)))
-            ∙ ap (λ (ts : List (Asked A)). all_answers reply next initial ts (committed_calls r calls)) (sym all)
-            ∙ ap (all_answers reply next initial (asked_of (calls ++ c ∷ []) (sinces ++ committed_length r ∷ []))) (sym same));
-        table = λ e. node.table e ∙ ap (λ (w : List (Call A)). table_after reply next initial w) (sym same);
+            (sym (answers_after-push object tickets t [] (committed_calls r calls) (omega (arith, len)))
+            ∙ ap (λ (ts : List (Asked A)). all_answers object ts (committed_calls r calls)) (sym all)
+            ∙ ap (all_answers object (asked_of (calls ++ c ∷ []) (sinces ++ committed_length r ∷ []))) (sym same));
+        table = λ e. node.table e ∙ ap (λ (w : List (Call A)). table_after object w) (sym same);
         order = node.order ∙ ap (λ (w : List (Call A)). length (deduplicated w)) (sym same);
       }
     where
@@ -291,11 +292,11 @@ module _ {O A : Type 0} {reply : O → List ℕ → List ℕ} {next : O → List
       each-push P (u ∷ ts) t h k = (h.0, each-push P ts t h.1 k)
 
 -- where nothing moves, nothing comes
-pub stayed : {O A : Type 0} (reply : O → List ℕ → List ℕ) (next : O → List ℕ → O) (initial : O) (s : One A) (move : Move A) (frames : List (Frame A)) (answers : List (Answered A)) → frames ≡ [] → answers ≡ [] → move ≡ stays s
-    → (frames ≡ move.frames) × (answers ≡ new_answers reply next initial s move.new) × (s ≡ move.new)
-stayed {O} {A} reply next initial s move frames answers no_frames no_answers is = (
+pub stayed : {O A : Type 0} (object : Sequential O) (s : One A) (move : Move A) (frames : List (Frame A)) (answers : List (Answered A)) → frames ≡ [] → answers ≡ [] → move ≡ stays s
+    → (frames ≡ move.frames) × (answers ≡ new_answers object s move.new) × (s ≡ move.new)
+stayed {O} {A} object s move frames answers no_frames no_answers is = (
   no_frames ∙ ap (λ (m : Move A). m.frames) (sym is),
-  no_answers ∙ sym (nothing-new reply next initial s s refl) ∙ ap (λ (m : Move A). new_answers reply next initial s m.new) (sym is),
+  no_answers ∙ sym (nothing-new object s s refl) ∙ ap (λ (m : Move A). new_answers object s m.new) (sym is),
   ap (λ (m : Move A). m.new) (sym is),
 )
 
@@ -397,7 +398,7 @@ submitted-one_of {A} r calls sinces c ring runs counted =
 
 -- ---- what the node's functions owe
 
-module _ {O A : Type 0} {reply : O → List ℕ → List ℕ} {next : O → List ℕ → O} {initial : O} {r : Ring} {calls : List (Call A)} {sinces waiting : List ℕ} {recent : List Kept} {table : Table O} {effects : ℕ} (node : IsNode reply next initial r calls sinces waiting recent table effects) where
+module _ {O A : Type 0} {object : Sequential O} {r : Ring} {calls : List (Call A)} {sinces waiting : List ℕ} {recent : List Kept} {table : Table O} {effects : ℕ} (node : IsNode object r calls sinces waiting recent table effects) where
   -- as many tickets are unanswered as wait
   pub unanswered-waiting : length (unanswered (committed_of (one_of r calls sinces)) (asked_of calls sinces)) ≡ length waiting
   unanswered-waiting =
@@ -442,11 +443,11 @@ module _ {O A : Type 0} {reply : O → List ℕ → List ℕ} {next : O → List
 
   -- what is kept after a submit
   pub submitted-kept : (c : Call A) (calls' : List (Call A)) (sinces' waiting' : List ℕ) (n : ℕ) → length calls + 1 ≤ max_number → calls' ≡ calls ++ c ∷ [] → sinces' ≡ sinces ++ committed_length r ∷ [] → waiting' ≡ waiting ++ n ∷ [] → n ≡ length calls
-      → IsNode reply next initial r calls' sinces' waiting' recent table effects
+      → IsNode object r calls' sinces' waiting' recent table effects
   submitted-kept c calls' sinces' waiting' n few is_calls is_sinces is_waiting is_number =
-      subst (λ (w : List (Call A)). IsNode reply next initial r w sinces' waiting' recent table effects) (sym is_calls)
-      (subst (λ (w : List ℕ). IsNode reply next initial r (calls ++ c ∷ []) w waiting' recent table effects) (sym is_sinces)
-      (subst (λ (w : List ℕ). IsNode reply next initial r (calls ++ c ∷ []) (sinces ++ committed_length r ∷ []) w recent table effects) (sym (is_waiting ∙ ap (λ k. waiting ++ k ∷ []) is_number))
+      subst (λ (w : List (Call A)). IsNode object r w sinces' waiting' recent table effects) (sym is_calls)
+      (subst (λ (w : List ℕ). IsNode object r (calls ++ c ∷ []) w waiting' recent table effects) (sym is_sinces)
+      (subst (λ (w : List ℕ). IsNode object r (calls ++ c ∷ []) (sinces ++ committed_length r ∷ []) w recent table effects) (sym (is_waiting ∙ ap (λ k. waiting ++ k ∷ []) is_number))
       (node-submitted node c few)))
 
   -- the state after a submit
@@ -456,31 +457,31 @@ module _ {O A : Type 0} {reply : O → List ℕ → List ℕ} {next : O → List
 
   -- What a visit makes.
   pub record IsVisited (number : ℕ) (r' : Ring) (waiting' : List ℕ) (answers : List (Answered A)) (table' : Table O) (recent' : List Kept) (effects' : ℕ) : Type 0 where
-    pub kept : IsNode reply next initial r' calls sinces waiting' recent' table' effects'
+    pub kept : IsNode object r' calls sinces waiting' recent' table' effects'
     pub shape : one_of r' calls sinces ≡ visited (one_of r calls sinces) number
-    pub told : answers ≡ new_answers reply next initial (one_of r calls sinces) (visited (one_of r calls sinces) number)
+    pub told : answers ≡ new_answers object (one_of r calls sinces) (visited (one_of r calls sinces) number)
     pub seq : r'.messages ≡ length (text_after (one_of r calls sinces))
 
   pub visited-kept : (number : ℕ) (r' : Ring) (n : ℕ) (before waiting' : List ℕ) (more : List (Call A)) (answers : List (Answered A)) (table' : Table O) (recent' : List Kept) (effects' : ℕ)
       → is_running r.state ≡ true → number < max_number → n ≡ length calls → r' ≡ ring_visited r n number → more ≡ slice_range calls (committed_length r) (committed_length r') → before ≡ waiting
-      → waiting' ≡ waiting_after calls more before → answers ≡ given_after reply next table calls more before → table' ≡ fold (table_next reply next) table more → recent' ≡ last_kept (recent ++ map kept_of answers) → effects' ≡ effects + done_after reply next table more
+      → waiting' ≡ waiting_after calls more before → answers ≡ given_after object table calls more before → table' ≡ fold (table_next object) table more → recent' ≡ last_kept (recent ++ map kept_of answers) → effects' ≡ effects + done_after object table more
       → IsVisited number r' waiting' answers table' recent' effects'
   visited-kept number r' n before waiting' more answers table' recent' effects' running token is_n is_ring is_more is_before is_waiting is_answers is_table is_recent is_effects =
       let same : r' ≡ ring_visited r (length calls) number = is_ring ∙ ap (λ k. ring_visited r k number) is_n in
       let range : more ≡ slice_range calls (committed_length r) (committed_length (ring_visited r (length calls) number)) = is_more ∙ ap (λ (x : Ring). slice_range calls (committed_length r) (committed_length x)) same in
       let v : Visited node number waiting' answers table' effects' = node-visited node number waiting' answers table' effects' running token
       (is_waiting ∙ ap (λ (w : List (Call A)). waiting_after calls w before) range ∙ ap (waiting_after calls (slice_range calls (committed_length r) (committed_length (ring_visited r (length calls) number)))) is_before)
-      (is_answers ∙ ap (λ (w : List (Call A)). given_after reply next table calls w before) range ∙ ap (given_after reply next table calls (slice_range calls (committed_length r) (committed_length (ring_visited r (length calls) number)))) is_before)
-      (is_table ∙ ap (fold (table_next reply next) table) range)
-      (is_effects ∙ ap (λ (w : List (Call A)). effects + done_after reply next table w) range) in
+      (is_answers ∙ ap (λ (w : List (Call A)). given_after object table calls w before) range ∙ ap (given_after object table calls (slice_range calls (committed_length r) (committed_length (ring_visited r (length calls) number)))) is_before)
+      (is_table ∙ ap (fold (table_next object) table) range)
+      (is_effects ∙ ap (λ (w : List (Call A)). effects + done_after object table w) range) in
       let shape : one_of r' calls sinces ≡ visited (one_of r calls sinces) number = ap (λ (x : Ring). one_of x calls sinces) same ∙ v.shape in
       record {
         shape = shape;
         told = v.told;
         seq = ap (λ (s : One A). s.aru) shape;
         kept =
-            subst (λ (x : Ring). IsNode reply next initial x calls sinces waiting' recent' table' effects') (sym same)
-            (subst (λ (w : List Kept). IsNode reply next initial (ring_visited r (length calls) number) calls sinces waiting' w table' effects') (sym is_recent) v.after);
+            subst (λ (x : Ring). IsNode object x calls sinces waiting' recent' table' effects') (sym same)
+            (subst (λ (w : List Kept). IsNode object (ring_visited r (length calls) number) calls sinces waiting' w table' effects') (sym is_recent) v.after);
       }
 
   -- the token is accepted as the numbers say
@@ -490,11 +491,11 @@ module _ {O A : Type 0} {reply : O → List ℕ → List ℕ} {next : O → List
       ap (λ k. is_running r.state && is_ring_of_one token.ring && nat_le r.next token.number && nat_lt token.number max_number && (token.seq == k)) len
 
   -- the answer to a ticket
-  pub node-reply : (ticket : ℕ) → kept_answer ticket recent ≡ one_reply reply next initial (one_of r calls sinces) ticket
+  pub node-reply : (ticket : ℕ) → kept_answer ticket recent ≡ one_reply object (one_of r calls sinces) ticket
   node-reply ticket =
       ap (kept_answer ticket) node.recent
-      ∙ kept_answer-map ticket (kept_answers (all_answers reply next initial (asked_of calls sinces) (committed_calls r calls)))
-      ∙ ap (λ (w : List (Call A)). answer_to ticket (kept_answers (all_answers reply next initial (asked_of calls sinces) w))) (sym (committed_of-one_of r calls sinces node.ring.marked))
+      ∙ kept_answer-map ticket (kept_answers (all_answers object (asked_of calls sinces) (committed_calls r calls)))
+      ∙ ap (λ (w : List (Call A)). answer_to ticket (kept_answers (all_answers object (asked_of calls sinces) w))) (sym (committed_of-one_of r calls sinces node.ring.marked))
 
   -- the length of the log
   pub node-log_len : logged_length r ≡ length (log_of (one_of r calls sinces).text)
@@ -505,7 +506,7 @@ module _ {O A : Type 0} {reply : O → List ℕ → List ℕ} {next : O → List
   node-order_len = node.order ∙ ap (λ (w : List (Call A)). length (deduplicated w)) (sym (node-committed node))
 
   -- the calls that took effect before a visit, and those that do in it, are few enough to be counted
-  pub visited-few : (i j done : ℕ) → done ≡ done_after reply next table (slice_range calls i j) → effects + done ≤ max_number + max_number
+  pub visited-few : (i j done : ℕ) → done ≡ done_after object table (slice_range calls i j) → effects + done ≤ max_number + max_number
   visited-few i j done is_done =
       omega (
         arith,
@@ -513,7 +514,7 @@ module _ {O A : Type 0} {reply : O → List ℕ → List ℕ} {next : O → List
         deduplicated_after-few [] (committed_calls r calls),
         length-take (committed_length r) calls,
         is_done,
-        done_after-few reply next table (slice_range calls i j),
+        done_after-few object table (slice_range calls i j),
         length-take (j - i) (drop i calls),
         length-drop i calls,
         node.ring.tickets,

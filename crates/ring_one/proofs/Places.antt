@@ -3,6 +3,7 @@ use Rattle.std.proofs.Common.{◌≡◌, ℕ, zero, suc, ◌+◌, ◌==◌, ◌&
 use Rattle.std.specs.List.{AllByRecursion}
 use Rattle.std.proofs.lemmas.Bool.{eq-eqb, ne_eqb, le-leb}
 use Rattle.std.proofs.lemmas.List.{append-nil}
+use Rattle.ring_object.specs.Operations.{Sequential}
 use Rattle.ring_payload.specs.declared.call.Call.{Call}
 use Rattle.ring_session.specs.declared.answer.Answer.{Answer}
 use Rattle.ring_session.specs.SessionAnswer.{is_same, session_answer}
@@ -109,19 +110,19 @@ module _ {A : Type 0} (calls : List (Call A)) (committed : List (Call A)) (c : C
           ∙ ap (λ (b : Bool). (if b then answered i t.call o else []) ++ tail') (sym (eq-eqb (length committed) (length committed) refl))
       given-same false e = e
 
-module _ {O A : Type 0} (reply : O → List ℕ → List ℕ) (next : O → List ℕ → O) (initial : O) (calls : List (Call A)) where
+module _ {O A : Type 0} (object : Sequential O) (calls : List (Call A)) where
   pub given-committed : (committed : List (Call A)) (c : Call A) (i : ℕ) (ts : List (Asked A)) → drop i calls ≡ asked_calls ts → AllByRecursion (λ (t : Asked A). t.since ≤ length committed) ts
-      → given calls c (table_answer reply (table_after reply next initial committed) c) (waiting_from committed i ts) ≡ answers_at reply next initial (committed ++ c ∷ []) (length committed) i ts
+      → given calls c (table_answer object (table_after object committed) c) (waiting_from committed i ts) ≡ answers_at object (committed ++ c ∷ []) (length committed) i ts
   given-committed committed c i [] e early = refl
   given-committed committed c i (t ∷ ts) e early =
       let there = drop-stands calls i t.call (asked_calls ts) e in
-      given-cases calls committed c (table_answer reply (table_after reply next initial committed) c) (session_answer reply next initial (committed ++ c ∷ []) (length committed)) i t
-      (waiting_from committed (i + 1) ts) (answers_at reply next initial (committed ++ c ∷ []) (length committed) (i + 1) ts) (place_of committed t) (place_of (committed ++ c ∷ []) t)
-      there.0 (place-push committed t c early.0) (λ q h. omega (arith, first_place-below t.call t.since 0 committed q h)) (table_answers reply next initial committed c) (given-committed committed c (i + 1) ts there.1 early.1)
+      given-cases calls committed c (table_answer object (table_after object committed) c) (session_answer object (committed ++ c ∷ []) (length committed)) i t
+      (waiting_from committed (i + 1) ts) (answers_at object (committed ++ c ∷ []) (length committed) (i + 1) ts) (place_of committed t) (place_of (committed ++ c ∷ []) t)
+      there.0 (place-push committed t c early.0) (λ q h. omega (arith, first_place-below t.call t.since 0 committed q h)) (table_answers object committed c) (given-committed committed c (i + 1) ts there.1 early.1)
 
-  fold-push : (table : Table O) (committed : List (Call A)) (c : Call A) → fold (table_next reply next) table (committed ++ c ∷ []) ≡ table_next reply next (fold (table_next reply next) table committed) c
+  fold-push : (table : Table O) (committed : List (Call A)) (c : Call A) → fold (table_next object) table (committed ++ c ∷ []) ≡ table_next object (fold (table_next object) table committed) c
   fold-push table [] c = refl
-  fold-push table (d ∷ committed) c = fold-push (table_next reply next table d) committed c
+  fold-push table (d ∷ committed) c = fold-push (table_next object table d) committed c
 
   -- ---- many committed calls
 
@@ -131,27 +132,27 @@ module _ {O A : Type 0} (reply : O → List ℕ → List ℕ) (next : O → List
 
   -- the table, the tickets that wait and the answers, as one call after the other is committed
   pub record Goes (tickets : List (Asked A)) (committed more : List (Call A)) : Type 0 where
-    pub table : fold (table_next reply next) (table_after reply next initial committed) more ≡ table_after reply next initial (committed ++ more)
+    pub table : fold (table_next object) (table_after object committed) more ≡ table_after object (committed ++ more)
     pub waiting : waiting_after calls more (waiting_from committed 0 tickets) ≡ waiting_from (committed ++ more) 0 tickets
-    pub answers : given_after reply next (table_after reply next initial committed) calls more (waiting_from committed 0 tickets) ≡ answers_after reply next initial tickets committed more
+    pub answers : given_after object (table_after object committed) calls more (waiting_from committed 0 tickets) ≡ answers_after object tickets committed more
 
   pub goes-on : (tickets : List (Asked A)) (committed more : List (Call A)) → calls ≡ asked_calls tickets → AllByRecursion (λ (t : Asked A). t.since ≤ length committed) tickets → Goes tickets committed more
   goes-on tickets committed [] e early = record {
-    table = ap (λ (w : List (Call A)). table_after reply next initial w) (sym (append-nil committed));
+    table = ap (λ (w : List (Call A)). table_after object w) (sym (append-nil committed));
     waiting = ap (λ w. waiting_from w 0 tickets) (sym (append-nil committed));
     answers = refl;
   }
   goes-on tickets committed (c ∷ more) e early =
       let rest = goes-on tickets (committed ++ c ∷ []) more e (early-push committed c tickets early) in
       let assoc = append_assoc committed (c ∷ []) more in
-      let table : table_next reply next (table_after reply next initial committed) c ≡ table_after reply next initial (committed ++ c ∷ []) =
-      sym (fold-push (opening initial) committed c) in
+      let table : table_next object (table_after object committed) c ≡ table_after object (committed ++ c ∷ []) =
+      sym (fold-push (opening object.initial) committed c) in
       let still : still_waiting calls c (waiting_from committed 0 tickets) ≡ waiting_from (committed ++ c ∷ []) 0 tickets = still-committed calls committed c 0 tickets e early in
       record {
-        table = ap (λ t. fold (table_next reply next) t more) table ∙ rest.table ∙ ap (λ (w : List (Call A)). table_after reply next initial w) assoc;
+        table = ap (λ t. fold (table_next object) t more) table ∙ rest.table ∙ ap (λ (w : List (Call A)). table_after object w) assoc;
         waiting = ap (waiting_after calls more) still ∙ rest.waiting ∙ ap (λ w. waiting_from w 0 tickets) assoc;
         answers =
-            ap (λ w. w ++ given_after reply next (table_next reply next (table_after reply next initial committed) c) calls more (still_waiting calls c (waiting_from committed 0 tickets))) (given-committed committed c 0 tickets e early)
-            ∙ ap (λ w. answers_at reply next initial (committed ++ c ∷ []) (length committed) 0 tickets ++ w)
-            (ap (λ t. given_after reply next t calls more (still_waiting calls c (waiting_from committed 0 tickets))) table ∙ ap (given_after reply next (table_after reply next initial (committed ++ c ∷ [])) calls more) still ∙ rest.answers);
+            ap (λ w. w ++ given_after object (table_next object (table_after object committed) c) calls more (still_waiting calls c (waiting_from committed 0 tickets))) (given-committed committed c 0 tickets e early)
+            ∙ ap (λ w. answers_at object (committed ++ c ∷ []) (length committed) 0 tickets ++ w)
+            (ap (λ t. given_after object t calls more (still_waiting calls c (waiting_from committed 0 tickets))) table ∙ ap (given_after object (table_after object (committed ++ c ∷ [])) calls more) still ∙ rest.answers);
       }

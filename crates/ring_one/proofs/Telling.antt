@@ -2,6 +2,7 @@
 use Rattle.std.proofs.Common.{◌≡◌, ℕ, zero, suc, ◌+◌, ◌-◌, ◌==◌, ◌&&◌, nat_le, ◌<◌, ◌≤◌, Bool, true, false, List, [], ◌∷◌, ◌++◌, length, take, drop, get_or, map, Option, Some, None, is_none, refl, ap, sym, ◌∙◌, arith, append_assoc, length-append, if◌then◌else◌}
 use Rattle.std.proofs.lemmas.Bool.{cond-false, and_left, lt-leb}
 use Rattle.std.proofs.lemmas.List.{append-nil, drop-append-le, length-drop}
+use Rattle.ring_object.specs.Operations.{Sequential}
 use Rattle.ring_payload.specs.declared.call.Call.{Call}
 use Rattle.ring_session.specs.declared.answer.Answer.{Answer}
 use Rattle.ring_session.specs.SessionAnswer.{is_same, session_answer}
@@ -46,27 +47,27 @@ pub length-unanswered : {A : Type 0} (committed : List (Call A)) (i : ℕ) (ts :
 length-unanswered committed i [] = refl
 length-unanswered committed i (t ∷ ts) = unanswered-step i t (unanswered committed ts) (waiting_from committed (i + 1) ts) (is_none (place_of committed t)) (length-unanswered committed (i + 1) ts)
 
-module _ {O A : Type 0} (reply : O → List ℕ → List ℕ) (next : O → List ℕ → O) (initial : O) where
-  answers_at-push : (committed : List (Call A)) (place i : ℕ) (ts : List (Asked A)) (t : Asked A) → length committed ≤ t.since → answers_at reply next initial committed place i (ts ++ t ∷ []) ≡ answers_at reply next initial committed place i ts
+module _ {O A : Type 0} (object : Sequential O) where
+  answers_at-push : (committed : List (Call A)) (place i : ℕ) (ts : List (Asked A)) (t : Asked A) → length committed ≤ t.since → answers_at object committed place i (ts ++ t ∷ []) ≡ answers_at object committed place i ts
   answers_at-push committed place i [] t late =
-      ap (λ (o : Option ℕ). (if is_place place o then answered i t.call (session_answer reply next initial committed place) else []) ++ []) (first_place-late t.call t.since 0 committed (omega arith))
+      ap (λ (o : Option ℕ). (if is_place place o then answered i t.call (session_answer object committed place) else []) ++ []) (first_place-late t.call t.since 0 committed (omega arith))
   answers_at-push committed place i (u ∷ ts) t late =
-      ap (λ w. (if is_place place (place_of committed u) then answered i u.call (session_answer reply next initial committed place) else []) ++ w) (answers_at-push committed place (i + 1) ts t late)
+      ap (λ w. (if is_place place (place_of committed u) then answered i u.call (session_answer object committed place) else []) ++ w) (answers_at-push committed place (i + 1) ts t late)
 
   -- a new ticket has no answer yet
-  pub answers_after-push : (ts : List (Asked A)) (t : Asked A) (committed more : List (Call A)) → length committed + length more ≤ t.since → answers_after reply next initial (ts ++ t ∷ []) committed more ≡ answers_after reply next initial ts committed more
+  pub answers_after-push : (ts : List (Asked A)) (t : Asked A) (committed more : List (Call A)) → length committed + length more ≤ t.since → answers_after object (ts ++ t ∷ []) committed more ≡ answers_after object ts committed more
   answers_after-push ts t committed [] late = refl
   answers_after-push ts t committed (c ∷ more) late =
-      ap (λ w. w ++ answers_after reply next initial (ts ++ t ∷ []) (committed ++ c ∷ []) more) (answers_at-push (committed ++ c ∷ []) (length committed) 0 ts t (omega (arith, length-append committed (c ∷ []))))
-      ∙ ap (λ w. answers_at reply next initial (committed ++ c ∷ []) (length committed) 0 ts ++ w) (answers_after-push ts t (committed ++ c ∷ []) more (omega (arith, length-append committed (c ∷ []))))
+      ap (λ w. w ++ answers_after object (ts ++ t ∷ []) (committed ++ c ∷ []) more) (answers_at-push (committed ++ c ∷ []) (length committed) 0 ts t (omega (arith, length-append committed (c ∷ []))))
+      ∙ ap (λ w. answers_at object (committed ++ c ∷ []) (length committed) 0 ts ++ w) (answers_after-push ts t (committed ++ c ∷ []) more (omega (arith, length-append committed (c ∷ []))))
 
   -- the answers of later places come after those of earlier ones
-  pub answers_after-append : (ts : List (Asked A)) (committed xs ys : List (Call A)) → answers_after reply next initial ts committed (xs ++ ys) ≡ answers_after reply next initial ts committed xs ++ answers_after reply next initial ts (committed ++ xs) ys
-  answers_after-append ts committed [] ys = ap (λ w. answers_after reply next initial ts w ys) (sym (append-nil committed))
+  pub answers_after-append : (ts : List (Asked A)) (committed xs ys : List (Call A)) → answers_after object ts committed (xs ++ ys) ≡ answers_after object ts committed xs ++ answers_after object ts (committed ++ xs) ys
+  answers_after-append ts committed [] ys = ap (λ w. answers_after object ts w ys) (sym (append-nil committed))
   answers_after-append ts committed (c ∷ xs) ys =
-      ap (λ w. answers_at reply next initial (committed ++ c ∷ []) (length committed) 0 ts ++ w)
-      (answers_after-append ts (committed ++ c ∷ []) xs ys ∙ ap (λ w. answers_after reply next initial ts (committed ++ c ∷ []) xs ++ answers_after reply next initial ts w ys) (append_assoc committed (c ∷ []) xs))
-      ∙ sym (append_assoc (answers_at reply next initial (committed ++ c ∷ []) (length committed) 0 ts) (answers_after reply next initial ts (committed ++ c ∷ []) xs) (answers_after reply next initial ts (committed ++ c ∷ xs) ys))
+      ap (λ w. answers_at object (committed ++ c ∷ []) (length committed) 0 ts ++ w)
+      (answers_after-append ts (committed ++ c ∷ []) xs ys ∙ ap (λ w. answers_after object ts (committed ++ c ∷ []) xs ++ answers_after object ts w ys) (append_assoc committed (c ∷ []) xs))
+      ∙ sym (append_assoc (answers_at object (committed ++ c ∷ []) (length committed) 0 ts) (answers_after object ts (committed ++ c ∷ []) xs) (answers_after object ts (committed ++ c ∷ xs) ys))
 
 -- ---- the last answers
 

@@ -1,6 +1,7 @@
 -- One ticket more, and one committed call more, of those that are gone through.
 use Rattle.std.proofs.Common.{◌≡◌, ℕ, zero, suc, ◌+◌, ◌<◌, ◌≤◌, Bool, true, false, not, List, [], ◌∷◌, ◌++◌, length, take, drop, get_or, slice_get, Some, is_none, ap, sym, ◌∙◌, append_assoc, All, if◌then◌else◌, arith}
 use Rattle.std.proofs.lemmas.List.Elements.{All-nil, All-cons, All-head, All-tail}
+use Rattle.ring_object.specs.Operations.{Sequential}
 use Rattle.ring_payload.specs.declared.call.Call.{Call}
 use Rattle.ring_session.specs.declared.answer.Answer.{Answer}
 use Rattle.ring_session.specs.SessionAnswer.{is_same}
@@ -74,17 +75,17 @@ All-still_waiting P calls c [] h = All-nil P
 All-still_waiting P calls c (n ∷ ws) h = filter-step P (not (is_call c (slice_get calls n))) n (still_waiting calls c ws) (All-head P n ws h) (All-still_waiting P calls c ws (All-tail P n ws h))
 
 -- one committed call more goes through the sessions
-pub answers-next : {O A : Type 0} (reply : O → List ℕ → List ℕ) (next : O → List ℕ → O) (t t' : Table O) (calls more : List (Call A)) (i : ℕ) (c : Call A) (a : Answer) (ws ws' : List ℕ) (all before after : List (Answered A))
-    → drop i more ≡ c ∷ drop (i + 1) more → a ≡ table_answer reply t c → t' ≡ table_next reply next t c → ws' ≡ still_waiting calls c ws → after ≡ before ++ given calls c a ws
-    → all ≡ before ++ given_after reply next t calls (drop i more) ws → all ≡ after ++ given_after reply next t' calls (drop (i + 1) more) ws'
-answers-next {O} {A} reply next t t' calls more i c a ws ws' all before after rest answer table still told e =
+pub answers-next : {O A : Type 0} (object : Sequential O) (t t' : Table O) (calls more : List (Call A)) (i : ℕ) (c : Call A) (a : Answer) (ws ws' : List ℕ) (all before after : List (Answered A))
+    → drop i more ≡ c ∷ drop (i + 1) more → a ≡ table_answer object t c → t' ≡ table_next object t c → ws' ≡ still_waiting calls c ws → after ≡ before ++ given calls c a ws
+    → all ≡ before ++ given_after object t calls (drop i more) ws → all ≡ after ++ given_after object t' calls (drop (i + 1) more) ws'
+answers-next {O} {A} object t t' calls more i c a ws ws' all before after rest answer table still told e =
     let left : List (Call A) = drop (i + 1) more in
-    e ∙ ap (λ w. before ++ given_after reply next t calls w ws) rest
-    ∙ sym (append_assoc before (given calls c (table_answer reply t c) ws) (given_after reply next (table_next reply next t c) calls left (still_waiting calls c ws)))
-    ∙ ap (λ b. (before ++ given calls c b ws) ++ given_after reply next (table_next reply next t c) calls left (still_waiting calls c ws)) (sym answer)
-    ∙ ap (λ w. w ++ given_after reply next (table_next reply next t c) calls left (still_waiting calls c ws)) (sym told)
-    ∙ ap (λ (u : Table O). after ++ given_after reply next u calls left (still_waiting calls c ws)) (sym table)
-    ∙ ap (λ w. after ++ given_after reply next t' calls left w) (sym still)
+    e ∙ ap (λ w. before ++ given_after object t calls w ws) rest
+    ∙ sym (append_assoc before (given calls c (table_answer object t c) ws) (given_after object (table_next object t c) calls left (still_waiting calls c ws)))
+    ∙ ap (λ b. (before ++ given calls c b ws) ++ given_after object (table_next object t c) calls left (still_waiting calls c ws)) (sym answer)
+    ∙ ap (λ w. w ++ given_after object (table_next object t c) calls left (still_waiting calls c ws)) (sym told)
+    ∙ ap (λ (u : Table O). after ++ given_after object u calls left (still_waiting calls c ws)) (sym table)
+    ∙ ap (λ w. after ++ given_after object t' calls left w) (sym still)
 
 known-step : (P : ℕ → Type 0) (b : Bool) (i : ℕ) (ws : List ℕ) → P i → All P ws → All P (if b then i ∷ ws else ws)
 known-step P true i ws h k = All-cons P i ws h k

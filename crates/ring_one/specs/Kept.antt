@@ -1,6 +1,7 @@
 -- What a node keeps, and how it tells the machine's state.
 use Rattle.std.specs.Prelude.{◌≡◌, ℕ, ◌≤◌, false, List, length, take, map}
 use Rattle.std.specs.List.{AllByRecursion}
+use Rattle.ring_object.specs.Operations.{Sequential}
 use Rattle.ring_payload.specs.declared.call.Call.{Call}
 use Rattle.ring_session.specs.Deduplicated.{deduplicated}
 use Rattle.ring_session.specs.Table.{Table, table_after}
@@ -16,7 +17,7 @@ use Rattle.ring_one.specs.Waiting.{waiting_from}
 abbrev pub committed_calls : {A : Type 0} → Ring → List (Call A) → List (Call A)
 committed_calls r calls = take (committed_length r) calls
 
-pub record IsNode {O A : Type 0} (reply : O → List ℕ → List ℕ) (next : O → List ℕ → O) (initial : O) (r : Ring) (calls : List (Call A)) (sinces : List ℕ) (waits : List ℕ) (kept : List Kept) (sessions : Table O) (effects : ℕ) : Type 0 where
+pub record IsNode {O A : Type 0} (object : Sequential O) (r : Ring) (calls : List (Call A)) (sinces : List ℕ) (waits : List ℕ) (kept : List Kept) (sessions : Table O) (effects : ℕ) : Type 0 where
   pub ring : IsRing r (length calls)
   -- each call was submitted when no more was committed than now
   pub counted : length sinces ≡ length calls
@@ -24,8 +25,8 @@ pub record IsNode {O A : Type 0} (reply : O → List ℕ → List ℕ) (next : O
   -- the tickets without an answer
   pub waiting : waits ≡ waiting_from (committed_calls r calls) 0 (asked_of calls sinces)
   -- the answers given last
-  pub recent : kept ≡ map kept_of (kept_answers (all_answers reply next initial (asked_of calls sinces) (committed_calls r calls)))
+  pub recent : kept ≡ map kept_of (kept_answers (all_answers object (asked_of calls sinces) (committed_calls r calls)))
   -- the session table
-  pub table : is_stopped r.state ≡ false → sessions ≡ table_after reply next initial (committed_calls r calls)
+  pub table : is_stopped r.state ≡ false → sessions ≡ table_after object (committed_calls r calls)
   -- how many of the committed calls took effect
   pub order : effects ≡ length (deduplicated (committed_calls r calls))

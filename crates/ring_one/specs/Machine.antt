@@ -6,6 +6,7 @@ use Rattle.ring_base.specs.declared.fault.Fault.{Fault}
 use Rattle.ring_base.specs.declared.fault.Fault.TheVariants.{Memory, PendingFull, Stopped as StoppedFault}
 use Rattle.ring_base.specs.declared.ring_id.RingId.{RingId}
 use Rattle.ring_base.specs.Numbers.{max_number, visit_limit, window_size}
+use Rattle.ring_object.specs.Operations.{Sequential}
 use Rattle.ring_payload.specs.declared.call.Call.{Call}
 use Rattle.ring_payload.specs.declared.head.Head.{Head as HeadOf}
 use Rattle.ring_payload.specs.declared.content.Payload.{Payload}
@@ -239,10 +240,10 @@ pub record Did (A : Type 0) : Type 0 where
   pub frames : List (Frame A)
   pub answers : List (Answered A)
 
-module _ {O : Type 0} (reply : O → List ℕ → List ℕ) (next : O → List ℕ → O) (initial : O) where
+module _ {O : Type 0} (object : Sequential O) where
   -- the answers that come as the node goes from one state to another
   abbrev pub new_answers : {A : Type 0} → One A → One A → List (Answered A)
-  new_answers s new = answers_after reply next initial new.tickets (committed_of s) (drop (length (committed_of s)) (committed_of new))
+  new_answers s new = answers_after object new.tickets (committed_of s) (drop (length (committed_of s)) (committed_of new))
 
   -- one step of a node that has not stopped
   abbrev pub one_step : {A : Type 0} → One A → Input A → Did A
@@ -252,13 +253,13 @@ module _ {O : Type 0} (reply : O → List ℕ → List ℕ) (next : O → List �
 
   -- the answer to a ticket, if it is among those answered last
   abbrev pub one_reply : {A : Type 0} → One A → ℕ → Option Answer
-  one_reply s ticket = answer_to ticket (kept_answers (all_answers reply next initial s.tickets (committed_of s)))
+  one_reply s ticket = answer_to ticket (kept_answers (all_answers object s.tickets (committed_of s)))
 
 -- What a step that makes a move answers, and leaves of the node: the move with the answers that come with it, or, for
 -- want of memory, the node stopped as it was.
-abbrev pub IsMove : {O A : Type 0} → (O → List ℕ → List ℕ) → (O → List ℕ → O) → O → One A → Move A → Result (Outs A) Fault → One A → Type 0
-IsMove reply next initial s move (Ok outs) new = (outs.frames.items ≡ move.frames) × (outs.answers.items ≡ new_answers reply next initial s move.new) × (new ≡ move.new)
-IsMove reply next initial s move (Err fault) new = (fault ≡ Memory) × (new ≡ one_stopped s)
+abbrev pub IsMove : {O A : Type 0} → Sequential O → One A → Move A → Result (Outs A) Fault → One A → Type 0
+IsMove object s move (Ok outs) new = (outs.frames.items ≡ move.frames) × (outs.answers.items ≡ new_answers object s move.new) × (new ≡ move.new)
+IsMove object s move (Err fault) new = (fault ≡ Memory) × (new ≡ one_stopped s)
 
 -- ---- a submit
 

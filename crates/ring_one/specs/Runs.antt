@@ -1,6 +1,7 @@
 -- Runs: what a list of events makes of the node, the frames ever sent, and the history.
 use Rattle.std.specs.Prelude.{ℕ, zero, suc, List, [], ◌∷◌, ◌++◌, Option, Some, None, slice_get, if◌then◌else◌}
 use Rattle.ring_base.specs.declared.fault.Fault.{Fault}
+use Rattle.ring_object.specs.Operations.{Sequential}
 use Rattle.ring_payload.specs.declared.call.Call.{Call}
 use Rattle.ring_wire.specs.declared.frame.Frame.{Frame}
 use Rattle.ring_session.specs.SessionAnswer.{reply_in}
@@ -57,10 +58,10 @@ moment_of w = record { committed = committed_of w.node ∷ []; history = w.histo
 abbrev pub order_in : {A : Type 0} → World A → List (Call A)
 order_in w = order_of (committed_of w.node ∷ [])
 
-module _ {O : Type 0} (reply : O → List ℕ → List ℕ) (next : O → List ℕ → O) (initial : O) where
+module _ {O : Type 0} (object : Sequential O) where
   -- a stopped node changes nothing
   abbrev pub steps : {A : Type 0} → World A → Input A → World A
-  steps w input = if is_stopped w.node.state then w else did w (one_step reply next initial w.node input)
+  steps w input = if is_stopped w.node.state then w else did w (one_step object w.node input)
 
   -- a frame that was not sent does not come
   abbrev pub delivers : {A : Type 0} → World A → Option (Frame A) → World A

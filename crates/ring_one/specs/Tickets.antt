@@ -2,6 +2,7 @@
 -- stands, by the session table's answer there.
 use Rattle.std.specs.Prelude.{ℕ, ◌+◌, ◌-◌, ◌==◌, ◌&&◌, nat_le, Bool, false, List, [], ◌∷◌, ◌++◌, length, drop, Option, Some, None, is_none, map, if◌then◌else◌}
 use Rattle.std.specs.List.{filter}
+use Rattle.ring_object.specs.Operations.{Sequential}
 use Rattle.ring_payload.specs.declared.call.Call.{Call}
 use Rattle.ring_session.specs.declared.answer.Answer.{Answer}
 use Rattle.ring_session.specs.SessionAnswer.{is_same, session_answer}
@@ -40,12 +41,12 @@ abbrev pub answered : {A : Type 0} → ℕ → Call A → Option Answer → List
 answered ticket c None = []
 answered ticket c (Some answer) = record { ticket = ticket; call = c; answer = answer } ∷ []
 
-module _ {O : Type 0} (reply : O → List ℕ → List ℕ) (next : O → List ℕ → O) (initial : O) where
+module _ {O : Type 0} (object : Sequential O) where
   -- the answers that are due at a place, in the order of tickets, of which the first has this number
   abbrev pub answers_at : {A : Type 0} → List (Call A) → ℕ → ℕ → List (Asked A) → List (Answered A)
   answers_at committed place ticket [] = []
   answers_at committed place ticket (t ∷ ts) =
-      (if is_place place (place_of committed t) then answered ticket t.call (session_answer reply next initial committed place) else [])
+      (if is_place place (place_of committed t) then answered ticket t.call (session_answer object committed place) else [])
       ++ answers_at committed place (ticket + 1) ts
 
   -- the answers to the tickets that come as the committed places grow by more, place by place

@@ -2,6 +2,7 @@
 -- those calls take effect.
 use Rattle.std.specs.Prelude.{ℕ, ◌+◌, Bool, false, not, List, [], ◌∷◌, ◌++◌, Option, Some, None, is_none, slice_get, if◌then◌else◌}
 use Rattle.std.specs.List.{filter}
+use Rattle.ring_object.specs.Operations.{Sequential}
 use Rattle.ring_payload.specs.declared.call.Call.{Call}
 use Rattle.ring_session.specs.declared.answer.Answer.{Answer}
 use Rattle.ring_session.specs.SessionAnswer.{is_done, is_same}
@@ -39,12 +40,12 @@ waiting_after calls [] waiting = waiting
 waiting_after calls (c ∷ more) waiting = waiting_after calls more (still_waiting calls c waiting)
 
 -- the answers that one call after the other gives, by the session table
-abbrev pub given_after : {O A : Type 0} → (O → List ℕ → List ℕ) → (O → List ℕ → O) → Table O → List (Call A) → List (Call A) → List ℕ → List (Answered A)
-given_after reply next table calls [] waiting = []
-given_after reply next table calls (c ∷ more) waiting =
-    given calls c (table_answer reply table c) waiting ++ given_after reply next (table_next reply next table c) calls more (still_waiting calls c waiting)
+abbrev pub given_after : {O A : Type 0} → Sequential O → Table O → List (Call A) → List (Call A) → List ℕ → List (Answered A)
+given_after object table calls [] waiting = []
+given_after object table calls (c ∷ more) waiting =
+    given calls c (table_answer object table c) waiting ++ given_after object (table_next object table c) calls more (still_waiting calls c waiting)
 
 -- how many of these calls, one after the other, take effect by the session table
-abbrev pub done_after : {O A : Type 0} → (O → List ℕ → List ℕ) → (O → List ℕ → O) → Table O → List (Call A) → ℕ
-done_after reply next table [] = 0
-done_after reply next table (c ∷ more) = (if is_done (table_answer reply table c) then 1 else 0) + done_after reply next (table_next reply next table c) more
+abbrev pub done_after : {O A : Type 0} → Sequential O → Table O → List (Call A) → ℕ
+done_after object table [] = 0
+done_after object table (c ∷ more) = (if is_done (table_answer object table c) then 1 else 0) + done_after object (table_next object table c) more

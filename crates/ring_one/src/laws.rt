@@ -22,41 +22,41 @@ use ring_object::Object;
 /// submitted, in the order of their tickets.
 pub fn linear_law<O: Object>()
     ensures explains { (events : List (Event O.Alloc)) →
-        let w = run O.reply O.next O.initial events in
-        IsLinearization O.reply O.next O.initial (order_in w) w.history }
+        let w = run O.sequential events in
+        IsLinearization O.sequential (order_in w) w.history }
     ensures grows { (events more : List (Event O.Alloc)) →
-        IsFront (order_in (run O.reply O.next O.initial events))
-        (order_in (run O.reply O.next O.initial (events ++ more))) }
+        IsFront (order_in (run O.sequential events))
+        (order_in (run O.sequential (events ++ more))) }
     ensures front { (events : List (Event O.Alloc)) →
-        let w = run O.reply O.next O.initial events in
+        let w = run O.sequential events in
         IsFront (deduplicated (committed_of w.node)) (order_in w) }
     ensures base { (events : List (Event O.Alloc)) (event : Event O.Alloc) →
-        let w = run O.reply O.next O.initial events in
-        let after = happens O.reply O.next O.initial w event in
+        let w = run O.sequential events in
+        let after = happens O.sequential w event in
         is_adopted w.node.text ≡ false → is_adopted after.node.text ≡ true →
         IsFront (committed_of w.node) (base_of after.node.text) }
     ensures one_ring { (events : List (Event O.Alloc)) →
-        let w = run O.reply O.next O.initial events in
+        let w = run O.sequential events in
         (w.node.ring ≡ ring_before) ⊎ (w.node.ring ≡ ring_of_one) }
     ensures submitted { (events : List (Event O.Alloc)) →
-        let w = run O.reply O.next O.initial events in
+        let w = run O.sequential events in
         IsFront (committed_of w.node) (asked_calls w.node.tickets) }
 {}
 
 /// The way to the first reply, for every object: the ring is formed, the call is sent at one visit of the token, and
 /// answered at the next.
 pub fn first_reply_example<O: Object>()
-    ensures frames { (run O.reply O.next O.initial (call_answered {A = O.Alloc})).frames ≡ first_frames }
-    ensures sent { let w = run O.reply O.next O.initial (call_sent {A = O.Alloc}) in
+    ensures frames { (run O.sequential (call_answered {A = O.Alloc})).frames ≡ first_frames }
+    ensures sent { let w = run O.sequential (call_sent {A = O.Alloc}) in
         w.history ≡ Issue first_call ∷ [] }
-    ensures logged { let w = run O.reply O.next O.initial (call_sent {A = O.Alloc}) in
+    ensures logged { let w = run O.sequential (call_sent {A = O.Alloc}) in
         log_of w.node.text ≡ first_call ∷ [] }
-    ensures uncommitted { let w = run O.reply O.next O.initial (call_sent {A = O.Alloc}) in
+    ensures uncommitted { let w = run O.sequential (call_sent {A = O.Alloc}) in
         committed_of w.node ≡ [] }
-    ensures replied { let w = run O.reply O.next O.initial (call_answered {A = O.Alloc}) in
-        w.history ≡ Issue first_call ∷ Replied first_call (O.reply O.initial first_operation) ∷ [] }
-    ensures ordered { let w = run O.reply O.next O.initial (call_answered {A = O.Alloc}) in
+    ensures replied { let w = run O.sequential (call_answered {A = O.Alloc}) in
+        w.history ≡ Issue first_call ∷ Replied first_call (O.sequential.reply O.sequential.initial first_operation) ∷ [] }
+    ensures ordered { let w = run O.sequential (call_answered {A = O.Alloc}) in
         order_in w ≡ first_call ∷ [] }
-    ensures installed { let w = run O.reply O.next O.initial (call_answered {A = O.Alloc}) in
+    ensures installed { let w = run O.sequential (call_answered {A = O.Alloc}) in
         (w.node.state ≡ Operational) × (w.node.ring ≡ ring_of_one) }
 {}

@@ -56,7 +56,7 @@ impl<O: Object> Model for Node<O> {
 
     ghost view = { λ node. one_of node.ring node.calls.items node.sinces.value };
 
-    ghost invariant = { λ node. IsNode O.reply O.next O.initial node.ring node.calls.items node.sinces.value node.waiting.items node.recent node.sessions node.effects };
+    ghost invariant = { λ node. IsNode O.sequential node.ring node.calls.items node.sinces.value node.waiting.items node.recent node.sessions node.effects };
 }
 
 impl<O: Object> Node<O> {
@@ -114,9 +114,9 @@ impl<O: Object> Node<O> {
     /// stop takes no memory.
     pub fn step(&mut self, input: Input<O::Alloc>) -> Result<Outs<O::Alloc>, Fault>
         ensures runs { OnOk result (is_stopped self.old.state ≡ false) }
-        ensures frames { IfOk result (λ outs. outs.frames.items ≡ (one_step O.reply O.next O.initial self.old input).frames) }
-        ensures answers { IfOk result (λ outs. outs.answers.items ≡ (one_step O.reply O.next O.initial self.old input).answers) }
-        ensures ok { OnOk result (self.new ≡ (one_step O.reply O.next O.initial self.old input).new) }
+        ensures frames { IfOk result (λ outs. outs.frames.items ≡ (one_step O.sequential self.old input).frames) }
+        ensures answers { IfOk result (λ outs. outs.answers.items ≡ (one_step O.sequential self.old input).answers) }
+        ensures ok { OnOk result (self.new ≡ (one_step O.sequential self.old input).new) }
         ensures err { OnErr result (self.new ≡ one_stopped self.old) }
         ensures refused { IfErr result (λ fault. fault ≡ (if is_stopped self.old.state then StoppedFault else Memory)) }
         ensures stops { input ≡ Input.Stop → is_stopped self.old.state ≡ false → IsOk result }
@@ -127,9 +127,9 @@ impl<O: Object> Node<O> {
     /// The same for an input that the caller keeps.
     pub fn step_on(&mut self, input: &Input<O::Alloc>) -> Result<Outs<O::Alloc>, Fault>
         ensures runs { OnOk result (is_stopped self.old.state ≡ false) }
-        ensures frames { IfOk result (λ outs. outs.frames.items ≡ (one_step O.reply O.next O.initial self.old input.now).frames) }
-        ensures answers { IfOk result (λ outs. outs.answers.items ≡ (one_step O.reply O.next O.initial self.old input.now).answers) }
-        ensures ok { OnOk result (self.new ≡ (one_step O.reply O.next O.initial self.old input.now).new) }
+        ensures frames { IfOk result (λ outs. outs.frames.items ≡ (one_step O.sequential self.old input.now).frames) }
+        ensures answers { IfOk result (λ outs. outs.answers.items ≡ (one_step O.sequential self.old input.now).answers) }
+        ensures ok { OnOk result (self.new ≡ (one_step O.sequential self.old input.now).new) }
         ensures err { OnErr result (self.new ≡ one_stopped self.old) }
         ensures refused { IfErr result (λ fault. fault ≡ (if is_stopped self.old.state then StoppedFault else Memory)) }
         ensures stops { input.now ≡ Input.Stop → is_stopped self.old.state ≡ false → IsOk result }
@@ -150,7 +150,7 @@ impl<O: Object> Node<O> {
 
     /// The answer to a ticket, if it is among the 64 that were answered last.
     pub fn reply(&self, ticket: Ticket) -> Option<Answer>
-        ensures { result ≡ one_reply O.reply O.next O.initial self.now ticket }
+        ensures { result ≡ one_reply O.sequential self.now ticket }
     {
         self.recent.answer_to(ticket)
     }
@@ -231,7 +231,7 @@ impl<O: Object> Node<O> {
     /// A frame comes.
     fn take_frame(&mut self, frame: &Frame<O::Alloc>) -> Result<Outs<O::Alloc>, Fault>
         requires { is_stopped self.old.state ≡ false }
-        ensures { IsMove O.reply O.next O.initial self.old (on_frame self.old frame.now) result self.new }
+        ensures { IsMove O.sequential self.old (on_frame self.old frame.now) result self.new }
     {
         match frame {
             Frame::Token(token) => {
@@ -250,7 +250,7 @@ impl<O: Object> Node<O> {
     /// A commit token comes.
     fn take_commit_token(&mut self, token: &CommitToken) -> Result<Outs<O::Alloc>, Fault>
         requires { is_stopped self.old.state ≡ false }
-        ensures { IsMove O.reply O.next O.initial self.old (on_commit_token self.old.state self.old token.now) result self.new }
+        ensures { IsMove O.sequential self.old (on_commit_token self.old.state self.old token.now) result self.new }
     {
         match self.ring.state {
             State::Commit => {
@@ -274,7 +274,7 @@ impl<O: Object> Node<O> {
     /// A timeout comes. Those but the join timeout change nothing yet.
     fn take_timeout(&mut self, kind: Kind) -> Result<Outs<O::Alloc>, Fault>
         requires { is_stopped self.old.state ≡ false }
-        ensures { IsMove O.reply O.next O.initial self.old (on_timeout self.old kind) result self.new }
+        ensures { IsMove O.sequential self.old (on_timeout self.old kind) result self.new }
     {
         match kind {
             Kind::Join => self.propose(),
@@ -285,7 +285,7 @@ impl<O: Object> Node<O> {
     /// The join timeout comes: in Gather the ring is proposed.
     fn propose(&mut self) -> Result<Outs<O::Alloc>, Fault>
         requires { is_stopped self.old.state ≡ false }
-        ensures { IsMove O.reply O.next O.initial self.old (on_join_timeout self.old.state self.old) result self.new }
+        ensures { IsMove O.sequential self.old (on_join_timeout self.old.state self.old) result self.new }
     {
         match self.ring.state {
             State::Gather => self.send(State::Commit, commit_token(1)),
@@ -299,7 +299,7 @@ impl<O: Object> Node<O> {
         requires runs { is_stopped self.old.state ≡ false }
         requires after { is_operational state ≡ false }
         requires goes_on { is_stopped state ≡ false }
-        ensures { IsMove O.reply O.next O.initial self.old (record { new = record self.old { state = state }; frames = OneCommit token ∷ [] }) result self.new }
+        ensures { IsMove O.sequential self.old (record { new = record self.old { state = state }; frames = OneCommit token ∷ [] }) result self.new }
     {
         let mut outs = Outs::new(self.alloc);
         match outs.frames.push(Frame::Commit(token)) {
@@ -318,7 +318,7 @@ impl<O: Object> Node<O> {
     fn visit(&mut self, number: u64) -> Result<Outs<O::Alloc>, Fault>
         requires runs { is_running self.old.state ≡ true }
         requires token { number < max_number }
-        ensures { IsMove O.reply O.next O.initial self.old (visits self.old number) result self.new }
+        ensures { IsMove O.sequential self.old (visits self.old number) result self.new }
     {
         let calls = self.calls.as_slice();
         let next = self.ring.visited(number, calls.len() as u64);
@@ -360,10 +360,10 @@ fn answer_visit<O: Object>(
 ) -> Result<(Outs<O::Alloc>, u64), Fault>
     requires { All (λ n. n < length calls.now) waiting.old.items }
     ensures frames { IfOk result (λ visit. visit.0.frames.items ≡ OneToken token ∷ []) }
-    ensures table { OnOk result (sessions.new ≡ fold (table_next O.reply O.next) sessions.old committed.now) }
+    ensures table { OnOk result (sessions.new ≡ fold (table_next O.sequential) sessions.old committed.now) }
     ensures waiting { OnOk result (waiting.new.items ≡ waiting_after calls.now committed.now waiting.old.items) }
-    ensures answers { IfOk result (λ visit. visit.0.answers.items ≡ given_after O.reply O.next sessions.old calls.now committed.now waiting.old.items) }
-    ensures effects { IfOk result (λ visit. visit.1 ≡ done_after O.reply O.next sessions.old committed.now) }
+    ensures answers { IfOk result (λ visit. visit.0.answers.items ≡ given_after O.sequential sessions.old calls.now committed.now waiting.old.items) }
+    ensures effects { IfOk result (λ visit. visit.1 ≡ done_after O.sequential sessions.old committed.now) }
     ensures refused { IfErr result (λ fault. fault ≡ Memory) }
 {
     let mut outs = Outs::new(alloc);

@@ -90,10 +90,10 @@ pub fn answer_calls<O: Object>(
     answers: &mut Vec<Answered<O::Alloc>, O::Alloc>,
 ) -> Result<u64, Fault>
     requires { All (λ n. n < length calls.now) waiting.old.items }
-    ensures table { OnOk result (sessions.new ≡ fold (table_next O.reply O.next) sessions.old committed.now) }
+    ensures table { OnOk result (sessions.new ≡ fold (table_next O.sequential) sessions.old committed.now) }
     ensures waiting { OnOk result (waiting.new.items ≡ waiting_after calls.now committed.now waiting.old.items) }
-    ensures answers { OnOk result (answers.new.items ≡ answers.old.items ++ given_after O.reply O.next sessions.old calls.now committed.now waiting.old.items) }
-    ensures effects { IfOk result (λ effects. effects ≡ done_after O.reply O.next sessions.old committed.now) }
+    ensures answers { OnOk result (answers.new.items ≡ answers.old.items ++ given_after O.sequential sessions.old calls.now committed.now waiting.old.items) }
+    ensures effects { IfOk result (λ effects. effects ≡ done_after O.sequential sessions.old committed.now) }
     ensures refused { IfErr result (λ fault. fault ≡ Memory) }
 {
     let mut effects = 0;

@@ -2,6 +2,7 @@
 use Rattle.std.proofs.Common.{◌≡◌, ℕ, zero, suc, ◌+◌, ◌==◌, ◌&&◌, nat_lt, Bool, true, false, List, [], ◌∷◌, ◌++◌, length, take, Some, position, refl, ap, sym, subst, ◌∙◌, arith, append_assoc, length-append, if◌then◌else◌}
 use Rattle.std.proofs.lemmas.List.{append-nil}
 use Rattle.ring_base.specs.Fronts.{front_append}
+use Rattle.ring_object.specs.Operations.{Sequential}
 use Rattle.ring_payload.specs.declared.call.Call.{Call}
 use Rattle.ring_session.specs.declared.answer.Answer.{Answer}
 use Rattle.ring_session.specs.declared.answer.Answer.TheVariants.{Done}
@@ -68,27 +69,27 @@ done_answer true true last old x k both = refl
 done_answer true false last old x k both = absurd (cc both)
 done_answer false room last old x k both = absurd (cc both)
 
-module _ {O A : Type 0} (reply : O → List ℕ → List ℕ) (next : O → List ℕ → O) (initial : O) where
-  pub each_is_done : (calls : List (Call A)) → EachIsDone reply next initial calls
+module _ {O A : Type 0} (object : Sequential O) where
+  pub each_is_done : (calls : List (Call A)) → EachIsDone object calls
   each_is_done calls q c at =
       let effect = effect_at [] calls q c at in
       let kept = deduplicated (take effect.place calls) in
-      let replies : ℕ → List ℕ = call_reply reply next initial (deduplicated calls) in
+      let replies : ℕ → List ℕ = call_reply object (deduplicated calls) in
       let done = done_answer (c.number == count_of c.client kept + 1) (may_call kept c.client) (c.number == count_of c.client kept) (nat_lt c.number (count_of c.client kept))
       (replies (length kept)) (repeated replies (position (is_same c) kept)) effect.taken in
       let place : length kept ≡ q = omega (arith, effect.earlier) in
-      (effect.place, effect.stands, session_answer-at reply next initial calls effect.place c effect.stands ∙ ap Some (done ∙ ap (λ n. Done (replies n)) place))
+      (effect.place, effect.stands, session_answer-at object calls effect.place c effect.stands ∙ ap Some (done ∙ ap (λ n. Done (replies n)) place))
 
-  pub is_done_once : (calls : List (Call A)) → IsDoneOnce reply next initial calls
-  is_done_once = done_once reply next initial
+  pub is_done_once : (calls : List (Call A)) → IsDoneOnce object calls
+  is_done_once = done_once object
 
-  pub replies_are_the_objects : (calls : List (Call A)) → RepliesAreTheObjects reply next initial calls
+  pub replies_are_the_objects : (calls : List (Call A)) → RepliesAreTheObjects object calls
   replies_are_the_objects calls p c r replied =
-      (answered reply next initial calls p c replied.answer r replied.stands replied.told replied.brings, answered-number reply next initial calls p c replied.answer r replied.stands replied.told replied.brings)
+      (answered object calls p c replied.answer r replied.stands replied.told replied.brings, answered-number object calls p c replied.answer r replied.stands replied.told replied.brings)
 
-  pub replies_are_one : (calls : List (Call A)) → RepliesAreOne reply next initial calls
+  pub replies_are_one : (calls : List (Call A)) → RepliesAreOne object calls
   replies_are_one calls p q c d r s x y client number =
-      one_reply reply next initial (deduplicated calls) (deduplicated-numbered calls) c d r s (replies_are_the_objects calls p c r x).0 (replies_are_the_objects calls q d s y).0 client number
+      one_reply object (deduplicated calls) (deduplicated-numbered calls) c d r s (replies_are_the_objects calls p c r x).0 (replies_are_the_objects calls q d s y).0 client number
 
-  pub answers_stay : (calls : List (Call A)) → AnswersStay reply next initial calls
-  answers_stay calls more p c at = session_answer-front reply next initial calls (calls ++ more) p c at (front_append calls more)
+  pub answers_stay : (calls : List (Call A)) → AnswersStay object calls
+  answers_stay calls more p c at = session_answer-front object calls (calls ++ more) p c at (front_append calls more)

@@ -8,6 +8,7 @@ use Rattle.std.proofs.lemmas.Bool.{cond-true, cond-false, eq-eqb}
 use Rattle.std.proofs.lemmas.Map.{length-set_value}
 use Rattle.std.proofs.lemmas.Map.Steps.{set_value_same}
 use Rattle.std.proofs.lemmas.Map.Views.{All-values-insert_entry}
+use Rattle.ring_object.specs.Operations.{Sequential}
 use Rattle.ring_payload.specs.declared.call.Call.{Call}
 use Rattle.ring_session.specs.declared.TheConstants.{MAX_CLIENTS}
 use Rattle.ring_session.specs.Table.{LastCall, IsTable, table_of, last_number, last_call, is_taken, table_next}
@@ -52,25 +53,25 @@ IsTable-new es after client new content content' is none room put number = recor
 -- ---- the table after a call
 
 -- the next call of a known client
-pub next-known : {O A : Type 0} (reply : O → List ℕ → List ℕ) (next : O → List ℕ → O) (es after : List (ℕ × LastCall)) (content content' : O) (c : Call A) (last : LastCall) → IsStrictlySortedBy nat_cmp (keys_of es)
-    → lookup (is_at (nat_cmp c.client)) es ≡ Some last → c.number ≡ last.number + 1 → after ≡ set_value (is_at (nat_cmp c.client)) es (last_call c (reply content c.op)) → content' ≡ next content c.op
-    → table_of after content' ≡ table_next reply next (table_of es content) c
-next-known {O} {A} reply next es after content content' c last sorted found number written does =
-    let new = last_call c (reply content c.op) in
+pub next-known : {O A : Type 0} (object : Sequential O) (es after : List (ℕ × LastCall)) (content content' : O) (c : Call A) (last : LastCall) → IsStrictlySortedBy nat_cmp (keys_of es)
+    → lookup (is_at (nat_cmp c.client)) es ≡ Some last → c.number ≡ last.number + 1 → after ≡ set_value (is_at (nat_cmp c.client)) es (last_call c (object.reply content c.op)) → content' ≡ object.next content c.op
+    → table_of after content' ≡ table_next object (table_of es content) c
+next-known {O} {A} object es after content content' c last sorted found number written does =
+    let new = last_call c (object.reply content c.op) in
     let taken : is_taken (table_of es content) c ≡ true =
     ap (λ o. (c.number == last_number o + 1) && (is_some o || nat_lt (length es) MAX_CLIENTS)) found
     ∙ ap (λ b. b && (true || nat_lt (length es) MAX_CLIENTS)) (eq-eqb c.number (last.number + 1) number) in
     ap (λ w. table_of w content') (written ∙ set_value-known es c.client new last sorted found)
     ∙ ap (λ (w : O). table_of (insert_entry nat_cmp es c.client new) w) does
-    ∙ sym (cond-true (is_taken (table_of es content) c) (table_of (insert_entry nat_cmp es c.client new) (next content c.op)) (table_of es content) taken)
+    ∙ sym (cond-true (is_taken (table_of es content) c) (table_of (insert_entry nat_cmp es c.client new) (object.next content c.op)) (table_of es content) taken)
 
 -- another call of a known client
-pub next-other : {O A : Type 0} (reply : O → List ℕ → List ℕ) (next : O → List ℕ → O) (es after : List (ℕ × LastCall)) (content : O) (c : Call A) (last : LastCall)
+pub next-other : {O A : Type 0} (object : Sequential O) (es after : List (ℕ × LastCall)) (content : O) (c : Call A) (last : LastCall)
     → lookup (is_at (nat_cmp c.client)) es ≡ Some last → false ≡ (c.number == last.number + 1) → after ≡ es
-    → table_of after content ≡ table_next reply next (table_of es content) c
-next-other {O} {A} reply next es after content c last found other same =
+    → table_of after content ≡ table_next object (table_of es content) c
+next-other {O} {A} object es after content c last found other same =
     let left : is_taken (table_of es content) c ≡ false =
     ap (λ o. (c.number == last_number o + 1) && (is_some o || nat_lt (length es) MAX_CLIENTS)) found
     ∙ ap (λ b. b && (true || nat_lt (length es) MAX_CLIENTS)) (sym other) in
     ap (λ w. table_of w content) same
-    ∙ sym (cond-false (is_taken (table_of es content) c) (table_of (insert_entry nat_cmp es c.client (last_call c (reply content c.op))) (next content c.op)) (table_of es content) left)
+    ∙ sym (cond-false (is_taken (table_of es content) c) (table_of (insert_entry nat_cmp es c.client (last_call c (object.reply content c.op))) (object.next content c.op)) (table_of es content) left)

@@ -17,7 +17,7 @@ use Rattle.std.proofs.lemmas.Option.{slice_get_within, get_or_from_slice_get}
 use Rattle.std.proofs.lemmas.Slice.Eq.{bytes_eq-Decides}
 use Rattle.ring_base.specs.Fronts.{front_get, front_append}
 use Rattle.ring_base.specs.declared.fault.Fault.TheVariants.{Conflict, Stale, NumberGap, SessionsFull}
-use Rattle.ring_object.specs.Operations.{content_after}
+use Rattle.ring_object.specs.Operations.{Sequential, content_after}
 use Rattle.ring_payload.specs.declared.call.Call.{Call}
 use Rattle.ring_session.specs.declared.TheConstants.{MAX_CLIENTS}
 use Rattle.ring_session.specs.declared.answer.Answer.{Answer}
@@ -35,16 +35,16 @@ use Rattle.ring_session.proofs.Entries.{set_value-known, length-new, lookup-inse
 abbrev pub as_call : {A : Type 0} → ℕ → LastCall → Call A
 as_call client last = record { client = client; number = last.number; op = last.operation }
 
-module _ {O : Type 0} (reply : O → List ℕ → List ℕ) (next : O → List ℕ → O) (initial : O) where
+module _ {O : Type 0} (object : Sequential O) where
   -- what is kept of a client is its last of these calls, with the reply at its place
   abbrev pub IsLastOf : {A : Type 0} → List (Call A) → ℕ → Option LastCall → Type 0
   IsLastOf kept client None = count_of client kept ≡ 0
-  IsLastOf kept client (Some last) = (last.number ≡ count_of client kept) × ((q : ℕ) × StandsAt kept q (as_call client last) × (call_reply reply next initial kept q ≡ last.reply))
+  IsLastOf kept client (Some last) = (last.number ≡ count_of client kept) × ((q : ℕ) × StandsAt kept q (as_call client last) × (call_reply object kept q ≡ last.reply))
 
   -- the table holds what these calls, which took effect, leave
   pub record Holds {A : Type 0} (kept : List (Call A)) (table : Table O) : Type 0 where
     pub ascending : IsStrictlySortedBy nat_cmp (keys_of table.sessions)
-    pub content : table.content ≡ content_after next initial (operations kept)
+    pub content : table.content ≡ content_after object object.initial (operations kept)
     pub many : length table.sessions ≡ client_count kept
     pub known : (client : ℕ) → IsLastOf kept client (session_of table client)
 
@@ -73,39 +73,39 @@ client_count-push {A} (x ∷ cs) c =
           other_client (count_of x.client (cs ++ c ∷ [])) (count_of c.client (x ∷ cs)) (client_count (cs ++ c ∷ [])) (count_of x.client cs) (count_of c.client cs) (client_count cs) same (omega (arith, none)) rest
     ]
 
-content_after-push : {O : Type 0} (next : O → List ℕ → O) (o : O) (ops : List (List ℕ)) (op : List ℕ) → content_after next o (ops ++ op ∷ []) ≡ next (content_after next o ops) op
-content_after-push next o [] op = refl
-content_after-push next o (x ∷ ops) op = content_after-push next (next o x) ops op
+content_after-push : {O : Type 0} (object : Sequential O) (o : O) (ops : List (List ℕ)) (op : List ℕ) → content_after object o (ops ++ op ∷ []) ≡ object.next (content_after object o ops) op
+content_after-push object o [] op = refl
+content_after-push object o (x ∷ ops) op = content_after-push object (object.next o x) ops op
 
-module _ {O A : Type 0} (reply : O → List ℕ → List ℕ) (next : O → List ℕ → O) (initial : O) where
+module _ {O A : Type 0} (object : Sequential O) where
   -- the reply to the last call
-  call_reply-push : (kept : List (Call A)) (c : Call A) → call_reply reply next initial (kept ++ c ∷ []) (length kept) ≡ reply (content_after next initial (operations kept)) c.op
+  call_reply-push : (kept : List (Call A)) (c : Call A) → call_reply object (kept ++ c ∷ []) (length kept) ≡ object.reply (content_after object object.initial (operations kept)) c.op
   call_reply-push kept c =
       let ops : List (List ℕ) = operations kept in
       let split : operations (kept ++ c ∷ []) ≡ ops ++ c.op ∷ [] = map-append (λ (x : Call A). x.op) kept (c ∷ []) in
       let many : length ops ≡ length kept = length-map kept (λ (x : Call A). x.op) in
-      ap (λ w. reply (content_after next initial (take (length kept) w)) (slice_index_or w (length kept) [])) split
-      ∙ ap (λ w. reply (content_after next initial w) (slice_index_or (ops ++ c.op ∷ []) (length kept) [])) (take_at ops (c.op ∷ []) (length kept) many)
-      ∙ ap (reply (content_after next initial ops)) (get_or_at ops c.op [] [] (length kept) many)
+      ap (λ w. object.reply (content_after object object.initial (take (length kept) w)) (slice_index_or w (length kept) [])) split
+      ∙ ap (λ w. object.reply (content_after object object.initial w) (slice_index_or (ops ++ c.op ∷ []) (length kept) [])) (take_at ops (c.op ∷ []) (length kept) many)
+      ∙ ap (object.reply (content_after object object.initial ops)) (get_or_at ops c.op [] [] (length kept) many)
 
   -- ---- the tests of the list and of the table agree
 
-  last_number-is : (kept : List (Call A)) (client : ℕ) (o : Option LastCall) → IsLastOf reply next initial kept client o → last_number o ≡ count_of client kept
+  last_number-is : (kept : List (Call A)) (client : ℕ) (o : Option LastCall) → IsLastOf object kept client o → last_number o ≡ count_of client kept
   last_number-is kept client None is = sym is
   last_number-is kept client (Some last) is = is.0
 
-  known-is : (calls : List (Call A)) (client : ℕ) (o : Option LastCall) → IsLastOf reply next initial (deduplicated calls) client o → is_some o ≡ nat_lt 0 (count_of client (deduplicated calls))
+  known-is : (calls : List (Call A)) (client : ℕ) (o : Option LastCall) → IsLastOf object (deduplicated calls) client o → is_some o ≡ nat_lt 0 (count_of client (deduplicated calls))
   known-is calls client None is = ap (nat_lt 0) (sym is)
   known-is calls client (Some last) is =
       let number = deduplicated-numbered calls is.1.0 (as_call client last) is.1.1 in
       sym (lt-ltb 0 (count_of client (deduplicated calls)) (omega (arith, is.0, number)))
 
-  room-is : (calls : List (Call A)) (table : Table O) (client : ℕ) → Holds reply next initial (deduplicated calls) table → has_room table client ≡ may_call (deduplicated calls) client
+  room-is : (calls : List (Call A)) (table : Table O) (client : ℕ) → Holds object (deduplicated calls) table → has_room table client ≡ may_call (deduplicated calls) client
   room-is calls table client holds =
       ap (λ b. b || nat_lt (length table.sessions) MAX_CLIENTS) (known-is calls client (session_of table client) (holds.known client))
       ∙ ap (λ n. nat_lt 0 (count_of client (deduplicated calls)) || nat_lt n MAX_CLIENTS) holds.many
 
-  taken-is : (calls : List (Call A)) (table : Table O) (c : Call A) → Holds reply next initial (deduplicated calls) table → is_taken table c ≡ takes_effect (deduplicated calls) c
+  taken-is : (calls : List (Call A)) (table : Table O) (c : Call A) → Holds object (deduplicated calls) table → is_taken table c ≡ takes_effect (deduplicated calls) c
   taken-is calls table c holds =
       ap (λ n. (c.number == n + 1) && has_room table c.client) (last_number-is (deduplicated calls) c.client (session_of table c.client) (holds.known c.client))
       ∙ ap (λ b. (c.number == count_of c.client (deduplicated calls) + 1) && b) (room-is calls table c.client holds)
@@ -114,13 +114,13 @@ module _ {O A : Type 0} (reply : O → List ℕ → List ℕ) (next : O → List
 
   -- a call that takes effect is its client's last of those that did
   last-same : (calls : List (Call A)) (c : Call A) → takes_effect (deduplicated calls) c ≡ true
-      → IsLastOf reply next initial (deduplicated calls ++ c ∷ []) c.client (Some (last_call c (reply (content_after next initial (operations (deduplicated calls))) c.op)))
+      → IsLastOf object (deduplicated calls ++ c ∷ []) c.client (Some (last_call c (object.reply (content_after object object.initial (operations (deduplicated calls))) c.op)))
   last-same calls c taken =
       let kept = deduplicated calls in
       (takes_effect-number kept c taken ∙ sym (count_of-push_own kept c), (length kept, get-push_last kept c, call_reply-push kept c))
 
   -- and leaves each other client's as it was
-  last-other : (kept : List (Call A)) (c : Call A) (client : ℕ) (o : Option LastCall) → (client ≡ c.client → ⊥) → IsLastOf reply next initial kept client o → IsLastOf reply next initial (kept ++ c ∷ []) client o
+  last-other : (kept : List (Call A)) (c : Call A) (client : ℕ) (o : Option LastCall) → (client ≡ c.client → ⊥) → IsLastOf object kept client o → IsLastOf object (kept ++ c ∷ []) client o
   last-other kept c client None ne is =
       count_of-push_other client kept c (λ same. ne (sym same)) ∙ is
   last-other kept c client (Some last) ne is =
@@ -129,75 +129,75 @@ module _ {O A : Type 0} (reply : O → List ℕ → List ℕ) (next : O → List
         (
           q,
           front_get kept (kept ++ c ∷ []) q (as_call client last) (front_append kept (c ∷ [])) is.1.1,
-          call_reply-front reply next initial kept (kept ++ c ∷ []) q (front_append kept (c ∷ [])) (slice_get_within kept q (as_call client last) is.1.1) ∙ is.1.2,
+          call_reply-front object kept (kept ++ c ∷ []) q (front_append kept (c ∷ [])) (slice_get_within kept q (as_call client last) is.1.1) ∙ is.1.2,
         ),
       )
 
   -- ---- the table after a call
 
-  known-grown : (calls : List (Call A)) (table : Table O) (c : Call A) → Holds reply next initial (deduplicated calls) table → (o : Option LastCall) → session_of table c.client ≡ o
-      → length (insert_entry nat_cmp table.sessions c.client (last_call c (reply table.content c.op))) ≡ length table.sessions + (if count_of c.client (deduplicated calls) == 0 then 1 else 0)
+  known-grown : (calls : List (Call A)) (table : Table O) (c : Call A) → Holds object (deduplicated calls) table → (o : Option LastCall) → session_of table c.client ≡ o
+      → length (insert_entry nat_cmp table.sessions c.client (last_call c (object.reply table.content c.op))) ≡ length table.sessions + (if count_of c.client (deduplicated calls) == 0 then 1 else 0)
   known-grown calls table c holds None is =
-      let none : count_of c.client (deduplicated calls) ≡ 0 = subst (IsLastOf reply next initial (deduplicated calls) c.client) is (holds.known c.client) in
-      length-new table.sessions c.client (last_call c (reply table.content c.op)) is
+      let none : count_of c.client (deduplicated calls) ≡ 0 = subst (IsLastOf object (deduplicated calls) c.client) is (holds.known c.client) in
+      length-new table.sessions c.client (last_call c (object.reply table.content c.op)) is
       ∙ ap (λ n. length table.sessions + n) (sym (cond-true (count_of c.client (deduplicated calls) == 0) 1 0 (eq-eqb (count_of c.client (deduplicated calls)) 0 none)))
   known-grown calls table c holds (Some last) is =
-      let there : IsLastOf reply next initial (deduplicated calls) c.client (Some last) = subst (IsLastOf reply next initial (deduplicated calls) c.client) is (holds.known c.client) in
+      let there : IsLastOf object (deduplicated calls) c.client (Some last) = subst (IsLastOf object (deduplicated calls) c.client) is (holds.known c.client) in
       let number = deduplicated-numbered calls there.1.0 (as_call c.client last) there.1.1 in
       let some : count_of c.client (deduplicated calls) ≡ 0 → ⊥ = λ none. omega (arith, there.0, number, none) in
-      let same : length (insert_entry nat_cmp table.sessions c.client (last_call c (reply table.content c.op))) ≡ length table.sessions =
-      ap length (sym (set_value-known table.sessions c.client (last_call c (reply table.content c.op)) last holds.ascending is)) ∙ length-set_value (is_at (nat_cmp c.client)) table.sessions (last_call c (reply table.content c.op)) in
+      let same : length (insert_entry nat_cmp table.sessions c.client (last_call c (object.reply table.content c.op))) ≡ length table.sessions =
+      ap length (sym (set_value-known table.sessions c.client (last_call c (object.reply table.content c.op)) last holds.ascending is)) ∙ length-set_value (is_at (nat_cmp c.client)) table.sessions (last_call c (object.reply table.content c.op)) in
       let plain : length table.sessions ≡ length table.sessions + 0 = omega arith in
       same ∙ plain ∙ ap (λ n. length table.sessions + n) (sym (cond-false (count_of c.client (deduplicated calls) == 0) 1 0 (ne_eqb (count_of c.client (deduplicated calls)) 0 some)))
 
-  holds-taken : (calls : List (Call A)) (table : Table O) (c : Call A) → Holds reply next initial (deduplicated calls) table → takes_effect (deduplicated calls) c ≡ true
-      → Holds reply next initial (deduplicated calls ++ c ∷ []) (table_of (insert_entry nat_cmp table.sessions c.client (last_call c (reply table.content c.op))) (next table.content c.op))
+  holds-taken : (calls : List (Call A)) (table : Table O) (c : Call A) → Holds object (deduplicated calls) table → takes_effect (deduplicated calls) c ≡ true
+      → Holds object (deduplicated calls ++ c ∷ []) (table_of (insert_entry nat_cmp table.sessions c.client (last_call c (object.reply table.content c.op))) (object.next table.content c.op))
   holds-taken calls table c holds taken =
       let kept = deduplicated calls in
-      let new : LastCall = last_call c (reply table.content c.op) in
-      let own : IsLastOf reply next initial (kept ++ c ∷ []) c.client (Some new) =
-      subst (λ (o : O). IsLastOf reply next initial (kept ++ c ∷ []) c.client (Some (last_call c (reply o c.op)))) (sym holds.content) (last-same calls c taken) in
+      let new : LastCall = last_call c (object.reply table.content c.op) in
+      let own : IsLastOf object (kept ++ c ∷ []) c.client (Some new) =
+      subst (λ (o : O). IsLastOf object (kept ++ c ∷ []) c.client (Some (last_call c (object.reply o c.op)))) (sym holds.content) (last-same calls c taken) in
       record {
         ascending = sorted_insert table.sessions c.client new holds.ascending;
         content =
-            ap (λ (o : O). next o c.op) holds.content
-            ∙ sym (content_after-push next initial (operations kept) c.op)
-            ∙ ap (content_after next initial) (sym (map-append (λ (x : Call A). x.op) kept (c ∷ [])));
+            ap (λ (o : O). object.next o c.op) holds.content
+            ∙ sym (content_after-push object object.initial (operations kept) c.op)
+            ∙ ap (content_after object object.initial) (sym (map-append (λ (x : Call A). x.op) kept (c ∷ [])));
         many = known-grown calls table c holds (session_of table c.client) refl ∙ ap (λ n. n + (if count_of c.client kept == 0 then 1 else 0)) holds.many ∙ sym (client_count-push kept c);
         known = λ client. elim (cases_eq client c.client) [
           | inl same ↦
-              let here : session_of (table_of (insert_entry nat_cmp table.sessions c.client new) (next table.content c.op)) client ≡ Some new =
+              let here : session_of (table_of (insert_entry nat_cmp table.sessions c.client new) (object.next table.content c.op)) client ≡ Some new =
               ap (λ k. lookup (is_at (nat_cmp k)) (insert_entry nat_cmp table.sessions c.client new)) same ∙ lookup-insert_same table.sessions c.client new in
-              subst (IsLastOf reply next initial (kept ++ c ∷ []) client) (sym here) (subst (λ k. IsLastOf reply next initial (kept ++ c ∷ []) k (Some new)) (sym same) own)
+              subst (IsLastOf object (kept ++ c ∷ []) client) (sym here) (subst (λ k. IsLastOf object (kept ++ c ∷ []) k (Some new)) (sym same) own)
           | inr ne ↦
-              subst (IsLastOf reply next initial (kept ++ c ∷ []) client) (sym (lookup-insert_other table.sessions c.client client new ne)) (last-other kept c client (session_of table client) ne (holds.known client))
+              subst (IsLastOf object (kept ++ c ∷ []) client) (sym (lookup-insert_other table.sessions c.client client new ne)) (last-other kept c client (session_of table client) ne (holds.known client))
         ];
       }
 
-  holds-step : (calls : List (Call A)) (table : Table O) (c : Call A) (b : Bool) → takes_effect (deduplicated calls) c ≡ b → Holds reply next initial (deduplicated calls) table
-      → Holds reply next initial (deduplicated calls ++ (if b then c ∷ [] else []))
-      (if b then table_of (insert_entry nat_cmp table.sessions c.client (last_call c (reply table.content c.op))) (next table.content c.op) else table)
+  holds-step : (calls : List (Call A)) (table : Table O) (c : Call A) (b : Bool) → takes_effect (deduplicated calls) c ≡ b → Holds object (deduplicated calls) table
+      → Holds object (deduplicated calls ++ (if b then c ∷ [] else []))
+      (if b then table_of (insert_entry nat_cmp table.sessions c.client (last_call c (object.reply table.content c.op))) (object.next table.content c.op) else table)
   holds-step calls table c true is holds = holds-taken calls table c holds is
-  holds-step calls table c false is holds = subst (λ w. Holds reply next initial w table) (sym (append-nil (deduplicated calls))) holds
+  holds-step calls table c false is holds = subst (λ w. Holds object w table) (sym (append-nil (deduplicated calls))) holds
 
-  holds-next : (calls : List (Call A)) (table : Table O) (c : Call A) → Holds reply next initial (deduplicated calls) table → Holds reply next initial (deduplicated (calls ++ c ∷ [])) (table_next reply next table c)
+  holds-next : (calls : List (Call A)) (table : Table O) (c : Call A) → Holds object (deduplicated calls) table → Holds object (deduplicated (calls ++ c ∷ [])) (table_next object table c)
   holds-next calls table c holds =
       let kept = deduplicated calls in
-      let taken : Table O = table_of (insert_entry nat_cmp table.sessions c.client (last_call c (reply table.content c.op))) (next table.content c.op) in
+      let taken : Table O = table_of (insert_entry nat_cmp table.sessions c.client (last_call c (object.reply table.content c.op))) (object.next table.content c.op) in
       let step = holds-step calls table c (takes_effect kept c) refl holds in
-      let same : (if takes_effect kept c then taken else table) ≡ table_next reply next table c = ap (λ (b : Bool). if b then taken else table) (sym (taken-is calls table c holds)) in
-      subst (λ w. Holds reply next initial w (table_next reply next table c)) (sym (deduplicated-push calls c))
-      (subst (Holds reply next initial (kept ++ (if takes_effect kept c then c ∷ [] else []))) same step)
+      let same : (if takes_effect kept c then taken else table) ≡ table_next object table c = ap (λ (b : Bool). if b then taken else table) (sym (taken-is calls table c holds)) in
+      subst (λ w. Holds object w (table_next object table c)) (sym (deduplicated-push calls c))
+      (subst (Holds object (kept ++ (if takes_effect kept c then c ∷ [] else []))) same step)
 
-  holds-fold : (before calls : List (Call A)) (table : Table O) → Holds reply next initial (deduplicated before) table → Holds reply next initial (deduplicated (before ++ calls)) (fold (table_next reply next) table calls)
-  holds-fold before [] table holds = subst (λ w. Holds reply next initial (deduplicated w) table) (sym (append-nil before)) holds
+  holds-fold : (before calls : List (Call A)) (table : Table O) → Holds object (deduplicated before) table → Holds object (deduplicated (before ++ calls)) (fold (table_next object) table calls)
+  holds-fold before [] table holds = subst (λ w. Holds object (deduplicated w) table) (sym (append-nil before)) holds
   holds-fold before (c ∷ cs) table holds =
-      subst (λ w. Holds reply next initial (deduplicated w) (fold (table_next reply next) (table_next reply next table c) cs)) (append_assoc before (c ∷ []) cs)
-      (holds-fold (before ++ c ∷ []) cs (table_next reply next table c) (holds-next before table c holds))
+      subst (λ w. Holds object (deduplicated w) (fold (table_next object) (table_next object table c) cs)) (append_assoc before (c ∷ []) cs)
+      (holds-fold (before ++ c ∷ []) cs (table_next object table c) (holds-next before table c holds))
 
   -- the table after a list of calls holds what those that took effect leave
-  pub table_holds : (calls : List (Call A)) → Holds reply next initial (deduplicated calls) (table_after reply next initial calls)
-  table_holds calls = holds-fold [] calls (opening initial) (record { ascending = sorted_none; content = refl; many = refl; known = λ client. refl })
+  pub table_holds : (calls : List (Call A)) → Holds object (deduplicated calls) (table_after object calls)
+  table_holds calls = holds-fold [] calls (opening object.initial) (record { ascending = sorted_none; content = refl; many = refl; known = λ client. refl })
 
 -- ---- the answers
 
@@ -211,10 +211,10 @@ no_place p xs none k d within passes =
           absurd (cc (none, there))
     ]
 
-module _ {O A : Type 0} (reply : O → List ℕ → List ℕ) (next : O → List ℕ → O) (initial : O) where
+module _ {O A : Type 0} (object : Sequential O) where
   -- a call with its client's last number is told the kept reply, if it is the kept call
-  kept_known : (calls : List (Call A)) (replies : ℕ → List ℕ) (c : Call A) → ((q : ℕ) → q < length (deduplicated calls) → replies q ≡ call_reply reply next initial (deduplicated calls) q)
-      → (last : LastCall) → IsLastOf reply next initial (deduplicated calls) c.client (Some last) → c.number ≡ last.number
+  kept_known : (calls : List (Call A)) (replies : ℕ → List ℕ) (c : Call A) → ((q : ℕ) → q < length (deduplicated calls) → replies q ≡ call_reply object (deduplicated calls) q)
+      → (last : LastCall) → IsLastOf object (deduplicated calls) c.client (Some last) → c.number ≡ last.number
       → (place : Option ℕ) → position (is_same c) (deduplicated calls) ≡ place → (b : Bool) → bytes_eq last.operation c.op ≡ b
       → repeated replies place ≡ (if b then Kept last.reply else refusal Conflict)
   kept_known calls replies c same last is number None at true bytes =
@@ -230,7 +230,7 @@ module _ {O A : Type 0} (reply : O → List ℕ → List ℕ) (next : O → List
       let kept = deduplicated calls in
       let stands = position-is_same kept c q at in
       let place : q ≡ is.1.0 = numbered_once kept (deduplicated-numbered calls) q is.1.0 c (as_call c.client last) stands is.1.1 refl number in
-      ap Kept (same q (slice_get_within kept q c stands) ∙ ap (call_reply reply next initial kept) place ∙ is.1.2)
+      ap Kept (same q (slice_get_within kept q c stands) ∙ ap (call_reply object kept) place ∙ is.1.2)
   kept_known calls replies c same last is number None at false bytes = refl
   kept_known calls replies c same last is number (Some q) at false bytes =
       let kept = deduplicated calls in
@@ -240,8 +240,8 @@ module _ {O A : Type 0} (reply : O → List ℕ → List ℕ) (next : O → List
       let one : c ≡ as_call c.client last = cc both in
       absurd (false≢true (sym bytes ∙ (bytes_eq-Decides last.operation c.op).1 (sym (ap (λ (x : Call A). x.op) one))))
 
-  kept_same : (calls : List (Call A)) (replies : ℕ → List ℕ) (c : Call A) → ((q : ℕ) → q < length (deduplicated calls) → replies q ≡ call_reply reply next initial (deduplicated calls) q)
-      → (o : Option LastCall) → IsLastOf reply next initial (deduplicated calls) c.client o → c.number ≡ count_of c.client (deduplicated calls)
+  kept_same : (calls : List (Call A)) (replies : ℕ → List ℕ) (c : Call A) → ((q : ℕ) → q < length (deduplicated calls) → replies q ≡ call_reply object (deduplicated calls) q)
+      → (o : Option LastCall) → IsLastOf object (deduplicated calls) c.client o → c.number ≡ count_of c.client (deduplicated calls)
       → (place : Option ℕ) → position (is_same c) (deduplicated calls) ≡ place → repeated replies place ≡ kept_answer o c.op
   kept_same calls replies c same None is number None at = refl
   kept_same calls replies c same None is number (Some q) at =
@@ -252,48 +252,48 @@ module _ {O A : Type 0} (reply : O → List ℕ → List ℕ) (next : O → List
   -- the table's answer, by the tests of the list
   by_list : List (Call A) → Table O → Call A → ℕ → Bool → Answer
   by_list kept table c last room =
-      if c.number == last + 1 then (if room then Done (reply table.content c.op) else refusal SessionsFull)
+      if c.number == last + 1 then (if room then Done (object.reply table.content c.op) else refusal SessionsFull)
       else if c.number == last then kept_answer (session_of table c.client) c.op
       else if nat_lt c.number last then refusal Stale
       else refusal NumberGap
 
   -- the answer to the call after a list of calls
-  answer-holds : (calls : List (Call A)) (table : Table O) (c : Call A) → Holds reply next initial (deduplicated calls) table
-      → session_answer reply next initial (calls ++ c ∷ []) (length calls) ≡ Some (table_answer reply table c)
+  answer-holds : (calls : List (Call A)) (table : Table O) (c : Call A) → Holds object (deduplicated calls) table
+      → session_answer object (calls ++ c ∷ []) (length calls) ≡ Some (table_answer object table c)
   unfolding by_list
   answer-holds calls table c holds =
       let kept = deduplicated calls in
       let last = count_of c.client kept in
       let all = deduplicated (calls ++ c ∷ []) in
-      let replies : ℕ → List ℕ = call_reply reply next initial all in
-      let before : (q : ℕ) → q < length kept → replies q ≡ call_reply reply next initial kept q =
-      λ q within. call_reply-front reply next initial kept all q (deduplicated-front calls (calls ++ c ∷ []) (front_append calls (c ∷ []))) within in
-      let own : takes_effect kept c ≡ true → replies (length kept) ≡ reply table.content c.op =
-      λ taken. ap (λ w. call_reply reply next initial w (length kept)) (deduplicated-push calls c ∙ ap (λ w. kept ++ w) (cond-true (takes_effect kept c) (c ∷ []) [] taken))
-      ∙ call_reply-push reply next initial kept c ∙ ap (λ (o : O). reply o c.op) (sym holds.content) in
+      let replies : ℕ → List ℕ = call_reply object all in
+      let before : (q : ℕ) → q < length kept → replies q ≡ call_reply object kept q =
+      λ q within. call_reply-front object kept all q (deduplicated-front calls (calls ++ c ∷ []) (front_append calls (c ∷ []))) within in
+      let own : takes_effect kept c ≡ true → replies (length kept) ≡ object.reply table.content c.op =
+      λ taken. ap (λ w. call_reply object w (length kept)) (deduplicated-push calls c ∙ ap (λ w. kept ++ w) (cond-true (takes_effect kept c) (c ∷ []) [] taken))
+      ∙ call_reply-push object kept c ∙ ap (λ (o : O). object.reply o c.op) (sym holds.content) in
       let listed : answer_after replies kept c ≡ by_list kept table c last (may_call kept c.client) =
-      same_cases (c.number == last + 1) (may_call kept c.client) (c.number == last) (nat_lt c.number last) (replies (length kept)) (reply table.content c.op)
+      same_cases (c.number == last + 1) (may_call kept c.client) (c.number == last) (nat_lt c.number last) (replies (length kept)) (object.reply table.content c.op)
       (repeated replies (position (is_same c) kept)) (kept_answer (session_of table c.client) c.op) own
       (λ is_last. kept_same calls replies c before (session_of table c.client) (holds.known c.client) (eqb-true c.number last is_last) (position (is_same c) kept) refl) in
-      let tested : by_list kept table c last (may_call kept c.client) ≡ table_answer reply table c =
-      ap (λ n. by_list kept table c n (may_call kept c.client)) (sym (last_number-is reply next initial kept c.client (session_of table c.client) (holds.known c.client)))
-      ∙ ap (by_list kept table c (last_number (session_of table c.client))) (sym (room-is reply next initial calls table c.client holds)) in
-      session_answer-at reply next initial (calls ++ c ∷ []) (length calls) c (get-push_last calls c)
+      let tested : by_list kept table c last (may_call kept c.client) ≡ table_answer object table c =
+      ap (λ n. by_list kept table c n (may_call kept c.client)) (sym (last_number-is object kept c.client (session_of table c.client) (holds.known c.client)))
+      ∙ ap (by_list kept table c (last_number (session_of table c.client))) (sym (room-is object calls table c.client holds)) in
+      session_answer-at object (calls ++ c ∷ []) (length calls) c (get-push_last calls c)
       ∙ ap (λ w. Some (answer_after replies (deduplicated w) c)) (take_at calls (c ∷ []) (length calls) refl)
       ∙ ap Some (listed ∙ tested)
 
   -- the table after a list of calls answers the next call as the list does
-  pub table_answers : (calls : List (Call A)) (c : Call A) → session_answer reply next initial (calls ++ c ∷ []) (length calls) ≡ Some (table_answer reply (table_after reply next initial calls) c)
-  table_answers calls c = answer-holds calls (table_after reply next initial calls) c (table_holds reply next initial calls)
+  pub table_answers : (calls : List (Call A)) (c : Call A) → session_answer object (calls ++ c ∷ []) (length calls) ≡ Some (table_answer object (table_after object calls) c)
+  table_answers calls c = answer-holds calls (table_after object calls) c (table_holds object calls)
 
   -- and its object has the content that the calls which took effect leave
-  pub table_content : (calls : List (Call A)) → (table_after reply next initial calls).content ≡ content_after next initial (operations (deduplicated calls))
-  table_content calls = (table_holds reply next initial calls).content
+  pub table_content : (calls : List (Call A)) → (table_after object calls).content ≡ content_after object object.initial (operations (deduplicated calls))
+  table_content calls = (table_holds object calls).content
 
   -- so what the table of a list of calls answers is what the list determines
-  pub answer_told : (calls : List (Call A)) (table : Table O) (c : Call A) (a : Answer) → table ≡ table_after reply next initial calls → a ≡ table_answer reply table c
-      → session_answer reply next initial (calls ++ c ∷ []) (length calls) ≡ Some a
-  answer_told calls table c a after answer = table_answers calls c ∙ ap (λ t. Some (table_answer reply t c)) (sym after) ∙ ap Some (sym answer)
+  pub answer_told : (calls : List (Call A)) (table : Table O) (c : Call A) (a : Answer) → table ≡ table_after object calls → a ≡ table_answer object table c
+      → session_answer object (calls ++ c ∷ []) (length calls) ≡ Some a
+  answer_told calls table c a after answer = table_answers calls c ∙ ap (λ t. Some (table_answer object t c)) (sym after) ∙ ap Some (sym answer)
 
 -- ---- what tells that a call takes effect
 
@@ -315,16 +315,16 @@ done_where true true reply other e = refl
 done_where true false reply other e = refl
 done_where false room reply other e = e
 
-module _ {O A : Type 0} (reply : O → List ℕ → List ℕ) (next : O → List ℕ → O) (initial : O) where
+module _ {O A : Type 0} (object : Sequential O) where
   -- a table tells a call that it is done exactly where the call is taken
-  done-taken : (table : Table O) (c : Call A) → is_done (table_answer reply table c) ≡ is_taken table c
+  done-taken : (table : Table O) (c : Call A) → is_done (table_answer object table c) ≡ is_taken table c
   done-taken table c =
       let last = session_of table c.client in
       let apart : is_done (other_answer last c) ≡ false = other_not-done (c.number == last_number last) (nat_lt c.number (last_number last)) (kept_answer last c.op) (last_not-done last c.op) in
-      done_where (c.number == last_number last + 1) (has_room table c.client) (reply table.content c.op) (other_answer last c) apart
+      done_where (c.number == last_number last + 1) (has_room table c.client) (object.reply table.content c.op) (other_answer last c) apart
 
   -- so after a list of calls it tells that exactly where the call takes effect
-  pub table_effect : (calls : List (Call A)) (c : Call A) → is_done (table_answer reply (table_after reply next initial calls) c) ≡ takes_effect (deduplicated calls) c
+  pub table_effect : (calls : List (Call A)) (c : Call A) → is_done (table_answer object (table_after object calls) c) ≡ takes_effect (deduplicated calls) c
   table_effect calls c =
-      let table = table_after reply next initial calls in
-      done-taken table c ∙ taken-is reply next initial calls table c (table_holds reply next initial calls)
+      let table = table_after object calls in
+      done-taken table c ∙ taken-is object calls table c (table_holds object calls)

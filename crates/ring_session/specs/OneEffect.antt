@@ -1,33 +1,34 @@
 -- What it means that each client's call has one effect and one reply.
 use Rattle.std.specs.Prelude.{◌≡◌, ℕ, ◌≤◌, List, ◌++◌, Some}
+use Rattle.ring_object.specs.Operations.{Sequential}
 use Rattle.ring_payload.specs.declared.call.Call.{Call}
 use Rattle.ring_session.specs.declared.answer.Answer.{Answer}
 use Rattle.ring_session.specs.declared.answer.Answer.TheVariants.{Done}
 use Rattle.ring_session.specs.Deduplicated.{deduplicated, StandsAt}
 use Rattle.ring_session.specs.SessionAnswer.{reply_in, call_reply, session_answer, IsReplyIn}
 
-module _ {O : Type 0} (reply : O → List ℕ → List ℕ) (next : O → List ℕ → O) (initial : O) where
+module _ {O : Type 0} (object : Sequential O) where
   -- the call at this place of the list has this reply
   pub record IsReplied {A : Type 0} (calls : List (Call A)) (p : ℕ) (c : Call A) (r : List ℕ) : Type 0 where
     pub answer : Answer
     pub stands : StandsAt calls p c
-    pub told : session_answer reply next initial calls p ≡ Some answer
+    pub told : session_answer object calls p ≡ Some answer
     pub brings : reply_in answer ≡ Some r
 
   -- each call that takes effect is told at its place in the list that it was done, with the sequential object's reply
   abbrev pub EachIsDone : {A : Type 0} → List (Call A) → Type 0
   EachIsDone {A} calls = (q : ℕ) (c : Call A) → StandsAt (deduplicated calls) q c
-      → (p : ℕ) × StandsAt calls p c × (session_answer reply next initial calls p ≡ Some (Done (call_reply reply next initial (deduplicated calls) q)))
+      → (p : ℕ) × StandsAt calls p c × (session_answer object calls p ≡ Some (Done (call_reply object (deduplicated calls) q)))
 
   -- a client's number is told at no second place that it was done
   abbrev pub IsDoneOnce : {A : Type 0} → List (Call A) → Type 0
   IsDoneOnce {A} calls = (p q : ℕ) (c d : Call A) (r s : List ℕ) → StandsAt calls p c → StandsAt calls q d
-      → session_answer reply next initial calls p ≡ Some (Done r) → session_answer reply next initial calls q ≡ Some (Done s)
+      → session_answer object calls p ≡ Some (Done r) → session_answer object calls q ≡ Some (Done s)
       → c.client ≡ d.client → c.number ≡ d.number → p ≡ q
 
   -- each reply is the sequential object's at its call's place among those that take effect, and its number is at least 1
   abbrev pub RepliesAreTheObjects : {A : Type 0} → List (Call A) → Type 0
-  RepliesAreTheObjects {A} calls = (p : ℕ) (c : Call A) (r : List ℕ) → IsReplied calls p c r → IsReplyIn reply next initial (deduplicated calls) c r × (1 ≤ c.number)
+  RepliesAreTheObjects {A} calls = (p : ℕ) (c : Call A) (r : List ℕ) → IsReplied calls p c r → IsReplyIn object (deduplicated calls) c r × (1 ≤ c.number)
 
   -- a client's number names one call, which has one reply, wherever they are told
   abbrev pub RepliesAreOne : {A : Type 0} → List (Call A) → Type 0
@@ -36,4 +37,4 @@ module _ {O : Type 0} (reply : O → List ℕ → List ℕ) (next : O → List �
 
   -- no later call changes an answer
   abbrev pub AnswersStay : {A : Type 0} → List (Call A) → Type 0
-  AnswersStay {A} calls = (more : List (Call A)) (p : ℕ) (c : Call A) → StandsAt calls p c → session_answer reply next initial (calls ++ more) p ≡ session_answer reply next initial calls p
+  AnswersStay {A} calls = (more : List (Call A)) (p : ℕ) (c : Call A) → StandsAt calls p c → session_answer object (calls ++ more) p ≡ session_answer object calls p

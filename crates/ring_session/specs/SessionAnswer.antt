@@ -6,7 +6,7 @@ use Rattle.std.specs.Str.{bytes_eq}
 use Rattle.ring_base.specs.Fault.{number_of}
 use Rattle.ring_base.specs.declared.fault.Fault.{Fault}
 use Rattle.ring_base.specs.declared.fault.Fault.TheVariants.{Conflict, Stale, NumberGap, SessionsFull}
-use Rattle.ring_object.specs.Operations.{reply_at}
+use Rattle.ring_object.specs.Operations.{Sequential, reply_at}
 use Rattle.ring_payload.specs.declared.call.Call.{Call}
 use Rattle.ring_session.specs.declared.answer.Answer.{Answer}
 use Rattle.ring_session.specs.declared.answer.Answer.TheVariants.{Done, Kept, Refused}
@@ -46,10 +46,10 @@ is_done (Done reply) = true
 is_done (Kept reply) = false
 is_done (Refused number) = false
 
-module _ {O : Type 0} (reply : O → List ℕ → List ℕ) (next : O → List ℕ → O) (initial : O) where
+module _ {O : Type 0} (object : Sequential O) where
   -- the sequential object's reply to the call at a place of the list
   abbrev pub call_reply : {A : Type 0} → List (Call A) → ℕ → List ℕ
-  call_reply calls p = reply_at reply next initial (operations calls) p
+  call_reply calls p = reply_at object (operations calls) p
 
   -- the answer to the call at a place of the list, if it has that place
   abbrev pub session_answer : {A : Type 0} → List (Call A) → ℕ → Option Answer

@@ -11,7 +11,7 @@ use Rattle.std.proofs.lemmas.Option.{slice_get_within, slice_get-get_or}
 use Rattle.std.proofs.lemmas.Slice.Eq.{bytes_eq-Decides}
 use Rattle.ring_base.specs.Fronts.{IsFront, front_trans, front_length, front_get}
 use Rattle.ring_base.specs.declared.fault.Fault.TheVariants.{Stale, NumberGap, SessionsFull}
-use Rattle.ring_object.specs.Operations.{content_after}
+use Rattle.ring_object.specs.Operations.{Sequential, content_after}
 use Rattle.ring_payload.specs.declared.call.Call.{Call}
 use Rattle.ring_session.specs.declared.answer.Answer.{Answer}
 use Rattle.ring_session.specs.declared.answer.Answer.TheVariants.{Done, Kept}
@@ -22,28 +22,28 @@ use Rattle.ring_session.specs.SessionAnswer.{refusal, is_same, repeated, answer_
 -- ---- the sequential object's replies
 
 -- a reply stays as the list grows
-pub call_reply-front : {O A : Type 0} (reply : O → List ℕ → List ℕ) (next : O → List ℕ → O) (initial : O) (xs ys : List (Call A)) (q : ℕ) → IsFront xs ys → q < length xs
-    → call_reply reply next initial ys q ≡ call_reply reply next initial xs q
-call_reply-front {O} {A} reply next initial xs ys q front within =
+pub call_reply-front : {O A : Type 0} (object : Sequential O) (xs ys : List (Call A)) (q : ℕ) → IsFront xs ys → q < length xs
+    → call_reply object ys q ≡ call_reply object xs q
+call_reply-front {O} {A} object xs ys q front within =
     let split : operations ys ≡ operations xs ++ operations front.0 = ap operations (sym front.1) ∙ map-append (λ (c : Call A). c.op) xs front.0 in
     let many : length (operations xs) ≡ length xs = length-map xs (λ (c : Call A). c.op) in
     let before : take q (operations ys) ≡ take q (operations xs) = ap (take q) split ∙ take-append-le q (operations xs) (operations front.0) (omega (arith, within, many)) in
     let here : slice_index_or (operations ys) q [] ≡ slice_index_or (operations xs) q [] = ap (λ (w : List (List ℕ)). slice_index_or w q []) split ∙ get_or_append_left (operations xs) (operations front.0) [] q (omega (arith, within, many)) in
-    ap (λ w. reply (content_after next initial w) (slice_index_or (operations ys) q [])) before ∙ ap (λ op. reply (content_after next initial (take q (operations xs))) op) here
+    ap (λ w. object.reply (content_after object object.initial w) (slice_index_or (operations ys) q [])) before ∙ ap (λ op. object.reply (content_after object object.initial (take q (operations xs))) op) here
 
 -- a call that was replied in an order is replied so in each longer one
-pub replied_front : {O A : Type 0} (reply : O → List ℕ → List ℕ) (next : O → List ℕ → O) (initial : O) (xs ys : List (Call A)) (c : Call A) (r : List ℕ) → IsFront xs ys
-    → IsReplyIn reply next initial xs c r → IsReplyIn reply next initial ys c r
-replied_front reply next initial xs ys c r front replied =
-    (replied.0, front_get xs ys replied.0 c front replied.1, call_reply-front reply next initial xs ys replied.0 front (slice_get_within xs replied.0 c replied.1) ∙ replied.2)
+pub replied_front : {O A : Type 0} (object : Sequential O) (xs ys : List (Call A)) (c : Call A) (r : List ℕ) → IsFront xs ys
+    → IsReplyIn object xs c r → IsReplyIn object ys c r
+replied_front object xs ys c r front replied =
+    (replied.0, front_get xs ys replied.0 c front replied.1, call_reply-front object xs ys replied.0 front (slice_get_within xs replied.0 c replied.1) ∙ replied.2)
 
 -- in an order where each client's calls are numbered, a client's number names one call with one reply
-pub one_reply : {O A : Type 0} (reply : O → List ℕ → List ℕ) (next : O → List ℕ → O) (initial : O) (order : List (Call A)) → IsNumbered order → (c d : Call A) (r s : List ℕ)
-    → IsReplyIn reply next initial order c r → IsReplyIn reply next initial order d s → c.client ≡ d.client → c.number ≡ d.number → (c ≡ d) × (r ≡ s)
-one_reply {O} {A} reply next initial order numbered c d r s x y client number =
+pub one_reply : {O A : Type 0} (object : Sequential O) (order : List (Call A)) → IsNumbered order → (c d : Call A) (r s : List ℕ)
+    → IsReplyIn object order c r → IsReplyIn object order d s → c.client ≡ d.client → c.number ≡ d.number → (c ≡ d) × (r ≡ s)
+one_reply {O} {A} object order numbered c d r s x y client number =
     let place : x.0 ≡ y.0 = numbered_once order numbered x.0 y.0 c d x.1 y.1 client number in
     let same : Some c ≡ Some d = sym x.1 ∙ ap (λ q. slice_get order q) place ∙ y.1 in
-    (cc same, sym x.2 ∙ ap (call_reply reply next initial order) place ∙ y.2)
+    (cc same, sym x.2 ∙ ap (call_reply object order) place ∙ y.2)
 
 -- ---- places
 
@@ -95,9 +95,9 @@ position-is_same kept c q found =
 -- ---- answers
 
 -- the answer at a place with a call
-pub session_answer-at : {O A : Type 0} (reply : O → List ℕ → List ℕ) (next : O → List ℕ → O) (initial : O) (calls : List (Call A)) (p : ℕ) (c : Call A) → StandsAt calls p c
-    → session_answer reply next initial calls p ≡ Some (answer_after (call_reply reply next initial (deduplicated calls)) (deduplicated (take p calls)) c)
-session_answer-at reply next initial calls p c at = ap (option_map (answer_after (call_reply reply next initial (deduplicated calls)) (deduplicated (take p calls)))) at
+pub session_answer-at : {O A : Type 0} (object : Sequential O) (calls : List (Call A)) (p : ℕ) (c : Call A) → StandsAt calls p c
+    → session_answer object calls p ≡ Some (answer_after (call_reply object (deduplicated calls)) (deduplicated (take p calls)) c)
+session_answer-at object calls p c at = ap (option_map (answer_after (call_reply object (deduplicated calls)) (deduplicated (take p calls)))) at
 
 same_place : (f g : ℕ → List ℕ) (o : Option ℕ) → ((q : ℕ) → o ≡ Some q → f q ≡ g q) → repeated f o ≡ repeated g o
 same_place f g None same = refl
@@ -121,21 +121,21 @@ answer_after-same f g kept c own before =
     (λ last. same_place f g (position (is_same c) kept) (λ q found. before q (position-Some (is_same c) kept q c found).0))
 
 -- an answer stays as the list grows
-pub session_answer-front : {O A : Type 0} (reply : O → List ℕ → List ℕ) (next : O → List ℕ → O) (initial : O) (xs ys : List (Call A)) (p : ℕ) (c : Call A) → StandsAt xs p c → IsFront xs ys
-    → session_answer reply next initial ys p ≡ session_answer reply next initial xs p
-session_answer-front {O} {A} reply next initial xs ys p c at front =
+pub session_answer-front : {O A : Type 0} (object : Sequential O) (xs ys : List (Call A)) (p : ℕ) (c : Call A) → StandsAt xs p c → IsFront xs ys
+    → session_answer object ys p ≡ session_answer object xs p
+session_answer-front {O} {A} object xs ys p c at front =
     let kept = deduplicated (take p xs) in
     let grows = deduplicated-front xs ys front in
-    let all : ℕ → List ℕ = call_reply reply next initial (deduplicated xs) in
-    let more : ℕ → List ℕ = call_reply reply next initial (deduplicated ys) in
+    let all : ℕ → List ℕ = call_reply object (deduplicated xs) in
+    let more : ℕ → List ℕ = call_reply object (deduplicated ys) in
     let before : take p ys ≡ take p xs = take_front xs ys p front (omega (arith, slice_get_within xs p c at)) in
-    let same : (q : ℕ) → q < length (deduplicated xs) → more q ≡ all q = λ q within. call_reply-front reply next initial (deduplicated xs) (deduplicated ys) q grows within in
-    session_answer-at reply next initial ys p c (front_get xs ys p c front at)
+    let same : (q : ℕ) → q < length (deduplicated xs) → more q ≡ all q = λ q within. call_reply-front object (deduplicated xs) (deduplicated ys) q grows within in
+    session_answer-at object ys p c (front_get xs ys p c front at)
     ∙ ap (λ w. Some (answer_after more (deduplicated w) c)) before
     ∙ ap Some (answer_after-same more all kept c
     (λ taken. same (length kept) (omega (arith, front_length (kept ++ c ∷ []) (deduplicated xs) (effect_front xs p c at taken), length-append kept (c ∷ []))))
     (λ q within. same q (omega (arith, within, front_length kept (deduplicated xs) (before_front xs p)))))
-    ∙ sym (session_answer-at reply next initial xs p c at)
+    ∙ sym (session_answer-at object xs p c at)
 
 replied_cases : (next room last old : Bool) (f : ℕ → List ℕ) (n : ℕ) (o : Option ℕ) (r : List ℕ)
     → reply_in (if next then (if room then Done (f n) else refusal SessionsFull) else if last then repeated f o else if old then refusal Stale else refusal NumberGap) ≡ Some r
@@ -148,12 +148,12 @@ replied_cases false room false true f n o r e = absurd (cc e)
 replied_cases false room false false f n o r e = absurd (cc e)
 
 -- a reply is the sequential object's at a place where the call takes effect
-pub answered : {O A : Type 0} (reply : O → List ℕ → List ℕ) (next : O → List ℕ → O) (initial : O) (calls : List (Call A)) (p : ℕ) (c : Call A) (a : Answer) (r : List ℕ) → StandsAt calls p c
-    → session_answer reply next initial calls p ≡ Some a → reply_in a ≡ Some r → IsReplyIn reply next initial (deduplicated calls) c r
-answered {O} {A} reply next initial calls p c a r at answer is =
+pub answered : {O A : Type 0} (object : Sequential O) (calls : List (Call A)) (p : ℕ) (c : Call A) (a : Answer) (r : List ℕ) → StandsAt calls p c
+    → session_answer object calls p ≡ Some a → reply_in a ≡ Some r → IsReplyIn object (deduplicated calls) c r
+answered {O} {A} object calls p c a r at answer is =
     let kept = deduplicated (take p calls) in
-    let replies : ℕ → List ℕ = call_reply reply next initial (deduplicated calls) in
-    let told : Some (answer_after replies kept c) ≡ Some a = sym (session_answer-at reply next initial calls p c at) ∙ answer in
+    let replies : ℕ → List ℕ = call_reply object (deduplicated calls) in
+    let told : Some (answer_after replies kept c) ≡ Some a = sym (session_answer-at object calls p c at) ∙ answer in
     let same : answer_after replies kept c ≡ a = cc told in
     let brings : reply_in (answer_after replies kept c) ≡ Some r = ap reply_in same ∙ is in
     elim (replied_cases (c.number == count_of c.client kept + 1) (may_call kept c.client) (c.number == count_of c.client kept) (nat_lt c.number (count_of c.client kept)) replies (length kept) (position (is_same c) kept) r brings) [
@@ -162,10 +162,10 @@ answered {O} {A} reply next initial calls p c a r at answer is =
     ]
 
 -- a call that has a reply has a number of at least 1
-pub answered-number : {O A : Type 0} (reply : O → List ℕ → List ℕ) (next : O → List ℕ → O) (initial : O) (calls : List (Call A)) (p : ℕ) (c : Call A) (a : Answer) (r : List ℕ) → StandsAt calls p c
-    → session_answer reply next initial calls p ≡ Some a → reply_in a ≡ Some r → 1 ≤ c.number
-answered-number reply next initial calls p c a r at answer is =
-    let there = answered reply next initial calls p c a r at answer is in
+pub answered-number : {O A : Type 0} (object : Sequential O) (calls : List (Call A)) (p : ℕ) (c : Call A) (a : Answer) (r : List ℕ) → StandsAt calls p c
+    → session_answer object calls p ≡ Some a → reply_in a ≡ Some r → 1 ≤ c.number
+answered-number object calls p c a r at answer is =
+    let there = answered object calls p c a r at answer is in
     omega (arith, deduplicated-numbered calls there.0 c there.1)
 
 -- ---- one effect
@@ -180,12 +180,12 @@ done_cases false room false true f n o r e = absurd (cc e)
 done_cases false room false false f n o r e = absurd (cc e)
 
 -- a call that is told that it was done takes effect at its place
-pub done_takes_effect : {O A : Type 0} (reply : O → List ℕ → List ℕ) (next : O → List ℕ → O) (initial : O) (calls : List (Call A)) (p : ℕ) (c : Call A) (r : List ℕ) → StandsAt calls p c
-    → session_answer reply next initial calls p ≡ Some (Done r) → takes_effect (deduplicated (take p calls)) c ≡ true
-done_takes_effect {O} {A} reply next initial calls p c r at answer =
+pub done_takes_effect : {O A : Type 0} (object : Sequential O) (calls : List (Call A)) (p : ℕ) (c : Call A) (r : List ℕ) → StandsAt calls p c
+    → session_answer object calls p ≡ Some (Done r) → takes_effect (deduplicated (take p calls)) c ≡ true
+done_takes_effect {O} {A} object calls p c r at answer =
     let kept = deduplicated (take p calls) in
-    let replies : ℕ → List ℕ = call_reply reply next initial (deduplicated calls) in
-    let told : Some (answer_after replies kept c) ≡ Some (Done r) = sym (session_answer-at reply next initial calls p c at) ∙ answer in
+    let replies : ℕ → List ℕ = call_reply object (deduplicated calls) in
+    let told : Some (answer_after replies kept c) ≡ Some (Done r) = sym (session_answer-at object calls p c at) ∙ answer in
     done_cases (c.number == count_of c.client kept + 1) (may_call kept c.client) (c.number == count_of c.client kept) (nat_lt c.number (count_of c.client kept)) replies (length kept) (position (is_same c) kept) r (cc told)
 
 -- a client's number takes effect at no later place
@@ -208,11 +208,11 @@ no_later_effect {A} calls p q c d at at' taken taken' client number lt =
     omega (arith, first, second, more, all, same, number)
 
 -- a client's number is told that it was done at one place
-pub done_once : {O A : Type 0} (reply : O → List ℕ → List ℕ) (next : O → List ℕ → O) (initial : O) (calls : List (Call A)) (p q : ℕ) (c d : Call A) (r s : List ℕ) → StandsAt calls p c → StandsAt calls q d
-    → session_answer reply next initial calls p ≡ Some (Done r) → session_answer reply next initial calls q ≡ Some (Done s) → c.client ≡ d.client → c.number ≡ d.number → p ≡ q
-done_once reply next initial calls p q c d r s at at' done done' client number =
-    let taken = done_takes_effect reply next initial calls p c r at done in
-    let taken' = done_takes_effect reply next initial calls q d s at' done' in
+pub done_once : {O A : Type 0} (object : Sequential O) (calls : List (Call A)) (p q : ℕ) (c d : Call A) (r s : List ℕ) → StandsAt calls p c → StandsAt calls q d
+    → session_answer object calls p ≡ Some (Done r) → session_answer object calls q ≡ Some (Done s) → c.client ≡ d.client → c.number ≡ d.number → p ≡ q
+done_once object calls p q c d r s at at' done done' client number =
+    let taken = done_takes_effect object calls p c r at done in
+    let taken' = done_takes_effect object calls q d s at' done' in
     let le : p ≤ q = omega (arith, no_later_effect calls q p d c at' at taken' taken (sym client) (sym number)) in
     let ge : q ≤ p = omega (arith, no_later_effect calls p q c d at at' taken taken' client number) in
     omega (arith, le, ge)

@@ -5,6 +5,7 @@ use Rattle.std.specs.Map.{lookup, values_of}
 use Rattle.std.specs.Ordering.{nat_cmp}
 use Rattle.std.specs.Str.{bytes_eq}
 use Rattle.ring_base.specs.declared.fault.Fault.TheVariants.{Conflict, Stale, NumberGap, SessionsFull}
+use Rattle.ring_object.specs.Operations.{Sequential}
 use Rattle.ring_payload.specs.declared.call.Call.{Call}
 use Rattle.ring_session.specs.declared.TheConstants.{MAX_CLIENTS}
 use Rattle.ring_session.specs.declared.answer.Answer.{Answer}
@@ -72,22 +73,21 @@ other_answer last c =
     else if nat_lt c.number (last_number last) then refusal Stale
     else refusal NumberGap
 
-module _ {O : Type 0} (reply : O → List ℕ → List ℕ) where
+module _ {O : Type 0} (object : Sequential O) where
   -- the table's answer to a call
   abbrev pub table_answer : {A : Type 0} → Table O → Call A → Answer
   table_answer table c =
       let last = session_of table c.client in
-      if c.number == last_number last + 1 then (if has_room table c.client then Done (reply table.content c.op) else refusal SessionsFull)
+      if c.number == last_number last + 1 then (if has_room table c.client then Done (object.reply table.content c.op) else refusal SessionsFull)
       else other_answer last c
 
-module _ {O : Type 0} (reply : O → List ℕ → List ℕ) (next : O → List ℕ → O) where
   -- the table after a call: one that takes effect is done and kept, any other leaves it
   abbrev pub table_next : {A : Type 0} → Table O → Call A → Table O
   table_next table c =
       if is_taken table c
-      then table_of (insert_entry nat_cmp table.sessions c.client (last_call c (reply table.content c.op))) (next table.content c.op)
+      then table_of (insert_entry nat_cmp table.sessions c.client (last_call c (object.reply table.content c.op))) (object.next table.content c.op)
       else table
 
   -- the table after a list of calls, from the object's start
-  abbrev pub table_after : {A : Type 0} → O → List (Call A) → Table O
-  table_after initial calls = fold table_next (opening initial) calls
+  abbrev pub table_after : {A : Type 0} → List (Call A) → Table O
+  table_after calls = fold table_next (opening object.initial) calls

@@ -23,18 +23,18 @@ pub fn deduplicated_law<A: Allocator + Copy>()
 
 /// Law, for every object and every list of calls: each client's call has one effect and one reply.
 pub fn session_law<O: Object>()
-    ensures done { (calls : List (Call O.Alloc)) → EachIsDone O.reply O.next O.initial calls }
-    ensures once { (calls : List (Call O.Alloc)) → IsDoneOnce O.reply O.next O.initial calls }
-    ensures replied { (calls : List (Call O.Alloc)) → RepliesAreTheObjects O.reply O.next O.initial calls }
-    ensures one_reply { (calls : List (Call O.Alloc)) → RepliesAreOne O.reply O.next O.initial calls }
-    ensures stays { (calls : List (Call O.Alloc)) → AnswersStay O.reply O.next O.initial calls }
+    ensures done { (calls : List (Call O.Alloc)) → EachIsDone O.sequential calls }
+    ensures once { (calls : List (Call O.Alloc)) → IsDoneOnce O.sequential calls }
+    ensures replied { (calls : List (Call O.Alloc)) → RepliesAreTheObjects O.sequential calls }
+    ensures one_reply { (calls : List (Call O.Alloc)) → RepliesAreOne O.sequential calls }
+    ensures stays { (calls : List (Call O.Alloc)) → AnswersStay O.sequential calls }
 {}
 
 /// Law, for every object and every list of calls: the table after the list answers the next call as the list alone
 /// determines, and its object has the content that the calls which took effect leave. It tells a call that it is done
 /// exactly where the call takes effect.
 pub fn table_law<O: Object>()
-    ensures told { (calls : List (Call O.Alloc)) (c : Call O.Alloc) → session_answer O.reply O.next O.initial (calls ++ c ∷ []) (length calls) ≡ Some (table_answer O.reply (table_after O.reply O.next O.initial calls) c) }
-    ensures effect { (calls : List (Call O.Alloc)) (c : Call O.Alloc) → is_done (table_answer O.reply (table_after O.reply O.next O.initial calls) c) ≡ takes_effect (deduplicated calls) c }
-    ensures content { (calls : List (Call O.Alloc)) → (table_after O.reply O.next O.initial calls).content ≡ content_after O.next O.initial (operations (deduplicated calls)) }
+    ensures told { (calls : List (Call O.Alloc)) (c : Call O.Alloc) → session_answer O.sequential (calls ++ c ∷ []) (length calls) ≡ Some (table_answer O.sequential (table_after O.sequential calls) c) }
+    ensures effect { (calls : List (Call O.Alloc)) (c : Call O.Alloc) → is_done (table_answer O.sequential (table_after O.sequential calls) c) ≡ takes_effect (deduplicated calls) c }
+    ensures content { (calls : List (Call O.Alloc)) → (table_after O.sequential calls).content ≡ content_after O.sequential O.sequential.initial (operations (deduplicated calls)) }
 {}

@@ -52,9 +52,9 @@ impl<A: Allocator + Copy> Session<A> {
         object: &mut O,
         call: &Call<A>,
     ) -> Result<Reply, Fault>
-        ensures reply { IfOk result (λ reply. reply ≡ O.reply object.old call.now.op) }
-        ensures kept { OnOk result (self.new ≡ last_call call.now (O.reply object.old call.now.op)) }
-        ensures applied { OnOk result (object.new ≡ O.next object.old call.now.op) }
+        ensures reply { IfOk result (λ reply. reply ≡ O.sequential.reply object.old call.now.op) }
+        ensures kept { OnOk result (self.new ≡ last_call call.now (O.sequential.reply object.old call.now.op)) }
+        ensures applied { OnOk result (object.new ≡ O.sequential.next object.old call.now.op) }
         ensures err { OnErr result (self.new ≡ self.old) }
         ensures content { OnErr result (object.new ≡ object.old) }
         ensures refused { IfErr result (λ fault. fault ≡ Memory) }

@@ -37,7 +37,7 @@ impl<O: Object> Model for Sessions<O> {
 impl<O: Object> Sessions<O> {
     /// The table that no client has called, with the object at its start, or `Memory`.
     pub fn new(alloc: O::Alloc) -> Result<Sessions<O>, Fault>
-        ensures ok { IfOk result (λ sessions. sessions ≡ opening O.initial) }
+        ensures ok { IfOk result (λ sessions. sessions ≡ opening O.sequential.initial) }
         ensures refused { IfErr result (λ fault. fault ≡ Memory) }
     {
         let object = O::start(alloc)?;
@@ -51,14 +51,14 @@ impl<O: Object> Sessions<O> {
     /// The answer to a call. One that takes effect is done on the object and kept; any other, and `Memory`, leaves
     /// the table as it was.
     pub fn apply(&mut self, call: &Call<O::Alloc>) -> Result<Answer, Fault>
-        ensures answer { IfOk result (λ answer. answer ≡ table_answer O.reply self.old call.now) }
-        ensures ok { OnOk result (self.new ≡ table_next O.reply O.next self.old call.now) }
+        ensures answer { IfOk result (λ answer. answer ≡ table_answer O.sequential self.old call.now) }
+        ensures ok { OnOk result (self.new ≡ table_next O.sequential self.old call.now) }
         ensures err { OnErr result (self.new ≡ self.old) }
         ensures refused { IfErr result (λ fault. fault ≡ Memory) }
 
         // After a list of calls, the answer is the one that the list alone determines.
-        ensures told { (calls : List (Call O.Alloc)) → self.old ≡ table_after O.reply O.next O.initial calls
-            → IfOk result (λ answer. session_answer O.reply O.next O.initial (calls ++ call.now ∷ []) (length calls) ≡ Some answer) }
+        ensures told { (calls : List (Call O.Alloc)) → self.old ≡ table_after O.sequential calls
+            → IfOk result (λ answer. session_answer O.sequential (calls ++ call.now ∷ []) (length calls) ≡ Some answer) }
 
         // A call of number 0 has no reply, and the table is full at exactly so many clients.
         ensures replied_from_one { IfOk result (λ answer. IsSome (reply_in answer) → 1 ≤ call.now.number) }
@@ -86,8 +86,8 @@ impl<O: Object> Sessions<O> {
     fn admit(&mut self, call: &Call<O::Alloc>) -> Result<Answer, Fault>
         requires unknown { session_of self.old call.now.client ≡ None }
         requires first { call.now.number ≡ 1 }
-        ensures answer { IfOk result (λ answer. answer ≡ table_answer O.reply self.old call.now) }
-        ensures ok { OnOk result (self.new ≡ table_next O.reply O.next self.old call.now) }
+        ensures answer { IfOk result (λ answer. answer ≡ table_answer O.sequential self.old call.now) }
+        ensures ok { OnOk result (self.new ≡ table_next O.sequential self.old call.now) }
         ensures err { OnErr result (self.new ≡ self.old) }
         ensures refused { IfErr result (λ fault. fault ≡ Memory) }
         ensures full_only_at_limit { IfOk result (λ answer. answer ≡ refusal SessionsFull → length self.old.sessions ≡ MAX_CLIENTS) }

@@ -32,13 +32,9 @@ impl<A: Allocator + Copy + Drop> Object for Diary<A> {
 
     ghost is_content = { λ _. Unit {0} };
 
-    ghost initial = { [] };
-
     ghost is_readable = { λ _. true };
 
-    ghost reply = { λ content op. length content % 256 ∷ [] };
-
-    ghost next = { λ content op. content ++ op };
+    ghost sequential = { record { initial = []; reply = λ content op. length content % 256 ∷ []; next = λ content op. content ++ op } };
 
     ghost snapshot_of = { λ content. content };
 

@@ -42,13 +42,9 @@ impl<A: Allocator + Copy + Drop> Object for Counters<A> {
 
     ghost is_content = { IsValues };
 
-    ghost initial = { zeros };
-
     ghost is_readable = { is_readable };
 
-    ghost reply = { reply };
-
-    ghost next = { next };
+    ghost sequential = { record { initial = zeros; reply = reply; next = next } };
 
     ghost snapshot_of = { λ counts. spelled 8 counts };
 

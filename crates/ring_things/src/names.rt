@@ -55,13 +55,9 @@ impl<A: Allocator + Copy + Drop> Object for Names<A> {
 
     ghost is_content = { IsSet };
 
-    ghost initial = { [] };
-
     ghost is_readable = { is_readable };
 
-    ghost reply = { reply };
-
-    ghost next = { next };
+    ghost sequential = { record { initial = []; reply = reply; next = next } };
 
     ghost snapshot_of = { snapshot_of };
 

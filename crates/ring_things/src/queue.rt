@@ -49,13 +49,9 @@ impl<A: Allocator + Copy + Drop> Object for Queue<A> {
 
     ghost is_content = { IsQueue };
 
-    ghost initial = { [] };
-
     ghost is_readable = { is_readable };
 
-    ghost reply = { reply };
-
-    ghost next = { next };
+    ghost sequential = { record { initial = []; reply = reply; next = next } };
 
     ghost snapshot_of = { snapshot_of };
 

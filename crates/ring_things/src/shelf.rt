@@ -44,13 +44,9 @@ impl<
 
     ghost is_content = { AreContents P.is_content Q.is_content R.is_content S.is_content };
 
-    ghost initial = { (P.initial, Q.initial, R.initial, S.initial) };
-
     ghost is_readable = { shelf_readable P.is_readable Q.is_readable R.is_readable S.is_readable };
 
-    ghost reply = { shelf_reply P.reply Q.reply R.reply S.reply };
-
-    ghost next = { shelf_next P.next Q.next R.next S.next };
+    ghost sequential = { record { initial = (P.sequential.initial, Q.sequential.initial, R.sequential.initial, S.sequential.initial); reply = shelf_reply P.sequential.reply Q.sequential.reply R.sequential.reply S.sequential.reply; next = shelf_next P.sequential.next Q.sequential.next R.sequential.next S.sequential.next } };
 
     ghost snapshot_of = { shelf_snapshot P.snapshot_of Q.snapshot_of R.snapshot_of S.snapshot_of };
 
@@ -60,17 +56,17 @@ impl<
 
     ghost keeps = { shelf_kept
         P.is_content Q.is_content R.is_content S.is_content
-        P.next Q.next R.next S.next
+        P.sequential.next Q.sequential.next R.sequential.next S.sequential.next
         P.keeps Q.keeps R.keeps S.keeps };
 
     ghost replies = { shelf_replies
         P.is_content Q.is_content R.is_content S.is_content
-        P.reply Q.reply R.reply S.reply
+        P.sequential.reply Q.sequential.reply R.sequential.reply S.sequential.reply
         P.replies Q.replies R.replies S.replies };
 
     ghost ignores = { shelf_ignores
-        P.reply Q.reply R.reply S.reply
-        P.next Q.next R.next S.next
+        P.sequential.reply Q.sequential.reply R.sequential.reply S.sequential.reply
+        P.sequential.next Q.sequential.next R.sequential.next S.sequential.next
         P.is_readable Q.is_readable R.is_readable S.is_readable
         P.ignores Q.ignores R.ignores S.ignores };
 

@@ -4,6 +4,7 @@ use Rattle.std.proofs.lemmas.List.{append-nil}
 use Rattle.std.proofs.lemmas.List.Elements.{All-head, All-tail}
 use Rattle.std.proofs.lemmas.Option.{slice_get_within, get_or_from_slice_get}
 use Rattle.ring_base.specs.Fronts.{IsFront, front_get, front_append}
+use Rattle.ring_object.specs.Operations.{Sequential}
 use Rattle.ring_payload.specs.declared.call.Call.{Call}
 use Rattle.ring_session.specs.Deduplicated.{StandsAt, IsNumbered}
 use Rattle.ring_session.specs.DeduplicatedLaws.{get-push}
@@ -37,9 +38,9 @@ issued-more history more calls issued p c at =
     let there = issued p c at in
     (there.0, front_get history (history ++ more) there.0 (Issue c) (front_append history more) there.1)
 
-module _ {O A : Type 0} (reply : O → List ℕ → List ℕ) (next : O → List ℕ → O) (initial : O) where
+module _ {O A : Type 0} (object : Sequential O) where
   -- the empty order explains that nothing happened
-  pub linear-nothing : IsLinearization {A = A} reply next initial [] []
+  pub linear-nothing : IsLinearization {A = A} object [] []
   linear-nothing = record {
     numbered = λ p c at. absurd (cc at);
     issued = λ p c at. absurd (cc at);
@@ -48,12 +49,12 @@ module _ {O A : Type 0} (reply : O → List ℕ → List ℕ) (next : O → List
   }
 
   -- the order may grow at its end by calls that were issued
-  pub linear-grows : (order more : List (Call A)) (history : List (Item A)) → IsLinearization reply next initial order history
-      → IsFront order more → IsNumbered more → AreIssued history more → IsLinearization reply next initial more history
+  pub linear-grows : (order more : List (Call A)) (history : List (Item A)) → IsLinearization object order history
+      → IsFront order more → IsNumbered more → AreIssued history more → IsLinearization object more history
   linear-grows order more history linear front numbered issued = record {
     numbered = numbered;
     issued = issued;
-    replied = λ k c r at. replied_front reply next initial order more c r front (linear.replied k c r at);
+    replied = λ k c r at. replied_front object order more c r front (linear.replied k c r at);
     ordered = λ k a b r q at late stands.
         let there = linear.replied k a r at in
         let within = slice_get_within order there.0 a there.1 in
@@ -66,8 +67,8 @@ module _ {O A : Type 0} (reply : O → List ℕ → List ℕ) (next : O → List
   }
 
   -- a call may be issued
-  pub linear-issue : (order : List (Call A)) (history : List (Item A)) (i : Call A) → IsLinearization reply next initial order history
-      → IsLinearization reply next initial order (history ++ Issue i ∷ [])
+  pub linear-issue : (order : List (Call A)) (history : List (Item A)) (i : Call A) → IsLinearization object order history
+      → IsLinearization object order (history ++ Issue i ∷ [])
   linear-issue order history i linear =
       let before : (k : ℕ) (c : Call A) (r : List ℕ) → IsRepliedAt (history ++ Issue i ∷ []) c r k → IsRepliedAt history c r k =
       λ k c r at. elim (get-push history (Issue i) k (Reply c r) at) as (λ _. IsRepliedAt history c r k) [ inl there ↦ there | inr last ↦ absurd (cc (last.1)) ] in
@@ -80,17 +81,17 @@ module _ {O A : Type 0} (reply : O → List ℕ → List ℕ) (next : O → List
       }
 
   -- a call of the order may be replied with the object's reply there
-  pub linear-reply : (order : List (Call A)) (history : List (Item A)) (c : Call A) (r : List ℕ) → IsLinearization reply next initial order history
-      → IsReplyIn reply next initial order c r → IsLinearization reply next initial order (history ++ Reply c r ∷ [])
+  pub linear-reply : (order : List (Call A)) (history : List (Item A)) (c : Call A) (r : List ℕ) → IsLinearization object order history
+      → IsReplyIn object order c r → IsLinearization object order (history ++ Reply c r ∷ [])
   linear-reply order history c r linear right = record {
     numbered = linear.numbered;
     issued = issued-more history (Reply c r ∷ []) order linear.issued;
-    replied = λ k d s at. elim (get-push history (Reply c r) k (Reply d s) at) as (λ _. IsReplyIn reply next initial order d s) [
+    replied = λ k d s at. elim (get-push history (Reply c r) k (Reply d s) at) as (λ _. IsReplyIn object order d s) [
       | inl there ↦ linear.replied k d s there
       | inr last ↦
           let call : c ≡ d = cc (last.1) in
           let told : r ≡ s = cc (last.1) in
-          subst (λ w. IsReplyIn reply next initial order d w) told (subst (λ w. IsReplyIn reply next initial order w r) call right)
+          subst (λ w. IsReplyIn object order d w) told (subst (λ w. IsReplyIn object order w r) call right)
     ];
     ordered = λ k a b s q at late stands.
         let late_before : (j : ℕ) → IsIssuedAt history b j → k < j = λ j there. late j (front_get history (history ++ Reply c r ∷ []) j (Issue b) (front_append history (Reply c r ∷ [])) there) in
@@ -106,17 +107,17 @@ module _ {O A : Type 0} (reply : O → List ℕ → List ℕ) (next : O → List
   -- the item is a reply that is the object's at its call's place
   abbrev pub IsRight : List (Call A) → Item A → Type 0
   IsRight order (Issue c) = ⊥
-  IsRight order (Reply c r) = IsReplyIn reply next initial order c r
+  IsRight order (Reply c r) = IsReplyIn object order c r
 
-  linear-right : (order : List (Call A)) (history : List (Item A)) (item : Item A) → IsLinearization reply next initial order history
-      → IsRight order item → IsLinearization reply next initial order (history ++ item ∷ [])
+  linear-right : (order : List (Call A)) (history : List (Item A)) (item : Item A) → IsLinearization object order history
+      → IsRight order item → IsLinearization object order (history ++ item ∷ [])
   linear-right order history (Issue c) linear right = absurd right
   linear-right order history (Reply c r) linear right = linear-reply order history c r linear right
 
   -- several calls of the order may be replied
-  pub linear-replies : (order : List (Call A)) (history items : List (Item A)) → IsLinearization reply next initial order history
-      → All (IsRight order) items → IsLinearization reply next initial order (history ++ items)
-  linear-replies order history [] linear right = subst (IsLinearization reply next initial order) (sym (append-nil history)) linear
+  pub linear-replies : (order : List (Call A)) (history items : List (Item A)) → IsLinearization object order history
+      → All (IsRight order) items → IsLinearization object order (history ++ items)
+  linear-replies order history [] linear right = subst (IsLinearization object order) (sym (append-nil history)) linear
   linear-replies order history (item ∷ items) linear right =
-      subst (IsLinearization reply next initial order) (append_assoc history (item ∷ []) items)
+      subst (IsLinearization object order) (append_assoc history (item ∷ []) items)
       (linear-replies order (history ++ item ∷ []) items (linear-right order history item linear (All-head (IsRight order) item items right)) (All-tail (IsRight order) item items right))

@@ -3,6 +3,7 @@ use Rattle.std.proofs.Common.{◌≡◌, ℕ, zero, suc, ◌≤◌, nat_lt, Bool
 use Rattle.std.proofs.lemmas.Bool.Decides.{nat_tests}
 use Rattle.std.proofs.lemmas.List.Elements.{All-nil, All-cons, All-head, All-tail, All-replicate, All-weaker}
 use Rattle.ring_base.specs.Fronts.{IsFront, front_self, front_trans, front_shorter, front_length}
+use Rattle.ring_object.specs.Operations.{Sequential}
 use Rattle.ring_payload.specs.declared.call.Call.{Call}
 use Rattle.ring_session.specs.Deduplicated.{deduplicated, IsNumbered}
 use Rattle.ring_session.specs.DeduplicatedLaws.{deduplicated-front, deduplicated-numbered, deduplicated-stands}
@@ -103,66 +104,66 @@ order_of-opening {A} (suc n) = ap (λ (w : List (Call A)). longer [] w) (order_o
 pub opening-agrees : {A : Type 0} (n : ℕ) → AreOneLog (opening {A = A} n).committed
 opening-agrees {A} n = ([], All-replicate (λ (w : List (Call A)). IsFront w []) n [] ([], refl))
 
-module _ {O A : Type 0} (reply : O → List ℕ → List ℕ) (next : O → List ℕ → O) (initial : O) where
+module _ {O A : Type 0} (object : Sequential O) where
   -- a reply that a node gave is the object's at the call's place in the order
-  pub told-right : (committed : List (List (Call A))) (c : Call A) (r : List ℕ) → AreOneLog committed → IsToldAt reply next initial committed c r → IsReplyIn reply next initial (order_of committed) c r
+  pub told-right : (committed : List (List (Call A))) (c : Call A) (r : List ℕ) → AreOneLog committed → IsToldAt object committed c r → IsReplyIn object (order_of committed) c r
   told-right committed c r one told =
-      replied_front reply next initial (deduplicated told.calls) (order_of committed) c r (order_of-fronts committed told.node told.calls one told.committed_there)
-      (answered reply next initial told.calls told.place c told.answer r told.stands told.answered told.brings)
+      replied_front object (deduplicated told.calls) (order_of committed) c r (order_of-fronts committed told.node told.calls one told.committed_there)
+      (answered object told.calls told.place c told.answer r told.stands told.answered told.brings)
 
-  given-right : (committed : List (List (Call A))) (item : Item A) → AreOneLog committed → IsGiven reply next initial committed item → IsRight reply next initial (order_of committed) item
+  given-right : (committed : List (List (Call A))) (item : Item A) → AreOneLog committed → IsGiven object committed item → IsRight object (order_of committed) item
   given-right committed (Issue c) one given = absurd given
   given-right committed (Reply c r) one given = told-right committed c r one given
 
   -- where only replies came, what is issued was issued before
-  issued_before : (committed : List (List (Call A))) (history items : List (Item A)) (c : Call A) (k : ℕ) → All (IsGiven reply next initial committed) items → IsIssuedAt (history ++ items) c k → IsIssuedAt history c k
-  issued_before committed [] items c k given at = absurd (all-at (IsGiven reply next initial committed) items k (Issue c) given at)
+  issued_before : (committed : List (List (Call A))) (history items : List (Item A)) (c : Call A) (k : ℕ) → All (IsGiven object committed) items → IsIssuedAt (history ++ items) c k → IsIssuedAt history c k
+  issued_before committed [] items c k given at = absurd (all-at (IsGiven object committed) items k (Issue c) given at)
   issued_before committed (item ∷ history) items c zero given at = at
   issued_before committed (item ∷ history) items c (suc k) given at = issued_before committed history items c k given at
 
-  step-added : (order more : List (Call A)) (committed : List (List (Call A))) (history items : List (Item A)) → IsLinearization reply next initial order history → IsFront order more → IsNumbered more
-      → AreIssued (history ++ items) more → ((item : Item A) → IsGiven reply next initial committed item → IsRight reply next initial more item)
-      → IsAdded reply next initial committed items → IsLinearization reply next initial more (history ++ items)
+  step-added : (order more : List (Call A)) (committed : List (List (Call A))) (history items : List (Item A)) → IsLinearization object order history → IsFront order more → IsNumbered more
+      → AreIssued (history ++ items) more → ((item : Item A) → IsGiven object committed item → IsRight object more item)
+      → IsAdded object committed items → IsLinearization object more (history ++ items)
   step-added order more committed history items linear front numbered issued right added = elim added [
     | inl issue ↦
-        let taken = linear-issue reply next initial order history issue.0 linear in
-        linear-grows reply next initial order more (history ++ items) (subst (λ w. IsLinearization reply next initial order (history ++ w)) (sym issue.1) taken) front numbered issued
+        let taken = linear-issue object order history issue.0 linear in
+        linear-grows object order more (history ++ items) (subst (λ w. IsLinearization object order (history ++ w)) (sym issue.1) taken) front numbered issued
     | inr given ↦
         let before : AreIssued history more = λ p c at. let there = issued p c at in (there.0, issued_before committed history items c there.0 given there.1) in
-        linear-replies reply next initial more history items (linear-grows reply next initial order more history linear front numbered before)
-        (All-weaker (IsGiven reply next initial committed) (IsRight reply next initial more) right items given)
+        linear-replies object more history items (linear-grows object order more history linear front numbered before)
+        (All-weaker (IsGiven object committed) (IsRight object more) right items given)
   ]
 
   -- a step by the rules keeps it that the order explains the history
-  pub linear-step : (before after : Moment A) → IsOrderStep reply next initial before after → IsLinearization reply next initial (order_of before.committed) before.history
-      → IsLinearization reply next initial (order_of after.committed) after.history
+  pub linear-step : (before after : Moment A) → IsOrderStep object before after → IsLinearization object (order_of before.committed) before.history
+      → IsLinearization object (order_of after.committed) after.history
   linear-step before after step linear =
       let items = step.added.0 in
       let grown = order_of-issued after.history after.committed step.issued in
-      subst (IsLinearization reply next initial (order_of after.committed)) step.added.1
+      subst (IsLinearization object (order_of after.committed)) step.added.1
       (step-added (order_of before.committed) (order_of after.committed) after.committed before.history items linear
       (order_of-grows before.committed after.committed step.grows step.agrees) (order_of-numbered after.committed)
       (subst (λ w. AreIssued w (order_of after.committed)) (sym step.added.1) grown)
       (λ item given. given-right after.committed item step.agrees given) step.added.2)
 
   -- a run keeps it too
-  pub linear-run : (moment : Moment A) (rest : List (Moment A)) → IsOrderRun reply next initial moment rest → IsLinearization reply next initial (order_of moment.committed) moment.history
-      → IsLinearization reply next initial (order_of (last_moment moment rest).committed) (last_moment moment rest).history
+  pub linear-run : (moment : Moment A) (rest : List (Moment A)) → IsOrderRun object moment rest → IsLinearization object (order_of moment.committed) moment.history
+      → IsLinearization object (order_of (last_moment moment rest).committed) (last_moment moment rest).history
   linear-run moment [] run linear = linear
   linear-run moment (after ∷ rest) run linear = linear-run after rest run.1 (linear-step moment after run.0 linear)
 
   -- at the opening it holds
-  pub linear-opening : (n : ℕ) → IsLinearization reply next initial (order_of {A = A} (opening n).committed) (opening n).history
-  linear-opening n = subst (λ w. IsLinearization reply next initial w []) (sym (order_of-opening n)) (linear-nothing reply next initial)
+  pub linear-opening : (n : ℕ) → IsLinearization object (order_of {A = A} (opening n).committed) (opening n).history
+  linear-opening n = subst (λ w. IsLinearization object w []) (sym (order_of-opening n)) (linear-nothing object)
 
   -- the order grows along a run
-  pub order-run : (moment : Moment A) (rest : List (Moment A)) → IsOrderRun reply next initial moment rest → IsFront (order_of moment.committed) (order_of (last_moment moment rest).committed)
+  pub order-run : (moment : Moment A) (rest : List (Moment A)) → IsOrderRun object moment rest → IsFront (order_of moment.committed) (order_of (last_moment moment rest).committed)
   order-run moment [] run = front_self (order_of moment.committed)
   order-run moment (after ∷ rest) run =
       front_trans (order_of moment.committed) (order_of after.committed) (order_of (last_moment after rest).committed)
       (order_of-grows moment.committed after.committed run.0.grows run.0.agrees) (order-run after rest run.1)
 
   -- the nodes go on agreeing along a run
-  pub agrees-run : (moment : Moment A) (rest : List (Moment A)) → IsOrderRun reply next initial moment rest → AreOneLog moment.committed → AreOneLog (last_moment moment rest).committed
+  pub agrees-run : (moment : Moment A) (rest : List (Moment A)) → IsOrderRun object moment rest → AreOneLog moment.committed → AreOneLog (last_moment moment rest).committed
   agrees-run moment [] run agrees = agrees
   agrees-run moment (after ∷ rest) run agrees = agrees-run after rest run.1 run.0.agrees

@@ -1,5 +1,6 @@
 -- What the checker looks at, and what it finds.
 use Rattle.std.specs.Prelude.{◌≡◌, ℕ, ◌+◌, ◌<◌, Bool, false, List, length, take, All, Option, Some, MatchOption, position, slice_get}
+use Rattle.ring_object.specs.Operations.{Sequential}
 use Rattle.ring_payload.specs.declared.call.Call.{Call}
 use Rattle.ring_session.specs.Deduplicated.{StandsAt}
 use Rattle.ring_session.specs.SessionAnswer.{is_same, call_reply}
@@ -28,11 +29,11 @@ IsIssuedBefore place k = MatchOption place.issued ⊥ (λ at. at < k)
 abbrev pub AreIssuedBefore : List Place → ℕ → Type 0
 AreIssuedBefore places k = All (λ (place : Place). IsIssuedBefore place k) places
 
-module _ {O : Type 0} (reply : O → List ℕ → List ℕ) (next : O → List ℕ → O) (initial : O) where
+module _ {O : Type 0} (object : Sequential O) where
   -- Each place of the order, up to the nth, has where its call was first issued and the object's reply there.
   pub record ArePlaces {A : Type 0} (order : List (Call A)) (history : List (Item A)) (n : ℕ) (places : List Place) : Type 0 where
     pub many : length places ≡ n
-    pub each : (q : ℕ) (c : Call A) → q < n → StandsAt order q c → slice_get places q ≡ Some (record { issued = first_issue history c; reply = call_reply reply next initial order q })
+    pub each : (q : ℕ) (c : Call A) → q < n → StandsAt order q c → slice_get places q ≡ Some (record { issued = first_issue history c; reply = call_reply object order q })
 
 -- the reply at place k of the history is the object's at this place of the order, and each call up to there was issued
 -- before

@@ -1,6 +1,7 @@
 -- What it means that one order explains a history: the replies are those of one object that does the calls one after
 -- the other in this order, and the order keeps to the time at which calls were issued and replied.
 use Rattle.std.specs.Prelude.{◌≡◌, ℕ, ◌<◌, List, Some, slice_get}
+use Rattle.ring_object.specs.Operations.{Sequential}
 use Rattle.ring_payload.specs.declared.call.Call.{Call}
 use Rattle.ring_session.specs.Deduplicated.{StandsAt, IsNumbered}
 use Rattle.ring_session.specs.SessionAnswer.{IsReplyIn}
@@ -21,13 +22,13 @@ AreIssued {A} history calls = (p : ℕ) (c : Call A) → StandsAt calls p c → 
 
 -- The order explains the history. The object is given by its reply to an operation, its content after it, and its
 -- content at the start.
-pub record IsLinearization {O A : Type 0} (reply : O → List ℕ → List ℕ) (next : O → List ℕ → O) (initial : O) (order : List (Call A)) (history : List (Item A)) : Type 0 where
+pub record IsLinearization {O A : Type 0} (object : Sequential O) (order : List (Call A)) (history : List (Item A)) : Type 0 where
   -- each client's calls are numbered 1, 2, .. in the order
   pub numbered : IsNumbered order
   -- each call of the order was issued, with its operation
   pub issued : AreIssued history order
   -- each call that was replied stands in the order, and the reply is the object's there
-  pub replied : (k : ℕ) (c : Call A) (r : List ℕ) → IsRepliedAt history c r k → IsReplyIn reply next initial order c r
+  pub replied : (k : ℕ) (c : Call A) (r : List ℕ) → IsRepliedAt history c r k → IsReplyIn object order c r
   -- a call that was replied before another was issued for the first time stands before it
   pub ordered : (k : ℕ) (a b : Call A) (r : List ℕ) (q : ℕ) → IsRepliedAt history a r k → ((j : ℕ) → IsIssuedAt history b j → k < j) → StandsAt order q b →
       (p : ℕ) × StandsAt order p a × (p < q)

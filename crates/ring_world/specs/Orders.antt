@@ -1,6 +1,7 @@
 -- The one order of a group of nodes, and the facts about each step of a run that keep it one.
 use Rattle.std.specs.Prelude.{◌≡◌, ℕ, nat_lt, List, [], ◌∷◌, ◌++◌, length, All, Some, slice_get, replicate, if◌then◌else◌, ◌⊎◌}
 use Rattle.ring_base.specs.Fronts.{IsFront}
+use Rattle.ring_object.specs.Operations.{Sequential}
 use Rattle.ring_payload.specs.declared.call.Call.{Call}
 use Rattle.ring_session.specs.declared.answer.Answer.{Answer}
 use Rattle.ring_session.specs.Deduplicated.{deduplicated, StandsAt}
@@ -36,7 +37,7 @@ EachGrows (calls ∷ rest) [] = ⊥
 abbrev pub AreOneLog : {A : Type 0} → List (List (Call A)) → Type 0
 AreOneLog {A} committed = (log : List (Call A)) × All (λ calls. IsFront calls log) committed
 
-module _ {O : Type 0} (reply : O → List ℕ → List ℕ) (next : O → List ℕ → O) (initial : O) where
+module _ {O : Type 0} (object : Sequential O) where
   -- The call was replied at a node: its session table's answer at a place of its committed calls brings this reply.
   pub record IsToldAt {A : Type 0} (committed : List (List (Call A))) (c : Call A) (r : List ℕ) : Type 0 where
     pub node : ℕ
@@ -45,7 +46,7 @@ module _ {O : Type 0} (reply : O → List ℕ → List ℕ) (next : O → List �
     pub place : ℕ
     pub stands : StandsAt calls place c
     pub answer : Answer
-    pub answered : session_answer reply next initial calls place ≡ Some answer
+    pub answered : session_answer object calls place ≡ Some answer
     pub brings : reply_in answer ≡ Some r
 
   -- the item is a reply that some node gave

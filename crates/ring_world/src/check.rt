@@ -30,7 +30,7 @@ pub fn is_linearization<O: Object>(
     order: &[Call<O::Alloc>],
     history: &[Item<O::Alloc>],
 ) -> Result<bool, Fault>
-    ensures ok { IfOk result (λ explains. IsTrue explains ↔ IsLinearization O.reply O.next O.initial order.now history.now) }
+    ensures ok { IfOk result (λ explains. IsTrue explains ↔ IsLinearization O.sequential order.now history.now) }
     ensures refused { IfErr result (λ fault. fault ≡ Memory) }
 {
     if !is_numbered(order) {
@@ -74,7 +74,7 @@ fn places_of<O: Object>(
     history: &[Item<O::Alloc>],
 ) -> Result<Vec<Place, O::Alloc>, Fault>
     ensures ok { IfOk result (λ places.
-        ArePlaces O.reply O.next O.initial order.now history.now (length order.now) places.items) }
+        ArePlaces O.sequential order.now history.now (length order.now) places.items) }
     ensures refused { IfErr result (λ fault. fault ≡ Memory) }
 {
     let mut object = O::start(alloc)?;

@@ -16,20 +16,20 @@ use ring_object::Object;
 /// when calls that were issued are added at its end, when a call is issued, and when a call of the order is replied with
 /// the object's reply there. In such an order no call stands twice.
 pub fn linearization_law<O: Object>()
-    ensures nothing { IsLinearization {A = O.Alloc} O.reply O.next O.initial [] [] }
+    ensures nothing { IsLinearization {A = O.Alloc} O.sequential [] [] }
     ensures grows { (order more : List (Call O.Alloc)) (history : List (Item O.Alloc)) →
-        IsLinearization O.reply O.next O.initial order history →
+        IsLinearization O.sequential order history →
         IsFront order more → IsNumbered more → AreIssued history more →
-        IsLinearization O.reply O.next O.initial more history }
+        IsLinearization O.sequential more history }
     ensures issue { (order : List (Call O.Alloc)) (history : List (Item O.Alloc)) (c : Call O.Alloc) →
-        IsLinearization O.reply O.next O.initial order history →
-        IsLinearization O.reply O.next O.initial order (history ++ Issue c ∷ []) }
+        IsLinearization O.sequential order history →
+        IsLinearization O.sequential order (history ++ Issue c ∷ []) }
     ensures reply { (order : List (Call O.Alloc)) (history : List (Item O.Alloc)) (c : Call O.Alloc) (r : List ℕ) →
-        IsLinearization O.reply O.next O.initial order history →
-        IsReplyIn O.reply O.next O.initial order c r →
-        IsLinearization O.reply O.next O.initial order (history ++ Replied c r ∷ []) }
+        IsLinearization O.sequential order history →
+        IsReplyIn O.sequential order c r →
+        IsLinearization O.sequential order (history ++ Replied c r ∷ []) }
     ensures once { (order : List (Call O.Alloc)) (history : List (Item O.Alloc)) (p q : ℕ) (c d : Call O.Alloc) →
-        IsLinearization O.reply O.next O.initial order history →
+        IsLinearization O.sequential order history →
         StandsAt order p c → StandsAt order q d → c.client ≡ d.client → c.number ≡ d.number → p ≡ q }
 {}
 
@@ -39,18 +39,18 @@ pub fn linearization_law<O: Object>()
 pub fn order_law<O: Object>()
     ensures opens { (n : ℕ) → order_of {A = O.Alloc} (opening n).committed ≡ [] }
     ensures explains { (n : ℕ) (moments : List (Moment O.Alloc)) →
-        IsOrderRun O.reply O.next O.initial (opening n) moments →
+        IsOrderRun O.sequential (opening n) moments →
         let last = last_moment (opening n) moments in
-        IsLinearization O.reply O.next O.initial (order_of last.committed) last.history }
+        IsLinearization O.sequential (order_of last.committed) last.history }
     ensures step { (before after : Moment O.Alloc) →
-        IsOrderStep O.reply O.next O.initial before after →
-        IsLinearization O.reply O.next O.initial (order_of before.committed) before.history →
-        IsLinearization O.reply O.next O.initial (order_of after.committed) after.history }
+        IsOrderStep O.sequential before after →
+        IsLinearization O.sequential (order_of before.committed) before.history →
+        IsLinearization O.sequential (order_of after.committed) after.history }
     ensures grows { (moment : Moment O.Alloc) (moments : List (Moment O.Alloc)) →
-        IsOrderRun O.reply O.next O.initial moment moments →
+        IsOrderRun O.sequential moment moments →
         IsFront (order_of moment.committed) (order_of (last_moment moment moments).committed) }
     ensures fronts { (n : ℕ) (moments : List (Moment O.Alloc)) (node : ℕ) (calls : List (Call O.Alloc)) →
-        IsOrderRun O.reply O.next O.initial (opening n) moments →
+        IsOrderRun O.sequential (opening n) moments →
         let last = last_moment (opening n) moments in
         slice_get last.committed node ≡ Some calls → IsFront (deduplicated calls) (order_of last.committed) }
 {}

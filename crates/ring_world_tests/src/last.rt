@@ -28,13 +28,9 @@ impl<A: Allocator + Copy + Drop> Object for Last<A> {
 
     ghost is_content = { λ byte. byte < 256 };
 
-    ghost initial = { 0 };
-
     ghost is_readable = { is_readable };
 
-    ghost reply = { reply };
-
-    ghost next = { next };
+    ghost sequential = { record { initial = 0; reply = reply; next = next } };
 
     ghost snapshot_of = { snapshot_of };
 

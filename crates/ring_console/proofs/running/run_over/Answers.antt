@@ -6,9 +6,9 @@ use Rattle.ring_console.proofs.running.run_over.Goals as goal
 
 pub returns-clause-printed : goal.returns-clause-printed
 returns-clause-printed g c =
-    ok_printed_as c.take.result _ _ (λ text. Runs g.O.Object.reply g.O.Object.next g.O.Object.initial g.K.BookName.name.count c.args.script.lines.items c.in_ok-run.run' c.take.new.self text)
-    (λ text. IsTextOf g.O.Object.reply g.O.Object.next g.O.Object.initial g.K.BookName.name.count c.args.script.lines.items text)
-    (λ text runs. (c.take.new.self, subst (λ (s : RunView g.row.O-Alloc.Denot). Runs g.O.Object.reply g.O.Object.next g.O.Object.initial g.K.BookName.name.count c.args.script.lines.items s c.take.new.self text) c.in_ok-run.ensures.ok runs))
+    ok_printed_as c.take.result _ _ (λ text. Runs g.O.Object.sequential g.K.BookName.name.count c.args.script.lines.items c.in_ok-run.run' c.take.new.self text)
+    (λ text. IsTextOf g.O.Object.sequential g.K.BookName.name.count c.args.script.lines.items text)
+    (λ text runs. (c.take.new.self, subst (λ (s : RunView g.row.O-Alloc.Denot). Runs g.O.Object.sequential g.K.BookName.name.count c.args.script.lines.items s c.take.new.self text) c.in_ok-run.ensures.ok runs))
     c.take.ensures.done
 
 pub returns-clause-ended : goal.returns-clause-ended

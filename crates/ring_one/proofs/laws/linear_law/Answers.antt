@@ -5,18 +5,18 @@ use Rattle.ring_one.proofs.Logged.{first_committed}
 use Rattle.ring_one.proofs.laws.linear_law.Goals as goal
 
 pub returns-clause-explains : goal.returns-clause-explains
-returns-clause-explains g c = explains g.O.Object.reply g.O.Object.next g.O.Object.initial
+returns-clause-explains g c = explains g.O.Object.sequential
 
 pub returns-clause-grows : goal.returns-clause-grows
-returns-clause-grows g c = grows g.O.Object.reply g.O.Object.next g.O.Object.initial
+returns-clause-grows g c = grows g.O.Object.sequential
 
 pub returns-clause-base : goal.returns-clause-base
 returns-clause-base g c = λ events event unadopted adopted.
-    let w = run g.O.Object.reply g.O.Object.next g.O.Object.initial events in
-    base g.O.Object.reply g.O.Object.next g.O.Object.initial w (happens g.O.Object.reply g.O.Object.next g.O.Object.initial w event) unadopted
+    let w = run g.O.Object.sequential events in
+    base g.O.Object.sequential w (happens g.O.Object.sequential w event) unadopted
 
 pub returns-clause-one_ring : goal.returns-clause-one_ring
-returns-clause-one_ring g c = one_ring g.O.Object.reply g.O.Object.next g.O.Object.initial
+returns-clause-one_ring g c = one_ring g.O.Object.sequential
 
 pub returns-clause-submitted : goal.returns-clause-submitted
-returns-clause-submitted g c = first_committed g.O.Object.reply g.O.Object.next g.O.Object.initial
+returns-clause-submitted g c = first_committed g.O.Object.sequential

@@ -3,9 +3,9 @@ use Rattle.ring_session.proofs.laws.session_law.Goals as goal
 
 pub returns : goal.returns
 returns g c = record {
-  done = each_is_done g.O.Object.reply g.O.Object.next g.O.Object.initial;
-  once = is_done_once g.O.Object.reply g.O.Object.next g.O.Object.initial;
-  replied = replies_are_the_objects g.O.Object.reply g.O.Object.next g.O.Object.initial;
-  one_reply = replies_are_one g.O.Object.reply g.O.Object.next g.O.Object.initial;
-  stays = answers_stay g.O.Object.reply g.O.Object.next g.O.Object.initial;
+  done = each_is_done g.O.Object.sequential;
+  once = is_done_once g.O.Object.sequential;
+  replied = replies_are_the_objects g.O.Object.sequential;
+  one_reply = replies_are_one g.O.Object.sequential;
+  stays = answers_stay g.O.Object.sequential;
 }

@@ -3,7 +3,7 @@ use Rattle.ring_session.proofs.laws.table_law.Goals as goal
 
 pub returns : goal.returns
 returns g c = record {
-  told = table_answers g.O.Object.reply g.O.Object.next g.O.Object.initial;
-  effect = table_effect g.O.Object.reply g.O.Object.next g.O.Object.initial;
-  content = table_content g.O.Object.reply g.O.Object.next g.O.Object.initial;
+  told = table_answers g.O.Object.sequential;
+  effect = table_effect g.O.Object.sequential;
+  content = table_content g.O.Object.sequential;
 }

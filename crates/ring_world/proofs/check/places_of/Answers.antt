@@ -12,12 +12,12 @@ loop-call-preserved g c =
     let at : StandsAt c.args.order.now c.loop-call.call-index c.call-item.result =
     slice_get_read c.args.order.now (length c.args.order.now) c.loop-call.call-index c.call-item.result refl c.loop-call-test.true c.call-item.is in
     let place : Place = record { issued = c.first_issue-issued.result; reply = c.in_ok-reply.reply } in
-    let replied : c.in_ok-reply.reply ≡ g.O.Object.reply c.loop-call.object c.call-item.result.op = search rules in
-    let done : c.apply.new.self ≡ g.O.Object.next c.loop-call.object c.call-item.result.op = search rules in
+    let replied : c.in_ok-reply.reply ≡ g.O.Object.sequential.reply c.loop-call.object c.call-item.result.op = search rules in
+    let done : c.apply.new.self ≡ g.O.Object.sequential.next c.loop-call.object c.call-item.result.op = search rules in
     let kept : c.loop-call.places.items ++ place ∷ [] ≡ c.push.new.self.items = search rules in
     record {
-      content = content-step g.O.Object.next g.O.Object.initial c.loop-call.object c.apply.new.self c.args.order.now c.loop-call.call-index c.call-item.result at c.loop-call.invariant.content done;
-      places = subst (ArePlaces g.O.Object.reply g.O.Object.next g.O.Object.initial c.args.order.now c.args.history.now (c.loop-call.call-index + 1)) kept
-          (places-push g.O.Object.reply g.O.Object.next g.O.Object.initial c.args.order.now c.args.history.now c.loop-call.call-index c.loop-call.places.items c.loop-call.object c.call-item.result place
+      content = content-step g.O.Object.sequential c.loop-call.object c.apply.new.self c.args.order.now c.loop-call.call-index c.call-item.result at c.loop-call.invariant.content done;
+      places = subst (ArePlaces g.O.Object.sequential c.args.order.now c.args.history.now (c.loop-call.call-index + 1)) kept
+          (places-push g.O.Object.sequential c.args.order.now c.args.history.now c.loop-call.call-index c.loop-call.places.items c.loop-call.object c.call-item.result place
           c.loop-call.invariant.places at c.loop-call.invariant.content c.first_issue-issued.ensures replied);
     }

@@ -6,6 +6,6 @@ use Rattle.ring_world.proofs.check.places_of.Given as goal
 
 abbrev pub invariant-loop-call : goal.invariant-loop-call
 invariant-loop-call g l = record {
-  content : l.object ≡ content_after g.O.Object.next g.O.Object.initial (take l.call-index (operations l.order));
-  places : ArePlaces g.O.Object.reply g.O.Object.next g.O.Object.initial l.order l.history l.call-index l.places.items;
+  content : l.object ≡ content_after g.O.Object.sequential g.O.Object.sequential.initial (take l.call-index (operations l.order));
+  places : ArePlaces g.O.Object.sequential l.order l.history l.call-index l.places.items;
 }

@@ -8,7 +8,7 @@ use Rattle.ring_book.proofs.book.Book.check.Goals.{then-stands, else-stands}
 
 pub invariant_of-self : goal.invariant_of-self
 invariant_of-self g c =
-    book_texts (one_machine g.O.Object.reply g.O.Object.next g.O.Object.initial) g.K.BookName.name c.self.inside.lines.items c.self.inside.reserved c.self.inside.ends.items c.self.inside.told.items _ _ _ _ _ _ c.self.invariant c.stands.ensures.room
+    book_texts (one_machine g.O.Object.sequential) g.K.BookName.name c.self.inside.lines.items c.self.inside.reserved c.self.inside.ends.items c.self.inside.told.items _ _ _ _ _ _ c.self.invariant c.stands.ensures.room
 
 pub stands-requires : goal.stands-requires
 stands-requires g c = record { kept = rw c.as_slice.ensures.value c.self.invariant.kept; room = c.self.invariant.text }

@@ -28,12 +28,12 @@ invariant_of-self g c =
     let i = c.number.result - 1 in
     let within : i < length c.self.inside.ends.items = omega (arith, c.number.ensures.value, c.cell.invariant.counted, c.cell.invariant.in_book, c.self.invariant.count) in
     let at = slice_get_read c.self.inside.ends.items (length c.self.inside.ends.items) i c.index_mut-end.result.now refl within c.index_mut-end.ensures.value in
-    book_looks (one_machine g.O.Object.reply g.O.Object.next g.O.Object.initial) g.K.BookName.name c.self.inside.lines.items c.self.inside.reserved c.self.inside.ends.items _ _ _ _ _ _ i c.index_mut-end.result.now c.slots_beside.new.self c.self.invariant at c.slots_beside.ensures.looked.0 c.slots_beside.ensures.looked.1
+    book_looks (one_machine g.O.Object.sequential) g.K.BookName.name c.self.inside.lines.items c.self.inside.reserved c.self.inside.ends.items _ _ _ _ _ _ i c.index_mut-end.result.now c.slots_beside.new.self c.self.invariant at c.slots_beside.ensures.looked.0 c.slots_beside.ensures.looked.1
 
 pub invariant_of-cell : goal.invariant_of-cell
 invariant_of-cell g c =
     let l = c.slots_beside.ensures.producer in
-    cell_looks (one_machine g.O.Object.reply g.O.Object.next g.O.Object.initial) g.K.BookName.name c.cell.inside.me c.cell.inside.ahead c.cell.inside.node c.cell.inside.journal c.slots_beside.new.producer c.cell.invariant l.0 l.1 l.2
+    cell_looks (one_machine g.O.Object.sequential) g.K.BookName.name c.cell.inside.me c.cell.inside.ahead c.cell.inside.node c.cell.inside.journal c.slots_beside.new.producer c.cell.invariant l.0 l.1 l.2
 
 pub returns-then-slots_beside-eq0 : goal.returns-then-slots_beside-eq0
 returns-then-slots_beside-eq0 g c =
@@ -62,12 +62,12 @@ invariant_of-self-then-not-is_found g c =
     let i = c.number.result - 1 in
     let within : i < length c.self.inside.ends.items = omega (arith, c.number.ensures.value, c.cell.invariant.counted, c.cell.invariant.in_book, c.self.invariant.count) in
     let at = slice_get_read c.self.inside.ends.items (length c.self.inside.ends.items) i c.index_mut-end.result.now refl within c.index_mut-end.ensures.value in
-    book_looks (one_machine g.O.Object.reply g.O.Object.next g.O.Object.initial) g.K.BookName.name c.self.inside.lines.items c.self.inside.reserved c.self.inside.ends.items _ _ _ _ _ _ i c.index_mut-end.result.now c.slots_beside.new.self c.self.invariant at c.slots_beside.ensures.looked.0 c.slots_beside.ensures.looked.1
+    book_looks (one_machine g.O.Object.sequential) g.K.BookName.name c.self.inside.lines.items c.self.inside.reserved c.self.inside.ends.items _ _ _ _ _ _ i c.index_mut-end.result.now c.slots_beside.new.self c.self.invariant at c.slots_beside.ensures.looked.0 c.slots_beside.ensures.looked.1
 
 pub invariant_of-cell-then-not-is_found : goal.invariant_of-cell-then-not-is_found
 invariant_of-cell-then-not-is_found g c =
     let l = c.slots_beside.ensures.producer in
-    cell_looks (one_machine g.O.Object.reply g.O.Object.next g.O.Object.initial) g.K.BookName.name c.cell.inside.me c.cell.inside.ahead c.cell.inside.node c.cell.inside.journal c.slots_beside.new.producer c.cell.invariant l.0 l.1 l.2
+    cell_looks (one_machine g.O.Object.sequential) g.K.BookName.name c.cell.inside.me c.cell.inside.ahead c.cell.inside.node c.cell.inside.journal c.slots_beside.new.producer c.cell.invariant l.0 l.1 l.2
 
 pub returns-then-not-is_found : goal.returns-then-not-is_found
 returns-then-not-is_found g c =
@@ -126,7 +126,7 @@ invariant_of-self-2 g c =
     let same : y ≡ x = first_same (known_items c.slots_beside.new.self) y x c.peek_known.ensures pre in
     let there : IsFound c.self.inside.lines.items y.node y.input = rw c.as_slice.ensures.value at (c.if-not-is_found.ensures.0 refl) in
     let found : IsFound c.self.inside.lines.items x.node x.input = subst (λ (z : StepView g.row.O-Alloc.Denot). IsFound c.self.inside.lines.items z.node z.input) same there in
-    rw (c.tell.ensures.items, c.tell.ensures.capacity, c.note.ensures.items, c.note.ensures.capacity, c.push_reserved.ensures.items, c.push_reserved.ensures.capacity, c.len-number.ensures, c.self.inside.lines.ok.0) (book_enters (one_machine g.O.Object.reply g.O.Object.next g.O.Object.initial) (one_keeps g.O.Object.reply g.O.Object.next g.O.Object.initial) g.K.BookName.name c.self.inside.lines.items c.self.inside.reserved c.self.inside.ends.items _ _ _ _ _ _ i c.cell.inside.me c.cell.inside.ahead c.cell.inside.node c.cell.inside.journal c.slots_beside.new.producer c.index_mut-end.result.now c.slots_beside.new.self c.slots_beside-number.new.consumer x is c.self.invariant c.cell.invariant at look was pop found (omega (arith, c.if-self-eq0.false)))
+    rw (c.tell.ensures.items, c.tell.ensures.capacity, c.note.ensures.items, c.note.ensures.capacity, c.push_reserved.ensures.items, c.push_reserved.ensures.capacity, c.len-number.ensures, c.self.inside.lines.ok.0) (book_enters (one_machine g.O.Object.sequential) (one_keeps g.O.Object.sequential) g.K.BookName.name c.self.inside.lines.items c.self.inside.reserved c.self.inside.ends.items _ _ _ _ _ _ i c.cell.inside.me c.cell.inside.ahead c.cell.inside.node c.cell.inside.journal c.slots_beside.new.producer c.index_mut-end.result.now c.slots_beside.new.self c.slots_beside-number.new.consumer x is c.self.invariant c.cell.invariant at look was pop found (omega (arith, c.if-self-eq0.false)))
 
 pub invariant_of-cell-2 : goal.invariant_of-cell-2
 invariant_of-cell-2 g c =
@@ -147,7 +147,7 @@ invariant_of-cell-2 g c =
     let pop : Popped c.slots_beside.new.self x c.slots_beside-number.new.consumer = popped c.slots_beside.new.self c.pop_known-step.new.self c.slots_beside-number.new.consumer x c.pop_known-step.ensures.ring c.pop_known-step.ensures.received.0 c.slots_beside-number.ensures.consumer.0 c.slots_beside-number.ensures.consumer.1 in
     let m = c.slots_beside-number.ensures in
     let free : 0 < known_free c.slots_beside-number.new.self = free_again c.cell.inside.journal c.slots_beside.new.producer c.slots_beside-number.new.self c.index_mut-end.result.now c.slots_beside.new.self c.slots_beside-number.new.consumer x c.slots_beside-number.result look left.0 pop m.looked.0 m.looked.1 m.value m.all_free c.cell.invariant.room in
-    cell_enters (one_machine g.O.Object.reply g.O.Object.next g.O.Object.initial) g.K.BookName.name c.cell.inside.me c.cell.inside.ahead c.cell.inside.node c.cell.inside.journal c.slots_beside-number.new.self c.cell.invariant (writers c.cell.inside.journal c.slots_beside.new.producer c.slots_beside-number.new.self l.producer.0 m.looked.0) (m.looked.1 ∙ l.producer.1) free
+    cell_enters (one_machine g.O.Object.sequential) g.K.BookName.name c.cell.inside.me c.cell.inside.ahead c.cell.inside.node c.cell.inside.journal c.slots_beside-number.new.self c.cell.invariant (writers c.cell.inside.journal c.slots_beside.new.producer c.slots_beside-number.new.self l.producer.0 m.looked.0) (m.looked.1 ∙ l.producer.1) free
 
 pub returns : goal.returns
 returns g c =

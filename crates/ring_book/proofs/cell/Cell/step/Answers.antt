@@ -12,7 +12,7 @@ use Rattle.ring_book.proofs.cell.Cell.step.Goals as goal
 
 pub invariant_of-self : goal.invariant_of-self
 invariant_of-self g c =
-    let m = one_machine g.O.Object.reply g.O.Object.next g.O.Object.initial in
+    let m = one_machine g.O.Object.sequential in
     let k = subst (λ (b : Bool). IsCell m g.K.BookName.name c.self.inside.me b c.self.inside.node c.self.inside.journal) c.if-self.false c.self.invariant in
     let e = c.in-Ok.ensures in
     cell_adds m g.K.BookName.name c.self.inside.me c.self.inside.node c.step_on.new.self c.self.inside.journal c.push_reserved.new.self _ k refl
@@ -34,19 +34,19 @@ returns-in-Ok g c =
 
 pub invariant_of-self-in-Memory : goal.invariant_of-self-in-Memory
 invariant_of-self-in-Memory g c =
-    let m = one_machine g.O.Object.reply g.O.Object.next g.O.Object.initial in
+    let m = one_machine g.O.Object.sequential in
     let k = subst (λ (b : Bool). IsCell m g.K.BookName.name c.self.inside.me b c.self.inside.node c.self.inside.journal) c.if-self.false c.self.invariant in
     let l = c.stop-stop.result in
     let e = c.in-Err.ensures in
-    let stepped : IsStep m c.self.inside.node l c.step_on.new.self = rw c.stop-stop.ensures ((memory_runs _ (sym c.in-Memory.is ∙ e.refused), e.err, refl, sym (stop_answers g.O.Object.reply g.O.Object.next g.O.Object.initial c.self.inside.node)), ap length c.committed-committed.ensures) in
+    let stepped : IsStep m c.self.inside.node l c.step_on.new.self = rw c.stop-stop.ensures ((memory_runs _ (sym c.in-Memory.is ∙ e.refused), e.err, refl, sym (stop_answers g.O.Object.sequential c.self.inside.node)), ap length c.committed-committed.ensures) in
     cell_adds m g.K.BookName.name c.self.inside.me c.self.inside.node c.step_on.new.self c.self.inside.journal c.push_reserved-in-Memory.new.self l k (ap (λ x. x.node) c.stop-stop.ensures) stepped c.push_reserved-in-Memory.ensures.ring c.push_reserved-in-Memory.ensures.sent.0
 
 pub returns-in-Memory : goal.returns-in-Memory
 returns-in-Memory g c =
-    let m = one_machine g.O.Object.reply g.O.Object.next g.O.Object.initial in
+    let m = one_machine g.O.Object.sequential in
     let l = c.stop-stop.result in
     let e = c.in-Err.ensures in
-    let stepped : IsStep m c.self.inside.node l c.step_on.new.self = rw c.stop-stop.ensures ((memory_runs _ (sym c.in-Memory.is ∙ e.refused), e.err, refl, sym (stop_answers g.O.Object.reply g.O.Object.next g.O.Object.initial c.self.inside.node)), ap length c.committed-committed.ensures) in
+    let stepped : IsStep m c.self.inside.node l c.step_on.new.self = rw c.stop-stop.ensures ((memory_runs _ (sym c.in-Memory.is ∙ e.refused), e.err, refl, sym (stop_answers g.O.Object.sequential c.self.inside.node)), ap length c.committed-committed.ensures) in
     let no_stop : c.args.input ≡ Stop → ⊥ = λ is. (let ok = e.stops is (memory_runs _ (sym c.in-Memory.is ∙ e.refused)) in absurd (cc ok)) in
     rw (← c.self.view_is) (
       no_stop,
@@ -64,7 +64,7 @@ returns-in-Memory g c =
 
 pub invariant_of-self-in_default : goal.invariant_of-self-in_default
 invariant_of-self-in_default g c =
-    let m = one_machine g.O.Object.reply g.O.Object.next g.O.Object.initial in
+    let m = one_machine g.O.Object.sequential in
     let e = c.in-Err.ensures in
     let other = other_stopped _ c.in-Err.fault e.refused c.in_default.not-Memory in
     let same = e.err ∙ stopped_same c.self.inside.node other.0 in

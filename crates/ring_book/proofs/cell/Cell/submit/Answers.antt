@@ -11,7 +11,7 @@ push_reserved-requires g c = (c.self.invariant.free c.if-self.false, tt)
 
 pub invariant_of-self-2 : goal.invariant_of-self-2
 invariant_of-self-2 g c =
-    let m = one_machine g.O.Object.reply g.O.Object.next g.O.Object.initial in
+    let m = one_machine g.O.Object.sequential in
     let k = subst (λ (b : Bool). IsCell m g.K.BookName.name c.self.inside.me b c.self.inside.node c.self.inside.journal) c.if-self.false c.self.invariant in
     let e = c.in_ok-ticket.ensures in
     cell_adds m g.K.BookName.name c.self.inside.me c.self.inside.node c.submit_on.new.self c.self.inside.journal c.push_reserved.new.self _ k refl

@@ -5,7 +5,7 @@ use Rattle.ring_book.proofs.opening.Opening.new.Given as goal
 
 abbrev pub invariant-loop-i : goal.invariant-loop-i
 invariant-loop-i g l = record {
-  start : AllStart (one_machine g.O.Object.reply g.O.Object.next g.O.Object.initial) 1 l.nodes.items l.writers.items;
+  start : AllStart (one_machine g.O.Object.sequential) 1 l.nodes.items l.writers.items;
   ends : AllStartEnds l.writers.items l.ends.items;
   count : length l.nodes.items ≡ l.i;
 }

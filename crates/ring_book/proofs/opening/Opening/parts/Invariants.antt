@@ -5,8 +5,8 @@ use Rattle.ring_book.proofs.opening.Opening.parts.Given as goal
 
 abbrev pub invariant-loop-i : goal.invariant-loop-i
 invariant-loop-i g l = record {
-  start : AllStart (one_machine g.O.Object.reply g.O.Object.next g.O.Object.initial) (suc l.i) l.nodes.items l.writers.items;
+  start : AllStart (one_machine g.O.Object.sequential) (suc l.i) l.nodes.items l.writers.items;
   count : l.i + length l.nodes.items ≡ g.K.BookName.name.count;
   rings : drop l.i g.K.BookName.name.rings ≡ rings_of l.writers.items;
-  cells : l.cells.items ≡ new_cells (one_machine g.O.Object.reply g.O.Object.next g.O.Object.initial) l.i;
+  cells : l.cells.items ≡ new_cells (one_machine g.O.Object.sequential) l.i;
 }

@@ -27,7 +27,7 @@ returns-then-is_err-clause-done g c =
     rw (← c.self.view_is) record {
       text = [];
       appended = Appends-nil _;
-      holds = subst (λ (o : Option (Frame g.row.O-Alloc.Denot)). MatchOption o (Rests old (record old { lines = c.check.new.self.lines }) []) (λ frame. Steps g.O.Object.reply g.O.Object.next g.O.Object.initial c.args.node (Came frame) c.args.at old (record old { lines = c.check.new.self.lines }) [])) (sym none) (same, refl);
+      holds = subst (λ (o : Option (Frame g.row.O-Alloc.Denot)). MatchOption o (Rests old (record old { lines = c.check.new.self.lines }) []) (λ frame. Steps g.O.Object.sequential c.args.node (Came frame) c.args.at old (record old { lines = c.check.new.self.lines }) [])) (sym none) (same, refl);
     }
 
 pub returns-in_err-frame-clause-failed : goal.returns-in_err-frame-clause-failed
@@ -58,10 +58,10 @@ returns-clause-done g c =
     let old : RunView g.row.O-Alloc.Denot = record { lines = lines; sent = c.self.inside.network.sent.items; under_way = c.self.inside.network.under_way.items; groups = c.self.inside.network.groups } in
     let mid : RunView g.row.O-Alloc.Denot = record old { lines = c.check.new.self.lines } in
     let same = ap (λ (b : BookView g.row.O-Alloc.Denot). record old { lines = b.lines }) c.check.ensures.same in
-    let told = ok_printed_as c.step.result _ _ (λ text. Steps g.O.Object.reply g.O.Object.next g.O.Object.initial c.args.node (Came c.in_ok-frame.frame) c.args.at mid c.step.new.self text)
-    (λ text. Delivers g.O.Object.reply g.O.Object.next g.O.Object.initial c.args.node c.args.at old c.step.new.self text)
-    (λ text steps. subst (λ (o : Option (Frame g.row.O-Alloc.Denot)). MatchOption o (Rests old c.step.new.self text) (λ frame. Steps g.O.Object.reply g.O.Object.next g.O.Object.initial c.args.node (Came frame) c.args.at old c.step.new.self text)) (sym there)
-    (subst (λ (s : RunView g.row.O-Alloc.Denot). Steps g.O.Object.reply g.O.Object.next g.O.Object.initial c.args.node (Came c.in_ok-frame.frame) c.args.at s c.step.new.self text) same steps)) c.step.ensures.done in
+    let told = ok_printed_as c.step.result _ _ (λ text. Steps g.O.Object.sequential c.args.node (Came c.in_ok-frame.frame) c.args.at mid c.step.new.self text)
+    (λ text. Delivers g.O.Object.sequential c.args.node c.args.at old c.step.new.self text)
+    (λ text steps. subst (λ (o : Option (Frame g.row.O-Alloc.Denot)). MatchOption o (Rests old c.step.new.self text) (λ frame. Steps g.O.Object.sequential c.args.node (Came frame) c.args.at old c.step.new.self text)) (sym there)
+    (subst (λ (s : RunView g.row.O-Alloc.Denot). Steps g.O.Object.sequential c.args.node (Came c.in_ok-frame.frame) c.args.at s c.step.new.self text) same steps)) c.step.ensures.done in
     rw (← c.self.view_is) told
 
 pub returns-clause-broken : goal.returns-clause-broken
@@ -74,11 +74,11 @@ returns-clause-broken g c =
     let old : RunView g.row.O-Alloc.Denot = record { lines = lines; sent = c.self.inside.network.sent.items; under_way = c.self.inside.network.under_way.items; groups = c.self.inside.network.groups } in
     let mid : RunView g.row.O-Alloc.Denot = record old { lines = c.check.new.self.lines } in
     let same = ap (λ (b : BookView g.row.O-Alloc.Denot). record old { lines = b.lines }) c.check.ensures.same in
-    let told = broken_as c.step.result _ _ (λ text. Breaks (Steps g.O.Object.reply g.O.Object.next g.O.Object.initial c.args.node (Came c.in_ok-frame.frame) c.args.at) mid c.step.new.self text)
-    (λ text. Breaks (Delivers g.O.Object.reply g.O.Object.next g.O.Object.initial c.args.node c.args.at) old c.step.new.self text)
-    (λ text. breaks_as (Steps g.O.Object.reply g.O.Object.next g.O.Object.initial c.args.node (Came c.in_ok-frame.frame) c.args.at) (Delivers g.O.Object.reply g.O.Object.next g.O.Object.initial c.args.node c.args.at) old mid c.step.new.self text same
-    (λ whole steps. subst (λ (o : Option (Frame g.row.O-Alloc.Denot)). MatchOption o (Rests old whole text) (λ frame. Steps g.O.Object.reply g.O.Object.next g.O.Object.initial c.args.node (Came frame) c.args.at old whole text)) (sym there)
-    (subst (λ (s : RunView g.row.O-Alloc.Denot). Steps g.O.Object.reply g.O.Object.next g.O.Object.initial c.args.node (Came c.in_ok-frame.frame) c.args.at s whole text) same steps))) c.step.ensures.broken in
+    let told = broken_as c.step.result _ _ (λ text. Breaks (Steps g.O.Object.sequential c.args.node (Came c.in_ok-frame.frame) c.args.at) mid c.step.new.self text)
+    (λ text. Breaks (Delivers g.O.Object.sequential c.args.node c.args.at) old c.step.new.self text)
+    (λ text. breaks_as (Steps g.O.Object.sequential c.args.node (Came c.in_ok-frame.frame) c.args.at) (Delivers g.O.Object.sequential c.args.node c.args.at) old mid c.step.new.self text same
+    (λ whole steps. subst (λ (o : Option (Frame g.row.O-Alloc.Denot)). MatchOption o (Rests old whole text) (λ frame. Steps g.O.Object.sequential c.args.node (Came frame) c.args.at old whole text)) (sym there)
+    (subst (λ (s : RunView g.row.O-Alloc.Denot). Steps g.O.Object.sequential c.args.node (Came c.in_ok-frame.frame) c.args.at s whole text) same steps))) c.step.ensures.broken in
     rw (← c.self.view_is) told
 
 pub returns-in_err-spell-clause-broken : goal.returns-in_err-spell-clause-broken

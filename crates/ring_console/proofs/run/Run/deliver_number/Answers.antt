@@ -18,16 +18,16 @@ returns-in-None-clause-done g c =
     rw (← c.self.view_is, c.in-Some.is) record {
       text = [];
       appended = Appends-nil _;
-      holds = subst (λ (o : Option FrameRef). MatchOption o (Rests old old []) (λ at. Delivers g.O.Object.reply g.O.Object.next g.O.Object.initial c.args.node at old old [])) (sym none) (refl, refl);
+      holds = subst (λ (o : Option FrameRef). MatchOption o (Rests old old []) (λ at. Delivers g.O.Object.sequential c.args.node at old old [])) (sym none) (refl, refl);
     }
 
 pub returns-in-Some-frame-clause-done : goal.returns-in-Some-frame-clause-done
 returns-in-Some-frame-clause-done g c =
     let old : RunView g.row.O-Alloc.Denot = c.args.self.now in
     let some : place_of old.sent c.in-Some.number ≡ Some c.in-Some-frame.at = ap (λ (r : RunView g.row.O-Alloc.Denot). place_of r.sent c.in-Some.number) (sym c.self.view_is) ∙ (sym c.frame.ensures ∙ c.in-Some-frame.is) in
-    let told = ok_printed_as c.deliver.result _ _ (λ text. Delivers g.O.Object.reply g.O.Object.next g.O.Object.initial c.args.node c.in-Some-frame.at old c.deliver.new.self text)
-    (λ text. MatchOption (place_of old.sent c.in-Some.number) (Rests old c.deliver.new.self text) (λ at. Delivers g.O.Object.reply g.O.Object.next g.O.Object.initial c.args.node at old c.deliver.new.self text))
-    (λ text h. subst (λ (o : Option FrameRef). MatchOption o (Rests old c.deliver.new.self text) (λ at. Delivers g.O.Object.reply g.O.Object.next g.O.Object.initial c.args.node at old c.deliver.new.self text)) (sym some) h) c.deliver.ensures.done in
+    let told = ok_printed_as c.deliver.result _ _ (λ text. Delivers g.O.Object.sequential c.args.node c.in-Some-frame.at old c.deliver.new.self text)
+    (λ text. MatchOption (place_of old.sent c.in-Some.number) (Rests old c.deliver.new.self text) (λ at. Delivers g.O.Object.sequential c.args.node at old c.deliver.new.self text))
+    (λ text h. subst (λ (o : Option FrameRef). MatchOption o (Rests old c.deliver.new.self text) (λ at. Delivers g.O.Object.sequential c.args.node at old c.deliver.new.self text)) (sym some) h) c.deliver.ensures.done in
     rw c.in-Some.is told
 
 pub deliver-requires : goal.deliver-requires
@@ -39,8 +39,8 @@ pub returns-in-Some-frame-clause-broken : goal.returns-in-Some-frame-clause-brok
 returns-in-Some-frame-clause-broken g c =
     let old : RunView g.row.O-Alloc.Denot = c.args.self.now in
     let some : place_of old.sent c.in-Some.number ≡ Some c.in-Some-frame.at = ap (λ (r : RunView g.row.O-Alloc.Denot). place_of r.sent c.in-Some.number) (sym c.self.view_is) ∙ (sym c.frame.ensures ∙ c.in-Some-frame.is) in
-    let told = broken_as c.deliver.result _ _ (λ text. Breaks (Delivers g.O.Object.reply g.O.Object.next g.O.Object.initial c.args.node c.in-Some-frame.at) old c.deliver.new.self text)
-    (λ text. Breaks (DeliversNumber g.O.Object.reply g.O.Object.next g.O.Object.initial c.args.node (Some c.in-Some.number)) old c.deliver.new.self text)
-    (λ text. breaks_as (Delivers g.O.Object.reply g.O.Object.next g.O.Object.initial c.args.node c.in-Some-frame.at) (DeliversNumber g.O.Object.reply g.O.Object.next g.O.Object.initial c.args.node (Some c.in-Some.number)) old old c.deliver.new.self text refl
-    (λ whole h. subst (λ (o : Option FrameRef). MatchOption o (Rests old whole text) (λ at. Delivers g.O.Object.reply g.O.Object.next g.O.Object.initial c.args.node at old whole text)) (sym some) h)) c.deliver.ensures.broken in
+    let told = broken_as c.deliver.result _ _ (λ text. Breaks (Delivers g.O.Object.sequential c.args.node c.in-Some-frame.at) old c.deliver.new.self text)
+    (λ text. Breaks (DeliversNumber g.O.Object.sequential c.args.node (Some c.in-Some.number)) old c.deliver.new.self text)
+    (λ text. breaks_as (Delivers g.O.Object.sequential c.args.node c.in-Some-frame.at) (DeliversNumber g.O.Object.sequential c.args.node (Some c.in-Some.number)) old old c.deliver.new.self text refl
+    (λ whole h. subst (λ (o : Option FrameRef). MatchOption o (Rests old whole text) (λ at. Delivers g.O.Object.sequential c.args.node at old whole text)) (sym some) h)) c.deliver.ensures.broken in
     rw c.in-Some.is told

@@ -14,5 +14,5 @@ returns g c =
     let within : 0 < length cells = omega (arith, c.self.invariant.some, c.self.invariant.entered.counted) in
     let at : slice_get cells 0 ≡ Some cell = slice_get_read cells (length cells) 0 cell refl within c.index-cell.ensures in
     c.order_len.ensures ∙ ap (λ (n : One g.row.O-Alloc.Denot). length (deduplicated (committed_of n))) c.node.ensures
-    ∙ order_entered g.O.Object.reply g.O.Object.next g.O.Object.initial lines 0 cell (c.self.invariant.entered.each 0 cell at) c.node_law.ensures
-    ∙ ap (λ (r : RunView g.row.O-Alloc.Denot). order_length g.O.Object.reply g.O.Object.next g.O.Object.initial r.lines) c.self.view_is
+    ∙ order_entered g.O.Object.sequential lines 0 cell (c.self.invariant.entered.each 0 cell at) c.node_law.ensures
+    ∙ ap (λ (r : RunView g.row.O-Alloc.Denot). order_length g.O.Object.sequential r.lines) c.self.view_is

@@ -16,11 +16,11 @@ returns-in_default-clause-done g c =
     let new : RunView g.row.O-Alloc.Denot = record { lines = lines; sent = c.turn.new.self.sent.items; under_way = c.turn.new.self.under_way.items; groups = c.turn.new.self.groups } in
     let left = none_left c.self.inside.network.groups c.self.inside.network.under_way.items c.turn.new.self.under_way.items (sym c.turn.ensures.turn ∙ c.in_default.is) c.turn.ensures.under_way in
     let same : new ≡ c.loop.self = same_run lines lines _ _ _ _ _ _ refl c.turn.ensures.sent left.1 c.turn.ensures.groups ∙ c.self.view_is in
-    printed_as _ _ _ _ (λ text h. pumped g.O.Object.reply g.O.Object.next g.O.Object.initial c.args.turns c.loop.counter c.args.self.now c.loop.self new text (omega (arith, c.loop.auto.counter-end)) (λ less. left.0) same h) c.loop.invariant.0
+    printed_as _ _ _ _ (λ text h. pumped g.O.Object.sequential c.args.turns c.loop.counter c.args.self.now c.loop.self new text (omega (arith, c.loop.auto.counter-end)) (λ less. left.0) same h) c.loop.invariant.0
 
 pub returns-clause-done : goal.returns-clause-done
 returns-clause-done g c =
-    printed_as _ _ _ _ (λ text h. pumped g.O.Object.reply g.O.Object.next g.O.Object.initial c.args.turns c.loop.counter c.args.self.now c.loop.self c.loop.self text (omega (arith, c.loop.auto.counter-end)) (λ less. absurd (omega (arith, c.loop-test.false))) refl h) c.loop.invariant.0
+    printed_as _ _ _ _ (λ text h. pumped g.O.Object.sequential c.args.turns c.loop.counter c.args.self.now c.loop.self c.loop.self text (omega (arith, c.loop.auto.counter-end)) (λ less. absurd (omega (arith, c.loop-test.false))) refl h) c.loop.invariant.0
 
 pub loop-preserved : goal.loop-preserved
 loop-preserved g c =
@@ -29,10 +29,10 @@ loop-preserved g c =
     let same : taken ≡ record mid { under_way = drop 1 mid.under_way } = same_run c.self.inside.book.lines _ _ _ _ _ _ _ refl c.turn.ensures.sent c.turn.ensures.under_way c.turn.ensures.groups in
     let is : next_turn mid.groups mid.under_way ≡ Some c.in-Some.turn = sym c.turn.ensures.turn ∙ c.in-Some.is in (
       printed_then _ _ _
-          (λ text. TurnsTimes g.O.Object.reply g.O.Object.next g.O.Object.initial c.loop.counter c.args.self.now mid text)
-          (λ text. Comes g.O.Object.reply g.O.Object.next g.O.Object.initial c.in-Some.turn taken c.take_turn.new.self text)
-          (λ text. TurnsTimes g.O.Object.reply g.O.Object.next g.O.Object.initial (c.loop.counter + 1) c.args.self.now c.take_turn.new.self text)
-          (λ a b h comes. turned g.O.Object.reply g.O.Object.next g.O.Object.initial c.loop.counter c.in-Some.turn c.args.self.now mid taken c.take_turn.new.self a b is same h comes)
+          (λ text. TurnsTimes g.O.Object.sequential c.loop.counter c.args.self.now mid text)
+          (λ text. Comes g.O.Object.sequential c.in-Some.turn taken c.take_turn.new.self text)
+          (λ text. TurnsTimes g.O.Object.sequential (c.loop.counter + 1) c.args.self.now c.take_turn.new.self text)
+          (λ a b h comes. turned g.O.Object.sequential c.loop.counter c.in-Some.turn c.args.self.now mid taken c.take_turn.new.self a b is same h comes)
           (rw (← c.self.view_is) at c.loop.invariant.0) c.in_ok-take_turn.ensures.done,
       grows_more c.args.self.now.lines c.self.inside.book.lines c.take_turn.new.self.lines (rw (← c.self.view_is) at c.loop.invariant.1) c.in_ok-take_turn.ensures.kept,
     )
@@ -53,12 +53,12 @@ returns-in_err-take_turn-clause-broken g c =
     let same : taken ≡ record mid { under_way = drop 1 mid.under_way } = same_run c.self.inside.book.lines _ _ _ _ _ _ _ refl c.turn.ensures.sent c.turn.ensures.under_way c.turn.ensures.groups in
     let is : next_turn mid.groups mid.under_way ≡ Some c.in-Some.turn = sym c.turn.ensures.turn ∙ c.in-Some.is in
     let broken = broken_then c.take_turn.result _ _ _
-    (λ text. TurnsTimes g.O.Object.reply g.O.Object.next g.O.Object.initial c.loop.counter c.args.self.now mid text)
-    (λ text. Breaks (Comes g.O.Object.reply g.O.Object.next g.O.Object.initial c.in-Some.turn) taken c.take_turn.new.self text)
-    (λ text. BreaksPump g.O.Object.reply g.O.Object.next g.O.Object.initial c.args.turns c.args.self.now c.take_turn.new.self text)
-    (λ a b h breaks. broken_turn g.O.Object.reply g.O.Object.next g.O.Object.initial c.args.turns c.loop.counter c.in-Some.turn c.args.self.now mid taken c.take_turn.new.self a b c.loop-test.true is same h breaks)
+    (λ text. TurnsTimes g.O.Object.sequential c.loop.counter c.args.self.now mid text)
+    (λ text. Breaks (Comes g.O.Object.sequential c.in-Some.turn) taken c.take_turn.new.self text)
+    (λ text. BreaksPump g.O.Object.sequential c.args.turns c.args.self.now c.take_turn.new.self text)
+    (λ a b h breaks. broken_turn g.O.Object.sequential c.args.turns c.loop.counter c.in-Some.turn c.args.self.now mid taken c.take_turn.new.self a b c.loop-test.true is same h breaks)
     (rw (← c.self.view_is) at c.loop.invariant.0) c.take_turn.ensures.broken in
     let p = err_from_is_err_and c.from_residual.result c.from_residual.ensures.1 in
-    let Broken : Type 0 = Prints (g.W.Write.contents c.args.out.now) (g.W.Write.contents c.take_turn.new.out) (λ text. BreaksPump g.O.Object.reply g.O.Object.next g.O.Object.initial c.args.turns c.args.self.now c.take_turn.new.self text) in
+    let Broken : Type 0 = Prints (g.W.Write.contents c.args.out.now) (g.W.Write.contents c.take_turn.new.out) (λ text. BreaksPump g.O.Object.sequential c.args.turns c.args.self.now c.take_turn.new.self text) in
     let told : UnlessOutput c.in_err-take_turn.field-0.0 Broken = subst (λ (r : Result _ Failure). IfErr r (λ failure. UnlessOutput failure Broken)) c.in_err-take_turn.was broken in
     rw (p.1, p.2) told

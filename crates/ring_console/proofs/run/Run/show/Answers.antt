@@ -29,14 +29,14 @@ loop-before-init g c = Appends-nil _
 
 pub loop-before-preserved : goal.loop-before-preserved
 loop-before-preserved g c =
-    let m = node_after g.O.Object.reply g.O.Object.next g.O.Object.initial c.self.inside.book.lines in
+    let m = node_after g.O.Object.sequential c.self.inside.book.lines in
     let cells = c.self.inside.cells.items in
     let i = c.loop-before.before in
     let within : i < length cells = omega (arith, c.loop-before-test.true, ap length c.deref-cell-items.ensures.value) in
     let read = rw c.deref-cell-items.ensures.value at c.cell-item.is in
     let at : slice_get cells i ≡ Some c.cell-item.result = slice_get_read cells (length cells) i c.cell-item.result refl within read in
     let here = c.self.invariant.entered.each i c.cell-item.result at in
-    let after = after_entered g.O.Object.reply g.O.Object.next g.O.Object.initial c.self.inside.book.lines i c.cell-item.result here c.node_law.ensures in
+    let after = after_entered g.O.Object.sequential c.self.inside.book.lines i c.cell-item.result here c.node_law.ensures in
     let number : c.saturating_add-number.result ≡ suc i = omega (arith, c.saturating_add-number.ensures, c.self.inside.cells.ok, c.self.inside.cells.small) in
     let node : c.node-node.result.now ≡ m = c.node-node.ensures ∙ sym after in
     let text = shown c.node-node.result.now m c.saturating_add-number.result i c.state.result c.ring.result (length c.committed-committed.result.now) c.log_len.result number node c.state.ensures c.ring.ensures (ap length c.committed-committed.ensures) c.log_len.ensures in
@@ -47,11 +47,11 @@ loop-before-preserved g c =
 
 pub returns-clause-done : goal.returns-clause-done
 returns-clause-done g c =
-    let m = node_after g.O.Object.reply g.O.Object.next g.O.Object.initial c.self.inside.book.lines in
+    let m = node_after g.O.Object.sequential c.self.inside.book.lines in
     let count : c.loop-before.before ≡ g.K.BookName.name.count = omega (arith, c.loop-before-test.false, c.loop-before.auto.before-end, ap length c.deref-cell-items.ensures.value, c.self.invariant.entered.counted) in
     let nodes : Appends (g.W.Write.contents c.args.out.now) (g.W.Write.contents c.loop-before.out) (nodes_text g.K.BookName.name.count m) = subst (λ (k : ℕ). Appends (g.W.Write.contents c.args.out.now) (g.W.Write.contents c.loop-before.out) (nodes_text k m)) count c.loop-before.invariant in
     let old : RunView g.row.O-Alloc.Denot = record { lines = c.self.inside.book.lines; sent = c.self.inside.network.sent.items; under_way = c.self.inside.network.under_way.items; groups = c.self.inside.network.groups } in
-    let order : c.order_len.result ≡ order_length g.O.Object.reply g.O.Object.next g.O.Object.initial c.self.inside.book.lines = c.order_len.ensures ∙ ap (λ (r : RunView g.row.O-Alloc.Denot). order_length g.O.Object.reply g.O.Object.next g.O.Object.initial r.lines) (sym c.self.view_is) in
-    let told = printed c.print_order.result (g.W.Write.contents c.args.out.now) (g.W.Write.contents c.print_order.new.out) _ (λ text. Shows g.O.Object.reply g.O.Object.next g.O.Object.initial g.K.BookName.name.count old old text) (refl, refl)
+    let order : c.order_len.result ≡ order_length g.O.Object.sequential c.self.inside.book.lines = c.order_len.ensures ∙ ap (λ (r : RunView g.row.O-Alloc.Denot). order_length g.O.Object.sequential r.lines) (sym c.self.view_is) in
+    let told = printed c.print_order.result (g.W.Write.contents c.args.out.now) (g.W.Write.contents c.print_order.new.out) _ (λ text. Shows g.O.Object.sequential g.K.BookName.name.count old old text) (refl, refl)
     (ok_after c.print_order.result _ (g.W.Write.contents c.loop-before.out) _ _ _ nodes (rw order at c.print_order.ensures.line)) in
     rw (← c.self.view_is) told

@@ -28,7 +28,7 @@ invariant_of-self-in_err-enter-in-Ok g c =
     let at : slice_get cells i ≡ Some c.in-Some.cell.now = slice_get_read cells (length cells) i c.in-Some.cell.now refl within c.in-Some.ensures.value in
     let here = c.self.invariant.entered.each i c.in-Some.cell.now at in
     let room : 0 < c.reserve.new.self.reserved = omega (arith, c.in_ok-place.ensures.ok) in
-    absurd (is_entered g.O.Object.reply g.O.Object.next g.O.Object.initial lines i c.in-Some.cell.now c.submit.new.self c.reserve.new.self (Called c.args.call) here c.reserve.ensures.lines c.in-Ok.ensures.given.1
+    absurd (is_entered g.O.Object.sequential lines i c.in-Some.cell.now c.submit.new.self c.reserve.new.self (Called c.args.call) here c.reserve.ensures.lines c.in-Ok.ensures.given.1
     c.enter.follows.lender-at-none c.enter.new.cell c.enter.result _ c.enter.follows.holds-at-none room tt c.in_err-enter-in-Ok.was)
 
 pub returns-in_err-enter-in-Ok : goal.returns-in_err-enter-in-Ok
@@ -40,7 +40,7 @@ returns-in_err-enter-in-Ok g c =
     let at : slice_get cells i ≡ Some c.in-Some.cell.now = slice_get_read cells (length cells) i c.in-Some.cell.now refl within c.in-Some.ensures.value in
     let here = c.self.invariant.entered.each i c.in-Some.cell.now at in
     let room : 0 < c.reserve.new.self.reserved = omega (arith, c.in_ok-place.ensures.ok) in
-    absurd (is_entered g.O.Object.reply g.O.Object.next g.O.Object.initial lines i c.in-Some.cell.now c.submit.new.self c.reserve.new.self (Called c.args.call) here c.reserve.ensures.lines c.in-Ok.ensures.given.1
+    absurd (is_entered g.O.Object.sequential lines i c.in-Some.cell.now c.submit.new.self c.reserve.new.self (Called c.args.call) here c.reserve.ensures.lines c.in-Ok.ensures.given.1
     c.enter.follows.lender-at-none c.enter.new.cell c.enter.result _ c.enter.follows.holds-at-none room tt c.in_err-enter-in-Ok.was)
 
 pub invariant_of-self-in-Ok : goal.invariant_of-self-in-Ok
@@ -53,9 +53,9 @@ invariant_of-self-in-Ok g c =
     let here = c.self.invariant.entered.each i c.in-Some.cell.now at in
     let entered = (gives_ok c.reserve.new.self c.enter.follows.lender-at-none c.submit.new.self c.enter.new.cell c.enter.result _ c.enter.follows.holds-at-none c.in_ok-enter-in-Ok.was).0 in
     let none : c.enter.follows.lender-at-none.reserved ≡ 0 = omega (arith, entered.reserved, c.in_ok-place.ensures.ok, c.self.invariant.none_reserved) in
-    keeps_more _ _ _ cells _ _ c.self.invariant none _ (keeps_entered g.O.Object.reply g.O.Object.next g.O.Object.initial lines i c.in-Some.cell.now c.submit.new.self c.reserve.new.self (Called c.args.call) here c.reserve.ensures.lines c.in-Ok.ensures.given.1
+    keeps_more _ _ _ cells _ _ c.self.invariant none _ (keeps_entered g.O.Object.sequential lines i c.in-Some.cell.now c.submit.new.self c.reserve.new.self (Called c.args.call) here c.reserve.ensures.lines c.in-Ok.ensures.given.1
     c.enter.follows.lender-at-none c.enter.new.cell entered _ cells c.self.invariant.entered at) entered.step
-    (new_is g.O.Object.reply g.O.Object.next g.O.Object.initial lines i c.in-Some.cell.now c.submit.new.self c.reserve.new.self (Called c.args.call) here c.reserve.ensures.lines c.in-Ok.ensures.given.1
+    (new_is g.O.Object.sequential lines i c.in-Some.cell.now c.submit.new.self c.reserve.new.self (Called c.args.call) here c.reserve.ensures.lines c.in-Ok.ensures.given.1
     c.enter.follows.lender-at-none c.enter.new.cell entered)
 
 pub invariant_of-self-in-Err : goal.invariant_of-self-in-Err
@@ -79,7 +79,7 @@ returns-in_ok-enter-in-Ok-clause-kept g c =
     let entered = (gives_ok c.reserve.new.self c.enter.follows.lender-at-none c.submit.new.self c.enter.new.cell c.enter.result _ c.enter.follows.holds-at-none c.in_ok-enter-in-Ok.was).0 in
     rw (← c.self.view_is) (
       record { number = length lines; step = entered.step } ∷ [],
-      new_is g.O.Object.reply g.O.Object.next g.O.Object.initial lines i c.in-Some.cell.now c.submit.new.self c.reserve.new.self (Called c.args.call) here c.reserve.ensures.lines c.in-Ok.ensures.given.1
+      new_is g.O.Object.sequential lines i c.in-Some.cell.now c.submit.new.self c.reserve.new.self (Called c.args.call) here c.reserve.ensures.lines c.in-Ok.ensures.given.1
           c.enter.follows.lender-at-none c.enter.new.cell entered,
     )
 
@@ -91,9 +91,9 @@ returns-in-Err-clause-done g c =
     let within : i < length cells = omega (arith, c.in-Some.ensures.variant.0 refl, c.self.inside.cells.ok.0) in
     let at : slice_get cells i ≡ Some c.in-Some.cell.now = slice_get_read cells (length cells) i c.in-Some.cell.now refl within c.in-Some.ensures.value in
     let here = c.self.invariant.entered.each i c.in-Some.cell.now at in
-    let before = after_entered g.O.Object.reply g.O.Object.next g.O.Object.initial lines i c.in-Some.cell.now here c.node_law.ensures in
+    let before = after_entered g.O.Object.sequential lines i c.in-Some.cell.now here c.node_law.ensures in
     let old : RunView g.row.O-Alloc.Denot = record { lines = lines; sent = c.self.inside.network.sent.items; under_way = c.self.inside.network.under_way.items; groups = c.self.inside.network.groups } in
-    let told = printed c.print_refused.result _ _ _ (λ text. Submits g.O.Object.reply g.O.Object.next g.O.Object.initial c.args.node c.args.call old (record old { lines = c.release.new.self.lines }) text)
+    let told = printed c.print_refused.result _ _ _ (λ text. Submits g.O.Object.sequential c.args.node c.args.call old (record old { lines = c.release.new.self.lines }) text)
     (inr record {
       reason = c.in-Err.fault;
       is_reason = same_reason c.in-Some.cell.now.ahead c.in-Some.cell.now.node _ c.in-Err.fault here.not_ahead before c.in-Err.ensures.given;
@@ -111,11 +111,11 @@ returns-in_ok-enter-in-Ok-clause-done g c =
     let at : slice_get cells i ≡ Some c.in-Some.cell.now = slice_get_read cells (length cells) i c.in-Some.cell.now refl within c.in-Some.ensures.value in
     let here = c.self.invariant.entered.each i c.in-Some.cell.now at in
     let entered = (gives_ok c.reserve.new.self c.enter.follows.lender-at-none c.submit.new.self c.enter.new.cell c.enter.result _ c.enter.follows.holds-at-none c.in_ok-enter-in-Ok.was).0 in
-    let before = after_entered g.O.Object.reply g.O.Object.next g.O.Object.initial lines i c.in-Some.cell.now here c.node_law.ensures in
+    let before = after_entered g.O.Object.sequential lines i c.in-Some.cell.now here c.node_law.ensures in
     let is : c.args.node ≡ suc i = omega (arith, c.number.ensures.value, c.number.ensures.in_range) in
-    let after = after_entered g.O.Object.reply g.O.Object.next g.O.Object.initial c.enter.follows.lender-at-none.lines i c.enter.new.cell (again g.O.Object.reply g.O.Object.next g.O.Object.initial lines i c.in-Some.cell.now c.submit.new.self c.reserve.new.self (Called c.args.call) here c.reserve.ensures.lines c.in-Ok.ensures.given.1
+    let after = after_entered g.O.Object.sequential c.enter.follows.lender-at-none.lines i c.enter.new.cell (again g.O.Object.sequential lines i c.in-Some.cell.now c.submit.new.self c.reserve.new.self (Called c.args.call) here c.reserve.ensures.lines c.in-Ok.ensures.given.1
     c.enter.follows.lender-at-none c.enter.new.cell entered) c.node_law-in-Ok.ensures in
-    let enters = enters_line g.O.Object.reply g.O.Object.next g.O.Object.initial lines i c.in-Some.cell.now c.submit.new.self c.reserve.new.self (Called c.args.call) here c.reserve.ensures.lines c.in-Ok.ensures.given.1
+    let enters = enters_line g.O.Object.sequential lines i c.in-Some.cell.now c.submit.new.self c.reserve.new.self (Called c.args.call) here c.reserve.ensures.lines c.in-Ok.ensures.given.1
     c.enter.follows.lender-at-none c.enter.new.cell entered c.args.node is before after in
     rw (← c.self.view_is) record { text = []; appended = Appends-nil _; holds = inl record { step = entered.step; enters = enters; new_is = refl; text_is = refl } }
 

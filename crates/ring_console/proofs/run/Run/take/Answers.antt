@@ -18,10 +18,10 @@ use Rattle.ring_console.proofs.run.Run.take.Goals as goal
 pub loop-numbered-preserved : goal.loop-numbered-preserved
 loop-numbered-preserved g c = (
   printed_then _ _ _
-      (λ text. Runs g.O.Object.reply g.O.Object.next g.O.Object.initial g.K.BookName.name.count c.loop-numbered.yielded c.args.self.now c.loop-numbered.self text)
-      (λ text. Does g.O.Object.reply g.O.Object.next g.O.Object.initial g.K.BookName.name.count c.in-Some.numbered.line c.loop-numbered.self c.take_line.new.self text)
-      (λ text. Runs g.O.Object.reply g.O.Object.next g.O.Object.initial g.K.BookName.name.count (c.loop-numbered.yielded ++ c.in-Some.numbered ∷ []) c.args.self.now c.take_line.new.self text)
-      (λ a b runs does. Runs-snoc g.O.Object.reply g.O.Object.next g.O.Object.initial g.K.BookName.name.count c.loop-numbered.yielded c.in-Some.numbered c.args.self.now c.loop-numbered.self c.take_line.new.self a b runs does)
+      (λ text. Runs g.O.Object.sequential g.K.BookName.name.count c.loop-numbered.yielded c.args.self.now c.loop-numbered.self text)
+      (λ text. Does g.O.Object.sequential g.K.BookName.name.count c.in-Some.numbered.line c.loop-numbered.self c.take_line.new.self text)
+      (λ text. Runs g.O.Object.sequential g.K.BookName.name.count (c.loop-numbered.yielded ++ c.in-Some.numbered ∷ []) c.args.self.now c.take_line.new.self text)
+      (λ a b runs does. Runs-snoc g.O.Object.sequential g.K.BookName.name.count c.loop-numbered.yielded c.in-Some.numbered c.args.self.now c.loop-numbered.self c.take_line.new.self a b runs does)
       c.loop-numbered.invariant.0 c.in_ok-take_line.ensures.done,
   grows_more _ _ _ c.loop-numbered.invariant.1 c.in_ok-take_line.ensures.kept,
 )
@@ -32,7 +32,7 @@ returns-clause-done g c =
     let ended = YieldsList-end (YieldsList-from_vec c.args.script.lines.items begun.0 (begun.1 ∙ c.args.script.lines.ok.0)) c.loop-numbered.yielded c.loop-numbered.numbered-iterator c.loop-numbered.yielded_by c.next.result c.next.new.self c.in-None.is c.next.ensures.steps in
     let all : c.loop-numbered.yielded ≡ c.args.script.lines.items = sym (map-id c.loop-numbered.yielded) ∙ ended.0 in
     printed_as _ _ _ _
-    (λ text runs. subst (λ (ls : List (Numbered g.row.O-Alloc.Denot)). Runs g.O.Object.reply g.O.Object.next g.O.Object.initial g.K.BookName.name.count ls c.args.self.now c.loop-numbered.self text) all runs)
+    (λ text runs. subst (λ (ls : List (Numbered g.row.O-Alloc.Denot)). Runs g.O.Object.sequential g.K.BookName.name.count ls c.args.self.now c.loop-numbered.self text) all runs)
     c.loop-numbered.invariant.0
 
 pub returns-in_err-take_line-clause-failed : goal.returns-in_err-take_line-clause-failed
@@ -55,12 +55,12 @@ returns-in_err-take_line-clause-broken g c =
     let turn = YieldsList-turn road c.loop-numbered.yielded c.loop-numbered.numbered-iterator c.loop-numbered.yielded_by c.next.result c.next.new.self line c.in-Some.is c.next.ensures.steps in
     let first = sym (map-id c.loop-numbered.yielded) ∙ YieldsList-so_far road c.loop-numbered.yielded c.loop-numbered.numbered-iterator c.loop-numbered.yielded_by in
     let broken = broken_then c.take_line.result _ _ _
-    (λ text. Runs g.O.Object.reply g.O.Object.next g.O.Object.initial g.K.BookName.name.count c.loop-numbered.yielded c.args.self.now c.loop-numbered.self text)
-    (λ text. BreaksLine g.O.Object.reply g.O.Object.next g.O.Object.initial line.line c.loop-numbered.self c.take_line.new.self text)
-    (λ text. BreaksRun g.O.Object.reply g.O.Object.next g.O.Object.initial g.K.BookName.name.count items c.args.self.now c.take_line.new.self text)
-    (λ a b runs breaks. broken_run g.O.Object.reply g.O.Object.next g.O.Object.initial g.K.BookName.name.count items c.loop-numbered.yielded line c.args.self.now c.loop-numbered.self c.take_line.new.self a b first turn.0 turn.1 runs breaks)
+    (λ text. Runs g.O.Object.sequential g.K.BookName.name.count c.loop-numbered.yielded c.args.self.now c.loop-numbered.self text)
+    (λ text. BreaksLine g.O.Object.sequential line.line c.loop-numbered.self c.take_line.new.self text)
+    (λ text. BreaksRun g.O.Object.sequential g.K.BookName.name.count items c.args.self.now c.take_line.new.self text)
+    (λ a b runs breaks. broken_run g.O.Object.sequential g.K.BookName.name.count items c.loop-numbered.yielded line c.args.self.now c.loop-numbered.self c.take_line.new.self a b first turn.0 turn.1 runs breaks)
     c.loop-numbered.invariant.0 c.take_line.ensures.broken in
     let p = err_from_is_err_and c.from_residual.result c.from_residual.ensures.1 in
-    let Broken : Type 0 = Prints (g.W.Write.contents c.args.out.now) (g.W.Write.contents c.take_line.new.out) (λ text. BreaksRun g.O.Object.reply g.O.Object.next g.O.Object.initial g.K.BookName.name.count items c.args.self.now c.take_line.new.self text) in
+    let Broken : Type 0 = Prints (g.W.Write.contents c.args.out.now) (g.W.Write.contents c.take_line.new.out) (λ text. BreaksRun g.O.Object.sequential g.K.BookName.name.count items c.args.self.now c.take_line.new.self text) in
     let told : UnlessOutput c.in_err-take_line.field-0.0 Broken = subst (λ (r : Result _ Failure). IfErr r (λ failure. UnlessOutput failure Broken)) c.in_err-take_line.was broken in
     rw (p.1, p.2) told

@@ -7,4 +7,4 @@ use Rattle.ring_one.proofs.node.Node.reply.Goals as goal
 pub returns : goal.returns
 returns g c =
     c.answer_to.ensures ∙ node-reply c.self.invariant c.args.ticket
-    ∙ ap (λ (s : One g.row.O-Alloc.Denot). one_reply g.O.Object.reply g.O.Object.next g.O.Object.initial s c.args.ticket) c.self.view_is
+    ∙ ap (λ (s : One g.row.O-Alloc.Denot). one_reply g.O.Object.sequential s c.args.ticket) c.self.view_is

@@ -12,7 +12,7 @@ returns-else-is_commit_token g c =
     let s = c.args.self.now in
     let token = c.args.token.now in
     let state : s.state ≡ Commit = ap (λ (u : One g.row.O-Alloc.Denot). u.state) (sym c.self.view_is) ∙ c.in-Commit.is in
-    stayed g.O.Object.reply g.O.Object.next g.O.Object.initial s (on_commit_token s.state s token) _ _ c.new.ensures.frames c.new.ensures.answers
+    stayed g.O.Object.sequential s (on_commit_token s.state s token) _ _ c.new.ensures.frames c.new.ensures.answers
     (second-stays s s.state token state
     (elim c.else-is_commit_token.branch [
       | else-is_commit_token-via-then-is_commit_token+else-is_own_report w ↦ and_right (is_commit_token 1 token) (is_own_report token.entries) (sym w.is_own_report.ensures ∙ w.if-is_own_report.false)
@@ -25,7 +25,7 @@ returns-else-is_commit_token-2 g c =
     let token = c.args.token.now in
     let state : s.state ≡ Recovery = ap (λ (u : One g.row.O-Alloc.Denot). u.state) (sym c.self.view_is) ∙ c.in-Recovery.is in
     let next = ap (λ (u : One g.row.O-Alloc.Denot). u.next) c.self.view_is in
-    stayed g.O.Object.reply g.O.Object.next g.O.Object.initial s (on_commit_token s.state s token) _ _ c.new-else-is_commit_token-2.ensures.frames c.new-else-is_commit_token-2.ensures.answers
+    stayed g.O.Object.sequential s (on_commit_token s.state s token) _ _ c.new-else-is_commit_token-2.ensures.frames c.new-else-is_commit_token-2.ensures.answers
     (start-stays s s.state token state
     (elim c.else-is_commit_token-2.branch [
       | else-is_commit_token-2-via-then-is_commit_token-2+else-self-eq0 w ↦ and_right (is_commit_token 2 token) (s.next == 0) (ne_eqb s.next 0 (λ z. w.if-self-eq0.false (omega (arith, z, next))))
@@ -35,5 +35,5 @@ returns-else-is_commit_token-2 g c =
 pub returns-in_default : goal.returns-in_default
 returns-in_default g c =
     let s = c.args.self.now in
-    stayed g.O.Object.reply g.O.Object.next g.O.Object.initial s (on_commit_token s.state s c.args.token.now) _ _ c.new-in_default.ensures.frames c.new-in_default.ensures.answers
+    stayed g.O.Object.sequential s (on_commit_token s.state s c.args.token.now) _ _ c.new-in_default.ensures.frames c.new-in_default.ensures.answers
     (commit-stays s s.state c.args.token.now (rw (← c.self.view_is) c.in_default.not-Commit) (rw (← c.self.view_is) c.in_default.not-Recovery))

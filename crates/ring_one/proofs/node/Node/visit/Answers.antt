@@ -49,6 +49,6 @@ returns-in-Ok g c =
     (ap (λ (k : ℕ). c.self.inside.effects + k) (rw value at c.in-Ok.ensures.effects)) in
     let seq = v.seq ∙ ap (λ (s : One g.row.O-Alloc.Denot). length (text_after s)) c.self.view_is in (
       c.in-Ok.ensures.frames ∙ ap (λ (t : Token). OneToken t ∷ []) (c.token_of-token.ensures ∙ ap (token_of (c.args.number + 1)) seq),
-      v.told ∙ ap (λ (s : One g.row.O-Alloc.Denot). new_answers g.O.Object.reply g.O.Object.next g.O.Object.initial s (visited s c.args.number)) c.self.view_is,
+      v.told ∙ ap (λ (s : One g.row.O-Alloc.Denot). new_answers g.O.Object.sequential s (visited s c.args.number)) c.self.view_is,
       v.shape ∙ ap (λ (s : One g.row.O-Alloc.Denot). visited s c.args.number) c.self.view_is,
     )

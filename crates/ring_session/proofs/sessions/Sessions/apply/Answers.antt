@@ -36,27 +36,27 @@ pub returns-in_ok-apply-in-Some-clause-ok : goal.returns-in_ok-apply-in-Some-cla
 returns-in_ok-apply-in-Some-clause-ok g c =
     let number : c.args.call.now.number ≡ c.in-Some.session.now.number + 1 = eqb-true c.args.call.now.number (c.in-Some.session.now.number + 1) (sym c.if-is_next.ensures) in
     let kept = c.in_ok-apply-in-Some.ensures.kept in
-    rw (← c.self.view_is) (next-known g.O.Object.reply g.O.Object.next c.self.inside.sessions.entries _ c.self.inside.object _ c.args.call.now c.in-Some.session.now c.get_mut.ensures.ordered (sym c.in-Some.ensures.value) number
+    rw (← c.self.view_is) (next-known g.O.Object.sequential c.self.inside.sessions.entries _ c.self.inside.object _ c.args.call.now c.in-Some.session.now c.get_mut.ensures.ordered (sym c.in-Some.ensures.value) number
     ((c.get_mut.follows.holds c.apply.new.self).0 ∙ ap (set_value (is_at (nat_cmp c.args.call.now.client)) c.self.inside.sessions.entries) kept) c.in_ok-apply-in-Some.ensures.applied)
 
 pub returns-else-is_next-clause-ok : goal.returns-else-is_next-clause-ok
 returns-else-is_next-clause-ok g c =
-    rw (← c.self.view_is) (next-other g.O.Object.reply g.O.Object.next c.self.inside.sessions.entries _ c.self.inside.object c.args.call.now c.in-Some.session.now (sym c.in-Some.ensures.value) c.if-is_next.ensures
+    rw (← c.self.view_is) (next-other g.O.Object.sequential c.self.inside.sessions.entries _ c.self.inside.object c.args.call.now c.in-Some.session.now (sym c.in-Some.ensures.value) c.if-is_next.ensures
     (written_same c.self.inside.sessions.entries _ c.args.call.now.client c.in-Some.session.now c.in-Some.session.now (c.get_mut.follows.holds c.in-Some.session.now).0 (sym c.in-Some.ensures.value) refl))
 
 pub returns-in_ok-apply-in-Some-clause-told : goal.returns-in_ok-apply-in-Some-clause-told
-returns-in_ok-apply-in-Some-clause-told g c = λ calls after. answer_told g.O.Object.reply g.O.Object.next g.O.Object.initial calls c.args.self.now c.args.call.now _ after (search rules)
+returns-in_ok-apply-in-Some-clause-told g c = λ calls after. answer_told g.O.Object.sequential calls c.args.self.now c.args.call.now _ after (search rules)
 
 pub returns-else-is_next-clause-told : goal.returns-else-is_next-clause-told
-returns-else-is_next-clause-told g c = λ calls after. answer_told g.O.Object.reply g.O.Object.next g.O.Object.initial calls c.args.self.now c.args.call.now _ after (search rules)
+returns-else-is_next-clause-told g c = λ calls after. answer_told g.O.Object.sequential calls c.args.self.now c.args.call.now _ after (search rules)
 
 pub returns-in-0-clause-told : goal.returns-in-0-clause-told
-returns-in-0-clause-told g c = λ calls after. answer_told g.O.Object.reply g.O.Object.next g.O.Object.initial calls c.args.self.now c.args.call.now _ after (search rules)
+returns-in-0-clause-told g c = λ calls after. answer_told g.O.Object.sequential calls c.args.self.now c.args.call.now _ after (search rules)
 
 pub returns-in-1-clause-told : goal.returns-in-1-clause-told
 returns-in-1-clause-told g c = λ calls after.
-    IfOk-weaker c.admit.result (λ answer. answer ≡ table_answer g.O.Object.reply c.args.self.now c.args.call.now) _
-    (λ answer is. answer_told g.O.Object.reply g.O.Object.next g.O.Object.initial calls c.args.self.now c.args.call.now answer after is) (search rules)
+    IfOk-weaker c.admit.result (λ answer. answer ≡ table_answer g.O.Object.sequential c.args.self.now c.args.call.now) _
+    (λ answer is. answer_told g.O.Object.sequential calls c.args.self.now c.args.call.now answer after is) (search rules)
 
 pub returns-in_default-clause-told : goal.returns-in_default-clause-told
-returns-in_default-clause-told g c = λ calls after. answer_told g.O.Object.reply g.O.Object.next g.O.Object.initial calls c.args.self.now c.args.call.now _ after (search rules)
+returns-in_default-clause-told g c = λ calls after. answer_told g.O.Object.sequential calls c.args.self.now c.args.call.now _ after (search rules)
