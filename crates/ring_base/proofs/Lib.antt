@@ -1,3 +1,4 @@
 pub mod Each
 pub mod Taking
+pub mod Votes
 pub mod Words
