@@ -1,4 +1,4 @@
--- What is fixed for a run, and the sets of processors that are primary in it.
+-- What is fixed for a run, and the sets of processors that are primary in it: Processors and sets, rules 1 and 4 of docs/PROTOCOL.md.
 use Rattle.std.specs.Prelude.{ℕ, ◌-◌, ◌*◌, ◌≡◌, ◌<◌, ◌≤◌, Bool, nat_lt, ◌&&◌, List, ◌++◌, length, take, replicate, slice_index, All}
 use Rattle.std.specs.List.{sum, sum_by}
 use Rattle.ring_base.specs.Processors.{most_processors, IsProc, IsMember, within, everybody, elements}

@@ -1,4 +1,4 @@
--- Numbers in a row, lists of numbers in order, and numbers as words of bits.
+-- The limits of numbers, as Limits, rule 1 of docs/PROTOCOL.md says them. Also numbers in a row, lists of numbers in order, and numbers as words of bits.
 use Rattle.std.specs.Prelude.{ℕ, zero, suc, ◌+◌, ◌*◌, max, Bool, ◌==◌, nat_lt, if◌then◌else◌, List, [], ◌∷◌}
 use Rattle.std.specs.Int.{bit_at}
 

@@ -1,4 +1,4 @@
--- Why two primary sets share a processor, and the test of a primary set.
+-- Why two primary sets share a processor, and the test of a primary set: Processors and sets, rule 4 of docs/PROTOCOL.md.
 use Rattle.std.proofs.Common.{◌≡◌, ℕ, zero, suc, ◌+◌, ◌-◌, ◌<◌, ◌≤◌, Bool, true, false, List, [], ◌∷◌, take, arith, inl, inr, refl}
 use Rattle.std.specs.Prelude.{◌↔◌, IsTrue, slice_index}
 use Rattle.std.specs.List.{sum, sum_by}
