@@ -1,4 +1,4 @@
--- Laws of the members of a set as an ascending list: which they are, where each stands, how many there are.
+-- Laws of the members of a set as an ascending list, which they are, where each stands, how many there are: Processors and sets, rule 3 of docs/PROTOCOL.md.
 use Rattle.std.proofs.Common.{◌≡◌, ◌≢◌, ℕ, zero, suc, ◌-◌, ◌^◌, ◌/◌, ◌<◌, ◌≤◌, [], ◌∷◌, length, arith, inl, inr, refl, ap, ◌∙◌, subst}
 use Rattle.std.specs.Prelude.{◌↔◌, ◌&&◌, nat_lt, Contains, slice_index, count_ones}
 use Rattle.std.specs.Cmp.{both_ways}

@@ -1,4 +1,4 @@
--- Laws of sets of processors by their members.
+-- Laws of sets of processors by their members: Processors and sets, rule 3 of docs/PROTOCOL.md.
 use Rattle.std.proofs.Common.{◌≡◌, ◌≢◌, ℕ, ◌⊎◌, ◌+◌, ◌-◌, ◌^◌, ◌<◌, ◌≤◌, true, arith, inl, inr, ap, eq-eqb}
 use Rattle.std.specs.Prelude.{◌↔◌, bit_and, bit_xor}
 use Rattle.std.specs.Int.{bit_at}

@@ -1,19 +1,18 @@
--- Numbers in a row, lists of numbers in order, and numbers as words of bits.
+-- The limits of numbers, as Limits, rule 1 of docs/PROTOCOL.md says them. Also numbers in a row, lists of numbers in order, and numbers as words of bits.
 use Rattle.std.specs.Prelude.{ℕ, zero, suc, ◌+◌, ◌*◌, max, Bool, ◌==◌, nat_lt, if◌then◌else◌, List, [], ◌∷◌}
 use Rattle.std.specs.Int.{bit_at}
-use Rattle.ring_base.specs.declared.limits.TheConstants.{MAX, MAX_NEW, WINDOW}
 
 -- the greatest number of a ring, a message, a token or a ticket: 2 ^ 62
 abbrev pub max_number : ℕ
-max_number = MAX
+max_number = 4611686018427387904
 
 -- how many numbers after its safe mark a node takes
 abbrev pub window_size : ℕ
-window_size = WINDOW
+window_size = 256
 
 -- the new messages of one visit are at most
 abbrev pub visit_limit : ℕ
-visit_limit = MAX_NEW
+visit_limit = 8
 
 -- count numbers in a row, from the first on
 abbrev pub numbers_from : ℕ → ℕ → List ℕ

@@ -1,23 +1,21 @@
--- Why two primary sets share a processor, and the test of a primary set.
-use Rattle.std.proofs.Common.{◌≡◌, ℕ, zero, suc, ◌+◌, ◌<◌, ◌≤◌, Bool, true, length, arith, inl, inr, refl}
-use Rattle.std.specs.Prelude.{◌↔◌, IsTrue}
-use Rattle.std.proofs.lemmas.Bool.{cases_lt, cases_Bool, and_parts, and_from, ltb-true, lt-ltb}
-use Rattle.ring_base.specs.Processors.{IsMember, most_processors, has, elements}
+-- Why two primary sets share a processor, and the test of a primary set: Processors and sets, rule 4 of docs/PROTOCOL.md.
+use Rattle.std.proofs.Common.{◌≡◌, ℕ, zero, suc, ◌+◌, ◌-◌, ◌<◌, ◌≤◌, Bool, true, false, List, [], ◌∷◌, take, arith, inl, inr, refl}
+use Rattle.std.specs.Prelude.{◌↔◌, IsTrue, slice_index}
+use Rattle.std.specs.List.{sum, sum_by}
+use Rattle.std.proofs.lemmas.Bool.{cases_Bool, and_parts, and_from, ltb-true, lt-ltb}
+use Rattle.std.proofs.lemmas.List.Sums.{sum_by-cons, sum_by-take-le}
+use Rattle.ring_base.specs.Numbers.{numbers_from}
+use Rattle.ring_base.specs.Processors.{most_processors, has, elements}
 use Rattle.ring_base.specs.Members.{member_had, within_members, everybody_members}
 use Rattle.ring_base.specs.Passing.{passing}
-use Rattle.ring_base.specs.Group.{Group, IsPrimary, is_primary, PrimariesMeet}
+use Rattle.ring_base.specs.Group.{Group, votes_of, IsPrimary, is_primary, PrimariesMeet}
 
--- what passes is at most a bound
-abbrev IsUpTo : (ℕ → Bool) → ℕ → Type 0
-IsUpTo p bound = (i : ℕ) → p i ≡ true → i ≤ bound
+-- the first of numbers in a row weighs with those that pass, or does not
+pub weight_more : (w : ℕ → ℕ) (p : ℕ → Bool) (first n : ℕ) → p first ≡ true → sum_by w (passing p first (suc n)) ≡ w first + sum_by w (passing p (suc first) n)
+weight_more w p first n pass = rw pass (sum_by-cons w first (passing p (suc first) n))
 
-none_past : (p : ℕ → Bool) (bound first n : ℕ) → IsUpTo p bound → bound < first → length (passing p first n) ≡ 0
-none_past p bound first zero up past = refl
-none_past p bound first (suc n) up past =
-    elim (cases_Bool (p first)) [
-      | inl pass ↦ absurd (omega (arith, up first pass))
-      | inr fail ↦ rw fail (none_past p bound (suc first) n up (omega arith))
-    ]
+pub weight_same : (w : ℕ → ℕ) (p : ℕ → Bool) (first n : ℕ) → p first ≡ false → sum_by w (passing p first (suc n)) ≡ sum_by w (passing p (suc first) n)
+weight_same w p first n fail = rw fail refl
 
 -- a number that passes both
 record Shared (p q : ℕ → Bool) (first : ℕ) : Type 0 where
@@ -29,33 +27,50 @@ record Shared (p q : ℕ → Bool) (first : ℕ) : Type 0 where
 later : (p q : ℕ → Bool) (first : ℕ) → Shared p q (suc first) → Shared p q first
 later p q first s = record { number = s.number; low = omega (arith, s.low); passes_first = s.passes_first; passes_second = s.passes_second }
 
--- If more pass the two tests than there are numbers from the first up to the bound, one number passes both.
-shared : (p q : ℕ → Bool) (bound first n : ℕ) → IsUpTo p bound → IsUpTo q bound → first ≤ bound + 1 → bound + 1 < first + length (passing p first n) + length (passing q first n) → Shared p q first
-shared p q bound first zero up_p up_q le more = absurd (omega arith)
-shared p q bound first (suc n) up_p up_q le more =
-    elim (cases_lt bound first) [
-      | inl past ↦ absurd (omega (arith, none_past p bound first (suc n) up_p past, none_past q bound first (suc n) up_q past))
-      | inr inside ↦ elim (cases_Bool (p first)) [
-        | inl p_pass ↦ elim (cases_Bool (q first)) [
-          | inl q_pass ↦ record { number = first; low = omega arith; passes_first = p_pass; passes_second = q_pass }
-          | inr q_fail ↦ later p q first (shared p q bound (suc first) n up_p up_q (omega arith) (omega (arith, rw (p_pass, q_fail) at more)))
-        ]
-        | inr p_fail ↦ elim (cases_Bool (q first)) [
-          | inl q_pass ↦ later p q first (shared p q bound (suc first) n up_p up_q (omega arith) (omega (arith, rw (p_fail, q_pass) at more)))
-          | inr q_fail ↦ later p q first (shared p q bound (suc first) n up_p up_q (omega arith) (omega (arith, rw (p_fail, q_fail) at more)))
-        ]
+-- If those that pass the two tests weigh more than all numbers do, one number passes both.
+shared : (w : ℕ → ℕ) (p q : ℕ → Bool) (first n : ℕ) → sum_by w (numbers_from first n) < sum_by w (passing p first n) + sum_by w (passing q first n) → Shared p q first
+shared w p q first zero more = absurd (omega arith)
+shared w p q first (suc n) more =
+    let all = sum_by-cons w first (numbers_from (suc first) n) in
+    elim (cases_Bool (p first)) [
+      | inl p_pass ↦ elim (cases_Bool (q first)) [
+        | inl q_pass ↦ record { number = first; low = omega arith; passes_first = p_pass; passes_second = q_pass }
+        | inr q_fail ↦ later p q first (shared w p q (suc first) n (omega (arith, more, all, weight_more w p first n p_pass, weight_same w q first n q_fail)))
+      ]
+      | inr p_fail ↦ elim (cases_Bool (q first)) [
+        | inl q_pass ↦ later p q first (shared w p q (suc first) n (omega (arith, more, all, weight_same w p first n p_fail, weight_more w q first n q_pass)))
+        | inr q_fail ↦ later p q first (shared w p q (suc first) n (omega (arith, more, all, weight_same w p first n p_fail, weight_same w q first n q_fail)))
       ]
     ]
 
-has_up_to : (set bound : ℕ) → ((i : ℕ) → IsMember set i → i ≤ bound) → IsUpTo (has set) bound
-has_up_to set bound up zero had = omega arith
-has_up_to set bound up (suc i) had = up (suc i) (member_had set (suc i) (omega arith) had)
+none_in_front : (n : ℕ) → sum (take n []) ≡ 0
+none_in_front zero = refl
+none_in_front (suc n) = refl
+
+-- numbers in a row that weigh what a list has at their places weigh what its front sums up to
+weight_front : (w : ℕ → ℕ) (first n : ℕ) (votes : List ℕ) → ((k : ℕ) → w (first + k) ≡ slice_index votes k) → sum_by w (numbers_from first n) ≡ sum (take n votes)
+weight_front w first zero votes weighs = refl
+weight_front w first (suc n) [] weighs =
+    let here : w first ≡ 0 = let e : first + 0 ≡ first = omega arith in rw e at (weighs 0) in
+    let rest = weight_front w (suc first) n [] (λ k. let e : suc first + k ≡ first + suc k = omega arith in rw e (weighs (suc k))) in
+    omega (arith, sum_by-cons w first (numbers_from (suc first) n), here, rest, none_in_front n)
+weight_front w first (suc n) (v ∷ votes) weighs =
+    let here : w first ≡ v = let e : first + 0 ≡ first = omega arith in rw e at (weighs 0) in
+    let rest = weight_front w (suc first) n votes (λ k. let e : suc first + k ≡ first + suc k = omega arith in rw e (weighs (suc k))) in
+    omega (arith, sum_by-cons w first (numbers_from (suc first) n), sum_by-cons (λ (x : ℕ). x) v (take n votes), here, rest)
+
+-- the votes of the first n processors
+pub votes_front : (group : Group) (n : ℕ) → sum_by (votes_of group) (numbers_from 1 n) ≡ sum (take n group.votes)
+votes_front group n = weight_front (votes_of group) 1 n group.votes (λ k. let e : 1 + k - 1 ≡ k = omega arith in rw e refl)
 
 pub primaries_share : PrimariesMeet
 unfolding elements
 primaries_share group a b p q =
-    let s = shared (has a) (has b) group.count 1 most_processors (has_up_to a group.count p.within) (has_up_to b group.count q.within) (omega arith) (omega (arith, p.majority, q.majority)) in
-    (s.number, has_up_to a group.count p.within s.number s.passes_first, member_had a s.number s.low s.passes_first, member_had b s.number s.low s.passes_second)
+    let all = votes_front group most_processors in
+    let le = sum_by-take-le (λ (x : ℕ). x) group.votes most_processors in
+    let s = shared (votes_of group) (has a) (has b) 1 most_processors (omega (arith, all, le, p.majority, q.majority)) in
+    let member = member_had a s.number s.low s.passes_first in
+    (s.number, p.within s.number member, member, member_had b s.number s.low s.passes_second)
 
 -- the test holds just for primary sets
 pub primary_tested : (group : Group) (set : ℕ) → IsTrue (is_primary group set) ↔ IsPrimary group set

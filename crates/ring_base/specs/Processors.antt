@@ -1,12 +1,11 @@
--- Processors, and sets of them. A set is a word: processor i is its bit of value 2 ^ (i - 1).
+-- Processors, and sets of them: Processors and sets, rules 2 and 3 of docs/PROTOCOL.md. A set is a word: processor i is its bit of value 2 ^ (i - 1).
 use Rattle.std.specs.Prelude.{◌≡◌, ℕ, ◌+◌, ◌-◌, ◌%◌, ◌^◌, ◌≤◌, Bool, ◌==◌, nat_lt, List, length, filter, bit_and, bit_or, slice_index}
 use Rattle.std.specs.Int.{bit_at}
-use Rattle.ring_base.specs.declared.limits.TheConstants.{MOST_PROCESSORS}
 use Rattle.ring_base.specs.Numbers.{numbers_from, has_bit}
 
--- no run has more: 16
+-- no run has more processors
 abbrev pub most_processors : ℕ
-most_processors = MOST_PROCESSORS
+most_processors = 16
 
 -- a processor's number
 abbrev pub IsProc : ℕ → Type 0

@@ -1,4 +1,4 @@
--- Laws of the order of rings and of last primaries: irreflexive, transitive, total, and none below every ring.
+-- Laws of the order of rings and of last primaries: irreflexive, transitive, total, and none below every ring. Rings and states, rule 1 of docs/PROTOCOL.md.
 use Rattle.std.proofs.Common.{◌≡◌, ℕ, ◌⊎◌, ◌<◌, Option, Some, None, refl, inl, inr, arith, ap, sym}
 use Rattle.std.specs.Prelude.{◌↔◌}
 use Rattle.std.specs.Cmp.{IsTotalOrder}

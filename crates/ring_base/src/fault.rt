@@ -1,7 +1,7 @@
 //! Why a call is refused.
 
 ghost use Rattle.std.specs.Prelude.{◌≡◌};
-ghost use Rattle.ring_base.specs.Fault.{number_of, text_of};
+ghost use Rattle.ring_base.specs.Fault.{fault_number, fault_text};
 ghost use Rattle.ring_base.specs.declared.fault.Fault.TheVariants.{Memory};
 
 use std::alloc::{AllocError, AllocFailed};
@@ -47,14 +47,14 @@ pub enum Fault {
 impl Fault {
     /// The refusal's number, 1 to 15.
     pub fn number(&self) -> u8
-        ensures { result ≡ number_of self.now }
+        ensures { result ≡ fault_number self.now }
     {
         *self as u8
     }
 
     /// The refusal's text.
     fn text(&self) -> &'static str
-        ensures { result.now ≡ text_of self.now }
+        ensures { result.now ≡ fault_text self.now }
     {
         match self {
             Fault::NotMember => "not a member",
@@ -80,7 +80,7 @@ impl Fault {
 impl Display for Fault {
     ghost use Rattle.std.specs.Prelude.{Some};
 
-    ghost output = { λ fault. Some (text_of fault) };
+    ghost output = { λ fault. Some (fault_text fault) };
 
     fn fmt<W: fmt::Write>(&self, f: &mut fmt::Formatter<W>) -> fmt::Result {
         f.write_str(self.text())

@@ -1,8 +1,9 @@
 //! What is fixed for a run.
 
-ghost use Rattle.std.specs.Prelude.{◌≡◌, ℕ, ◌*◌, ◌≤◌, ◌↔◌, IsTrue, IfErr, OkIff, nat_lt};
-ghost use Rattle.ring_base.specs.Group.{IsPrimary, is_primary};
-ghost use Rattle.ring_base.specs.Processors.{IsProc, IsMember, everybody, most_processors};
+ghost use Rattle.std.specs.Prelude.{◌≡◌, ℕ, ◌*◌, ◌≤◌, ◌↔◌, IsTrue, IfErr, OkIff, nat_lt, length, replicate};
+ghost use Rattle.std.specs.List.{sum};
+ghost use Rattle.ring_base.specs.Group.{AreVotes, votes_in, IsPrimary, is_primary};
+ghost use Rattle.ring_base.specs.Processors.{IsProc, IsMember, everybody};
 
 use crate::fault::Fault;
 use crate::limits::MOST_PROCESSORS;
@@ -10,35 +11,59 @@ use crate::proc_set::ProcSet;
 use crate::processor::Proc;
 use std::marker::Model;
 
-/// The processors of a run, numbered from 1 on. Contracts see how many they are.
+/// The processors of a run, numbered from 1 on, and how many votes each has. Contracts see how many they are,
+/// and the list of the votes.
 #[derive(Clone, Copy, Debug, PartialEq, Eq)]
 pub struct Fixed {
     count: u8,
+    /// Those of the processors, and zeros after them.
+    votes: [u8; 16],
 }
 
 impl Model for Fixed {
-    ghost use Rattle.ring_base.specs.Group.{Group};
-    ghost use Rattle.ring_base.specs.Processors.{IsProc};
+    ghost use Rattle.std.specs.Prelude.{take};
+    ghost use Rattle.ring_base.specs.Group.{Group, filled, IsFilled};
 
     ghost Value = { Group };
 
-    ghost view = { λ fixed. record { count = fixed.count } };
+    ghost view = { λ fixed. record { count = fixed.count; votes = take fixed.count fixed.votes } };
 
-    ghost invariant = { λ fixed. IsProc fixed.count };
+    ghost invariant = { λ fixed. IsFilled fixed.count fixed.votes };
 
-    ghost inverse = { λ group. record { count = group.count } };
+    ghost inverse = { λ group. record { count = group.count; votes = filled group.votes } };
+
+    ghost inverse_ok = { λ a h. Prim.rw h.zeros (λ i. a) };
 }
 
 impl Fixed {
-    /// The processors 1 to `count`, or `NotMember` unless there are 1 to [`MOST_PROCESSORS`].
+    /// The processors 1 to `count` with one vote each, or `NotMember` unless there are 1 to
+    /// [`MOST_PROCESSORS`].
     pub fn new(count: u8) -> Result<Fixed, Fault>
-        ensures ok { OkIff result (IsProc count) (record { count = count }) }
+        ensures ok { OkIff result (IsProc count) (record { count = count; votes = replicate count 1 }) }
         ensures refused { IfErr result (λ fault. fault ≡ Fault.NotMember) }
     {
-        if count < 1 || count > MOST_PROCESSORS {
+        if count > MOST_PROCESSORS {
             return Err(Fault::NotMember);
         }
-        Ok(Fixed { count })
+        Fixed::with_votes(&[1; 16][..usize::from(count)])
+    }
+
+    /// As many processors as there are votes: processor i has the i-th of these votes. `NotMember` unless there
+    /// are 1 to [`MOST_PROCESSORS`], each with a vote at least.
+    pub fn with_votes(votes: &[u8]) -> Result<Fixed, Fault>
+        ensures ok { OkIff result (AreVotes votes.now) (record { count = length votes.now; votes = votes.now }) }
+        ensures refused { IfErr result (λ fault. fault ≡ Fault.NotMember) }
+    {
+        let count = votes.len();
+        if count < 1 || count > usize::from(MOST_PROCESSORS) || votes.contains(&0) {
+            return Err(Fault::NotMember);
+        }
+        let mut all = [0; 16];
+        all[..count].copy_from_slice(votes);
+        Ok(Fixed {
+            count: count as u8,
+            votes: all,
+        })
     }
 
     /// How many processors there are, 1 to 16.
@@ -68,19 +93,26 @@ impl Fixed {
         ProcSet::from_bits(u16::MAX >> (16 - self.count))
     }
 
-    /// Whether the set is of this run's processors, and has more than half of them.
+    /// Whether the set is of this run's processors, and has more than half of all votes.
     pub fn is_primary(self, set: ProcSet) -> bool
         ensures primary { IsTrue result ↔ IsPrimary self set }
         ensures value { result ≡ is_primary self set }
     {
-        set.is_subset(self.everybody()) && self.are_most(set.len())
+        set.is_subset(self.everybody()) && self.have_most_votes(set)
     }
 
-    /// Whether so many processors are more than half of them.
-    fn are_most(self, processors: u32) -> bool
-        requires { processors ≤ most_processors }
-        ensures { result ≡ nat_lt self.count (2 * processors) }
+    /// Whether the members of the set have more votes than all others.
+    fn have_most_votes(self, set: ProcSet) -> bool
+        ensures { result ≡ nat_lt (sum self.votes) (2 * votes_in self set) }
     {
-        2 * processors > u32::from(self.count)
+        let (mut inside, mut outside) = (0, 0);
+        for (i, votes) in self.votes.iter().enumerate() {
+            if set.contains(Proc::new(i as u8 + 1)) {
+                inside += u32::from(*votes);
+            } else {
+                outside += u32::from(*votes);
+            }
+        }
+        inside > outside
     }
 }

@@ -2,11 +2,20 @@
 
 ghost use Rattle.std.specs.Prelude.{◌≡◌, ℕ, ◌^◌, ◌<◌, ◌≤◌, ◌↔◌, ◌⊎◌, Option, List, length, Contains, IsTrue, Some, None, slice_get};
 ghost use Rattle.std.specs.List.Sorted.{IsStrictlyIncreasing};
+ghost use Rattle.ring_base.specs.declared.limits.TheConstants.{MOST_PROCESSORS, MAX, WINDOW, MAX_NEW};
 ghost use Rattle.ring_base.specs.declared.ring_id.RingId.{RingId};
 ghost use Rattle.ring_base.specs.Fronts.{IsFront};
 ghost use Rattle.ring_base.specs.Group.{Group, IsPrimary, is_primary, PrimariesMeet};
 ghost use Rattle.ring_base.specs.Processors.{IsProc, IsMember, elements, size, at, position_of};
 ghost use Rattle.ring_base.specs.Rings.{IsBelow, IsPrimaryBelow};
+
+/// What the limits are.
+pub fn limits_law()
+    ensures processors { MOST_PROCESSORS ≡ 16 }
+    ensures numbers { MAX ≡ 2 ^ 62 }
+    ensures window { WINDOW ≡ 256 }
+    ensures new_messages { MAX_NEW ≡ 8 }
+{}
 
 /// Any two primary sets share a processor, and the test that a definition computes with holds of just these
 /// sets.

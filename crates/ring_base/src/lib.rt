@@ -19,7 +19,9 @@ mod state;
 pub use fault::Fault;
 pub use fixed::Fixed;
 pub use kind::Kind;
-pub use laws::{front_law, members_law, primary_law, primary_order_law, ring_order_law};
+pub use laws::{
+    front_law, limits_law, members_law, primary_law, primary_order_law, ring_order_law,
+};
 pub use limits::{MAX, MAX_NEW, MOST_PROCESSORS, WINDOW};
 pub use members::Members;
 pub use past::{Past, past_of};

@@ -9,6 +9,10 @@
 //! the past and forgets a field, or the other way round, is then refused, since the invariant must hold
 //! again. The value is under no limit of `T`: of a `u64` in it contracts know only that it is a number, so
 //! each bound that is needed belongs into the invariant too.
+//!
+//! No proof says that a method keeps the history which the past carries: one with a weak clause may set it
+//! anew, by `past_of`, to any value that the invariant allows. So each method that changes such a struct
+//! pins its new value by an equation with the old one. That is a rule for whoever adds a method.
 
 ghost use Rattle.std.specs.Prelude.{◌≡◌};
 ghost use base.Fml.{ftrue};

@@ -1,9 +1,10 @@
 use ring_base::{
-    Fault, Fixed, MAX, Past, Proc, ProcSet, RingId, front_law, is_primary_below, members_law,
-    past_of, primary_law, primary_order_law, ring_order_law,
+    Fault, Fixed, MAX, Past, Proc, ProcSet, RingId, front_law, is_primary_below, limits_law,
+    members_law, past_of, primary_law, primary_order_law, ring_order_law,
 };
 use std::alloc::{AllocError, Global};
 use std::test::Fail;
+use std::thread;
 
 /// Whether a refusal has this number, and shows this text.
 fn is_told_as(alloc: Global, fault: Fault, number: u8, text: &str) -> Result<bool, Fail> {
@@ -93,6 +94,51 @@ fn primaries(rt: HostRuntime) -> Result<(), Fail> {
         );
     }
     primary_law();
+    Ok(())
+}
+
+#[test]
+fn weighted_primaries(rt: HostRuntime) -> Result<(), Fail> {
+    let table: [(&[u8], u16, bool); 14] = [
+        (&[3, 1, 1, 1], 0b0011, true),
+        (&[3, 1, 1, 1], 0b0001, false),
+        (&[3, 1, 1, 1], 0b1110, false),
+        (&[3, 1, 1, 1], 0b1111, true),
+        (&[3, 1, 1, 1], 0b10011, false),
+        (&[2, 1, 1, 1], 0b0011, true),
+        (&[2, 1, 1, 1], 0b1100, false),
+        (&[1, 255], 0b01, false),
+        (&[1, 255], 0b10, true),
+        (&[255], 0b1, true),
+        (&[255; 16], 0x00FF, false),
+        (&[255; 16], 0xFF00, false),
+        (&[255; 16], 0x01FF, true),
+        (&[255; 16], 0xFF80, true),
+    ];
+    for (votes, members, is_primary) in table {
+        let fixed = Fixed::with_votes(votes)?;
+        let set = ProcSet::from_bits(members);
+        assert!(rt;
+            fixed.is_primary(set) == is_primary,
+            "{members:b} with {votes:?}"
+        );
+    }
+    Ok(())
+}
+
+#[test]
+fn refused_votes(rt: HostRuntime) -> Result<(), Fail> {
+    let table: [&[u8]; 5] = [&[], &[0], &[1, 0, 1], &[1, 1, 1, 0], &[1; 17]];
+    for votes in table {
+        assert!(rt;
+            Fixed::with_votes(votes) == Err(Fault::NotMember),
+            "{votes:?}"
+        );
+    }
+    assert!(rt; Fixed::with_votes(&[1; 16]) == Fixed::new(16));
+    assert!(rt; Fixed::with_votes(&[2; 16]) != Fixed::new(16));
+    assert!(rt; Fixed::with_votes(&[7, 1, 255])?.count() == 3);
+    prove!(size_of::<Fixed>() == 17);
     Ok(())
 }
 
@@ -190,6 +236,7 @@ fn names_and_numbers(rt: HostRuntime) -> Result<(), Fail> {
     let shown = format!(in rt.alloc(); "{} {rep}", ring(1, rep))?;
     assert!(rt; shown.as_str() == "1.3 3" && MAX == 4_611_686_018_427_387_904);
     front_law::<u8>();
+    limits_law();
     Ok(())
 }
 
@@ -199,4 +246,31 @@ fn the_past_takes_no_room() {
     prove!(size_of::<Past<u64>>() == 0);
     prove!(size_of::<Past<[RingId; 0]>>() == 0);
     drop(past);
+}
+
+/// A sum, and for contracts alone how often something was added.
+#[derive(Drop)]
+struct Counter {
+    sum: u64,
+    times: Past<u64>,
+}
+
+/// Adds one, and answers the sum.
+fn add_one(counter: &mut Counter) -> u64 {
+    counter.sum = counter.sum.saturating_add(1);
+    counter.sum
+}
+
+#[test]
+fn a_past_goes_to_a_thread(rt: HostRuntime) {
+    let mut counter = Counter {
+        sum: 7,
+        times: past_of(&0u8),
+    };
+    let lent = &mut counter;
+    let (sum, ()) = thread::join(&rt, move || add_one(lent), || ());
+    assert!(rt; sum == 8);
+    let read = &counter;
+    let (one, other) = thread::join(&rt, || read.sum, || read.sum);
+    assert!(rt; one == 8 && other == 8);
 }

@@ -5,7 +5,7 @@ use Rattle.std.specs.Option.{option_and_then}
 use Rattle.std.specs.Io.KnownBytes.{Appends}
 use Rattle.ring_base.specs.declared.fault.Fault.{Fault}
 use Rattle.ring_base.specs.declared.fault.Fault.TheVariants as fault
-use Rattle.ring_base.specs.Fault.{number_of}
+use Rattle.ring_base.specs.Fault.{fault_number}
 use Rattle.ring_base.specs.Fronts.{IsFront}
 use Rattle.ring_base.specs.Numbers.{max_number}
 use Rattle.ring_base.specs.Processors.{only}
@@ -155,7 +155,7 @@ module _ {O A : Type 0} (object : Sequential O) where
     pub reason : Fault
     pub is_reason : IsRefusal false (submit_fault (node_after old.lines)) reason
     pub same : new ≡ old
-    pub text_is : text ≡ line_of (refused_text node call.client call.number (number_of reason))
+    pub text_is : text ≡ line_of (refused_text node call.client call.number (fault_number reason))
 
   -- a client's call is submitted at a node
   abbrev pub Submits : ℕ → Call A → RunView A → RunView A → List ℕ → Type 0

@@ -2,7 +2,7 @@
 
 ghost use Rattle.std.specs.Prelude.{◌≡◌, IfErr, OnOk};
 ghost use Rattle.std.specs.Io.KnownBytes.{Appends};
-ghost use Rattle.ring_base.specs.Fault.{number_of};
+ghost use Rattle.ring_base.specs.Fault.{fault_number};
 ghost use Rattle.ring_report.specs.declared.failure.Failure.TheVariants.{Output};
 ghost use Rattle.ring_report.specs.Texts.{line_of};
 ghost use Rattle.ring_console.specs.Printed.{answer_text, answers_text, refused_text, node_text, order_text, state_text};
@@ -91,7 +91,7 @@ pub fn print_refused<W: Write>(
     number: u64,
     fault: Fault,
 ) -> Result<(), Failure>
-    ensures line { OnOk result (Appends (W.contents out.old) (W.contents out.new) (line_of (refused_text node client number (number_of fault)))) }
+    ensures line { OnOk result (Appends (W.contents out.old) (W.contents out.new) (line_of (refused_text node client number (fault_number fault)))) }
     ensures failed { IfErr result (λ failure. failure ≡ Output) }
 {
     let (node, reason) = (node.number(), fault.number());

@@ -1,7 +1,7 @@
 -- Why a function ends before its work is done, and the line that says so.
 use Rattle.std.specs.Prelude.{ℕ, List, [], ◌++◌, codes}
 use Rattle.std.specs.Fmt.{decimal}
-use Rattle.ring_base.specs.Fault.{number_of, text_of}
+use Rattle.ring_base.specs.Fault.{fault_number, fault_text}
 use Rattle.ring_base.specs.declared.fault.Fault.{Fault}
 use Rattle.ring_base.specs.declared.fault.Fault.TheVariants as fault
 use Rattle.ring_report.specs.declared.failure.Failure.{Failure}
@@ -16,7 +16,7 @@ script_failure (script.AtLine line) = BadScript line
 
 -- a refusal's number and text, as they begin each line on standard error
 abbrev pub numbered_text : Fault → List ℕ
-numbered_text f = codes "totem: " ++ decimal (number_of f) ++ codes " " ++ text_of f
+numbered_text f = codes "totem: " ++ decimal (fault_number f) ++ codes " " ++ fault_text f
 
 -- the line on standard error, without its end. Of a failed output nothing is said
 abbrev pub failure_text : Failure → List ℕ

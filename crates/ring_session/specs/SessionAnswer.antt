@@ -3,7 +3,7 @@
 use Rattle.std.specs.Prelude.{◌≡◌, ℕ, ◌+◌, ◌==◌, ◌&&◌, nat_lt, Bool, true, false, List, length, take, slice_get, Option, Some, None, position, if◌then◌else◌}
 use Rattle.std.specs.Option.{option_map}
 use Rattle.std.specs.Str.{bytes_eq}
-use Rattle.ring_base.specs.Fault.{number_of}
+use Rattle.ring_base.specs.Fault.{fault_number}
 use Rattle.ring_base.specs.declared.fault.Fault.{Fault}
 use Rattle.ring_base.specs.declared.fault.Fault.TheVariants.{Conflict, Stale, NumberGap, SessionsFull}
 use Rattle.ring_object.specs.Operations.{Sequential, reply_at}
@@ -14,7 +14,7 @@ use Rattle.ring_session.specs.Deduplicated.{count_of, may_call, deduplicated, St
 
 -- the answer that refuses for this reason
 abbrev pub refusal : Fault → Answer
-refusal fault = Refused (number_of fault)
+refusal fault = Refused (fault_number fault)
 
 -- whether the two are one call: of one client and number, and with the same operation
 abbrev pub is_same : {A : Type 0} → Call A → Call A → Bool

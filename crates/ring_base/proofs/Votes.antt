@@ -1,0 +1,105 @@
+-- What the code computes on votes: votes of one each, and the votes of members and of others, place by place.
+use Rattle.std.proofs.Common.{◌≡◌, ℕ, zero, suc, ◌+◌, ◌-◌, ◌≤◌, Bool, true, false, not, List, [], ◌∷◌, ◌++◌, length, take, replicate, Ok, Err, Result, slice_index, arith, inl, inr, refl, ap, sym, ◌∙◌, subst}
+use Rattle.std.specs.Prelude.{◌↔◌, OkIff, nat_lt, ◌*◌}
+use Rattle.std.specs.Cmp.{both_ways}
+use Rattle.std.specs.List.{sum, sum_by}
+use Rattle.std.proofs.lemmas.Bool.{cases_Bool, lt-ltb, ltb-true}
+use Rattle.std.proofs.lemmas.List.{take_all, length-replicate}
+use Rattle.std.proofs.lemmas.List.Elements.{All-replicate}
+use Rattle.std.proofs.lemmas.List.Sums.{sum_by-cons}
+use Rattle.ring_base.specs.Numbers.{numbers_from}
+use Rattle.ring_base.specs.Processors.{IsProc, most_processors, has, elements}
+use Rattle.ring_base.specs.Passing.{passing}
+use Rattle.ring_base.specs.Primaries.{weight_more, weight_same, votes_front}
+use Rattle.ring_base.specs.Group.{Group, AreVotes, votes_of, votes_in, IsFilled}
+
+suc_last : (n : ℕ) → suc n + 1 ≡ suc (n + 1)
+suc_last n = omega arith
+
+-- one number more in a row, at its end
+pub weight_last : (w : ℕ → ℕ) (p : ℕ → Bool) (first n : ℕ) → p (first + n) ≡ true → sum_by w (passing p first (n + 1)) ≡ sum_by w (passing p first n) + w (first + n)
+weight_last w p first zero pass =
+    let e : first + 0 ≡ first = omega arith in
+    omega (arith, weight_more w p first 0 (rw e at pass), ap w e)
+weight_last w p first (suc n) pass =
+    let e : suc first + n ≡ first + suc n = omega arith in
+    let rest = weight_last w p (suc first) n (rw e pass) in
+    let same = ap w e in
+    let longer = ap (λ (m : ℕ). sum_by w (passing p first m)) (suc_last n) in
+    elim (cases_Bool (p first)) [
+      | inl here ↦ omega (arith, weight_more w p first (n + 1) here, weight_more w p first n here, rest, same, longer)
+      | inr none ↦ omega (arith, weight_same w p first (n + 1) none, weight_same w p first n none, rest, same, longer)
+    ]
+
+pub weight_kept : (w : ℕ → ℕ) (p : ℕ → Bool) (first n : ℕ) → p (first + n) ≡ false → sum_by w (passing p first (n + 1)) ≡ sum_by w (passing p first n)
+weight_kept w p first zero fail =
+    let e : first + 0 ≡ first = omega arith in
+    weight_same w p first 0 (rw e at fail)
+weight_kept w p first (suc n) fail =
+    let e : suc first + n ≡ first + suc n = omega arith in
+    let rest = weight_kept w p (suc first) n (rw e fail) in
+    let longer = ap (λ (m : ℕ). sum_by w (passing p first m)) (suc_last n) in
+    elim (cases_Bool (p first)) [
+      | inl here ↦ omega (arith, weight_more w p first (n + 1) here, weight_more w p first n here, rest, longer)
+      | inr none ↦ omega (arith, weight_same w p first (n + 1) none, weight_same w p first n none, rest, longer)
+    ]
+
+-- those that pass and those that don't weigh what all do
+pub weight_parted : (w : ℕ → ℕ) (p : ℕ → Bool) (first n : ℕ) → sum_by w (passing p first n) + sum_by w (passing (λ j. not (p j)) first n) ≡ sum_by w (numbers_from first n)
+weight_parted w p first zero = refl
+weight_parted w p first (suc n) =
+    let all = sum_by-cons w first (numbers_from (suc first) n) in
+    let rest = weight_parted w p (suc first) n in
+    elim (cases_Bool (p first)) [
+      | inl pass ↦ omega (arith, all, rest, weight_more w p first n pass, weight_same w (λ j. not (p j)) first n (rw pass refl))
+      | inr fail ↦ omega (arith, all, rest, weight_same w p first n fail, weight_more w (λ j. not (p j)) first n (rw fail refl))
+    ]
+
+-- one vote each
+pub AreVotes-ones : (n : ℕ) → AreVotes (replicate n 1) ↔ IsProc n
+AreVotes-ones n = (
+  λ votes. subst IsProc (length-replicate n 1) votes.processors,
+  λ proc. record { processors = subst IsProc (sym (length-replicate n 1)) proc; each = All-replicate (λ (vote : ℕ). 1 ≤ vote) n 1 (omega arith) },
+)
+
+pub new_votes : {E : Type 0} (r : Result Group E) (n : ℕ) (votes : List ℕ) → votes ≡ replicate n 1 → OkIff r (AreVotes votes) (record { count = length votes; votes = votes })
+    → OkIff r (IsProc n) (record { count = n; votes = replicate n 1 })
+new_votes (Ok group) n votes e h = ((AreVotes-ones n).0 (subst AreVotes e h.0), h.1 ∙ rw (e, length-replicate) refl)
+new_votes (Err fault) n votes e h = λ proc. h (subst AreVotes (sym e) ((AreVotes-ones n).1 proc))
+
+-- zeros behind add nothing
+zero_at : (n k : ℕ) → slice_index (replicate n 0) k ≡ 0
+zero_at zero k = refl
+zero_at (suc n) zero = refl
+zero_at (suc n) (suc k) = zero_at n k
+
+zeros_behind : (votes : List ℕ) (n k : ℕ) → slice_index (votes ++ replicate n 0) k ≡ slice_index votes k
+zeros_behind [] n k = zero_at n k
+zeros_behind (v ∷ votes) n zero = refl
+zeros_behind (v ∷ votes) n (suc k) = zeros_behind votes n k
+
+-- a processor's votes stand at its place
+pub votes_at : (count : ℕ) (places : List ℕ) (group : Group) (k : ℕ) → IsFilled count places → (record { count = count; votes = take count places }) ≡ group → votes_of group (1 + k) ≡ slice_index places k
+votes_at count places group k is view =
+    let place : 1 + k - 1 ≡ k = omega arith in
+    ap (λ (g : Group). votes_of g (1 + k)) (sym view) ∙ rw place (sym (zeros_behind (take count places) (most_processors - length (take count places)) k) ∙ ap (λ (all : List ℕ). slice_index all k) is.zeros)
+
+-- there are votes for each processor
+pub votes_few : (count : ℕ) (places : List ℕ) (group : Group) → IsFilled count places → (record { count = count; votes = take count places }) ≡ group → IsProc (length group.votes)
+votes_few count places group is view = subst (λ (g : Group). IsProc (length g.votes)) view (subst IsProc (sym is.whole) is.processors)
+
+-- all votes together are those of the members and those of the others
+pub votes_parted : (group : Group) (set : ℕ) → IsProc (length group.votes) → votes_in group set + sum_by (votes_of group) (passing (λ j. not (has set j)) 1 most_processors) ≡ sum group.votes
+unfolding elements
+votes_parted group set proc =
+    weight_parted (votes_of group) (has set) 1 most_processors ∙ (votes_front group most_processors ∙ ap sum (take_all most_processors group.votes proc.1))
+
+-- members have more votes than the others just where theirs, doubled, are more than all
+pub most_votes : (group : Group) (set members others : ℕ) → IsProc (length group.votes) → members ≡ sum_by (votes_of group) (passing (has set) 1 most_processors)
+    → others ≡ sum_by (votes_of group) (passing (λ j. not (has set j)) 1 most_processors) → nat_lt others members ≡ nat_lt (sum group.votes) (2 * votes_in group set)
+unfolding elements
+most_votes group set members others few m o =
+    let all = votes_parted group set few in
+    both_ways _ _
+    (λ more. lt-ltb _ _ (omega (arith, ltb-true _ _ more, all, m, o)))
+    (λ more. lt-ltb _ _ (omega (arith, ltb-true _ _ more, all, m, o)))
