@@ -32,17 +32,17 @@ one_byte n small = All-cons (λ byte. byte < 256) n [] small (All-nil (λ byte. 
 pub starts : 0 < 256
 starts = omega arith
 
-pub keeps : (content : ℕ) (op : List ℕ) → AreBytes op → content < 256 → object.next content op < 256
+pub keeps : (content : ℕ) (op : List ℕ) → AreBytes op → content < 256 → next content op < 256
 keeps content [] bytes small = small
 keeps content (byte ∷ []) bytes small = All-head (λ b. b < 256) byte [] bytes
 keeps content (byte ∷ more ∷ rest) bytes small = small
 
-pub replies : (content : ℕ) (op : List ℕ) → AreBytes op → content < 256 → IsReply (object.reply content op)
+pub replies : (content : ℕ) (op : List ℕ) → AreBytes op → content < 256 → IsReply (reply content op)
 replies content [] bytes small = (omega arith, one_byte 255 (omega arith))
 replies content (byte ∷ []) bytes small = (omega arith, one_byte content small)
 replies content (byte ∷ more ∷ rest) bytes small = (omega arith, one_byte 255 (omega arith))
 
-pub ignores : (content : ℕ) (op : List ℕ) → is_readable op ≡ false → (object.reply content op ≡ unreadable) × (object.next content op ≡ content)
+pub ignores : (content : ℕ) (op : List ℕ) → is_readable op ≡ false → (reply content op ≡ unreadable) × (next content op ≡ content)
 ignores content [] unread = (refl, refl)
 ignores content (byte ∷ []) unread = absurd (cc unread)
 ignores content (byte ∷ more ∷ rest) unread = (refl, refl)
