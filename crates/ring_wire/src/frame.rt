@@ -8,7 +8,7 @@ ghost use Rattle.ring_wire.specs.Frames.{kind_at, version_of, spelling_of, Frame
 ghost use Rattle.ring_wire.specs.Fronts.{IsReadFault};
 ghost use Rattle.ring_wire.specs.Spells.{Spells};
 
-use crate::commit::CommitToken;
+use crate::commit_box::CommitBox;
 use crate::join::Join;
 use crate::message::Message;
 use crate::token::Token;
@@ -36,7 +36,7 @@ pub enum Frame<A: Allocator + Copy = Global> {
     Message(Message<A>),
     Token(Token),
     Join(Join),
-    Commit(CommitToken),
+    Commit(CommitBox<A>),
 }
 
 impl<A: Allocator + Copy> Frame<A> {

@@ -2,6 +2,7 @@
 #![tactic(auto)]
 
 mod commit;
+mod commit_box;
 mod entries;
 mod frame;
 mod join;
@@ -11,6 +12,7 @@ mod token;
 mod wire;
 
 pub use commit::CommitToken;
+pub use commit_box::CommitBox;
 pub use entries::{CommitEntry, Entries};
 pub use frame::{Frame, decode_frame, one_spelling_law, short_law, spelling_law};
 pub use join::Join;
