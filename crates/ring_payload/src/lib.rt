@@ -9,6 +9,7 @@ mod content;
 mod head;
 mod operation;
 mod piece;
+mod same;
 mod snap;
 mod tags;
 mod versions;

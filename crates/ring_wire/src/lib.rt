@@ -8,6 +8,7 @@ mod frame;
 mod join;
 mod message;
 mod requests;
+mod same;
 mod token;
 mod wire;
 

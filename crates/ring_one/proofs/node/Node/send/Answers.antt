@@ -10,5 +10,8 @@ invariant_of-self g c =
     let runs : is_stopped c.self.inside.ring.state ≡ false = rw (← c.self.view_is) at c.requires.runs in
     node-state c.self.invariant c.args.state before runs c.requires.after
 
-pub invariant_of-self-in-Err-1 : goal.invariant_of-self-in-Err-1
-invariant_of-self-in-Err-1 g c = rw c.stop.ensures (node-stopped c.self.invariant c.self.inside.sessions)
+pub invariant_of-self-in-Err : goal.invariant_of-self-in-Err
+invariant_of-self-in-Err g c = rw c.stop.ensures (node-stopped c.self.invariant c.self.inside.sessions)
+
+pub returns-in-Ok : goal.returns-in-Ok
+returns-in-Ok g c = ?
