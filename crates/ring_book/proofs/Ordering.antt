@@ -40,6 +40,11 @@ pub committed_from-snoc : {A : Type 0} (n : ℕ) (ls : List (Line A)) (l : Line 
 committed_from-snoc n [] l = refl
 committed_from-snoc n (x ∷ ls) l = committed_from-snoc x.step.committed ls l
 
+-- nothing is committed before the first line
+pub committed-none : {A : Type 0} (ls : List (Line A)) → length ls ≡ 0 → 0 ≡ committed_from 0 ls
+committed-none [] e = refl
+committed-none (x ∷ ls) e = absurd (omega (arith, e))
+
 -- by the last line
 pub committed-last : {A : Type 0} (n i : ℕ) (ls : List (Line A)) (l : Line A) → slice_get ls i ≡ Some l → suc i ≡ length ls → l.step.committed ≡ committed_from n ls
 committed-last n i [] l h e = absurd cc

@@ -13,7 +13,6 @@ mod name;
 mod nothing;
 mod opening;
 mod order;
-mod same;
 mod step;
 
 pub use book::{Book, Place};

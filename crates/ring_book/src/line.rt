@@ -8,7 +8,6 @@ ghost use Rattle.ring_book.specs.Lines.{frame_of as frame_in, frame_at as frame_
 use crate::FRAME_BYTES;
 use crate::frame_ref::FrameRef;
 use crate::input::LineInput;
-use crate::same::is_same;
 use crate::step::Step;
 use bytes::BytesMut;
 use ring_base::{Proc, ProcSet};
@@ -173,7 +172,7 @@ fn is_sent<A: Allocator + Copy + Drop>(
     ensures { IsTrue result ↔ (frame_there lines.now at node ≡ Some frame.now) }
 {
     match frame_to(lines, at, node) {
-        Some(sent) => is_same(frame, sent),
+        Some(sent) => sent.is_same(frame),
         None => false,
     }
 }

@@ -1,11 +1,10 @@
 -- Formats put together, each with the law that its reading is exact.
-use Rattle.std.proofs.Common.{◌≡◌, ℕ, ◌^◌, ◌<◌, Bool, true, List, [], ◌∷◌, ◌++◌, length, Option, refl, sym, ap, subst, ◌∙◌}
-use Rattle.std.specs.Prelude.{◌==◌, if◌then◌else◌}
+use Rattle.std.proofs.Common.{◌≡◌, ℕ, ◌^◌, ◌<◌, Bool, true, List, [], ◌∷◌, ◌++◌, length, Option, refl, ap, subst, ◌∙◌}
 use Rattle.std.specs.List.{flat_map, AllByRecursion}
 use Rattle.byteorder.specs.Endian.{big_bytes}
 use Rattle.ring_layout.specs.Reading.{IsFormat, IsWord, number_at, byte_at, text_at, times_at, then_at, such_at, made_at, empty_at, sized_at}
 use Rattle.ring_layout.specs.NumberFormats.{byte_format, number_format2, number_format4, number_format8}
-use Rattle.ring_layout.specs.ReadingLaws.{text_format, then_format, such_format, made_format, times_format, empty_format, choice_format, sized_format}
+use Rattle.ring_layout.specs.ReadingLaws.{text_format, then_format, such_format, made_format, times_format, empty_format, sized_format}
 
 -- how values are spelled, which limits they keep, how they are read, and that the reading is exact
 pub record Format (A : Type 0) : Type 1 where
@@ -81,22 +80,6 @@ sized a short = record {
   at = sized_at a.at;
   exact = sized_format a.spelling a.Fits a.at short a.exact;
 }
-
--- ---- values told by a tag
-
--- Where the tag k stands, a value is made of what one spells; where another stands, the others decide.
-pub case_format : {A X : Type 0} (tag : A → ℕ) (body : A → List ℕ) (Fits : A → Type 0) (k : ℕ) (one : Format X) (make : X → A) (other : List ℕ → Option (A × List ℕ)) (b : ℕ)
-    → ((x : X) → one.Fits x → (body (make x) ≡ one.spelling x) × Fits (make x) × (tag (make x) ≡ k))
-    → ((a : A) → Fits a → tag a ≡ k → (x : X) × one.Fits x × (make x ≡ a))
-    → ((b ≡ k → ⊥) → IsFormat body (λ a. Fits a × (tag a ≡ b)) other)
-    → IsFormat body (λ a. Fits a × (tag a ≡ b)) (λ bytes. if b == k then made_at make one.at bytes else other bytes)
-case_format tag body Fits k one make other b to from rest =
-    choice_format body (λ a. Fits a × (tag a ≡ b)) b k (made_at make one.at) other
-    (λ e. made_format one.spelling one.Fits one.at body (λ a. Fits a × (tag a ≡ b)) make
-    (λ x f. let t = to x f in (t.0, (t.1, t.2 ∙ sym e)))
-    (λ a f. from a f.0 (f.1 ∙ e))
-    one.exact)
-    rest
 
 -- ---- values told by their fields
 

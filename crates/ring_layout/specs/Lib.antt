@@ -1,3 +1,4 @@
+pub mod Cases
 pub mod Formats
 pub mod NumberFormats
 pub mod Processors

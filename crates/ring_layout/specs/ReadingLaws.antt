@@ -170,16 +170,6 @@ pub sized_format : {A : Type 0} (s : A → List ℕ) (F : A → Type 0) (at : Li
     → IsFormat (λ a. big_bytes 4 (length (s a)) ++ s a) F (sized_at at)
 sized_format s F at short p = sized_by (λ v. big_bytes 4 v) (IsWord 4) (number_at 4) s F at number_format4 short p
 
--- where a tag decides
-pub choice_format : {A : Type 0} (s : A → List ℕ) (F : A → Type 0) (b k : ℕ) (one other : List ℕ → Option (A × List ℕ)) → (b ≡ k → IsFormat s F one) → ((b ≡ k → ⊥) → IsFormat s F other)
-    → IsFormat s F (λ bytes. cond (eqb b k) (one bytes) (other bytes))
-choice_format s F b k one other p q =
-    let P : Bool → Type 0 = λ t. IsFormat s F (λ bytes. cond t (one bytes) (other bytes)) in
-    elim (cases_Bool (eqb b k)) [
-      | inl e ↦ subst P (sym e) (p (eqb-true b k e))
-      | inr e ↦ subst P (sym e) (q (eqb-false b k e))
-    ]
-
 -- the value of no bytes
 pub empty_format : IsFormat (λ (u : Unit {0}). []) (λ u. Unit {0}) (empty_at tt)
 empty_format = record {

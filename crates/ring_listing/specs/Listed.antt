@@ -1,11 +1,12 @@
 -- How frames stand in a listing: a line each.
-use Rattle.std.specs.Prelude.{ℕ, List, [], ◌∷◌, ◌++◌, length, flat_map, codes, Option, Some, None}
+use Rattle.std.specs.Prelude.{ℕ, List, [], ◌∷◌, ◌++◌, length, flat_map, codes, Option, Some, None, ◌==◌, if◌then◌else◌}
 use Rattle.std.specs.Fmt.{decimal}
 use Rattle.std.specs.List.{join_by}
 use Rattle.ring_base.specs.Processors.{elements}
 use Rattle.ring_base.specs.Rings.{ring_text}
 use Rattle.ring_base.specs.declared.ring_id.RingId.{RingId}
 use Rattle.ring_payload.specs.declared.call.Call.{Call}
+use Rattle.ring_payload.specs.declared.calls.Pack.{Pack}
 use Rattle.ring_payload.specs.declared.calls.Part.{Part}
 use Rattle.ring_payload.specs.declared.content.Content.{Content}
 use Rattle.ring_payload.specs.declared.content.Content.TheVariants as content
@@ -13,6 +14,7 @@ use Rattle.ring_payload.specs.declared.content.Payload.{Payload}
 use Rattle.ring_payload.specs.declared.content.Payload.TheVariants as payload
 use Rattle.ring_payload.specs.declared.content.Wrapped.{Wrapped}
 use Rattle.ring_payload.specs.declared.head.Head.{Head}
+use Rattle.ring_payload.specs.declared.snap.Snap.{Snap}
 use Rattle.ring_wire.specs.declared.commit.CommitToken.{CommitToken}
 use Rattle.ring_wire.specs.declared.frame.Frame.{Frame}
 use Rattle.ring_wire.specs.declared.frame.Frame.TheVariants as frame
@@ -36,20 +38,34 @@ abbrev pub primary_text : Option RingId → List ℕ
 primary_text None = codes "none"
 primary_text (Some ring) = ring_text ring
 
--- a head: the last primary ring, the log's length and its committed length
+-- the trimmed length, where there is one
+abbrev pub trimmed_text : ℕ → List ℕ
+trimmed_text n = if n == 0 then [] else codes " trimmed " ++ decimal n
+
+-- a head: the last primary ring, the log's length, its committed length and, where it isn't 0, its trimmed length
 abbrev pub head_text : Head → List ℕ
 head_text head =
-    codes "head last " ++ primary_text head.last ++ codes " length " ++ decimal head.length ++ codes " committed " ++ decimal head.committed
+    codes "head last " ++ primary_text head.last ++ codes " length " ++ decimal head.length ++ codes " committed " ++ decimal head.committed ++ trimmed_text head.trimmed
 
 -- a part of a log: the place of its first call, and how many calls there are
 abbrev pub part_text : {A : Type 0} → Part A → List ℕ
 part_text part = codes "part from " ++ decimal part.first ++ codes " count " ++ decimal (length part.calls)
+
+-- packed calls: how many there are
+abbrev pub pack_text : {A : Type 0} → Pack A → List ℕ
+pack_text pack = codes "pack count " ++ decimal (length pack.calls)
+
+-- a piece of a snapshot: the length that it is of, its bytes in all, how many stand before the piece, and how many are in it
+abbrev pub snap_text : {A : Type 0} → Snap A → List ℕ
+snap_text snap = codes "snap at " ++ decimal snap.at ++ codes " total " ++ decimal snap.total ++ codes " offset " ++ decimal snap.offset ++ codes " count " ++ decimal (length snap.bytes)
 
 -- what is sent once more on a later ring
 abbrev pub content_text : {A : Type 0} → Content A → List ℕ
 content_text (content.Call call) = call_text call
 content_text (content.Head head) = head_text head
 content_text (content.Part part) = part_text part
+content_text (content.Pack pack) = pack_text pack
+content_text (content.Snap snap) = snap_text snap
 
 -- a message of an old ring: its ring, number and sender there, and what it carried
 abbrev pub wrapped_text : {A : Type 0} → Wrapped A → List ℕ
@@ -63,6 +79,8 @@ payload_text (payload.Wrapped wrapped) = wrapped_text wrapped
 payload_text payload.End = codes "end"
 payload_text (payload.Head head) = head_text head
 payload_text (payload.Part part) = part_text part
+payload_text (payload.Pack pack) = pack_text pack
+payload_text (payload.Snap snap) = snap_text snap
 
 -- a message: its ring, number and sender, and what it carries
 abbrev pub message_text : {A : Type 0} → Message A → List ℕ

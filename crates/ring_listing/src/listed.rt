@@ -4,10 +4,10 @@ ghost use Rattle.std.specs.Prelude.{ℕ, List, Some};
 ghost use Rattle.std.specs.Fmt.{WritesOnOk};
 ghost use Rattle.std.specs.Iterator.{IsFinite, AlwaysYields};
 ghost use Rattle.ring_base.specs.Processors.{elements};
-ghost use Rattle.ring_listing.specs.Listed.{numbers_text, call_text, primary_text, head_text, part_text, content_text, wrapped_text, payload_text, message_text, lowered_text, token_text, join_text, commit_text, frame_text};
+ghost use Rattle.ring_listing.specs.Listed.{numbers_text, call_text, primary_text, trimmed_text, head_text, part_text, pack_text, snap_text, content_text, wrapped_text, payload_text, message_text, lowered_text, token_text, join_text, commit_text, frame_text};
 
 use ring_base::{Proc, ProcSet, RingId};
-use ring_payload::{Call, Content, Head, Part, Payload, Wrapped};
+use ring_payload::{Call, Content, Head, Pack, Part, Payload, Snap, Wrapped};
 use ring_wire::{CommitToken, Frame, Join, Message, Requests, Token};
 use std::alloc::Allocator;
 use std::fmt;
@@ -24,7 +24,7 @@ impl<A: Allocator + Copy> fmt::Display for Listed<'_, Frame<A>> {
             Frame::Message(message) => write!(f, "{}", Listed(message)),
             Frame::Token(token) => write!(f, "{}", Listed(token)),
             Frame::Join(join) => write!(f, "{}", Listed(join)),
-            Frame::Commit(token) => write!(f, "{}", Listed(token)),
+            Frame::Commit(boxed) => write!(f, "{}", Listed(boxed.token())),
         }
     }
 }
@@ -103,6 +103,8 @@ impl<A: Allocator + Copy> fmt::Display for Listed<'_, Payload<A>> {
             Payload::End => write!(f, "end"),
             Payload::Head(head) => write!(f, "{}", Listed(head)),
             Payload::Part(part) => write!(f, "{}", Listed(part)),
+            Payload::Pack(pack) => write!(f, "{}", Listed(pack)),
+            Payload::Snap(snap) => write!(f, "{}", Listed(snap)),
         }
     }
 }
@@ -128,6 +130,8 @@ impl<A: Allocator + Copy> fmt::Display for Listed<'_, Content<A>> {
             Content::Call(call) => write!(f, "{}", Listed(call)),
             Content::Head(head) => write!(f, "{}", Listed(head)),
             Content::Part(part) => write!(f, "{}", Listed(part)),
+            Content::Pack(pack) => write!(f, "{}", Listed(pack)),
+            Content::Snap(snap) => write!(f, "{}", Listed(snap)),
         }
     }
 }
@@ -146,7 +150,24 @@ impl fmt::Display for Listed<'_, Head> {
 
     fn fmt<W: fmt::Write>(&self, f: &mut fmt::Formatter<W>) -> fmt::Result {
         let (last, length, committed) = (Listed(&self.0.last), self.0.length, self.0.committed);
-        write!(f, "head last {last} length {length} committed {committed}")
+        let trimmed = Trimmed(self.0.trimmed);
+        write!(f, "head last {last} length {length} committed {committed}{trimmed}")
+    }
+}
+
+/// A trimmed length at the end of a head: nothing where it is 0.
+#[derive(Drop)]
+struct Trimmed(u64);
+
+impl fmt::Display for Trimmed {
+    ghost output = { λ trimmed. Some (trimmed_text trimmed.0) };
+
+    fn fmt<W: fmt::Write>(&self, f: &mut fmt::Formatter<W>) -> fmt::Result {
+        let length = self.0;
+        if length == 0 {
+            return Ok(());
+        }
+        write!(f, " trimmed {length}")
     }
 }
 
@@ -168,6 +189,25 @@ impl<A: Allocator + Copy> fmt::Display for Listed<'_, Part<A>> {
     fn fmt<W: fmt::Write>(&self, f: &mut fmt::Formatter<W>) -> fmt::Result {
         let (first, count) = (self.0.first, self.0.calls.as_slice().len());
         write!(f, "part from {first} count {count}")
+    }
+}
+
+impl<A: Allocator + Copy> fmt::Display for Listed<'_, Pack<A>> {
+    ghost output = { λ listed. Some (pack_text listed.0.now) };
+
+    fn fmt<W: fmt::Write>(&self, f: &mut fmt::Formatter<W>) -> fmt::Result {
+        let count = self.0.calls.as_slice().len();
+        write!(f, "pack count {count}")
+    }
+}
+
+impl<A: Allocator + Copy> fmt::Display for Listed<'_, Snap<A>> {
+    ghost output = { λ listed. Some (snap_text listed.0.now) };
+
+    fn fmt<W: fmt::Write>(&self, f: &mut fmt::Formatter<W>) -> fmt::Result {
+        let (at, total, offset) = (self.0.at, self.0.total, self.0.offset);
+        let count = self.0.bytes.as_slice().len();
+        write!(f, "snap at {at} total {total} offset {offset} count {count}")
     }
 }
 

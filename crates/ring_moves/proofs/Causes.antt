@@ -2,7 +2,7 @@
 use Rattle.std.proofs.Common.{◌≡◌, Bool, true, false, inl, inr, refl}
 use Rattle.std.proofs.lemmas.Bool.{cond_both, and_parts}
 use Rattle.ring_payload.specs.declared.content.Payload.{Payload}
-use Rattle.ring_payload.specs.declared.content.Payload.TheVariants.{Call, Wrapped, End, Head, Part}
+use Rattle.ring_payload.specs.declared.content.Payload.TheVariants.{Call, Wrapped, End, Head, Part, Pack, Snap}
 use Rattle.ring_wire.specs.declared.commit.CommitToken.{CommitToken}
 use Rattle.ring_wire.specs.declared.frame.Frame.{Frame}
 use Rattle.ring_wire.specs.declared.frame.Frame.TheVariants.{Message as MessageFrame, Token as TokenFrame, Join as JoinFrame, Commit as CommitFrame}
@@ -101,6 +101,8 @@ by_payload : {A : Type 0} → (c : Core A) (s : State) (payload : Payload A) →
 by_payload c Operational (Call call) = refl
 by_payload c Operational (Head head) = refl
 by_payload c Operational (Part part) = refl
+by_payload c Operational (Snap snap) = refl
+by_payload c Operational (Pack pack) = tt
 by_payload c Operational (Wrapped w) = tt
 by_payload c Operational End = tt
 by_payload c Gather payload = tt

@@ -8,7 +8,7 @@ use Rattle.ring_base.specs.Numbers.{window_size}
 use Rattle.ring_base.specs.Rings.{same_ring}
 use Rattle.ring_base.specs.declared.ring_id.RingId.{RingId}
 use Rattle.ring_payload.specs.declared.content.Payload.{Payload}
-use Rattle.ring_payload.specs.declared.content.Payload.TheVariants.{Call, Wrapped, End, Head, Part}
+use Rattle.ring_payload.specs.declared.content.Payload.TheVariants.{Call, Wrapped, End, Head, Part, Pack, Snap}
 use Rattle.ring_payload.specs.declared.content.Wrapped.{Wrapped as WrappedMessage}
 use Rattle.ring_wire.specs.declared.commit.CommitToken.{CommitToken}
 use Rattle.ring_wire.specs.declared.entries.CommitEntry.{CommitEntry}
@@ -111,6 +111,8 @@ payload_within c (Call call) = tt
 payload_within c End = tt
 payload_within c (Head head) = tt
 payload_within c (Part part) = tt
+payload_within c (Pack pack) = tt
+payload_within c (Snap snap) = tt
 
 gives_within : {A : Type 0} → (s : State) (c : Core A) (x : Message A) → AllByRecursion (λ (x : Message A). Within c.turns c.raises x) (gives_old s c x)
 gives_within Recovery c x = payload_within c x.payload

@@ -88,7 +88,7 @@ silent_frames =
 
 -- the head of a log with no place
 abbrev pub empty_head : Payload Global
-empty_head = Head (record { last = None; length = 0; committed = 0 })
+empty_head = Head (record { last = None; length = 0; committed = 0; trimmed = 0 })
 
 -- it is handed a head as it installs its ring, and then a call
 abbrev pub lone_events : List (RingEvent Global)

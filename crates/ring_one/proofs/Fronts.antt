@@ -1,8 +1,8 @@
 -- As the text and the safe mark grow, the log and its committed part grow at their end.
-use Rattle.std.proofs.Common.{◌≡◌, ℕ, zero, suc, ◌≤◌, false, List, [], ◌∷◌, ◌++◌, take, refl, ap, sym, ◌∙◌, arith}
+use Rattle.std.proofs.Common.{◌≡◌, ℕ, zero, suc, ◌≤◌, false, List, [], ◌∷◌, ◌++◌, take, refl, ap, sym, ◌∙◌, append_assoc, arith}
 use Rattle.ring_base.specs.Fronts.{IsFront}
 use Rattle.ring_payload.specs.declared.content.Payload.{Payload}
-use Rattle.ring_payload.specs.declared.content.Payload.TheVariants.{Call as OneCall, Wrapped, End, Head, Part}
+use Rattle.ring_payload.specs.declared.content.Payload.TheVariants.{Call as OneCall, Wrapped, End, Head, Part, Pack, Snap}
 use Rattle.ring_one.specs.Texts.{calls_in, is_adopted, log_of}
 
 -- the first places of a front are a front of at least as many places of the whole
@@ -23,6 +23,8 @@ calls_in-append (Wrapped w ∷ xs) ys = calls_in-append xs ys
 calls_in-append (End ∷ xs) ys = calls_in-append xs ys
 calls_in-append (Head h ∷ xs) ys = calls_in-append xs ys
 calls_in-append (Part p ∷ xs) ys = calls_in-append xs ys
+calls_in-append (Pack p ∷ xs) ys = ap (λ w. p.calls ++ w) (calls_in-append xs ys) ∙ sym (append_assoc p.calls (calls_in xs) (calls_in ys))
+calls_in-append (Snap s ∷ xs) ys = calls_in-append xs ys
 
 log_of-append_front : {A : Type 0} (xs ys : List (Payload A)) → IsFront (log_of xs) (log_of (xs ++ ys))
 log_of-append_front [] ys = (log_of ys, refl)
@@ -31,6 +33,8 @@ log_of-append_front (Wrapped w ∷ xs) ys = log_of-append_front xs ys
 log_of-append_front (End ∷ xs) ys = log_of-append_front xs ys
 log_of-append_front (Head h ∷ xs) ys = (calls_in ys, sym (calls_in-append xs ys))
 log_of-append_front (Part p ∷ xs) ys = log_of-append_front xs ys
+log_of-append_front (Pack p ∷ xs) ys = log_of-append_front xs ys
+log_of-append_front (Snap s ∷ xs) ys = log_of-append_front xs ys
 
 -- the log of a front is a front of the log
 pub log_of-front : {A : Type 0} (xs ys : List (Payload A)) → IsFront xs ys → IsFront (log_of xs) (log_of ys)
@@ -47,3 +51,5 @@ log_of-unadopted (Wrapped w ∷ text) (suc m) e = log_of-unadopted text m e
 log_of-unadopted (End ∷ text) (suc m) e = log_of-unadopted text m e
 log_of-unadopted (Head h ∷ text) (suc m) e = absurd (cc e)
 log_of-unadopted (Part p ∷ text) (suc m) e = log_of-unadopted text m e
+log_of-unadopted (Pack p ∷ text) (suc m) e = log_of-unadopted text m e
+log_of-unadopted (Snap s ∷ text) (suc m) e = log_of-unadopted text m e

@@ -85,7 +85,7 @@ token_of number seq = record { ring = ring_of_one; number = number; seq = seq; a
 
 -- the statement of an empty log
 abbrev pub empty_head : HeadOf
-empty_head = record { last = None; length = 0; committed = 0 }
+empty_head = record { last = None; length = 0; committed = 0; trimmed = 0 }
 
 -- ---- the state
 

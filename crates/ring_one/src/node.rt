@@ -241,7 +241,7 @@ impl<O: Object> Node<O> {
                     Ok(Outs::new(self.alloc))
                 }
             }
-            Frame::Commit(token) => self.take_commit_token(token),
+            Frame::Commit(boxed) => self.take_commit_token(boxed.token()),
             Frame::Message(_) => Ok(Outs::new(self.alloc)),
             Frame::Join(_) => Ok(Outs::new(self.alloc)),
         }
@@ -301,15 +301,14 @@ impl<O: Object> Node<O> {
         requires goes_on { is_stopped state ≡ false }
         ensures { IsMove O.sequential self.old (record { new = record self.old { state = state }; frames = OneCommit token ∷ [] }) result self.new }
     {
-        let mut outs = Outs::new(self.alloc);
-        match outs.frames.push(Frame::Commit(token)) {
-            Ok(()) => {
+        match Outs::of_commit_token(self.alloc, token) {
+            Ok(outs) => {
                 self.ring.state = state;
                 Ok(outs)
             }
-            Err(refused) => {
+            Err(fault) => {
                 self.ring.stop();
-                Err(refused.into())
+                Err(fault)
             }
         }
     }

@@ -1,11 +1,13 @@
 //! What a step of a node gives.
 
-ghost use Rattle.std.specs.Prelude.{◌≡◌, []};
+ghost use Rattle.std.specs.Prelude.{◌≡◌, [], ◌∷◌, IfOk, IfErr};
+ghost use Rattle.ring_base.specs.declared.fault.Fault.TheVariants.{Memory};
 
 use crate::ticket::Ticket;
+use ring_base::Fault;
 use ring_payload::Call;
 use ring_session::Answer;
-use ring_wire::Frame;
+use ring_wire::{CommitBox, CommitToken, Frame};
 use std::alloc::{Allocator, Global};
 
 /// The answer to a ticket's call.
@@ -24,6 +26,8 @@ pub struct Outs<A: Allocator + Copy + Drop = Global> {
 }
 
 impl<A: Allocator + Copy + Drop> Outs<A> {
+    ghost use Rattle.ring_wire.specs.declared.frame.Frame.TheVariants.{Commit as OneCommit};
+
     /// No frames and no answers.
     pub(crate) fn new(alloc: A) -> Outs<A>
         ensures frames { result.frames.items ≡ [] }
@@ -33,5 +37,16 @@ impl<A: Allocator + Copy + Drop> Outs<A> {
             frames: Vec::new(alloc),
             answers: Vec::new(alloc),
         }
+    }
+
+    /// One commit token and no answers, or `Memory`.
+    pub(crate) fn of_commit_token(alloc: A, token: CommitToken) -> Result<Outs<A>, Fault>
+        ensures frames { IfOk result (λ outs. outs.frames.items ≡ OneCommit token ∷ []) }
+        ensures answers { IfOk result (λ outs. outs.answers.items ≡ []) }
+        ensures refused { IfErr result (λ fault. fault ≡ Memory) }
+    {
+        let mut outs = Outs::new(alloc);
+        outs.frames.push(Frame::Commit(CommitBox::new(alloc, token)?))?;
+        Ok(outs)
     }
 }

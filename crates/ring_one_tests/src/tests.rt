@@ -30,7 +30,9 @@ const FIRST_FRAMES: [Sent; 7] = [
 
 fn frame_of<A: Allocator + Copy>(input: &Input<A>) -> Option<Sent> {
     match input {
-        Input::Frame(Frame::Commit(token)) if token.ring.seq == 1 => Some(Sent::Commit(token.hop)),
+        Input::Frame(Frame::Commit(boxed)) if boxed.token().ring.seq == 1 => {
+            Some(Sent::Commit(boxed.token().hop))
+        }
         Input::Frame(Frame::Token(token)) if token.ring.seq == 1 => {
             Some(Sent::Token(token.number, token.seq, token.aru))
         }

@@ -1,5 +1,5 @@
--- Calls, and how they are spelled: the client, the number, the operation.
-use Rattle.std.proofs.Common.{◌≡◌, ℕ, ◌^◌, ◌<◌, ◌≤◌, List, length, Option, Result, Ok, Err, refl}
+-- Calls, and how they are spelled: the client, the number, the operation. Payloads, docs/FORMATS.md.
+use Rattle.std.proofs.Common.{◌≡◌, ℕ, ◌+◌, ◌^◌, ◌<◌, ◌≤◌, List, length, Option, Result, Ok, Err, refl}
 use Rattle.std.specs.Prelude.{nat_le}
 use Rattle.std.proofs.lemmas.Bool.{leb-true, le-leb}
 use Rattle.byteorder.specs.Endian.{big_bytes}
@@ -8,7 +8,8 @@ use Rattle.ring_base.specs.declared.fault.Fault.TheVariants.{Memory, OpTooLong, 
 use Rattle.ring_layout.specs.Reading.{IsFormat, made_at, ◌⊕◌}
 use Rattle.ring_layout.specs.Formats.{Format, word4, word8, ◌&◌, such, told_format}
 use Rattle.ring_payload.specs.declared.call.Call.{Call}
-use Rattle.ring_payload.specs.Operations.{most_operation, op, op_spelling, OpFits}
+use Rattle.ring_payload.specs.Limits.{most_operation}
+use Rattle.ring_payload.specs.Operations.{op, op_spelling, OpFits}
 
 -- the call of this client and number with this operation
 abbrev pub call_of : {A : Type 0} → ℕ → ℕ → List ℕ → Call A
@@ -21,6 +22,10 @@ IsNewCall client number bytes (Err OpTooLong) = most_operation < length bytes
 IsNewCall client number bytes (Err NumberGap) = (length bytes ≤ most_operation) × (number ≡ 0)
 IsNewCall client number bytes (Err Memory) = (length bytes ≤ most_operation) × (1 ≤ number)
 IsNewCall client number bytes (Err _) = ⊥
+
+-- how many bytes a call takes: its client, its number, its operation's length and its operation
+abbrev pub call_bytes : {A : Type 0} → Call A → ℕ
+call_bytes c = 14 + length c.op
 
 abbrev pub call_spelling : {A : Type 0} → Call A → List ℕ
 call_spelling c = big_bytes 4 c.client ⊕ big_bytes 8 c.number ⊕ op_spelling c.op

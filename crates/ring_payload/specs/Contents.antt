@@ -1,37 +1,41 @@
--- How messages of an old ring are spelled, and what they may carry: a tag, and what it stands for.
-use Rattle.std.proofs.Common.{◌≡◌, ℕ, ◌≤◌, Bool, List, ◌∷◌, Option, None, refl, sym, arith}
-use Rattle.std.specs.Prelude.{nat_le, ◌&&◌, ◌==◌, if◌then◌else◌}
-use Rattle.std.proofs.lemmas.Bool.{leb-true, le-leb, and_parts}
+-- How messages of an old ring are spelled, and what they may carry: a tag, and what it stands for. Payloads, docs/FORMATS.md.
+use Rattle.std.proofs.Common.{◌≡◌, ℕ, ◌≤◌, Bool, List, [], ◌∷◌, Option, refl, arith, inl, inr}
+use Rattle.std.specs.Prelude.{nat_le, ◌&&◌, ◌==◌}
+use Rattle.std.proofs.lemmas.Bool.{leb-true, le-leb, eqb-true, and_parts, cases_Bool}
 use Rattle.byteorder.specs.Endian.{big_bytes}
 use Rattle.ring_base.specs.Numbers.{max_number}
 use Rattle.ring_base.specs.Processors.{IsProc}
 use Rattle.ring_base.specs.declared.ring_id.RingId.{RingId}
-use Rattle.ring_layout.specs.Reading.{IsFormat, such_at, made_at, tagged_at, ◌⊕◌}
-use Rattle.ring_layout.specs.ReadingLaws.{tagged_format, nothing_format}
-use Rattle.ring_layout.specs.Formats.{Format, word8, ◌&◌, case_format, tested_format}
+use Rattle.ring_layout.specs.Reading.{IsFormat, such_at, made_at, ◌⊕◌}
+use Rattle.ring_layout.specs.Formats.{Format, word8, ◌&◌, tested_format}
+use Rattle.ring_layout.specs.Cases.{Case, case, told_at, IsMade, cases_format}
 use Rattle.ring_layout.specs.Processors.{proc, proc_spelling}
 use Rattle.ring_layout.specs.Rings.{ring, ring_spelling, RingFits}
-use Rattle.ring_payload.specs.declared.call.Call.{Call}
-use Rattle.ring_payload.specs.declared.calls.Part.{Part}
-use Rattle.ring_payload.specs.declared.head.Head.{Head}
 use Rattle.ring_payload.specs.declared.content.Content.{Content}
 use Rattle.ring_payload.specs.declared.content.Content.TheVariants as contents
 use Rattle.ring_payload.specs.declared.content.Wrapped.{Wrapped}
+use Rattle.ring_payload.specs.Limits.{call_tag, head_tag, part_tag, pack_tag, trimmed_tag, snap_tag}
 use Rattle.ring_payload.specs.Calls.{call, call_spelling, CallFits}
-use Rattle.ring_payload.specs.Heads.{head, head_spelling, HeadFits}
+use Rattle.ring_payload.specs.Heads.{whole_head, trimmed_head, tag_of_head, head_body, HeadFits, is_whole, is_trimmed, positive}
+use Rattle.ring_payload.specs.Packs.{pack, pack_spelling, PackFits}
 use Rattle.ring_payload.specs.Parts.{part, part_spelling, PartFits}
+use Rattle.ring_payload.specs.Snaps.{snap, snap_spelling, SnapFits}
 
--- ---- what may be sent once more: a call, a head or a part
+-- ---- what may be sent once more: calls, alone or packed, heads, parts and pieces of snapshots
 
 abbrev pub content_tag : {A : Type 0} → Content A → ℕ
-content_tag (contents.Call x) = 1
-content_tag (contents.Head x) = 4
-content_tag (contents.Part x) = 5
+content_tag (contents.Call x) = call_tag
+content_tag (contents.Head x) = tag_of_head x
+content_tag (contents.Part x) = part_tag
+content_tag (contents.Pack x) = pack_tag
+content_tag (contents.Snap x) = snap_tag
 
 abbrev pub content_body : {A : Type 0} → Content A → List ℕ
 content_body (contents.Call x) = call_spelling x
-content_body (contents.Head x) = head_spelling x
+content_body (contents.Head x) = head_body x
 content_body (contents.Part x) = part_spelling x
+content_body (contents.Pack x) = pack_spelling x
+content_body (contents.Snap x) = snap_spelling x
 
 abbrev pub content_spelling : {A : Type 0} → Content A → List ℕ
 content_spelling c = content_tag c ∷ content_body c
@@ -40,51 +44,44 @@ abbrev pub ContentFits : {A : Type 0} → Content A → Type 0
 ContentFits (contents.Call x) = CallFits x
 ContentFits (contents.Head x) = HeadFits x
 ContentFits (contents.Part x) = PartFits x
+ContentFits (contents.Pack x) = PackFits x
+ContentFits (contents.Snap x) = SnapFits x
 
--- what is read after the tag b, from the tag 5 on, from the tag 4 on, from the first on
-abbrev by_part : {A : Type 0} → ℕ → List ℕ → Option (Content A × List ℕ)
-by_part {A} b bytes = if b == 5 then made_at contents.Part (part {A = A}).at bytes else None
-
-abbrev by_head : {A : Type 0} → ℕ → List ℕ → Option (Content A × List ℕ)
-by_head b bytes = if b == 4 then made_at contents.Head head.at bytes else by_part b bytes
-
-abbrev content_by : {A : Type 0} → ℕ → List ℕ → Option (Content A × List ℕ)
-content_by {A} b bytes = if b == 1 then made_at contents.Call (call {A = A}).at bytes else by_head b bytes
+abbrev content_cases : {A : Type 0} → List (Case (Content A))
+content_cases =
+    case call_tag call contents.Call ∷
+    case head_tag whole_head contents.Head ∷
+    case part_tag part contents.Part ∷
+    case pack_tag pack contents.Pack ∷
+    case trimmed_tag trimmed_head contents.Head ∷
+    case snap_tag snap contents.Snap ∷ []
 
 unfoldable pub content_at : {A : Type 0} → List ℕ → Option (Content A × List ℕ)
-content_at bytes = tagged_at content_by bytes
+content_at bytes = told_at content_cases bytes
 
-is_call : {A : Type 0} (c : Content A) → ContentFits c → content_tag c ≡ 1 → (x : Call A) × CallFits x × (contents.Call x ≡ c)
-is_call (contents.Call x) f e = (x, f, refl)
-is_call _ f e = absurd (omega (arith, e))
-
-is_head : {A : Type 0} (c : Content A) → ContentFits c → content_tag c ≡ 4 → (x : Head) × HeadFits x × (contents.Head x ≡ c)
-is_head (contents.Head x) f e = (x, f, refl)
-is_head _ f e = absurd (omega (arith, e))
-
-is_part : {A : Type 0} (c : Content A) → ContentFits c → content_tag c ≡ 5 → (x : Part A) × PartFits x × (contents.Part x ≡ c)
-is_part (contents.Part x) f e = (x, f, refl)
-is_part _ f e = absurd (omega (arith, e))
-
-no_other : {A : Type 0} (b : ℕ) (c : Content A) → (b ≡ 1 → ⊥) → (b ≡ 4 → ⊥) → (b ≡ 5 → ⊥) → content_tag c ≡ b → ⊥
-no_other b (contents.Call x) no_call no_head no_part e = no_call (sym e)
-no_other b (contents.Head x) no_call no_head no_part e = no_head (sym e)
-no_other b (contents.Part x) no_call no_head no_part e = no_part (sym e)
-
--- a content of the tag b
-abbrev Of : {A : Type 0} → ℕ → Content A → Type 0
-Of b c = ContentFits c × (content_tag c ≡ b)
-
-content_by_format : {A : Type 0} (b : ℕ) → IsFormat content_body (Of {A = A} b) (content_by b)
-content_by_format {A} b =
-    case_format content_tag content_body ContentFits 1 call contents.Call (by_head b) b (λ x f. (refl, f, refl)) is_call
-    (λ no_call. case_format content_tag content_body ContentFits 4 head contents.Head (by_part b) b (λ x f. (refl, f, refl)) is_head
-    (λ no_head. case_format content_tag content_body ContentFits 5 part contents.Part (λ bytes. None) b (λ x f. (refl, f, refl)) is_part
-    (λ no_part. nothing_format content_body (Of {A = A} b) (λ c f. no_other b c no_call no_head no_part f.1))))
+content_made : {A : Type 0} (c : Content A) → ContentFits c → IsMade content_cases (content_tag c) c
+content_made (contents.Call x) f = (x, f, refl)
+content_made (contents.Head x) f = elim (cases_Bool (x.trimmed == 0)) [
+  | inl e ↦ rw e (x, (f, eqb-true _ _ e), refl)
+  | inr e ↦ rw e (x, (f, positive x.trimmed e), refl)
+]
+content_made (contents.Part x) f = (x, f, refl)
+content_made (contents.Pack x) f = (x, f, refl)
+content_made (contents.Snap x) f = (x, f, refl)
 
 pub content_format : {A : Type 0} → IsFormat {A = Content A} content_spelling ContentFits content_at
 unfolding content_at
-content_format = tagged_format content_tag content_body ContentFits content_by content_by_format
+content_format {A} = cases_format (content_cases {A = A}) content_tag content_body ContentFits (record {
+  each =
+      (
+        λ x f. (refl, (refl, f)),
+        (
+          λ h f. let t = is_whole h f.1 in (t.0, (t.1, f.0)),
+          (λ x f. (refl, (refl, f)), (λ x f. (refl, (refl, f)), (λ h f. let t = is_trimmed h f.1 in (t.0, (t.1, f.0)), (λ x f. (refl, (refl, f)), tt)))),
+        ),
+      );
+  made = content_made;
+})
 
 abbrev pub content : {A : Type 0} → Format (Content A)
 content = record { spelling = content_spelling; Fits = ContentFits; at = content_at; exact = content_format }

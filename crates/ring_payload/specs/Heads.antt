@@ -1,27 +1,40 @@
--- How heads of logs are spelled: the last primary, the length, the committed length.
-use Rattle.std.proofs.Common.{◌≡◌, ℕ, ◌≤◌, Bool, true, List, Option, Some, None, refl, arith, eq-eqb}
-use Rattle.std.specs.Prelude.{nat_le, ◌&&◌, ◌||◌, ◌==◌, is_some}
-use Rattle.std.proofs.lemmas.Bool.{leb-true, le-leb, eqb-true, and_parts}
+-- How heads of logs are spelled: a tag, the last primary or none, the length, the committed length and, where it isn't 0, the trimmed length. Payloads, docs/FORMATS.md.
+use Rattle.std.proofs.Common.{◌≡◌, ℕ, ◌≤◌, Bool, true, false, List, [], ◌∷◌, Option, Some, None, refl, arith, inl, inr, eq-eqb}
+use Rattle.std.specs.Prelude.{nat_le, ◌&&◌, ◌||◌, ◌==◌, is_some, if◌then◌else◌}
+use Rattle.std.proofs.lemmas.Bool.{leb-true, le-leb, eqb-true, eqb-false, and_parts, cases_Bool}
 use Rattle.byteorder.specs.Endian.{big_bytes}
 use Rattle.ring_base.specs.Numbers.{max_number}
 use Rattle.ring_base.specs.declared.ring_id.RingId.{RingId}
 use Rattle.ring_layout.specs.Reading.{IsFormat, such_at, made_at, ◌⊕◌}
-use Rattle.ring_layout.specs.Formats.{Format, word8, ◌&◌, tested_format}
+use Rattle.ring_layout.specs.Formats.{Format, word8, ◌&◌, such, tested_format}
+use Rattle.ring_layout.specs.Cases.{Case, case, told_at, IsMade, cases_format}
 use Rattle.ring_layout.specs.Rings.{some_ring, some_ring_spelling, SomeRingFits}
 use Rattle.ring_payload.specs.declared.head.Head.{Head}
+use Rattle.ring_payload.specs.Limits.{head_tag, trimmed_tag}
+
+-- the trimmed length has a tag of its own, and is left out where it is 0
+abbrev pub tag_of_head : Head → ℕ
+tag_of_head h = if h.trimmed == 0 then head_tag else trimmed_tag
+
+abbrev pub trimmed_spelling : ℕ → List ℕ
+trimmed_spelling n = if n == 0 then [] else big_bytes 8 n
+
+abbrev pub head_body : Head → List ℕ
+head_body h = some_ring_spelling h.last ⊕ big_bytes 8 h.length ⊕ big_bytes 8 h.committed ⊕ trimmed_spelling h.trimmed
 
 abbrev pub head_spelling : Head → List ℕ
-head_spelling h = some_ring_spelling h.last ⊕ big_bytes 8 h.length ⊕ big_bytes 8 h.committed
+head_spelling h = tag_of_head h ∷ head_body h
 
 pub record HeadFits (h : Head) : Type 0 where
   pub last : SomeRingFits h.last
   pub length : h.length ≤ max_number
   pub committed : h.committed ≤ h.length
+  pub trimmed : h.trimmed ≤ h.committed
   pub empty : h.last ≡ None → h.length ≡ 0
 
 -- the limits that join the fields
 abbrev pub head_test : Head → Bool
-head_test h = nat_le h.committed h.length && (nat_le h.length max_number && (is_some h.last || (h.length == 0)))
+head_test h = nat_le h.trimmed h.committed && (nat_le h.committed h.length && (nat_le h.length max_number && (is_some h.last || (h.length == 0))))
 
 either : (o : Option RingId) (n : ℕ) → (is_some o || (n == 0)) ≡ true → o ≡ None → n ≡ 0
 either (Some r) n h e = absurd cc
@@ -31,26 +44,111 @@ or_either : (o : Option RingId) (n : ℕ) → (o ≡ None → n ≡ 0) → (is_s
 or_either (Some r) n h = refl
 or_either None n h = eq-eqb n 0 (h refl)
 
-abbrev head_fields : Format (Option RingId × (ℕ × ℕ))
-head_fields = some_ring & word8 & word8
+tested : (h : Head) → SomeRingFits h.last → head_test h ≡ true → HeadFits h
+tested h last passed =
+    let a = and_parts _ _ passed in
+    let b = and_parts _ _ a.1 in
+    let c = and_parts _ _ b.1 in
+    record { last = last; length = leb-true _ _ c.0; committed = leb-true _ _ b.0; trimmed = leb-true _ _ a.0; empty = either h.last h.length c.1 }
 
-abbrev told : Option RingId × (ℕ × ℕ) → Head
-told p = record { last = p.0; length = p.1.0; committed = p.1.1 }
+passes : (h : Head) → HeadFits h → head_test h ≡ true
+passes h f = rw (le-leb _ _ f.trimmed, le-leb _ _ f.committed, le-leb _ _ f.length, or_either h.last h.length f.empty) refl
+
+-- ---- a head of a log that is whole
+
+abbrev whole_fields : Format (Option RingId × (ℕ × ℕ))
+whole_fields = some_ring & word8 & word8
+
+abbrev whole : Option RingId × (ℕ × ℕ) → Head
+whole p = record { last = p.0; length = p.1.0; committed = p.1.1; trimmed = 0 }
+
+abbrev whole_spelling : Head → List ℕ
+whole_spelling h = some_ring_spelling h.last ⊕ big_bytes 8 h.length ⊕ big_bytes 8 h.committed
+
+abbrev WholeFits : Head → Type 0
+WholeFits h = HeadFits h × (h.trimmed ≡ 0)
+
+unfoldable pub whole_at : List ℕ → Option (Head × List ℕ)
+whole_at bytes = such_at head_test (made_at whole whole_fields.at) bytes
+
+pub whole_format : IsFormat whole_spelling WholeFits whole_at
+unfolding whole_at
+whole_format = tested_format whole_fields whole head_test whole_spelling WholeFits (record {
+  spelled = λ p. refl;
+  fits = λ p f passed. (tested (whole p) f.0 passed, refl);
+  back = λ h f. ((h.last, (h.length, h.committed)), (f.0.last, (omega (arith, f.0.length), omega (arith, f.0.length, f.0.committed))), rw f.1 refl);
+  passes = λ h f. passes h f.0;
+})
+
+abbrev pub whole_head : Format Head
+whole_head = record { spelling = whole_spelling; Fits = WholeFits; at = whole_at; exact = whole_format }
+
+-- ---- a head of a log that is trimmed
+
+abbrev trimmed_fields : Format (Option RingId × (ℕ × (ℕ × ℕ)))
+trimmed_fields = some_ring & word8 & word8 & word8
+
+abbrev told : Option RingId × (ℕ × (ℕ × ℕ)) → Head
+told p = record { last = p.0; length = p.1.0; committed = p.1.1.0; trimmed = p.1.1.1 }
+
+abbrev all_spelling : Head → List ℕ
+all_spelling h = some_ring_spelling h.last ⊕ big_bytes 8 h.length ⊕ big_bytes 8 h.committed ⊕ big_bytes 8 h.trimmed
+
+abbrev TrimmedFits : Head → Type 0
+TrimmedFits h = HeadFits h × (1 ≤ h.trimmed)
+
+abbrev pub trimmed_test : Head → Bool
+trimmed_test h = nat_le 1 h.trimmed && head_test h
+
+unfoldable pub trimmed_at : List ℕ → Option (Head × List ℕ)
+trimmed_at bytes = such_at trimmed_test (made_at told trimmed_fields.at) bytes
+
+pub trimmed_format : IsFormat all_spelling TrimmedFits trimmed_at
+unfolding trimmed_at
+trimmed_format = tested_format trimmed_fields told trimmed_test all_spelling TrimmedFits (record {
+  spelled = λ p. refl;
+  fits = λ p f passed. let a = and_parts _ _ passed in (tested (told p) f.0 a.1, leb-true _ _ a.0);
+  back = λ h f.
+      (
+        (h.last, (h.length, (h.committed, h.trimmed))),
+        (f.0.last, (omega (arith, f.0.length), (omega (arith, f.0.length, f.0.committed), omega (arith, f.0.length, f.0.committed, f.0.trimmed)))),
+        refl,
+      );
+  passes = λ h f. rw (le-leb _ _ f.1, passes h f.0) refl;
+})
+
+abbrev pub trimmed_head : Format Head
+trimmed_head = record { spelling = all_spelling; Fits = TrimmedFits; at = trimmed_at; exact = trimmed_format }
+
+-- ---- both
+
+-- what a head comes to where nothing is trimmed, and where something is
+pub is_whole : (h : Head) → h.trimmed ≡ 0 → (tag_of_head h ≡ head_tag) × (head_body h ≡ whole_spelling h)
+is_whole h e = rw e (refl, refl)
+
+pub positive : (n : ℕ) → (n == 0) ≡ false → 1 ≤ n
+positive n e = let not_none = eqb-false n 0 e in omega (arith, not_none)
+
+pub is_trimmed : (h : Head) → 1 ≤ h.trimmed → (tag_of_head h ≡ trimmed_tag) × (head_body h ≡ all_spelling h)
+is_trimmed h some =
+    let e : (h.trimmed == 0) ≡ false = elim (cases_Bool (h.trimmed == 0)) [ inl e ↦ absurd (omega (arith, eqb-true _ _ e, some)) | inr e ↦ e ] in
+    rw e (refl, refl)
+
+abbrev head_cases : List (Case Head)
+head_cases = case head_tag whole_head (λ h. h) ∷ case trimmed_tag trimmed_head (λ h. h) ∷ []
 
 unfoldable pub head_at : List ℕ → Option (Head × List ℕ)
-head_at bytes = such_at head_test (made_at told head_fields.at) bytes
+head_at bytes = told_at head_cases bytes
+
+head_made : (h : Head) → HeadFits h → IsMade head_cases (tag_of_head h) h
+head_made h f = elim (cases_Bool (h.trimmed == 0)) [
+  | inl e ↦ let none = eqb-true _ _ e in rw e (h, (f, none), refl)
+  | inr e ↦ rw e (h, (f, positive h.trimmed e), refl)
+]
 
 pub head_format : IsFormat head_spelling HeadFits head_at
 unfolding head_at
-head_format = tested_format head_fields told head_test head_spelling HeadFits (record {
-  spelled = λ p. refl;
-  fits = λ p f passed.
-      let a = and_parts _ _ passed in
-      let b = and_parts _ _ a.1 in
-      record { last = f.0; length = leb-true _ _ b.0; committed = leb-true _ _ a.0; empty = either p.0 p.1.0 b.1 };
-  back = λ h f. ((h.last, (h.length, h.committed)), (f.last, (omega (arith, f.length), omega (arith, f.length, f.committed))), refl);
-  passes = λ h f. rw (le-leb _ _ f.committed, le-leb _ _ f.length, or_either h.last h.length f.empty) refl;
+head_format = cases_format head_cases tag_of_head head_body HeadFits (record {
+  each = (λ h f. let t = is_whole h f.1 in (t.0, (t.1, f.0)), (λ h f. let t = is_trimmed h f.1 in (t.0, (t.1, f.0)), tt));
+  made = head_made;
 })
-
-abbrev pub head : Format Head
-head = record { spelling = head_spelling; Fits = HeadFits; at = head_at; exact = head_format }

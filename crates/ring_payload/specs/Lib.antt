@@ -1,7 +1,11 @@
 pub mod Calls
 pub mod Contents
 pub mod Heads
-pub mod Operations
-pub mod Parts
 pub mod Kinds
+pub mod Limits
+pub mod Operations
+pub mod Packs
+pub mod Parts
 pub mod Payloads
+pub mod Snaps
+pub mod Versions

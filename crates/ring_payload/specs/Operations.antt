@@ -1,14 +1,11 @@
--- How operations are spelled: the length, and the bytes.
+-- How operations are spelled: the length, and the bytes. Payloads, docs/FORMATS.md.
 use Rattle.std.proofs.Common.{ℕ, ◌≤◌, List, length, Option, refl, arith}
 use Rattle.std.specs.Prelude.{nat_le}
 use Rattle.std.proofs.lemmas.Bool.{leb-true, le-leb}
 use Rattle.byteorder.specs.Endian.{big_bytes}
 use Rattle.ring_layout.specs.Reading.{IsFormat, made_at, ◌⊕◌}
 use Rattle.ring_layout.specs.Formats.{Format, word2, text, followed, such, told_format}
-
--- an operation has at most so many bytes
-abbrev pub most_operation : ℕ
-most_operation = 1024
+use Rattle.ring_payload.specs.Limits.{most_operation}
 
 abbrev pub op_spelling : List ℕ → List ℕ
 op_spelling o = big_bytes 2 (length o) ⊕ o

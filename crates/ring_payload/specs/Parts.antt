@@ -1,4 +1,4 @@
--- How parts of a log are spelled: the first place, the count, and the calls.
+-- How parts of a log are spelled: the first place, the count, and the calls. Payloads, docs/FORMATS.md.
 use Rattle.std.proofs.Common.{◌≡◌, ℕ, ◌*◌, ◌≤◌, Bool, true, List, [], ◌∷◌, length, Option, refl, arith, ap}
 use Rattle.std.specs.Prelude.{nat_le, ◌&&◌}
 use Rattle.std.specs.List.{flat_map, AllByRecursion}
@@ -13,6 +13,7 @@ use Rattle.ring_layout.specs.Formats.{Format, byte, followed, times, such, told_
 use Rattle.ring_layout.specs.Rings.{number}
 use Rattle.ring_payload.specs.declared.call.Call.{Call}
 use Rattle.ring_payload.specs.declared.calls.Part.{Part}
+use Rattle.ring_payload.specs.Limits.{most_part}
 use Rattle.ring_payload.specs.Calls.{call, call_spelling, CallFits}
 
 abbrev pub part_spelling : {A : Type 0} → Part A → List ℕ
@@ -21,14 +22,14 @@ part_spelling p = big_bytes 8 p.first ⊕ length p.calls ∷ flat_map call_spell
 pub record PartFits {A : Type 0} (p : Part A) : Type 0 where
   pub first : p.first ≤ max_number
   pub some : 1 ≤ length p.calls
-  pub few : length p.calls ≤ 7
+  pub few : length p.calls ≤ most_part
   pub each : AllByRecursion CallFits p.calls
 
 abbrev is_count : ℕ → Bool
-is_count n = nat_le 1 n && nat_le n 7
+is_count n = nat_le 1 n && nat_le n most_part
 
 abbrev IsCount : ℕ → Type 0
-IsCount n = (1 ≤ n) × (n ≤ 7)
+IsCount n = (1 ≤ n) × (n ≤ most_part)
 
 is_count-true : (n : ℕ) → is_count n ≡ true → IsCount n
 is_count-true n h = grind (arith, nat_tests)

@@ -18,7 +18,7 @@ pub struct Call<A: Allocator + Copy = Global> {
 }
 
 impl<A: Allocator + Copy> Call<A> {
-    ghost use Rattle.ring_payload.specs.Calls.{IsNewCall};
+    ghost use Rattle.ring_payload.specs.Calls.{call_bytes, IsNewCall};
 
     /// The call of an operation. Refused, in this order: `OpTooLong` over 1,024 bytes, `NumberGap` for
     /// number 0, `Memory`.
@@ -36,6 +36,13 @@ impl<A: Allocator + Copy> Call<A> {
             number,
             op: Operation::from_slice(alloc, op)?,
         })
+    }
+
+    /// How many bytes it takes.
+    pub fn bytes(&self) -> usize
+        ensures { result ≡ call_bytes self.now }
+    {
+        14 + self.op.as_slice().len()
     }
 }
 

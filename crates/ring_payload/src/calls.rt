@@ -1,7 +1,8 @@
-//! Several calls, and the parts of a log.
+//! Several calls, the parts of a log, and packed calls.
 
 ghost use Rattle.std.specs.Prelude.{◌≡◌, ℕ, ◌+◌, ◌^◌, ◌<◌, ◌≤◌, List, [], ◌∷◌, ◌++◌, length};
 ghost use Rattle.ring_layout.specs.Reading.{Appends, Gives};
+ghost use Rattle.ring_payload.specs.Packs.{is_short as is_short_pack};
 
 use crate::call::Call;
 use bytes::BytesMut;
@@ -101,6 +102,71 @@ impl<A: Allocator + Copy> Decode<A> for Part<A> {
         let calls = read_many(alloc, count as usize, from)?;
         Ok(Part {
             first,
+            calls: Calls::from_vec(calls),
+        })
+    }
+}
+
+/// Calls that go out as one message: two to sixteen, at most 7,276 bytes as a whole payload.
+#[derive(Clone, Drop)]
+pub struct Pack<A: Allocator + Copy = Global> {
+    pub calls: Calls<A>,
+}
+
+/// A pack as a whole payload has at most so many bytes.
+pub const MOST_PACK_BYTES: usize = 7276;
+
+/// Whether the calls as a pack keep the limit of its bytes.
+fn is_short<A: Allocator + Copy>(calls: &[Call<A>]) -> bool
+    ensures { result ≡ is_short_pack calls.now }
+{
+    let mut left = MOST_PACK_BYTES - 2;
+    for call in calls {
+        let bytes = call.bytes();
+        if bytes > left {
+            return false;
+        }
+        left -= bytes;
+    }
+    true
+}
+
+impl<A: Allocator + Copy> Encode for Pack<A> {
+    ghost use Rattle.ring_payload.specs.Packs.{pack_spelling, PackFits, pack_at, pack_format};
+
+    ghost spelling = { pack_spelling };
+
+    ghost most = { 7275 };
+
+    ghost fits = { PackFits };
+
+    ghost at = { pack_at };
+
+    ghost format = { pack_format };
+
+    fn size(&self) -> usize {
+        1 + size_many(self.calls.as_slice())
+    }
+
+    fn write<B: Allocator + Copy>(&self, out: &mut BytesMut<B>) {
+        let calls = self.calls.as_slice();
+        (calls.len() as u8).write(out);
+        write_many(calls, out);
+    }
+}
+
+impl<A: Allocator + Copy> Decode<A> for Pack<A> {
+    #[tactic(auto, unfolding(crate::specs::Packs::pack_at))]
+    fn read(alloc: A, from: &mut Reader<'_>) -> Result<Pack<A>, Fault> {
+        let count: u8 = Decode::read(alloc, from)?;
+        if count < 2 || count > 16 {
+            return Err(Fault::BadFrame);
+        }
+        let calls = read_many(alloc, count as usize, from)?;
+        if !is_short(calls.as_slice()) {
+            return Err(Fault::BadFrame);
+        }
+        Ok(Pack {
             calls: Calls::from_vec(calls),
         })
     }

@@ -4,8 +4,11 @@ ghost use Rattle.std.specs.Prelude.{◌≡◌, ℕ, ◌+◌, ◌^◌, ◌<◌, �
 ghost use Rattle.ring_layout.specs.Reading.{Appends, Gives};
 
 use crate::call::Call;
-use crate::calls::Part;
+use crate::calls::{Pack, Part};
 use crate::head::Head;
+use crate::snap::Snap;
+use crate::tags;
+use crate::versions;
 use bytes::BytesMut;
 use ring_base::{Fault, MAX, Proc, RingId};
 use ring_layout::{Decode, Encode, Reader};
@@ -17,6 +20,8 @@ pub enum Content<A: Allocator + Copy = Global> {
     Call(Call<A>),
     Head(Head),
     Part(Part<A>),
+    Pack(Pack<A>),
+    Snap(Snap<A>),
 }
 
 /// A message of an old ring: its ring, its number and its sender there, and what it carried.
@@ -37,6 +42,8 @@ pub enum Payload<A: Allocator + Copy = Global> {
     End,
     Head(Head),
     Part(Part<A>),
+    Pack(Pack<A>),
+    Snap(Snap<A>),
 }
 
 impl<A: Allocator + Copy> Encode for Content<A> {
@@ -55,24 +62,31 @@ impl<A: Allocator + Copy> Encode for Content<A> {
     fn size(&self) -> usize {
         match self {
             Content::Call(call) => 1 + call.size(),
-            Content::Head(head) => 1 + head.size(),
+            Content::Head(head) => head.size(),
             Content::Part(part) => 1 + part.size(),
+            Content::Pack(pack) => 1 + pack.size(),
+            Content::Snap(snap) => 1 + snap.size(),
         }
     }
 
     fn write<B: Allocator + Copy>(&self, out: &mut BytesMut<B>) {
         match self {
             Content::Call(call) => {
-                1u8.write(out);
+                tags::CALL.write(out);
                 call.write(out);
             }
-            Content::Head(head) => {
-                4u8.write(out);
-                head.write(out);
-            }
+            Content::Head(head) => head.write(out),
             Content::Part(part) => {
-                5u8.write(out);
+                tags::PART.write(out);
                 part.write(out);
+            }
+            Content::Pack(pack) => {
+                tags::PACK.write(out);
+                pack.write(out);
+            }
+            Content::Snap(snap) => {
+                tags::SNAP.write(out);
+                snap.write(out);
             }
         }
     }
@@ -83,10 +97,47 @@ impl<A: Allocator + Copy> Decode<A> for Content<A> {
     fn read(alloc: A, from: &mut Reader<'_>) -> Result<Content<A>, Fault> {
         let tag: u8 = Decode::read(alloc, from)?;
         match tag {
-            1 => Ok(Content::Call(Decode::read(alloc, from)?)),
-            4 => Ok(Content::Head(Decode::read(alloc, from)?)),
-            5 => Ok(Content::Part(Decode::read(alloc, from)?)),
+            tags::CALL => Ok(Content::Call(Decode::read(alloc, from)?)),
+            tags::HEAD => Ok(Content::Head(Head::read_whole(alloc, from)?)),
+            tags::PART => Ok(Content::Part(Decode::read(alloc, from)?)),
+            tags::PACK => Ok(Content::Pack(Decode::read(alloc, from)?)),
+            tags::TRIMMED_HEAD => Ok(Content::Head(Head::read_trimmed(alloc, from)?)),
+            tags::SNAP => Ok(Content::Snap(Decode::read(alloc, from)?)),
             _ => Err(Fault::BadFrame),
+        }
+    }
+}
+
+impl<A: Allocator + Copy> Content<A> {
+    ghost use Rattle.ring_payload.specs.Versions.{content_version};
+
+    /// The version of a frame that carries it wrapped.
+    fn version(&self) -> u8
+        ensures { result ≡ content_version self.now }
+    {
+        match self {
+            Content::Call(_) | Content::Part(_) => versions::FIRST,
+            Content::Head(head) => head.version(),
+            Content::Pack(_) => versions::PACK,
+            Content::Snap(_) => versions::TRIM,
+        }
+    }
+}
+
+impl<A: Allocator + Copy> Payload<A> {
+    ghost use Rattle.ring_payload.specs.Versions.{payload_version};
+
+    /// The version of a frame that carries it: 2 where calls are packed, 3 where a log is trimmed, else 1. A message
+    /// of an old ring has the version of what it carries.
+    pub fn version(&self) -> u8
+        ensures { result ≡ payload_version self.now }
+    {
+        match self {
+            Payload::Call(_) | Payload::End | Payload::Part(_) => versions::FIRST,
+            Payload::Wrapped(wrapped) => wrapped.payload.version(),
+            Payload::Head(head) => head.version(),
+            Payload::Pack(_) => versions::PACK,
+            Payload::Snap(_) => versions::TRIM,
         }
     }
 }
@@ -161,29 +212,36 @@ impl<A: Allocator + Copy> Encode for Payload<A> {
             Payload::Call(call) => 1 + call.size(),
             Payload::Wrapped(wrapped) => 1 + wrapped.size(),
             Payload::End => 1,
-            Payload::Head(head) => 1 + head.size(),
+            Payload::Head(head) => head.size(),
             Payload::Part(part) => 1 + part.size(),
+            Payload::Pack(pack) => 1 + pack.size(),
+            Payload::Snap(snap) => 1 + snap.size(),
         }
     }
 
     fn write<B: Allocator + Copy>(&self, out: &mut BytesMut<B>) {
         match self {
             Payload::Call(call) => {
-                1u8.write(out);
+                tags::CALL.write(out);
                 call.write(out);
             }
             Payload::Wrapped(wrapped) => {
-                2u8.write(out);
+                tags::WRAPPED.write(out);
                 wrapped.write(out);
             }
-            Payload::End => 3u8.write(out),
-            Payload::Head(head) => {
-                4u8.write(out);
-                head.write(out);
-            }
+            Payload::End => tags::END.write(out),
+            Payload::Head(head) => head.write(out),
             Payload::Part(part) => {
-                5u8.write(out);
+                tags::PART.write(out);
                 part.write(out);
+            }
+            Payload::Pack(pack) => {
+                tags::PACK.write(out);
+                pack.write(out);
+            }
+            Payload::Snap(snap) => {
+                tags::SNAP.write(out);
+                snap.write(out);
             }
         }
     }
@@ -194,11 +252,14 @@ impl<A: Allocator + Copy> Decode<A> for Payload<A> {
     fn read(alloc: A, from: &mut Reader<'_>) -> Result<Payload<A>, Fault> {
         let tag: u8 = Decode::read(alloc, from)?;
         match tag {
-            1 => Ok(Payload::Call(Decode::read(alloc, from)?)),
-            2 => Ok(Payload::Wrapped(Decode::read(alloc, from)?)),
-            3 => Ok(Payload::End),
-            4 => Ok(Payload::Head(Decode::read(alloc, from)?)),
-            5 => Ok(Payload::Part(Decode::read(alloc, from)?)),
+            tags::CALL => Ok(Payload::Call(Decode::read(alloc, from)?)),
+            tags::WRAPPED => Ok(Payload::Wrapped(Decode::read(alloc, from)?)),
+            tags::END => Ok(Payload::End),
+            tags::HEAD => Ok(Payload::Head(Head::read_whole(alloc, from)?)),
+            tags::PART => Ok(Payload::Part(Decode::read(alloc, from)?)),
+            tags::PACK => Ok(Payload::Pack(Decode::read(alloc, from)?)),
+            tags::TRIMMED_HEAD => Ok(Payload::Head(Head::read_trimmed(alloc, from)?)),
+            tags::SNAP => Ok(Payload::Snap(Decode::read(alloc, from)?)),
             _ => Err(Fault::BadFrame),
         }
     }

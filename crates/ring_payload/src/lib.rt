@@ -1,4 +1,5 @@
-//! What messages carry: calls, the heads and parts of logs, and what is sent once more on a later ring.
+//! What messages carry: calls, alone or packed, the heads and parts of logs, snapshots in pieces, and what is sent once
+//! more on a later ring.
 //! A type has a public field for each entry of its layout, counts and lengths apart.
 #![tactic(auto)]
 
@@ -7,9 +8,16 @@ mod calls;
 mod content;
 mod head;
 mod operation;
+mod piece;
+mod same;
+mod snap;
+mod tags;
+mod versions;
 
 pub use call::Call;
-pub use calls::{Calls, Part};
+pub use calls::{Calls, MOST_PACK_BYTES, Pack, Part};
 pub use content::{Content, Payload, Wrapped};
 pub use head::Head;
 pub use operation::{MOST_OPERATION, Operation};
+pub use piece::Piece;
+pub use snap::{MOST_SNAPSHOT, Snap, WHOLE_PIECE};

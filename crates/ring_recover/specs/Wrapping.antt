@@ -5,13 +5,12 @@ use Rattle.ring_base.specs.Rings.{same_ring}
 use Rattle.ring_base.specs.Numbers.{numbers_from}
 use Rattle.ring_base.specs.declared.ring_id.RingId.{RingId}
 use Rattle.ring_payload.specs.declared.content.Content.{Content}
-use Rattle.ring_payload.specs.declared.content.Content.TheVariants.{Call as CallContent, Head as HeadContent, Part as PartContent}
 use Rattle.ring_payload.specs.declared.content.Payload.{Payload}
-use Rattle.ring_payload.specs.declared.content.Payload.TheVariants.{Call, Wrapped, End, Head, Part}
+use Rattle.ring_payload.specs.declared.content.Payload.TheVariants.{Call, Wrapped, End, Head, Part, Pack, Snap}
 use Rattle.ring_payload.specs.declared.content.Wrapped.{Wrapped as WrappedMessage}
 use Rattle.ring_wire.specs.declared.message.Message.{Message}
 use Rattle.ring_window.specs.Held.{found, of_ring, highest, is_new}
-use Rattle.ring_payload.specs.Kinds.{is_end, payload_of}
+use Rattle.ring_payload.specs.Kinds.{is_end, payload_of, content_of}
 use Rattle.ring_recover.specs.Plans.{Plan, low}
 
 -- the payload wraps this number of the old ring
@@ -21,25 +20,21 @@ is_wrap_of old n (Call call) = false
 is_wrap_of old n End = false
 is_wrap_of old n (Head head) = false
 is_wrap_of old n (Part part) = false
+is_wrap_of old n (Pack pack) = false
+is_wrap_of old n (Snap snap) = false
 
 -- among the new ring's messages one wraps this number
 abbrev pub is_wrapped : {A : Type 0} → List (Message A) → RingId → ℕ → Bool
 is_wrapped fresh old n = list_any (λ (x : Message _). is_wrap_of old n x.payload) fresh
 
 -- a users' message of the old ring as a payload of the new one
-abbrev pub wrap_content : {A : Type 0} → Message A → Content A → Option (Payload A)
-wrap_content x content = Some (Wrapped (record { ring = x.ring; number = x.number; sender = x.sender; payload = content }))
-
-abbrev pub wrap_payload : {A : Type 0} → Message A → Payload A → Option (Payload A)
-wrap_payload x (Call call) = wrap_content x (CallContent call)
-wrap_payload x (Head head) = wrap_content x (HeadContent head)
-wrap_payload x (Part part) = wrap_content x (PartContent part)
-wrap_payload x (Wrapped w) = None
-wrap_payload x End = None
+abbrev pub wrap_content : {A : Type 0} → Message A → Option (Content A) → Option (Payload A)
+wrap_content x None = None
+wrap_content x (Some content) = Some (Wrapped (record { ring = x.ring; number = x.number; sender = x.sender; payload = content }))
 
 -- a message is handed on where it is a user's
 abbrev pub wrap : {A : Type 0} → Message A → Option (Payload A)
-wrap x = wrap_payload x x.payload
+wrap x = wrap_content x (content_of x.payload)
 
 -- the old ring's messages above the least front, ascending
 abbrev pub above_low : {A : Type 0} → Plan → List (Message A) → List (Message A)
@@ -70,3 +65,5 @@ unwrapped old mark held (Call call) = []
 unwrapped old mark held End = []
 unwrapped old mark held (Head head) = []
 unwrapped old mark held (Part part) = []
+unwrapped old mark held (Pack pack) = []
+unwrapped old mark held (Snap snap) = []

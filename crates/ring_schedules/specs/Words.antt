@@ -30,7 +30,7 @@ call_content client number = CallContent (call_of client number)
 
 -- the head of a log with no place
 abbrev pub empty_head : Head
-empty_head = record { last = None; length = 0; committed = 0 }
+empty_head = record { last = None; length = 0; committed = 0; trimmed = 0 }
 
 abbrev pub head : Payload Global
 head = HeadPayload empty_head

@@ -4,9 +4,9 @@ use Rattle.std.specs.List.{list_all}
 use Rattle.ring_base.specs.Processors.{within, everybody}
 use Rattle.ring_base.specs.declared.ring_id.RingId.{RingId}
 use Rattle.ring_payload.specs.declared.content.Content.{Content}
-use Rattle.ring_payload.specs.declared.content.Content.TheVariants.{Call as CallContent, Head as HeadContent, Part as PartContent}
+use Rattle.ring_payload.specs.declared.content.Content.TheVariants.{Call as CallContent, Head as HeadContent, Part as PartContent, Pack as PackContent, Snap as SnapContent}
 use Rattle.ring_payload.specs.declared.content.Payload.{Payload}
-use Rattle.ring_payload.specs.declared.content.Payload.TheVariants.{Call, Wrapped, End, Head, Part}
+use Rattle.ring_payload.specs.declared.content.Payload.TheVariants.{Call, Wrapped, End, Head, Part, Pack, Snap}
 use Rattle.ring_wire.specs.declared.entries.CommitEntry.{CommitEntry}
 use Rattle.ring_wire.specs.declared.frame.Frame.{Frame}
 use Rattle.ring_wire.specs.declared.frame.Frame.TheVariants.{Message, Token, Join, Commit}
@@ -24,6 +24,8 @@ abbrev pub content_named : {A : Type 0} → ℕ → Content A → Bool
 content_named n (CallContent call) = true
 content_named n (HeadContent head) = last_named n head.last
 content_named n (PartContent part) = true
+content_named n (PackContent pack) = true
+content_named n (SnapContent snap) = true
 
 abbrev pub payload_named : {A : Type 0} → ℕ → Payload A → Bool
 payload_named n (Call call) = true
@@ -31,6 +33,8 @@ payload_named n (Wrapped w) = nat_le w.ring.rep n && nat_le w.sender n && conten
 payload_named n End = true
 payload_named n (Head head) = last_named n head.last
 payload_named n (Part part) = true
+payload_named n (Pack pack) = true
+payload_named n (Snap snap) = true
 
 -- it names processors 1 to n alone
 abbrev pub is_named : {A : Type 0} → ℕ → Frame A → Bool

@@ -12,7 +12,7 @@ pub enum Input<A: Allocator + Copy = Global> {
     Frame(Frame<A>),
     /// A time is over.
     Timeout(Kind),
-    /// This is to go out as a message of the ring: it is queued in Operational, and dropped elsewhere. An End or
-    /// a Wrapped is dropped everywhere.
+    /// This is to go out as a message of the ring: it is queued in Operational, and dropped elsewhere. An End, a
+    /// Wrapped or a Pack is dropped everywhere: a visit makes Packs of the Calls that are queued.
     Send(Payload<A>),
 }

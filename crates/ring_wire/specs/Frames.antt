@@ -1,11 +1,18 @@
--- How frames are spelled: two fixed bytes, the version, the kind, the body's length, and the body.
-use Rattle.std.proofs.Common.{◌≡◌, ℕ, ◌^◌, ◌<◌, ◌≤◌, Bool, List, ◌∷◌, length, Option, None, refl, sym, arith}
-use Rattle.std.specs.Prelude.{◌&&◌, ◌==◌, if◌then◌else◌}
-use Rattle.std.proofs.lemmas.Bool.{eqb-true, and_parts}
+-- How frames are spelled: two fixed bytes, the version, the kind, the body's length, and the body. Frames, docs/FORMATS.md.
+use Rattle.std.proofs.Common.{◌≡◌, ℕ, ◌^◌, ◌<◌, ◌≤◌, Bool, List, [], ◌∷◌, length, Option, refl, arith, inl, inr, eq-eqb}
+use Rattle.std.specs.Prelude.{◌&&◌, ◌==◌}
+use Rattle.std.proofs.lemmas.Bool.{eqb-true, and_parts, cases_Bool}
 use Rattle.byteorder.specs.Endian.{big_bytes}
-use Rattle.ring_layout.specs.Reading.{IsFormat, made_at, tagged_at, ◌⊕◌}
-use Rattle.ring_layout.specs.ReadingLaws.{tagged_format, nothing_format}
-use Rattle.ring_layout.specs.Formats.{Format, byte, ◌&◌, such, sized, case_format, told_format}
+use Rattle.ring_layout.specs.Reading.{IsFormat, made_at, ◌⊕◌}
+use Rattle.ring_layout.specs.Formats.{Format, byte, ◌&◌, such, sized, told_format}
+use Rattle.ring_layout.specs.Cases.{Case, case, told_at, IsMade, cases_format}
+use Rattle.ring_payload.specs.declared.head.Head.{Head}
+use Rattle.ring_payload.specs.declared.content.Content.{Content}
+use Rattle.ring_payload.specs.declared.content.Content.TheVariants as contents
+use Rattle.ring_payload.specs.declared.content.Payload.{Payload}
+use Rattle.ring_payload.specs.declared.content.Payload.TheVariants as payloads
+use Rattle.ring_payload.specs.Limits.{message_kind, token_kind, join_kind, commit_kind, first_version}
+use Rattle.ring_payload.specs.Versions.{head_version, content_version, payload_version}
 use Rattle.ring_wire.specs.declared.message.Message.{Message}
 use Rattle.ring_wire.specs.declared.token.Token.{Token}
 use Rattle.ring_wire.specs.declared.join.Join.{Join}
@@ -21,10 +28,10 @@ use Rattle.ring_wire.specs.Lengths.{length-message, length-token, length-commit}
 -- ---- kinds
 
 abbrev pub frame_kind : {A : Type 0} → Frame A → ℕ
-frame_kind (frames.Message x) = 1
-frame_kind (frames.Token x) = 2
-frame_kind (frames.Join x) = 3
-frame_kind (frames.Commit x) = 4
+frame_kind (frames.Message x) = message_kind
+frame_kind (frames.Token x) = token_kind
+frame_kind (frames.Join x) = join_kind
+frame_kind (frames.Commit x) = commit_kind
 
 abbrev pub frame_body : {A : Type 0} → Frame A → List ℕ
 frame_body (frames.Message x) = message_spelling x
@@ -72,71 +79,70 @@ sized_join = sized join join_short
 abbrev sized_commit : Format CommitToken
 sized_commit = sized commit commit_short
 
--- what is read after the kind b, from the kind 4 on, from the kind 3 on, from the kind 2 on, from the first on
-abbrev by_commit : {A : Type 0} → ℕ → List ℕ → Option (Frame A × List ℕ)
-by_commit b bytes = if b == 4 then made_at frames.Commit sized_commit.at bytes else None
+-- ---- the kind, and the body behind its length
 
-abbrev by_join : {A : Type 0} → ℕ → List ℕ → Option (Frame A × List ℕ)
-by_join b bytes = if b == 3 then made_at frames.Join sized_join.at bytes else by_commit b bytes
-
-abbrev by_token : {A : Type 0} → ℕ → List ℕ → Option (Frame A × List ℕ)
-by_token b bytes = if b == 2 then made_at frames.Token sized_token.at bytes else by_join b bytes
-
-abbrev kind_by : {A : Type 0} → ℕ → List ℕ → Option (Frame A × List ℕ)
-kind_by {A} b bytes = if b == 1 then made_at frames.Message (sized_message {A = A}).at bytes else by_token b bytes
+abbrev kind_cases : {A : Type 0} → List (Case (Frame A))
+kind_cases =
+    case message_kind sized_message frames.Message ∷
+    case token_kind sized_token frames.Token ∷
+    case join_kind sized_join frames.Join ∷
+    case commit_kind sized_commit frames.Commit ∷ []
 
 unfoldable pub kind_at : {A : Type 0} → List ℕ → Option (Frame A × List ℕ)
-kind_at bytes = tagged_at kind_by bytes
+kind_at bytes = told_at kind_cases bytes
 
-is_message : {A : Type 0} (f : Frame A) → FrameFits f → frame_kind f ≡ 1 → (x : Message A) × MessageFits x × (frames.Message x ≡ f)
-is_message (frames.Message x) f e = (x, f, refl)
-is_message _ f e = absurd (omega (arith, e))
-
-is_token : {A : Type 0} (f : Frame A) → FrameFits f → frame_kind f ≡ 2 → (x : Token) × TokenFits x × (frames.Token x ≡ f)
-is_token (frames.Token x) f e = (x, f, refl)
-is_token _ f e = absurd (omega (arith, e))
-
-is_join : {A : Type 0} (f : Frame A) → FrameFits f → frame_kind f ≡ 3 → (x : Join) × JoinFits x × (frames.Join x ≡ f)
-is_join (frames.Join x) f e = (x, f, refl)
-is_join _ f e = absurd (omega (arith, e))
-
-is_commit : {A : Type 0} (f : Frame A) → FrameFits f → frame_kind f ≡ 4 → (x : CommitToken) × CommitFits x × (frames.Commit x ≡ f)
-is_commit (frames.Commit x) f e = (x, f, refl)
-is_commit _ f e = absurd (omega (arith, e))
-
-no_other : {A : Type 0} (b : ℕ) (f : Frame A) → (b ≡ 1 → ⊥) → (b ≡ 2 → ⊥) → (b ≡ 3 → ⊥) → (b ≡ 4 → ⊥) → frame_kind f ≡ b → ⊥
-no_other b (frames.Message x) no_message no_token no_join no_commit e = no_message (sym e)
-no_other b (frames.Token x) no_message no_token no_join no_commit e = no_token (sym e)
-no_other b (frames.Join x) no_message no_token no_join no_commit e = no_join (sym e)
-no_other b (frames.Commit x) no_message no_token no_join no_commit e = no_commit (sym e)
-
--- a frame of the kind b
-abbrev Of : {A : Type 0} → ℕ → Frame A → Type 0
-Of b f = FrameFits f × (frame_kind f ≡ b)
-
-kind_by_format : {A : Type 0} (b : ℕ) → IsFormat sized_body (Of {A = A} b) (kind_by b)
-kind_by_format {A} b =
-    case_format frame_kind sized_body FrameFits 1 sized_message frames.Message (by_token b) b (λ x f. (refl, f, refl)) is_message
-    (λ no_message. case_format frame_kind sized_body FrameFits 2 sized_token frames.Token (by_join b) b (λ x f. (refl, f, refl)) is_token
-    (λ no_token. case_format frame_kind sized_body FrameFits 3 sized_join frames.Join (by_commit b) b (λ x f. (refl, f, refl)) is_join
-    (λ no_join. case_format frame_kind sized_body FrameFits 4 sized_commit frames.Commit (λ bytes. None) b (λ x f. (refl, f, refl)) is_commit
-    (λ no_commit. nothing_format sized_body (Of {A = A} b) (λ f g. no_other b f no_message no_token no_join no_commit g.1)))))
+kind_made : {A : Type 0} (f : Frame A) → FrameFits f → IsMade kind_cases (frame_kind f) f
+kind_made (frames.Message x) f = (x, f, refl)
+kind_made (frames.Token x) f = (x, f, refl)
+kind_made (frames.Join x) f = (x, f, refl)
+kind_made (frames.Commit x) f = (x, f, refl)
 
 abbrev kind_spelling : {A : Type 0} → Frame A → List ℕ
 kind_spelling f = frame_kind f ∷ sized_body f
 
 pub kind_format : {A : Type 0} → IsFormat {A = Frame A} kind_spelling FrameFits kind_at
 unfolding kind_at
-kind_format = tagged_format frame_kind sized_body FrameFits kind_by kind_by_format
+kind_format {A} = cases_format (kind_cases {A = A}) frame_kind sized_body FrameFits (record {
+  each = (λ x f. (refl, (refl, f)), (λ x f. (refl, (refl, f)), (λ x f. (refl, (refl, f)), (λ x f. (refl, (refl, f)), tt))));
+  made = kind_made;
+})
 
 abbrev kind : {A : Type 0} → Format (Frame A)
 kind = record { spelling = kind_spelling; Fits = FrameFits; at = kind_at; exact = kind_format }
 
 -- ---- the whole frame
 
--- the version that a frame has
+-- the version that a frame has: that of what it carries
 abbrev pub version_of : {A : Type 0} → Frame A → ℕ
-version_of f = 1
+version_of (frames.Message x) = payload_version x.payload
+version_of (frames.Token x) = first_version
+version_of (frames.Join x) = first_version
+version_of (frames.Commit x) = first_version
+
+head_version-byte : (h : Head) → head_version h < 256
+head_version-byte h = elim (cases_Bool (h.trimmed == 0)) [ inl e ↦ rw e (omega arith) | inr e ↦ rw e (omega arith) ]
+
+content_version-byte : {A : Type 0} (c : Content A) → content_version c < 256
+content_version-byte (contents.Call x) = omega arith
+content_version-byte (contents.Head x) = head_version-byte x
+content_version-byte (contents.Part x) = omega arith
+content_version-byte (contents.Pack x) = omega arith
+content_version-byte (contents.Snap x) = omega arith
+
+payload_version-byte : {A : Type 0} (p : Payload A) → payload_version p < 256
+payload_version-byte (payloads.Call x) = omega arith
+payload_version-byte (payloads.Wrapped x) = content_version-byte x.payload
+payload_version-byte payloads.End = omega arith
+payload_version-byte (payloads.Head x) = head_version-byte x
+payload_version-byte (payloads.Part x) = omega arith
+payload_version-byte (payloads.Pack x) = omega arith
+payload_version-byte (payloads.Snap x) = omega arith
+
+version_of-byte : {A : Type 0} (f : Frame A) → version_of f < 256
+version_of-byte (frames.Message x) = payload_version-byte x.payload
+version_of-byte (frames.Token x) = omega arith
+version_of-byte (frames.Join x) = omega arith
+version_of-byte (frames.Commit x) = omega arith
 
 -- a frame's one spelling
 abbrev pub spelling_of : {A : Type 0} → Frame A → List ℕ
@@ -162,7 +168,7 @@ spelled p f =
     let start = and_parts _ _ f.0.1 in
     let first : p.0.0 ≡ 84 = eqb-true _ _ start.0 in
     let second : p.0.1 ≡ 82 = eqb-true _ _ start.1 in
-    let version : p.1.0 ≡ 1 = eqb-true _ _ f.1.1 in
+    let version : p.1.0 ≡ version_of p.1.1 = eqb-true _ _ f.1.1 in
     rw (first, second, version) refl
 
 pub frame_format : {A : Type 0} → IsFormat {A = Frame A} spelling_of FrameFits frame_at
@@ -170,7 +176,7 @@ unfolding frame_at
 frame_format {A} = told_format (frame_fields {A = A}) told spelling_of FrameFits (record {
   spelled = spelled;
   fits = λ p f. f.1.0.1;
-  back = λ f g. (((84, 82), (1, f)), (((omega arith, omega arith), refl), ((omega arith, g), refl)), refl);
+  back = λ f g. (((84, 82), (version_of f, f)), (((omega arith, omega arith), refl), ((version_of-byte f, g), eq-eqb (version_of f) (version_of f) refl)), refl);
 })
 
 pub length-frame : {A : Type 0} (f : Frame A) → FrameFits f → length (spelling_of f) ≤ 7321

@@ -1,5 +1,7 @@
--- How long spellings are at most. The greatest is that of seven calls of the greatest length, sent once more.
-use Rattle.std.proofs.Common.{◌≡◌, ℕ, ◌≤◌, ◌++◌, length, Option, Some, None, refl, arith}
+-- How long spellings are at most. The greatest are those of calls of 7,276 bytes, a part or packed, sent once more.
+use Rattle.std.proofs.Common.{◌≡◌, ℕ, ◌≤◌, ◌++◌, length, Option, Some, None, refl, arith, inl, inr}
+use Rattle.std.specs.Prelude.{◌==◌}
+use Rattle.std.proofs.lemmas.Bool.{cases_Bool}
 use Rattle.std.proofs.lemmas.List.{length-append}
 use Rattle.byteorder.specs.Endian.{big_bytes}
 use Rattle.ring_base.specs.declared.ring_id.RingId.{RingId}
@@ -10,8 +12,10 @@ use Rattle.ring_payload.specs.declared.content.Content.{Content}
 use Rattle.ring_payload.specs.declared.content.Content.TheVariants as contents
 use Rattle.ring_payload.specs.declared.content.Payload.{Payload}
 use Rattle.ring_payload.specs.declared.content.Payload.TheVariants as payloads
-use Rattle.ring_payload.specs.Heads.{head_spelling}
+use Rattle.ring_payload.specs.Heads.{head_body, trimmed_spelling}
+use Rattle.ring_payload.specs.Packs.{length-pack}
 use Rattle.ring_payload.specs.Parts.{length-part}
+use Rattle.ring_payload.specs.Snaps.{snap_short}
 use Rattle.ring_payload.specs.Contents.{content_spelling, ContentFits}
 use Rattle.ring_payload.specs.Payloads.{payload_spelling, PayloadFits}
 use Rattle.ring_wire.specs.declared.message.Message.{Message}
@@ -25,15 +29,20 @@ length-some_ring : (o : Option RingId) → length (some_ring_spelling o) ≡ 9
 length-some_ring None = refl
 length-some_ring (Some r) = refl
 
-length-head : (h : Head) → length (head_spelling h) ≡ 25
+length-trimmed : (n : ℕ) → length (trimmed_spelling n) ≤ 8
+length-trimmed n = elim (cases_Bool (n == 0)) [ inl e ↦ rw e (omega arith) | inr e ↦ rw e (omega arith) ]
+
+length-head : (h : Head) → length (head_body h) ≤ 33
 length-head h =
-    let e = length-append (some_ring_spelling h.last) (big_bytes 8 h.length ++ big_bytes 8 h.committed) in
-    omega (arith, e, length-some_ring h.last)
+    let e = length-append (some_ring_spelling h.last) (big_bytes 8 h.length ++ (big_bytes 8 h.committed ++ trimmed_spelling h.trimmed)) in
+    omega (arith, e, length-some_ring h.last, length-trimmed h.trimmed)
 
 length-content : {A : Type 0} (c : Content A) → ContentFits c → length (content_spelling c) ≤ 7276
 length-content (contents.Call x) f = omega (arith, f.op)
 length-content (contents.Head x) f = omega (arith, length-head x)
 length-content (contents.Part x) f = omega (arith, length-part x f)
+length-content (contents.Pack x) f = omega (arith, length-pack x f)
+length-content (contents.Snap x) f = omega (arith, snap_short x f)
 
 length-payload : {A : Type 0} (p : Payload A) → PayloadFits p → length (payload_spelling p) ≤ 7295
 length-payload (payloads.Call x) f = omega (arith, f.op)
@@ -41,6 +50,8 @@ length-payload (payloads.Wrapped x) f = omega (arith, length-content x.payload f
 length-payload payloads.End f = omega arith
 length-payload (payloads.Head x) f = omega (arith, length-head x)
 length-payload (payloads.Part x) f = omega (arith, length-part x f)
+length-payload (payloads.Pack x) f = omega (arith, length-pack x f)
+length-payload (payloads.Snap x) f = omega (arith, snap_short x f)
 
 pub length-message : {A : Type 0} (m : Message A) → MessageFits m → length (message_spelling m) ≤ 7313
 length-message m f = omega (arith, length-payload m.payload f.payload)

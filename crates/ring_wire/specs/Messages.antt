@@ -11,7 +11,7 @@ use Rattle.ring_layout.specs.Formats.{Format, word8, ◌&◌, tested_format}
 use Rattle.ring_layout.specs.Processors.{proc, proc_spelling}
 use Rattle.ring_layout.specs.Rings.{ring, ring_spelling, RingFits}
 use Rattle.ring_payload.specs.declared.content.Payload.{Payload}
-use Rattle.ring_payload.specs.declared.content.Payload.TheVariants.{Call, Wrapped, End, Head, Part}
+use Rattle.ring_payload.specs.declared.content.Payload.TheVariants.{Call, Wrapped, End, Head, Part, Pack, Snap}
 use Rattle.ring_payload.specs.Payloads.{payload, payload_spelling, PayloadFits}
 use Rattle.ring_wire.specs.declared.message.Message.{Message}
 
@@ -31,6 +31,8 @@ is_older-true (Call x) r h = tt
 is_older-true End r h = tt
 is_older-true (Head x) r h = tt
 is_older-true (Part x) r h = tt
+is_older-true (Pack x) r h = tt
+is_older-true (Snap x) r h = tt
 
 true-is_older : {A : Type 0} (p : Payload A) (r : RingId) → IsOlder p r → is_older p r ≡ true
 true-is_older (Wrapped w) r h = lt-ltb _ _ h
@@ -38,6 +40,8 @@ true-is_older (Call x) r h = refl
 true-is_older End r h = refl
 true-is_older (Head x) r h = refl
 true-is_older (Part x) r h = refl
+true-is_older (Pack x) r h = refl
+true-is_older (Snap x) r h = refl
 
 -- ---- the message
 

@@ -1,13 +1,15 @@
--- Which texts spell which frames: the grammar, with a case for each kind of frame and each payload. The limits of a row's values are its `Fits`.
-use Rattle.std.specs.Prelude.{◌≡◌, ℕ, List, [], ◌∷◌, length}
+-- Which texts spell which frames: the grammar, with a case for each kind of frame and each payload. The limits of a row's values are its `Fits`. Frames and Payloads, docs/FORMATS.md.
+use Rattle.std.specs.Prelude.{◌≡◌, ℕ, ◌≤◌, ◌⊎◌, List, [], ◌∷◌, length}
 use Rattle.std.specs.List.{flat_map}
 use Rattle.byteorder.specs.Endian.{big_bytes}
 use Rattle.ring_layout.specs.Reading.{◌⊕◌}
 use Rattle.ring_layout.specs.Processors.{some_proc_spelling}
 use Rattle.ring_layout.specs.Rings.{ring_spelling, some_ring_spelling}
 use Rattle.ring_payload.specs.declared.call.Call.{Call}
+use Rattle.ring_payload.specs.declared.calls.Pack.{Pack}
 use Rattle.ring_payload.specs.declared.calls.Part.{Part}
 use Rattle.ring_payload.specs.declared.head.Head.{Head}
+use Rattle.ring_payload.specs.declared.snap.Snap.{Snap}
 use Rattle.ring_payload.specs.declared.content.Content.{Content}
 use Rattle.ring_payload.specs.declared.content.Content.TheVariants as contents
 use Rattle.ring_payload.specs.declared.content.Payload.{Payload}
@@ -16,7 +18,11 @@ use Rattle.ring_payload.specs.declared.content.Wrapped.{Wrapped}
 use Rattle.ring_payload.specs.Calls.{call_spelling, CallFits}
 use Rattle.ring_payload.specs.Contents.{WrappedFits}
 use Rattle.ring_payload.specs.Heads.{HeadFits}
+use Rattle.ring_payload.specs.Limits.{call_tag, wrapped_tag, end_tag, head_tag, part_tag, pack_tag, trimmed_tag, snap_tag, message_kind, token_kind, join_kind, commit_kind, first_version}
+use Rattle.ring_payload.specs.Packs.{PackFits}
 use Rattle.ring_payload.specs.Parts.{PartFits}
+use Rattle.ring_payload.specs.Snaps.{SnapFits}
+use Rattle.ring_payload.specs.Versions.{payload_version}
 use Rattle.ring_wire.specs.declared.message.Message.{Message}
 use Rattle.ring_wire.specs.declared.token.Token.{Token}
 use Rattle.ring_wire.specs.declared.join.Join.{Join}
@@ -39,19 +45,37 @@ Tagged tag IsRest text = (rest : List ℕ) × (text ≡ tag ∷ rest) × IsRest 
 abbrev pub SpellsCall : {A : Type 0} → Call A → List ℕ → Type 0
 SpellsCall c text = CallFits c × (text ≡ big_bytes 4 c.client ⊕ big_bytes 8 c.number ⊕ big_bytes 2 (length c.op) ⊕ c.op)
 
--- a head: last primary or none, length, committed length
+-- a head of a log that is whole: last primary or none, length, committed length
+abbrev pub SpellsWhole : Head → List ℕ → Type 0
+SpellsWhole h text = HeadFits h × (h.trimmed ≡ 0) × (text ≡ some_ring_spelling h.last ⊕ big_bytes 8 h.length ⊕ big_bytes 8 h.committed)
+
+-- a head of a log that is trimmed: the same, and the trimmed length
+abbrev pub SpellsTrimmed : Head → List ℕ → Type 0
+SpellsTrimmed h text = HeadFits h × (1 ≤ h.trimmed) × (text ≡ some_ring_spelling h.last ⊕ big_bytes 8 h.length ⊕ big_bytes 8 h.committed ⊕ big_bytes 8 h.trimmed)
+
+-- each has its tag
 abbrev pub SpellsHead : Head → List ℕ → Type 0
-SpellsHead h text = HeadFits h × (text ≡ some_ring_spelling h.last ⊕ big_bytes 8 h.length ⊕ big_bytes 8 h.committed)
+SpellsHead h text = Tagged head_tag (SpellsWhole h) text ⊎ Tagged trimmed_tag (SpellsTrimmed h) text
 
 -- a part: first place, count, calls
 abbrev pub SpellsPart : {A : Type 0} → Part A → List ℕ → Type 0
 SpellsPart p text = PartFits p × (text ≡ big_bytes 8 p.first ⊕ length p.calls ∷ flat_map call_spelling p.calls)
 
+-- packed calls: count, calls
+abbrev pub SpellsPack : {A : Type 0} → Pack A → List ℕ → Type 0
+SpellsPack p text = PackFits p × (text ≡ length p.calls ∷ flat_map call_spelling p.calls)
+
+-- a piece of a snapshot: the length that it is of, its bytes in all, how many stand before the piece, how many are in it, and these
+abbrev pub SpellsSnap : {A : Type 0} → Snap A → List ℕ → Type 0
+SpellsSnap s text = SnapFits s × (text ≡ big_bytes 8 s.at ⊕ big_bytes 4 s.total ⊕ big_bytes 4 s.offset ⊕ big_bytes 2 (length s.bytes) ⊕ s.bytes)
+
 -- what may be sent once more
 abbrev pub SpellsContent : {A : Type 0} → Content A → List ℕ → Type 0
-SpellsContent (contents.Call c) text = Tagged 1 (SpellsCall c) text
-SpellsContent (contents.Head h) text = Tagged 4 (SpellsHead h) text
-SpellsContent (contents.Part p) text = Tagged 5 (SpellsPart p) text
+SpellsContent (contents.Call c) text = Tagged call_tag (SpellsCall c) text
+SpellsContent (contents.Head h) text = SpellsHead h text
+SpellsContent (contents.Part p) text = Tagged part_tag (SpellsPart p) text
+SpellsContent (contents.Pack p) text = Tagged pack_tag (SpellsPack p) text
+SpellsContent (contents.Snap s) text = Tagged snap_tag (SpellsSnap s) text
 
 -- a message of an old ring: ring, number, sender, what it carried
 pub record SpellsWrapped {A : Type 0} (w : Wrapped A) (bytes : List ℕ) : Type 0 where
@@ -61,17 +85,19 @@ pub record SpellsWrapped {A : Type 0} (w : Wrapped A) (bytes : List ℕ) : Type 
   pub text : bytes ≡ ring_spelling w.ring ⊕ big_bytes 8 w.number ⊕ w.sender ∷ content
 
 abbrev pub SpellsPayload : {A : Type 0} → Payload A → List ℕ → Type 0
-SpellsPayload (payloads.Call c) text = Tagged 1 (SpellsCall c) text
-SpellsPayload (payloads.Wrapped w) text = Tagged 2 (SpellsWrapped w) text
-SpellsPayload payloads.End text = Tagged 3 (λ rest. rest ≡ []) text
-SpellsPayload (payloads.Head h) text = Tagged 4 (SpellsHead h) text
-SpellsPayload (payloads.Part p) text = Tagged 5 (SpellsPart p) text
+SpellsPayload (payloads.Call c) text = Tagged call_tag (SpellsCall c) text
+SpellsPayload (payloads.Wrapped w) text = Tagged wrapped_tag (SpellsWrapped w) text
+SpellsPayload payloads.End text = Tagged end_tag (λ rest. rest ≡ []) text
+SpellsPayload (payloads.Head h) text = SpellsHead h text
+SpellsPayload (payloads.Part p) text = Tagged part_tag (SpellsPart p) text
+SpellsPayload (payloads.Pack p) text = Tagged pack_tag (SpellsPack p) text
+SpellsPayload (payloads.Snap s) text = Tagged snap_tag (SpellsSnap s) text
 
 -- ---- frames: two fixed bytes, the version, the kind, the length of the body, the body
 
 -- the start, and a body of this sort
-abbrev pub Framed : ℕ → (List ℕ → Type 0) → List ℕ → Type 0
-Framed kind IsBody text = (body : List ℕ) × (text ≡ 84 ∷ 82 ∷ 1 ∷ kind ∷ big_bytes 4 (length body) ⊕ body) × IsBody body
+abbrev pub Framed : ℕ → ℕ → (List ℕ → Type 0) → List ℕ → Type 0
+Framed version kind IsBody text = (body : List ℕ) × (text ≡ 84 ∷ 82 ∷ version ∷ kind ∷ big_bytes 4 (length body) ⊕ body) × IsBody body
 
 -- a message: ring, number, sender, payload
 pub record SpellsMessage {A : Type 0} (m : Message A) (bytes : List ℕ) : Type 0 where
@@ -95,9 +121,9 @@ SpellsJoin j text = JoinFits j × (text ≡ j.sender ∷ big_bytes 8 j.number �
 abbrev pub SpellsCommit : CommitToken → List ℕ → Type 0
 SpellsCommit t text = CommitFits t × (text ≡ ring_spelling t.ring ⊕ big_bytes 2 t.members ⊕ t.hop ∷ flat_map entry_spelling t.entries)
 
--- The text spells the frame.
+-- The text spells the frame. A message's version is 2 where calls are packed, 3 where a log is trimmed, else 1; all other frames have 1.
 abbrev pub Spells : {A : Type 0} → Frame A → List ℕ → Type 0
-Spells (frames.Message m) text = Framed 1 (SpellsMessage m) text
-Spells (frames.Token t) text = Framed 2 (SpellsToken t) text
-Spells (frames.Join j) text = Framed 3 (SpellsJoin j) text
-Spells (frames.Commit t) text = Framed 4 (SpellsCommit t) text
+Spells (frames.Message m) text = Framed (payload_version m.payload) message_kind (SpellsMessage m) text
+Spells (frames.Token t) text = Framed first_version token_kind (SpellsToken t) text
+Spells (frames.Join j) text = Framed first_version join_kind (SpellsJoin j) text
+Spells (frames.Commit t) text = Framed first_version commit_kind (SpellsCommit t) text

@@ -4,11 +4,11 @@ ghost use Rattle.std.specs.Prelude.{◌≡◌, ℕ, ◌+◌, ◌^◌, ◌<◌, �
 ghost use Rattle.ring_base.specs.declared.fault.Fault.TheVariants.{BadFrame};
 ghost use Rattle.ring_layout.specs.Reading.{Appends, Gives};
 ghost use Rattle.ring_wire.specs.declared.frame.Frame.{Frame as OneFrame};
-ghost use Rattle.ring_wire.specs.Frames.{kind_at, spelling_of, FrameFits};
+ghost use Rattle.ring_wire.specs.Frames.{kind_at, version_of, spelling_of, FrameFits};
 ghost use Rattle.ring_wire.specs.Fronts.{IsReadFault};
 ghost use Rattle.ring_wire.specs.Spells.{Spells};
 
-use crate::commit::CommitToken;
+use crate::commit_box::CommitBox;
 use crate::join::Join;
 use crate::message::Message;
 use crate::token::Token;
@@ -21,8 +21,14 @@ use std::alloc::{Allocator, Global};
 /// The bytes that each frame begins with.
 const START: [u8; 2] = [0x54, 0x52];
 
-/// The version of every frame.
+/// The version of every frame that carries neither packed calls nor anything of a trimmed log.
 const VERSION: u8 = 1;
+
+/// The kinds of frames.
+const MESSAGE: u8 = 1;
+const TOKEN: u8 = 2;
+const JOIN: u8 = 3;
+const COMMIT: u8 = 4;
 
 /// What one processor sends to others.
 #[derive(Clone, Drop)]
@@ -30,7 +36,19 @@ pub enum Frame<A: Allocator + Copy = Global> {
     Message(Message<A>),
     Token(Token),
     Join(Join),
-    Commit(CommitToken),
+    Commit(CommitBox<A>),
+}
+
+impl<A: Allocator + Copy> Frame<A> {
+    /// Its version: that of what it carries.
+    fn version(&self) -> u8
+        ensures { result ≡ version_of self.now }
+    {
+        match self {
+            Frame::Message(message) => message.payload.version(),
+            _ => VERSION,
+        }
+    }
 }
 
 impl<A: Allocator + Copy> Encode for Frame<A> {
@@ -58,22 +76,22 @@ impl<A: Allocator + Copy> Encode for Frame<A> {
     fn write<B: Allocator + Copy>(&self, out: &mut BytesMut<B>) {
         START[0].write(out);
         START[1].write(out);
-        VERSION.write(out);
+        self.version().write(out);
         match self {
             Frame::Message(message) => {
-                1u8.write(out);
+                MESSAGE.write(out);
                 write_sized(message, out);
             }
             Frame::Token(token) => {
-                2u8.write(out);
+                TOKEN.write(out);
                 write_sized(token, out);
             }
             Frame::Join(join) => {
-                3u8.write(out);
+                JOIN.write(out);
                 write_sized(join, out);
             }
             Frame::Commit(commit) => {
-                4u8.write(out);
+                COMMIT.write(out);
                 write_sized(commit, out);
             }
         }
@@ -87,10 +105,10 @@ fn read_kind<A: Allocator + Copy>(alloc: A, from: &mut Reader<'_>) -> Result<Fra
 {
     let kind: u8 = Decode::read(alloc, from)?;
     match kind {
-        1 => Ok(Frame::Message(read_sized(alloc, from)?)),
-        2 => Ok(Frame::Token(read_sized(alloc, from)?)),
-        3 => Ok(Frame::Join(read_sized(alloc, from)?)),
-        4 => Ok(Frame::Commit(read_sized(alloc, from)?)),
+        MESSAGE => Ok(Frame::Message(read_sized(alloc, from)?)),
+        TOKEN => Ok(Frame::Token(read_sized(alloc, from)?)),
+        JOIN => Ok(Frame::Join(read_sized(alloc, from)?)),
+        COMMIT => Ok(Frame::Commit(read_sized(alloc, from)?)),
         _ => Err(Fault::BadFrame),
     }
 }
@@ -105,7 +123,7 @@ impl<A: Allocator + Copy> Decode<A> for Frame<A> {
         }
         let version: u8 = Decode::read(alloc, from)?;
         let frame = read_kind(alloc, from)?;
-        if version != VERSION {
+        if version != frame.version() {
             return Err(Fault::BadFrame);
         }
         Ok(frame)

@@ -2,15 +2,18 @@
 #![tactic(auto)]
 
 mod commit;
+mod commit_box;
 mod entries;
 mod frame;
 mod join;
 mod message;
 mod requests;
+mod same;
 mod token;
 mod wire;
 
 pub use commit::CommitToken;
+pub use commit_box::CommitBox;
 pub use entries::{CommitEntry, Entries};
 pub use frame::{Frame, decode_frame, one_spelling_law, short_law, spelling_law};
 pub use join::Join;

@@ -27,7 +27,7 @@ fn token_of(alloc: Global, requests: u8) -> Result<Vec<u8>, Fail> {
     for before in 0..requests {
         body.extend_from_slice(&(u64::from(before) + 1).to_be_bytes())?;
     }
-    framed(alloc, 2, body.as_slice())
+    framed(alloc, 1, 2, body.as_slice())
 }
 
 #[test]
@@ -60,7 +60,7 @@ fn commit_of(alloc: Global, members: [u8; 2], hop: u8, entries: &[u8]) -> Result
         body.extend_from_slice(&[0; 16])?;
         body.extend_from_slice(bytes_of(alloc, &[NOTHING_HELD])?.as_slice())?;
     }
-    framed(alloc, 4, body.as_slice())
+    framed(alloc, 1, 4, body.as_slice())
 }
 
 /// Sixteen processors, and one of them again.
@@ -116,6 +116,15 @@ fn entries_of_two_members(rt: HostRuntime) -> Result<(), Fail> {
     Ok(())
 }
 
+/// The version of a frame whose payload has this tag, or wraps one that has it.
+fn version_of(tag: Option<&u8>) -> u8 {
+    match tag {
+        Some(6) => 2,
+        Some(7) | Some(8) => 3,
+        _ => 1,
+    }
+}
+
 /// Message 1 of ring 3.1 from 2 with this payload, or with what wraps it, of ring 2.1.
 pub fn message_of(alloc: Global, wraps: bool, payload: &[u8]) -> Result<Vec<u8>, Fail> {
     let mut body = bytes_of(alloc, &["000000000000000301", "0000000000000001", "02"])?;
@@ -124,7 +133,7 @@ pub fn message_of(alloc: Global, wraps: bool, payload: &[u8]) -> Result<Vec<u8>,
         body.extend_from_slice(bytes_of(alloc, &around)?.as_slice())?;
     }
     body.extend_from_slice(payload)?;
-    framed(alloc, 1, body.as_slice())
+    framed(alloc, version_of(payload.get(0)), 1, body.as_slice())
 }
 
 /// The start of a payload, and behind it the calls 7.1 and so on, with operations of so many bytes.
@@ -191,6 +200,95 @@ fn calls_of_a_part(rt: HostRuntime) -> Result<(), Fail> {
     Ok(())
 }
 
+/// A pack has 2 to 16 calls, and at most 7,276 bytes: seven calls of 1,024 bytes and no eighth.
+#[test]
+fn calls_of_a_pack(rt: HostRuntime) -> Result<(), Fail> {
+    let alloc = rt.alloc();
+    for (wraps, calls, op_bytes, length, wanted) in [
+        (false, 0, 0, 28, false),
+        (false, 1, 0, 42, false),
+        (false, 2, 0, 56, true),
+        (false, 16, 0, 252, true),
+        (false, 17, 0, 266, false),
+        (false, 7, 1024, 7294, true),
+        (false, 8, 1024, 8332, false),
+        (false, 8, 895, 7300, true),
+        (false, 8, 896, 7308, false),
+        (true, 1, 0, 61, false),
+        (true, 2, 0, 75, true),
+        (true, 16, 0, 271, true),
+        (true, 17, 0, 285, false),
+        (true, 7, 1024, 7313, true),
+        (true, 8, 1024, 8351, false),
+    ] {
+        let payload = payload_of(alloc, &[6, calls], calls, op_bytes)?;
+        let bytes = message_of(alloc, wraps, payload.as_slice())?;
+        assert!(rt;
+            is_as_wanted(alloc, bytes.as_slice(), length, wanted)?,
+            "{calls} of {op_bytes}"
+        );
+    }
+    Ok(())
+}
+
+/// A snapshot of so many bytes after so many places, the offset and the length of a piece, and whether that is one.
+type PieceRow = (u64, u32, u32, u16, bool);
+
+/// A snapshot has at most 16,777,216 bytes, and each piece but the last 7,000.
+const PIECES: [PieceRow; 24] = [
+    (256, 1, 0, 1, true),
+    (256, 1, 0, 0, false),
+    (256, 1, 0, 2, false),
+    (0, 1, 0, 1, false),
+    (1, 1, 0, 1, true),
+    (1 << 62, 1, 0, 1, true),
+    ((1 << 62) + 1, 1, 0, 1, false),
+    (256, 0, 0, 0, false),
+    (256, 6999, 0, 6999, true),
+    (256, 7000, 0, 7000, true),
+    (256, 7000, 0, 6999, false),
+    (256, 7000, 7000, 0, false),
+    (256, 7001, 0, 7000, true),
+    (256, 7001, 0, 7001, false),
+    (256, 7001, 7000, 1, true),
+    (256, 7001, 7000, 2, false),
+    (256, 7001, 6999, 2, false),
+    (256, 7001, 14000, 0, false),
+    (256, 14001, 7000, 7000, true),
+    (256, 14001, 7000, 7001, false),
+    (256, 16777216, 0, 7000, true),
+    (256, 16777216, 16772000, 5216, true),
+    (256, 16777217, 0, 7000, false),
+    (256, 16777217, 16772000, 5217, false),
+];
+
+/// A piece as a payload.
+fn piece_of(alloc: Global, row: &PieceRow) -> Result<Vec<u8>, Fail> {
+    let (at, total, offset, count, _) = *row;
+    let mut payload = Vec::from_slice(alloc, &[8])?;
+    payload.extend_from_slice(&at.to_be_bytes())?;
+    payload.extend_from_slice(&total.to_be_bytes())?;
+    payload.extend_from_slice(&offset.to_be_bytes())?;
+    payload.extend_from_slice(&count.to_be_bytes())?;
+    for _ in 0..count {
+        payload.push(7)?;
+    }
+    Ok(payload)
+}
+
+#[test]
+fn pieces_of_a_snapshot(rt: HostRuntime) -> Result<(), Fail> {
+    let alloc = rt.alloc();
+    for (i, row) in PIECES.iter().enumerate() {
+        let payload = piece_of(alloc, row)?;
+        for wraps in [false, true] {
+            let bytes = message_of(alloc, wraps, payload.as_slice())?;
+            assert_eq!(rt; is_frame(alloc, bytes.as_slice())?, row.4, "{i}");
+        }
+    }
+    Ok(())
+}
+
 /// A payload, and whether it may stand in a message, and in a message as what is wrapped.
 type Inner = (&'static [&'static str], bool, bool);
 
@@ -210,6 +308,22 @@ const PART: [&str; 4] = [
     "0000",
 ];
 
+const PACK: [&str; 3] = [
+    "0602",
+    "0000000700000000000000010000",
+    "0000000700000000000000020000",
+];
+
+const TRIMMED_HEAD: [&str; 5] = [
+    "07",
+    "000000000000000101",
+    "0000000000000003",
+    "0000000000000002",
+    "0000000000000001",
+];
+
+const SNAP: [&str; 4] = ["08", "0000000000000100", "0000000100000000", "0001ab"];
+
 const WRAPPED: [&str; 5] = [
     "02",
     "000000000000000101",
@@ -218,10 +332,13 @@ const WRAPPED: [&str; 5] = [
     "00000000000000010000",
 ];
 
-const PAYLOADS: [Inner; 6] = [
+const PAYLOADS: [Inner; 9] = [
     (&CALL, true, true),
     (&HEAD, true, true),
     (&PART, true, true),
+    (&PACK, true, true),
+    (&TRIMMED_HEAD, true, true),
+    (&SNAP, true, true),
     (&WRAPPED, true, false),
     (&["03"], true, false),
     (&[], false, false),

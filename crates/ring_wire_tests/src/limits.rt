@@ -2,7 +2,8 @@
 
 use crate::spelled::{bytes_of, framed, is_frame, patched};
 use crate::vectors::{
-    COMMIT, COMMIT_AFTER_A_RING, HEAD, HEAD_OF_NONE, JOIN, MESSAGE, PART, TOKEN, WRAPPED,
+    COMMIT, COMMIT_AFTER_A_RING, HEAD, HEAD_OF_NONE, JOIN, MESSAGE, PACK, PART, SNAP, TOKEN,
+    TRIMMED_HEAD, WRAPPED,
 };
 use std::alloc::Global;
 use std::test::Fail;
@@ -109,9 +110,10 @@ const ARUS_AND_REQUESTS: [Limit; 20] = [
 ];
 
 /// Version and kind, the ring, the message's number, the sender, the tag, the call.
-const MESSAGES: [Limit; 28] = [
+const MESSAGES: [Limit; 29] = [
     (2, "00", false),
     (2, "02", false),
+    (2, "03", false),
     (3, "00", false),
     (3, "05", false),
     (8, "0000000000000000", false),
@@ -178,8 +180,10 @@ const OLD_RINGS: [Limit; 10] = [
     (8, "4000000000000000010001014000000000000000", false),
 ];
 
-/// The last primary, the length, the committed length.
-const HEADS: [Limit; 16] = [
+/// The version, the last primary, the length, the committed length.
+const HEADS: [Limit; 18] = [
+    (2, "03", false),
+    (26, "07", false),
     (27, "0000000000000000", false),
     (27, "0000000000000001", true),
     (27, "4000000000000000", true),
@@ -196,6 +200,53 @@ const HEADS: [Limit; 16] = [
     (44, "0000000000000000", true),
     (44, "0000000000000003", true),
     (44, "0000000000000004", false),
+];
+
+/// The version, the last primary, the three lengths: a trimmed length is at least 1 and at most the committed one.
+const TRIMMED_HEADS: [Limit; 14] = [
+    (2, "01", false),
+    (2, "02", false),
+    (2, "04", false),
+    (26, "04", false),
+    (27, "000000000000000000", false),
+    (36, "0000000000000002", true),
+    (36, "0000000000000001", false),
+    (36, "400000000000000040000000000000004000000000000000", true),
+    (36, "400000000000000140000000000000014000000000000001", false),
+    (44, "0000000000000001", true),
+    (44, "0000000000000000", false),
+    (52, "0000000000000000", false),
+    (52, "0000000000000002", true),
+    (52, "0000000000000003", false),
+];
+
+/// The version, the tag, the count.
+const PACKS: [Limit; 9] = [
+    (2, "01", false),
+    (2, "03", false),
+    (26, "05", false),
+    (26, "08", false),
+    (27, "01", false),
+    (27, "03", false),
+    (27, "11", false),
+    (32, "0000000000000000", false),
+    (57, "0000000000000000", false),
+];
+
+/// The version, the tag, the places, the bytes in all, the offset, the count.
+const SNAPS: [Limit; 12] = [
+    (2, "01", false),
+    (2, "02", false),
+    (26, "09", false),
+    (27, "0000000000000000", false),
+    (27, "4000000000000000", true),
+    (27, "4000000000000001", false),
+    (35, "00001b5900001b580001", false),
+    (35, "00001b5a00001b57", false),
+    (35, "00001b5a00000000", false),
+    (35, "000036b2000036b0", true),
+    (35, "0000000200000000", true),
+    (43, "0001", false),
 ];
 
 /// None, and its zeros.
@@ -253,56 +304,35 @@ const WRAPPEDS: [Limit; 20] = [
 ];
 
 #[test]
-fn heads_of_frames(rt: HostRuntime) -> Result<(), Fail> {
-    assert_eq!(rt; first_wrong(rt.alloc(), &JOIN, &START)?, None);
+fn no_bytes_and_too_many(rt: HostRuntime) -> Result<(), Fail> {
     assert!(rt; !is_frame(rt.alloc(), &[])?);
-    let too_long = framed(rt.alloc(), 1, &[0; 8185])?;
+    let too_long = framed(rt.alloc(), 1, 1, &[0; 8185])?;
     assert!(rt; !is_frame(rt.alloc(), too_long.as_slice())?);
     Ok(())
 }
 
-#[test]
-fn joins(rt: HostRuntime) -> Result<(), Fail> {
-    assert_eq!(rt; first_wrong(rt.alloc(), &JOIN, &JOINS)?, None);
-    Ok(())
-}
+/// Each vector with its limits.
+const ALL: [(&[&str], &[Limit]); 14] = [
+    (&JOIN, &START),
+    (&JOIN, &JOINS),
+    (&TOKEN, &TOKENS),
+    (&TOKEN, &ARUS_AND_REQUESTS),
+    (&MESSAGE, &MESSAGES),
+    (&COMMIT, &COMMITS),
+    (&COMMIT_AFTER_A_RING, &OLD_RINGS),
+    (&HEAD, &HEADS),
+    (&HEAD_OF_NONE, &HEADS_OF_NONE),
+    (&TRIMMED_HEAD, &TRIMMED_HEADS),
+    (&PART, &PARTS),
+    (&PACK, &PACKS),
+    (&SNAP, &SNAPS),
+    (&WRAPPED, &WRAPPEDS),
+];
 
 #[test]
-fn tokens(rt: HostRuntime) -> Result<(), Fail> {
-    assert_eq!(rt; first_wrong(rt.alloc(), &TOKEN, &TOKENS)?, None);
-    assert_eq!(rt; first_wrong(rt.alloc(), &TOKEN, &ARUS_AND_REQUESTS)?, None);
-    Ok(())
-}
-
-#[test]
-fn messages(rt: HostRuntime) -> Result<(), Fail> {
-    assert_eq!(rt; first_wrong(rt.alloc(), &MESSAGE, &MESSAGES)?, None);
-    Ok(())
-}
-
-#[test]
-fn commit_tokens(rt: HostRuntime) -> Result<(), Fail> {
-    assert_eq!(rt; first_wrong(rt.alloc(), &COMMIT, &COMMITS)?, None);
-    assert_eq!(rt;
-        first_wrong(rt.alloc(), &COMMIT_AFTER_A_RING, &OLD_RINGS)?,
-        None
-    );
-    Ok(())
-}
-
-#[test]
-fn heads_of_logs(rt: HostRuntime) -> Result<(), Fail> {
-    assert_eq!(rt; first_wrong(rt.alloc(), &HEAD, &HEADS)?, None);
-    assert_eq!(rt;
-        first_wrong(rt.alloc(), &HEAD_OF_NONE, &HEADS_OF_NONE)?,
-        None
-    );
-    Ok(())
-}
-
-#[test]
-fn parts_and_what_is_wrapped(rt: HostRuntime) -> Result<(), Fail> {
-    assert_eq!(rt; first_wrong(rt.alloc(), &PART, &PARTS)?, None);
-    assert_eq!(rt; first_wrong(rt.alloc(), &WRAPPED, &WRAPPEDS)?, None);
+fn each_limit(rt: HostRuntime) -> Result<(), Fail> {
+    for (i, (vector, limits)) in ALL.iter().enumerate() {
+        assert_eq!(rt; first_wrong(rt.alloc(), *vector, *limits)?, None, "{i}");
+    }
     Ok(())
 }

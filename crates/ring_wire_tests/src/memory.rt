@@ -2,12 +2,13 @@
 
 use crate::counts::{message_of, payload_of};
 use crate::spelled::bytes_of;
-use crate::vectors::{COMMIT, HEAD, MESSAGE, PART, TOKEN, WRAPPED};
+use crate::vectors::{
+    COMMIT, HEAD, JOIN, MESSAGE, PACK, PART, SNAP, TOKEN, TRIMMED_HEAD, WRAPPED,
+};
 use bytes::BytesMut;
 use refusing_alloc::{Refusing, refuse_in_turn};
 use ring_base::Fault;
-use ring_payload::{Call, Calls, Content, Head, Operation, Part, Payload, Wrapped};
-use ring_wire::{CommitToken, Frame, Message, Token, Wire, decode_frame};
+use ring_wire::{Wire, decode_frame};
 use std::alloc::{AllocError, Allocator, Global};
 use std::test::Fail;
 
@@ -31,95 +32,42 @@ fn answered(
     }
 }
 
-/// Reads the value that all the bytes from a place on spell.
-fn read<A: Allocator + Copy, T: Wire<A> + Drop>(
-    alloc: A,
-    bytes: &[u8],
-    from: usize,
-) -> Result<T, Fault> {
-    let text = bytes.get(from..).ok_or(Fault::Conflict)?;
-    let (value, length) = T::get(alloc, text)?;
-    if length == text.len() {
-        Ok(value)
-    } else {
-        Err(Fault::Conflict)
-    }
-}
-
-/// Reads the value, and copies it.
-fn read_and_copy<A: Allocator + Copy, T: Wire<A> + Clone + Drop>(
-    alloc: A,
-    bytes: &[u8],
-    from: usize,
-) -> Result<(), Fault> {
-    let value = read::<A, T>(alloc, bytes, from)?;
-    value.clone()?;
+/// Reads the frame, and copies it.
+fn read_and_copy<A: Allocator + Copy + Drop>(alloc: A, bytes: &[u8]) -> Result<(), Fault> {
+    decode_frame(alloc, bytes)?.clone()?;
     Ok(())
 }
 
-/// Each type that takes memory, from a message that has a call in a part.
-fn read_parts<A: Allocator + Copy + Drop>(alloc: A, message: &[u8]) -> Result<(), Fault> {
-    read_and_copy::<A, Operation<A>>(alloc, message, 48)?;
-    read_and_copy::<A, Call<A>>(alloc, message, 36)?;
-    read_and_copy::<A, Part<A>>(alloc, message, 27)?;
-    read_and_copy::<A, Content<A>>(alloc, message, 26)?;
-    read_and_copy::<A, Payload<A>>(alloc, message, 26)?;
-    read_and_copy::<A, Message<A>>(alloc, message, 8)?;
-    read_and_copy::<A, Frame<A>>(alloc, message, 0)
+/// How often a frame that is read and copied asks for memory, each time refused once.
+fn requests_of(alloc: Global, vector: &[&str]) -> Result<Option<u64>, Fail> {
+    let bytes = bytes_of(alloc, vector)?;
+    let frame = bytes.as_slice();
+    Ok(refuse_in_turn(
+        alloc,
+        &|heap: &Refusing| answered(heap, read_and_copy(heap, frame), read_and_copy(heap, frame)),
+    ))
 }
 
-/// The same of a message that wraps a call, and of a list of calls.
-fn read_wrapped<A: Allocator + Copy + Drop>(alloc: A, message: &[u8]) -> Result<(), Fault> {
-    read_and_copy::<A, Wrapped<A>>(alloc, message, 27)?;
-    read_and_copy::<A, Payload<A>>(alloc, message, 26)?;
-    let call = read::<A, Call<A>>(alloc, message, 46)?;
-    let mut list = Vec::new(alloc);
-    list.push(call)?;
-    list.push(Call::new(alloc, 7, 1, &[1, 2, 3])?)?;
-    let calls = Calls::from_vec(list);
-    calls.clone()?;
-    Ok(())
-}
-
-/// A call takes memory for its operation, when it is read and when it is copied; a part takes some for its
-/// list too.
+/// A call takes memory for its operation, when it is read and when it is copied; a part and a pack take some for
+/// their lists too, a snapshot's piece for its bytes, a commit token for itself. Heads, tokens, joins lie in place.
 #[test]
 fn refused_reads_and_copies(rt: HostRuntime) -> Result<(), Fail> {
-    let alloc = rt.alloc();
-    let part = bytes_of(alloc, &PART)?;
-    let part = part.as_slice();
-    let refused = refuse_in_turn(
-        alloc,
-        &|heap: &Refusing| answered(heap, read_parts(heap, part), read_parts(heap, part)),
-    );
-    assert!(rt; refused >= Some(2 * (4 + 5 * 4)), "{refused:?}");
-    let wrapped = bytes_of(alloc, &WRAPPED)?;
-    let wrapped = wrapped.as_slice();
-    let refused = refuse_in_turn(
-        alloc,
-        &|heap: &Refusing| answered(
-            heap,
-            read_wrapped(heap, wrapped),
-            read_wrapped(heap, wrapped),
-        ),
-    );
-    assert!(rt; refused >= Some(2 * (4 + 6)), "{refused:?}");
-    Ok(())
-}
-
-/// Heads, tokens and commit tokens lie in place.
-fn read_in_place(heap: &Refusing, alloc: Global) -> Result<(), Fail> {
-    read_and_copy::<&Refusing, Head>(heap, bytes_of(alloc, &HEAD)?.as_slice(), 27)?;
-    read_and_copy::<&Refusing, Token>(heap, bytes_of(alloc, &TOKEN)?.as_slice(), 8)?;
-    read_and_copy::<&Refusing, CommitToken>(heap, bytes_of(alloc, &COMMIT)?.as_slice(), 8)?;
-    Ok(())
-}
-
-#[test]
-fn reads_without_memory(rt: HostRuntime) -> Result<(), Fail> {
-    let heap = Refusing::new(rt.alloc(), 0);
-    read_in_place(&heap, rt.alloc())?;
-    assert_eq!(rt; heap.requests(), 0);
+    for (vector, least) in [
+        (&MESSAGE[..], 4),
+        (&WRAPPED[..], 4),
+        (&PART[..], 8),
+        (&PACK[..], 12),
+        (&SNAP[..], 4),
+        (&COMMIT[..], 4),
+        (&HEAD[..], 0),
+        (&TRIMMED_HEAD[..], 0),
+        (&TOKEN[..], 0),
+        (&JOIN[..], 0),
+    ] {
+        let requests = requests_of(rt.alloc(), vector)?;
+        assert!(rt; requests >= Some(least), "{vector:?} {requests:?}");
+        assert!(rt; (requests == Some(0)) == (least == 0), "{vector:?} {requests:?}");
+    }
     Ok(())
 }
 

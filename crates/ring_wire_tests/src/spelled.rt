@@ -31,10 +31,10 @@ pub fn patched(
     Ok(changed)
 }
 
-/// The head of a frame of this kind, with the length of this body, and the body.
-pub fn framed(alloc: Global, kind: u8, body: &[u8]) -> Result<Vec<u8>, Fail> {
+/// The head of a frame of this version and kind, with the length of this body, and the body.
+pub fn framed(alloc: Global, version: u8, kind: u8, body: &[u8]) -> Result<Vec<u8>, Fail> {
     let length = u32::try_from(body.len())?;
-    let mut bytes = Vec::from_slice(alloc, &[0x54, 0x52, 1, kind])?;
+    let mut bytes = Vec::from_slice(alloc, &[0x54, 0x52, version, kind])?;
     bytes.extend_from_slice(&length.to_be_bytes())?;
     bytes.extend_from_slice(body)?;
     Ok(bytes)

@@ -2,14 +2,15 @@
 
 use crate::spelled::bytes_of;
 use crate::vectors::{
-    COMMIT, COMMIT_AFTER_A_RING, END, HEAD, HEAD_OF_NONE, JOIN, MESSAGE, PART, TOKEN, WRAPPED,
+    COMMIT, COMMIT_AFTER_A_RING, EACH_KIND, EACH_PAYLOAD, END, HEAD, HEAD_OF_NONE, JOIN, MESSAGE,
+    PACK, PART, SNAP, TOKEN, TRIMMED_HEAD, WRAPPED,
 };
 use bytes::BytesMut;
 use refusing_alloc::Refusing;
 use ring_base::{Fault, Proc, ProcSet, RingId};
-use ring_payload::{Call, Calls, Content, Head, Operation, Part, Payload, Wrapped};
+use ring_payload::{Call, Calls, Head, Payload};
 use ring_wire::{
-    CommitEntry, CommitToken, Entries, Frame, Join, Message, Requests, Token, Wire, decode_frame,
+    CommitEntry, CommitToken, Entries, Frame, Join, Requests, Token, Wire, decode_frame,
     one_spelling_law, short_law, spelling_law,
 };
 use std::alloc::Global;
@@ -59,7 +60,7 @@ fn is_a_vector(frame: &Frame) -> bool {
     match frame {
         Frame::Join(join) => is_the_join(join),
         Frame::Token(token) => is_the_token(token),
-        Frame::Commit(commit) => is_the_commit_token(commit),
+        Frame::Commit(boxed) => is_the_commit_token(boxed.token()),
         Frame::Message(_) => false,
     }
 }
@@ -74,28 +75,35 @@ fn message_fields(frame: &Frame) -> Option<(u64, u64, u8)> {
     }
 }
 
-/// The tag of the payload, and three of its numbers: client, number and length of a call; last primary's
-/// number, length and committed length of a head; first place and count of a part; ring, number and sender
-/// of what is wrapped.
-fn payload_fields(frame: &Frame) -> Option<[u64; 4]> {
+/// The tag of the payload, and four of its numbers: client, number and length of a call; last primary's number and
+/// the three lengths of a head; first place and count of a part; count of a pack; places, all bytes, offset and
+/// length of a piece; ring, number and sender of what is wrapped.
+fn payload_fields(frame: &Frame) -> Option<[u64; 5]> {
     let Frame::Message(message) = frame else {
         return None;
     };
     match &message.payload {
         Payload::Call(call) => {
             let length = call.op.as_slice().len() as u64;
-            Some([1, u64::from(call.client), call.number, length])
+            Some([1, u64::from(call.client), call.number, length, 0])
         }
         Payload::Wrapped(wrapped) => {
             let sender = u64::from(wrapped.sender.number());
-            Some([2, wrapped.ring.seq, wrapped.number, sender])
+            Some([2, wrapped.ring.seq, wrapped.number, sender, 0])
         }
-        Payload::End => Some([3, 0, 0, 0]),
+        Payload::End => Some([3, 0, 0, 0, 0]),
         Payload::Head(head) => {
             let last = head.last.map_or(0, |ring| ring.seq);
-            Some([4, last, head.length, head.committed])
+            Some([4, last, head.length, head.committed, head.trimmed])
         }
-        Payload::Part(part) => Some([5, part.first, part.calls.as_slice().len() as u64, 0]),
+        Payload::Part(part) => {
+            Some([5, part.first, part.calls.as_slice().len() as u64, 0, 0])
+        }
+        Payload::Pack(pack) => Some([6, pack.calls.as_slice().len() as u64, 0, 0, 0]),
+        Payload::Snap(snap) => {
+            let length = snap.bytes.as_slice().len() as u64;
+            Some([8, snap.at, u64::from(snap.total), u64::from(snap.offset), length])
+        }
     }
 }
 
@@ -119,7 +127,7 @@ fn spell_a_message(
     alloc: Global,
     vector: &[&str],
     message: (u64, u64, u8),
-    payload: [u64; 4],
+    payload: [u64; 5],
 ) -> Result<bool, Fail> {
     let frame = frame_of(alloc, vector)?;
     let copy = frame.clone()?;
@@ -133,17 +141,48 @@ fn spell_a_message(
 #[test]
 fn fields_of_the_messages(rt: HostRuntime) -> Result<(), Fail> {
     for (vector, message, payload) in [
-        (&MESSAGE[..], (1, 3, 1), [1, 7, 1, 11]),
-        (&END[..], (1, 1, 1), [3, 0, 0, 0]),
-        (&HEAD_OF_NONE[..], (1, 5, 2), [4, 0, 0, 0]),
-        (&HEAD[..], (8, 4, 1), [4, 4, 3, 2]),
-        (&PART[..], (8, 7, 1), [5, 0, 1, 0]),
-        (&WRAPPED[..], (2, 1, 2), [2, 1, 3, 1]),
+        (&MESSAGE[..], (1, 3, 1), [1, 7, 1, 11, 0]),
+        (&END[..], (1, 1, 1), [3, 0, 0, 0, 0]),
+        (&HEAD_OF_NONE[..], (1, 5, 2), [4, 0, 0, 0, 0]),
+        (&HEAD[..], (8, 4, 1), [4, 4, 3, 2, 0]),
+        (&TRIMMED_HEAD[..], (8, 4, 1), [4, 4, 3, 2, 1]),
+        (&PART[..], (8, 7, 1), [5, 0, 1, 0, 0]),
+        (&PACK[..], (1, 3, 1), [6, 2, 0, 0, 0]),
+        (&SNAP[..], (8, 6, 1), [8, 256, 7002, 7000, 2]),
+        (&WRAPPED[..], (2, 1, 2), [2, 1, 3, 1, 0]),
     ] {
         assert!(rt;
             spell_a_message(rt.alloc(), vector, message, payload)?,
             "{vector:?}"
         );
+    }
+    Ok(())
+}
+
+/// Whether the frame at a place of the list is itself and its copy, and none of the others.
+fn is_itself_alone(frames: &[Frame], at: usize) -> Result<bool, Fail> {
+    let Some(frame) = frames.get(at) else {
+        return Ok(false);
+    };
+    for (i, other) in frames.iter().enumerate() {
+        if frame.is_same(other) != (i == at) {
+            return Ok(false);
+        }
+    }
+    Ok(frame.is_same(&frame.clone()?))
+}
+
+#[test]
+fn same_frames(rt: HostRuntime) -> Result<(), Fail> {
+    let mut frames = Vec::new(rt.alloc());
+    for vector in EACH_PAYLOAD {
+        frames.push(frame_of(rt.alloc(), vector)?)?;
+    }
+    for vector in [EACH_KIND[0], EACH_KIND[1], EACH_KIND[3], &COMMIT_AFTER_A_RING] {
+        frames.push(frame_of(rt.alloc(), vector)?)?;
+    }
+    for at in 0..frames.len() {
+        assert!(rt; is_itself_alone(frames.as_slice(), at)?, "{at}");
     }
     Ok(())
 }
@@ -169,58 +208,17 @@ fn stands_alone<T: Wire<Global> + Drop>(
     }
 }
 
+/// What a frame is made of is read and written alone, too.
 #[test]
-fn bodies_stand_alone(rt: HostRuntime) -> Result<(), Fail> {
+fn parts_of_frames_stand_alone(rt: HostRuntime) -> Result<(), Fail> {
     let alloc = rt.alloc();
-    let message = bytes_of(alloc, &MESSAGE)?;
-    let token = bytes_of(alloc, &TOKEN)?;
-    let join = bytes_of(alloc, &JOIN)?;
-    let commit = bytes_of(alloc, &COMMIT)?;
-    let commit_after_a_ring = bytes_of(alloc, &COMMIT_AFTER_A_RING)?;
-    assert!(rt; stands_alone::<Message>(alloc, message.as_slice(), 8, 44));
-    assert!(rt; stands_alone::<Token>(alloc, token.as_slice(), 8, 51));
-    assert!(rt; stands_alone::<Join>(alloc, join.as_slice(), 8, 13));
-    assert!(rt; stands_alone::<CommitToken>(alloc, commit.as_slice(), 8, 69));
-    assert!(rt; stands_alone::<CommitEntry>(alloc, commit_after_a_ring.as_slice(), 20, 57));
-    assert!(rt; stands_alone::<Requests>(alloc, token.as_slice(), 42, 17));
-    Ok(())
-}
-
-#[test]
-fn payloads_stand_alone(rt: HostRuntime) -> Result<(), Fail> {
-    let alloc = rt.alloc();
-    let message = bytes_of(alloc, &MESSAGE)?;
-    let head = bytes_of(alloc, &HEAD)?;
-    let part = bytes_of(alloc, &PART)?;
     let wrapped = bytes_of(alloc, &WRAPPED)?;
-    assert!(rt; stands_alone::<Payload>(alloc, message.as_slice(), 26, 26));
-    assert!(rt; stands_alone::<Call>(alloc, message.as_slice(), 27, 25));
-    assert!(rt; stands_alone::<Operation>(alloc, message.as_slice(), 39, 13));
-    assert!(rt; stands_alone::<Head>(alloc, head.as_slice(), 27, 25));
-    assert!(rt; stands_alone::<Part>(alloc, part.as_slice(), 27, 34));
-    assert!(rt; stands_alone::<Content>(alloc, part.as_slice(), 26, 35));
-    assert!(rt; stands_alone::<Wrapped>(alloc, wrapped.as_slice(), 27, 44));
-    Ok(())
-}
-
-#[test]
-fn fields_stand_alone(rt: HostRuntime) -> Result<(), Fail> {
-    let alloc = rt.alloc();
-    let commit = bytes_of(alloc, &COMMIT)?;
-    let head_of_none = bytes_of(alloc, &HEAD_OF_NONE)?;
-    let join = bytes_of(alloc, &JOIN)?;
-    let token = bytes_of(alloc, &TOKEN)?;
-    let message = bytes_of(alloc, &MESSAGE)?;
-    assert!(rt; stands_alone::<[u8; 32]>(alloc, commit.as_slice(), 45, 32));
-    assert!(rt; stands_alone::<RingId>(alloc, commit.as_slice(), 20, 9));
-    assert!(rt; stands_alone::<Option<RingId>>(alloc, head_of_none.as_slice(), 27, 9));
-    assert!(rt; stands_alone::<Proc>(alloc, join.as_slice(), 8, 1));
-    assert!(rt; stands_alone::<Option<Proc>>(alloc, token.as_slice(), 41, 1));
-    assert!(rt; stands_alone::<ProcSet>(alloc, join.as_slice(), 17, 2));
-    assert!(rt; stands_alone::<u8>(alloc, token.as_slice(), 3, 1));
-    assert!(rt; stands_alone::<u16>(alloc, message.as_slice(), 39, 2));
-    assert!(rt; stands_alone::<u32>(alloc, message.as_slice(), 4, 4));
-    assert!(rt; stands_alone::<u64>(alloc, message.as_slice(), 17, 8));
+    let head = bytes_of(alloc, &HEAD)?;
+    let commit = bytes_of(alloc, &COMMIT_AFTER_A_RING)?;
+    assert!(rt; stands_alone::<Payload>(alloc, wrapped.as_slice(), 26, 45));
+    assert!(rt; stands_alone::<Call>(alloc, wrapped.as_slice(), 46, 25));
+    assert!(rt; stands_alone::<Head>(alloc, head.as_slice(), 26, 26));
+    assert!(rt; stands_alone::<CommitEntry>(alloc, commit.as_slice(), 20, 57));
     Ok(())
 }
 

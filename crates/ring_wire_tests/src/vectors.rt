@@ -121,8 +121,61 @@ pub const WRAPPED: [&str; 13] = [
     "0101000000000000000005",
 ];
 
+/// Message 3 of ring 1.1 from 1: a Pack of 7.1, which adds 5 to counter 0, and 7.2, which reads it.
+pub const PACK: [&str; 13] = [
+    "545202010000003e",
+    "000000000000000101",
+    "0000000000000003",
+    "01",
+    "0602",
+    "00000007",
+    "0000000000000001",
+    "000b",
+    "0101000000000000000005",
+    "00000007",
+    "0000000000000002",
+    "0003",
+    "010200",
+];
+
+/// Message 4 of ring 8.1 from 1: a Head with last primary 4.1, length 3, committed 2, trimmed 1.
+pub const TRIMMED_HEAD: [&str; 9] = [
+    "5452030100000034",
+    "000000000000000801",
+    "0000000000000004",
+    "01",
+    "07",
+    "000000000000000401",
+    "0000000000000003",
+    "0000000000000002",
+    "0000000000000001",
+];
+
+/// Message 6 of ring 8.1 from 1: the last 2 bytes of a snapshot of 7,002 bytes after 256 places.
+pub const SNAP: [&str; 9] = [
+    "5452030100000027",
+    "000000000000000801",
+    "0000000000000006",
+    "01",
+    "08",
+    "0000000000000100",
+    "00001b5a00001b58",
+    "0002",
+    "abcd",
+];
+
 /// One of each kind of frame: the join, the token, the message, the commit token.
 pub const EACH_KIND: [&[&str]; 4] = [&JOIN, &TOKEN, &MESSAGE, &COMMIT];
 
 /// One message of each payload.
-pub const EACH_PAYLOAD: [&[&str]; 6] = [&MESSAGE, &WRAPPED, &END, &HEAD, &HEAD_OF_NONE, &PART];
+pub const EACH_PAYLOAD: [&[&str]; 9] = [
+    &MESSAGE,
+    &WRAPPED,
+    &END,
+    &HEAD,
+    &HEAD_OF_NONE,
+    &PART,
+    &PACK,
+    &TRIMMED_HEAD,
+    &SNAP,
+];

@@ -92,7 +92,9 @@ fn lends_a_delivery<O: Object, K: BookName<O::Alloc>, R: Abort>(
 
 fn is_first_frame<A: Allocator + Copy + Drop>(input: &LineInput<A>) -> bool {
     match input {
-        LineInput::Came(Input::Frame(Frame::Commit(token)), at) => token.hop == 1 && *at == FIRST,
+        LineInput::Came(Input::Frame(Frame::Commit(boxed)), at) => {
+            boxed.token().hop == 1 && *at == FIRST
+        }
         _ => false,
     }
 }

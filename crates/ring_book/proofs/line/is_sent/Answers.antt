@@ -1,9 +1,6 @@
 use Rattle.std.proofs.Common.{sym}
-use Rattle.ring_book.proofs.Standing.{frame_kept, found_same, found_none}
+use Rattle.ring_book.proofs.Standing.{found_same, found_none}
 use Rattle.ring_book.proofs.line.is_sent.Goals as goal
-
-pub is_same-requires : goal.is_same-requires
-is_same-requires g c = (frame_kept c.args.lines.now c.args.at c.args.node c.in-Some.sent.now c.requires (sym c.in-Some.ensures)).1
 
 pub returns-in-Some : goal.returns-in-Some
 returns-in-Some g c = found_same c.args.lines.now c.args.at c.args.node c.args.frame.now c.in-Some.sent.now _ (sym c.in-Some.ensures) c.is_same.ensures

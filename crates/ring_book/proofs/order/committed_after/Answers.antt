@@ -1,8 +1,11 @@
 use Rattle.std.proofs.Common.{◌-◌, ◌<◌, ◌∙◌, ap, arith, get_or, length}
 use Rattle.std.proofs.lemmas.Bool.Decides.{nat_tests}
 use Rattle.std.proofs.lemmas.Option.{slice_get-get_or}
-use Rattle.ring_book.proofs.Ordering.{committed-last}
+use Rattle.ring_book.proofs.Ordering.{committed-none, committed-last}
 use Rattle.ring_book.proofs.order.committed_after.Goals as goal
+
+pub returns-then-is_empty : goal.returns-then-is_empty
+returns-then-is_empty g c = committed-none c.args.lines.now (grind (arith, nat_tests, c.is_empty.ensures, c.if-is_empty.true))
 
 pub returns : goal.returns
 returns g c =

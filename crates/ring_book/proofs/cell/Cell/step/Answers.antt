@@ -10,6 +10,9 @@ use Rattle.ring_book.proofs.Journaling.{cell_adds}
 use Rattle.ring_book.proofs.Stops.{memory_runs, other_stopped, stopped_same, stop_answers}
 use Rattle.ring_book.proofs.cell.Cell.step.Goals as goal
 
+pub push_reserved-requires : goal.push_reserved-requires
+push_reserved-requires g c = (c.self.invariant.free c.if-self.false, tt)
+
 pub invariant_of-self : goal.invariant_of-self
 invariant_of-self g c =
     let m = one_machine g.O.Object.sequential in

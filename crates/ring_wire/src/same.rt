@@ -1,28 +1,42 @@
 //! Whether two frames are one.
 
-ghost use Rattle.std.specs.Prelude.{◌≡◌, ◌↔◌, ℕ, ◌<◌, length, take, IsTrue};
-ghost use Rattle.ring_book.specs.Machines.{IsNoMessage};
+ghost use Rattle.std.specs.Prelude.{◌≡◌, ◌↔◌, ◌<◌, take, length, IsTrue};
 
+use crate::commit::CommitToken;
+use crate::entries::CommitEntry;
+use crate::frame::Frame;
+use crate::join::Join;
+use crate::message::Message;
+use crate::token::Token;
 use ring_base::{Proc, RingId};
-use ring_wire::{CommitEntry, CommitToken, Frame, Join, Token};
 use std::alloc::Allocator;
 
-/// Whether the frame is this one that was sent. In a ring of one no message is a frame, so a message is none that was
-/// sent.
-pub(crate) fn is_same<A: Allocator + Copy>(frame: &Frame<A>, sent: &Frame<A>) -> bool
-    requires { IsNoMessage sent.now }
-    ensures { IsTrue result ↔ (sent.now ≡ frame.now) }
-{
-    match (frame, sent) {
-        (Frame::Token(one), Frame::Token(other)) => is_same_token(one, other),
-        (Frame::Join(one), Frame::Join(other)) => is_same_join(one, other),
-        (Frame::Commit(one), Frame::Commit(other)) => is_same_commit(one, other),
-        _ => false,
+impl<A: Allocator + Copy> Frame<A> {
+    /// Whether it is this one.
+    pub fn is_same(&self, other: &Frame<A>) -> bool
+        ensures { IsTrue result ↔ (self.now ≡ other.now) }
+    {
+        match (self, other) {
+            (Frame::Message(one), Frame::Message(other)) => is_same_message(one, other),
+            (Frame::Token(one), Frame::Token(other)) => is_same_token(one, other),
+            (Frame::Join(one), Frame::Join(other)) => is_same_join(one, other),
+            (Frame::Commit(one), Frame::Commit(other)) => is_same_commit(one.token(), other.token()),
+            _ => false,
+        }
     }
 }
 
+fn is_same_message<A: Allocator + Copy>(one: &Message<A>, other: &Message<A>) -> bool
+    ensures { IsTrue result ↔ (one.now ≡ other.now) }
+{
+    is_same_ring(one.ring, other.ring)
+        && one.number == other.number
+        && one.sender.number() == other.sender.number()
+        && one.payload.is_same(&other.payload)
+}
+
 fn is_same_token(one: &Token, other: &Token) -> bool
-    ensures { IsTrue result ↔ (other.now ≡ one.now) }
+    ensures { IsTrue result ↔ (one.now ≡ other.now) }
 {
     is_same_ring(one.ring, other.ring)
         && one.number == other.number
@@ -33,7 +47,7 @@ fn is_same_token(one: &Token, other: &Token) -> bool
 }
 
 fn is_same_join(one: &Join, other: &Join) -> bool
-    ensures { IsTrue result ↔ (other.now ≡ one.now) }
+    ensures { IsTrue result ↔ (one.now ≡ other.now) }
 {
     one.sender.number() == other.sender.number()
         && one.number == other.number
@@ -42,7 +56,7 @@ fn is_same_join(one: &Join, other: &Join) -> bool
 }
 
 fn is_same_commit(one: &CommitToken, other: &CommitToken) -> bool
-    ensures { IsTrue result ↔ (other.now ≡ one.now) }
+    ensures { IsTrue result ↔ (one.now ≡ other.now) }
 {
     is_same_ring(one.ring, other.ring)
         && one.members.bits() == other.members.bits()
@@ -51,7 +65,7 @@ fn is_same_commit(one: &CommitToken, other: &CommitToken) -> bool
 }
 
 fn are_same_entries(some: &[CommitEntry], others: &[CommitEntry]) -> bool
-    ensures { IsTrue result ↔ (others.now ≡ some.now) }
+    ensures { IsTrue result ↔ (some.now ≡ others.now) }
 {
     if some.len() != others.len() {
         return false;
@@ -65,7 +79,7 @@ fn are_same_entries(some: &[CommitEntry], others: &[CommitEntry]) -> bool
 }
 
 fn is_same_entry(one: &CommitEntry, other: &CommitEntry) -> bool
-    ensures { IsTrue result ↔ (other.now ≡ one.now) }
+    ensures { IsTrue result ↔ (one.now ≡ other.now) }
 {
     is_same_ring(one.old, other.old)
         && one.front == other.front
@@ -74,13 +88,13 @@ fn is_same_entry(one: &CommitEntry, other: &CommitEntry) -> bool
 }
 
 fn is_same_ring(one: RingId, other: RingId) -> bool
-    ensures { IsTrue result ↔ (other ≡ one) }
+    ensures { IsTrue result ↔ (one ≡ other) }
 {
     one.seq == other.seq && one.rep.number() == other.rep.number()
 }
 
 fn is_same_processor(one: Option<Proc>, other: Option<Proc>) -> bool
-    ensures { IsTrue result ↔ (other ≡ one) }
+    ensures { IsTrue result ↔ (one ≡ other) }
 {
     match (one, other) {
         (Some(one), Some(other)) => one.number() == other.number(),

@@ -1,0 +1,88 @@
+-- How pieces of snapshots are spelled: the length that the snapshot is of, its bytes in all, how many stand before the piece, how many are in it, and these. Payloads, docs/FORMATS.md.
+use Rattle.std.proofs.Common.{◌≡◌, ℕ, ◌-◌, ◌%◌, ◌<◌, ◌≤◌, Bool, true, List, length, Option, refl, arith, eq-eqb}
+use Rattle.std.specs.Prelude.{nat_le, nat_lt, ◌&&◌, ◌==◌, min}
+use Rattle.std.proofs.lemmas.Bool.{leb-true, le-leb, ltb-true, lt-ltb, eqb-true, and_parts}
+use Rattle.byteorder.specs.Endian.{big_bytes}
+use Rattle.ring_base.specs.Numbers.{max_number}
+use Rattle.ring_layout.specs.Reading.{IsFormat, made_at, ◌⊕◌}
+use Rattle.ring_layout.specs.Formats.{Format, word2, word4, word8, text, ◌&◌, followed, such, told_format}
+use Rattle.ring_payload.specs.declared.snap.Snap.{Snap}
+use Rattle.ring_payload.specs.Limits.{most_snapshot, whole_piece}
+
+-- how many bytes the piece has that begins at this offset: all that are left, but no more than a whole piece
+abbrev pub piece_length : ℕ → ℕ → ℕ
+piece_length total offset = min whole_piece (total - offset)
+
+abbrev pub snap_spelling : {A : Type 0} → Snap A → List ℕ
+snap_spelling s = big_bytes 8 s.at ⊕ big_bytes 4 s.total ⊕ big_bytes 4 s.offset ⊕ big_bytes 2 (length s.bytes) ⊕ s.bytes
+
+pub record SnapFits {A : Type 0} (s : Snap A) : Type 0 where
+  pub at_counted : 1 ≤ s.at
+  pub at : s.at ≤ max_number
+  pub total_counted : 1 ≤ s.total
+  pub total : s.total ≤ most_snapshot
+  pub offset : s.offset < s.total
+  pub whole : s.offset % whole_piece ≡ 0
+  pub bytes : length s.bytes ≡ piece_length s.total s.offset
+
+-- the limits of the four numbers before the bytes
+abbrev pub is_piece : ℕ → ℕ → ℕ → ℕ → Bool
+is_piece at total offset count =
+    nat_le 1 at && (nat_le at max_number && (nat_le 1 total && (nat_le total most_snapshot && (nat_lt offset total && ((offset % whole_piece == 0) && (count == piece_length total offset))))))
+
+abbrev Numbers : Type 0
+Numbers = ℕ × (ℕ × (ℕ × ℕ))
+
+abbrev piece_numbers : Format Numbers
+piece_numbers = such (λ p. is_piece p.0 p.1.0 p.1.1.0 p.1.1.1) (word8 & word4 & word4 & word2)
+
+abbrev snap_fields : Format (Numbers × List ℕ)
+snap_fields = followed piece_numbers (λ p. text p.1.1.1)
+
+abbrev told : {A : Type 0} → Numbers × List ℕ → Snap A
+told p = record { at = p.0.0; total = p.0.1.0; offset = p.0.1.1.0; bytes = p.1 }
+
+unfoldable pub snap_at : {A : Type 0} → List ℕ → Option (Snap A × List ℕ)
+snap_at bytes = made_at told snap_fields.at bytes
+
+piece_fits : {A : Type 0} (p : Numbers × List ℕ) → snap_fields.Fits p → SnapFits {A = A} (told p)
+piece_fits p f =
+    let a = and_parts _ _ f.0.1 in
+    let b = and_parts _ _ a.1 in
+    let c = and_parts _ _ b.1 in
+    let d = and_parts _ _ c.1 in
+    let e = and_parts _ _ d.1 in
+    let g = and_parts _ _ e.1 in
+    record {
+      at_counted = leb-true _ _ a.0;
+      at = leb-true _ _ b.0;
+      total_counted = leb-true _ _ c.0;
+      total = leb-true _ _ d.0;
+      offset = ltb-true _ _ e.0;
+      whole = eqb-true _ _ g.0;
+      bytes = omega (arith, f.1, eqb-true p.0.1.1.1 (piece_length p.0.1.0 p.0.1.1.0) g.1);
+    }
+
+is_piece_fits : {A : Type 0} (s : Snap A) → SnapFits s → is_piece s.at s.total s.offset (length s.bytes) ≡ true
+is_piece_fits s f =
+    rw (le-leb _ _ f.at_counted, le-leb _ _ f.at, le-leb _ _ f.total_counted, le-leb _ _ f.total, lt-ltb _ _ f.offset, eq-eqb _ _ f.whole, eq-eqb (length s.bytes) (piece_length s.total s.offset) f.bytes) refl
+
+pub snap_short : {A : Type 0} (s : Snap A) → SnapFits s → length s.bytes ≤ 7000
+snap_short s f = omega (arith, f.bytes)
+
+pub snap_format : {A : Type 0} → IsFormat {A = Snap A} snap_spelling SnapFits snap_at
+unfolding snap_at
+snap_format {A} = told_format snap_fields told snap_spelling SnapFits (record {
+  spelled = λ p f. rw f.1 refl;
+  fits = piece_fits;
+  back = λ s f.
+      let short : length s.bytes ≤ 7000 = snap_short s f in
+      (
+        ((s.at, (s.total, (s.offset, length s.bytes))), s.bytes),
+        (((omega (arith, f.at), (omega (arith, f.total), (omega (arith, f.total, f.offset), omega (arith, short)))), is_piece_fits s f), refl),
+        refl,
+      );
+})
+
+abbrev pub snap : {A : Type 0} → Format (Snap A)
+snap = record { spelling = snap_spelling; Fits = SnapFits; at = snap_at; exact = snap_format }
