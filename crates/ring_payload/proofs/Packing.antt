@@ -1,8 +1,8 @@
 -- What a queue's messages are: unpacked, they and what is left are the queue; each run is the longest that fits one Pack.
-use Rattle.std.proofs.Common.{◌≡◌, ℕ, zero, suc, ◌+◌, ◌-◌, ◌≤◌, max, Bool, true, false, ◌&&◌, List, [], ◌∷◌, ◌++◌, length, map, drop, refl, sym, ap, subst, ◌∙◌, inl, inr, arith, append_assoc}
+use Rattle.std.proofs.Common.{◌≡◌, ℕ, zero, suc, ◌+◌, ◌-◌, ◌≤◌, max, true, false, List, [], ◌∷◌, ◌++◌, length, map, drop, refl, sym, ap, subst, ◌∙◌, arith, append_assoc}
 use Rattle.std.specs.Prelude.{nat_le}
 use Rattle.std.specs.List.{flat_map, AllByRecursion}
-use Rattle.std.proofs.lemmas.Bool.{cond_both, and_parts, leb-true, le-leb, true≢false}
+use Rattle.std.proofs.lemmas.Bool.{cond_both, leb-true, le-leb, true≢false}
 use Rattle.ring_base.proofs.Each.{each-weaker}
 use Rattle.ring_payload.specs.declared.call.Call.{Call as OneCall}
 use Rattle.ring_payload.specs.declared.content.Payload.{Payload}
@@ -12,7 +12,7 @@ use Rattle.ring_payload.specs.Calls.{call_bytes, CallFits}
 use Rattle.ring_payload.specs.Packs.{calls_bytes, pack_bytes}
 use Rattle.ring_payload.specs.Payloads.{PayloadFits}
 use Rattle.ring_payload.specs.Kinds.{is_user, units}
-use Rattle.ring_payload.specs.Packing.{is_queued, AreQueued, IsRun, IsLongestRun, run_within, front_run, made_of, behind, packed, left_behind}
+use Rattle.ring_payload.specs.Packing.{is_queued, AreQueued, IsLongestRun, run_within, front_run, made_of, behind, packed, left_behind}
 
 -- as many as fit
 pub length-packed : {A : Type 0} → (count : ℕ) (queue : List (Payload A)) → length (packed count queue) ≤ count
@@ -56,9 +56,9 @@ run-short (suc more) bytes [] = omega arith
 run-short (suc more) bytes (Call c ∷ queue) =
     cond_both (nat_le (call_bytes c) bytes) (c ∷ run_within more (bytes - call_bytes c) queue) [] (λ run. calls_bytes run ≤ bytes)
     (λ e. (
-      let i : calls_bytes (run_within more (bytes - call_bytes c) queue) ≤ bytes - call_bytes c = run-short more (bytes - call_bytes c) queue in
-          let j : call_bytes c ≤ bytes = leb-true (call_bytes c) bytes e in
-          omega arith
+    let i : calls_bytes (run_within more (bytes - call_bytes c) queue) ≤ bytes - call_bytes c = run-short more (bytes - call_bytes c) queue in
+    let j : call_bytes c ≤ bytes = leb-true (call_bytes c) bytes e in
+    omega arith
     ))
     (λ e. omega arith)
 run-short (suc more) bytes (Wrapped old ∷ queue) = omega arith
