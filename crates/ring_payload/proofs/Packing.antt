@@ -3,7 +3,6 @@ use Rattle.std.proofs.Common.{◌≡◌, ℕ, zero, suc, ◌+◌, ◌-◌, ◌�
 use Rattle.std.specs.Prelude.{nat_le}
 use Rattle.std.specs.List.{flat_map, AllByRecursion}
 use Rattle.std.proofs.lemmas.Bool.{cond_both, leb-true, le-leb, true≢false}
-use Rattle.ring_base.proofs.Each.{each-weaker}
 use Rattle.ring_payload.specs.declared.call.Call.{Call as OneCall}
 use Rattle.ring_payload.specs.declared.content.Payload.{Payload}
 use Rattle.ring_payload.specs.declared.content.Payload.TheVariants.{Call, Wrapped, End, Head, Part, Pack, Snap}
@@ -188,7 +187,8 @@ packed-users {A} (suc more) (first ∷ queue) h =
     let run = front_run (first ∷ queue) in
     (user-made first run h.0, packed-users more (behind (first ∷ queue)) (each-drop (λ (p : Payload A). is_user p ≡ true) (max 1 (length run)) (first ∷ queue) h))
 
-user-queued : {A : Type 0} → (p : Payload A) → is_queued p ≡ true → is_user p ≡ true
+-- a queue's payload is a user's
+pub user-queued : {A : Type 0} → (p : Payload A) → is_queued p ≡ true → is_user p ≡ true
 user-queued (Call call) h = refl
 user-queued (Wrapped old) h = absurd cc
 user-queued End h = absurd cc
@@ -196,7 +196,3 @@ user-queued (Head head) h = refl
 user-queued (Part part) h = refl
 user-queued (Pack pack) h = refl
 user-queued (Snap snap) h = refl
-
--- a queue's payloads are users'
-pub users-queued : {A : Type 0} → (queue : List (Payload A)) → AreQueued queue → AllByRecursion (λ (p : Payload A). is_user p ≡ true) queue
-users-queued {A} queue h = each-weaker (λ (p : Payload A). is_queued p ≡ true) (λ (p : Payload A). is_user p ≡ true) user-queued queue h
