@@ -2,7 +2,7 @@
 use Rattle.std.proofs.Common.{◌≡◌, Bool, true, false, inl, inr, refl}
 use Rattle.std.proofs.lemmas.Bool.{cond_both, and_parts}
 use Rattle.ring_payload.specs.declared.content.Payload.{Payload}
-use Rattle.ring_payload.specs.declared.content.Payload.TheVariants.{Call, Wrapped, End, Head, Part, Pack, Snap}
+use Rattle.ring_payload.specs.Packing.{is_queued}
 use Rattle.ring_wire.specs.declared.commit.CommitToken.{CommitToken}
 use Rattle.ring_wire.specs.declared.frame.Frame.{Frame}
 use Rattle.ring_wire.specs.declared.frame.Frame.TheVariants.{Message as MessageFrame, Token as TokenFrame, Join as JoinFrame, Commit as CommitFrame}
@@ -23,7 +23,7 @@ use Rattle.ring_srp.specs.Naming.{is_named}
 use Rattle.ring_srp.specs.Visiting.{accepts}
 use Rattle.ring_srp.specs.Joining.{regathered, hears, disturbs}
 use Rattle.ring_srp.specs.Handing.{takes_first_round, takes_second_round, takes_start}
-use Rattle.ring_srp.specs.Deciding.{Ignore, Take, Visit, Fill, Learn, is_taken, decide_message, decide_token, heard_in_gather, heard_elsewhere, overhear, decide_join, decide_round, decide_commit, decide_frame, decide_if_named, decide_time, decide_payload, decide}
+use Rattle.ring_srp.specs.Deciding.{Ignore, Enqueue, Take, Visit, Fill, Learn, is_taken, decide_message, decide_token, heard_in_gather, heard_elsewhere, overhear, decide_join, decide_round, decide_commit, decide_frame, decide_if_named, decide_time, decide_payload, decide}
 use Rattle.ring_moves.specs.Laws.{IsAway, CameWith}
 
 by_message : {A : Type 0} → (c : Core A) (x : Message A) → CameWith c (FrameInput (MessageFrame x)) (decide_message c x)
@@ -98,13 +98,7 @@ by_time c Recovery JoinTime = tt
 by_time c Recovery Consensus = tt
 
 by_payload : {A : Type 0} → (c : Core A) (s : State) (payload : Payload A) → CameWith c (Send payload) (decide_payload s payload)
-by_payload c Operational (Call call) = refl
-by_payload c Operational (Head head) = refl
-by_payload c Operational (Part part) = refl
-by_payload c Operational (Snap snap) = refl
-by_payload c Operational (Pack pack) = tt
-by_payload c Operational (Wrapped w) = tt
-by_payload c Operational End = tt
+by_payload c Operational payload = cond_both (is_queued payload) (Enqueue payload) Ignore (CameWith c (Send payload)) (λ e. refl) (λ e. tt)
 by_payload c Gather payload = tt
 by_payload c Commit payload = tt
 by_payload c Recovery payload = tt

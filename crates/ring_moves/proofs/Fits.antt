@@ -1,5 +1,5 @@
 -- After any inputs: a safe mark is at most its front, and what is held lies within the window after its mark.
-use Rattle.std.proofs.Common.{◌≡◌, ℕ, zero, suc, ◌+◌, ◌-◌, ◌≤◌, min, Bool, true, false, ◌&&◌, cond, ltb, leb, eqb, List, [], ◌∷◌, ◌++◌, length, Option, Some, None, slice_get, refl, sym, subst, inl, inr, arith, length-take}
+use Rattle.std.proofs.Common.{◌≡◌, ℕ, zero, suc, ◌+◌, ◌-◌, ◌≤◌, min, Bool, true, false, ◌&&◌, cond, ltb, leb, eqb, List, [], ◌∷◌, ◌++◌, length, Option, Some, None, slice_get, take, refl, sym, subst, inl, inr, arith, length-take}
 use Rattle.std.specs.Cmp.Lexicographic.{pointwise}
 use Rattle.std.specs.List.{AllByRecursion}
 use Rattle.std.proofs.lemmas.Bool.{cond_both, cond-true, and_parts, or_parts, or_cases, or_right, ltb-false, leb-true, eqb-true}
@@ -18,19 +18,20 @@ use Rattle.ring_window.specs.Held.{is_numbered, holds, front_of, in_window, is_n
 use Rattle.ring_window.proofs.Fronts.{front_grows}
 use Rattle.ring_window.proofs.Rings.{ring_same}
 use Rattle.ring_token.specs.Turns.{Turn, Raise, safe_mark}
-use Rattle.ring_token.specs.Visits.{room, numbered, may_set, is_mine, aru_after}
+use Rattle.ring_token.specs.Visits.{numbered, may_set, is_mine, aru_after}
 use Rattle.ring_token.proofs.Marks.{safe_mark-below, safe_mark-turn, safe_mark-raise}
 use Rattle.ring_commit.specs.Reports.{same_entry, reports_of, safe_of, none_behind, is_sound}
 use Rattle.ring_commit.specs.Rounds.{position_of_hop, is_own}
 use Rattle.ring_payload.specs.Kinds.{payload_of}
-use Rattle.ring_recover.specs.Wrapping.{inner_if_new, unwrapped}
+use Rattle.ring_payload.proofs.Packing.{length-packed}
+use Rattle.ring_recover.specs.Wrapping.{wraps_and_end, inner_if_new, unwrapped}
 use Rattle.ring_srp.specs.declared.input.Input.{Input}
 use Rattle.ring_srp.specs.declared.out.Out.{Out}
 use Rattle.ring_base.specs.declared.state.State.{State}
 use Rattle.ring_base.specs.declared.state.State.TheVariants.{Gather, Commit, Recovery, Operational, Stopped}
 use Rattle.ring_srp.specs.State.{Core, Did, opening}
-use Rattle.ring_srp.specs.Views.{front, mark, own_entry, takes_number}
-use Rattle.ring_srp.specs.Visiting.{offers, new_payloads, new_messages, held_after, turn_of}
+use Rattle.ring_srp.specs.Views.{front, mark, plan, own_entry, takes_number}
+use Rattle.ring_srp.specs.Visiting.{room_at, offers, new_payloads, new_messages, held_after, turn_of}
 use Rattle.ring_srp.specs.Joining.{proposes}
 use Rattle.ring_srp.specs.Handing.{takes_second_round}
 use Rattle.ring_srp.specs.Giving.{settle}
@@ -132,8 +133,19 @@ numbered_below : {A : Type 0} → (turns : List (Turn A)) (raises : List Raise) 
 numbered_below turns raises r me seq [] h = tt
 numbered_below turns raises r me seq (p ∷ ps) h = (omega arith, numbered_below turns raises r me (suc seq) ps (omega arith))
 
+offers_few : {A : Type 0} → (s : State) (c : Core A) (count : ℕ) → length (offers s c count) ≤ count
+offers_few Operational c count = length-packed count c.queue
+offers_few Recovery c count = (let xs = wraps_and_end c.me (plan c) c.running.ring c.held in let e : length (take count xs) ≡ min count (length xs) = length-take count xs in omega arith)
+offers_few Gather c count = omega arith
+offers_few Commit c count = omega arith
+offers_few Stopped c count = omega arith
+
+-- no more messages than a visit has room for
+pub fresh_few : {A : Type 0} → (c : Core A) (t : Token) → length (new_payloads c t) ≤ room_at c t
+fresh_few c t = offers_few c.state c (room_at c t)
+
 fresh_short : {A : Type 0} → (c : Core A) (t : Token) → length (new_payloads c t) ≤ mark c t.ring + window_size - t.seq
-fresh_short c t = (let e : length (new_payloads c t) ≡ min (room (mark c t.ring) t.seq) (length (offers c.state c)) = length-take (room (mark c t.ring) t.seq) (offers c.state c) in omega arith)
+fresh_short c t = omega (arith, fresh_few c t)
 
 aru_below : (me f : ℕ) (t : Token) → aru_after me f t ≤ f
 aru_below me f t = cond_both (may_set me f t) f t.aru (λ a. a ≤ f) (λ e. omega arith) (λ e. ltb-false f t.aru (or_parts (ltb f t.aru) (is_mine me t.aru_id) e).0)

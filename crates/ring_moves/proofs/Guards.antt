@@ -2,7 +2,7 @@
 use Rattle.std.proofs.Common.{◌≡◌, Bool, true, false, inl, inr, refl}
 use Rattle.std.proofs.lemmas.Bool.{cond_both, cases_Bool, and_parts, eqb-true, cond-false}
 use Rattle.ring_payload.specs.declared.content.Payload.{Payload}
-use Rattle.ring_payload.specs.declared.content.Payload.TheVariants.{Call, Wrapped, End, Head, Part, Pack, Snap}
+use Rattle.ring_payload.specs.Packing.{is_queued}
 use Rattle.ring_wire.specs.declared.commit.CommitToken.{CommitToken}
 use Rattle.ring_wire.specs.declared.frame.Frame.{Frame}
 use Rattle.ring_wire.specs.declared.frame.Frame.TheVariants.{Message as MessageFrame, Token as TokenFrame, Join as JoinFrame, Commit as CommitFrame}
@@ -24,7 +24,7 @@ use Rattle.ring_srp.specs.Naming.{is_named}
 use Rattle.ring_srp.specs.Visiting.{accepts}
 use Rattle.ring_srp.specs.Joining.{regathered, hears, disturbs}
 use Rattle.ring_srp.specs.Handing.{takes_first_round, takes_second_round, takes_start}
-use Rattle.ring_srp.specs.Deciding.{Ignore, Take, Visit, Fill, Learn, is_taken, decide_message, decide_token, heard_in_gather, heard_elsewhere, overhear, decide_join, decide_round, decide_commit, decide_frame, decide_if_named, decide_time, decide_user, decide_payload, decide}
+use Rattle.ring_srp.specs.Deciding.{Ignore, Enqueue, Take, Visit, Fill, Learn, is_taken, decide_message, decide_token, heard_in_gather, heard_elsewhere, overhear, decide_join, decide_round, decide_commit, decide_frame, decide_if_named, decide_time, decide_user, decide_payload, decide}
 use Rattle.ring_moves.specs.Laws.{IsAway, HasPassed, TakesCommit}
 
 in_message : {A : Type 0} → (c : Core A) (x : Message A) → HasPassed c (decide_message c x)
@@ -97,13 +97,7 @@ in_time c Recovery JoinTime h = tt
 in_time c Recovery Consensus h = tt
 
 in_user : {A : Type 0} → (c : Core A) (payload : Payload A) → c.state ≡ Operational → HasPassed c (decide_user payload)
-in_user c (Call call) h = h
-in_user c (Head head) h = h
-in_user c (Part part) h = h
-in_user c (Snap snap) h = h
-in_user c (Pack pack) h = tt
-in_user c (Wrapped w) h = tt
-in_user c End h = tt
+in_user c payload h = cond_both (is_queued payload) (Enqueue payload) Ignore (HasPassed c) (λ e. (h, e)) (λ e. tt)
 
 in_payload : {A : Type 0} → (c : Core A) (s : State) (payload : Payload A) → c.state ≡ s → HasPassed c (decide_payload s payload)
 in_payload c Operational payload h = in_user c payload h

@@ -4,6 +4,7 @@ pub mod Rises
 pub mod Fits
 pub mod Agrees
 pub mod Turned
+pub mod Fresh
 pub mod Everywhere
 pub mod Rounds
 pub mod Worlds

@@ -8,10 +8,11 @@ use Rattle.ring_srp.specs.State.{Core}
 use Rattle.ring_srp.specs.Views.{front, mark}
 use Rattle.ring_moves.specs.declared.event.RingEvent.{RingEvent}
 use Rattle.ring_moves.specs.Worlds.{run, unformed}
-use Rattle.ring_moves.specs.Laws.{AreTurnsOf}
+use Rattle.ring_moves.specs.Laws.{AreTurnsOf, AreFreshOf}
 use Rattle.ring_moves.proofs.Fits.{Fit, step_fits, mark_below, held_below}
 use Rattle.ring_moves.proofs.Agrees.{step_same}
 use Rattle.ring_moves.proofs.Turned.{Turned, step_turned}
+use Rattle.ring_moves.proofs.Fresh.{Made, step_made, opening_made}
 use Rattle.ring_moves.proofs.Everywhere.{Everywhere, everywhere}
 
 fits : {A : Type 0} → (n : ℕ) (events : List (RingEvent A)) → Everywhere Fit (run (unformed n) events)
@@ -25,6 +26,9 @@ all_held_below n i events ring k h = held_below ((run (unformed n) events).cores
 
 pub all_turns : {A : Type 0} → (n i : ℕ) (events : List (RingEvent A)) → AreTurnsOf ((run (unformed n) events).cores i).me ((run (unformed n) events).cores i).held ((run (unformed n) events).cores i).turns
 all_turns n i events = everywhere Turned (record { opens = λ n i. tt; steps = step_turned; stops = λ c t. t }) n events i
+
+pub all_fresh : {A : Type 0} → (n i : ℕ) (events : List (RingEvent A)) → AreFreshOf ((run (unformed n) events).cores i).me ((run (unformed n) events).cores i).held ((run (unformed n) events).cores i).turns
+all_fresh n i events = (everywhere Made (record { opens = opening_made; steps = step_made; stops = λ c m. m }) n events i).fresh
 
 -- each join kept as heard says exactly the sets
 abbrev Agreeing : {A : Type 0} → Core A → Type 0

@@ -2,8 +2,7 @@
 use Rattle.std.specs.Prelude.{ℕ, ◌==◌, ◌&&◌, Bool, true, false, List, [], ◌∷◌, map, filter, None}
 use Rattle.std.specs.declared.alloc.Global.{Global}
 use Rattle.ring_base.specs.Processors.{only, less}
-use Rattle.ring_payload.specs.declared.content.Payload.{Payload}
-use Rattle.ring_payload.specs.declared.content.Payload.TheVariants.{Call as CallPayload, End, Head}
+use Rattle.ring_payload.specs.declared.content.Payload.TheVariants.{Call as CallPayload, End}
 use Rattle.ring_wire.specs.declared.entries.CommitEntry.{CommitEntry}
 use Rattle.ring_wire.specs.declared.frame.Frame.{Frame}
 use Rattle.ring_wire.specs.declared.frame.Frame.TheVariants.{Message as MessageFrame}
@@ -15,7 +14,7 @@ use Rattle.ring_moves.specs.declared.event.RingEvent.{RingEvent}
 use Rattle.ring_moves.specs.declared.event.RingEvent.TheVariants.{Send, Deliver, Timeout, Stop}
 use Rattle.ring_moves.specs.Worlds.{Carried, World, run, unformed}
 use Rattle.ring_moves.specs.Pumping.{pump}
-use Rattle.ring_moves.specs.Samples.{ring_of, first_ring, add_five, message_of, token_frame, join_frame, empty_report, commit_frame}
+use Rattle.ring_moves.specs.Samples.{ring_of, first_ring, add_five, empty_head, message_of, token_frame, join_frame, empty_report, commit_frame}
 
 abbrev pub frame_of : ℕ → ℕ → Frame Global → Carried Global
 frame_of from to frame = record { from = from; to = to; frame = frame }
@@ -85,10 +84,6 @@ silent_frames =
     frame_of 1 2 (commit_frame first_ring 3 1 (empty_report 1 ∷ [])) ∷ []
 
 -- One alone
-
--- the head of a log with no place
-abbrev pub empty_head : Payload Global
-empty_head = Head (record { last = None; length = 0; committed = 0; trimmed = 0 })
 
 -- it is handed a head as it installs its ring, and then a call
 abbrev pub lone_events : List (RingEvent Global)

@@ -1,6 +1,10 @@
 -- What the laws of cores speak of: what a decision has tested, and what holds after any inputs.
-use Rattle.std.specs.Prelude.{◌≡◌, ℕ, ◌<◌, ◌≤◌, ◌⊎◌, true, List, [], ◌∷◌, length}
+use Rattle.std.specs.Prelude.{◌≡◌, ℕ, ◌-◌, ◌<◌, ◌≤◌, ◌⊎◌, true, List, [], ◌∷◌, ◌++◌, length, take}
 use Rattle.std.specs.List.{AllByRecursion}
+use Rattle.ring_base.specs.Numbers.{max_number, visit_limit}
+use Rattle.ring_base.specs.declared.ring_id.RingId.{RingId}
+use Rattle.ring_payload.specs.declared.content.Payload.{Payload}
+use Rattle.ring_payload.specs.Packing.{is_queued, AreQueued, packed}
 use Rattle.ring_wire.specs.declared.commit.CommitToken.{CommitToken}
 use Rattle.ring_wire.specs.declared.frame.Frame.TheVariants.{Message as MessageFrame, Token as TokenFrame, Join as JoinFrame, Commit as CommitFrame}
 use Rattle.ring_wire.specs.declared.join.Join.{Join}
@@ -13,6 +17,8 @@ use Rattle.ring_join.specs.Gathering.{Hearing, Ignored, Agrees, Widens}
 use Rattle.ring_commit.specs.Reports.{Configuration}
 use Rattle.ring_commit.specs.Rounds.{is_start}
 use Rattle.ring_commit.specs.Outcomes.{is_at}
+use Rattle.ring_recover.specs.Plans.{Plan}
+use Rattle.ring_recover.specs.Wrapping.{wraps_and_end}
 use Rattle.ring_base.specs.declared.kind.Kind.TheVariants.{Retransmit, Join as JoinTime, Consensus, Loss}
 use Rattle.ring_srp.specs.declared.input.Input.{Input}
 use Rattle.ring_srp.specs.declared.input.Input.TheVariants.{Frame as FrameInput, Timeout as TimeInput, Send as SendInput}
@@ -52,7 +58,7 @@ pub record PassesSecond {A : Type 0} (c : Core A) (k : CommitToken) : Type 0 whe
 -- what an act has passed
 abbrev pub HasPassed : {A : Type 0} → Core A → Act A → Type 0
 HasPassed c Ignore = Unit {0}
-HasPassed c (Enqueue payload) = c.state ≡ Operational
+HasPassed c (Enqueue payload) = (c.state ≡ Operational) × (is_queued payload ≡ true)
 HasPassed c Repeat = c.state ≡ Stopped → ⊥
 HasPassed c Announce = c.state ≡ Gather
 HasPassed c Invite = c.state ≡ Operational
@@ -118,3 +124,28 @@ pub record IsTurnOf {A : Type 0} (me : ℕ) (held : List (Message A)) (v : Turn 
 
 abbrev pub AreTurnsOf : {A : Type 0} → ℕ → List (Message A) → List (Turn A) → Type 0
 AreTurnsOf me held turns = AllByRecursion (IsTurnOf me held) turns
+
+-- in Operational a visit's new messages are the first that a queue makes, which holds no Pack
+pub record AreOfQueue {A : Type 0} (fresh : List (Payload A)) : Type 0 where
+  pub count : ℕ
+  pub queue : List (Payload A)
+  pub queued : AreQueued queue
+  pub made : fresh ≡ packed count queue
+
+-- in Recovery they are the first of what the processor wrapped of an old ring, by what it held then, and of its End behind that
+pub record AreOfRecovery {A : Type 0} (me : ℕ) (ring : RingId) (held : List (Message A)) (fresh : List (Payload A)) : Type 0 where
+  pub count : ℕ
+  pub plan : Plan
+  pub later : List (Message A)
+  pub before : List (Message A)
+  pub grown : later ++ before ≡ held
+  pub made : fresh ≡ take count (wraps_and_end me plan ring before)
+
+-- the new messages of a visit: no more than one may send, none past the greatest number, and made in one of the two ways
+pub record IsFreshOf {A : Type 0} (me : ℕ) (held : List (Message A)) (v : Turn A) : Type 0 where
+  pub few : length v.fresh ≤ visit_limit
+  pub numbered : length v.fresh ≤ max_number - v.came.seq
+  pub made : AreOfQueue v.fresh ⊎ AreOfRecovery me v.came.ring held v.fresh
+
+abbrev pub AreFreshOf : {A : Type 0} → ℕ → List (Message A) → List (Turn A) → Type 0
+AreFreshOf me held turns = AllByRecursion (IsFreshOf me held) turns

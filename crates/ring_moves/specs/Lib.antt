@@ -9,4 +9,5 @@ pub mod FormedRing
 pub mod FirstRings
 pub mod ChangedRing
 pub mod SingleSteps
+pub mod PackedCalls
 pub mod Recoveries

@@ -6,7 +6,7 @@ use Rattle.ring_base.specs.declared.ring_id.RingId.{RingId}
 use Rattle.ring_payload.specs.declared.call.Call.{Call}
 use Rattle.ring_payload.specs.declared.content.Content.TheVariants.{Call as CallContent}
 use Rattle.ring_payload.specs.declared.content.Payload.{Payload}
-use Rattle.ring_payload.specs.declared.content.Payload.TheVariants.{Call as CallPayload, Wrapped}
+use Rattle.ring_payload.specs.declared.content.Payload.TheVariants.{Call as CallPayload, Head, Wrapped}
 use Rattle.ring_wire.specs.declared.entries.CommitEntry.{CommitEntry}
 use Rattle.ring_wire.specs.declared.commit.CommitToken.{CommitToken}
 use Rattle.ring_wire.specs.declared.frame.Frame.{Frame}
@@ -31,6 +31,10 @@ second_ring = ring_of 2 1
 -- call 7.1: add 5 to the counter 0
 abbrev pub add_five : Call Global
 add_five = record { client = 7; number = 1; op = 1 ∷ 1 ∷ 0 ∷ 0 ∷ 0 ∷ 0 ∷ 0 ∷ 0 ∷ 0 ∷ 0 ∷ 5 ∷ [] }
+
+-- the head of a log with no place
+abbrev pub empty_head : Payload Global
+empty_head = Head (record { last = None; length = 0; committed = 0; trimmed = 0 })
 
 abbrev pub message_of : RingId → ℕ → ℕ → Payload Global → Message Global
 message_of ring number sender payload = record { ring = ring; number = number; sender = sender; payload = payload }

@@ -2,7 +2,6 @@
 use Rattle.std.specs.Prelude.{ℕ, ◌-◌, List, [], ◌∷◌, map, Some, None}
 use Rattle.std.specs.declared.alloc.Global.{Global}
 use Rattle.ring_base.specs.Numbers.{max_number, numbers_from}
-use Rattle.ring_payload.specs.declared.content.Payload.TheVariants.{Call as CallPayload}
 use Rattle.ring_wire.specs.declared.commit.CommitToken.{CommitToken}
 use Rattle.ring_wire.specs.declared.entries.CommitEntry.{CommitEntry}
 use Rattle.ring_wire.specs.declared.frame.Frame.{Frame}
@@ -16,7 +15,7 @@ use Rattle.ring_base.specs.declared.state.State.{State}
 use Rattle.ring_base.specs.declared.state.State.TheVariants.{Gather, Commit}
 use Rattle.ring_srp.specs.State.{Core, Stepped, opening, formed}
 use Rattle.ring_srp.specs.Stepping.{ring_step}
-use Rattle.ring_moves.specs.Samples.{first_ring, second_ring, commit_of, commit_frame, report_of, empty_report, ring_of, add_five, call_at, token_of, token_frame, join_frame, holding}
+use Rattle.ring_moves.specs.Samples.{first_ring, second_ring, commit_of, commit_frame, report_of, empty_report, ring_of, empty_head, call_at, token_of, token_frame, join_frame, holding}
 
 -- a frame comes
 abbrev pub comes : Core Global → Frame Global → Stepped Global
@@ -52,9 +51,9 @@ marked mark c = record c { raises = record { ring = first_ring; mark = mark } �
 
 -- Limits
 
--- one of two that holds 1 to count, with ten payloads to send
+-- one of two that holds 1 to count, with ten heads to send, which go out one by one
 abbrev pub sending : ℕ → Core Global
-sending count = record (holding 2 1 (numbers_from 1 count)) { queue = map (λ n. CallPayload add_five) (numbers_from 1 10) }
+sending count = record (holding 2 1 (numbers_from 1 count)) { queue = map (λ n. empty_head) (numbers_from 1 10) }
 
 -- its safe mark is near the greatest number
 abbrev pub near_greatest : Core Global

@@ -1,6 +1,6 @@
 //! Worked examples, computed from the definitions.
 
-ghost use Rattle.std.specs.Prelude.{◌≡◌, ℕ, List, ◌+◌, ◌^◌, ◌-◌, length, [], ◌∷◌, Some, None, map, false, true};
+ghost use Rattle.std.specs.Prelude.{◌≡◌, ℕ, List, ◌+◌, ◌^◌, ◌-◌, length, drop, [], ◌∷◌, Some, None, map, false, true};
 ghost use Rattle.std.specs.declared.alloc.Global.{Global};
 ghost use Rattle.ring_base.specs.Numbers.{max_number, numbers_from};
 ghost use Rattle.ring_payload.specs.declared.content.Payload.TheVariants.{Call as CallPayload, End};
@@ -21,10 +21,11 @@ ghost use Rattle.ring_srp.specs.Giving.{may_install};
 ghost use Rattle.ring_srp.specs.Deciding.{decide, Ignore, Take, Regather, Agree, Widen, RegatherAndAgree, RegatherAndWiden, Visit, Fill, Learn};
 ghost use Rattle.ring_srp.specs.Stepping.{ring_step};
 ghost use Rattle.ring_moves.specs.Worlds.{run, run_formed, unformed};
-ghost use Rattle.ring_moves.specs.Samples.{first_ring, second_ring, ring_of, add_five, message_of, call_at, wrapped_call, token_of, token_frame, token_at, join_of, join_frame, report_of, empty_report, commit_of, commit_frame, holding};
+ghost use Rattle.ring_moves.specs.Samples.{first_ring, second_ring, ring_of, add_five, message_of, call_at, wrapped_call, empty_head, token_of, token_frame, token_at, join_of, join_frame, report_of, empty_report, commit_of, commit_frame, holding};
 ghost use Rattle.ring_moves.specs.FormedRing.{loss_events, loss_outs, idle_timeouts, repeat_timeout, first_token_again};
 ghost use Rattle.ring_moves.specs.FirstRings.{three_after, three_frames, states_of_three, configurations_of, first_configurations, silent_events, silent_frames, lone_events, lone_outs, lone_hop, three_reports, join_to_others, stop_events, idle_events};
 ghost use Rattle.ring_moves.specs.SingleSteps.{comes, lacking, having, token_of_ten, asking_token, asks, sends_again, holed, marked, sending, near_greatest, floored, stranger, marked_at_five, asks_three_and_seven, gathering_from, formed_three, opened_three, in_ring_of_two, invitation, gathering_alone, gave_up_two, gives_up_and_proposes, hop_at_three, committing, returned};
+ghost use Rattle.ring_moves.specs.PackedCalls.{calls_from, calls_of_size, seven_and, waiting, pack_of, queueing, around_head, two_and_head, five_times, nine_events, nine_outs, packed_message, with_pack, wrapped_pack, handed_on, piece};
 ghost use Rattle.ring_moves.specs.Recoveries.{with_four, with_three, with_all, with_ends, past_gap, mixed};
 
 /// Two in a formed ring: a message that is lost once is asked for, sent again, agreed and then safe.
@@ -77,8 +78,8 @@ pub fn safe_marks()
 pub fn plan_of_two()
     ensures low { low (plan with_four) ≡ 2 }
     ensures gap { gap (plan with_four) ≡ 5 }
-    ensures first_wraps { offers Recovery with_four ≡ wrapped_call 1 4 ∷ End ∷ [] }
-    ensures second_wraps { offers Recovery with_three ≡ wrapped_call 1 3 ∷ End ∷ [] }
+    ensures first_wraps { offers Recovery with_four 8 ≡ wrapped_call 1 4 ∷ End ∷ [] }
+    ensures second_wraps { offers Recovery with_three 8 ≡ wrapped_call 1 3 ∷ End ∷ [] }
     ensures not_yet { finish (plan with_four) with_four.held ≡ None }
     ensures then { finish (plan (with_all 1)) (with_all 1).held ≡ Some (record { regular = []; transitional = 1 ∷ 2 ∷ 3 ∷ 4 ∷ []; past_gap = [] }) }
     ensures installs { may_install (with_ends (with_all 1)) ≡ true }
@@ -130,6 +131,24 @@ pub fn limits()
     ensures ring_below { proposes (floored (max_number - 1)) ≡ true }
     ensures ring_greatest { proposes (floored max_number) ≡ false }
     ensures named { decide (opening 3 1) (FrameInput stranger) ≡ Ignore }
+{}
+
+/// A visit packs the calls in a row of its queue, as many as fit one message; what stands alone goes as it is.
+pub fn packed_calls()
+    ensures nine { new_payloads (queueing (waiting (calls_from 1 9))) (token_at 5 0) ≡ pack_of (calls_from 1 9) ∷ [] }
+    ensures nine_outs { drop 9 (run (unformed 1) nine_events).outs ≡ nine_outs }
+    ensures one { new_payloads (queueing (waiting (calls_from 1 1))) (token_at 5 0) ≡ waiting (calls_from 1 1) }
+    ensures sixteen { new_payloads (queueing (waiting (calls_from 1 16))) (token_at 5 0) ≡ pack_of (calls_from 1 16) ∷ [] }
+    ensures seventeen { new_payloads (queueing (waiting (calls_from 1 17))) (token_at 5 0) ≡ pack_of (calls_from 1 16) ∷ waiting (calls_from 17 1) }
+    ensures long { new_payloads (queueing (waiting (calls_of_size 1024 8))) (token_at 5 0) ≡ pack_of (calls_of_size 1024 7) ∷ waiting (calls_of_size 1024 1) }
+    ensures greatest { new_payloads (queueing (waiting (seven_and 162))) (token_at 5 0) ≡ pack_of (seven_and 162) ∷ [] }
+    ensures past_greatest { new_payloads (queueing (waiting (seven_and 163))) (token_at 5 0) ≡ pack_of (calls_of_size 1000 7) ∷ waiting (calls_of_size 163 1) }
+    ensures around { new_payloads (queueing around_head) (token_at 5 0) ≡ pack_of (calls_from 1 2) ∷ empty_head ∷ pack_of (calls_from 3 3) ∷ [] }
+    ensures batch { length (new_payloads (queueing five_times) (token_at 5 0)) ≡ 8 }
+    ensures left_over { (visited (queueing five_times) (token_at 5 0)).core.queue ≡ two_and_head 9 }
+    ensures window { new_payloads (queueing five_times) (token_at 5 255) ≡ pack_of (calls_from 1 2) ∷ [] }
+    ensures wraps { offers Recovery with_pack 8 ≡ wrapped_pack ∷ End ∷ [] }
+    ensures unwraps { (comes with_three (MessageFrame handed_on)).core.held ≡ packed_message ∷ handed_on ∷ with_three.held }
 {}
 
 /// Corners of the states.
@@ -228,6 +247,8 @@ pub fn payloads()
     ensures queued { (ring_step formed_three (Send (CallPayload add_five))).core.queue ≡ CallPayload add_five ∷ [] }
     ensures end { decide formed_three (Send End) ≡ Ignore }
     ensures wrapped { decide formed_three (Send (wrapped_call 1 1)) ≡ Ignore }
+    ensures packed { decide formed_three (Send (pack_of (calls_from 1 2))) ≡ Ignore }
+    ensures piece { (ring_step formed_three (Send piece)).core.queue ≡ piece ∷ [] }
     ensures in_gather { decide (opening 3 1) (Send (CallPayload add_five)) ≡ Ignore }
     ensures in_recovery { decide with_four (Send (CallPayload add_five)) ≡ Ignore }
 {}

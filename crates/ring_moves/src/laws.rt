@@ -1,10 +1,14 @@
 //! Laws of the ring core: what holds of every core, whatever comes in, forged frames among it.
 
-ghost use Rattle.std.specs.Prelude.{◌≡◌, ℕ, List, ◌+◌, ◌≤◌, true};
+ghost use Rattle.std.specs.Prelude.{◌≡◌, ℕ, List, ◌+◌, ◌≤◌, ◌++◌, length, true};
 ghost use Rattle.std.specs.declared.alloc.Global.{Global as Heap};
-ghost use Rattle.std.specs.List.{list_all};
+ghost use Rattle.std.specs.List.{list_all, flat_map, AllByRecursion};
 ghost use Rattle.ring_base.specs.Numbers.{numbers_from, window_size};
 ghost use Rattle.ring_base.specs.declared.ring_id.RingId.{RingId};
+ghost use Rattle.ring_payload.specs.declared.content.Payload.{Payload};
+ghost use Rattle.ring_payload.specs.Kinds.{is_user, units};
+ghost use Rattle.ring_payload.specs.Packing.{AreQueued, IsLongestRun, front_run, packed, left_behind};
+ghost use Rattle.ring_payload.specs.Payloads.{PayloadFits};
 ghost use Rattle.ring_wire.specs.declared.commit.CommitToken.{CommitToken};
 ghost use Rattle.ring_window.specs.Held.{holds};
 ghost use Rattle.ring_join.specs.Gathering.{AllSaySame};
@@ -17,7 +21,7 @@ ghost use Rattle.ring_srp.specs.Stepping.{after_inputs};
 ghost use Rattle.ring_moves.specs.declared.event.RingEvent.{RingEvent};
 ghost use Rattle.ring_moves.specs.Worlds.{World, run, unformed};
 ghost use Rattle.ring_moves.specs.CommitRounds.{has_rising_rings, is_taken, takings};
-ghost use Rattle.ring_moves.specs.Laws.{CameWith, HasPassed, IsFalling, TakesCommit, AreTurnsOf};
+ghost use Rattle.ring_moves.specs.Laws.{CameWith, HasPassed, IsFalling, TakesCommit, AreTurnsOf, AreFreshOf};
 
 use ring_recover::finish_law;
 use ring_token::safe_law;
@@ -61,17 +65,30 @@ pub fn agreement_law<A: Allocator + Copy>()
 {}
 
 /// Each visit that a core took went by the rules, so that the visits of a ring are those of which `ring_token`
-/// says how far they make it safe.
+/// says how far they make it safe. Its new messages are what a queue makes, each run of calls packed, or, in
+/// Recovery, what is wrapped and the End.
 pub fn visit_law<A: Allocator + Copy>()
-    ensures { (n me : ℕ) (inputs : List (Input A)) → AreTurnsOf (after_inputs (opening n me) inputs).me (after_inputs (opening n me) inputs).held (after_inputs (opening n me) inputs).turns }
+    ensures turns { (n me : ℕ) (inputs : List (Input A)) → AreTurnsOf (after_inputs (opening n me) inputs).me (after_inputs (opening n me) inputs).held (after_inputs (opening n me) inputs).turns }
+    ensures fresh { (n me : ℕ) (inputs : List (Input A)) → AreFreshOf (after_inputs (opening n me) inputs).me (after_inputs (opening n me) inputs).held (after_inputs (opening n me) inputs).turns }
+{}
+
+/// What a visit makes of a queue: the run of calls that goes out first is the longest that fits one message; no
+/// payload of the queue is lost, doubled or moved; messages keep the limits that the payloads keep, and are users'.
+pub fn packing_law<A: Allocator + Copy>()
+    ensures longest { (queue : List (Payload A)) → IsLongestRun queue (front_run queue) }
+    ensures few { (count : ℕ) (queue : List (Payload A)) → length (packed count queue) ≤ count }
+    ensures units { (count : ℕ) (queue : List (Payload A)) → AreQueued queue → flat_map units (packed count queue) ++ left_behind count queue ≡ queue }
+    ensures fits { (count : ℕ) (queue : List (Payload A)) → AllByRecursion PayloadFits queue → AllByRecursion PayloadFits (packed count queue) }
+    ensures users { (count : ℕ) (queue : List (Payload A)) → AllByRecursion (λ (p : Payload A). is_user p ≡ true) queue → AllByRecursion (λ (p : Payload A). is_user p ≡ true) (packed count queue) }
 {}
 
 /// The same of each processor of every world: marks never pass fronts, nothing is held past the window, each
-/// visit went by the rules, and each join kept as heard says exactly the sets.
+/// visit went by the rules with new messages made by them, and each join kept as heard says exactly the sets.
 pub fn world_law<A: Allocator + Copy>()
     ensures marks { (n i : ℕ) (events : List (RingEvent A)) (ring : RingId) → mark ((run (unformed n) events).cores i) ring ≤ front ((run (unformed n) events).cores i) ring }
     ensures window { (n i : ℕ) (events : List (RingEvent A)) (ring : RingId) (k : ℕ) → holds ((run (unformed n) events).cores i).held ring k ≡ true → k ≤ mark ((run (unformed n) events).cores i) ring + window_size }
     ensures visits { (n i : ℕ) (events : List (RingEvent A)) → AreTurnsOf ((run (unformed n) events).cores i).me ((run (unformed n) events).cores i).held ((run (unformed n) events).cores i).turns }
+    ensures fresh { (n i : ℕ) (events : List (RingEvent A)) → AreFreshOf ((run (unformed n) events).cores i).me ((run (unformed n) events).cores i).held ((run (unformed n) events).cores i).turns }
     ensures joins { (n i : ℕ) (events : List (RingEvent A)) → AllSaySame ((run (unformed n) events).cores i).gathering }
 {}
 
@@ -98,6 +115,7 @@ pub fn laws_at_global()
     window_law::<Global>();
     agreement_law::<Global>();
     visit_law::<Global>();
+    packing_law::<Global>();
     world_law::<Global>();
     rounds_law::<Global>();
     mark_law::<Global>();

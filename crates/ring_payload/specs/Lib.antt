@@ -9,3 +9,4 @@ pub mod Parts
 pub mod Payloads
 pub mod Snaps
 pub mod Versions
+pub mod Packing

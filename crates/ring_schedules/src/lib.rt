@@ -1,77 +1,78 @@
 //! Random schedules of ring cores, with frames lost, repeated and reordered and with all timeouts: what comes out
-//! is what an independent simulator gives, frame by frame. The last ones give one core forged frames too.
+//! is what an independent implementation of the protocol gives, frame by frame. Among them each thing that an
+//! input may come to, each kind of output, recoveries that break off, and gaps.
 #![tactic(auto)]
 
 ghost use Rattle.std.specs.Prelude.{◌≡◌};
 ghost use Rattle.ring_schedules.specs.OfOne.{world as world_of_one, outs as outs_of_one};
-ghost use Rattle.ring_schedules.specs.OfTwo.{world as world_of_two, outs as outs_of_two};
-ghost use Rattle.ring_schedules.specs.OfTwoMore.{world as world_of_two_more, outs as outs_of_two_more};
-ghost use Rattle.ring_schedules.specs.OfThree.{world as world_of_three, outs as outs_of_three};
-ghost use Rattle.ring_schedules.specs.OfThreeMore.{world as world_of_three_more, outs as outs_of_three_more};
-ghost use Rattle.ring_schedules.specs.OfFour.{world as world_of_four, outs as outs_of_four};
+ghost use Rattle.ring_schedules.specs.OfTwoRest.{world as world_of_two_rest, outs as outs_of_two_rest};
+ghost use Rattle.ring_schedules.specs.OfTwoGather.{world as world_of_two_gather, outs as outs_of_two_gather};
+ghost use Rattle.ring_schedules.specs.OfTwoFormed.{world as world_of_two_formed, outs as outs_of_two_formed};
+ghost use Rattle.ring_schedules.specs.OfThreeBroken.{world as world_of_three_broken, outs as outs_of_three_broken};
+ghost use Rattle.ring_schedules.specs.OfThreeStops.{world as world_of_three_stops, outs as outs_of_three_stops};
+ghost use Rattle.ring_schedules.specs.OfFourGap.{world as world_of_four_gap, outs as outs_of_four_gap};
+ghost use Rattle.ring_schedules.specs.OfFourPacks.{world as world_of_four_packs, outs as outs_of_four_packs};
+ghost use Rattle.ring_schedules.specs.OfFourBroken.{world as world_of_four_broken, outs as outs_of_four_broken};
+ghost use Rattle.ring_schedules.specs.OfFourFormed.{world as world_of_four_formed, outs as outs_of_four_formed};
 ghost use Rattle.ring_schedules.specs.OfFive.{world as world_of_five, outs as outs_of_five};
 ghost use Rattle.ring_schedules.specs.OfSix.{world as world_of_six, outs as outs_of_six};
-ghost use Rattle.ring_schedules.specs.Forged.{given as given_forged, outs as outs_forged};
-ghost use Rattle.ring_schedules.specs.ForgedMore.{given as given_forged_more, outs as outs_forged_more};
-ghost use Rattle.ring_schedules.specs.ForgedAgain.{given as given_forged_again, outs as outs_forged_again};
-ghost use Rattle.ring_schedules.specs.ForgedLast.{given as given_forged_last, outs as outs_forged_last};
 
-/// A random schedule of one processor.
+/// One processor: calls go out packed in a ring of one.
 pub fn schedule_of_one()
     ensures { world_of_one.outs ≡ outs_of_one }
 {}
 
-/// A random schedule of two processors.
-pub fn schedule_of_two()
-    ensures { world_of_two.outs ≡ outs_of_two }
+/// Two processors: their ring changes, and the rest of an old ring has a Pack and a Part.
+pub fn schedule_of_two_rest()
+    ensures { world_of_two_rest.outs ≡ outs_of_two_rest }
 {}
 
-/// A random schedule of two processors.
-pub fn schedule_of_two_more()
-    ensures { world_of_two_more.outs ≡ outs_of_two_more }
+/// Two processors: a join with other sets leads from a ring to Gather.
+pub fn schedule_of_two_gather()
+    ensures { world_of_two_gather.outs ≡ outs_of_two_gather }
 {}
 
-/// A random schedule of three processors.
-pub fn schedule_of_three()
-    ensures { world_of_three.outs ≡ outs_of_three }
+/// Two processors in a formed ring: Packs, Parts and Heads, and a Pack that recovery hands on.
+pub fn schedule_of_two_formed()
+    ensures { world_of_two_formed.outs ≡ outs_of_two_formed }
 {}
 
-/// A random schedule of three processors.
-pub fn schedule_of_three_more()
-    ensures { world_of_three_more.outs ≡ outs_of_three_more }
+/// Three processors: two recoveries break off once calls were wrapped, and later ones wrap them anew.
+pub fn schedule_of_three_broken()
+    ensures { world_of_three_broken.outs ≡ outs_of_three_broken }
 {}
 
-/// A random schedule of four processors.
-pub fn schedule_of_four()
-    ensures { world_of_four.outs ≡ outs_of_four }
+/// Three processors: two of them stop.
+pub fn schedule_of_three_stops()
+    ensures { world_of_three_stops.outs ≡ outs_of_three_stops }
 {}
 
-/// A random schedule of five processors.
+/// Four processors: past a gap what the old ring's own members sent is delivered, and the rest discarded.
+pub fn schedule_of_four_gap()
+    ensures { world_of_four_gap.outs ≡ outs_of_four_gap }
+{}
+
+/// Four processors: Packs are wrapped, what an outsider sent past a gap is discarded, and one processor stops.
+pub fn schedule_of_four_packs()
+    ensures { world_of_four_packs.outs ≡ outs_of_four_packs }
+{}
+
+/// Four processors: recoveries break off with a Pack wrapped.
+pub fn schedule_of_four_broken()
+    ensures { world_of_four_broken.outs ≡ outs_of_four_broken }
+{}
+
+/// Four processors in a formed ring: Heads, a Pack and a Call are handed on to all and are the rest of the old ring.
+pub fn schedule_of_four_formed()
+    ensures { world_of_four_formed.outs ≡ outs_of_four_formed }
+{}
+
+/// Five processors: a ring under load.
 pub fn schedule_of_five()
     ensures { world_of_five.outs ≡ outs_of_five }
 {}
 
-/// A random schedule of six processors.
+/// Six processors: joins of many sets before their rings come to stand.
 pub fn schedule_of_six()
     ensures { world_of_six.outs ≡ outs_of_six }
-{}
-
-/// Random inputs of one of 3, forged ones among them.
-pub fn inputs_forged()
-    ensures { given_forged ≡ outs_forged }
-{}
-
-/// Random inputs of one of 3, forged ones among them.
-pub fn inputs_forged_more()
-    ensures { given_forged_more ≡ outs_forged_more }
-{}
-
-/// Random inputs of one of 3, forged ones among them.
-pub fn inputs_forged_again()
-    ensures { given_forged_again ≡ outs_forged_again }
-{}
-
-/// Random inputs of one of 3, forged ones among them.
-pub fn inputs_forged_last()
-    ensures { given_forged_last ≡ outs_forged_last }
 {}

@@ -4,7 +4,7 @@ use Rattle.ring_base.specs.Rings.{same_ring}
 use Rattle.ring_base.specs.Processors.{has}
 use Rattle.ring_base.specs.declared.ring_id.RingId.{RingId}
 use Rattle.ring_payload.specs.declared.content.Payload.{Payload}
-use Rattle.ring_payload.specs.declared.content.Payload.TheVariants.{Call, Wrapped, End, Head, Part, Pack, Snap}
+use Rattle.ring_payload.specs.Packing.{is_queued}
 use Rattle.ring_wire.specs.declared.commit.CommitToken.{CommitToken}
 use Rattle.ring_wire.specs.declared.frame.Frame.{Frame}
 use Rattle.ring_wire.specs.declared.frame.Frame.TheVariants.{Message as MessageFrame, Token as TokenFrame, Join as JoinFrame, Commit as CommitFrame}
@@ -158,16 +158,10 @@ decide_time Operational Consensus = Ignore
 decide_time Operational Loss = Regather
 decide_time Stopped kind = Ignore
 
--- Payloads are queued in Operational; End and Wrapped are recovery's own
+-- Payloads are queued in Operational; End and Wrapped are recovery's own, and a Pack is made by a visit
 
 abbrev pub decide_user : {A : Type 0} → Payload A → Act A
-decide_user (Call call) = Enqueue (Call call)
-decide_user (Head head) = Enqueue (Head head)
-decide_user (Part part) = Enqueue (Part part)
-decide_user (Snap snap) = Enqueue (Snap snap)
-decide_user (Pack pack) = Ignore
-decide_user (Wrapped w) = Ignore
-decide_user End = Ignore
+decide_user payload = if is_queued payload then Enqueue payload else Ignore
 
 abbrev pub decide_payload : {A : Type 0} → State → Payload A → Act A
 decide_payload Operational payload = decide_user payload

@@ -1,13 +1,14 @@
 -- A core visits the token: Token and window, rules 6 to 9 of docs/PROTOCOL.md.
-use Rattle.std.specs.Prelude.{ℕ, ◌+◌, Bool, List, [], ◌∷◌, ◌++◌, map, filter_map, drop, length, Some}
+use Rattle.std.specs.Prelude.{ℕ, ◌+◌, Bool, List, [], ◌∷◌, ◌++◌, map, filter_map, take, length, Some}
 use Rattle.ring_base.specs.Processors.{only, less, next}
 use Rattle.ring_payload.specs.declared.content.Payload.{Payload}
+use Rattle.ring_payload.specs.Packing.{packed, left_behind}
 use Rattle.ring_wire.specs.declared.frame.Frame.TheVariants.{Message as MessageFrame, Token as TokenFrame}
 use Rattle.ring_wire.specs.declared.message.Message.{Message}
 use Rattle.ring_wire.specs.declared.token.Token.{Token}
 use Rattle.ring_window.specs.Held.{found, holds, front_of, highest, missing}
 use Rattle.ring_token.specs.Turns.{Turn, is_accepted}
-use Rattle.ring_token.specs.Visits.{left, above_mark, fresh, numbered, requests_after, token_after}
+use Rattle.ring_token.specs.Visits.{left, above_mark, room, numbered, requests_after, token_after}
 use Rattle.ring_recover.specs.Wrapping.{wraps_and_end}
 use Rattle.ring_base.specs.declared.state.State.{State}
 use Rattle.ring_base.specs.declared.state.State.TheVariants.{Gather, Commit, Recovery, Operational, Stopped}
@@ -22,17 +23,21 @@ accepts c t = is_accepted c.running.ring c.turns (highest c.held t.ring) t
 abbrev pub repeated : {A : Type 0} → Core A → Token → List (Message A)
 repeated c t = filter_map (found c.held t.ring) (above_mark (mark c t.ring) t.requests)
 
--- (b) what a core would send: in Operational its queue, in Recovery what it wraps and then its End
-abbrev pub offers : {A : Type 0} → State → Core A → List (Payload A)
-offers Operational c = c.queue
-offers Recovery c = wraps_and_end c.me (plan c) c.running.ring c.held
-offers Gather c = []
-offers Commit c = []
-offers Stopped c = []
+-- (b) so many new messages the visit has room for
+abbrev pub room_at : {A : Type 0} → Core A → Token → ℕ
+room_at c t = room (mark c t.ring) t.seq
+
+-- what a core sends in at most so many: in Operational what its queue makes, in Recovery the first of what it wraps and of its End behind that
+abbrev pub offers : {A : Type 0} → State → Core A → ℕ → List (Payload A)
+offers Operational c count = packed count c.queue
+offers Recovery c count = take count (wraps_and_end c.me (plan c) c.running.ring c.held)
+offers Gather c count = []
+offers Commit c count = []
+offers Stopped c count = []
 
 -- what it sends
 abbrev pub new_payloads : {A : Type 0} → Core A → Token → List (Payload A)
-new_payloads c t = fresh (mark c t.ring) t.seq (offers c.state c)
+new_payloads c t = offers c.state c (room_at c t)
 
 abbrev pub new_messages : {A : Type 0} → Core A → Token → List (Message A)
 new_messages c t = numbered t.ring c.me t.seq (new_payloads c t)
@@ -55,13 +60,13 @@ forwarded c t = forwarded_by c t (held_after c t) (length (new_payloads c t))
 abbrev pub turn_of : {A : Type 0} → Core A → Token → Turn A
 turn_of c t = record { came = t; front = front_of (held_after c t) t.ring; fresh = new_payloads c t; went = forwarded c t }
 
--- the queue loses what was sent
+-- the queue loses what the new messages were made of
 abbrev pub queue_after : {A : Type 0} → State → ℕ → List (Payload A) → List (Payload A)
-queue_after Operational sent queue = drop sent queue
-queue_after Gather sent queue = queue
-queue_after Commit sent queue = queue
-queue_after Recovery sent queue = queue
-queue_after Stopped sent queue = queue
+queue_after Operational count queue = left_behind count queue
+queue_after Gather count queue = queue
+queue_after Commit count queue = queue
+queue_after Recovery count queue = queue
+queue_after Stopped count queue = queue
 
 -- messages go to all other members
 abbrev pub to_others : {A : Type 0} → Core A → List (Message A) → List (Sent A)
@@ -78,7 +83,7 @@ visited c t =
       core = record c {
         held = held_after c t;
         turns = turn_of c t ∷ c.turns;
-        queue = queue_after c.state (length (new_payloads c t)) c.queue;
+        queue = queue_after c.state (room_at c t) c.queue;
         shown = Some (to_next c (forwarded c t));
       };
       sends = to_others c (repeated c t ++ new_messages c t) ++ to_next c (forwarded c t) ∷ [];

@@ -30,10 +30,6 @@ above_mark mark requests = filter (nat_lt mark) requests
 abbrev pub room : ℕ → ℕ → ℕ
 room mark seq = min visit_limit (min (mark + window_size - seq) (max_number - seq))
 
--- of what a node would send, what this visit sends
-abbrev pub fresh : {A : Type 0} → ℕ → ℕ → List (Payload A) → List (Payload A)
-fresh mark seq offers = take (room mark seq) offers
-
 -- as messages, numbered from seq + 1 on
 abbrev pub numbered : {A : Type 0} → RingId → ℕ → ℕ → List (Payload A) → List (Message A)
 numbered ring me seq [] = []

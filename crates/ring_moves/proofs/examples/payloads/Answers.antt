@@ -15,6 +15,14 @@ pub returns-clause-wrapped : goal.returns-clause-wrapped
 unfolding ring_step elements
 returns-clause-wrapped c = refl
 
+pub returns-clause-packed : goal.returns-clause-packed
+unfolding ring_step elements
+returns-clause-packed c = refl
+
+pub returns-clause-piece : goal.returns-clause-piece
+unfolding ring_step elements
+returns-clause-piece c = refl
+
 pub returns-clause-in_gather : goal.returns-clause-in_gather
 unfolding ring_step elements
 returns-clause-in_gather c = refl

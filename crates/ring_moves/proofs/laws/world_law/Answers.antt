@@ -1,4 +1,4 @@
-use Rattle.ring_moves.proofs.Worlds.{marks_below, all_held_below, all_turns, all_same_sets}
+use Rattle.ring_moves.proofs.Worlds.{marks_below, all_held_below, all_turns, all_fresh, all_same_sets}
 use Rattle.ring_moves.proofs.laws.world_law.Goals as goal
 
 pub returns-clause-marks : goal.returns-clause-marks
@@ -9,6 +9,9 @@ returns-clause-window g c = all_held_below
 
 pub returns-clause-visits : goal.returns-clause-visits
 returns-clause-visits g c = all_turns
+
+pub returns-clause-fresh : goal.returns-clause-fresh
+returns-clause-fresh g c = all_fresh
 
 pub returns-clause-joins : goal.returns-clause-joins
 returns-clause-joins g c = all_same_sets

@@ -1,7 +1,7 @@
 use Rattle.std.proofs.Common.{refl}
 use Rattle.ring_base.specs.Processors.{elements}
 use Rattle.ring_srp.specs.Stepping.{ring_step}
-use Rattle.ring_schedules.proofs.inputs_forged_more.Goals as goal
+use Rattle.ring_schedules.proofs.schedule_of_two_rest.Goals as goal
 
 pub returns : goal.returns
 unfolding ring_step elements
