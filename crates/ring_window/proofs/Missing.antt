@@ -1,10 +1,9 @@
 -- The numbers that are missing, counted from one clear bit to the next; and the bits of an entry, read off the words.
-use Rattle.std.proofs.Common.{◌≡◌, ℕ, zero, suc, ◌+◌, ◌-◌, ◌*◌, ◌<◌, ◌≤◌, min, Bool, true, false, List, [], ◌∷◌, ◌++◌, length, take, filter, Option, refl, ap, ◌∙◌, sym, inl, inr, arith, append_assoc, length-append}
+use Rattle.std.proofs.Common.{◌≡◌, ℕ, zero, suc, ◌+◌, ◌-◌, ◌*◌, ◌<◌, ◌≤◌, min, Bool, true, false, List, [], ◌∷◌, ◌++◌, length, take, filter, Option, refl, ap, ◌∙◌, sym, inl, inr, arith, append_assoc}
 use Rattle.std.specs.Prelude.{not, slice_index}
 use Rattle.std.proofs.lemmas.Bool.{cases_lt, cond-true, cond-false}
 use Rattle.std.proofs.lemmas.List.{append-nil, ext_get_or, length_push}
 use Rattle.ring_base.specs.Numbers.{numbers_from, word_of}
-use Rattle.ring_base.specs.declared.ring_id.RingId.{RingId}
 use Rattle.ring_wire.specs.declared.message.Message.{Message}
 use Rattle.ring_window.specs.Bits.{is_set, IsFirstClear, bytes_of, held_bits}
 use Rattle.ring_window.specs.Held.{holds, front_of}
@@ -16,7 +15,7 @@ use Rattle.ring_window.proofs.Words.{word_of-same}
 
 -- numbers that don't pass are left out
 passed : (p : ℕ → Bool) (first count k : ℕ) → k ≤ count → ((n : ℕ) → first ≤ n → n < first + k → p n ≡ false)
-  → filter p (numbers_from first count) ≡ filter p (numbers_from (first + k) (count - k))
+    → filter p (numbers_from first count) ≡ filter p (numbers_from (first + k) (count - k))
 passed p first count zero l h = (let a : first ≡ first + 0 = omega arith in let b : count ≡ count - 0 = omega arith in ap (λ n. filter p (numbers_from n count)) a ∙ ap (λ n. filter p (numbers_from (first + 0) n)) b)
 passed p first zero (suc k) l h = absurd (omega arith)
 passed p first (suc count) (suc k) l h =
@@ -32,7 +31,7 @@ lacks w offset count = filter (λ n. not (holds w.held w.ring n)) (numbers_from 
 
 -- up to a limit, nothing is missing where all is held
 lacks_to : {A : Type 0} (w : Windowed A) (a b end : ℕ) → a ≤ b → ((j : ℕ) → a ≤ j → j < b → holds w.held w.ring (w.mark + 1 + j) ≡ true)
-  → lacks w a (end - a) ≡ lacks w b (end - b)
+    → lacks w a (end - a) ≡ lacks w b (end - b)
 lacks_to w a b end l held =
     let p = λ (n : ℕ). not (holds w.held w.ring n) in
     let none : (n : ℕ) → w.mark + 1 + a ≤ n → n < w.mark + 1 + b → p n ≡ false = λ n x y. (let e : n ≡ w.mark + 1 + (n - w.mark - 1) = omega arith in ap p e ∙ ap not (held (n - w.mark - 1) (omega arith) (omega arith))) in
@@ -41,12 +40,12 @@ lacks_to w a b end l held =
           let r : end - a - (end - a) ≡ 0 = omega arith in
           let s : end - b ≡ 0 = omega arith in
           passed p (w.mark + 1 + a) (end - a) (end - a) (omega arith) (λ n x y. none n x (omega arith))
-            ∙ ap (λ n. filter p (numbers_from (w.mark + 1 + a + (end - a)) n)) r ∙ sym (ap (λ n. filter p (numbers_from (w.mark + 1 + b) n)) s)
+          ∙ ap (λ n. filter p (numbers_from (w.mark + 1 + a + (end - a)) n)) r ∙ sym (ap (λ n. filter p (numbers_from (w.mark + 1 + b) n)) s)
       | inr far ↦
           let r : w.mark + 1 + a + (b - a) ≡ w.mark + 1 + b = omega arith in
           let s : end - a - (b - a) ≡ end - b = omega arith in
           passed p (w.mark + 1 + a) (end - a) (b - a) (omega arith) (λ n x y. none n x (omega arith))
-            ∙ ap (λ n. filter p (numbers_from n (end - a - (b - a)))) r ∙ ap (λ n. filter p (numbers_from (w.mark + 1 + b) n)) s
+          ∙ ap (λ n. filter p (numbers_from n (end - a - (b - a)))) r ∙ ap (λ n. filter p (numbers_from (w.mark + 1 + b) n)) s
     ]
 
 -- the numbers found so far, and the clear bit at which the search stands
@@ -79,7 +78,7 @@ module _ {A : Type 0} (w : Windowed A) (front top : ℕ) (words : List ℕ) (pla
 
   -- and goes on to the next clear bit
   pub counted_more : (upto end offset k : ℕ) (found : List ℕ) → IsCounted w words upto end offset found → offset < end → length found < 32
-    → IsFirstClear words (offset + 1) k → IsCounted w words upto end k (found ++ (w.mark + 1 + offset) ∷ [])
+      → IsFirstClear words (offset + 1) k → IsCounted w words upto end k (found ++ (w.mark + 1 + offset) ∷ [])
   counted_more upto end offset k found c inside room f =
       let x = w.mark + 1 + offset in
       let p = λ (n : ℕ). not (holds w.held w.ring n) in
@@ -104,7 +103,7 @@ module _ {A : Type 0} (w : Windowed A) (front top : ℕ) (words : List ℕ) (pla
 
   -- the bits of an entry
   pub bits_given : (bytes : List ℕ) → length bytes ≡ 32 → ((k : ℕ) → k < 32 → slice_index bytes k ≡ word_of (is_set words) (front - w.mark + 8 * k) 8)
-    → bytes ≡ held_bits w.held w.ring
+      → bytes ≡ held_bits w.held w.ring
   bits_given bytes count given =
       let first = front_of w.held w.ring + 1 in
       ext_get_or 0 bytes (bytes_of (holds w.held w.ring) first 32) (count ∙ sym (length-bytes_of (holds w.held w.ring) first 32)) (λ k l.
@@ -118,14 +117,14 @@ take_nil (suc k) = refl
 
 -- it ends at the limit, or with as many as a token may ask for
 pub counted_all : {A : Type 0} (w : Windowed A) (words : List ℕ) (upto end offset : ℕ) (found : List ℕ) → IsCounted w words upto end offset found
-  → end ≤ offset → found ≡ first_missing w upto
+    → end ≤ offset → found ≡ first_missing w upto
 counted_all w words upto end offset found c l =
     let n : end - offset ≡ 0 = omega arith in
     sym (append-nil found) ∙ sym (ap (λ xs. found ++ xs) (take_nil (32 - length found)))
-      ∙ sym (ap (λ q. found ++ take (32 - length found) (lacks w offset q)) n) ∙ c.so_far
+    ∙ sym (ap (λ q. found ++ take (32 - length found) (lacks w offset q)) n) ∙ c.so_far
 
 pub counted_full : {A : Type 0} (w : Windowed A) (words : List ℕ) (upto end offset : ℕ) (found : List ℕ) → IsCounted w words upto end offset found
-  → 32 ≤ length found → found ≡ first_missing w upto
+    → 32 ≤ length found → found ≡ first_missing w upto
 counted_full w words upto end offset found c l =
     let n : 32 - length found ≡ 0 = omega arith in
     sym (append-nil found) ∙ sym (ap (λ q. found ++ take q (lacks w offset (end - offset))) n) ∙ c.so_far

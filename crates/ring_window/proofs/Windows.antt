@@ -1,15 +1,14 @@
 -- What is kept of a window, as it changes: nothing held, a message taken, numbers forgotten. And what the kept bits say.
-use Rattle.std.proofs.Common.{◌≡◌, ◌≢◌, ℕ, zero, suc, ◌++◌, ◌+◌, ◌-◌, ◌*◌, ◌%◌, ◌<◌, ◌≤◌, Bool, true, false, cond, max, List, [], ◌∷◌, length, Option, Some, None, refl, ap, ◌∙◌, sym, inl, inr, arith, eqb, get_or-set_same, get_or-set_other, length-set}
-use Rattle.std.specs.Prelude.{◌==◌, ◌&&◌, ◌||◌, not, nat_eq, nat_lt, nat_le, slice_index, slice_index_or, slice_set}
+use Rattle.std.proofs.Common.{◌≡◌, ◌≢◌, ℕ, zero, suc, ◌++◌, ◌+◌, ◌-◌, ◌%◌, ◌<◌, ◌≤◌, Bool, true, false, max, List, [], ◌∷◌, length, Option, Some, None, refl, ap, ◌∙◌, sym, inl, inr, arith, get_or-set_same, get_or-set_other, length-set}
+use Rattle.std.specs.Prelude.{◌==◌, ◌&&◌, ◌||◌, not, nat_eq, nat_lt, nat_le, slice_index_or, slice_set}
 use Rattle.std.specs.List.{list_any, find}
-use Rattle.std.proofs.lemmas.Bool.{cases_Bool, cases_lt, cases_eq, and_parts, and_from, or_parts, not-true, lt-ltb, le-ltb, le-leb, ltb-true, leb-true, eq-eqb, eqb-true, ne_eqb, cond-true, cond-false, both_ways, false≢true}
+use Rattle.std.proofs.lemmas.Bool.{cases_lt, cases_eq, and_parts, and_from, or_parts, not-true, lt-ltb, le-ltb, ltb-true, leb-true, eq-eqb, ne_eqb, cond-true, cond-false, both_ways}
 use Rattle.ring_base.specs.Rings.{same_ring}
-use Rattle.ring_base.specs.Numbers.{greatest}
 use Rattle.ring_base.specs.declared.ring_id.RingId.{RingId}
 use Rattle.ring_wire.specs.declared.message.Message.{Message}
 use Rattle.ring_window.specs.Bits.{is_set, IsFirstClear}
-use Rattle.ring_window.specs.Held.{is_numbered, found, holds, of_ring, highest, front_of, is_new, IsFrontIn}
-use Rattle.ring_window.specs.Windows.{Windowed, opened, takes, taken, forgotten, kept}
+use Rattle.ring_window.specs.Held.{is_numbered, found, holds, of_ring, highest, is_new, IsFrontIn}
+use Rattle.ring_window.specs.Windows.{Windowed, opened, takes, kept}
 use Rattle.ring_window.specs.Places.{place_of, in_place, IsWindow}
 use Rattle.ring_window.proofs.Fronts.{front_is, front_only, highest_covers}
 
@@ -25,7 +24,7 @@ found_none held ring n h = some-any (is_numbered ring n) held h
 -- ---- with one message more
 
 holds_more : {A : Type 0} (x : Message A) (held : List (Message A)) (ring : RingId) (n : ℕ) → same_ring x.ring ring ≡ true
-  → holds (x ∷ held) ring n ≡ ((x.number == n) || holds held ring n)
+    → holds (x ∷ held) ring n ≡ ((x.number == n) || holds held ring n)
 holds_more x held ring n h = rw h refl
 
 found_this : {A : Type 0} (x : Message A) (held : List (Message A)) (ring : RingId) → same_ring x.ring ring ≡ true → found (x ∷ held) ring x.number ≡ Some x
@@ -42,25 +41,25 @@ holds_this : {A : Type 0} (x : Message A) (held : List (Message A)) (ring : Ring
 holds_this x held ring h = holds_more x held ring x.number h ∙ ap (λ b. b || holds held ring x.number) (eq-eqb x.number x.number refl)
 
 holds_other : {A : Type 0} (x : Message A) (held : List (Message A)) (ring : RingId) (n : ℕ) → same_ring x.ring ring ≡ true → x.number ≢ n
-  → holds (x ∷ held) ring n ≡ holds held ring n
+    → holds (x ∷ held) ring n ≡ holds held ring n
 holds_other x held ring n h other = holds_more x held ring n h ∙ ap (λ b. b || holds held ring n) (ne_eqb x.number n other)
 
 holds_still : {A : Type 0} (x : Message A) (held : List (Message A)) (ring : RingId) (n : ℕ) → same_ring x.ring ring ≡ true → holds held ring n ≡ true
-  → holds (x ∷ held) ring n ≡ true
+    → holds (x ∷ held) ring n ≡ true
 holds_still x held ring n same h = elim (cases_eq x.number n) [
   | inl e ↦ ap (λ k. holds (x ∷ held) ring k) (sym e) ∙ holds_this x held ring same
   | inr e ↦ holds_other x held ring n same e ∙ h
 ]
 
 highest_more : {A : Type 0} (x : Message A) (held : List (Message A)) (ring : RingId) → same_ring x.ring ring ≡ true
-  → highest (x ∷ held) ring ≡ max x.number (highest held ring)
+    → highest (x ∷ held) ring ≡ max x.number (highest held ring)
 highest_more x held ring h = rw (cond-true (same_ring x.ring ring) (x ∷ of_ring ring held) (of_ring ring held) h) refl
 
 -- ---- what the bits say
 
 -- up to the safe mark all is held
 pub holds_safe : {A : Type 0} (w : Windowed A) (front top : ℕ) (words : List ℕ) (places : List (Option (Message A)))
-  → IsWindow w front top words places → (n : ℕ) → n ≤ w.mark → not (nat_eq n 0) ≡ holds w.held w.ring n
+    → IsWindow w front top words places → (n : ℕ) → n ≤ w.mark → not (nat_eq n 0) ≡ holds w.held w.ring n
 holds_safe w front top words places i n l = elim (cases_eq n 0) [
   | inl e ↦ rw (e) (sym i.none)
   | inr e ↦ rw (ne_eqb n 0 e) (sym ((front_is w.held w.ring).below n (omega arith) (omega (arith, i.safe, i.front_is))))
@@ -68,7 +67,7 @@ holds_safe w front top words places i n l = elim (cases_eq n 0) [
 
 -- and after it the bits tell
 pub holds_after : {A : Type 0} (w : Windowed A) (front top : ℕ) (words : List ℕ) (places : List (Option (Message A)))
-  → IsWindow w front top words places → (n : ℕ) → w.mark < n → is_set words (n - w.mark - 1) ≡ holds w.held w.ring n
+    → IsWindow w front top words places → (n : ℕ) → w.mark < n → is_set words (n - w.mark - 1) ≡ holds w.held w.ring n
 holds_after w front top words places i n l = (let e : w.mark + 1 + (n - w.mark - 1) ≡ n = omega arith in i.bits (n - w.mark - 1) ∙ ap (λ k. holds w.held w.ring k) e)
 
 -- nothing is kept up to the safe mark, nor past the window
@@ -76,13 +75,13 @@ pub kept_safe : {A : Type 0} (w : Windowed A) (n : ℕ) → n ≤ w.mark → Non
 kept_safe w n l = sym (cond-false (nat_lt w.mark n) (found w.held w.ring n) None (le-ltb w.mark n l))
 
 pub kept_beyond : {A : Type 0} (w : Windowed A) (front top : ℕ) (words : List ℕ) (places : List (Option (Message A)))
-  → IsWindow w front top words places → (n : ℕ) → w.mark + 256 < n → None ≡ kept w n
+    → IsWindow w front top words places → (n : ℕ) → w.mark + 256 < n → None ≡ kept w n
 kept_beyond w front top words places i n l = sym (cond-true (nat_lt w.mark n) (found w.held w.ring n) None (lt-ltb w.mark n (omega arith)) ∙ found_none w.held w.ring n (i.beyond n l))
 
 -- ---- nothing held
 
 pub opened_is : {A : Type 0} (ring : RingId) (words : List ℕ) (places : List (Option (Message A))) → ((j : ℕ) → is_set words j ≡ false)
-  → length places ≡ 256 → ((j : ℕ) → slice_index_or places j None ≡ None) → IsWindow (opened ring) 0 0 words places
+    → length places ≡ 256 → ((j : ℕ) → slice_index_or places j None ≡ None) → IsWindow (opened ring) 0 0 words places
 opened_is ring words places clear count empty = record {
   front_is = refl;
   top_is = refl;
@@ -131,8 +130,8 @@ module _ {A : Type 0} (w : Windowed A) (x : Message A) (front top : ℕ) (words 
   new_places n a b = elim (cases_eq x.number n) [
     | inl e ↦ (let s : place_of n ≡ place_of x.number = ap place_of (sym e) in
         ap (λ k. slice_index_or (slice_set places (place_of x.number) (Some x)) k None) s
-          ∙ get_or-set_same places (place_of x.number) (Some x) None (omega (arith, i.count))
-          ∙ sym (ap (λ k. found (x ∷ w.held) w.ring k) (sym e) ∙ found_this x w.held w.ring t.same))
+        ∙ get_or-set_same places (place_of x.number) (Some x) None (omega (arith, i.count))
+        ∙ sym (ap (λ k. found (x ∷ w.held) w.ring k) (sym e) ∙ found_this x w.held w.ring t.same))
     | inr e ↦ (let s : place_of n ≢ place_of x.number = λ q. e (omega (arith, t.above, t.inside)) in
         get_or-set_other places (place_of x.number) (place_of n) (Some x) None s ∙ i.placed n a b ∙ sym (found_other x w.held w.ring n e))
   ]
@@ -151,7 +150,7 @@ module _ {A : Type 0} (w : Windowed A) (x : Message A) (front top : ℕ) (words 
 
   -- whichever the front is now, it is known by the numbers that are held
   pub with_front : (now : ℕ) → IsFrontIn (x ∷ w.held) w.ring now → front ≤ now → now ≤ w.mark + 256
-    → IsWindow (with w x) now (max top x.number) more (slice_set places (place_of x.number) (Some x))
+      → IsWindow (with w x) now (max top x.number) more (slice_set places (place_of x.number) (Some x))
   with_front now f later near = record {
     front_is = front_only (x ∷ w.held) w.ring now f;
     top_is = new_top;
@@ -175,7 +174,7 @@ module _ {A : Type 0} (w : Windowed A) (x : Message A) (front top : ℕ) (words 
 
   -- else it goes to the first number that is missing still
   pub front_goes : (k : ℕ) → x.number ≡ suc front → IsFirstClear more (x.number - w.mark - 1) k
-    → IsWindow (with w x) (w.mark + k) (max top x.number) more (slice_set places (place_of x.number) (Some x))
+      → IsWindow (with w x) (w.mark + k) (max top x.number) more (slice_set places (place_of x.number) (Some x))
   front_goes k next c =
       let short : k ≤ 256 = elim (cases_lt 256 k) [
         | inl l ↦ absurd (both_ways (is_set more 256) (new_bits 256 ∙ new_beyond (w.mark + 1 + 256) (omega arith)) (c.set 256 (omega (arith, t.inside)) l))
@@ -234,13 +233,13 @@ none_more (x ∷ xs) h (suc j) = none_more xs (λ k. h (suc k)) j
 
 -- the place of one number more is emptied
 pub cleared_more : {A : Type 0} (xs : List (Option (Message A))) (mark before : ℕ) → length xs ≡ 256 → mark ≤ before → before < mark + 256
-  → ((n : ℕ) → mark < n → n ≤ before → in_place xs n ≡ None) → (n : ℕ) → mark < n → n ≤ before + 1
-  → in_place (slice_set xs (before % 256) None) n ≡ None
+    → ((n : ℕ) → mark < n → n ≤ before → in_place xs n ≡ None) → (n : ℕ) → mark < n → n ≤ before + 1
+    → in_place (slice_set xs (before % 256) None) n ≡ None
 cleared_more xs mark before count a b h n l m = elim (cases_eq n (before + 1)) [
   | inl e ↦ (let s : place_of n ≡ before % 256 = omega arith in ap (λ k. slice_index_or (slice_set xs (before % 256) None) k None) s ∙ get_or-set_same xs (before % 256) None None (omega arith))
   | inr e ↦ (let s : place_of n ≢ before % 256 = λ q. e (omega arith) in get_or-set_other xs (before % 256) (place_of n) None None s ∙ h n l (omega arith))
 ]
 
 pub others_more : {A : Type 0} (xs : List (Option (Message A))) (mark before : ℕ) → mark ≤ before → before < mark + 256 → (n : ℕ) → before + 1 < n
-  → n ≤ mark + 256 → in_place (slice_set xs (before % 256) None) n ≡ in_place xs n
+    → n ≤ mark + 256 → in_place (slice_set xs (before % 256) None) n ≡ in_place xs n
 others_more xs mark before a b n l m = (let s : place_of n ≢ before % 256 = omega arith in get_or-set_other xs (before % 256) (place_of n) None None s)

@@ -1,11 +1,11 @@
 -- Bits that lie across two words, and words as bits.
-use Rattle.std.proofs.Common.{◌≡◌, ◌≢◌, ℕ, zero, suc, ◌+◌, ◌-◌, ◌*◌, ◌/◌, ◌%◌, ◌^◌, ◌<◌, ◌≤◌, Bool, true, false, List, [], ◌∷◌, length, refl, ap, ◌∙◌, sym, inl, inr, arith, get_or, min, max, get_or-set_same, get_or-set_other}
+use Rattle.std.proofs.Common.{◌≡◌, ◌≢◌, ℕ, zero, suc, ◌+◌, ◌-◌, ◌*◌, ◌/◌, ◌%◌, ◌^◌, ◌<◌, ◌≤◌, Bool, true, false, List, [], ◌∷◌, length, refl, ap, ◌∙◌, sym, inl, inr, arith, get_or-set_same, get_or-set_other}
 use Rattle.std.specs.Prelude.{◌==◌, slice_index, slice_set, bit_and, bit_or}
 use Rattle.std.specs.Int.{bit_at, w64, trailing_ones}
-use Rattle.std.proofs.lemmas.Bool.{cases_Bool, cases_lt, cases_eq, eqb-true, eq-eqb, ne_eqb}
+use Rattle.std.proofs.lemmas.Bool.{cases_Bool, cases_lt, cases_eq, eqb-true, eq-eqb}
 use Rattle.std.proofs.lemmas.List.{get_or_past}
-use Rattle.std.proofs.lemmas.Nat.{shr-shr, and_mask, mod_below, pow_pos}
-use Rattle.std.proofs.lemmas.Nat.Bits.{bit_at_or, bit_at_and, bit_at-lt, bit_at_above, bit_at_cat_low, bit_at_cat_high, bit_at_ones, bit_at-zero, same_from_bits_below, bit_at_set_same, bit_at_set_other, bit_at-trailing_ones}
+use Rattle.std.proofs.lemmas.Nat.{shr-shr, and_mask, pow_pos}
+use Rattle.std.proofs.lemmas.Nat.Bits.{bit_at_or, bit_at-lt, bit_at_above, bit_at_cat_low, bit_at_cat_high, bit_at_ones, bit_at-zero, same_from_bits_below, bit_at_set_same, bit_at_set_other, bit_at-trailing_ones}
 use Rattle.ring_base.specs.Numbers.{has_bit, word_of}
 use Rattle.ring_window.specs.Bits.{is_set, IsFirstClear}
 use Rattle.ring_window.proofs.Bits.{word_bit}
@@ -32,21 +32,21 @@ bit_at_shl_high n k j l = (let e : n * 2 ^ k + 0 ≡ n * 2 ^ k = omega arith in 
 -- ---- `low >> shift | high << (64 - shift)`
 
 pub across_low : (low high shift j : ℕ) → shift + j < 64 → 0 < shift
-  → bit_at (bit_or (low / 2 ^ shift) (high * 2 ^ (64 - shift) % 2 ^ 64)) j ≡ bit_at low (shift + j)
+    → bit_at (bit_or (low / 2 ^ shift) (high * 2 ^ (64 - shift) % 2 ^ 64)) j ≡ bit_at low (shift + j)
 across_low low high shift j l some =
     let a = bit_at_shr low shift j in
     let b : bit_at (high * 2 ^ (64 - shift) % 2 ^ 64) j ≡ 0 = bit_at_mod (high * 2 ^ (64 - shift)) 64 j (omega arith)
-      ∙ bit_at_shl_low high (64 - shift) j (omega arith) in
+    ∙ bit_at_shl_low high (64 - shift) j (omega arith) in
     let c = bit_at_or (low / 2 ^ shift) (high * 2 ^ (64 - shift) % 2 ^ 64) j in
     omega arith
 
 pub across_high : (low high shift j : ℕ) → low < 2 ^ 64 → 64 ≤ shift + j → shift < 64 → j < 64
-  → bit_at (bit_or (low / 2 ^ shift) (high * 2 ^ (64 - shift) % 2 ^ 64)) j ≡ bit_at high (shift + j - 64)
+    → bit_at (bit_or (low / 2 ^ shift) (high * 2 ^ (64 - shift) % 2 ^ 64)) j ≡ bit_at high (shift + j - 64)
 across_high low high shift j small l under within =
     let a : bit_at (low / 2 ^ shift) j ≡ 0 = bit_at_shr low shift j ∙ bit_at_above low 64 (shift + j) small l in
     let e : j - (64 - shift) ≡ shift + j - 64 = omega arith in
     let b : bit_at (high * 2 ^ (64 - shift) % 2 ^ 64) j ≡ bit_at high (shift + j - 64) = bit_at_mod (high * 2 ^ (64 - shift)) 64 j within
-      ∙ bit_at_shl_high high (64 - shift) j (omega arith) ∙ ap (λ i. bit_at high i) e in
+    ∙ bit_at_shl_high high (64 - shift) j (omega arith) ∙ ap (λ i. bit_at high i) e in
     let c = bit_at_or (low / 2 ^ shift) (high * 2 ^ (64 - shift) % 2 ^ 64) j in
     omega arith
 
@@ -54,14 +54,14 @@ across_high low high shift j small l under within =
 
 -- a bit by its word and its place there
 pub set_at : (words : List ℕ) (first shift j : ℕ) → first % 64 ≡ shift → shift + j < 64
-  → is_set words (first + j) ≡ has_bit (slice_index words (first / 64)) (shift + j)
+    → is_set words (first + j) ≡ has_bit (slice_index words (first / 64)) (shift + j)
 set_at words first shift j e l =
     let q : (first + j) / 64 ≡ first / 64 = omega arith in
     let r : (first + j) % 64 ≡ shift + j = omega arith in
     ap (λ i. has_bit (slice_index words i) ((first + j) % 64)) q ∙ ap (λ i. has_bit (slice_index words (first / 64)) i) r
 
 pub set_past : (words : List ℕ) (first shift j : ℕ) → first % 64 ≡ shift → 64 ≤ shift + j → j < 64
-  → is_set words (first + j) ≡ has_bit (slice_index words (first / 64 + 1)) (shift + j - 64)
+    → is_set words (first + j) ≡ has_bit (slice_index words (first / 64 + 1)) (shift + j - 64)
 set_past words first shift j e l within =
     let q : (first + j) / 64 ≡ first / 64 + 1 = omega arith in
     let r : (first + j) % 64 ≡ shift + j - 64 = omega arith in
@@ -69,19 +69,19 @@ set_past words first shift j e l within =
 
 -- what lies across two words, bit by bit
 pub word_across : (words : List ℕ) (first low high shift j : ℕ) → low ≡ slice_index words (first / 64) → high ≡ slice_index words (first / 64 + 1)
-  → first % 64 ≡ shift → low < 2 ^ 64 → 0 < shift → j < 64
-  → has_bit (bit_or (low / 2 ^ shift) (high * 2 ^ (64 - shift) % 2 ^ 64)) j ≡ is_set words (first + j)
+    → first % 64 ≡ shift → low < 2 ^ 64 → 0 < shift → j < 64
+    → has_bit (bit_or (low / 2 ^ shift) (high * 2 ^ (64 - shift) % 2 ^ 64)) j ≡ is_set words (first + j)
 word_across words first low high shift j a b e small some within =
     elim (cases_lt (shift + j) 64) [
       | inl l ↦ ap (λ x. x == 1) (across_low low high shift j l some) ∙ ap (λ w. has_bit w (shift + j)) a ∙ sym (set_at words first shift j e l)
       | inr l ↦ ap (λ x. x == 1) (across_high low high shift j small l (omega arith) within) ∙ ap (λ w. has_bit w (shift + j - 64)) b
-        ∙ sym (set_past words first shift j e l within)
+          ∙ sym (set_past words first shift j e l within)
     ]
 
 -- and of one word
 pub word_whole : (words : List ℕ) (first low j : ℕ) → low ≡ slice_index words (first / 64) → first % 64 ≡ 0 → j < 64 → has_bit low j ≡ is_set words (first + j)
 word_whole words first low j a e within = ap (λ w. has_bit w j) a
-  ∙ sym (set_at words first 0 j e (omega arith) ∙ ap (λ i. has_bit (slice_index words (first / 64)) i) (omega arith))
+    ∙ sym (set_at words first 0 j e (omega arith) ∙ ap (λ i. has_bit (slice_index words (first / 64)) i) (omega arith))
 
 -- past the last of four words each bit is clear
 pub clear_past : (words : List ℕ) (j : ℕ) → length words ≡ 4 → 256 ≤ j → is_set words j ≡ false
@@ -128,7 +128,7 @@ word_of-same f g a b (suc count) h =
 -- ---- a bit more
 
 pub set_this : (words : List ℕ) (offset : ℕ) → length words ≡ 4 → offset < 256
-  → is_set (slice_set words (offset / 64) (bit_or (slice_index words (offset / 64)) (1 * 2 ^ (offset % 64) % 2 ^ 64))) offset ≡ true
+    → is_set (slice_set words (offset / 64) (bit_or (slice_index words (offset / 64)) (1 * 2 ^ (offset % 64) % 2 ^ 64))) offset ≡ true
 set_this words offset n l =
     let new = bit_or (slice_index words (offset / 64)) (1 * 2 ^ (offset % 64) % 2 ^ 64) in
     let e = get_or-set_same words (offset / 64) new 0 (omega arith) in
@@ -136,7 +136,7 @@ set_this words offset n l =
     ap (λ w. has_bit w (offset % 64)) e ∙ ap (λ x. x == 1) b
 
 pub set_others : (words : List ℕ) (offset j : ℕ) → length words ≡ 4 → offset < 256 → j ≢ offset
-  → is_set (slice_set words (offset / 64) (bit_or (slice_index words (offset / 64)) (1 * 2 ^ (offset % 64) % 2 ^ 64))) j ≡ is_set words j
+    → is_set (slice_set words (offset / 64) (bit_or (slice_index words (offset / 64)) (1 * 2 ^ (offset % 64) % 2 ^ 64))) j ≡ is_set words j
 set_others words offset j n l other =
     let old = slice_index words (offset / 64) in
     let new = bit_or old (1 * 2 ^ (offset % 64) % 2 ^ 64) in
@@ -146,14 +146,14 @@ set_others words offset j n l other =
           let apart : j % 64 ≢ offset % 64 = λ h. other (omega arith) in
           let b : bit_at new (j % 64) ≡ bit_at old (j % 64) = bit_at_set_other w64 old (offset % 64) (omega arith) (j % 64) apart in
           ap (λ i. has_bit (slice_index (slice_set words (offset / 64) new) i) (j % 64)) e ∙ ap (λ w. has_bit w (j % 64)) s ∙ ap (λ x. x == 1) b
-            ∙ sym (ap (λ i. has_bit (slice_index words i) (j % 64)) e)
+          ∙ sym (ap (λ i. has_bit (slice_index words i) (j % 64)) e)
       | inr e ↦ ap (λ w. has_bit w (j % 64)) (get_or-set_other words (offset / 64) (j / 64) new 0 e)
     ]
 
 -- ---- where the set bits end
 
 pub first_here : (words : List ℕ) (from offset word : ℕ) → from ≤ offset → ((j : ℕ) → from ≤ j → j < offset → is_set words j ≡ true)
-  → ((j : ℕ) → j < 64 → has_bit word j ≡ is_set words (offset + j)) → word + 1 < 2 ^ 64 → IsFirstClear words from (offset + trailing_ones w64 word)
+    → ((j : ℕ) → j < 64 → has_bit word j ≡ is_set words (offset + j)) → word + 1 < 2 ^ 64 → IsFirstClear words from (offset + trailing_ones w64 word)
 first_here words from offset word later passed bits below =
     let t = bit_at-trailing_ones w64 word below in
     record {
@@ -166,7 +166,7 @@ first_here words from offset word later passed bits below =
     }
 
 pub whole_here : (words : List ℕ) (from offset word : ℕ) → ((j : ℕ) → from ≤ j → j < offset → is_set words j ≡ true)
-  → ((j : ℕ) → j < 64 → has_bit word j ≡ is_set words (offset + j)) → word ≡ 2 ^ 64 - 1 → (j : ℕ) → from ≤ j → j < offset + 64 → is_set words j ≡ true
+    → ((j : ℕ) → j < 64 → has_bit word j ≡ is_set words (offset + j)) → word ≡ 2 ^ 64 - 1 → (j : ℕ) → from ≤ j → j < offset + 64 → is_set words j ≡ true
 whole_here words from offset word passed bits full j a b =
     elim (cases_lt j offset) [
       | inl l ↦ passed j a l
@@ -179,7 +179,7 @@ whole_here words from offset word passed bits full j a b =
 -- ---- four words, from one of them on
 
 one_word : (ws words : List ℕ) (first base i j : ℕ) → base ≡ first + 64 * i
-  → ((k : ℕ) → k < 64 → has_bit (slice_index ws i) k ≡ is_set words (base + k)) → j / 64 ≡ i → is_set ws j ≡ is_set words (first + j)
+    → ((k : ℕ) → k < 64 → has_bit (slice_index ws i) k ≡ is_set words (base + k)) → j / 64 ≡ i → is_set ws j ≡ is_set words (first + j)
 one_word ws words first base i j b bits e =
     let s : base + j % 64 ≡ first + j = omega arith in
     ap (λ q. has_bit (slice_index ws q) (j % 64)) e ∙ bits (j % 64) (omega arith) ∙ ap (is_set words) s

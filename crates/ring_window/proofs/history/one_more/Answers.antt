@@ -4,7 +4,7 @@ use contract.BorrowLft.{◌⊑◌, ⊑_meet, ⊑_static}
 use Rattle.ring_window.proofs.history.one_more.Goals as goal
 
 lent : (κ p q m : List ℕ) → κ ⊑ p → κ ⊑ q → κ ⊑ m
-  → κ ⊑ (p ++ (m ++ [] ++ (m ++ [] ++ [] ++ [])) ++ (q ++ m ++ []) ++ (p ++ (m ++ [] ++ (m ++ [] ++ [] ++ [])) ++ (q ++ m ++ [])))
+    → κ ⊑ (p ++ (m ++ [] ++ (m ++ [] ++ [] ++ [])) ++ (q ++ m ++ []) ++ (p ++ (m ++ [] ++ (m ++ [] ++ [] ++ [])) ++ (q ++ m ++ [])))
 lent κ p q m past message text =
     let n = ⊑_static κ in
     let one = ⊑_meet κ m [] text n in

@@ -1,5 +1,4 @@
 use Rattle.std.proofs.Common.{arith}
-use Rattle.ring_window.specs.Windows.{Windowed}
 use Rattle.ring_window.proofs.Windows.{kept_safe, kept_beyond}
 use Rattle.ring_window.proofs.window.Window.get.Goals as goal
 use Rattle.ring_window.proofs.window.Window.get.Goals.{then-number-self-via-then-number-self, then-number-self-via-else-number-self+then-number-self-gt-WINDOW}

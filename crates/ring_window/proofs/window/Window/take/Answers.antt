@@ -1,6 +1,5 @@
 use Rattle.std.proofs.Common.{suc, ◌^◌, sym, inl, inr, arith}
 use Rattle.std.proofs.lemmas.Bool.{cases_eq}
-use Rattle.ring_window.specs.Windows.{Windowed}
 use Rattle.ring_window.proofs.Windows.{taken_is, front_stays, front_goes, bits_fit}
 use Rattle.ring_window.proofs.window.Window.take.Goals as goal
 
