@@ -26,12 +26,12 @@ rest_bit : (b : Bool) (w i : ℕ) → has_bit (cond b 1 0 + 2 * w) (suc i) ≡ h
 rest_bit true w i = ap (λ n. n == 1) (higher 1 w i (omega arith))
 rest_bit false w i = ap (λ n. n == 1) (higher 0 w i (omega arith))
 
-word_bit : (test : ℕ → Bool) (first count i : ℕ) → i < count → has_bit (word_of test first count) i ≡ test (first + i)
+pub word_bit : (test : ℕ → Bool) (first count i : ℕ) → i < count → has_bit (word_of test first count) i ≡ test (first + i)
 word_bit test first zero i l = absurd (omega arith)
 word_bit test first (suc count) zero l = (let e : first ≡ first + 0 = omega arith in test_bit (test first) (word_of test (suc first) count) ∙ ap test e)
 word_bit test first (suc count) (suc i) l = (let e : suc first + i ≡ first + suc i = omega arith in rest_bit (test first) (word_of test (suc first) count) i ∙ word_bit test (suc first) count i (omega arith) ∙ ap test e)
 
-byte_at : (test : ℕ → Bool) (first count k : ℕ) → k < count → slice_index (bytes_of test first count) k ≡ word_of test (first + 8 * k) 8
+pub byte_at : (test : ℕ → Bool) (first count k : ℕ) → k < count → slice_index (bytes_of test first count) k ≡ word_of test (first + 8 * k) 8
 byte_at test first zero k l = absurd (omega arith)
 byte_at test first (suc count) zero l = (let e : first ≡ first + 8 * 0 = omega arith in ap (λ n. word_of test n 8) e)
 byte_at test first (suc count) (suc k) l = (let e : first + 8 + 8 * k ≡ first + 8 * suc k = omega arith in byte_at test (first + 8) count k (omega arith) ∙ ap (λ n. word_of test n 8) e)

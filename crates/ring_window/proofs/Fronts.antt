@@ -72,3 +72,7 @@ front_grows old new ring more =
       | inl l ↦ absurd (both_ways (holds new ring (suc (front_of new ring))) (front_is new ring).next (more _ ((front_is old ring).below _ (omega arith) (omega arith))))
       | inr l ↦ l
     ]
+
+-- the front is no number above the highest
+pub front_short : {A : Type 0} → (held : List (Message A)) (ring : RingId) → front_of held ring ≤ highest held ring
+front_short held ring = (run (holds held ring) 1 (highest held ring)).short

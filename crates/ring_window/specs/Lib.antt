@@ -1,2 +1,4 @@
 pub mod Held
 pub mod Bits
+pub mod Windows
+pub mod Places

@@ -1,6 +1,10 @@
 //! What a node holds of a ring: the messages taken, sent and unwrapped, and how far they reach without a gap.
 #![tactic(auto)]
 
+mod held_bits;
+mod history;
 mod laws;
+mod window;
 
 pub use laws::{bits_law, front_law};
+pub use window::Window;

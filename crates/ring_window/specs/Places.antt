@@ -1,0 +1,26 @@
+-- What the program keeps of a window, and what that says of all that was ever held: 256 places for messages and a bit for each number of the window.
+use Rattle.std.specs.Prelude.{◌≡◌, ℕ, ◌+◌, ◌-◌, ◌%◌, ◌<◌, ◌≤◌, false, List, length, Option, None, slice_index_or}
+use Rattle.ring_wire.specs.declared.message.Message.{Message}
+use Rattle.ring_window.specs.Bits.{is_set}
+use Rattle.ring_window.specs.Held.{found, holds, front_of, highest}
+use Rattle.ring_window.specs.Windows.{Windowed}
+
+-- number n stands in place (n - 1) mod 256
+abbrev pub place_of : ℕ → ℕ
+place_of n = (n - 1) % 256
+
+-- what stands in the place of a number
+abbrev pub in_place : {A : Type 0} → List (Option (Message A)) → ℕ → Option (Message A)
+in_place places n = slice_index_or places (place_of n) None
+
+-- Each number of the window has its message in its place, and its bit tells whether it was held. Nothing past the window was held, nor a number 0; up to the safe mark all was.
+pub record IsWindow {A : Type 0} (w : Windowed A) (front top : ℕ) (words : List ℕ) (places : List (Option (Message A))) : Type 0 where
+  pub front_is : front ≡ front_of w.held w.ring
+  pub top_is : top ≡ highest w.held w.ring
+  pub safe : w.mark ≤ front
+  pub near : front ≤ w.mark + 256
+  pub none : holds w.held w.ring 0 ≡ false
+  pub beyond : (n : ℕ) → w.mark + 256 < n → holds w.held w.ring n ≡ false
+  pub bits : (j : ℕ) → is_set words j ≡ holds w.held w.ring (w.mark + 1 + j)
+  pub count : length places ≡ 256
+  pub placed : (n : ℕ) → w.mark < n → n ≤ w.mark + 256 → in_place places n ≡ found w.held w.ring n
