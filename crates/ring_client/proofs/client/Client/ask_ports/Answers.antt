@@ -1,4 +1,4 @@
-use Rattle.std.proofs.Common.{◌≡◌, List, ◌++◌, take, drop, length, take_at, rules, sym, subst, ap, ◌∙◌}
+use Rattle.std.proofs.Common.{◌≡◌, drop, length, take_at, rules, sym, ap, ◌∙◌}
 use Rattle.ring_client.specs.Asking.{just_submitted}
 use Rattle.ring_client.specs.Outcomes.{HasAnswer}
 use Rattle.ring_client.proofs.client.Client.ask_ports.Goals as goal
