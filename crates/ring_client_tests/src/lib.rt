@@ -1,0 +1,12 @@
+//! What no contract of the client says: that a port is asked once a call, worked runs over ports that are scripted and
+//! over nodes of rings of one, and that a request for memory which is refused is answered as such.
+#![tactic(auto)]
+
+#[cfg(test)]
+mod memory;
+#[cfg(test)]
+mod nodes;
+#[cfg(test)]
+mod scripted;
+#[cfg(test)]
+mod tests;
