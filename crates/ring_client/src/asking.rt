@@ -67,7 +67,7 @@ pub fn ask_in_turn<P: Port>(
                 Outcome::CutOff
             };
         };
-        if let Some(answer) = ask(&mut ports[i], call, turns) {
+        if let Some(answer) = ask(&mut ports[i], &call, turns) {
             return Outcome::Answered(answer);
         }
     }
@@ -75,10 +75,10 @@ pub fn ask_in_turn<P: Port>(
 }
 
 /// Submits a call at a port, and gives the answer if it comes within so many polls.
-fn ask<P: Port>(port: &mut P, call: Call<P::Alloc>, turns: u64) -> Option<Answer>
-    ensures answered { IfSome result (λ answer. HasAnswered (submitted call) turns answer (P.asked_of port.new)) }
+fn ask<P: Port>(port: &mut P, call: &Call<P::Alloc>, turns: u64) -> Option<Answer>
+    ensures answered { IfSome result (λ answer. HasAnswered (submitted call.now) turns answer (P.asked_of port.new)) }
     ensures told { IfSome result IsTold }
-    ensures in_vain { IfNone result (IsInVain (submitted call) turns (P.asked_of port.new)) }
+    ensures in_vain { IfNone result (IsInVain (submitted call.now) turns (P.asked_of port.new)) }
 {
     let Ok(ticket) = port.submit(call) else {
         return None;

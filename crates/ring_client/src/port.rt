@@ -25,10 +25,10 @@ pub trait Port: Drop {
     /// What the port was asked last.
     ghost asked_of: { Self → Asked };
 
-    /// Submits a call. It may be refused for any reason.
-    fn submit(&mut self, call: Call<Self::Alloc>) -> Result<Self::Ticket, Fault>
-        ensures ok { OnOk result (asked_of self.new ≡ submitted call) }
-        ensures refused { IfErr result (λ fault. asked_of self.new ≡ refused_with fault (submitted call)) };
+    /// Submits a call, which the port copies if it takes it. It may be refused for any reason.
+    fn submit(&mut self, call: &Call<Self::Alloc>) -> Result<Self::Ticket, Fault>
+        ensures ok { OnOk result (asked_of self.new ≡ submitted call.now) }
+        ensures refused { IfErr result (λ fault. asked_of self.new ≡ refused_with fault (submitted call.now)) };
 
     /// The answer to the ticket's call, if it has come. A refused call is told by a number from 4 to 7.
     fn poll(&mut self, ticket: &Self::Ticket) -> Option<Answer>

@@ -9,17 +9,18 @@ use ring_session::Answer;
 use std::alloc::Allocator;
 use std::test::Fail;
 
+/// The reply that the third port gives.
+fn replied() -> Reply {
+    Reply::from_slice(&[5])
+}
+
 /// Client 7, whose calls have their memory in `heap`. The third of its ports answers.
-fn client_of<A: Allocator + Copy + Drop>(
-    heap: A,
-    ample: A,
-    done: Answer,
-) -> Result<Client<Scripted<A>>, Fault> {
+fn client_of<A: Allocator + Copy + Drop>(heap: A, ample: A) -> Result<Client<Scripted<A>>, Fault> {
     let mut ports = Vec::new(ample);
     for behaviour in [
         Behaviour::IsSilent,
         Behaviour::Refuses(Fault::Stopped),
-        Behaviour::AnswersAfter(0, done),
+        Behaviour::AnswersAfter(0, Answer::Done(replied())),
     ] {
         ports.push(Scripted::new(ample, behaviour))?;
     }
@@ -40,10 +41,9 @@ fn asked_ports<P: Port>(client: &Client<P>) -> usize {
 #[test]
 fn each_request_is_refused_in_turn(rt: HostRuntime) -> Result<(), Fail> {
     let ample = Refusing::new(rt.alloc(), u64::MAX);
-    let reply = Reply::from_slice(&[5]);
     for passed in 0..3u64 {
         let heap = Refusing::new(rt.alloc(), passed);
-        let mut client = client_of(&heap, &ample, Answer::Done(reply))?;
+        let mut client = client_of(&heap, &ample)?;
         assert_eq!(rt; client.call(b"a"), Err(Fault::Memory), "at {passed}");
         assert_eq!(rt; asked_ports(&client) as u64, passed);
         assert_eq!(rt; client.is_open(), passed > 0);
@@ -53,12 +53,12 @@ fn each_request_is_refused_in_turn(rt: HostRuntime) -> Result<(), Fail> {
         } else {
             client.call(b"a")
         };
-        assert_eq!(rt; told, Ok(reply));
+        assert_eq!(rt; told, Ok(replied()));
         assert_eq!(rt; client.next_number(), Some(2));
     }
     let heap = Refusing::new(rt.alloc(), 3);
-    let mut client = client_of(&heap, &ample, Answer::Done(reply))?;
-    assert_eq!(rt; client.call(b"a"), Ok(reply));
+    let mut client = client_of(&heap, &ample)?;
+    assert_eq!(rt; client.call(b"a"), Ok(replied()));
     assert_eq!(rt; heap.requests(), 3);
     Ok(())
 }

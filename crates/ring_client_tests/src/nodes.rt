@@ -1,8 +1,5 @@
 //! Ports over nodes, all on one thread: a poll lets the node's ring take a turn.
 
-ghost use Rattle.std.specs.Prelude.{◌≡◌, IfErr, OnOk};
-ghost use Rattle.ring_client.specs.Asking.{submitted, refused_with};
-
 use crate::scripted::told;
 use ring_base::{Fault, Fixed, Kind};
 use ring_client::{Asked, Client, Port};
@@ -54,12 +51,9 @@ impl<O: Object> Port for NodePort<O> {
 
     ghost asked_of = { λ port. port.asked };
 
-    fn submit(&mut self, call: Call<O::Alloc>) -> Result<Ticket, Fault>
-        ensures ok { OnOk result (self.new.asked ≡ submitted call) }
-        ensures refused { IfErr result (λ fault. self.new.asked ≡ refused_with fault (submitted call)) }
-    {
-        self.asked.note_submit(&call);
-        let submit = self.node.submit(call);
+    fn submit(&mut self, call: &Call<O::Alloc>) -> Result<Ticket, Fault> {
+        self.asked.note_submit(call);
+        let submit = self.node.submit_on(call);
         if let Err(fault) = submit {
             self.asked.note_refusal(fault);
         }

@@ -1,7 +1,7 @@
 //! A port that does what it is told beforehand, and lists its submits.
 
-ghost use Rattle.std.specs.Prelude.{◌≡◌, IfSome, IfErr, OnOk};
-ghost use Rattle.ring_client.specs.Asking.{IsTold, submitted, refused_with};
+ghost use Rattle.std.specs.Prelude.{◌≡◌, IfSome};
+ghost use Rattle.ring_client.specs.Asking.{IsTold};
 
 use ring_base::Fault;
 use ring_client::{Asked, Port};
@@ -36,6 +36,30 @@ pub fn told(answer: Answer) -> Option<Answer>
     }
 }
 
+/// What a port that behaves so gives at a poll, after so many since the submit.
+fn answer_of(behaviour: &Behaviour, polls: u64) -> Option<Answer>
+    ensures { IfSome result IsTold }
+{
+    match behaviour {
+        Behaviour::AnswersAfter(silent, answer) => {
+            if polls >= *silent {
+                told(*answer)
+            } else {
+                None
+            }
+        }
+        _ => None,
+    }
+}
+
+/// Whether a port that behaves so takes a call.
+fn takes(behaviour: &Behaviour) -> Result<(), Fault> {
+    match behaviour {
+        Behaviour::Refuses(fault) => Err(*fault),
+        _ => Ok(()),
+    }
+}
+
 /// A port that behaves so.
 #[derive(Drop)]
 pub struct Scripted<A: Allocator + Copy + Drop = Global> {
@@ -54,6 +78,15 @@ impl<A: Allocator + Copy + Drop> Scripted<A> {
             asked: Asked::new(),
         }
     }
+
+    /// Refuses a call, or lists it.
+    fn take(&mut self, client: u32, number: u64) -> Result<(), Fault>
+        ensures { self.new.asked ≡ self.old.asked }
+    {
+        takes(&self.behaviour)?;
+        self.submits.push((client, number))?;
+        Ok(())
+    }
 }
 
 impl<A: Allocator + Copy + Drop> Port for Scripted<A> {
@@ -63,18 +96,9 @@ impl<A: Allocator + Copy + Drop> Port for Scripted<A> {
 
     ghost asked_of = { λ port. port.asked };
 
-    fn submit(&mut self, call: Call<A>) -> Result<(), Fault>
-        ensures ok { OnOk result (self.new.asked ≡ submitted call) }
-        ensures refused { IfErr result (λ fault. self.new.asked ≡ refused_with fault (submitted call)) }
-    {
-        self.asked.note_submit(&call);
-        let submit = match self.behaviour {
-            Behaviour::Refuses(fault) => Err(fault),
-            _ => self
-                .submits
-                .push((call.client, call.number))
-                .map_err(|_| Fault::Memory),
-        };
+    fn submit(&mut self, call: &Call<A>) -> Result<(), Fault> {
+        self.asked.note_submit(call);
+        let submit = self.take(call.client, call.number);
         if let Err(fault) = submit {
             self.asked.note_refusal(fault);
         }
@@ -82,10 +106,7 @@ impl<A: Allocator + Copy + Drop> Port for Scripted<A> {
     }
 
     fn poll(&mut self, _ticket: &()) -> Option<Answer> {
-        let answer = match self.behaviour {
-            Behaviour::AnswersAfter(silent, answer) if self.asked.polls >= silent => told(answer),
-            _ => None,
-        };
+        let answer = answer_of(&self.behaviour, self.asked.polls);
         self.asked.note_poll(answer);
         answer
     }

@@ -15,6 +15,11 @@ fn reply(byte: u8) -> Reply {
     Reply::from_slice(&[byte])
 }
 
+/// What a port does that answers at the first poll.
+fn answers_at_once() -> Behaviour {
+    Behaviour::AnswersAfter(0, Answer::Done(reply(1)))
+}
+
 /// Client 7, with a port for each of these.
 fn client_of(
     alloc: Global,
@@ -60,12 +65,11 @@ fn assert_asked(
 /// The first port refuses, the second answers at the third poll. The next call has number 2.
 #[test]
 fn a_refused_submit_is_passed_over(rt: HostRuntime) -> Result<(), Fail> {
-    let done = Answer::Done(reply(5));
     let mut client = client_of(
         rt.alloc(),
         &[
             Behaviour::Refuses(Fault::Stopped),
-            Behaviour::AnswersAfter(2, done),
+            Behaviour::AnswersAfter(2, Answer::Done(reply(5))),
         ],
         3,
     )?;
@@ -73,7 +77,10 @@ fn a_refused_submit_is_passed_over(rt: HostRuntime) -> Result<(), Fail> {
     assert_asked(
         &rt,
         &client,
-        &[(1, Some(8), 0, None), (1, None, 3, Some(done))],
+        &[
+            (1, Some(8), 0, None),
+            (1, None, 3, Some(Answer::Done(reply(5)))),
+        ],
     );
     assert_eq!(rt; client.next_number(), Some(2));
     assert_eq!(rt; client.call(b"b"), Ok(reply(5)));
@@ -103,13 +110,12 @@ fn an_unanswered_call_stays_open(rt: HostRuntime) -> Result<(), Fail> {
 /// A refusing, a silent and an answering port, and one behind them that isn't asked.
 #[test]
 fn each_port_is_asked_once_a_call(rt: HostRuntime) -> Result<(), Fail> {
-    let kept = Answer::Kept(reply(9));
     let mut client = client_of(
         rt.alloc(),
         &[
             Behaviour::Refuses(Fault::PendingFull),
             Behaviour::IsSilent,
-            Behaviour::AnswersAfter(0, kept),
+            Behaviour::AnswersAfter(0, Answer::Kept(reply(9))),
             Behaviour::IsSilent,
         ],
         4,
@@ -123,7 +129,7 @@ fn each_port_is_asked_once_a_call(rt: HostRuntime) -> Result<(), Fail> {
             &[
                 (number, Some(2), 0, None),
                 (number, None, 4, None),
-                (number, None, 1, Some(kept)),
+                (number, None, 1, Some(Answer::Kept(reply(9)))),
                 (0, None, 0, None),
             ],
         );
@@ -143,8 +149,14 @@ fn a_told_refusal_closes_the_call(rt: HostRuntime) -> Result<(), Fail> {
         (6, Fault::NumberGap),
         (7, Fault::SessionsFull),
     ] {
-        let told = Behaviour::AnswersAfter(0, Answer::Refused(number));
-        let mut client = client_of(rt.alloc(), &[told, Behaviour::IsSilent], 1)?;
+        let mut client = client_of(
+            rt.alloc(),
+            &[
+                Behaviour::AnswersAfter(0, Answer::Refused(number)),
+                Behaviour::IsSilent,
+            ],
+            1,
+        )?;
         for _ in 0..2 {
             assert_eq!(rt; client.call(b"a"), Err(fault));
             assert_eq!(rt; client.is_open(), false);
@@ -166,8 +178,7 @@ fn what_is_not_asked(rt: HostRuntime) -> Result<(), Fail> {
     assert_eq!(rt; client.is_open(), true);
     assert_eq!(rt; client.again(), Err(Fault::NoAnswer));
 
-    let answers = Behaviour::AnswersAfter(0, Answer::Done(reply(1)));
-    let mut client = client_of(rt.alloc(), &[answers], 0)?;
+    let mut client = client_of(rt.alloc(), &[answers_at_once()], 0)?;
     assert_eq!(rt; client.again(), Err(Fault::NoAnswer));
     assert_submits(&rt, &client, 0, &[]);
     assert_eq!(rt; client.call(b"a"), Err(Fault::NoAnswer));
@@ -177,8 +188,7 @@ fn what_is_not_asked(rt: HostRuntime) -> Result<(), Fail> {
 
 #[test]
 fn an_operation_has_at_most_1024_bytes(rt: HostRuntime) -> Result<(), Fail> {
-    let answers = Behaviour::AnswersAfter(0, Answer::Done(reply(1)));
-    let mut client = client_of(rt.alloc(), &[answers], 1)?;
+    let mut client = client_of(rt.alloc(), &[answers_at_once()], 1)?;
     assert_eq!(rt; client.call(&[7; 1025]), Err(Fault::OpTooLong));
     assert_submits(&rt, &client, 0, &[]);
     assert_eq!(rt; client.is_open(), false);
