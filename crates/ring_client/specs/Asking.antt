@@ -1,0 +1,42 @@
+-- What a port was asked last (docs/PROTOCOL.md, "Clients"), and what a client makes of it.
+use Rattle.std.specs.Prelude.{◌≡◌, ℕ, ◌+◌, ◌-◌, ◌^◌, ◌≤◌, ◌⊎◌, min, List, [], take, Option, Some, None, ⊤}
+use Rattle.ring_base.specs.Fault.{number_of}
+use Rattle.ring_base.specs.declared.fault.Fault.{Fault}
+use Rattle.ring_payload.specs.declared.call.Call.{Call}
+use Rattle.ring_session.specs.declared.answer.Answer.{Answer}
+use Rattle.ring_session.specs.declared.answer.Answer.TheVariants.{Done, Kept, Refused}
+use Rattle.ring_client.specs.declared.asked.Asked.{Asked}
+
+-- a call of this client and number with this operation was submitted, and not polled yet
+abbrev pub just_submitted : ℕ → ℕ → List ℕ → Asked
+just_submitted client number op = record { client = client; number = number; op = op; refused = None; polls = 0; answer = None }
+
+-- before any submit
+abbrev pub unasked : Asked
+unasked = just_submitted 0 0 []
+
+-- after the submit of a call
+abbrev pub submitted : {A : Type 0} → Call A → Asked
+submitted call = just_submitted call.client call.number (take 1024 call.op)
+
+-- the submit was refused
+abbrev pub refused_with : Fault → Asked → Asked
+refused_with fault asked = record (asked) { refused = Some (number_of fault) }
+
+-- after one more poll, and what it gave
+abbrev pub polled : Option Answer → Asked → Asked
+polled answer asked = record (asked) { polls = min (asked.polls + 1) (2 ^ 64 - 1); answer = answer }
+
+-- an answer that a call can have: a refusal is one of the session rule's, 4 to 7
+abbrev pub IsTold : Answer → Type 0
+IsTold (Done reply) = ⊤
+IsTold (Kept reply) = ⊤
+IsTold (Refused number) = (4 ≤ number) × (number ≤ 7)
+
+-- the call was submitted in vain: the submit was refused, or so many polls gave no answer
+abbrev pub IsInVain : Asked → ℕ → Asked → Type 0
+IsInVain call turns asked = ((fault : Fault) × (asked ≡ refused_with fault call)) ⊎ (asked ≡ record (call) { polls = turns })
+
+-- the last of at most so many polls gave this answer to the call
+abbrev pub HasAnswered : Asked → ℕ → Answer → Asked → Type 0
+HasAnswered call turns answer asked = (polls : ℕ) × (1 ≤ polls) × (polls ≤ turns) × (asked ≡ record (call) { polls = polls; answer = Some answer })

@@ -1,0 +1,71 @@
+-- What a client does with a call (docs/PROTOCOL.md, "Clients").
+use Rattle.std.specs.Prelude.{◌≡◌, ℕ, ◌+◌, ◌^◌, ◌<◌, ◌≤◌, ◌⊎◌, List, length, Option, Some, None, IsSome}
+use Rattle.ring_base.specs.declared.fault.Fault.{Fault}
+use Rattle.ring_base.specs.declared.fault.Fault.TheVariants.{OpTooLong, Conflict, Stale, NumberGap, SessionsFull, Memory, NoAnswer}
+use Rattle.ring_session.specs.SessionAnswer.{refusal, reply_in}
+use Rattle.ring_session.specs.declared.answer.Answer.{Answer}
+use Rattle.ring_client.specs.declared.asked.Asked.{Asked}
+use Rattle.ring_client.specs.Asking.{just_submitted}
+use Rattle.ring_client.specs.Outcomes.{AreAsked, HasAnswer, AreCutOff}
+
+-- A client, with its ports.
+pub record ClientOf (P : Type 0) : Type 0 where
+  pub client : ℕ
+  -- the number of its next call, from 1; 2^64 once its numbers are used up
+  pub next : ℕ
+  -- the operation of its open call, if it has one
+  pub open_call : Option (List ℕ)
+  -- how often a port is polled at most
+  pub turns : ℕ
+  pub ports : List P
+
+-- no call is open, and there is a number for the next
+abbrev pub IsReady : {P : Type 0} → ClientOf P → Type 0
+IsReady self = (self.open_call ≡ None) × (self.next < 2 ^ 64)
+
+-- an operation that may be called
+abbrev pub IsShort : List ℕ → Type 0
+IsShort op = length op ≤ 1024
+
+module _ {P : Type 0} (asked : P → Asked) (old new : ClientOf P) (op : List ℕ) where
+  -- the call: the client's next number with this operation
+  abbrev next_call : Asked
+  next_call = just_submitted old.client old.next op
+
+  -- a port has given this reply: the call is closed, and the number rises
+  abbrev pub IsReplied : List ℕ → Type 0
+  IsReplied reply = (answer : Answer) × (reply_in answer ≡ Some reply) × HasAnswer asked next_call old.turns old.ports new.ports answer
+      × (new ≡ record (old) { next = old.next + 1; open_call = None; ports = new.ports })
+
+  -- a port has told this refusal: the call is closed, and the number stays
+  abbrev pub IsRefused : Fault → Type 0
+  IsRefused fault = HasAnswer asked next_call old.turns old.ports new.ports (refusal fault) × (new ≡ record (old) { open_call = None; ports = new.ports })
+
+  -- each port was asked in vain: the call is open
+  abbrev pub IsUnanswered : Type 0
+  IsUnanswered = AreAsked asked next_call old.turns old.ports new.ports (length old.ports) × (new ≡ record (old) { open_call = Some op; ports = new.ports })
+
+  -- there was no memory for a port's call: for the first one's, and the client is as it was, or for a later one's, and the call is open
+  abbrev pub IsCutOff : Type 0
+  IsCutOff = ((1 ≤ length old.ports) × (new ≡ old)) ⊎ (AreCutOff asked next_call old.turns old.ports new.ports × (new ≡ record (old) { open_call = Some op; ports = new.ports }))
+
+  -- why the ports gave no reply
+  abbrev pub AskingRefused : Fault → Type 0
+  AskingRefused Conflict = IsRefused Conflict
+  AskingRefused Stale = IsRefused Stale
+  AskingRefused NumberGap = IsRefused NumberGap
+  AskingRefused SessionsFull = IsRefused SessionsFull
+  AskingRefused Memory = IsCutOff
+  AskingRefused NoAnswer = IsUnanswered
+  AskingRefused _ = ⊥
+
+  -- why `call` gives no reply
+  abbrev pub CallRefused : Fault → Type 0
+  CallRefused OpTooLong = IsReady old × (1024 < length op) × (new ≡ old)
+  CallRefused NoAnswer = ((IsSome old.open_call ⊎ (old.next ≡ 2 ^ 64)) × (new ≡ old)) ⊎ (IsReady old × IsShort op × IsUnanswered)
+  CallRefused fault = IsReady old × IsShort op × AskingRefused fault
+
+-- why `again` gives no reply
+abbrev pub AgainRefused : {P : Type 0} → (P → Asked) → ClientOf P → ClientOf P → Fault → Type 0
+AgainRefused asked old new NoAnswer = ((old.open_call ≡ None) × (new ≡ old)) ⊎ ((op : List ℕ) × (old.open_call ≡ Some op) × IsUnanswered asked old new op)
+AgainRefused asked old new fault = (op : List ℕ) × (old.open_call ≡ Some op) × AskingRefused asked old new op fault
