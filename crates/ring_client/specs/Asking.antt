@@ -1,6 +1,6 @@
 -- What a port was asked last (docs/PROTOCOL.md, "Clients"), and what a client makes of it.
 use Rattle.std.specs.Prelude.{◌≡◌, ℕ, ◌+◌, ◌-◌, ◌^◌, ◌≤◌, ◌⊎◌, min, List, [], take, Option, Some, None, ⊤}
-use Rattle.ring_base.specs.Fault.{number_of}
+use Rattle.ring_base.specs.Fault.{fault_number}
 use Rattle.ring_base.specs.declared.fault.Fault.{Fault}
 use Rattle.ring_payload.specs.declared.call.Call.{Call}
 use Rattle.ring_session.specs.declared.answer.Answer.{Answer}
@@ -21,7 +21,7 @@ submitted call = just_submitted call.client call.number (take 1024 call.op)
 
 -- the submit was refused
 abbrev pub refused_with : Fault → Asked → Asked
-refused_with fault asked = record (asked) { refused = Some (number_of fault) }
+refused_with fault asked = record (asked) { refused = Some (fault_number fault) }
 
 -- after one more poll, and what it gave
 abbrev pub polled : Option Answer → Asked → Asked

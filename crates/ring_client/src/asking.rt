@@ -1,7 +1,7 @@
 //! A call at the ports: at one, and at one after the other.
 
 ghost use Rattle.std.specs.Prelude.{◌≡◌, ◌≤◌, Some, IfOk, IfErr, IfSome, IfNone};
-ghost use Rattle.ring_base.specs.Fault.{number_of};
+ghost use Rattle.ring_base.specs.Fault.{fault_number};
 ghost use Rattle.ring_base.specs.declared.fault.Fault.TheVariants.{Memory};
 ghost use Rattle.ring_session.specs.SessionAnswer.{refusal, reply_in};
 ghost use Rattle.ring_client.specs.Asking.{just_submitted, submitted, IsTold, IsInVain, HasAnswered};
@@ -108,7 +108,7 @@ pub fn reply_of(answer: Answer) -> Result<Reply, Fault>
 /// The refusal that an answer tells by its number.
 fn refusal_of(number: u8) -> Fault
     requires { (4 ≤ number) × (number ≤ 7) }
-    ensures { number_of result ≡ number }
+    ensures { fault_number result ≡ number }
 {
     match number {
         4 => Fault::Conflict,
