@@ -1,4 +1,3 @@
-// Open: the test functions over the scripted port have no proof yet; all nine tests pass as built.
 //! Worked runs over scripted ports.
 
 use crate::scripted::{Behaviour, Scripted};

@@ -1,4 +1,3 @@
-// Open: the test functions over the scripted port have no proof yet; all nine tests pass as built.
 //! Each request for memory of a call refused in turn.
 
 use crate::scripted::{Behaviour, Scripted};

@@ -1,4 +1,3 @@
-// Open: the test functions over the scripted port have no proof yet; all nine tests pass as built.
 //! A port that does what it is told beforehand, and lists its submits.
 
 ghost use Rattle.std.specs.Prelude.{◌≡◌, IfSome};

@@ -1,4 +1,3 @@
-// Open: the test functions over the scripted port have no proof yet; all nine tests pass as built.
 //! What no contract of the client says: that a port is asked once a call, worked runs over ports that are scripted and
 //! over nodes of rings of one, and that a request for memory which is refused is answered as such.
 #![tactic(auto)]

@@ -1,4 +1,3 @@
-// Open: the test functions over the scripted port have no proof yet; all nine tests pass as built.
 //! Ports over nodes, all on one thread: a poll lets the node's ring take a turn.
 
 use crate::scripted::told;
