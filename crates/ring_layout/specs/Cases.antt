@@ -1,4 +1,5 @@
--- Values told by a tag: a list of cases, each a tag, the format of what stands behind it, and the value that is made of that.
+-- Values told by a tag: a list of cases, each a tag, the format of what stands behind it, and the value that is
+-- made of that.
 use Rattle.std.proofs.Common.{◌≡◌, ℕ, Bool, true, false, eqb, cond, List, [], ◌∷◌, Option, None, sym, subst, ◌∙◌, inl, inr}
 use Rattle.std.specs.Prelude.{◌==◌, if◌then◌else◌}
 use Rattle.std.proofs.lemmas.Bool.{eqb-true, cases_Bool}
@@ -47,9 +48,9 @@ case_format {A} tag body Fits (c ∷ cs) b are made =
     let Q : A → Bool → Type 0 = λ a t. cond t ((x : c.Body) × c.body.Fits x × (c.make x ≡ a)) (IsMade cs b a) in
     elim (cases_Bool (eqb b c.tag)) [
       | inl e ↦ subst P (sym e) (made_format c.body.spelling c.body.Fits c.body.at body Of c.make
-        (λ x f. let t = are.0 x f in (t.1.0, (t.1.1, t.0 ∙ sym (eqb-true b c.tag e))))
-        (λ a f. subst (Q a) e (made a f.0 f.1))
-        c.body.exact)
+          (λ x f. let t = are.0 x f in (t.1.0, (t.1.1, t.0 ∙ sym (eqb-true b c.tag e))))
+          (λ a f. subst (Q a) e (made a f.0 f.1))
+          c.body.exact)
       | inr e ↦ subst P (sym e) (case_format tag body Fits cs b are.1 (λ a f t. subst (Q a) e (made a f t)))
     ]
 
@@ -58,7 +59,8 @@ pub record IsToldByTag {A : Type 0} (cases : List (Case A)) (tag : A → ℕ) (b
   pub each : AreCases tag body Fits cases
   pub made : (a : A) → Fits a → IsMade cases (tag a) a
 
-pub cases_format : {A : Type 0} (cases : List (Case A)) (tag : A → ℕ) (body : A → List ℕ) (Fits : A → Type 0) → IsToldByTag cases tag body Fits → IsFormat (λ a. tag a ∷ body a) Fits (told_at cases)
+pub cases_format : {A : Type 0} (cases : List (Case A)) (tag : A → ℕ) (body : A → List ℕ) (Fits : A → Type 0) → IsToldByTag cases tag body Fits
+    → IsFormat (λ a. tag a ∷ body a) Fits (told_at cases)
 cases_format {A} cases tag body Fits told =
     tagged_format tag body Fits (cases_at cases)
     (λ b. case_format tag body Fits cases b told.each (λ a f e. subst (λ (k : ℕ). IsMade cases k a) e (told.made a f)))

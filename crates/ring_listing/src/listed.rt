@@ -151,7 +151,10 @@ impl fmt::Display for Listed<'_, Head> {
     fn fmt<W: fmt::Write>(&self, f: &mut fmt::Formatter<W>) -> fmt::Result {
         let (last, length, committed) = (Listed(&self.0.last), self.0.length, self.0.committed);
         let trimmed = Trimmed(self.0.trimmed);
-        write!(f, "head last {last} length {length} committed {committed}{trimmed}")
+        write!(
+            f,
+            "head last {last} length {length} committed {committed}{trimmed}"
+        )
     }
 }
 
@@ -207,7 +210,10 @@ impl<A: Allocator + Copy> fmt::Display for Listed<'_, Snap<A>> {
     fn fmt<W: fmt::Write>(&self, f: &mut fmt::Formatter<W>) -> fmt::Result {
         let (at, total, offset) = (self.0.at, self.0.total, self.0.offset);
         let count = self.0.bytes.as_slice().len();
-        write!(f, "snap at {at} total {total} offset {offset} count {count}")
+        write!(
+            f,
+            "snap at {at} total {total} offset {offset} count {count}"
+        )
     }
 }
 

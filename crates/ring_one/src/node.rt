@@ -306,9 +306,9 @@ impl<O: Object> Node<O> {
                 self.ring.state = state;
                 Ok(outs)
             }
-            Err(fault) => {
+            Err(refused) => {
                 self.ring.stop();
-                Err(fault)
+                Err(refused)
             }
         }
     }

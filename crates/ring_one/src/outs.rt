@@ -46,7 +46,8 @@ impl<A: Allocator + Copy + Drop> Outs<A> {
         ensures refused { IfErr result (λ fault. fault ≡ Memory) }
     {
         let mut outs = Outs::new(alloc);
-        outs.frames.push(Frame::Commit(CommitBox::new(alloc, token)?))?;
+        outs.frames
+            .push(Frame::Commit(CommitBox::new(alloc, token)?))?;
         Ok(outs)
     }
 }

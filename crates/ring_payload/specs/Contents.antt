@@ -72,14 +72,13 @@ content_made (contents.Snap x) f = (x, f, refl)
 pub content_format : {A : Type 0} → IsFormat {A = Content A} content_spelling ContentFits content_at
 unfolding content_at
 content_format {A} = cases_format (content_cases {A = A}) content_tag content_body ContentFits (record {
-  each =
-      (
-        λ x f. (refl, (refl, f)),
-        (
-          λ h f. let t = is_whole h f.1 in (t.0, (t.1, f.0)),
-          (λ x f. (refl, (refl, f)), (λ x f. (refl, (refl, f)), (λ h f. let t = is_trimmed h f.1 in (t.0, (t.1, f.0)), (λ x f. (refl, (refl, f)), tt)))),
-        ),
-      );
+  each = (
+    λ x f. (refl, (refl, f)),
+    (
+      λ h f. let t = is_whole h f.1 in (t.0, (t.1, f.0)),
+      (λ x f. (refl, (refl, f)), (λ x f. (refl, (refl, f)), (λ h f. let t = is_trimmed h f.1 in (t.0, (t.1, f.0)), (λ x f. (refl, (refl, f)), tt)))),
+    ),
+  );
   made = content_made;
 })
 

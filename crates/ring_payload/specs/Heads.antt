@@ -1,4 +1,5 @@
--- How heads of logs are spelled: a tag, the last primary or none, the length, the committed length and, where it isn't 0, the trimmed length. Payloads, docs/FORMATS.md.
+-- How heads of logs are spelled: a tag, the last primary or none, the length, the committed length and, where it isn't
+-- 0, the trimmed length. Payloads, docs/FORMATS.md.
 use Rattle.std.proofs.Common.{◌≡◌, ℕ, ◌≤◌, Bool, true, false, List, [], ◌∷◌, Option, Some, None, refl, arith, inl, inr, eq-eqb}
 use Rattle.std.specs.Prelude.{nat_le, ◌&&◌, ◌||◌, ◌==◌, is_some, if◌then◌else◌}
 use Rattle.std.proofs.lemmas.Bool.{leb-true, le-leb, eqb-true, eqb-false, and_parts, cases_Bool}
@@ -108,12 +109,11 @@ unfolding trimmed_at
 trimmed_format = tested_format trimmed_fields told trimmed_test all_spelling TrimmedFits (record {
   spelled = λ p. refl;
   fits = λ p f passed. let a = and_parts _ _ passed in (tested (told p) f.0 a.1, leb-true _ _ a.0);
-  back = λ h f.
-      (
-        (h.last, (h.length, (h.committed, h.trimmed))),
-        (f.0.last, (omega (arith, f.0.length), (omega (arith, f.0.length, f.0.committed), omega (arith, f.0.length, f.0.committed, f.0.trimmed)))),
-        refl,
-      );
+  back = λ h f. (
+    (h.last, (h.length, (h.committed, h.trimmed))),
+    (f.0.last, (omega (arith, f.0.length), (omega (arith, f.0.length, f.0.committed), omega (arith, f.0.length, f.0.committed, f.0.trimmed)))),
+    refl,
+  );
   passes = λ h f. rw (le-leb _ _ f.1, passes h f.0) refl;
 })
 

@@ -1,4 +1,6 @@
--- What stands above payloads sees of them: which are the users', which end a member's recovery, which hold a message of an old ring, the messages that one packs, and the calls that one appends to a log. Rings and logs speak of payloads through these words alone: Recovery and The replicated log of docs/PROTOCOL.md.
+-- What stands above payloads sees of them: which are the users', which end a member's recovery, which hold a message of
+-- an old ring, the messages that one packs, and the calls that one appends to a log. Rings and logs speak of payloads
+-- through these words alone: Recovery and The replicated log of docs/PROTOCOL.md.
 use Rattle.std.specs.Prelude.{Bool, true, false, List, [], ◌∷◌, map, Option, Some, None}
 use Rattle.ring_payload.specs.declared.call.Call.{Call as OneCall}
 use Rattle.ring_payload.specs.declared.content.Content.{Content}

@@ -74,20 +74,19 @@ payload_made (payloads.Snap x) f = (x, f, refl)
 pub payload_format : {A : Type 0} → IsFormat {A = Payload A} payload_spelling PayloadFits payload_at
 unfolding payload_at
 payload_format {A} = cases_format (payload_cases {A = A}) payload_tag payload_body PayloadFits (record {
-  each =
+  each = (
+    λ x f. (refl, (refl, f)),
+    (
+      λ x f. (refl, (refl, f)),
       (
         λ x f. (refl, (refl, f)),
         (
-          λ x f. (refl, (refl, f)),
-          (
-            λ x f. (refl, (refl, f)),
-            (
-              λ h f. let t = is_whole h f.1 in (t.0, (t.1, f.0)),
-              (λ x f. (refl, (refl, f)), (λ x f. (refl, (refl, f)), (λ h f. let t = is_trimmed h f.1 in (t.0, (t.1, f.0)), (λ x f. (refl, (refl, f)), tt)))),
-            ),
-          ),
+          λ h f. let t = is_whole h f.1 in (t.0, (t.1, f.0)),
+          (λ x f. (refl, (refl, f)), (λ x f. (refl, (refl, f)), (λ h f. let t = is_trimmed h f.1 in (t.0, (t.1, f.0)), (λ x f. (refl, (refl, f)), tt)))),
         ),
-      );
+      ),
+    ),
+  );
   made = payload_made;
 })
 

@@ -1,4 +1,5 @@
--- How pieces of snapshots are spelled: the length that the snapshot is of, its bytes in all, how many stand before the piece, how many are in it, and these. Payloads, docs/FORMATS.md.
+-- How pieces of snapshots are spelled: the length that the snapshot is of, its bytes in all, how many stand before the
+-- piece, how many are in it, and these. Payloads, docs/FORMATS.md.
 use Rattle.std.proofs.Common.{◌≡◌, ℕ, ◌-◌, ◌%◌, ◌<◌, ◌≤◌, Bool, true, List, length, Option, refl, arith, eq-eqb}
 use Rattle.std.specs.Prelude.{nat_le, nat_lt, ◌&&◌, ◌==◌, min}
 use Rattle.std.proofs.lemmas.Bool.{leb-true, le-leb, ltb-true, lt-ltb, eqb-true, and_parts}
@@ -28,7 +29,8 @@ pub record SnapFits {A : Type 0} (s : Snap A) : Type 0 where
 -- the limits of the four numbers before the bytes
 abbrev pub is_piece : ℕ → ℕ → ℕ → ℕ → Bool
 is_piece at total offset count =
-    nat_le 1 at && (nat_le at max_number && (nat_le 1 total && (nat_le total most_snapshot && (nat_lt offset total && ((offset % whole_piece == 0) && (count == piece_length total offset))))))
+    nat_le 1 at && (nat_le at max_number && (nat_le 1 total && (nat_le total most_snapshot &&
+    (nat_lt offset total && ((offset % whole_piece == 0) && (count == piece_length total offset))))))
 
 abbrev Numbers : Type 0
 Numbers = ℕ × (ℕ × (ℕ × ℕ))
@@ -65,7 +67,8 @@ piece_fits p f =
 
 is_piece_fits : {A : Type 0} (s : Snap A) → SnapFits s → is_piece s.at s.total s.offset (length s.bytes) ≡ true
 is_piece_fits s f =
-    rw (le-leb _ _ f.at_counted, le-leb _ _ f.at, le-leb _ _ f.total_counted, le-leb _ _ f.total, lt-ltb _ _ f.offset, eq-eqb _ _ f.whole, eq-eqb (length s.bytes) (piece_length s.total s.offset) f.bytes) refl
+    let count = eq-eqb (length s.bytes) (piece_length s.total s.offset) f.bytes in
+    rw (le-leb _ _ f.at_counted, le-leb _ _ f.at, le-leb _ _ f.total_counted, le-leb _ _ f.total, lt-ltb _ _ f.offset, eq-eqb _ _ f.whole, count) refl
 
 pub snap_short : {A : Type 0} (s : Snap A) → SnapFits s → length s.bytes ≤ 7000
 snap_short s f = omega (arith, f.bytes)
@@ -76,8 +79,7 @@ snap_format {A} = told_format snap_fields told snap_spelling SnapFits (record {
   spelled = λ p f. rw f.1 refl;
   fits = piece_fits;
   back = λ s f.
-      let short : length s.bytes ≤ 7000 = snap_short s f in
-      (
+      let short : length s.bytes ≤ 7000 = snap_short s f in (
         ((s.at, (s.total, (s.offset, length s.bytes))), s.bytes),
         (((omega (arith, f.at), (omega (arith, f.total), (omega (arith, f.total, f.offset), omega (arith, short)))), is_piece_fits s f), refl),
         refl,

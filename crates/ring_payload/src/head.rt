@@ -3,8 +3,7 @@
 ghost use Rattle.std.specs.Prelude.{◌≡◌, ℕ, ◌+◌, ◌^◌, ◌<◌, ◌≤◌, List, [], ◌∷◌, ◌++◌, length};
 ghost use Rattle.ring_layout.specs.Reading.{Appends, Gives};
 
-use crate::tags;
-use crate::versions;
+use crate::{tags, versions};
 use bytes::BytesMut;
 use ring_base::{Fault, MAX, RingId};
 use ring_layout::{Decode, Encode, Reader};

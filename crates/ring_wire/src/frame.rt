@@ -26,8 +26,11 @@ const VERSION: u8 = 1;
 
 /// The kinds of frames.
 const MESSAGE: u8 = 1;
+
 const TOKEN: u8 = 2;
+
 const JOIN: u8 = 3;
+
 const COMMIT: u8 = 4;
 
 /// What one processor sends to others.

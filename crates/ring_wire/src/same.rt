@@ -20,7 +20,10 @@ impl<A: Allocator + Copy> Frame<A> {
             (Frame::Message(one), Frame::Message(other)) => is_same_message(one, other),
             (Frame::Token(one), Frame::Token(other)) => is_same_token(one, other),
             (Frame::Join(one), Frame::Join(other)) => is_same_join(one, other),
-            (Frame::Commit(one), Frame::Commit(other)) => is_same_commit(one.token(), other.token()),
+            (Frame::Commit(one), Frame::Commit(other)) => is_same_commit(
+                one.token(),
+                other.token(),
+            ),
             _ => false,
         }
     }

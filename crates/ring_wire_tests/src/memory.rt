@@ -2,9 +2,7 @@
 
 use crate::counts::{message_of, payload_of};
 use crate::spelled::bytes_of;
-use crate::vectors::{
-    COMMIT, HEAD, JOIN, MESSAGE, PACK, PART, SNAP, TOKEN, TRIMMED_HEAD, WRAPPED,
-};
+use crate::vectors::{COMMIT, HEAD, JOIN, MESSAGE, PACK, PART, SNAP, TOKEN, TRIMMED_HEAD, WRAPPED};
 use bytes::BytesMut;
 use refusing_alloc::{Refusing, refuse_in_turn};
 use ring_base::Fault;
@@ -66,7 +64,10 @@ fn refused_reads_and_copies(rt: HostRuntime) -> Result<(), Fail> {
     ] {
         let requests = requests_of(rt.alloc(), vector)?;
         assert!(rt; requests >= Some(least), "{vector:?} {requests:?}");
-        assert!(rt; (requests == Some(0)) == (least == 0), "{vector:?} {requests:?}");
+        assert!(rt;
+            (requests == Some(0)) == (least == 0),
+            "{vector:?} {requests:?}"
+        );
     }
     Ok(())
 }

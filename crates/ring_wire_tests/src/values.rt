@@ -96,13 +96,17 @@ fn payload_fields(frame: &Frame) -> Option<[u64; 5]> {
             let last = head.last.map_or(0, |ring| ring.seq);
             Some([4, last, head.length, head.committed, head.trimmed])
         }
-        Payload::Part(part) => {
-            Some([5, part.first, part.calls.as_slice().len() as u64, 0, 0])
-        }
+        Payload::Part(part) => { Some([5, part.first, part.calls.as_slice().len() as u64, 0, 0]) }
         Payload::Pack(pack) => Some([6, pack.calls.as_slice().len() as u64, 0, 0, 0]),
         Payload::Snap(snap) => {
             let length = snap.bytes.as_slice().len() as u64;
-            Some([8, snap.at, u64::from(snap.total), u64::from(snap.offset), length])
+            Some([
+                8,
+                snap.at,
+                u64::from(snap.total),
+                u64::from(snap.offset),
+                length,
+            ])
         }
     }
 }
@@ -178,7 +182,12 @@ fn same_frames(rt: HostRuntime) -> Result<(), Fail> {
     for vector in EACH_PAYLOAD {
         frames.push(frame_of(rt.alloc(), vector)?)?;
     }
-    for vector in [EACH_KIND[0], EACH_KIND[1], EACH_KIND[3], &COMMIT_AFTER_A_RING] {
+    for vector in [
+        EACH_KIND[0],
+        EACH_KIND[1],
+        EACH_KIND[3],
+        &COMMIT_AFTER_A_RING,
+    ] {
         frames.push(frame_of(rt.alloc(), vector)?)?;
     }
     for at in 0..frames.len() {
