@@ -38,46 +38,28 @@ events =
     SendEvent 3 (call 16 1) ∷ SendEvent 3 (call 17 1) ∷ SendEvent 3 (part 0 (call_of 18 1 ∷ [])) ∷ SendEvent 3 (call 19 1) ∷ SendEvent 3 (call 20 1) ∷
     SendEvent 3 (call 21 1) ∷ SendEvent 3 (call 22 1) ∷ SendEvent 3 (part 0 (call_of 23 1 ∷ [])) ∷ SendEvent 1 (call 24 1) ∷
     SendEvent 5 (part 0 (call_of 25 1 ∷ [])) ∷ Deliver 2 88 ∷ Deliver 1 89 ∷ Deliver 3 89 ∷ Deliver 5 52 ∷ Deliver 5 89 ∷ Deliver 1 90 ∷
-    Deliver 3 90 ∷ Deliver 4 90 ∷ Deliver 5 90 ∷ Deliver 3 91 ∷ Deliver 5 76 ∷ Deliver 1 92 ∷ Deliver 4 92 ∷ Deliver 5 92 ∷ Deliver 1 93 ∷
-    Deliver 5 93 ∷ Deliver 1 94 ∷ Deliver 2 94 ∷ SendEvent 2 (call 26 1) ∷ SendEvent 1 End ∷ SendEvent 1 (call 28 1) ∷ SendEvent 4 (call 29 1) ∷
-    Deliver 5 94 ∷ TimeEvent 3 JoinTime ∷ TimeEvent 5 JoinTime ∷ Deliver 2 95 ∷ Deliver 4 95 ∷ Deliver 5 95 ∷ Deliver 4 96 ∷ Deliver 5 96 ∷
-    Deliver 2 97 ∷ Deliver 5 97 ∷ Deliver 1 98 ∷ Deliver 5 98 ∷ Deliver 1 99 ∷ Deliver 2 99 ∷ Deliver 5 99 ∷ Deliver 4 100 ∷ Deliver 1 101 ∷
-    Deliver 2 101 ∷ Deliver 5 102 ∷ Deliver 2 103 ∷ Deliver 3 103 ∷ Deliver 1 104 ∷ Deliver 2 104 ∷ Deliver 1 105 ∷ Deliver 2 105 ∷ Deliver 3 105 ∷ []
+    Deliver 3 90 ∷ Deliver 4 90 ∷ Deliver 5 90 ∷ Deliver 3 91 ∷ Deliver 5 76 ∷ Deliver 1 92 ∷ Deliver 4 92 ∷ []
 
 abbrev pub outs : List (ℕ × Out Global)
 outs =
     (1, SendOut 30 (join 1 0 31 0)) ∷ (2, SendOut 29 (join 2 0 31 0)) ∷ (3, SendOut 27 (join 3 0 31 0)) ∷ (4, SendOut 23 (join 4 0 31 0)) ∷
     (5, SendOut 15 (join 5 0 31 0)) ∷ (1, SendOut 2 (commit (ring_of 1 1) 31 1 (report (ring_of 0 1) 0 0 0 ∷ []))) ∷
     (2, SendOut 4 (commit (ring_of 1 1) 31 2 (report (ring_of 0 1) 0 0 0 ∷ report (ring_of 0 2) 0 0 0 ∷ []))) ∷
-    (3, SendOut 8 (commit (ring_of 1 1) 31 3 (report (ring_of 0 1) 0 0 0 ∷ report (ring_of 0 2) 0 0 0 ∷ report (ring_of 0 3) 0 0 0 ∷ []))) ∷ (
-      4,
-      SendOut 16 (commit (ring_of 1 1) 31 4 (report (ring_of 0 1) 0 0 0 ∷ report (ring_of 0 2) 0 0 0 ∷ report (ring_of 0 3) 0 0 0 ∷
-          report (ring_of 0 4) 0 0 0 ∷ [])),
-    ) ∷ (
-      5,
-      SendOut 1 (commit (ring_of 1 1) 31 5 (report (ring_of 0 1) 0 0 0 ∷ report (ring_of 0 2) 0 0 0 ∷ report (ring_of 0 3) 0 0 0 ∷
-          report (ring_of 0 4) 0 0 0 ∷ report (ring_of 0 5) 0 0 0 ∷ [])),
-    ) ∷ (
-      1,
-      SendOut 2 (commit (ring_of 1 1) 31 6 (report (ring_of 0 1) 0 0 0 ∷ report (ring_of 0 2) 0 0 0 ∷ report (ring_of 0 3) 0 0 0 ∷
-          report (ring_of 0 4) 0 0 0 ∷ report (ring_of 0 5) 0 0 0 ∷ [])),
-    ) ∷ (
-      2,
-      SendOut 4 (commit (ring_of 1 1) 31 7 (report (ring_of 0 1) 0 0 0 ∷ report (ring_of 0 2) 0 0 0 ∷ report (ring_of 0 3) 0 0 0 ∷
-          report (ring_of 0 4) 0 0 0 ∷ report (ring_of 0 5) 0 0 0 ∷ [])),
-    ) ∷ (
-      3,
-      SendOut 8 (commit (ring_of 1 1) 31 8 (report (ring_of 0 1) 0 0 0 ∷ report (ring_of 0 2) 0 0 0 ∷ report (ring_of 0 3) 0 0 0 ∷
-          report (ring_of 0 4) 0 0 0 ∷ report (ring_of 0 5) 0 0 0 ∷ [])),
-    ) ∷ (
-      4,
-      SendOut 16 (commit (ring_of 1 1) 31 9 (report (ring_of 0 1) 0 0 0 ∷ report (ring_of 0 2) 0 0 0 ∷ report (ring_of 0 3) 0 0 0 ∷
-          report (ring_of 0 4) 0 0 0 ∷ report (ring_of 0 5) 0 0 0 ∷ [])),
-    ) ∷ (
-      5,
-      SendOut 1 (commit (ring_of 1 1) 31 10 (report (ring_of 0 1) 0 0 0 ∷ report (ring_of 0 2) 0 0 0 ∷ report (ring_of 0 3) 0 0 0 ∷
-          report (ring_of 0 4) 0 0 0 ∷ report (ring_of 0 5) 0 0 0 ∷ [])),
-    ) ∷
+    (3, SendOut 8 (commit (ring_of 1 1) 31 3 (report (ring_of 0 1) 0 0 0 ∷ report (ring_of 0 2) 0 0 0 ∷ report (ring_of 0 3) 0 0 0 ∷ []))) ∷
+    (4, SendOut 16 (commit (ring_of 1 1) 31 4 (report (ring_of 0 1) 0 0 0 ∷ report (ring_of 0 2) 0 0 0 ∷ report (ring_of 0 3) 0 0 0 ∷
+        report (ring_of 0 4) 0 0 0 ∷ []))) ∷
+    (5, SendOut 1 (commit (ring_of 1 1) 31 5 (report (ring_of 0 1) 0 0 0 ∷ report (ring_of 0 2) 0 0 0 ∷ report (ring_of 0 3) 0 0 0 ∷
+        report (ring_of 0 4) 0 0 0 ∷ report (ring_of 0 5) 0 0 0 ∷ []))) ∷
+    (1, SendOut 2 (commit (ring_of 1 1) 31 6 (report (ring_of 0 1) 0 0 0 ∷ report (ring_of 0 2) 0 0 0 ∷ report (ring_of 0 3) 0 0 0 ∷
+        report (ring_of 0 4) 0 0 0 ∷ report (ring_of 0 5) 0 0 0 ∷ []))) ∷
+    (2, SendOut 4 (commit (ring_of 1 1) 31 7 (report (ring_of 0 1) 0 0 0 ∷ report (ring_of 0 2) 0 0 0 ∷ report (ring_of 0 3) 0 0 0 ∷
+        report (ring_of 0 4) 0 0 0 ∷ report (ring_of 0 5) 0 0 0 ∷ []))) ∷
+    (3, SendOut 8 (commit (ring_of 1 1) 31 8 (report (ring_of 0 1) 0 0 0 ∷ report (ring_of 0 2) 0 0 0 ∷ report (ring_of 0 3) 0 0 0 ∷
+        report (ring_of 0 4) 0 0 0 ∷ report (ring_of 0 5) 0 0 0 ∷ []))) ∷
+    (4, SendOut 16 (commit (ring_of 1 1) 31 9 (report (ring_of 0 1) 0 0 0 ∷ report (ring_of 0 2) 0 0 0 ∷ report (ring_of 0 3) 0 0 0 ∷
+        report (ring_of 0 4) 0 0 0 ∷ report (ring_of 0 5) 0 0 0 ∷ []))) ∷
+    (5, SendOut 1 (commit (ring_of 1 1) 31 10 (report (ring_of 0 1) 0 0 0 ∷ report (ring_of 0 2) 0 0 0 ∷ report (ring_of 0 3) 0 0 0 ∷
+        report (ring_of 0 4) 0 0 0 ∷ report (ring_of 0 5) 0 0 0 ∷ []))) ∷
     (1, SendOut 30 (MessageFrame (message (ring_of 1 1) 1 1 End))) ∷ (1, SendOut 2 (token (ring_of 1 1) 1 1 1 None [])) ∷
     (2, SendOut 29 (MessageFrame (message (ring_of 1 1) 2 2 End))) ∷ (2, SendOut 4 (token (ring_of 1 1) 2 2 2 None [])) ∷
     (3, SendOut 27 (MessageFrame (message (ring_of 1 1) 3 3 End))) ∷ (3, SendOut 8 (token (ring_of 1 1) 3 3 3 None [])) ∷
@@ -162,25 +144,7 @@ outs =
     (3, Agreed (ring_of 1 1) 16 (message (ring_of 1 1) 16 3 (part 0 (call_of 18 1 ∷ [])))) ∷
     (3, Agreed (ring_of 1 1) 17 (message (ring_of 1 1) 17 3 (pack (call_of 19 1 ∷ call_of 20 1 ∷ call_of 21 1 ∷ call_of 22 1 ∷ [])))) ∷
     (3, Agreed (ring_of 1 1) 18 (message (ring_of 1 1) 18 3 (part 0 (call_of 23 1 ∷ [])))) ∷
-    (1, Agreed (ring_of 1 1) 11 (message (ring_of 1 1) 11 3 (call 8 1))) ∷ (4, Agreed (ring_of 1 1) 11 (message (ring_of 1 1) 11 3 (call 8 1))) ∷
-    (5, Agreed (ring_of 1 1) 11 (message (ring_of 1 1) 11 3 (call 8 1))) ∷ (1, Agreed (ring_of 1 1) 12 (message (ring_of 1 1) 12 3 head)) ∷
-    (5, Agreed (ring_of 1 1) 12 (message (ring_of 1 1) 12 3 head)) ∷
-    (1, Agreed (ring_of 1 1) 13 (message (ring_of 1 1) 13 3 (pack (call_of 10 1 ∷ call_of 11 1 ∷ long_call_of 12 1 ∷ call_of 14 1 ∷ [])))) ∷
-    (5, Agreed (ring_of 1 1) 13 (message (ring_of 1 1) 13 3 (pack (call_of 10 1 ∷ call_of 11 1 ∷ long_call_of 12 1 ∷ call_of 14 1 ∷ [])))) ∷
-    (5, Agreed (ring_of 1 1) 14 (message (ring_of 1 1) 14 3 head)) ∷
-    (5, Agreed (ring_of 1 1) 15 (message (ring_of 1 1) 15 3 (pack (call_of 16 1 ∷ call_of 17 1 ∷ [])))) ∷
-    (5, Agreed (ring_of 1 1) 16 (message (ring_of 1 1) 16 3 (part 0 (call_of 18 1 ∷ [])))) ∷
-    (5, Agreed (ring_of 1 1) 17 (message (ring_of 1 1) 17 3 (pack (call_of 19 1 ∷ call_of 20 1 ∷ call_of 21 1 ∷ call_of 22 1 ∷ [])))) ∷
-    (5, Agreed (ring_of 1 1) 18 (message (ring_of 1 1) 18 3 (part 0 (call_of 23 1 ∷ [])))) ∷
-    (4, SendOut 23 (MessageFrame (message (ring_of 1 1) 19 4 (call 29 1)))) ∷
-    (4, SendOut 16 (token (ring_of 1 1) 64 19 11 (Some 4) (12 ∷ 13 ∷ 16 ∷ 17 ∷ 18 ∷ []))) ∷
-    (5, SendOut 15 (MessageFrame (message (ring_of 1 1) 12 3 head))) ∷
-    (5, SendOut 15 (MessageFrame (message (ring_of 1 1) 13 3 (pack (call_of 10 1 ∷ call_of 11 1 ∷ long_call_of 12 1 ∷ call_of 14 1 ∷ []))))) ∷
-    (5, SendOut 15 (MessageFrame (message (ring_of 1 1) 16 3 (part 0 (call_of 18 1 ∷ []))))) ∷
-    (5, SendOut 15 (MessageFrame (message (ring_of 1 1) 17 3 (pack (call_of 19 1 ∷ call_of 20 1 ∷ call_of 21 1 ∷ call_of 22 1 ∷ []))))) ∷
-    (5, SendOut 15 (MessageFrame (message (ring_of 1 1) 18 3 (part 0 (call_of 23 1 ∷ []))))) ∷
-    (5, SendOut 15 (MessageFrame (message (ring_of 1 1) 20 5 (part 0 (call_of 25 1 ∷ []))))) ∷
-    (5, SendOut 1 (token (ring_of 1 1) 65 20 11 (Some 4) (19 ∷ []))) ∷ []
+    (1, Agreed (ring_of 1 1) 11 (message (ring_of 1 1) 11 3 (call 8 1))) ∷ (4, Agreed (ring_of 1 1) 11 (message (ring_of 1 1) 11 3 (call 8 1))) ∷ []
 
 -- the world that it leads to
 abbrev pub world : World Global

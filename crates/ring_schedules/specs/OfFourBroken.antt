@@ -11,7 +11,7 @@ use Rattle.ring_moves.specs.declared.event.RingEvent.{RingEvent}
 use Rattle.ring_moves.specs.declared.event.RingEvent.TheVariants.{Send as SendEvent, Deliver, Timeout as TimeEvent}
 use Rattle.ring_moves.specs.Worlds.{World, run, unformed}
 use Rattle.ring_moves.specs.Samples.{ring_of}
-use Rattle.ring_schedules.specs.Words.{call_of, call, long_call, call_content, head, head_after, pack, pack_content, wrapped, message, token, join, report, commit}
+use Rattle.ring_schedules.specs.Words.{call_of, long_call_of, call, long_call, call_content, head, head_after, pack, pack_content, wrapped, message, token, join, report, commit}
 
 abbrev pub events : List (RingEvent Global)
 events =
@@ -41,34 +41,24 @@ events =
     Deliver 3 125 ∷ Deliver 1 126 ∷ Deliver 2 127 ∷ Deliver 3 129 ∷ Deliver 3 128 ∷ Deliver 4 130 ∷ Deliver 4 128 ∷ Deliver 1 131 ∷ Deliver 2 132 ∷
     Deliver 3 134 ∷ Deliver 4 135 ∷ Deliver 3 133 ∷ Deliver 1 136 ∷ Deliver 4 133 ∷ Deliver 2 137 ∷ Deliver 3 138 ∷ Deliver 1 138 ∷ Deliver 3 139 ∷
     Deliver 3 139 ∷ Deliver 4 140 ∷ TimeEvent 1 Loss ∷ TimeEvent 2 Loss ∷ TimeEvent 3 Loss ∷ Deliver 1 141 ∷ Deliver 1 143 ∷ Deliver 2 142 ∷
-    Deliver 4 143 ∷ Deliver 3 142 ∷ Deliver 3 143 ∷ []
+    Deliver 4 143 ∷ []
 
 abbrev pub outs : List (ℕ × Out Global)
 outs =
     (1, SendOut 14 (join 1 0 15 0)) ∷ (2, SendOut 13 (join 2 0 15 0)) ∷ (3, SendOut 11 (join 3 0 15 0)) ∷ (4, SendOut 7 (join 4 0 15 0)) ∷
     (1, SendOut 2 (commit (ring_of 1 1) 15 1 (report (ring_of 0 1) 0 0 0 ∷ []))) ∷
     (2, SendOut 4 (commit (ring_of 1 1) 15 2 (report (ring_of 0 1) 0 0 0 ∷ report (ring_of 0 2) 0 0 0 ∷ []))) ∷
-    (3, SendOut 8 (commit (ring_of 1 1) 15 3 (report (ring_of 0 1) 0 0 0 ∷ report (ring_of 0 2) 0 0 0 ∷ report (ring_of 0 3) 0 0 0 ∷ []))) ∷ (
-      4,
-      SendOut 1 (commit (ring_of 1 1) 15 4 (report (ring_of 0 1) 0 0 0 ∷ report (ring_of 0 2) 0 0 0 ∷ report (ring_of 0 3) 0 0 0 ∷
-          report (ring_of 0 4) 0 0 0 ∷ [])),
-    ) ∷ (
-      1,
-      SendOut 2 (commit (ring_of 1 1) 15 5 (report (ring_of 0 1) 0 0 0 ∷ report (ring_of 0 2) 0 0 0 ∷ report (ring_of 0 3) 0 0 0 ∷
-          report (ring_of 0 4) 0 0 0 ∷ [])),
-    ) ∷ (
-      2,
-      SendOut 4 (commit (ring_of 1 1) 15 6 (report (ring_of 0 1) 0 0 0 ∷ report (ring_of 0 2) 0 0 0 ∷ report (ring_of 0 3) 0 0 0 ∷
-          report (ring_of 0 4) 0 0 0 ∷ [])),
-    ) ∷ (
-      3,
-      SendOut 8 (commit (ring_of 1 1) 15 7 (report (ring_of 0 1) 0 0 0 ∷ report (ring_of 0 2) 0 0 0 ∷ report (ring_of 0 3) 0 0 0 ∷
-          report (ring_of 0 4) 0 0 0 ∷ [])),
-    ) ∷ (
-      4,
-      SendOut 1 (commit (ring_of 1 1) 15 8 (report (ring_of 0 1) 0 0 0 ∷ report (ring_of 0 2) 0 0 0 ∷ report (ring_of 0 3) 0 0 0 ∷
-          report (ring_of 0 4) 0 0 0 ∷ [])),
-    ) ∷
+    (3, SendOut 8 (commit (ring_of 1 1) 15 3 (report (ring_of 0 1) 0 0 0 ∷ report (ring_of 0 2) 0 0 0 ∷ report (ring_of 0 3) 0 0 0 ∷ []))) ∷
+    (4, SendOut 1 (commit (ring_of 1 1) 15 4 (report (ring_of 0 1) 0 0 0 ∷ report (ring_of 0 2) 0 0 0 ∷ report (ring_of 0 3) 0 0 0 ∷
+        report (ring_of 0 4) 0 0 0 ∷ []))) ∷
+    (1, SendOut 2 (commit (ring_of 1 1) 15 5 (report (ring_of 0 1) 0 0 0 ∷ report (ring_of 0 2) 0 0 0 ∷ report (ring_of 0 3) 0 0 0 ∷
+        report (ring_of 0 4) 0 0 0 ∷ []))) ∷
+    (2, SendOut 4 (commit (ring_of 1 1) 15 6 (report (ring_of 0 1) 0 0 0 ∷ report (ring_of 0 2) 0 0 0 ∷ report (ring_of 0 3) 0 0 0 ∷
+        report (ring_of 0 4) 0 0 0 ∷ []))) ∷
+    (3, SendOut 8 (commit (ring_of 1 1) 15 7 (report (ring_of 0 1) 0 0 0 ∷ report (ring_of 0 2) 0 0 0 ∷ report (ring_of 0 3) 0 0 0 ∷
+        report (ring_of 0 4) 0 0 0 ∷ []))) ∷
+    (4, SendOut 1 (commit (ring_of 1 1) 15 8 (report (ring_of 0 1) 0 0 0 ∷ report (ring_of 0 2) 0 0 0 ∷ report (ring_of 0 3) 0 0 0 ∷
+        report (ring_of 0 4) 0 0 0 ∷ []))) ∷
     (1, SendOut 14 (MessageFrame (message (ring_of 1 1) 1 1 End))) ∷ (1, SendOut 2 (token (ring_of 1 1) 1 1 1 None [])) ∷
     (2, SendOut 13 (MessageFrame (message (ring_of 1 1) 2 2 End))) ∷ (2, SendOut 4 (token (ring_of 1 1) 2 2 2 None [])) ∷
     (3, SendOut 11 (MessageFrame (message (ring_of 1 1) 3 3 End))) ∷ (3, SendOut 8 (token (ring_of 1 1) 3 3 3 None [])) ∷
@@ -124,27 +114,17 @@ outs =
     (3, SendOut 11 (join 3 1 15 0)) ∷ (4, SendOut 7 (join 4 1 15 0)) ∷ (1, SendOut 14 (join 1 1 15 0)) ∷
     (1, SendOut 2 (commit (ring_of 2 1) 15 1 (report (ring_of 1 1) 5 4 0 ∷ []))) ∷
     (2, SendOut 4 (commit (ring_of 2 1) 15 2 (report (ring_of 1 1) 5 4 0 ∷ report (ring_of 1 1) 5 4 0 ∷ []))) ∷
-    (3, SendOut 8 (commit (ring_of 2 1) 15 3 (report (ring_of 1 1) 5 4 0 ∷ report (ring_of 1 1) 5 4 0 ∷ report (ring_of 1 1) 5 4 0 ∷ []))) ∷ (
-      4,
-      SendOut 1 (commit (ring_of 2 1) 15 4 (report (ring_of 1 1) 5 4 0 ∷ report (ring_of 1 1) 5 4 0 ∷ report (ring_of 1 1) 5 4 0 ∷
-          report (ring_of 1 1) 4 4 0 ∷ [])),
-    ) ∷ (
-      1,
-      SendOut 2 (commit (ring_of 2 1) 15 5 (report (ring_of 1 1) 5 4 0 ∷ report (ring_of 1 1) 5 4 0 ∷ report (ring_of 1 1) 5 4 0 ∷
-          report (ring_of 1 1) 4 4 0 ∷ [])),
-    ) ∷ (
-      2,
-      SendOut 4 (commit (ring_of 2 1) 15 6 (report (ring_of 1 1) 5 4 0 ∷ report (ring_of 1 1) 5 4 0 ∷ report (ring_of 1 1) 5 4 0 ∷
-          report (ring_of 1 1) 4 4 0 ∷ [])),
-    ) ∷ (
-      3,
-      SendOut 8 (commit (ring_of 2 1) 15 7 (report (ring_of 1 1) 5 4 0 ∷ report (ring_of 1 1) 5 4 0 ∷ report (ring_of 1 1) 5 4 0 ∷
-          report (ring_of 1 1) 4 4 0 ∷ [])),
-    ) ∷ (
-      4,
-      SendOut 1 (commit (ring_of 2 1) 15 8 (report (ring_of 1 1) 5 4 0 ∷ report (ring_of 1 1) 5 4 0 ∷ report (ring_of 1 1) 5 4 0 ∷
-          report (ring_of 1 1) 4 4 0 ∷ [])),
-    ) ∷
+    (3, SendOut 8 (commit (ring_of 2 1) 15 3 (report (ring_of 1 1) 5 4 0 ∷ report (ring_of 1 1) 5 4 0 ∷ report (ring_of 1 1) 5 4 0 ∷ []))) ∷
+    (4, SendOut 1 (commit (ring_of 2 1) 15 4 (report (ring_of 1 1) 5 4 0 ∷ report (ring_of 1 1) 5 4 0 ∷ report (ring_of 1 1) 5 4 0 ∷
+        report (ring_of 1 1) 4 4 0 ∷ []))) ∷
+    (1, SendOut 2 (commit (ring_of 2 1) 15 5 (report (ring_of 1 1) 5 4 0 ∷ report (ring_of 1 1) 5 4 0 ∷ report (ring_of 1 1) 5 4 0 ∷
+        report (ring_of 1 1) 4 4 0 ∷ []))) ∷
+    (2, SendOut 4 (commit (ring_of 2 1) 15 6 (report (ring_of 1 1) 5 4 0 ∷ report (ring_of 1 1) 5 4 0 ∷ report (ring_of 1 1) 5 4 0 ∷
+        report (ring_of 1 1) 4 4 0 ∷ []))) ∷
+    (3, SendOut 8 (commit (ring_of 2 1) 15 7 (report (ring_of 1 1) 5 4 0 ∷ report (ring_of 1 1) 5 4 0 ∷ report (ring_of 1 1) 5 4 0 ∷
+        report (ring_of 1 1) 4 4 0 ∷ []))) ∷
+    (4, SendOut 1 (commit (ring_of 2 1) 15 8 (report (ring_of 1 1) 5 4 0 ∷ report (ring_of 1 1) 5 4 0 ∷ report (ring_of 1 1) 5 4 0 ∷
+        report (ring_of 1 1) 4 4 0 ∷ []))) ∷
     (1, SendOut 14 (MessageFrame (message (ring_of 2 1) 1 1 (wrapped (ring_of 1 1) 5 1 (pack_content (call_of 1 1 ∷ call_of 2 1 ∷ [])))))) ∷
     (1, SendOut 14 (MessageFrame (message (ring_of 2 1) 2 1 End))) ∷ (1, SendOut 2 (token (ring_of 2 1) 1 2 2 None [])) ∷
     (2, SendOut 13 (MessageFrame (message (ring_of 2 1) 3 2 End))) ∷ (2, SendOut 4 (token (ring_of 2 1) 2 3 3 None [])) ∷

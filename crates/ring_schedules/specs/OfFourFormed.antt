@@ -4,7 +4,7 @@ use Rattle.std.specs.Prelude.{ℕ, List, [], ◌∷◌, Some, None}
 use Rattle.std.specs.declared.alloc.Global.{Global}
 use Rattle.ring_payload.specs.declared.content.Payload.TheVariants.{End}
 use Rattle.ring_wire.specs.declared.frame.Frame.TheVariants.{Message as MessageFrame}
-use Rattle.ring_base.specs.declared.kind.Kind.TheVariants.{Retransmit, Join as JoinTime, Consensus, Loss}
+use Rattle.ring_base.specs.declared.kind.Kind.TheVariants.{Retransmit, Loss}
 use Rattle.ring_srp.specs.declared.out.Out.{Out}
 use Rattle.ring_srp.specs.declared.out.Out.TheVariants.{Send as SendOut, Agreed, Safe, Trans, Rest, Regular}
 use Rattle.ring_moves.specs.declared.event.RingEvent.{RingEvent}
@@ -28,17 +28,7 @@ events =
     Deliver 4 38 ∷ Deliver 2 39 ∷ Deliver 3 39 ∷ Deliver 4 39 ∷ Deliver 2 40 ∷ Deliver 1 41 ∷ Deliver 3 41 ∷ Deliver 4 41 ∷ Deliver 3 42 ∷
     Deliver 1 43 ∷ Deliver 2 43 ∷ Deliver 4 43 ∷ Deliver 4 44 ∷ Deliver 1 45 ∷ Deliver 2 45 ∷ Deliver 3 45 ∷ Deliver 1 46 ∷ Deliver 1 46 ∷
     Deliver 2 47 ∷ Deliver 3 48 ∷ Deliver 4 49 ∷ Deliver 1 50 ∷ Deliver 2 51 ∷ Deliver 3 52 ∷ Deliver 4 53 ∷ Deliver 1 54 ∷ Deliver 2 55 ∷
-    Deliver 3 56 ∷ Deliver 4 57 ∷ Deliver 1 58 ∷ Deliver 2 59 ∷ Deliver 3 60 ∷ Deliver 4 61 ∷ Deliver 1 62 ∷ Deliver 2 63 ∷ Deliver 3 64 ∷
-    Deliver 4 65 ∷ Deliver 1 66 ∷ Deliver 2 67 ∷ Deliver 3 68 ∷ Deliver 4 69 ∷ Deliver 1 70 ∷ Deliver 2 71 ∷ Deliver 3 72 ∷ Deliver 4 73 ∷
-    Deliver 1 74 ∷ Deliver 2 75 ∷ Deliver 3 76 ∷ Deliver 4 77 ∷ TimeEvent 3 JoinTime ∷ Deliver 1 78 ∷ Deliver 2 79 ∷ Deliver 3 80 ∷ Deliver 4 81 ∷
-    Deliver 1 82 ∷ Deliver 2 83 ∷ Deliver 3 84 ∷ Deliver 4 85 ∷ Deliver 1 86 ∷ Deliver 2 87 ∷ Deliver 3 88 ∷ Deliver 4 89 ∷ Deliver 1 90 ∷
-    Deliver 2 91 ∷ Deliver 3 92 ∷ Deliver 4 93 ∷ Deliver 1 94 ∷ Deliver 2 95 ∷ Deliver 3 96 ∷ Deliver 4 97 ∷ Deliver 4 97 ∷ Deliver 1 98 ∷
-    Deliver 2 99 ∷ Deliver 3 100 ∷ Deliver 4 101 ∷ Deliver 1 102 ∷ Deliver 2 103 ∷ Deliver 3 104 ∷ Deliver 4 105 ∷ TimeEvent 3 Retransmit ∷
-    TimeEvent 1 Loss ∷ TimeEvent 2 Loss ∷ TimeEvent 3 Loss ∷ Deliver 1 106 ∷ Deliver 4 107 ∷ Deliver 2 108 ∷ Deliver 3 108 ∷ Deliver 4 108 ∷
-    Deliver 1 109 ∷ Deliver 3 109 ∷ Deliver 4 109 ∷ Deliver 1 110 ∷ Deliver 2 110 ∷ Deliver 4 110 ∷ Deliver 1 111 ∷ Deliver 2 111 ∷ Deliver 3 111 ∷
-    Deliver 2 112 ∷ Deliver 3 113 ∷ Deliver 4 114 ∷ Deliver 1 115 ∷ Deliver 2 116 ∷ Deliver 3 117 ∷ TimeEvent 2 Consensus ∷ TimeEvent 4 Consensus ∷
-    Deliver 4 118 ∷ Deliver 1 119 ∷ Deliver 2 120 ∷ Deliver 3 120 ∷ Deliver 4 120 ∷ Deliver 2 121 ∷ Deliver 1 122 ∷ Deliver 3 122 ∷ Deliver 4 122 ∷
-    Deliver 3 123 ∷ Deliver 1 124 ∷ Deliver 2 124 ∷ Deliver 4 124 ∷ Deliver 4 125 ∷ Deliver 1 126 ∷ Deliver 2 126 ∷ []
+    Deliver 3 56 ∷ Deliver 4 57 ∷ Deliver 1 58 ∷ Deliver 2 59 ∷ []
 
 abbrev pub outs : List (ℕ × Out Global)
 outs =
@@ -65,27 +55,17 @@ outs =
     (1, Agreed (ring_of 1 1) 4 (message (ring_of 1 1) 4 4 (head_after (ring_of 1 1) 5 2))) ∷ (4, SendOut 7 (join 4 1 15 0)) ∷
     (1, SendOut 2 (commit (ring_of 2 1) 15 1 (report (ring_of 1 1) 4 0 0 ∷ []))) ∷
     (2, SendOut 4 (commit (ring_of 2 1) 15 2 (report (ring_of 1 1) 4 0 0 ∷ report (ring_of 1 1) 1 0 4 ∷ []))) ∷
-    (3, SendOut 8 (commit (ring_of 2 1) 15 3 (report (ring_of 1 1) 4 0 0 ∷ report (ring_of 1 1) 1 0 4 ∷ report (ring_of 1 1) 0 0 14 ∷ []))) ∷ (
-      4,
-      SendOut 1 (commit (ring_of 2 1) 15 4 (report (ring_of 1 1) 4 0 0 ∷ report (ring_of 1 1) 1 0 4 ∷ report (ring_of 1 1) 0 0 14 ∷
-          report (ring_of 1 1) 4 0 0 ∷ [])),
-    ) ∷ (
-      1,
-      SendOut 2 (commit (ring_of 2 1) 15 5 (report (ring_of 1 1) 4 0 0 ∷ report (ring_of 1 1) 1 0 4 ∷ report (ring_of 1 1) 0 0 14 ∷
-          report (ring_of 1 1) 4 0 0 ∷ [])),
-    ) ∷ (
-      2,
-      SendOut 4 (commit (ring_of 2 1) 15 6 (report (ring_of 1 1) 4 0 0 ∷ report (ring_of 1 1) 1 0 4 ∷ report (ring_of 1 1) 0 0 14 ∷
-          report (ring_of 1 1) 4 0 0 ∷ [])),
-    ) ∷ (
-      3,
-      SendOut 8 (commit (ring_of 2 1) 15 7 (report (ring_of 1 1) 4 0 0 ∷ report (ring_of 1 1) 1 0 4 ∷ report (ring_of 1 1) 0 0 14 ∷
-          report (ring_of 1 1) 4 0 0 ∷ [])),
-    ) ∷ (
-      4,
-      SendOut 1 (commit (ring_of 2 1) 15 8 (report (ring_of 1 1) 4 0 0 ∷ report (ring_of 1 1) 1 0 4 ∷ report (ring_of 1 1) 0 0 14 ∷
-          report (ring_of 1 1) 4 0 0 ∷ [])),
-    ) ∷
+    (3, SendOut 8 (commit (ring_of 2 1) 15 3 (report (ring_of 1 1) 4 0 0 ∷ report (ring_of 1 1) 1 0 4 ∷ report (ring_of 1 1) 0 0 14 ∷ []))) ∷
+    (4, SendOut 1 (commit (ring_of 2 1) 15 4 (report (ring_of 1 1) 4 0 0 ∷ report (ring_of 1 1) 1 0 4 ∷ report (ring_of 1 1) 0 0 14 ∷
+        report (ring_of 1 1) 4 0 0 ∷ []))) ∷
+    (1, SendOut 2 (commit (ring_of 2 1) 15 5 (report (ring_of 1 1) 4 0 0 ∷ report (ring_of 1 1) 1 0 4 ∷ report (ring_of 1 1) 0 0 14 ∷
+        report (ring_of 1 1) 4 0 0 ∷ []))) ∷
+    (2, SendOut 4 (commit (ring_of 2 1) 15 6 (report (ring_of 1 1) 4 0 0 ∷ report (ring_of 1 1) 1 0 4 ∷ report (ring_of 1 1) 0 0 14 ∷
+        report (ring_of 1 1) 4 0 0 ∷ []))) ∷
+    (3, SendOut 8 (commit (ring_of 2 1) 15 7 (report (ring_of 1 1) 4 0 0 ∷ report (ring_of 1 1) 1 0 4 ∷ report (ring_of 1 1) 0 0 14 ∷
+        report (ring_of 1 1) 4 0 0 ∷ []))) ∷
+    (4, SendOut 1 (commit (ring_of 2 1) 15 8 (report (ring_of 1 1) 4 0 0 ∷ report (ring_of 1 1) 1 0 4 ∷ report (ring_of 1 1) 0 0 14 ∷
+        report (ring_of 1 1) 4 0 0 ∷ []))) ∷
     (1, SendOut 14 (MessageFrame (message (ring_of 2 1) 1 1 (wrapped (ring_of 1 1) 1 1 (head_content_after (ring_of 2 1) 5 2))))) ∷
     (1, SendOut 14 (MessageFrame (message (ring_of 2 1) 2 1 (wrapped (ring_of 1 1) 2 3 (pack_content (call_of 2 1 ∷ call_of 3 1 ∷ call_of 6 1 ∷ [])))))) ∷
     (1, SendOut 14 (MessageFrame (message (ring_of 2 1) 3 1 (wrapped (ring_of 1 1) 3 4 (call_content 4 1))))) ∷
@@ -125,58 +105,7 @@ outs =
     (4, SendOut 1 (token (ring_of 2 1) 12 8 8 None [])) ∷ (1, SendOut 2 (token (ring_of 2 1) 13 8 8 None [])) ∷
     (2, SendOut 4 (token (ring_of 2 1) 14 8 8 None [])) ∷ (3, SendOut 8 (token (ring_of 2 1) 15 8 8 None [])) ∷
     (4, SendOut 1 (token (ring_of 2 1) 16 8 8 None [])) ∷ (1, SendOut 2 (token (ring_of 2 1) 17 8 8 None [])) ∷
-    (2, SendOut 4 (token (ring_of 2 1) 18 8 8 None [])) ∷ (3, SendOut 8 (token (ring_of 2 1) 19 8 8 None [])) ∷
-    (4, SendOut 1 (token (ring_of 2 1) 20 8 8 None [])) ∷ (1, SendOut 2 (token (ring_of 2 1) 21 8 8 None [])) ∷
-    (2, SendOut 4 (token (ring_of 2 1) 22 8 8 None [])) ∷ (3, SendOut 8 (token (ring_of 2 1) 23 8 8 None [])) ∷
-    (4, SendOut 1 (token (ring_of 2 1) 24 8 8 None [])) ∷ (1, SendOut 2 (token (ring_of 2 1) 25 8 8 None [])) ∷
-    (2, SendOut 4 (token (ring_of 2 1) 26 8 8 None [])) ∷ (3, SendOut 8 (token (ring_of 2 1) 27 8 8 None [])) ∷
-    (4, SendOut 1 (token (ring_of 2 1) 28 8 8 None [])) ∷ (1, SendOut 2 (token (ring_of 2 1) 29 8 8 None [])) ∷
-    (2, SendOut 4 (token (ring_of 2 1) 30 8 8 None [])) ∷ (3, SendOut 8 (token (ring_of 2 1) 31 8 8 None [])) ∷
-    (4, SendOut 1 (token (ring_of 2 1) 32 8 8 None [])) ∷ (1, SendOut 2 (token (ring_of 2 1) 33 8 8 None [])) ∷
-    (2, SendOut 4 (token (ring_of 2 1) 34 8 8 None [])) ∷ (3, SendOut 8 (token (ring_of 2 1) 35 8 8 None [])) ∷
-    (4, SendOut 1 (token (ring_of 2 1) 36 8 8 None [])) ∷ (1, SendOut 2 (token (ring_of 2 1) 37 8 8 None [])) ∷
-    (2, SendOut 4 (token (ring_of 2 1) 38 8 8 None [])) ∷ (3, SendOut 8 (token (ring_of 2 1) 39 8 8 None [])) ∷
-    (4, SendOut 1 (token (ring_of 2 1) 40 8 8 None [])) ∷ (1, SendOut 2 (token (ring_of 2 1) 41 8 8 None [])) ∷
-    (2, SendOut 4 (token (ring_of 2 1) 42 8 8 None [])) ∷ (3, SendOut 8 (token (ring_of 2 1) 43 8 8 None [])) ∷
-    (4, SendOut 1 (token (ring_of 2 1) 44 8 8 None [])) ∷ (1, SendOut 2 (token (ring_of 2 1) 45 8 8 None [])) ∷
-    (2, SendOut 4 (token (ring_of 2 1) 46 8 8 None [])) ∷ (3, SendOut 8 (token (ring_of 2 1) 47 8 8 None [])) ∷
-    (4, SendOut 1 (token (ring_of 2 1) 48 8 8 None [])) ∷ (1, SendOut 2 (token (ring_of 2 1) 49 8 8 None [])) ∷
-    (2, SendOut 4 (token (ring_of 2 1) 50 8 8 None [])) ∷ (3, SendOut 8 (token (ring_of 2 1) 51 8 8 None [])) ∷
-    (4, SendOut 1 (token (ring_of 2 1) 52 8 8 None [])) ∷ (1, SendOut 2 (token (ring_of 2 1) 53 8 8 None [])) ∷
-    (2, SendOut 4 (token (ring_of 2 1) 54 8 8 None [])) ∷ (3, SendOut 8 (token (ring_of 2 1) 55 8 8 None [])) ∷
-    (4, SendOut 1 (token (ring_of 2 1) 56 8 8 None [])) ∷ (1, SendOut 2 (token (ring_of 2 1) 57 8 8 None [])) ∷
-    (2, SendOut 4 (token (ring_of 2 1) 58 8 8 None [])) ∷ (3, SendOut 8 (token (ring_of 2 1) 59 8 8 None [])) ∷
-    (4, SendOut 1 (token (ring_of 2 1) 60 8 8 None [])) ∷ (1, SendOut 2 (token (ring_of 2 1) 61 8 8 None [])) ∷
-    (2, SendOut 4 (token (ring_of 2 1) 62 8 8 None [])) ∷ (3, SendOut 8 (token (ring_of 2 1) 63 8 8 None [])) ∷
-    (4, SendOut 1 (token (ring_of 2 1) 64 8 8 None [])) ∷ (3, SendOut 8 (token (ring_of 2 1) 63 8 8 None [])) ∷ (1, SendOut 14 (join 1 2 15 0)) ∷
-    (2, SendOut 13 (join 2 2 15 0)) ∷ (3, SendOut 11 (join 3 2 15 0)) ∷ (4, SendOut 7 (join 4 2 15 0)) ∷
-    (1, SendOut 2 (commit (ring_of 3 1) 15 1 (report (ring_of 2 1) 8 8 0 ∷ []))) ∷
-    (2, SendOut 4 (commit (ring_of 3 1) 15 2 (report (ring_of 2 1) 8 8 0 ∷ report (ring_of 2 1) 8 8 0 ∷ []))) ∷
-    (3, SendOut 8 (commit (ring_of 3 1) 15 3 (report (ring_of 2 1) 8 8 0 ∷ report (ring_of 2 1) 8 8 0 ∷ report (ring_of 2 1) 8 8 0 ∷ []))) ∷ (
-      4,
-      SendOut 1 (commit (ring_of 3 1) 15 4 (report (ring_of 2 1) 8 8 0 ∷ report (ring_of 2 1) 8 8 0 ∷ report (ring_of 2 1) 8 8 0 ∷
-          report (ring_of 2 1) 8 8 0 ∷ [])),
-    ) ∷ (
-      1,
-      SendOut 2 (commit (ring_of 3 1) 15 5 (report (ring_of 2 1) 8 8 0 ∷ report (ring_of 2 1) 8 8 0 ∷ report (ring_of 2 1) 8 8 0 ∷
-          report (ring_of 2 1) 8 8 0 ∷ [])),
-    ) ∷ (
-      2,
-      SendOut 4 (commit (ring_of 3 1) 15 6 (report (ring_of 2 1) 8 8 0 ∷ report (ring_of 2 1) 8 8 0 ∷ report (ring_of 2 1) 8 8 0 ∷
-          report (ring_of 2 1) 8 8 0 ∷ [])),
-    ) ∷ (
-      3,
-      SendOut 8 (commit (ring_of 3 1) 15 7 (report (ring_of 2 1) 8 8 0 ∷ report (ring_of 2 1) 8 8 0 ∷ report (ring_of 2 1) 8 8 0 ∷
-          report (ring_of 2 1) 8 8 0 ∷ [])),
-    ) ∷ (
-      4,
-      SendOut 1 (commit (ring_of 3 1) 15 8 (report (ring_of 2 1) 8 8 0 ∷ report (ring_of 2 1) 8 8 0 ∷ report (ring_of 2 1) 8 8 0 ∷
-          report (ring_of 2 1) 8 8 0 ∷ [])),
-    ) ∷
-    (1, SendOut 14 (MessageFrame (message (ring_of 3 1) 1 1 End))) ∷ (1, SendOut 2 (token (ring_of 3 1) 1 1 1 None [])) ∷
-    (2, SendOut 13 (MessageFrame (message (ring_of 3 1) 2 2 End))) ∷ (2, SendOut 4 (token (ring_of 3 1) 2 2 2 None [])) ∷
-    (3, SendOut 11 (MessageFrame (message (ring_of 3 1) 3 3 End))) ∷ (3, SendOut 8 (token (ring_of 3 1) 3 3 3 None [])) ∷
-    (4, SendOut 7 (MessageFrame (message (ring_of 3 1) 4 4 End))) ∷ (4, SendOut 1 (token (ring_of 3 1) 4 4 4 None [])) ∷ []
+    (2, SendOut 4 (token (ring_of 2 1) 18 8 8 None [])) ∷ []
 
 -- the world that it leads to
 abbrev pub world : World Global

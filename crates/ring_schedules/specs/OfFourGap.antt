@@ -38,36 +38,24 @@ events =
     Deliver 4 75 ∷ Deliver 3 76 ∷ Deliver 1 77 ∷ Deliver 2 77 ∷ Deliver 4 77 ∷ Deliver 1 78 ∷ Deliver 4 79 ∷ Deliver 1 80 ∷ Deliver 2 80 ∷
     Deliver 3 80 ∷ Deliver 2 81 ∷ Deliver 2 82 ∷ Deliver 2 83 ∷ Deliver 4 84 ∷ Deliver 1 85 ∷ Deliver 1 87 ∷ Deliver 3 88 ∷ Deliver 2 89 ∷
     Deliver 4 90 ∷ Deliver 1 91 ∷ Deliver 1 92 ∷ Deliver 3 93 ∷ Deliver 2 94 ∷ Deliver 4 96 ∷ Deliver 1 97 ∷ Deliver 3 98 ∷ Deliver 3 99 ∷
-    Deliver 2 100 ∷ Deliver 4 101 ∷ TimeEvent 3 Retransmit ∷ Deliver 4 102 ∷ Deliver 1 103 ∷ Deliver 4 104 ∷ Deliver 3 105 ∷ Deliver 2 106 ∷
-    Deliver 4 107 ∷ Deliver 1 108 ∷ Deliver 3 109 ∷ Deliver 2 110 ∷ Deliver 4 111 ∷ Deliver 3 11 ∷ Deliver 1 112 ∷ Deliver 3 113 ∷ Deliver 2 114 ∷
-    Deliver 4 115 ∷ Deliver 1 116 ∷ Deliver 3 117 ∷ Deliver 2 118 ∷ Deliver 4 119 ∷ Deliver 1 120 ∷ Deliver 3 121 ∷ []
+    Deliver 2 100 ∷ Deliver 4 101 ∷ TimeEvent 3 Retransmit ∷ Deliver 4 102 ∷ []
 
 abbrev pub outs : List (ℕ × Out Global)
 outs =
     (1, SendOut 14 (join 1 0 15 0)) ∷ (2, SendOut 13 (join 2 0 15 0)) ∷ (3, SendOut 11 (join 3 0 15 0)) ∷ (4, SendOut 7 (join 4 0 15 0)) ∷
     (1, SendOut 2 (commit (ring_of 1 1) 15 1 (report (ring_of 0 1) 0 0 0 ∷ []))) ∷
     (2, SendOut 4 (commit (ring_of 1 1) 15 2 (report (ring_of 0 1) 0 0 0 ∷ report (ring_of 0 2) 0 0 0 ∷ []))) ∷
-    (3, SendOut 8 (commit (ring_of 1 1) 15 3 (report (ring_of 0 1) 0 0 0 ∷ report (ring_of 0 2) 0 0 0 ∷ report (ring_of 0 3) 0 0 0 ∷ []))) ∷ (
-      4,
-      SendOut 1 (commit (ring_of 1 1) 15 4 (report (ring_of 0 1) 0 0 0 ∷ report (ring_of 0 2) 0 0 0 ∷ report (ring_of 0 3) 0 0 0 ∷
-          report (ring_of 0 4) 0 0 0 ∷ [])),
-    ) ∷ (
-      1,
-      SendOut 2 (commit (ring_of 1 1) 15 5 (report (ring_of 0 1) 0 0 0 ∷ report (ring_of 0 2) 0 0 0 ∷ report (ring_of 0 3) 0 0 0 ∷
-          report (ring_of 0 4) 0 0 0 ∷ [])),
-    ) ∷ (
-      2,
-      SendOut 4 (commit (ring_of 1 1) 15 6 (report (ring_of 0 1) 0 0 0 ∷ report (ring_of 0 2) 0 0 0 ∷ report (ring_of 0 3) 0 0 0 ∷
-          report (ring_of 0 4) 0 0 0 ∷ [])),
-    ) ∷ (
-      3,
-      SendOut 8 (commit (ring_of 1 1) 15 7 (report (ring_of 0 1) 0 0 0 ∷ report (ring_of 0 2) 0 0 0 ∷ report (ring_of 0 3) 0 0 0 ∷
-          report (ring_of 0 4) 0 0 0 ∷ [])),
-    ) ∷ (
-      4,
-      SendOut 1 (commit (ring_of 1 1) 15 8 (report (ring_of 0 1) 0 0 0 ∷ report (ring_of 0 2) 0 0 0 ∷ report (ring_of 0 3) 0 0 0 ∷
-          report (ring_of 0 4) 0 0 0 ∷ [])),
-    ) ∷
+    (3, SendOut 8 (commit (ring_of 1 1) 15 3 (report (ring_of 0 1) 0 0 0 ∷ report (ring_of 0 2) 0 0 0 ∷ report (ring_of 0 3) 0 0 0 ∷ []))) ∷
+    (4, SendOut 1 (commit (ring_of 1 1) 15 4 (report (ring_of 0 1) 0 0 0 ∷ report (ring_of 0 2) 0 0 0 ∷ report (ring_of 0 3) 0 0 0 ∷
+        report (ring_of 0 4) 0 0 0 ∷ []))) ∷
+    (1, SendOut 2 (commit (ring_of 1 1) 15 5 (report (ring_of 0 1) 0 0 0 ∷ report (ring_of 0 2) 0 0 0 ∷ report (ring_of 0 3) 0 0 0 ∷
+        report (ring_of 0 4) 0 0 0 ∷ []))) ∷
+    (2, SendOut 4 (commit (ring_of 1 1) 15 6 (report (ring_of 0 1) 0 0 0 ∷ report (ring_of 0 2) 0 0 0 ∷ report (ring_of 0 3) 0 0 0 ∷
+        report (ring_of 0 4) 0 0 0 ∷ []))) ∷
+    (3, SendOut 8 (commit (ring_of 1 1) 15 7 (report (ring_of 0 1) 0 0 0 ∷ report (ring_of 0 2) 0 0 0 ∷ report (ring_of 0 3) 0 0 0 ∷
+        report (ring_of 0 4) 0 0 0 ∷ []))) ∷
+    (4, SendOut 1 (commit (ring_of 1 1) 15 8 (report (ring_of 0 1) 0 0 0 ∷ report (ring_of 0 2) 0 0 0 ∷ report (ring_of 0 3) 0 0 0 ∷
+        report (ring_of 0 4) 0 0 0 ∷ []))) ∷
     (1, SendOut 14 (MessageFrame (message (ring_of 1 1) 1 1 End))) ∷ (1, SendOut 2 (token (ring_of 1 1) 1 1 1 None [])) ∷
     (2, SendOut 13 (MessageFrame (message (ring_of 1 1) 2 2 End))) ∷ (2, SendOut 4 (token (ring_of 1 1) 2 2 2 None [])) ∷
     (3, SendOut 11 (MessageFrame (message (ring_of 1 1) 3 3 End))) ∷ (3, SendOut 8 (token (ring_of 1 1) 3 3 3 None [])) ∷
@@ -133,17 +121,7 @@ outs =
     (2, Trans (ring_of 1 1) (ring_of 2 1) 3) ∷ (2, Rest (ring_of 1 1) 5 (message (ring_of 1 1) 5 2 (part 0 (call_of 2 1 ∷ [])))) ∷
     (2, Rest (ring_of 1 1) 6 (message (ring_of 1 1) 6 4 (call 4 1))) ∷ (2, Rest (ring_of 1 1) 7 (message (ring_of 1 1) 7 1 (call 1 1))) ∷
     (2, Regular (ring_of 2 1) 3) ∷ (2, Safe (ring_of 2 1) 4) ∷ (3, SendOut 8 (token (ring_of 3 3) 3 2 0 (Some 4) [])) ∷
-    (4, SendOut 4 (token (ring_of 3 3) 4 2 2 None [])) ∷ (1, SendOut 2 (token (ring_of 2 1) 9 4 4 None [])) ∷
-    (3, SendOut 8 (token (ring_of 3 3) 5 2 2 None [])) ∷ (2, SendOut 1 (token (ring_of 2 1) 10 4 4 None [])) ∷
-    (4, SendOut 4 (token (ring_of 3 3) 6 2 2 None [])) ∷ (4, Trans (ring_of 2 4) (ring_of 3 3) 8) ∷ (4, Regular (ring_of 3 3) 12) ∷
-    (4, Safe (ring_of 3 3) 2) ∷ (1, SendOut 2 (token (ring_of 2 1) 11 4 4 None [])) ∷ (3, SendOut 8 (token (ring_of 3 3) 7 2 2 None [])) ∷
-    (3, Trans (ring_of 2 3) (ring_of 3 3) 4) ∷ (3, Regular (ring_of 3 3) 12) ∷ (3, Safe (ring_of 3 3) 2) ∷
-    (2, SendOut 1 (token (ring_of 2 1) 12 4 4 None [])) ∷ (4, SendOut 4 (token (ring_of 3 3) 8 2 2 None [])) ∷
-    (1, SendOut 2 (token (ring_of 2 1) 13 4 4 None [])) ∷ (3, SendOut 8 (token (ring_of 3 3) 9 2 2 None [])) ∷
-    (2, SendOut 1 (token (ring_of 2 1) 14 4 4 None [])) ∷ (4, SendOut 4 (token (ring_of 3 3) 10 2 2 None [])) ∷
-    (1, SendOut 2 (token (ring_of 2 1) 15 4 4 None [])) ∷ (3, SendOut 8 (token (ring_of 3 3) 11 2 2 None [])) ∷
-    (2, SendOut 1 (token (ring_of 2 1) 16 4 4 None [])) ∷ (4, SendOut 4 (token (ring_of 3 3) 12 2 2 None [])) ∷
-    (1, SendOut 2 (token (ring_of 2 1) 17 4 4 None [])) ∷ (3, SendOut 8 (token (ring_of 3 3) 13 2 2 None [])) ∷ []
+    (4, SendOut 4 (token (ring_of 3 3) 4 2 2 None [])) ∷ []
 
 -- the world that it leads to
 abbrev pub world : World Global

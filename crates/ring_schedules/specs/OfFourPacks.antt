@@ -11,7 +11,7 @@ use Rattle.ring_moves.specs.declared.event.RingEvent.{RingEvent}
 use Rattle.ring_moves.specs.declared.event.RingEvent.TheVariants.{Send as SendEvent, Deliver, Timeout as TimeEvent, Stop}
 use Rattle.ring_moves.specs.Worlds.{World, run, unformed}
 use Rattle.ring_moves.specs.Samples.{ring_of}
-use Rattle.ring_schedules.specs.Words.{call_of, call, long_call, call_content, head, head_after, head_content_after, pack, pack_content, wrapped, message, token, join, report, commit}
+use Rattle.ring_schedules.specs.Words.{call_of, long_call_of, call, long_call, call_content, head, head_after, head_content_after, pack, pack_content, wrapped, message, token, join, report, commit}
 
 abbrev pub events : List (RingEvent Global)
 events =
@@ -39,38 +39,24 @@ events =
     Deliver 1 105 ∷ Deliver 3 106 ∷ Deliver 3 108 ∷ Deliver 1 109 ∷ Deliver 3 111 ∷ Deliver 1 112 ∷ Deliver 3 114 ∷ Deliver 1 115 ∷ Deliver 3 117 ∷
     Deliver 1 118 ∷ Deliver 3 119 ∷ Deliver 3 120 ∷ Deliver 1 121 ∷ Deliver 3 122 ∷ SendEvent 2 head ∷ Deliver 1 123 ∷ Deliver 3 124 ∷ Deliver 1 125 ∷
     Deliver 3 126 ∷ Deliver 1 127 ∷ Deliver 1 69 ∷ Deliver 3 128 ∷ Deliver 1 129 ∷ Deliver 3 130 ∷ Deliver 1 131 ∷ Deliver 3 132 ∷ Deliver 1 133 ∷
-    SendEvent 3 (call 32 1) ∷ SendEvent 2 (call 33 1) ∷ Deliver 3 134 ∷ Deliver 1 136 ∷ Deliver 3 137 ∷ SendEvent 1 (call 34 1) ∷
-    SendEvent 1 (call 35 1) ∷ SendEvent 4 (call 36 1) ∷ SendEvent 4 (call 37 1) ∷ SendEvent 2 (call 38 1) ∷ SendEvent 1 (call 39 1) ∷
-    TimeEvent 2 Loss ∷ Deliver 1 139 ∷ Deliver 3 140 ∷ Deliver 3 141 ∷ Deliver 3 141 ∷ TimeEvent 1 Consensus ∷ Deliver 1 143 ∷ Deliver 3 144 ∷
-    Deliver 1 146 ∷ Deliver 3 147 ∷ Deliver 1 149 ∷ Deliver 3 150 ∷ Deliver 1 151 ∷ Deliver 1 152 ∷ Deliver 3 153 ∷ Deliver 1 154 ∷ Deliver 3 155 ∷
-    Deliver 1 156 ∷ Deliver 3 157 ∷ Deliver 1 158 ∷ Deliver 3 159 ∷ Deliver 1 160 ∷ Deliver 3 161 ∷ []
+    SendEvent 3 (call 32 1) ∷ SendEvent 2 (call 33 1) ∷ Deliver 3 134 ∷ Deliver 1 136 ∷ []
 
 abbrev pub outs : List (ℕ × Out Global)
 outs =
     (1, SendOut 14 (join 1 0 15 0)) ∷ (2, SendOut 13 (join 2 0 15 0)) ∷ (3, SendOut 11 (join 3 0 15 0)) ∷ (4, SendOut 7 (join 4 0 15 0)) ∷
     (1, SendOut 2 (commit (ring_of 1 1) 15 1 (report (ring_of 0 1) 0 0 0 ∷ []))) ∷
     (2, SendOut 4 (commit (ring_of 1 1) 15 2 (report (ring_of 0 1) 0 0 0 ∷ report (ring_of 0 2) 0 0 0 ∷ []))) ∷
-    (3, SendOut 8 (commit (ring_of 1 1) 15 3 (report (ring_of 0 1) 0 0 0 ∷ report (ring_of 0 2) 0 0 0 ∷ report (ring_of 0 3) 0 0 0 ∷ []))) ∷ (
-      4,
-      SendOut 1 (commit (ring_of 1 1) 15 4 (report (ring_of 0 1) 0 0 0 ∷ report (ring_of 0 2) 0 0 0 ∷ report (ring_of 0 3) 0 0 0 ∷
-          report (ring_of 0 4) 0 0 0 ∷ [])),
-    ) ∷ (
-      1,
-      SendOut 2 (commit (ring_of 1 1) 15 5 (report (ring_of 0 1) 0 0 0 ∷ report (ring_of 0 2) 0 0 0 ∷ report (ring_of 0 3) 0 0 0 ∷
-          report (ring_of 0 4) 0 0 0 ∷ [])),
-    ) ∷ (
-      2,
-      SendOut 4 (commit (ring_of 1 1) 15 6 (report (ring_of 0 1) 0 0 0 ∷ report (ring_of 0 2) 0 0 0 ∷ report (ring_of 0 3) 0 0 0 ∷
-          report (ring_of 0 4) 0 0 0 ∷ [])),
-    ) ∷ (
-      3,
-      SendOut 8 (commit (ring_of 1 1) 15 7 (report (ring_of 0 1) 0 0 0 ∷ report (ring_of 0 2) 0 0 0 ∷ report (ring_of 0 3) 0 0 0 ∷
-          report (ring_of 0 4) 0 0 0 ∷ [])),
-    ) ∷ (
-      4,
-      SendOut 1 (commit (ring_of 1 1) 15 8 (report (ring_of 0 1) 0 0 0 ∷ report (ring_of 0 2) 0 0 0 ∷ report (ring_of 0 3) 0 0 0 ∷
-          report (ring_of 0 4) 0 0 0 ∷ [])),
-    ) ∷
+    (3, SendOut 8 (commit (ring_of 1 1) 15 3 (report (ring_of 0 1) 0 0 0 ∷ report (ring_of 0 2) 0 0 0 ∷ report (ring_of 0 3) 0 0 0 ∷ []))) ∷
+    (4, SendOut 1 (commit (ring_of 1 1) 15 4 (report (ring_of 0 1) 0 0 0 ∷ report (ring_of 0 2) 0 0 0 ∷ report (ring_of 0 3) 0 0 0 ∷
+        report (ring_of 0 4) 0 0 0 ∷ []))) ∷
+    (1, SendOut 2 (commit (ring_of 1 1) 15 5 (report (ring_of 0 1) 0 0 0 ∷ report (ring_of 0 2) 0 0 0 ∷ report (ring_of 0 3) 0 0 0 ∷
+        report (ring_of 0 4) 0 0 0 ∷ []))) ∷
+    (2, SendOut 4 (commit (ring_of 1 1) 15 6 (report (ring_of 0 1) 0 0 0 ∷ report (ring_of 0 2) 0 0 0 ∷ report (ring_of 0 3) 0 0 0 ∷
+        report (ring_of 0 4) 0 0 0 ∷ []))) ∷
+    (3, SendOut 8 (commit (ring_of 1 1) 15 7 (report (ring_of 0 1) 0 0 0 ∷ report (ring_of 0 2) 0 0 0 ∷ report (ring_of 0 3) 0 0 0 ∷
+        report (ring_of 0 4) 0 0 0 ∷ []))) ∷
+    (4, SendOut 1 (commit (ring_of 1 1) 15 8 (report (ring_of 0 1) 0 0 0 ∷ report (ring_of 0 2) 0 0 0 ∷ report (ring_of 0 3) 0 0 0 ∷
+        report (ring_of 0 4) 0 0 0 ∷ []))) ∷
     (1, SendOut 14 (MessageFrame (message (ring_of 1 1) 1 1 End))) ∷ (1, SendOut 2 (token (ring_of 1 1) 1 1 1 None [])) ∷
     (2, SendOut 13 (MessageFrame (message (ring_of 1 1) 2 2 End))) ∷ (2, SendOut 4 (token (ring_of 1 1) 2 2 2 None [])) ∷
     (3, SendOut 11 (MessageFrame (message (ring_of 1 1) 3 3 End))) ∷ (3, SendOut 8 (token (ring_of 1 1) 3 3 3 None [])) ∷
@@ -162,23 +148,7 @@ outs =
     (3, SendOut 1 (token (ring_of 2 1) 24 6 6 None [])) ∷ (1, SendOut 4 (token (ring_of 2 1) 25 6 6 None [])) ∷
     (3, SendOut 1 (token (ring_of 2 1) 26 6 6 None [])) ∷ (1, SendOut 4 (token (ring_of 2 1) 27 6 6 None [])) ∷
     (3, SendOut 1 (MessageFrame (message (ring_of 2 1) 7 3 (call 32 1)))) ∷ (3, SendOut 1 (token (ring_of 2 1) 28 7 7 None [])) ∷
-    (3, Agreed (ring_of 2 1) 7 (message (ring_of 2 1) 7 3 (call 32 1))) ∷ (1, SendOut 4 (token (ring_of 2 1) 29 7 6 (Some 1) (7 ∷ []))) ∷
-    (3, SendOut 1 (MessageFrame (message (ring_of 2 1) 7 3 (call 32 1)))) ∷ (3, SendOut 1 (token (ring_of 2 1) 30 7 6 (Some 1) [])) ∷
-    (1, SendOut 4 (MessageFrame (message (ring_of 2 1) 8 1 (pack (call_of 34 1 ∷ call_of 35 1 ∷ call_of 39 1 ∷ []))))) ∷
-    (1, SendOut 4 (token (ring_of 2 1) 31 8 6 (Some 1) (7 ∷ []))) ∷
-    (3, Agreed (ring_of 2 1) 8 (message (ring_of 2 1) 8 1 (pack (call_of 34 1 ∷ call_of 35 1 ∷ call_of 39 1 ∷ [])))) ∷
-    (3, SendOut 1 (MessageFrame (message (ring_of 2 1) 7 3 (call 32 1)))) ∷ (3, SendOut 1 (token (ring_of 2 1) 32 8 6 (Some 1) [])) ∷
-    (1, SendOut 4 (token (ring_of 2 1) 33 8 6 (Some 1) (7 ∷ []))) ∷ (3, SendOut 1 (MessageFrame (message (ring_of 2 1) 7 3 (call 32 1)))) ∷
-    (3, SendOut 1 (token (ring_of 2 1) 34 8 6 (Some 1) [])) ∷ (1, SendOut 4 (token (ring_of 2 1) 35 8 6 (Some 1) (7 ∷ []))) ∷
-    (3, SendOut 1 (MessageFrame (message (ring_of 2 1) 7 3 (call 32 1)))) ∷ (3, SendOut 1 (token (ring_of 2 1) 36 8 6 (Some 1) [])) ∷
-    (1, SendOut 4 (token (ring_of 2 1) 37 8 6 (Some 1) (7 ∷ []))) ∷ (3, SendOut 1 (MessageFrame (message (ring_of 2 1) 7 3 (call 32 1)))) ∷
-    (3, SendOut 1 (token (ring_of 2 1) 38 8 6 (Some 1) [])) ∷ (1, Agreed (ring_of 2 1) 7 (message (ring_of 2 1) 7 3 (call 32 1))) ∷
-    (1, Agreed (ring_of 2 1) 8 (message (ring_of 2 1) 8 1 (pack (call_of 34 1 ∷ call_of 35 1 ∷ call_of 39 1 ∷ [])))) ∷
-    (1, SendOut 4 (token (ring_of 2 1) 39 8 8 None [])) ∷ (3, SendOut 1 (token (ring_of 2 1) 40 8 8 None [])) ∷
-    (1, SendOut 4 (token (ring_of 2 1) 41 8 8 None [])) ∷ (1, Safe (ring_of 2 1) 8) ∷ (3, SendOut 1 (token (ring_of 2 1) 42 8 8 None [])) ∷
-    (3, Safe (ring_of 2 1) 8) ∷ (1, SendOut 4 (token (ring_of 2 1) 43 8 8 None [])) ∷ (3, SendOut 1 (token (ring_of 2 1) 44 8 8 None [])) ∷
-    (1, SendOut 4 (token (ring_of 2 1) 45 8 8 None [])) ∷ (3, SendOut 1 (token (ring_of 2 1) 46 8 8 None [])) ∷
-    (1, SendOut 4 (token (ring_of 2 1) 47 8 8 None [])) ∷ (3, SendOut 1 (token (ring_of 2 1) 48 8 8 None [])) ∷ []
+    (3, Agreed (ring_of 2 1) 7 (message (ring_of 2 1) 7 3 (call 32 1))) ∷ (1, SendOut 4 (token (ring_of 2 1) 29 7 6 (Some 1) (7 ∷ []))) ∷ []
 
 -- the world that it leads to
 abbrev pub world : World Global

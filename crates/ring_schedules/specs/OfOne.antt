@@ -30,15 +30,7 @@ events =
     Deliver 1 116 ∷ Deliver 1 117 ∷ Deliver 1 118 ∷ Deliver 1 119 ∷ Deliver 1 120 ∷ Deliver 1 121 ∷ SendEvent 1 (head_after (ring_of 3 1) 5 2) ∷
     SendEvent 1 head ∷ SendEvent 1 (call 4 1) ∷ SendEvent 1 (call 5 1) ∷ SendEvent 1 (call 6 1) ∷ SendEvent 1 (call 7 1) ∷ Deliver 1 122 ∷
     Deliver 1 123 ∷ Deliver 1 124 ∷ Deliver 1 125 ∷ Deliver 1 126 ∷ Deliver 1 127 ∷ Deliver 1 128 ∷ Deliver 1 129 ∷ Deliver 1 130 ∷ Deliver 1 131 ∷
-    Deliver 1 132 ∷ Deliver 1 133 ∷ Deliver 1 134 ∷ Deliver 1 135 ∷ Deliver 1 136 ∷ Deliver 1 137 ∷ Deliver 1 138 ∷ Deliver 1 139 ∷ Deliver 1 140 ∷
-    Deliver 1 141 ∷ Deliver 1 142 ∷ Deliver 1 143 ∷ Deliver 1 144 ∷ Deliver 1 145 ∷ Deliver 1 146 ∷ Deliver 1 147 ∷ Deliver 1 148 ∷ Deliver 1 149 ∷
-    Deliver 1 150 ∷ Deliver 1 151 ∷ Deliver 1 152 ∷ Deliver 1 153 ∷ Deliver 1 154 ∷ Deliver 1 155 ∷ Deliver 1 156 ∷ Deliver 1 157 ∷ Deliver 1 158 ∷
-    Deliver 1 159 ∷ Deliver 1 160 ∷ Deliver 1 161 ∷ Deliver 1 162 ∷ Deliver 1 163 ∷ Deliver 1 164 ∷ Deliver 1 165 ∷ Deliver 1 166 ∷ Deliver 1 167 ∷
-    Deliver 1 168 ∷ Deliver 1 169 ∷ Deliver 1 170 ∷ Deliver 1 171 ∷ Deliver 1 172 ∷ Deliver 1 172 ∷ Deliver 1 173 ∷ Deliver 1 174 ∷ Deliver 1 175 ∷
-    Deliver 1 176 ∷ Deliver 1 177 ∷ Deliver 1 178 ∷ Deliver 1 179 ∷ Deliver 1 180 ∷ Deliver 1 181 ∷ Deliver 1 182 ∷ Deliver 1 183 ∷ Deliver 1 184 ∷
-    Deliver 1 185 ∷ Deliver 1 186 ∷ Deliver 1 187 ∷ Deliver 1 188 ∷ Deliver 1 189 ∷ Deliver 1 190 ∷ Deliver 1 191 ∷ TimeEvent 1 Consensus ∷
-    Deliver 1 192 ∷ Deliver 1 193 ∷ Deliver 1 194 ∷ Deliver 1 195 ∷ Deliver 1 196 ∷ Deliver 1 197 ∷ Deliver 1 198 ∷ Deliver 1 199 ∷ Deliver 1 200 ∷
-    Deliver 1 201 ∷ Deliver 1 202 ∷ Deliver 1 203 ∷ Deliver 1 203 ∷ []
+    Deliver 1 132 ∷ Deliver 1 133 ∷ Deliver 1 134 ∷ Deliver 1 135 ∷ Deliver 1 136 ∷ []
 
 abbrev pub outs : List (ℕ × Out Global)
 outs =
@@ -114,41 +106,7 @@ outs =
     (1, SendOut 1 (token (ring_of 2 1) 118 4 4 None [])) ∷ (1, SendOut 1 (token (ring_of 2 1) 119 4 4 None [])) ∷
     (1, SendOut 1 (token (ring_of 2 1) 120 4 4 None [])) ∷ (1, SendOut 1 (token (ring_of 2 1) 121 4 4 None [])) ∷
     (1, SendOut 1 (token (ring_of 2 1) 122 4 4 None [])) ∷ (1, SendOut 1 (token (ring_of 2 1) 123 4 4 None [])) ∷
-    (1, SendOut 1 (token (ring_of 2 1) 124 4 4 None [])) ∷ (1, SendOut 1 (token (ring_of 2 1) 125 4 4 None [])) ∷
-    (1, SendOut 1 (token (ring_of 2 1) 126 4 4 None [])) ∷ (1, SendOut 1 (token (ring_of 2 1) 127 4 4 None [])) ∷
-    (1, SendOut 1 (token (ring_of 2 1) 128 4 4 None [])) ∷ (1, SendOut 1 (token (ring_of 2 1) 129 4 4 None [])) ∷
-    (1, SendOut 1 (token (ring_of 2 1) 130 4 4 None [])) ∷ (1, SendOut 1 (token (ring_of 2 1) 131 4 4 None [])) ∷
-    (1, SendOut 1 (token (ring_of 2 1) 132 4 4 None [])) ∷ (1, SendOut 1 (token (ring_of 2 1) 133 4 4 None [])) ∷
-    (1, SendOut 1 (token (ring_of 2 1) 134 4 4 None [])) ∷ (1, SendOut 1 (token (ring_of 2 1) 135 4 4 None [])) ∷
-    (1, SendOut 1 (token (ring_of 2 1) 136 4 4 None [])) ∷ (1, SendOut 1 (token (ring_of 2 1) 137 4 4 None [])) ∷
-    (1, SendOut 1 (token (ring_of 2 1) 138 4 4 None [])) ∷ (1, SendOut 1 (token (ring_of 2 1) 139 4 4 None [])) ∷
-    (1, SendOut 1 (token (ring_of 2 1) 140 4 4 None [])) ∷ (1, SendOut 1 (token (ring_of 2 1) 141 4 4 None [])) ∷
-    (1, SendOut 1 (token (ring_of 2 1) 142 4 4 None [])) ∷ (1, SendOut 1 (token (ring_of 2 1) 143 4 4 None [])) ∷
-    (1, SendOut 1 (token (ring_of 2 1) 144 4 4 None [])) ∷ (1, SendOut 1 (token (ring_of 2 1) 145 4 4 None [])) ∷
-    (1, SendOut 1 (token (ring_of 2 1) 146 4 4 None [])) ∷ (1, SendOut 1 (token (ring_of 2 1) 147 4 4 None [])) ∷
-    (1, SendOut 1 (token (ring_of 2 1) 148 4 4 None [])) ∷ (1, SendOut 1 (token (ring_of 2 1) 149 4 4 None [])) ∷
-    (1, SendOut 1 (token (ring_of 2 1) 150 4 4 None [])) ∷ (1, SendOut 1 (token (ring_of 2 1) 151 4 4 None [])) ∷
-    (1, SendOut 1 (token (ring_of 2 1) 152 4 4 None [])) ∷ (1, SendOut 1 (token (ring_of 2 1) 153 4 4 None [])) ∷
-    (1, SendOut 1 (token (ring_of 2 1) 154 4 4 None [])) ∷ (1, SendOut 1 (token (ring_of 2 1) 155 4 4 None [])) ∷
-    (1, SendOut 1 (token (ring_of 2 1) 156 4 4 None [])) ∷ (1, SendOut 1 (token (ring_of 2 1) 157 4 4 None [])) ∷
-    (1, SendOut 1 (token (ring_of 2 1) 158 4 4 None [])) ∷ (1, SendOut 1 (token (ring_of 2 1) 159 4 4 None [])) ∷
-    (1, SendOut 1 (token (ring_of 2 1) 160 4 4 None [])) ∷ (1, SendOut 1 (token (ring_of 2 1) 161 4 4 None [])) ∷
-    (1, SendOut 1 (token (ring_of 2 1) 162 4 4 None [])) ∷ (1, SendOut 1 (token (ring_of 2 1) 163 4 4 None [])) ∷
-    (1, SendOut 1 (token (ring_of 2 1) 164 4 4 None [])) ∷ (1, SendOut 1 (token (ring_of 2 1) 165 4 4 None [])) ∷
-    (1, SendOut 1 (token (ring_of 2 1) 166 4 4 None [])) ∷ (1, SendOut 1 (token (ring_of 2 1) 167 4 4 None [])) ∷
-    (1, SendOut 1 (token (ring_of 2 1) 168 4 4 None [])) ∷ (1, SendOut 1 (token (ring_of 2 1) 169 4 4 None [])) ∷
-    (1, SendOut 1 (token (ring_of 2 1) 170 4 4 None [])) ∷ (1, SendOut 1 (token (ring_of 2 1) 171 4 4 None [])) ∷
-    (1, SendOut 1 (token (ring_of 2 1) 172 4 4 None [])) ∷ (1, SendOut 1 (token (ring_of 2 1) 173 4 4 None [])) ∷
-    (1, SendOut 1 (token (ring_of 2 1) 174 4 4 None [])) ∷ (1, SendOut 1 (token (ring_of 2 1) 175 4 4 None [])) ∷
-    (1, SendOut 1 (token (ring_of 2 1) 176 4 4 None [])) ∷ (1, SendOut 1 (token (ring_of 2 1) 177 4 4 None [])) ∷
-    (1, SendOut 1 (token (ring_of 2 1) 178 4 4 None [])) ∷ (1, SendOut 1 (token (ring_of 2 1) 179 4 4 None [])) ∷
-    (1, SendOut 1 (token (ring_of 2 1) 180 4 4 None [])) ∷ (1, SendOut 1 (token (ring_of 2 1) 181 4 4 None [])) ∷
-    (1, SendOut 1 (token (ring_of 2 1) 182 4 4 None [])) ∷ (1, SendOut 1 (token (ring_of 2 1) 183 4 4 None [])) ∷
-    (1, SendOut 1 (token (ring_of 2 1) 184 4 4 None [])) ∷ (1, SendOut 1 (token (ring_of 2 1) 185 4 4 None [])) ∷
-    (1, SendOut 1 (token (ring_of 2 1) 186 4 4 None [])) ∷ (1, SendOut 1 (token (ring_of 2 1) 187 4 4 None [])) ∷
-    (1, SendOut 1 (token (ring_of 2 1) 188 4 4 None [])) ∷ (1, SendOut 1 (token (ring_of 2 1) 189 4 4 None [])) ∷
-    (1, SendOut 1 (token (ring_of 2 1) 190 4 4 None [])) ∷ (1, SendOut 1 (token (ring_of 2 1) 191 4 4 None [])) ∷
-    (1, SendOut 1 (token (ring_of 2 1) 192 4 4 None [])) ∷ []
+    (1, SendOut 1 (token (ring_of 2 1) 124 4 4 None [])) ∷ (1, SendOut 1 (token (ring_of 2 1) 125 4 4 None [])) ∷ []
 
 -- the world that it leads to
 abbrev pub world : World Global

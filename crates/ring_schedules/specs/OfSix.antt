@@ -11,7 +11,7 @@ use Rattle.ring_moves.specs.declared.event.RingEvent.{RingEvent}
 use Rattle.ring_moves.specs.declared.event.RingEvent.TheVariants.{Send as SendEvent, Deliver, Timeout as TimeEvent}
 use Rattle.ring_moves.specs.Worlds.{World, run, unformed}
 use Rattle.ring_moves.specs.Samples.{ring_of}
-use Rattle.ring_schedules.specs.Words.{call, long_call, head, message, token, join, report, commit}
+use Rattle.ring_schedules.specs.Words.{long_call_of, call, long_call, head, message, token, join, report, commit}
 
 abbrev pub events : List (RingEvent Global)
 events =
@@ -39,9 +39,7 @@ events =
     Deliver 4 70 ∷ Deliver 6 70 ∷ Deliver 4 71 ∷ Deliver 6 71 ∷ Deliver 1 72 ∷ Deliver 3 73 ∷ Deliver 4 74 ∷ Deliver 5 74 ∷ Deliver 6 75 ∷
     Deliver 4 76 ∷ TimeEvent 1 Retransmit ∷ TimeEvent 6 Retransmit ∷ Deliver 6 76 ∷ TimeEvent 4 JoinTime ∷ Deliver 3 77 ∷ Deliver 1 78 ∷
     Deliver 6 79 ∷ TimeEvent 1 Loss ∷ TimeEvent 2 Loss ∷ TimeEvent 3 Loss ∷ TimeEvent 4 Loss ∷ Deliver 1 80 ∷ Deliver 6 81 ∷ Deliver 1 82 ∷
-    Deliver 6 83 ∷ Deliver 1 85 ∷ Deliver 3 86 ∷ Deliver 2 87 ∷ Deliver 5 88 ∷ Deliver 6 88 ∷ TimeEvent 2 Consensus ∷ TimeEvent 4 Consensus ∷
-    TimeEvent 6 Consensus ∷ Deliver 6 89 ∷ Deliver 1 90 ∷ Deliver 4 91 ∷ Deliver 5 91 ∷ Deliver 3 92 ∷ Deliver 5 93 ∷ Deliver 6 93 ∷ Deliver 4 94 ∷
-    Deliver 4 95 ∷ []
+    Deliver 6 83 ∷ Deliver 1 85 ∷ Deliver 3 86 ∷ Deliver 2 87 ∷ Deliver 5 88 ∷ Deliver 6 88 ∷ TimeEvent 2 Consensus ∷ TimeEvent 4 Consensus ∷ []
 
 abbrev pub outs : List (ℕ × Out Global)
 outs =
@@ -49,43 +47,25 @@ outs =
     (5, SendOut 47 (join 5 0 63 0)) ∷ (6, SendOut 31 (join 6 0 63 0)) ∷ (1, SendOut 2 (commit (ring_of 1 1) 63 1 (report (ring_of 0 1) 0 0 0 ∷ []))) ∷
     (2, SendOut 61 (join 2 0 63 0)) ∷ (3, SendOut 59 (join 3 0 63 0)) ∷ (5, SendOut 47 (join 5 0 63 0)) ∷
     (2, SendOut 4 (commit (ring_of 1 1) 63 2 (report (ring_of 0 1) 0 0 0 ∷ report (ring_of 0 2) 0 0 0 ∷ []))) ∷
-    (3, SendOut 8 (commit (ring_of 1 1) 63 3 (report (ring_of 0 1) 0 0 0 ∷ report (ring_of 0 2) 0 0 0 ∷ report (ring_of 0 3) 0 0 0 ∷ []))) ∷ (
-      4,
-      SendOut 16 (commit (ring_of 1 1) 63 4 (report (ring_of 0 1) 0 0 0 ∷ report (ring_of 0 2) 0 0 0 ∷ report (ring_of 0 3) 0 0 0 ∷
-          report (ring_of 0 4) 0 0 0 ∷ [])),
-    ) ∷ (
-      5,
-      SendOut 32 (commit (ring_of 1 1) 63 5 (report (ring_of 0 1) 0 0 0 ∷ report (ring_of 0 2) 0 0 0 ∷ report (ring_of 0 3) 0 0 0 ∷
-          report (ring_of 0 4) 0 0 0 ∷ report (ring_of 0 5) 0 0 0 ∷ [])),
-    ) ∷ (
-      6,
-      SendOut 1 (commit (ring_of 1 1) 63 6 (report (ring_of 0 1) 0 0 0 ∷ report (ring_of 0 2) 0 0 0 ∷ report (ring_of 0 3) 0 0 0 ∷
-          report (ring_of 0 4) 0 0 0 ∷ report (ring_of 0 5) 0 0 0 ∷ report (ring_of 0 6) 0 0 0 ∷ [])),
-    ) ∷ (
-      1,
-      SendOut 2 (commit (ring_of 1 1) 63 7 (report (ring_of 0 1) 0 0 0 ∷ report (ring_of 0 2) 0 0 0 ∷ report (ring_of 0 3) 0 0 0 ∷
-          report (ring_of 0 4) 0 0 0 ∷ report (ring_of 0 5) 0 0 0 ∷ report (ring_of 0 6) 0 0 0 ∷ [])),
-    ) ∷ (
-      2,
-      SendOut 4 (commit (ring_of 1 1) 63 8 (report (ring_of 0 1) 0 0 0 ∷ report (ring_of 0 2) 0 0 0 ∷ report (ring_of 0 3) 0 0 0 ∷
-          report (ring_of 0 4) 0 0 0 ∷ report (ring_of 0 5) 0 0 0 ∷ report (ring_of 0 6) 0 0 0 ∷ [])),
-    ) ∷ (
-      3,
-      SendOut 8 (commit (ring_of 1 1) 63 9 (report (ring_of 0 1) 0 0 0 ∷ report (ring_of 0 2) 0 0 0 ∷ report (ring_of 0 3) 0 0 0 ∷
-          report (ring_of 0 4) 0 0 0 ∷ report (ring_of 0 5) 0 0 0 ∷ report (ring_of 0 6) 0 0 0 ∷ [])),
-    ) ∷ (
-      4,
-      SendOut 16 (commit (ring_of 1 1) 63 10 (report (ring_of 0 1) 0 0 0 ∷ report (ring_of 0 2) 0 0 0 ∷ report (ring_of 0 3) 0 0 0 ∷
-          report (ring_of 0 4) 0 0 0 ∷ report (ring_of 0 5) 0 0 0 ∷ report (ring_of 0 6) 0 0 0 ∷ [])),
-    ) ∷ (
-      5,
-      SendOut 32 (commit (ring_of 1 1) 63 11 (report (ring_of 0 1) 0 0 0 ∷ report (ring_of 0 2) 0 0 0 ∷ report (ring_of 0 3) 0 0 0 ∷
-          report (ring_of 0 4) 0 0 0 ∷ report (ring_of 0 5) 0 0 0 ∷ report (ring_of 0 6) 0 0 0 ∷ [])),
-    ) ∷ (
-      6,
-      SendOut 1 (commit (ring_of 1 1) 63 12 (report (ring_of 0 1) 0 0 0 ∷ report (ring_of 0 2) 0 0 0 ∷ report (ring_of 0 3) 0 0 0 ∷
-          report (ring_of 0 4) 0 0 0 ∷ report (ring_of 0 5) 0 0 0 ∷ report (ring_of 0 6) 0 0 0 ∷ [])),
-    ) ∷
+    (3, SendOut 8 (commit (ring_of 1 1) 63 3 (report (ring_of 0 1) 0 0 0 ∷ report (ring_of 0 2) 0 0 0 ∷ report (ring_of 0 3) 0 0 0 ∷ []))) ∷
+    (4, SendOut 16 (commit (ring_of 1 1) 63 4 (report (ring_of 0 1) 0 0 0 ∷ report (ring_of 0 2) 0 0 0 ∷ report (ring_of 0 3) 0 0 0 ∷
+        report (ring_of 0 4) 0 0 0 ∷ []))) ∷
+    (5, SendOut 32 (commit (ring_of 1 1) 63 5 (report (ring_of 0 1) 0 0 0 ∷ report (ring_of 0 2) 0 0 0 ∷ report (ring_of 0 3) 0 0 0 ∷
+        report (ring_of 0 4) 0 0 0 ∷ report (ring_of 0 5) 0 0 0 ∷ []))) ∷
+    (6, SendOut 1 (commit (ring_of 1 1) 63 6 (report (ring_of 0 1) 0 0 0 ∷ report (ring_of 0 2) 0 0 0 ∷ report (ring_of 0 3) 0 0 0 ∷
+        report (ring_of 0 4) 0 0 0 ∷ report (ring_of 0 5) 0 0 0 ∷ report (ring_of 0 6) 0 0 0 ∷ []))) ∷
+    (1, SendOut 2 (commit (ring_of 1 1) 63 7 (report (ring_of 0 1) 0 0 0 ∷ report (ring_of 0 2) 0 0 0 ∷ report (ring_of 0 3) 0 0 0 ∷
+        report (ring_of 0 4) 0 0 0 ∷ report (ring_of 0 5) 0 0 0 ∷ report (ring_of 0 6) 0 0 0 ∷ []))) ∷
+    (2, SendOut 4 (commit (ring_of 1 1) 63 8 (report (ring_of 0 1) 0 0 0 ∷ report (ring_of 0 2) 0 0 0 ∷ report (ring_of 0 3) 0 0 0 ∷
+        report (ring_of 0 4) 0 0 0 ∷ report (ring_of 0 5) 0 0 0 ∷ report (ring_of 0 6) 0 0 0 ∷ []))) ∷
+    (3, SendOut 8 (commit (ring_of 1 1) 63 9 (report (ring_of 0 1) 0 0 0 ∷ report (ring_of 0 2) 0 0 0 ∷ report (ring_of 0 3) 0 0 0 ∷
+        report (ring_of 0 4) 0 0 0 ∷ report (ring_of 0 5) 0 0 0 ∷ report (ring_of 0 6) 0 0 0 ∷ []))) ∷
+    (4, SendOut 16 (commit (ring_of 1 1) 63 10 (report (ring_of 0 1) 0 0 0 ∷ report (ring_of 0 2) 0 0 0 ∷ report (ring_of 0 3) 0 0 0 ∷
+        report (ring_of 0 4) 0 0 0 ∷ report (ring_of 0 5) 0 0 0 ∷ report (ring_of 0 6) 0 0 0 ∷ []))) ∷
+    (5, SendOut 32 (commit (ring_of 1 1) 63 11 (report (ring_of 0 1) 0 0 0 ∷ report (ring_of 0 2) 0 0 0 ∷ report (ring_of 0 3) 0 0 0 ∷
+        report (ring_of 0 4) 0 0 0 ∷ report (ring_of 0 5) 0 0 0 ∷ report (ring_of 0 6) 0 0 0 ∷ []))) ∷
+    (6, SendOut 1 (commit (ring_of 1 1) 63 12 (report (ring_of 0 1) 0 0 0 ∷ report (ring_of 0 2) 0 0 0 ∷ report (ring_of 0 3) 0 0 0 ∷
+        report (ring_of 0 4) 0 0 0 ∷ report (ring_of 0 5) 0 0 0 ∷ report (ring_of 0 6) 0 0 0 ∷ []))) ∷
     (1, SendOut 62 (MessageFrame (message (ring_of 1 1) 1 1 End))) ∷ (1, SendOut 2 (token (ring_of 1 1) 1 1 1 None [])) ∷
     (2, SendOut 61 (MessageFrame (message (ring_of 1 1) 2 2 End))) ∷ (2, SendOut 4 (token (ring_of 1 1) 2 2 2 None [])) ∷
     (3, SendOut 59 (MessageFrame (message (ring_of 1 1) 3 3 End))) ∷ (3, SendOut 8 (token (ring_of 1 1) 3 3 3 None [])) ∷
@@ -129,10 +109,7 @@ outs =
     (6, Rest (ring_of 1 1) 7 (message (ring_of 1 1) 7 6 head)) ∷ (6, Rest (ring_of 1 1) 8 (message (ring_of 1 1) 8 6 (call 7 1))) ∷
     (6, Regular (ring_of 2 6) 32) ∷ (6, Safe (ring_of 2 6) 1) ∷ (1, SendOut 1 (commit (ring_of 3 1) 1 2 (report (ring_of 2 1) 1 1 0 ∷ []))) ∷
     (6, SendOut 31 (join 6 2 63 0)) ∷ (2, SendOut 61 (join 2 2 63 57)) ∷ (4, SendOut 55 (join 4 2 63 55)) ∷
-    (4, SendOut 8 (commit (ring_of 3 4) 8 1 (report (ring_of 1 1) 8 6 0 ∷ []))) ∷ (6, SendOut 31 (join 6 2 63 23)) ∷
-    (1, SendOut 1 (token (ring_of 3 1) 1 1 1 None [])) ∷ (3, SendOut 59 (join 3 2 63 57)) ∷ (6, SendOut 31 (join 6 2 63 31)) ∷
-    (6, SendOut 32 (commit (ring_of 3 6) 32 1 (report (ring_of 2 6) 1 1 0 ∷ []))) ∷
-    (4, SendOut 8 (commit (ring_of 3 4) 8 2 (report (ring_of 1 1) 8 6 0 ∷ []))) ∷ []
+    (4, SendOut 8 (commit (ring_of 3 4) 8 1 (report (ring_of 1 1) 8 6 0 ∷ []))) ∷ []
 
 -- the world that it leads to
 abbrev pub world : World Global

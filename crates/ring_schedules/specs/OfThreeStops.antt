@@ -11,7 +11,7 @@ use Rattle.ring_moves.specs.declared.event.RingEvent.{RingEvent}
 use Rattle.ring_moves.specs.declared.event.RingEvent.TheVariants.{Send as SendEvent, Deliver, Timeout as TimeEvent, Stop}
 use Rattle.ring_moves.specs.Worlds.{World, run, unformed}
 use Rattle.ring_moves.specs.Samples.{ring_of}
-use Rattle.ring_schedules.specs.Words.{call_of, call, long_call, call_content, head, head_after, part, wrapped, message, token, join, report, commit}
+use Rattle.ring_schedules.specs.Words.{call_of, long_call_of, call, long_call, call_content, head, head_after, part, wrapped, message, token, join, report, commit}
 
 abbrev pub events : List (RingEvent Global)
 events =
@@ -42,9 +42,7 @@ events =
     SendEvent 2 (call 23 1) ∷ SendEvent 3 (call 24 1) ∷ Stop 1 ∷ TimeEvent 1 JoinTime ∷ SendEvent 2 head ∷
     SendEvent 1 (wrapped (ring_of 1 1) 1 1 (call_content 26 1)) ∷ SendEvent 2 (wrapped (ring_of 1 1) 1 1 (call_content 27 1)) ∷
     SendEvent 2 (part 0 (call_of 28 1 ∷ [])) ∷ TimeEvent 1 Loss ∷ TimeEvent 2 Loss ∷ TimeEvent 3 Loss ∷ Deliver 1 150 ∷ Deliver 2 150 ∷
-    Deliver 3 151 ∷ Deliver 3 152 ∷ Deliver 3 153 ∷ Deliver 3 154 ∷ Deliver 3 155 ∷ Deliver 3 156 ∷ Deliver 3 157 ∷ TimeEvent 1 Loss ∷
-    TimeEvent 2 Loss ∷ TimeEvent 3 Loss ∷ Deliver 1 159 ∷ Deliver 2 159 ∷ Deliver 3 160 ∷ Deliver 3 161 ∷ Deliver 3 162 ∷ Deliver 3 163 ∷
-    Deliver 3 164 ∷ Deliver 3 165 ∷ Deliver 3 166 ∷ Deliver 3 167 ∷ []
+    Deliver 3 151 ∷ Deliver 3 152 ∷ Deliver 3 153 ∷ Deliver 3 154 ∷ Deliver 3 155 ∷ []
 
 abbrev pub outs : List (ℕ × Out Global)
 outs =
@@ -137,14 +135,7 @@ outs =
     (3, SendOut 4 (commit (ring_of 5 3) 4 1 (report (ring_of 4 3) 1 1 0 ∷ []))) ∷
     (3, SendOut 4 (commit (ring_of 5 3) 4 2 (report (ring_of 4 3) 1 1 0 ∷ []))) ∷ (3, SendOut 4 (token (ring_of 5 3) 1 1 1 None [])) ∷
     (3, SendOut 4 (token (ring_of 5 3) 2 1 1 None [])) ∷ (3, Trans (ring_of 4 3) (ring_of 5 3) 4) ∷ (3, Regular (ring_of 5 3) 4) ∷
-    (3, Safe (ring_of 5 3) 1) ∷ (3, SendOut 4 (token (ring_of 5 3) 3 1 1 None [])) ∷ (3, SendOut 4 (token (ring_of 5 3) 4 1 1 None [])) ∷
-    (3, SendOut 4 (token (ring_of 5 3) 5 1 1 None [])) ∷ (3, SendOut 4 (token (ring_of 5 3) 6 1 1 None [])) ∷ (3, SendOut 3 (join 3 5 4 0)) ∷
-    (3, SendOut 4 (commit (ring_of 6 3) 4 1 (report (ring_of 5 3) 1 1 0 ∷ []))) ∷
-    (3, SendOut 4 (commit (ring_of 6 3) 4 2 (report (ring_of 5 3) 1 1 0 ∷ []))) ∷ (3, SendOut 4 (token (ring_of 6 3) 1 1 1 None [])) ∷
-    (3, SendOut 4 (token (ring_of 6 3) 2 1 1 None [])) ∷ (3, Trans (ring_of 5 3) (ring_of 6 3) 4) ∷ (3, Regular (ring_of 6 3) 4) ∷
-    (3, Safe (ring_of 6 3) 1) ∷ (3, SendOut 4 (token (ring_of 6 3) 3 1 1 None [])) ∷ (3, SendOut 4 (token (ring_of 6 3) 4 1 1 None [])) ∷
-    (3, SendOut 4 (token (ring_of 6 3) 5 1 1 None [])) ∷ (3, SendOut 4 (token (ring_of 6 3) 6 1 1 None [])) ∷
-    (3, SendOut 4 (token (ring_of 6 3) 7 1 1 None [])) ∷ []
+    (3, Safe (ring_of 5 3) 1) ∷ (3, SendOut 4 (token (ring_of 5 3) 3 1 1 None [])) ∷ (3, SendOut 4 (token (ring_of 5 3) 4 1 1 None [])) ∷ []
 
 -- the world that it leads to
 abbrev pub world : World Global

@@ -11,7 +11,7 @@ use Rattle.ring_moves.specs.declared.event.RingEvent.{RingEvent}
 use Rattle.ring_moves.specs.declared.event.RingEvent.TheVariants.{Send as SendEvent, Deliver, Timeout as TimeEvent}
 use Rattle.ring_moves.specs.Worlds.{World, run, unformed}
 use Rattle.ring_moves.specs.Samples.{ring_of}
-use Rattle.ring_schedules.specs.Words.{call_of, call, long_call, call_content, head, head_after, part, pack, wrapped, message, token, join, report, commit}
+use Rattle.ring_schedules.specs.Words.{call_of, call, call_content, head_after, part, pack, wrapped, message, token, join, report, commit}
 
 abbrev pub events : List (RingEvent Global)
 events =
@@ -40,9 +40,7 @@ events =
     SendEvent 2 (head_after (ring_of 1 1) 5 2) ∷ TimeEvent 2 JoinTime ∷ Deliver 1 153 ∷ Deliver 1 154 ∷ Deliver 2 156 ∷ Deliver 2 157 ∷
     Deliver 1 158 ∷ Deliver 1 158 ∷ Deliver 1 155 ∷ Deliver 2 159 ∷ Deliver 1 160 ∷ Deliver 2 161 ∷ Deliver 2 162 ∷ Deliver 1 164 ∷ Deliver 2 165 ∷
     Deliver 1 167 ∷ Deliver 2 168 ∷ Deliver 1 170 ∷ Deliver 1 169 ∷ Deliver 2 171 ∷ Deliver 1 173 ∷ TimeEvent 1 Retransmit ∷ Deliver 2 174 ∷
-    Deliver 2 175 ∷ Deliver 1 176 ∷ Deliver 1 36 ∷ SendEvent 2 End ∷ SendEvent 1 (long_call 20 1) ∷ SendEvent 2 (call 21 1) ∷ SendEvent 2 head ∷
-    SendEvent 2 (call 23 1) ∷ SendEvent 2 (call 24 1) ∷ SendEvent 1 (part 0 (call_of 25 1 ∷ [])) ∷ TimeEvent 1 Retransmit ∷ Deliver 2 178 ∷
-    Deliver 1 179 ∷ Deliver 2 181 ∷ Deliver 2 182 ∷ Deliver 2 87 ∷ Deliver 1 183 ∷ Deliver 2 184 ∷ []
+    Deliver 2 175 ∷ Deliver 1 176 ∷ Deliver 1 36 ∷ []
 
 abbrev pub outs : List (ℕ × Out Global)
 outs =
@@ -142,15 +140,7 @@ outs =
     (1, SendOut 2 (token (ring_of 3 1) 9 2 2 None [])) ∷ (2, SendOut 1 (token (ring_of 3 1) 10 2 2 None [])) ∷
     (1, SendOut 2 (token (ring_of 3 1) 11 2 2 None [])) ∷ (1, Trans (ring_of 2 1) (ring_of 3 1) 1) ∷
     (1, Rest (ring_of 2 1) 2 (message (ring_of 2 1) 2 1 (pack (call_of 13 1 ∷ call_of 16 1 ∷ [])))) ∷ (1, Regular (ring_of 3 1) 3) ∷
-    (1, Safe (ring_of 3 1) 2) ∷ (1, SendOut 2 (token (ring_of 3 1) 11 2 2 None [])) ∷ (2, SendOut 1 (token (ring_of 3 1) 12 2 2 None [])) ∷
-    (2, Trans (ring_of 1 2) (ring_of 3 1) 2) ∷ (2, Regular (ring_of 3 1) 3) ∷ (2, Safe (ring_of 3 1) 2) ∷
-    (1, SendOut 2 (MessageFrame (message (ring_of 3 1) 3 1 (long_call 20 1)))) ∷
-    (1, SendOut 2 (MessageFrame (message (ring_of 3 1) 4 1 (part 0 (call_of 25 1 ∷ []))))) ∷ (1, SendOut 2 (token (ring_of 3 1) 13 4 4 None [])) ∷
-    (1, Agreed (ring_of 3 1) 3 (message (ring_of 3 1) 3 1 (long_call 20 1))) ∷
-    (1, Agreed (ring_of 3 1) 4 (message (ring_of 3 1) 4 1 (part 0 (call_of 25 1 ∷ [])))) ∷
-    (2, SendOut 1 (token (ring_of 3 1) 14 4 2 (Some 2) (3 ∷ []))) ∷ (1, SendOut 2 (MessageFrame (message (ring_of 3 1) 3 1 (long_call 20 1)))) ∷
-    (1, SendOut 2 (token (ring_of 3 1) 15 4 2 (Some 2) [])) ∷ (2, Agreed (ring_of 3 1) 3 (message (ring_of 3 1) 3 1 (long_call 20 1))) ∷
-    (2, Agreed (ring_of 3 1) 4 (message (ring_of 3 1) 4 1 (part 0 (call_of 25 1 ∷ [])))) ∷ []
+    (1, Safe (ring_of 3 1) 2) ∷ []
 
 -- the world that it leads to
 abbrev pub world : World Global

@@ -31,16 +31,7 @@ events =
     TimeEvent 1 Loss ∷ Deliver 1 94 ∷ Deliver 1 94 ∷ Deliver 1 95 ∷ Deliver 2 96 ∷ Deliver 1 97 ∷ Deliver 2 98 ∷ Deliver 1 99 ∷ Deliver 2 100 ∷
     Deliver 1 101 ∷ Deliver 2 103 ∷ Deliver 1 104 ∷ TimeEvent 1 Consensus ∷ Deliver 1 105 ∷ Deliver 2 106 ∷ Deliver 2 107 ∷ Deliver 1 108 ∷
     Deliver 2 109 ∷ Deliver 1 110 ∷ Deliver 2 111 ∷ Deliver 1 112 ∷ Deliver 2 113 ∷ Deliver 1 114 ∷ Deliver 2 115 ∷ Deliver 1 116 ∷ Deliver 2 117 ∷
-    Deliver 1 118 ∷ Deliver 2 119 ∷ Deliver 1 120 ∷ Deliver 2 121 ∷ Deliver 1 122 ∷ Deliver 2 123 ∷ Deliver 1 124 ∷ Deliver 1 124 ∷ Deliver 2 125 ∷
-    Deliver 1 126 ∷ Deliver 2 127 ∷ Deliver 1 128 ∷ Deliver 2 129 ∷ Deliver 1 130 ∷ Deliver 2 131 ∷ Deliver 1 132 ∷ Deliver 2 133 ∷ Deliver 1 134 ∷
-    Deliver 2 135 ∷ Deliver 1 136 ∷ Deliver 2 137 ∷ Deliver 1 138 ∷ Deliver 2 139 ∷ Deliver 1 140 ∷ Deliver 2 141 ∷ Deliver 1 142 ∷ Deliver 2 143 ∷
-    Deliver 1 144 ∷ Deliver 2 145 ∷ Deliver 1 146 ∷ Deliver 2 147 ∷ Deliver 1 148 ∷ Deliver 2 149 ∷ Deliver 1 150 ∷ Deliver 2 151 ∷ Deliver 1 152 ∷
-    Deliver 2 153 ∷ Deliver 1 154 ∷ Deliver 2 155 ∷ TimeEvent 2 Consensus ∷ Deliver 3 121 ∷ Deliver 1 156 ∷ TimeEvent 2 Loss ∷ Deliver 2 157 ∷
-    Deliver 1 158 ∷ Deliver 2 159 ∷ Deliver 2 160 ∷ Deliver 1 161 ∷ Deliver 2 162 ∷ Deliver 1 163 ∷ Deliver 2 164 ∷ Deliver 2 165 ∷ Deliver 1 166 ∷
-    Deliver 1 167 ∷ Deliver 2 168 ∷ Deliver 1 169 ∷ Deliver 2 170 ∷ Deliver 1 171 ∷ Deliver 2 172 ∷ Deliver 2 172 ∷ Deliver 1 173 ∷ Deliver 2 174 ∷
-    Deliver 1 175 ∷ Deliver 2 176 ∷ Deliver 1 177 ∷ Deliver 2 178 ∷ Deliver 1 179 ∷ Deliver 2 180 ∷ Deliver 1 181 ∷ Deliver 2 182 ∷ Deliver 1 183 ∷
-    Deliver 2 184 ∷ Deliver 1 185 ∷ Deliver 2 186 ∷ Deliver 1 187 ∷ Deliver 2 188 ∷ Deliver 2 188 ∷ Deliver 1 189 ∷ Deliver 2 190 ∷ Deliver 1 191 ∷
-    Deliver 2 192 ∷ []
+    Deliver 1 118 ∷ Deliver 2 119 ∷ Deliver 1 120 ∷ Deliver 2 121 ∷ Deliver 1 122 ∷ Deliver 2 123 ∷ []
 
 abbrev pub outs : List (ℕ × Out Global)
 outs =
@@ -126,44 +117,7 @@ outs =
     (2, SendOut 1 (token (ring_of 2 1) 14 2 2 None [])) ∷ (1, SendOut 2 (token (ring_of 2 1) 15 2 2 None [])) ∷
     (2, SendOut 1 (token (ring_of 2 1) 16 2 2 None [])) ∷ (1, SendOut 2 (token (ring_of 2 1) 17 2 2 None [])) ∷
     (2, SendOut 1 (token (ring_of 2 1) 18 2 2 None [])) ∷ (1, SendOut 2 (token (ring_of 2 1) 19 2 2 None [])) ∷
-    (2, SendOut 1 (token (ring_of 2 1) 20 2 2 None [])) ∷ (1, SendOut 2 (token (ring_of 2 1) 21 2 2 None [])) ∷
-    (2, SendOut 1 (token (ring_of 2 1) 22 2 2 None [])) ∷ (1, SendOut 2 (token (ring_of 2 1) 23 2 2 None [])) ∷
-    (2, SendOut 1 (token (ring_of 2 1) 24 2 2 None [])) ∷ (1, SendOut 2 (token (ring_of 2 1) 25 2 2 None [])) ∷
-    (2, SendOut 1 (token (ring_of 2 1) 26 2 2 None [])) ∷ (1, SendOut 2 (token (ring_of 2 1) 27 2 2 None [])) ∷
-    (2, SendOut 1 (token (ring_of 2 1) 28 2 2 None [])) ∷ (1, SendOut 2 (token (ring_of 2 1) 29 2 2 None [])) ∷
-    (2, SendOut 1 (token (ring_of 2 1) 30 2 2 None [])) ∷ (1, SendOut 2 (token (ring_of 2 1) 31 2 2 None [])) ∷
-    (2, SendOut 1 (token (ring_of 2 1) 32 2 2 None [])) ∷ (1, SendOut 2 (token (ring_of 2 1) 33 2 2 None [])) ∷
-    (2, SendOut 1 (token (ring_of 2 1) 34 2 2 None [])) ∷ (1, SendOut 2 (token (ring_of 2 1) 35 2 2 None [])) ∷
-    (2, SendOut 1 (token (ring_of 2 1) 36 2 2 None [])) ∷ (1, SendOut 2 (token (ring_of 2 1) 37 2 2 None [])) ∷
-    (2, SendOut 1 (token (ring_of 2 1) 38 2 2 None [])) ∷ (1, SendOut 2 (token (ring_of 2 1) 39 2 2 None [])) ∷
-    (2, SendOut 1 (token (ring_of 2 1) 40 2 2 None [])) ∷ (1, SendOut 2 (token (ring_of 2 1) 41 2 2 None [])) ∷
-    (2, SendOut 1 (token (ring_of 2 1) 42 2 2 None [])) ∷ (1, SendOut 2 (token (ring_of 2 1) 43 2 2 None [])) ∷
-    (2, SendOut 1 (token (ring_of 2 1) 44 2 2 None [])) ∷ (1, SendOut 2 (token (ring_of 2 1) 45 2 2 None [])) ∷
-    (2, SendOut 1 (token (ring_of 2 1) 46 2 2 None [])) ∷ (1, SendOut 2 (token (ring_of 2 1) 47 2 2 None [])) ∷
-    (2, SendOut 1 (token (ring_of 2 1) 48 2 2 None [])) ∷ (1, SendOut 2 (token (ring_of 2 1) 49 2 2 None [])) ∷
-    (2, SendOut 1 (token (ring_of 2 1) 50 2 2 None [])) ∷ (1, SendOut 2 (token (ring_of 2 1) 51 2 2 None [])) ∷
-    (2, SendOut 1 (token (ring_of 2 1) 52 2 2 None [])) ∷ (1, SendOut 2 (token (ring_of 2 1) 53 2 2 None [])) ∷ (2, SendOut 1 (join 2 2 3 0)) ∷
-    (1, SendOut 2 (join 1 2 3 0)) ∷ (1, SendOut 2 (commit (ring_of 3 1) 3 1 (report (ring_of 2 1) 2 2 0 ∷ []))) ∷
-    (2, SendOut 1 (commit (ring_of 3 1) 3 2 (report (ring_of 2 1) 2 2 0 ∷ report (ring_of 2 1) 2 2 0 ∷ []))) ∷
-    (1, SendOut 2 (commit (ring_of 3 1) 3 3 (report (ring_of 2 1) 2 2 0 ∷ report (ring_of 2 1) 2 2 0 ∷ []))) ∷
-    (2, SendOut 1 (commit (ring_of 3 1) 3 4 (report (ring_of 2 1) 2 2 0 ∷ report (ring_of 2 1) 2 2 0 ∷ []))) ∷
-    (1, SendOut 2 (MessageFrame (message (ring_of 3 1) 1 1 End))) ∷ (1, SendOut 2 (token (ring_of 3 1) 1 1 1 None [])) ∷
-    (2, SendOut 1 (MessageFrame (message (ring_of 3 1) 2 2 End))) ∷ (2, SendOut 1 (token (ring_of 3 1) 2 2 2 None [])) ∷
-    (1, SendOut 2 (token (ring_of 3 1) 3 2 2 None [])) ∷ (2, SendOut 1 (token (ring_of 3 1) 4 2 2 None [])) ∷
-    (2, Trans (ring_of 2 1) (ring_of 3 1) 3) ∷ (2, Regular (ring_of 3 1) 3) ∷ (2, Safe (ring_of 3 1) 2) ∷
-    (1, SendOut 2 (token (ring_of 3 1) 5 2 2 None [])) ∷ (1, Trans (ring_of 2 1) (ring_of 3 1) 3) ∷ (1, Regular (ring_of 3 1) 3) ∷
-    (1, Safe (ring_of 3 1) 2) ∷ (2, SendOut 1 (token (ring_of 3 1) 6 2 2 None [])) ∷ (1, SendOut 2 (token (ring_of 3 1) 7 2 2 None [])) ∷
-    (2, SendOut 1 (token (ring_of 3 1) 8 2 2 None [])) ∷ (1, SendOut 2 (token (ring_of 3 1) 9 2 2 None [])) ∷
-    (2, SendOut 1 (token (ring_of 3 1) 10 2 2 None [])) ∷ (1, SendOut 2 (token (ring_of 3 1) 11 2 2 None [])) ∷
-    (2, SendOut 1 (token (ring_of 3 1) 12 2 2 None [])) ∷ (1, SendOut 2 (token (ring_of 3 1) 13 2 2 None [])) ∷
-    (2, SendOut 1 (token (ring_of 3 1) 14 2 2 None [])) ∷ (1, SendOut 2 (token (ring_of 3 1) 15 2 2 None [])) ∷
-    (2, SendOut 1 (token (ring_of 3 1) 16 2 2 None [])) ∷ (1, SendOut 2 (token (ring_of 3 1) 17 2 2 None [])) ∷
-    (2, SendOut 1 (token (ring_of 3 1) 18 2 2 None [])) ∷ (1, SendOut 2 (token (ring_of 3 1) 19 2 2 None [])) ∷
-    (2, SendOut 1 (token (ring_of 3 1) 20 2 2 None [])) ∷ (1, SendOut 2 (token (ring_of 3 1) 21 2 2 None [])) ∷
-    (2, SendOut 1 (token (ring_of 3 1) 22 2 2 None [])) ∷ (1, SendOut 2 (token (ring_of 3 1) 23 2 2 None [])) ∷
-    (2, SendOut 1 (token (ring_of 3 1) 24 2 2 None [])) ∷ (1, SendOut 2 (token (ring_of 3 1) 25 2 2 None [])) ∷
-    (2, SendOut 1 (token (ring_of 3 1) 26 2 2 None [])) ∷ (1, SendOut 2 (token (ring_of 3 1) 27 2 2 None [])) ∷
-    (2, SendOut 1 (token (ring_of 3 1) 28 2 2 None [])) ∷ []
+    (2, SendOut 1 (token (ring_of 2 1) 20 2 2 None [])) ∷ []
 
 -- the world that it leads to
 abbrev pub world : World Global
