@@ -1,1 +1,3 @@
 pub mod Consensus
+pub mod Counting
+pub mod Widening

@@ -4,6 +4,8 @@ use Rattle.std.specs.List.{AllByRecursion, Any}
 use Rattle.ring_base.specs.Numbers.{max_number, greatest}
 use Rattle.ring_base.specs.Processors.{IsMember, nobody, only, has, within, union, less, smallest}
 use Rattle.ring_wire.specs.declared.join.Join.{Join}
+pub use Rattle.ring_join.specs.declared.hearing.Hearing.{Hearing}
+pub use Rattle.ring_join.specs.declared.hearing.Hearing.TheVariants.{Ignored, Agrees, Widens}
 
 -- the sets of a node in Gather, and the joins with exactly these sets that it heard since agreement last fell back
 pub record Gathering : Type 0 where
@@ -20,12 +22,6 @@ abbrev pub own_join : ℕ → ℕ → Gathering → Join
 own_join me floor g = record { sender = me; number = floor; proc_set = g.proc_set; fail_set = g.fail_set }
 
 -- Hearing
-
--- what a join is to the node that hears it
-pub data Hearing : Type 0 where
-  Ignored : Hearing
-  Agrees : Hearing
-  Widens : Hearing
 
 -- both sets are the own
 abbrev pub has_same_sets : Gathering → Join → Bool
@@ -114,9 +110,13 @@ AllAreProcs g = AllByRecursion (λ (j : Join). 1 ≤ j.sender) g.heard
 
 -- Proposing
 
--- rule 10: the new ring's number is one more than the floor and the numbers that count
+-- the floor, or the greatest number that counts
+abbrev pub greatest_known : ℕ → Gathering → ℕ
+greatest_known floor g = max floor (greatest (map (λ (j : Join). j.number) g.heard))
+
+-- rule 10: the new ring's number is one more
 abbrev pub new_number : ℕ → Gathering → ℕ
-new_number floor g = suc (max floor (greatest (map (λ (j : Join). j.number) g.heard)))
+new_number floor g = suc (greatest_known floor g)
 
 -- with consensus the smallest proposes, up to the greatest number
 abbrev pub may_propose : ℕ → ℕ → Gathering → Bool

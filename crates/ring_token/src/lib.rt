@@ -3,5 +3,9 @@
 #![tactic(auto)]
 
 mod laws;
+mod requests;
+mod visit;
 
 pub use laws::safe_law;
+pub use requests::{left, requests_after};
+pub use visit::{Visit, Visits};

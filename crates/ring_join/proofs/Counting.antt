@@ -1,0 +1,27 @@
+-- One more join that counts.
+use Rattle.std.proofs.Common.{◌≡◌, ℕ, ◌≤◌, max, true, List, [], ◌∷◌, eqb-true, ap, arith}
+use Rattle.std.specs.List.{AllByRecursion}
+use Rattle.std.proofs.lemmas.Bool.{and_parts}
+use Rattle.ring_base.specs.Processors.{only, union}
+use Rattle.ring_wire.specs.declared.join.Join.{Join}
+use Rattle.ring_join.specs.Gathering.{Gathering, has_same_sets, agreed, SaysSame}
+use Rattle.ring_join.specs.Gatherers.{IsCounted}
+
+-- what the joins say is the same whichever joins are heard
+still_same : (g : Gathering) (j : Join) (js : List Join) → AllByRecursion (SaysSame g) js → AllByRecursion (SaysSame (agreed g j)) js
+still_same g j [] all = tt
+still_same g j (x ∷ js) all = (record { proc_set = all.0.proc_set; fail_set = all.0.fail_set }, still_same g j js all.1)
+
+says_same : (g : Gathering) (j : Join) → has_same_sets g j ≡ true → SaysSame (agreed g j) j
+says_same g j same =
+    let both = and_parts _ _ same in
+    record { proc_set = eqb-true _ _ both.0; fail_set = eqb-true _ _ both.1 }
+
+pub counted_more : (g : Gathering) (j : Join) (said counted : ℕ) → 1 ≤ j.sender → has_same_sets g j ≡ true → IsCounted g said counted → IsCounted (agreed g j) (union (only j.sender) said) (max counted j.number)
+counted_more g j said counted low same c =
+    record {
+      said_by = ap (union (only j.sender)) c.said_by;
+      greatest_is = omega (arith, c.greatest_is);
+      say_same = (says_same g j same, still_same g j g.heard c.say_same);
+      are_procs = (low, c.are_procs);
+    }
