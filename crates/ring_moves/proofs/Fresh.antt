@@ -37,11 +37,14 @@ Made c = IsMade c.me c.held c.queue c.turns
 
 -- Messages more leave it
 
-still_recovered : {A : Type 0} → (me : ℕ) (ring : RingId) (xs held : List (Message A)) (fresh : List (Payload A)) → AreOfRecovery me ring held fresh → AreOfRecovery me ring (xs ++ held) fresh
+still_recovered : {A : Type 0} → (me : ℕ) (ring : RingId) (xs held : List (Message A)) (fresh : List (Payload A)) → AreOfRecovery me ring held fresh →
+    AreOfRecovery me ring (xs ++ held) fresh
 still_recovered me ring xs held fresh r =
-    record { count = r.count; plan = r.plan; later = xs ++ r.later; before = r.before; grown = append_assoc xs r.later r.before ∙ ap (λ ys. xs ++ ys) r.grown; made = r.made }
+    let grown = append_assoc xs r.later r.before ∙ ap (λ ys. xs ++ ys) r.grown in
+    record { count = r.count; plan = r.plan; later = xs ++ r.later; before = r.before; grown = grown; made = r.made }
 
-still_either : {A : Type 0} → (me : ℕ) (ring : RingId) (xs held : List (Message A)) (fresh : List (Payload A)) → AreOfQueue fresh ⊎ AreOfRecovery me ring held fresh → AreOfQueue fresh ⊎ AreOfRecovery me ring (xs ++ held) fresh
+still_either : {A : Type 0} → (me : ℕ) (ring : RingId) (xs held : List (Message A)) (fresh : List (Payload A)) →
+    AreOfQueue fresh ⊎ AreOfRecovery me ring held fresh → AreOfQueue fresh ⊎ AreOfRecovery me ring (xs ++ held) fresh
 still_either me ring xs held fresh h = elim h [ inl q ↦ inl q | inr r ↦ inr (still_recovered me ring xs held fresh r) ]
 
 still_fresh : {A : Type 0} → (me : ℕ) (xs held : List (Message A)) (turns : List (Turn A)) → AreFreshOf me held turns → AreFreshOf me (xs ++ held) turns
@@ -51,7 +54,8 @@ still_fresh {A} me xs held turns h =
 
 -- Visits
 
-offered : {A : Type 0} → (s : State) (c : Core A) (xs : List (Message A)) (count : ℕ) → AreQueued c.queue → AreOfQueue (offers s c count) ⊎ AreOfRecovery c.me c.running.ring (xs ++ c.held) (offers s c count)
+offered : {A : Type 0} → (s : State) (c : Core A) (xs : List (Message A)) (count : ℕ) → AreQueued c.queue →
+    AreOfQueue (offers s c count) ⊎ AreOfRecovery c.me c.running.ring (xs ++ c.held) (offers s c count)
 offered Operational c xs count q = inl (record { count = count; queue = c.queue; queued = q; made = refl })
 offered Recovery c xs count q = inr (record { count = count; plan = plan c; later = xs; before = c.held; grown = refl; made = refl })
 offered Gather c xs count q = inl (record { count = 0; queue = []; queued = tt; made = refl })
@@ -68,7 +72,8 @@ fresh_of {A} c t a q =
     record {
       few = omega arith;
       numbered = omega arith;
-      made = subst (λ (r : RingId). AreOfQueue (new_payloads c t) ⊎ AreOfRecovery c.me r (held_after c t) (new_payloads c t)) (sym (accepted_ring c t a)) (offered c.state c (new_messages c t) (room_at c t) q);
+      made = subst (λ (r : RingId). AreOfQueue (new_payloads c t) ⊎ AreOfRecovery c.me r (held_after c t) (new_payloads c t))
+          (sym (accepted_ring c t a)) (offered c.state c (new_messages c t) (room_at c t) q);
     }
 
 queue_kept : {A : Type 0} → (s : State) (count : ℕ) (queue : List (Payload A)) → AreQueued queue → AreQueued (queue_after s count queue)
@@ -95,7 +100,10 @@ act_made c (RegatherAndWiden j) g m = record { queued = tt; fresh = m.fresh }
 act_made c (Take x) g m =
     record { queued = m.queued; fresh = still_fresh c.me (gives_old c.state c x) (x ∷ c.held) c.turns (still_fresh c.me (x ∷ []) c.held c.turns m.fresh) }
 act_made c (Visit t) g m =
-    record { queued = queue_kept c.state (room_at c t) c.queue m.queued; fresh = (fresh_of c t g.1 m.queued, still_fresh c.me (new_messages c t) c.held c.turns m.fresh) }
+    record {
+      queued = queue_kept c.state (room_at c t) c.queue m.queued;
+      fresh = (fresh_of c t g.1 m.queued, still_fresh c.me (new_messages c t) c.held c.turns m.fresh);
+    }
 act_made c (Fill k) g m = m
 act_made c (Learn k) g m = m
 
@@ -119,5 +127,6 @@ always_made c (x ∷ inputs) m = always_made (ring_step c x).core inputs (step_m
 pub opening_made : {A : Type 0} → (n me : ℕ) → Made (opening {A = A} n me)
 opening_made n me = record { queued = tt; fresh = tt }
 
-pub all_made : {A : Type 0} → (n me : ℕ) (inputs : List (Input A)) → AreFreshOf (after_inputs (opening n me) inputs).me (after_inputs (opening n me) inputs).held (after_inputs (opening n me) inputs).turns
+pub all_made : {A : Type 0} → (n me : ℕ) (inputs : List (Input A)) →
+    AreFreshOf (after_inputs (opening n me) inputs).me (after_inputs (opening n me) inputs).held (after_inputs (opening n me) inputs).turns
 all_made n me inputs = (always_made (opening n me) inputs (opening_made n me)).fresh
