@@ -33,9 +33,7 @@ pub fn is_at(me: Proc, token: &CommitToken) -> bool
 pub fn is_first_round(floor: u64, agreed: ProcSet, token: &CommitToken) -> bool
     ensures { result ≡ is_first_round floor agreed token.now }
 {
-    u32::from(token.hop) < token.members.len()
-        && token.members == agreed
-        && floor < token.ring.seq
+    u32::from(token.hop) < token.members.len() && token.members == agreed && floor < token.ring.seq
 }
 
 /// Whether a commit token is in its second round at a node that takes part in this ring: the node's own entry
