@@ -17,6 +17,7 @@ ghost use Rattle.ring_srp.specs.Stepping.{after_inputs};
 ghost use Rattle.ring_moves.specs.declared.event.RingEvent.{RingEvent};
 ghost use Rattle.ring_moves.specs.Worlds.{World, run, unformed};
 ghost use Rattle.ring_moves.specs.CommitRounds.{has_rising_rings, is_taken, takings};
+ghost use Rattle.ring_moves.specs.Moves.{IsMoved};
 ghost use Rattle.ring_moves.specs.Laws.{CameWith, HasPassed, IsFalling, TakesCommit, AreTurnsOf};
 
 use ring_recover::finish_law;
@@ -37,6 +38,11 @@ pub fn cause_law<A: Allocator + Copy>()
 /// A commit token is taken at one position alone: by the member that its hop goes to.
 pub fn hop_law<A: Allocator + Copy>()
     ensures { (c : Core A) (k : CommitToken) → TakesCommit c k → receiver k ≡ c.me }
+{}
+
+/// Each step of a core is one or two moves, its outputs, and then perhaps an installation: at most three moves.
+pub fn moves_law<A: Allocator + Copy>()
+    ensures { (c : Core A) (input : Input A) → IsMoved c input }
 {}
 
 /// The rings that a core takes part in strictly rise.
@@ -94,6 +100,7 @@ pub fn laws_at_global()
     decision_law::<Global>();
     cause_law::<Global>();
     hop_law::<Global>();
+    moves_law::<Global>();
     rings_law::<Global>();
     window_law::<Global>();
     agreement_law::<Global>();
