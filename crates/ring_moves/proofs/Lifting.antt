@@ -1,11 +1,12 @@
 -- What each move of one core keeps of all cores and all frames sent, holds in every world after all events.
-use Rattle.std.proofs.Common.{◌≡◌, ℕ, ◌≤◌, Bool, true, false, ◌==◌, ◌&&◌, cond, List, [], ◌∷◌, ◌++◌, map, Option, Some, None, inl, inr, refl, ap, sym, ◌∙◌, subst, append-nil, append-assoc}
-use Rattle.std.specs.Prelude.{filter, filter_map, nat_le, slice_get, suc, zero}
-use Rattle.std.specs.List.{AllByRecursion as Each}
+use Rattle.std.proofs.Common.{◌≡◌, ℕ, ◌≤◌, Bool, true, false, ◌==◌, ◌&&◌, cond, List, [], ◌∷◌, ◌++◌, map, Option, Some, None, inl, inr, refl, ap, sym, ◌∙◌, subst, append-nil, append_assoc}
+use Rattle.std.specs.Prelude.{not, filter, filter_map, nat_le, nat_lt, slice_get, suc, zero}
+use Rattle.std.specs.List.{AllByRecursion as Each, cons_option}
 use Rattle.std.proofs.Math.Path.{fun_ext}
 use Rattle.std.proofs.lemmas.Bool.{cond_both, cases_Bool, and_parts, eqb-true, eq-eqb, cond-true, leb-true}
-use Rattle.std.proofs.lemmas.List.Elements.{filter_map-append}
-use Rattle.ring_base.specs.Processors.{has}
+use Rattle.std.proofs.lemmas.List.{map-append}
+use Rattle.std.proofs.lemmas.List.Elements.{filter-append, filter_map-append}
+use Rattle.ring_base.specs.Processors.{nobody, has}
 use Rattle.ring_base.specs.declared.ring_id.RingId.{RingId}
 use Rattle.ring_base.specs.declared.state.State.TheVariants.{Stopped}
 use Rattle.ring_base.proofs.Each.{each-append, each-map}
@@ -18,6 +19,8 @@ use Rattle.ring_srp.specs.declared.out.Out.TheVariants.{Send as SendOut, Agreed,
 use Rattle.ring_srp.specs.State.{Core, Sent, Did, halted}
 use Rattle.ring_srp.specs.Giving.{may_install, install, addressed, sent, users, agreed_from, safe_from, delivered_from, given, configured, settle, delivered}
 use Rattle.ring_srp.specs.Stepping.{ring_step}
+use Rattle.ring_srp.specs.Views.{front, mark, plan}
+use Rattle.ring_recover.specs.Deliveries.{rests}
 use Rattle.ring_moves.specs.declared.event.RingEvent.{RingEvent}
 use Rattle.ring_moves.specs.declared.event.RingEvent.TheVariants.{Send, Deliver, Timeout, Stop}
 use Rattle.ring_moves.specs.Facts.{SomeIs}
@@ -48,17 +51,11 @@ put-here cores i c = cond-true (i == i) c (cores i) (eq-eqb i i refl)
 
 -- Frames
 
-pub map-append-carried : {A : Type 0} → (i : ℕ) (xs ys : List (Sent A)) → carried_from i (xs ++ ys) ≡ carried_from i xs ++ carried_from i ys
-map-append-carried i [] ys = refl
-map-append-carried {A} i (x ∷ xs) ys =
-    let rest = map-append-carried i xs ys in
+pub carried-append : {A : Type 0} → (i : ℕ) (xs ys : List (Sent A)) → carried_from i (xs ++ ys) ≡ carried_from i xs ++ carried_from i ys
+carried-append {A} i xs ys =
     let f : Sent A → Carried A = λ s. record { from = i; to = s.to; frame = s.frame } in
-    let t : Bool = Rattle.std.specs.Prelude.not (x.to == Rattle.ring_base.specs.Processors.nobody) in
-    kept t (f x) (addressed (xs ++ ys)) (addressed xs) (addressed ys) rest
-  where
-    kept : (t : Bool) (c : Carried A) (zs us vs : List (Sent A)) → map (λ s. record { from = i; to = s.to; frame = s.frame }) zs ≡ map (λ s. record { from = i; to = s.to; frame = s.frame }) us ++ map (λ s. record { from = i; to = s.to; frame = s.frame }) vs → map (λ s. record { from = i; to = s.to; frame = s.frame }) (cond t (x ∷ zs) zs) ≡ map (λ s. record { from = i; to = s.to; frame = s.frame }) (cond t (x ∷ us) us) ++ map (λ s. record { from = i; to = s.to; frame = s.frame }) vs
-    kept true c zs us vs e = ap (λ ys. record { from = i; to = x.to; frame = x.frame } ∷ ys) e
-    kept false c zs us vs e = e
+    let p : Sent A → Bool = λ s. not (s.to == nobody) in
+    ap (map f) (filter-append p xs ys) ∙ map-append f (filter p xs) (filter p ys)
 
 sends_carried : {A : Type 0} → (i : ℕ) (xs : List (Sent A)) → filter_map (carried_by i) (map (λ s. SendOut s.to s.frame) xs) ≡ map (λ s. record { from = i; to = s.to; frame = s.frame }) xs
 sends_carried i [] = refl
@@ -70,7 +67,7 @@ IsTold o = (i : ℕ) → carried_by i o ≡ None
 
 none_carried : {A : Type 0} → (i : ℕ) (outs : List (Out A)) → Each IsTold outs → filter_map (carried_by i) outs ≡ []
 none_carried i [] h = refl
-none_carried {A} i (o ∷ outs) h = ap (λ x. Rattle.std.specs.List.cons_option x (filter_map (carried_by i) outs)) (h.0 i) ∙ none_carried i outs h.1
+none_carried {A} i (o ∷ outs) h = ap (λ x. cons_option x (filter_map (carried_by i) outs)) (h.0 i) ∙ none_carried i outs h.1
 
 any_each : {X : Type 0} (xs : List X) → Each (λ x. Unit {0}) xs
 any_each xs = each-in (λ x. Unit {0}) xs (λ x i. tt)
@@ -78,13 +75,13 @@ any_each xs = each-in (λ x. Unit {0}) xs (λ x i. tt)
 told_from : {A : Type 0} → (c : Core A) (ring : RingId) (f m : ℕ) → Each IsTold (delivered_from c ring f m)
 told_from c ring f m =
     each-append IsTold (agreed_from c ring f) (safe_from c ring m)
-    (each-map IsTold (λ x. Agreed ring x.number x) (users c ring f (Rattle.ring_srp.specs.Views.front c ring)) (each-in _ _ (λ x k i. refl)))
-    (cond_both (Rattle.std.specs.Prelude.nat_lt m (Rattle.ring_srp.specs.Views.mark c ring)) (Safe ring (Rattle.ring_srp.specs.Views.mark c ring) ∷ []) [] (Each IsTold) (λ e. (λ i. refl, tt)) (λ e. tt))
+    (each-map IsTold (λ x. Agreed ring x.number x) (users c ring f (front c ring)) (each-in _ _ (λ x k i. refl)))
+    (cond_both (nat_lt m (mark c ring)) (Safe ring (mark c ring) ∷ []) [] (Each IsTold) (λ e. (λ i. refl, tt)) (λ e. tt))
 
 told_configured : {A : Type 0} → (c : Core A) → Each IsTold (configured c)
 told_configured c =
-    (λ i. refl, each-append IsTold (map (λ x. Rest x.ring x.number x) (Rattle.ring_recover.specs.Deliveries.rests (Rattle.ring_srp.specs.Views.plan c) c.held)) (Regular c.running.ring c.running.members ∷ delivered_from c c.running.ring 0 0)
-      (each-map IsTold (λ x. Rest x.ring x.number x) (Rattle.ring_recover.specs.Deliveries.rests (Rattle.ring_srp.specs.Views.plan c) c.held) (each-in _ _ (λ x k i. refl)))
+    (λ i. refl, each-append IsTold (map (λ x. Rest x.ring x.number x) (rests (plan c) c.held)) (Regular c.running.ring c.running.members ∷ delivered_from c c.running.ring 0 0)
+      (each-map IsTold (λ x. Rest x.ring x.number x) (rests (plan c) c.held) (each-in _ _ (λ x k i. refl)))
       (λ i. refl, told_from c c.running.ring 0 0))
 
 outs_carried : {A : Type 0} → (i : ℕ) (sends : List (Sent A)) (told : List (Out A)) → Each IsTold told → filter_map (carried_by i) (sent sends ++ told) ≡ carried_from i sends
@@ -116,7 +113,7 @@ module _ {A : Type 0} (P : (ℕ → Core A) → List (Carried A) → Type 0) (k 
       let rest : P (put (put cores i (moved c m)) i (after_moves (moved c m) ms)) ((frames ++ carried_from i (sends_of c m)) ++ carried_from i (all_sends (moved c m) ms)) =
             kept_all came (put cores i (moved c m)) (frames ++ carried_from i (sends_of c m)) i (moved c m) ms (put-here cores i (moved c m)) low (λ x q. some-left _ frames (carried_from i (sends_of c m)) (f x q)) h.1 first in
       let both : (frames ++ carried_from i (sends_of c m)) ++ carried_from i (all_sends (moved c m) ms) ≡ frames ++ carried_from i (sends_of c m ++ all_sends (moved c m) ms) =
-            append-assoc frames (carried_from i (sends_of c m)) (carried_from i (all_sends (moved c m) ms)) ∙ ap (λ xs. frames ++ xs) (sym (map-append-carried i (sends_of c m) (all_sends (moved c m) ms))) in
+            append_assoc frames (carried_from i (sends_of c m)) (carried_from i (all_sends (moved c m) ms)) ∙ ap (λ xs. frames ++ xs) (sym (carried-append i (sends_of c m) (all_sends (moved c m) ms))) in
       subst (λ fs. P (put cores i (after_moves (moved c m) ms)) fs) both (subst (λ cs. P cs ((frames ++ carried_from i (sends_of c m)) ++ carried_from i (all_sends (moved c m) ms))) (put-put cores i (moved c m) (after_moves (moved c m) ms)) rest)
 
   kept_settled : (cores : ℕ → Core A) (frames : List (Carried A)) (i : ℕ) (old c : Core A) (sends : List (Sent A)) (b : Bool) → 1 ≤ i → (b ≡ true → MayInstall c) → P (put cores i c) (frames ++ carried_from i sends) → P (put cores i (settle b c (sent sends ++ given old c)).core) (frames ++ filter_map (carried_by i) (settle b c (sent sends ++ given old c)).outs)
@@ -129,7 +126,7 @@ module _ {A : Type 0} (P : (ℕ → Core A) → List (Carried A) → Type 0) (k 
       let r : P (put (put cores i c) i (install c)) (fs ++ []) = subst (λ x. P (put (put cores i c) i (install x)) (fs ++ [])) (put-here cores i c) q in
       let s : P (put cores i (install c)) (frames ++ carried_from i sends) = subst (λ gs. P (put cores i (install c)) gs) (append-nil fs) (subst (λ cs. P cs (fs ++ [])) (put-put cores i c (install c)) r) in
       let told : Each IsTold (given old c ++ configured c) = each-append IsTold (given old c) (configured c) (told_from c old.installed.ring _ _) (told_configured c) in
-      let outs : filter_map (carried_by i) ((sent sends ++ given old c) ++ configured c) ≡ carried_from i sends = ap (filter_map (carried_by i)) (append-assoc (sent sends) (given old c) (configured c)) ∙ outs_carried i sends (given old c ++ configured c) told in
+      let outs : filter_map (carried_by i) ((sent sends ++ given old c) ++ configured c) ≡ carried_from i sends = ap (filter_map (carried_by i)) (append_assoc (sent sends) (given old c) (configured c)) ∙ outs_carried i sends (given old c ++ configured c) told in
       subst (λ gs. P (put cores i (install c)) (frames ++ gs)) (sym outs) s
 
   kept_after : (w : World A) (i : ℕ) (input : Input A) → 1 ≤ i → ((f : Frame A) → input ≡ FrameInput f → CameTo w.frames i f) → P w.cores w.frames → P (after_step w i (ring_step (w.cores i) input)).cores (after_step w i (ring_step (w.cores i) input)).frames

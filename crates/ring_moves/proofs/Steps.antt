@@ -350,7 +350,7 @@ in_gather Recovery c h = absurd (false≢true h)
 in_gather Operational c h = absurd (false≢true h)
 in_gather Stopped c h = absurd (false≢true h)
 
-some_member : (set me : ℕ) → smallest set ≡ me → 1 ≤ me → 0 < size set
+pub some_member : (set me : ℕ) → smallest set ≡ me → 1 ≤ me → 0 < size set
 some_member set me e low = go (elements set) refl
   where
     go : (xs : List ℕ) → elements set ≡ xs → 0 < size set
