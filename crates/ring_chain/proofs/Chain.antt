@@ -22,15 +22,10 @@ use Rattle.ring_moves.proofs.Rises.{runs_in}
 use Rattle.ring_moves.proofs.Turned.{Turned, moved_turned}
 use Rattle.ring_moves.proofs.Steps.{some_member}
 use Rattle.ring_chain.specs.Words.{Chains, IsRingOf, picked, HasArrived, IsRound, IsToken, IsRight, AreRight, with_visit, visits_after}
+use Rattle.ring_chain.specs.Told.{AreChains}
 use Rattle.ring_chain.proofs.Growing.{AllGrown, put-each, put_grows, moved_grows}
 use Rattle.ring_chain.proofs.Rings.{AreRings, came_right, one_members}
 use Rattle.ring_chain.proofs.Turns.{same-self, only-is, next-turn, at-low, number-visits, first-arrived, AllBelow, newest}
-
-pub record AreChains {A : Type 0} (visits : Chains A) (cores : ℕ → Core A) : Type 0 where
-  -- a ring has no visits, or a round of its members
-  pub rounds : (r : RingId) → (visits r ≡ []) ⊎ IsRound cores r (visits r)
-  -- those that a core took are its own in the list
-  pub turns : (q : ℕ) (r : RingId) → turns_of r (cores q).turns ≡ picked q (visits r)
 
 pub round_grows : {A : Type 0} → (old new : ℕ → Core A) → AllGrown old new → (r : RingId) (vs : List (VisitBy A)) → (vs ≡ []) ⊎ IsRound old r vs → (vs ≡ []) ⊎ IsRound new r vs
 round_grows old new g r vs (inl e) = inl e
@@ -52,9 +47,7 @@ pub record HasTurn {A : Type 0} (members : ℕ) (i : ℕ) (t : Token) (vs : List
   pub arrived : HasArrived t.ring t vs
 
 module _ {A : Type 0} (visits : Chains A) (cores : ℕ → Core A) (frames : List (Carried A)) (i : ℕ) (low : 1 ≤ i) (right : AreRight visits cores frames) (are : AreRings cores) (chains : AreChains visits cores) (turned : (q : ℕ) → Turned (cores q)) where
-
   module _ (t : Token) (fresh : List (Payload A)) (requests : List ℕ) (again : List (Message A)) (queue : List (Payload A)) (h : MayVisit (CameTo frames i) (cores i) t fresh again queue) where
-
     pub ring_here : IsRingOf cores t.ring (cores i).running.members
     ring_here =
         let r : IsRingOf cores (cores i).running.ring (cores i).running.members = are.shared i _ _ (runs_in (cores i) (are.rising i)) in
@@ -101,7 +94,7 @@ module _ {A : Type 0} (visits : Chains A) (cores : ℕ → Core A) (frames : Lis
         newest (cores i).running.members t.ring t i (visits t.ring) has_turn.some visits_here has_turn.arrived has_turn.here
         (subst (λ (ts : List (Turn A)). AllBelow t.number ts) (chains.turns i t.ring) h.newer)
 
-    abbrev visit : VisitBy A
+    abbrev pub visit : VisitBy A
     visit = record { who = i; turn = turn_with (cores i) t fresh requests }
 
     is_next : IsNext (cores i).running.members t.ring visit (visits t.ring)
@@ -124,11 +117,11 @@ module _ {A : Type 0} (visits : Chains A) (cores : ℕ → Core A) (frames : Lis
         let here : IsRound cores' t.ring (visit ∷ visits t.ring) = record { members = (cores i).running.members; ring_of = (g t.ring.rep).rings _ ring_here; some = has_turn.some; visits_are = (is_next, visits_here) } in
         record {
           rounds = λ r. cond_both (same_ring t.ring r) (visit ∷ visits r) (visits r) (λ (vs : List (VisitBy A)). (vs ≡ []) ⊎ IsRound cores' r vs)
-            (λ e. inr (subst (λ r. IsRound cores' r (visit ∷ visits r)) (ring_same t.ring r e) here))
-            (λ e. round_grows cores cores' g r (visits r) (chains.rounds r));
+              (λ e. inr (subst (λ r. IsRound cores' r (visit ∷ visits r)) (ring_same t.ring r e) here))
+              (λ e. round_grows cores cores' g r (visits r) (chains.rounds r));
           turns = put-each (λ q (x : Core A). (r : RingId) → turns_of r x.turns ≡ picked q (with_visit visits t.ring visit r)) cores i d
-            (λ q n r. other_picked (same_ring t.ring r) i q visit.turn (turns_of r (cores q).turns) (visits r) n (chains.turns q r))
-            (λ r. turn_picked (same_ring t.ring r) i visit.turn (turns_of r (cores i).turns) (visits r) (chains.turns i r));
+              (λ q n r. other_picked (same_ring t.ring r) i q visit.turn (turns_of r (cores q).turns) (visits r) n (chains.turns q r))
+              (λ r. turn_picked (same_ring t.ring r) i visit.turn (turns_of r (cores i).turns) (visits r) (chains.turns i r));
         }
 
     -- the token as it goes is the ring's, and goes to the member whose turn is next

@@ -5,11 +5,13 @@ use Rattle.std.proofs.lemmas.Bool.{cond_both, eqb-true, eqb-false}
 use Rattle.ring_base.specs.Rings.{same_ring}
 use Rattle.ring_base.specs.declared.ring_id.RingId.{RingId}
 use Rattle.ring_base.proofs.Each.{each-weaker}
+use Rattle.ring_wire.specs.declared.commit.CommitToken.{CommitToken}
 use Rattle.ring_wire.specs.declared.entries.CommitEntry.{CommitEntry}
 use Rattle.ring_wire.specs.declared.frame.Frame.{Frame}
 use Rattle.ring_wire.specs.declared.frame.Frame.TheVariants.{Message as MessageFrame, Token as TokenFrame, Join as JoinFrame, Commit as CommitFrame}
 use Rattle.ring_wire.specs.declared.message.Message.{Message}
 use Rattle.ring_wire.specs.declared.token.Token.{Token}
+use Rattle.ring_token.specs.Turns.{Turn}
 use Rattle.ring_token.specs.Rounds.{VisitBy}
 use Rattle.ring_token.specs.Visits.{numbered}
 use Rattle.ring_commit.specs.Reports.{Configuration}
@@ -28,22 +30,28 @@ pub record HasGrown {A : Type 0} (c d : Core A) : Type 0 where
   pub me : d.me ≡ c.me
   pub rings : (p : Configuration) → IsIn p c.rings → IsIn p d.rings
   pub reports : (x : Report) → IsIn x c.reports → IsIn x d.reports
+  pub plans : (k : CommitToken) → IsIn k c.plans → IsIn k d.plans
+  pub turns : (v : Turn A) → IsIn v c.turns → IsIn v d.turns
   pub fronts : (r : RingId) → front c r ≤ front d r
 
 pub grown_same : {A : Type 0} → (c : Core A) → HasGrown c c
-grown_same c = record { me = refl; rings = λ p h. h; reports = λ x h. h; fronts = λ r. omega arith }
+grown_same c = record { me = refl; rings = λ p h. h; reports = λ x h. h; plans = λ k h. h; turns = λ v h. h; fronts = λ r. omega arith }
 
 pub moved_grows : {A : Type 0} → (c : Core A) (m : Move A) → HasGrown c (moved c m)
-moved_grows c (Idles state gathering shown queue sends) = record { me = refl; rings = λ p h. h; reports = λ x h. h; fronts = λ r. omega arith }
-moved_grows c (Enters k) = record { me = refl; rings = λ p h. inr h; reports = λ x h. inr h; fronts = λ r. omega arith }
-moved_grows c (Learns k) = record { me = refl; rings = λ p h. h; reports = λ x h. h; fronts = λ r. omega arith }
-moved_grows c (Visits t fresh requests again queue) = record { me = refl; rings = λ p h. h; reports = λ x h. h; fronts = λ r. front-append (numbered t.ring c.me t.seq fresh) c.held r }
+moved_grows c (Idles state gathering shown queue sends) = record { me = refl; rings = λ p h. h; reports = λ x h. h; plans = λ k h. h; turns = λ v h. h; fronts = λ r. omega arith }
+moved_grows c (Enters k) = record { me = refl; rings = λ p h. inr h; reports = λ x h. inr h; plans = λ k h. h; turns = λ v h. h; fronts = λ r. omega arith }
+moved_grows c (Learns k) = record { me = refl; rings = λ p h. h; reports = λ x h. h; plans = λ k h. inr h; turns = λ v h. h; fronts = λ r. omega arith }
+moved_grows c (Visits t fresh requests again queue) = record { me = refl; rings = λ p h. h; reports = λ x h. h; plans = λ k h. h; turns = λ v h. inr h; fronts = λ r. front-append (numbered t.ring c.me t.seq fresh) c.held r }
 moved_grows c (Takes x) =
     record {
-      me = refl; rings = λ p h. h; reports = λ x h. h;
+      me = refl;
+      rings = λ p h. h;
+      reports = λ x h. h;
+      plans = λ k h. h;
+      turns = λ v h. h;
       fronts = λ r. (let a = front-append (x ∷ []) c.held r in let b = front-append (gives_old c.state c x) (x ∷ c.held) r in omega (arith, a, b));
     }
-moved_grows c Installs = record { me = refl; rings = λ p h. h; reports = λ x h. h; fronts = λ r. omega arith }
+moved_grows c Installs = record { me = refl; rings = λ p h. h; reports = λ x h. h; plans = λ k h. h; turns = λ v h. h; fronts = λ r. omega arith }
 
 -- All cores
 
@@ -89,7 +97,12 @@ right_grows visits visits' old new c g from to (TokenFrame t) h =
     record { members = h.members; ring_of = (g t.ring.rep).rings _ h.ring_of; some = h.some; sent_to = h.sent_to; arrived = c.arrived t.ring t h.arrived }
 right_grows visits visits' old new c g from to (CommitFrame k) h =
     record {
-      ring_of = (g k.ring.rep).rings _ h.ring_of; sent_to = h.sent_to; sent_by = h.sent_by; low = h.low; high = h.high; count = h.count;
+      ring_of = (g k.ring.rep).rings _ h.ring_of;
+      sent_to = h.sent_to;
+      sent_by = h.sent_by;
+      low = h.low;
+      high = h.high;
+      count = h.count;
       reports = λ x e s. (g _).reports _ (h.reports x e s);
     }
 right_grows visits visits' old new c g from to (JoinFrame j) h = tt

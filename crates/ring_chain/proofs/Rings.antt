@@ -29,9 +29,8 @@ came_right {A} visits cores frames i f all came =
     (λ (g : Carried A) right e. (g.from, g.to, e.0, subst (IsRight visits cores g.from g.to) e.1 right)) frames all came
 
 module _ {A : Type 0} (visits : Chains A) (cores : ℕ → Core A) (frames : List (Carried A)) (i : ℕ) (right : AreRight visits cores frames) (are : AreRings cores) where
-
   -- the ring that is entered has these members for its representative too
-  entered_shared : (k : CommitToken) → MayEnter (CameTo frames i) (cores i) k → IsRingOf (put cores i (moved (cores i) (Enters k))) k.ring k.members
+  pub entered_shared : (k : CommitToken) → MayEnter (CameTo frames i) (cores i) k → IsRingOf (put cores i (moved (cores i) (Enters k))) k.ring k.members
   entered_shared k h =
       let d = moved (cores i) (Enters k) in
       let p : Configuration = record { ring = k.ring; members = k.members } in
@@ -61,8 +60,8 @@ module _ {A : Type 0} (visits : Chains A) (cores : ℕ → Core A) (frames : Lis
         me = λ q. (g q).me ∙ are.me q;
         rising = put-each (λ q (x : Core A). Rising x) cores i d (λ q n. are.rising q) (moved_rises (CameTo frames i) (cores i) m h (are.rising i));
         shared = put-each (λ q (x : Core A). (ring : RingId) (members : ℕ) → IsIn (record { ring = ring; members = members }) x.rings → IsRingOf cores' ring members) cores i d
-        (λ q n ring members x. (g ring.rep).rings _ (are.shared q ring members x))
-        (λ ring members x. elim (rings_after m h (record { ring = ring; members = members }) x) [ inl new ↦ new | inr old ↦ (g ring.rep).rings _ (are.shared i ring members old) ]);
+            (λ q n ring members x. (g ring.rep).rings _ (are.shared q ring members x))
+            (λ ring members x. elim (rings_after m h (record { ring = ring; members = members }) x) [ inl new ↦ new | inr old ↦ (g ring.rep).rings _ (are.shared i ring members old) ]);
       }
 
 -- a ring has one set of members

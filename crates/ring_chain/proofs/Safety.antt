@@ -26,7 +26,7 @@ use Rattle.ring_moves.proofs.Turned.{Turned}
 use Rattle.ring_chain.specs.Words.{Chains, IsRingOf, picked, IsRound, IsSafe, IsHop, AreRight}
 use Rattle.ring_chain.proofs.Growing.{AllGrown, put-each, put_grows, moved_grows, safe_grows}
 use Rattle.ring_chain.proofs.Rings.{AreRings, came_right}
-use Rattle.ring_chain.proofs.Chain.{AreChains}
+use Rattle.ring_chain.specs.Told.{AreChains}
 
 pub record AreSafe {A : Type 0} (cores : ℕ → Core A) : Type 0 where
   pub raises : (q : ℕ) → Each (λ (x : Raise). IsSafe cores x.ring x.mark) (cores q).raises
@@ -76,7 +76,7 @@ in_picked {A} v (w ∷ vs) (inl e) =
 in_picked {A} v (w ∷ vs) (inr h) =
     cond_both (w.who == v.who) (w.turn ∷ picked v.who vs) (picked v.who vs) (λ (ts : List (Turn A)). IsIn v.turn ts) (λ e. inr (in_picked v vs h)) (λ e. in_picked v vs h)
 
-in_filter : {X : Type 0} (p : X → Bool) (x : X) (xs : List X) → IsIn x (filter p xs) → IsIn x xs × (p x ≡ true)
+pub in_filter : {X : Type 0} (p : X → Bool) (x : X) (xs : List X) → IsIn x (filter p xs) → IsIn x xs × (p x ≡ true)
 in_filter p x [] h = absurd h
 in_filter p x (y ∷ xs) h =
     cond_both (p y) (y ∷ filter p xs) (filter p xs) (λ ys. IsIn x ys → IsIn x (y ∷ xs) × (p x ≡ true))
@@ -84,15 +84,14 @@ in_filter p x (y ∷ xs) h =
     (λ e k. (inr (in_filter p x xs k).0, (in_filter p x xs k).1)) h
 
 module _ {A : Type 0} (visits : Chains A) (cores : ℕ → Core A) (chains : AreChains visits cores) (turned : (q : ℕ) → Turned (cores q)) (safe : AreSafe cores) where
-
   -- fronts have grown since the visits
   grown_since : (r : RingId) → HaveGrown (λ p. front (cores p) r) (visits r)
   grown_since r =
       each-in (λ (v : VisitBy A). v.turn.front ≤ front (cores v.who) r) (visits r) (λ v h.
-        let P : List (Turn A) → Type 0 = λ ts. IsIn v.turn ts in
-        let i = in_filter (λ (u : Turn A). same_ring u.came.ring r) v.turn (cores v.who).turns (subst P (sym (chains.turns v.who r)) (in_picked v (visits r) h)) in
-        let t = in-each _ v.turn (cores v.who).turns (turned v.who) i.0 in
-        subst (λ q. v.turn.front ≤ front (cores v.who) q) (ring_same v.turn.came.ring r i.1) t.grown)
+      let P : List (Turn A) → Type 0 = λ ts. IsIn v.turn ts in
+      let i = in_filter (λ (u : Turn A). same_ring u.came.ring r) v.turn (cores v.who).turns (subst P (sym (chains.turns v.who r)) (in_picked v (visits r) h)) in
+      let t = in-each _ v.turn (cores v.who).turns (turned v.who) i.0 in
+      subst (λ q. v.turn.front ≤ front (cores v.who) q) (ring_same v.turn.came.ring r i.1) t.grown)
 
   visits_safe : (q : ℕ) (r : RingId) → IsSafe cores r (mark_by (forwarded_in r (cores q).turns))
   visits_safe q r =
@@ -108,7 +107,6 @@ module _ {A : Type 0} (visits : Chains A) (cores : ℕ → Core A) (chains : Are
   mark_safe q r = safe_max cores r (mark_by (forwarded_in r (cores q).turns)) (raised_to r (cores q).raises) (visits_safe q r) (raised_safe cores r (cores q).raises (safe.raises q))
 
   module _ (frames : List (Carried A)) (i : ℕ) (right : AreRight visits cores frames) where
-
     entries_safe : (k : CommitToken) → CameTo frames i (CommitFrame k) → Each (λ (e : CommitEntry). IsSafe cores e.old e.mark) k.entries
     entries_safe k came =
         let f = came_right visits cores frames i (CommitFrame k) right came in

@@ -28,7 +28,7 @@ use Rattle.ring_moves.proofs.Lists.{in-each, each-in, some-each}
 use Rattle.ring_chain.specs.Words.{Chains, IsRound, IsGenuine, inner_message, WrapsGenuine, IsRight, AreRight, with_visit, visits_after}
 use Rattle.ring_chain.proofs.Growing.{ChainsGrow, visits_grow, put-each}
 use Rattle.ring_chain.proofs.Rings.{AreRings, came_right}
-use Rattle.ring_chain.proofs.Chain.{AreChains}
+use Rattle.ring_chain.specs.Told.{AreChains}
 use Rattle.ring_chain.proofs.Turns.{same-self}
 
 -- The numbers of one visit
@@ -109,7 +109,6 @@ genuine_inner {A} visits cores texts x w g e =
     (visits x.ring) (texts.wraps x.ring) g
 
 module _ {A : Type 0} (visits : Chains A) (cores : ℕ → Core A) (frames : List (Carried A)) (i : ℕ) (right : AreRight visits cores frames) (are : AreRings cores) (texts : AreTexts visits cores) where
-
   -- Taking
 
   gives_inner : (old : RingId) (m : ℕ) (held : List (Message A)) (x : Message A) (p : Payload A) → IsGenuine visits x → x.payload ≡ p → Each (IsGenuine visits) (unwrapped old m held p)
@@ -136,7 +135,6 @@ module _ {A : Type 0} (visits : Chains A) (cores : ℕ → Core A) (frames : Lis
   -- Visiting
 
   module _ (t : Token) (fresh : List (Payload A)) (requests : List ℕ) where
-
     abbrev new_visit : VisitBy A
     new_visit = record { who = i; turn = turn_with (cores i) t fresh requests }
 

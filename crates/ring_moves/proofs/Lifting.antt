@@ -62,7 +62,7 @@ sends_carried i [] = refl
 sends_carried i (x ∷ xs) = ap (λ ys. record { from = i; to = x.to; frame = x.frame } ∷ ys) (sends_carried i xs)
 
 -- an output that is no frame
-abbrev IsTold : {A : Type 0} → Out A → Type 0
+abbrev pub IsTold : {A : Type 0} → Out A → Type 0
 IsTold o = (i : ℕ) → carried_by i o ≡ None
 
 none_carried : {A : Type 0} → (i : ℕ) (outs : List (Out A)) → Each IsTold outs → filter_map (carried_by i) outs ≡ []
@@ -72,19 +72,21 @@ none_carried {A} i (o ∷ outs) h = ap (λ x. cons_option x (filter_map (carried
 any_each : {X : Type 0} (xs : List X) → Each (λ x. Unit {0}) xs
 any_each xs = each-in (λ x. Unit {0}) xs (λ x i. tt)
 
-told_from : {A : Type 0} → (c : Core A) (ring : RingId) (f m : ℕ) → Each IsTold (delivered_from c ring f m)
+pub told_from : {A : Type 0} → (c : Core A) (ring : RingId) (f m : ℕ) → Each IsTold (delivered_from c ring f m)
 told_from c ring f m =
     each-append IsTold (agreed_from c ring f) (safe_from c ring m)
     (each-map IsTold (λ x. Agreed ring x.number x) (users c ring f (front c ring)) (each-in _ _ (λ x k i. refl)))
     (cond_both (nat_lt m (mark c ring)) (Safe ring (mark c ring) ∷ []) [] (Each IsTold) (λ e. (λ i. refl, tt)) (λ e. tt))
 
 told_configured : {A : Type 0} → (c : Core A) → Each IsTold (configured c)
-told_configured c =
-    (λ i. refl, each-append IsTold (map (λ x. Rest x.ring x.number x) (rests (plan c) c.held)) (Regular c.running.ring c.running.members ∷ delivered_from c c.running.ring 0 0)
+told_configured c = (
+  λ i. refl,
+  each-append IsTold (map (λ x. Rest x.ring x.number x) (rests (plan c) c.held)) (Regular c.running.ring c.running.members ∷ delivered_from c c.running.ring 0 0)
       (each-map IsTold (λ x. Rest x.ring x.number x) (rests (plan c) c.held) (each-in _ _ (λ x k i. refl)))
-      (λ i. refl, told_from c c.running.ring 0 0))
+      (λ i. refl, told_from c c.running.ring 0 0),
+)
 
-outs_carried : {A : Type 0} → (i : ℕ) (sends : List (Sent A)) (told : List (Out A)) → Each IsTold told → filter_map (carried_by i) (sent sends ++ told) ≡ carried_from i sends
+pub outs_carried : {A : Type 0} → (i : ℕ) (sends : List (Sent A)) (told : List (Out A)) → Each IsTold told → filter_map (carried_by i) (sent sends ++ told) ≡ carried_from i sends
 outs_carried i sends told h =
     filter_map-append (carried_by i) (sent sends) told ∙ ap (λ xs. filter_map (carried_by i) (sent sends) ++ xs) (none_carried i told h) ∙ append-nil _ ∙ sends_carried i (addressed sends)
 
@@ -101,19 +103,18 @@ may_when came came' f c (Takes x) h = record { ring = h.ring; new = h.new; from 
 may_when came came' f c Installs h = h
 
 module _ {A : Type 0} (P : (ℕ → Core A) → List (Carried A) → Type 0) (k : IsKeptInWorlds P) where
-
   kept_all : (came : Frame A → Type 0) (cores : ℕ → Core A) (frames : List (Carried A)) (i : ℕ) (c : Core A) (ms : List (Move A)) → cores i ≡ c → 1 ≤ i → ((f : Frame A) → came f → CameTo frames i f) → MayAll came c ms → P cores frames → P (put cores i (after_moves c ms)) (frames ++ carried_from i (all_sends c ms))
   kept_all came cores frames i c [] e low f h p =
       let same : cores ≡ put cores i c = sym (ap (put cores i) (sym e) ∙ put-own cores i) in
       subst (λ fs. P (put cores i c) fs) (sym (append-nil frames)) (subst (λ cs. P cs frames) same p)
   kept_all came cores frames i c (m ∷ ms) e low f h p =
       let first : P (put cores i (moved c m)) (frames ++ carried_from i (sends_of c m)) =
-            subst (λ x. P (put cores i (moved x m)) (frames ++ carried_from i (sends_of x m))) e
-            (k.moves cores frames i m low (subst (λ x. MayMove (CameTo frames i) x m) (sym e) (may_when came (CameTo frames i) f c m h.0)) p) in
+      subst (λ x. P (put cores i (moved x m)) (frames ++ carried_from i (sends_of x m))) e
+      (k.moves cores frames i m low (subst (λ x. MayMove (CameTo frames i) x m) (sym e) (may_when came (CameTo frames i) f c m h.0)) p) in
       let rest : P (put (put cores i (moved c m)) i (after_moves (moved c m) ms)) ((frames ++ carried_from i (sends_of c m)) ++ carried_from i (all_sends (moved c m) ms)) =
-            kept_all came (put cores i (moved c m)) (frames ++ carried_from i (sends_of c m)) i (moved c m) ms (put-here cores i (moved c m)) low (λ x q. some-left _ frames (carried_from i (sends_of c m)) (f x q)) h.1 first in
+      kept_all came (put cores i (moved c m)) (frames ++ carried_from i (sends_of c m)) i (moved c m) ms (put-here cores i (moved c m)) low (λ x q. some-left _ frames (carried_from i (sends_of c m)) (f x q)) h.1 first in
       let both : (frames ++ carried_from i (sends_of c m)) ++ carried_from i (all_sends (moved c m) ms) ≡ frames ++ carried_from i (sends_of c m ++ all_sends (moved c m) ms) =
-            append_assoc frames (carried_from i (sends_of c m)) (carried_from i (all_sends (moved c m) ms)) ∙ ap (λ xs. frames ++ xs) (sym (carried-append i (sends_of c m) (all_sends (moved c m) ms))) in
+      append_assoc frames (carried_from i (sends_of c m)) (carried_from i (all_sends (moved c m) ms)) ∙ ap (λ xs. frames ++ xs) (sym (carried-append i (sends_of c m) (all_sends (moved c m) ms))) in
       subst (λ fs. P (put cores i (after_moves (moved c m) ms)) fs) both (subst (λ cs. P cs ((frames ++ carried_from i (sends_of c m)) ++ carried_from i (all_sends (moved c m) ms))) (put-put cores i (moved c m) (after_moves (moved c m) ms)) rest)
 
   kept_settled : (cores : ℕ → Core A) (frames : List (Carried A)) (i : ℕ) (old c : Core A) (sends : List (Sent A)) (b : Bool) → 1 ≤ i → (b ≡ true → MayInstall c) → P (put cores i c) (frames ++ carried_from i sends) → P (put cores i (settle b c (sent sends ++ given old c)).core) (frames ++ filter_map (carried_by i) (settle b c (sent sends ++ given old c)).outs)
@@ -122,7 +123,7 @@ module _ {A : Type 0} (P : (ℕ → Core A) → List (Carried A) → Type 0) (k 
   kept_settled cores frames i old c sends true low h p =
       let fs = frames ++ carried_from i sends in
       let q : P (put (put cores i c) i (moved (put cores i c i) Installs)) (fs ++ []) =
-            k.moves (put cores i c) fs i Installs low (subst (λ x. MayInstall x) (sym (put-here cores i c)) (h refl)) p in
+      k.moves (put cores i c) fs i Installs low (subst (λ x. MayInstall x) (sym (put-here cores i c)) (h refl)) p in
       let r : P (put (put cores i c) i (install c)) (fs ++ []) = subst (λ x. P (put (put cores i c) i (install x)) (fs ++ [])) (put-here cores i c) q in
       let s : P (put cores i (install c)) (frames ++ carried_from i sends) = subst (λ gs. P (put cores i (install c)) gs) (append-nil fs) (subst (λ cs. P cs (fs ++ [])) (put-put cores i c (install c)) r) in
       let told : Each IsTold (given old c ++ configured c) = each-append IsTold (given old c) (configured c) (told_from c old.installed.ring _ _) (told_configured c) in

@@ -55,13 +55,13 @@ use Rattle.ring_moves.proofs.Lists.{in-each, each-in, each-filter, each-take, ea
 
 -- The move of each act
 
-abbrev idle : {A : Type 0} → Core A → Gathering → List (Sent A) → Move A
+abbrev pub idle : {A : Type 0} → Core A → Gathering → List (Sent A) → Move A
 idle c gathering sends = Idles c.state gathering c.shown c.queue sends
 
-abbrev leave : {A : Type 0} → Core A → Gathering → Move A
+abbrev pub leave : {A : Type 0} → Core A → Gathering → Move A
 leave c gathering = Idles Gather gathering None [] (announced (with_gathering (regathered c) gathering) ∷ [])
 
-abbrev move_of : {A : Type 0} → Core A → Act A → Move A
+abbrev pub move_of : {A : Type 0} → Core A → Act A → Move A
 move_of c Ignore = idle c c.gathering []
 move_of c (Enqueue p) = Idles c.state c.gathering c.shown (c.queue ++ p ∷ []) []
 move_of c Repeat = idle c c.gathering (shown_again c.shown)
@@ -78,7 +78,7 @@ move_of c (Visit t) = Visits t (new_payloads c t) (requests_of c t (held_after c
 move_of c (Fill k) = Enters k
 move_of c (Learn k) = Learns k
 
-acted : {A : Type 0} → (c : Core A) (a : Act A) → act c a ≡ did c (move_of c a)
+pub acted : {A : Type 0} → (c : Core A) (a : Act A) → act c a ≡ did c (move_of c a)
 acted c Ignore = refl
 acted c (Enqueue p) = refl
 acted c Repeat = refl
@@ -97,7 +97,7 @@ acted c (Learn k) = refl
 
 -- What is queued is a user's
 
-abbrev IsAsked : {A : Type 0} → Act A → Type 0
+abbrev pub IsAsked : {A : Type 0} → Act A → Type 0
 IsAsked (Enqueue p) = is_user p ≡ true
 IsAsked _ = Unit {0}
 
@@ -115,7 +115,7 @@ asked_payload Commit q = tt
 asked_payload Recovery q = tt
 asked_payload Stopped q = tt
 
-asked_by : {A : Type 0} → (c : Core A) (input : Input A) (a : Act A) → decide c input ≡ a → CameWith c input a → IsAsked a
+pub asked_by : {A : Type 0} → (c : Core A) (input : Input A) (a : Act A) → decide c input ≡ a → CameWith c input a → IsAsked a
 asked_by c input (Enqueue p) e h = subst (λ a. IsAsked a) (sym (ap (λ i. decide c i) h) ∙ e) (asked_payload c.state p)
 asked_by c input Ignore e h = tt
 asked_by c input Repeat e h = tt
@@ -151,11 +151,16 @@ abbrev wrapping : {A : Type 0} → Message A → Content A → Payload A
 wrapping x content = Wrapped (record { ring = x.ring; number = x.number; sender = x.sender; payload = content })
 
 wrapped_content : {A : Type 0} → (c : Core A) (x : Message A) (content : Content A) → x.payload ≡ payload_of content → is_user (payload_of content) ≡ true → IsIn x c.held → x.ring ≡ c.installed.ring → low (plan c) < x.number → IsWrapping c (Wrapped (record { ring = x.ring; number = x.number; sender = x.sender; payload = content }))
-wrapped_content {A} c x content e u i r l =
-    (record { ring = x.ring; number = x.number; sender = x.sender; payload = content }, refl, record {
-      ring = r; user = u; above = l;
-      held = subst (λ p. IsIn (record { ring = x.ring; number = x.number; sender = x.sender; payload = p }) c.held) e i;
-    })
+wrapped_content {A} c x content e u i r l = (
+  record { ring = x.ring; number = x.number; sender = x.sender; payload = content },
+  refl,
+  record {
+    ring = r;
+    user = u;
+    above = l;
+    held = subst (λ p. IsIn (record { ring = x.ring; number = x.number; sender = x.sender; payload = p }) c.held) e i;
+  },
+)
 
 -- a message that is handed on is a user's, wrapped
 wraps_user : {A : Type 0} → (c : Core A) (x : Message A) (p q : Payload A) → x.payload ≡ p → IsIn x c.held → x.ring ≡ c.installed.ring → low (plan c) < x.number → wrap_payload x p ≡ Some q → IsWrapping c q
@@ -188,13 +193,13 @@ all_wraps c =
     each-filter_map (IsAbove c) (IsWrapping c) wrap (λ x q h e. wraps_user c x x.payload q refl h.held h.ring h.above e)
     (to_wrap (plan c) c.running.ring c.held) (each-filter (IsAbove c) _ (above_low (plan c) c.held) (all_above c))
 
-abbrev nothing : (X : Type 0) → List X
+abbrev pub nothing : (X : Type 0) → List X
 nothing X = []
 
 abbrev end_alone : (A : Type 0) → List (Payload A)
 end_alone A = End ∷ []
 
-take_none : (X : Type 0) (n : ℕ) → take n (nothing X) ≡ []
+pub take_none : (X : Type 0) (n : ℕ) → take n (nothing X) ≡ []
 take_none X zero = refl
 take_none X (suc n) = refl
 
@@ -220,21 +225,21 @@ are_wraps {A} c n =
 pub fresh_short : {A : Type 0} → (c : Core A) (t : Token) → length (new_payloads c t) ≤ mark c t.ring + window_size - t.seq
 fresh_short c t = (let e : length (new_payloads c t) ≡ min (room (mark c t.ring) t.seq) (length (offers c.state c)) = length-take (room (mark c t.ring) t.seq) (offers c.state c) in omega arith)
 
-fresh_users : {A : Type 0} → (c : Core A) (t : Token) → c.state ≡ Operational → AllAreUsers c.queue → AllAreUsers (new_payloads c t)
+pub fresh_users : {A : Type 0} → (c : Core A) (t : Token) → c.state ≡ Operational → AllAreUsers c.queue → AllAreUsers (new_payloads c t)
 fresh_users {A} c t s h =
     each-take (λ (p : Payload A). is_user p ≡ true) (room (mark c t.ring) t.seq) (offers c.state c) (subst (λ s. AllAreUsers (offers s c)) (sym s) h)
 
 fresh_wraps : {A : Type 0} → (c : Core A) (t : Token) → c.state ≡ Recovery → AreWraps c (new_payloads c t)
 fresh_wraps {A} c t s = subst (λ s. AreWraps c (take (room (mark c t.ring) t.seq) (offers s c))) (sym s) (are_wraps c (room (mark c t.ring) t.seq))
 
-queue_kept : {A : Type 0} → (s : State) (n : ℕ) (queue : List (Payload A)) → AllAreUsers queue → AllAreUsers (queue_after s n queue)
+pub queue_kept : {A : Type 0} → (s : State) (n : ℕ) (queue : List (Payload A)) → AllAreUsers queue → AllAreUsers (queue_after s n queue)
 queue_kept {A} Operational n queue h = each-drop (λ (p : Payload A). is_user p ≡ true) n queue h
 queue_kept Gather n queue h = h
 queue_kept Commit n queue h = h
 queue_kept Recovery n queue h = h
 queue_kept Stopped n queue h = h
 
-all_repeats : {A : Type 0} → (c : Core A) (t : Token) → Each (λ (x : Message A). IsIn x c.held) (repeated c t)
+pub all_repeats : {A : Type 0} → (c : Core A) (t : Token) → Each (λ (x : Message A). IsIn x c.held) (repeated c t)
 all_repeats {A} c t =
     each-filter_map (λ n. Unit {0}) (λ (x : Message A). IsIn x c.held) (found c.held t.ring) (λ n x h e. (numbered_of c.held t.ring n x e).0)
     (above_mark (mark c t.ring) t.requests) (each-in _ _ (λ n i. tt))
@@ -283,7 +288,7 @@ enters c input k g h =
     let q = and_parts (nat_lt k.hop (size k.members)) (k.members == candidates c.gathering) p.0 in
     record { state = g.state; above = ltb-true _ _ p.1; first = λ low. ltb-true _ _ q.0; here = eqb-true _ _ g.here; from = inr h }
 
-learns : {A : Type 0} → (c : Core A) (input : Input A) (k : CommitToken) → HasPassed c (Learn k) → CameWith c input (Learn k) → MayMove (λ frame. input ≡ FrameInput frame) c (Learns k)
+pub learns : {A : Type 0} → (c : Core A) (input : Input A) (k : CommitToken) → HasPassed c (Learn k) → CameWith c input (Learn k) → MayMove (λ frame. input ≡ FrameInput frame) c (Learns k)
 learns c input k g h =
     let e = and_parts _ (is_sound c.installed.ring k.entries) g.passes in
     let d = and_parts _ (is_own (own_entry c) (slice_get k.entries (position_of_hop k))) e.0 in
@@ -340,7 +345,7 @@ may_act c input (Learn k) g h u = learns c input k g h
 
 -- A proposal
 
-abbrev proposed_token : {A : Type 0} → Core A → CommitToken
+abbrev pub proposed_token : {A : Type 0} → Core A → CommitToken
 proposed_token c = record { ring = record { seq = new_number (floor c) c.gathering; rep = c.me }; members = candidates c.gathering; hop = 0; entries = [] }
 
 in_gather : {A : Type 0} → (s : State) (c : Core A) → proposes_in s c ≡ true → s ≡ Gather

@@ -66,8 +66,9 @@ pub fn agreement_law<A: Allocator + Copy>()
     ensures { (n me : ℕ) (inputs : List (Input A)) → AllSaySame (after_inputs (opening n me) inputs).gathering }
 {}
 
-/// Each visit that a core took went by the rules, so that the visits of a ring are those of which `ring_token`
-/// says how far they make it safe.
+/// Each visit that a core took went by the rules. That it was of the token as the visit before it had sent it on, and
+/// by the member whose turn it was, holds in every run of cores, not of one core that hears forged frames: that
+/// stands in `ring_chain`.
 pub fn visit_law<A: Allocator + Copy>()
     ensures { (n me : ℕ) (inputs : List (Input A)) → AreTurnsOf (after_inputs (opening n me) inputs).me (after_inputs (opening n me) inputs).held (after_inputs (opening n me) inputs).turns }
 {}
@@ -83,7 +84,7 @@ pub fn world_law<A: Allocator + Copy>()
 
 /// Of the commit token's rounds in every run: the rings that each processor takes part in rise; and each commit
 /// token that is taken, also a forged one, is taken by the member at its position, in the second round with a
-/// report that it would write again. Two of the five facts of `CommitRounds`.
+/// report that it would write again. Two of the five facts of `CommitRounds`; `ring_chain` has all five.
 pub fn rounds_law<A: Allocator + Copy>()
     ensures rings { (n : ℕ) (events : List (RingEvent A)) → list_all (λ i. has_rising_rings ((run (unformed n) events).cores i)) (numbers_from 1 n) ≡ true }
     ensures taken { (w : World A) (events : List (RingEvent A)) → list_all is_taken (takings w events) ≡ true }
