@@ -10,5 +10,6 @@ pub mod Runs
 pub mod Everywhere
 pub mod Hops
 pub mod Once
+pub mod Plans
 pub mod Outputs
 pub mod Formed

@@ -2,10 +2,12 @@
 use Rattle.std.specs.Prelude.{◌≡◌, ℕ, ◌≤◌, ◌⊎◌, ◌==◌, if◌then◌else◌, List, [], filter_map, Option, Some, None}
 use Rattle.std.specs.List.{AllByRecursion}
 use Rattle.ring_base.specs.declared.ring_id.RingId.{RingId}
+use Rattle.ring_wire.specs.declared.commit.CommitToken.{CommitToken}
 use Rattle.ring_token.specs.Turns.{turns_of}
 use Rattle.ring_srp.specs.declared.out.Out.{Out}
 use Rattle.ring_srp.specs.declared.out.Out.TheVariants.{Send as SendOut, Agreed, Safe, Trans, Rest, Regular}
-use Rattle.ring_srp.specs.State.{Core}
+use Rattle.ring_srp.specs.State.{Core, Report}
+use Rattle.ring_moves.specs.Facts.{IsIn}
 use Rattle.ring_srp.specs.Views.{mark}
 use Rattle.ring_moves.specs.Worlds.{World}
 use Rattle.ring_chain.specs.Words.{Chains, picked, IsRound, IsSafe}
@@ -22,6 +24,14 @@ HasChains {A} cores = (visits : Chains A) × AreChains visits cores
 -- each safe mark of each core is safe
 abbrev pub MarksAreSafe : {A : Type 0} → (ℕ → Core A) → Type 0
 MarksAreSafe cores = (q : ℕ) (ring : RingId) → IsSafe cores ring (mark (cores q) ring)
+
+-- so is each that a core reported of its last installed ring
+abbrev pub ReportsAreSafe : {A : Type 0} → (ℕ → Core A) → Type 0
+ReportsAreSafe cores = (q : ℕ) → AllByRecursion (λ (x : Report). IsSafe cores x.entry.old x.entry.mark) (cores q).reports
+
+-- all who recover in a ring have one plan: the members and their reports
+abbrev pub HaveOnePlan : {A : Type 0} → (ℕ → Core A) → Type 0
+HaveOnePlan cores = (p q : ℕ) (k l : CommitToken) → IsIn k (cores p).plans → IsIn l (cores q).plans → k.ring ≡ l.ring → (k.members ≡ l.members) × (k.entries ≡ l.entries)
 
 -- what an output tells as safe, each member of its ring holds
 abbrev pub IsSafelyTold : {A : Type 0} → (ℕ → Core A) → Out A → Type 0

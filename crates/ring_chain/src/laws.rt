@@ -12,7 +12,7 @@ ghost use Rattle.ring_moves.specs.Worlds.{run, unformed, run_formed};
 ghost use Rattle.ring_moves.specs.CommitRounds.{CommitRounds};
 ghost use Rattle.ring_moves.specs.Texts.{HasOneText};
 ghost use Rattle.ring_chain.specs.Words.{SharesRings};
-ghost use Rattle.ring_chain.specs.Told.{HasChains, MarksAreSafe, SafeIsSafe, agreed_numbers};
+ghost use Rattle.ring_chain.specs.Told.{HasChains, HaveOnePlan, MarksAreSafe, ReportsAreSafe, SafeIsSafe, agreed_numbers};
 
 use std::alloc::{Allocator, Global};
 
@@ -43,10 +43,17 @@ pub fn text_law<A: Allocator + Copy>()
     ensures formed { (n : ℕ) (events : List (RingEvent A)) (ring : RingId) → 1 ≤ n → HasOneText (run_formed n events) ring }
 {}
 
-/// What a processor's safe mark of a ring covers, each member of the ring holds.
+/// What a processor's safe mark of a ring covers, each member of the ring holds; so too what a processor reported as
+/// safe of its last installed ring, on the way into a new one.
 pub fn mark_law<A: Allocator + Copy>()
     ensures unformed { (n : ℕ) (events : List (RingEvent A)) → MarksAreSafe (run (unformed n) events).cores }
     ensures formed { (n : ℕ) (events : List (RingEvent A)) → 1 ≤ n → MarksAreSafe (run_formed n events).cores }
+    ensures reported { (n : ℕ) (events : List (RingEvent A)) → ReportsAreSafe (run (unformed n) events).cores }
+{}
+
+/// All who recover in a ring have one plan: the same members, and the same report of each.
+pub fn plan_law<A: Allocator + Copy>()
+    ensures { (n : ℕ) (events : List (RingEvent A)) → HaveOnePlan (run (unformed n) events).cores }
 {}
 
 /// On a ring that is formed from the start each processor tells as agreed the numbers 1, 2, 3 and so on, up to its
@@ -69,6 +76,7 @@ pub fn laws_at_global()
     rounds_law::<Global>();
     chain_law::<Global>();
     mark_law::<Global>();
+    plan_law::<Global>();
     told_law::<Global>();
     agreed_law::<Global>();
     text_law::<Global>();

@@ -1,4 +1,5 @@
 use Rattle.ring_chain.proofs.Everywhere.{unformed_marks, formed_marks}
+use Rattle.ring_chain.proofs.Plans.{reports_are_safe}
 use Rattle.ring_chain.proofs.laws.mark_law.Goals as goal
 
 pub returns-clause-unformed : goal.returns-clause-unformed
@@ -6,3 +7,6 @@ returns-clause-unformed g c = unformed_marks
 
 pub returns-clause-formed : goal.returns-clause-formed
 returns-clause-formed g c = formed_marks
+
+pub returns-clause-reported : goal.returns-clause-reported
+returns-clause-reported g c = reports_are_safe
