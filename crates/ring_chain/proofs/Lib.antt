@@ -11,5 +11,6 @@ pub mod Everywhere
 pub mod Hops
 pub mod Once
 pub mod Plans
+pub mod Left
 pub mod Outputs
 pub mod Formed

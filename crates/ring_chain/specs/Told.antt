@@ -63,3 +63,12 @@ agreed_number i o = if o.0 == i then agreed_of o.1 else None
 -- the numbers that a processor told as agreed, in their order
 abbrev pub agreed_numbers : {A : Type 0} → World A → ℕ → List ℕ
 agreed_numbers w i = filter_map (agreed_number i) w.outs
+
+-- Left rings
+
+-- a core took part in the ring, which neither runs nor is installed any more
+pub record HasLeft {A : Type 0} (c : Core A) (ring : RingId) : Type 0 where
+  pub members : ℕ
+  pub there : IsIn (record { ring = ring; members = members }) c.rings
+  pub running : ring ≡ c.running.ring → ⊥
+  pub installed : ring ≡ c.installed.ring → ⊥

@@ -5,16 +5,23 @@ ghost use Rattle.std.specs.Prelude.{◌≡◌, ℕ, ◌≤◌, List};
 ghost use Rattle.std.specs.declared.alloc.Global.{Global as Heap};
 ghost use Rattle.ring_base.specs.Numbers.{numbers_from};
 ghost use Rattle.ring_base.specs.declared.ring_id.RingId.{RingId};
-ghost use Rattle.ring_srp.specs.State.{all_of};
-ghost use Rattle.ring_srp.specs.Views.{front};
+ghost use Rattle.ring_srp.specs.declared.input.Input.{Input};
+ghost use Rattle.ring_srp.specs.State.{all_of, opening};
+ghost use Rattle.ring_srp.specs.Stepping.{after_inputs};
+ghost use Rattle.ring_srp.specs.Views.{front, mark};
 ghost use Rattle.ring_moves.specs.declared.event.RingEvent.{RingEvent};
 ghost use Rattle.ring_moves.specs.Worlds.{run, unformed, run_formed};
 ghost use Rattle.ring_moves.specs.CommitRounds.{CommitRounds};
 ghost use Rattle.ring_moves.specs.Texts.{HasOneText};
 ghost use Rattle.ring_chain.specs.Words.{SharesRings};
-ghost use Rattle.ring_chain.specs.Told.{HasChains, HaveOnePlan, MarksAreSafe, ReportsAreSafe, SafeIsSafe, agreed_numbers};
+ghost use Rattle.ring_chain.specs.Told.{HasChains, HasLeft, HaveOnePlan, MarksAreSafe, ReportsAreSafe, SafeIsSafe, agreed_numbers};
 
 use std::alloc::{Allocator, Global};
+
+/// What a core knows of a ring that it left, its front and its safe mark there, never changes, whatever comes in.
+pub fn left_law<A: Allocator + Copy>()
+    ensures { (n me : ℕ) (before later : List (Input A)) (ring : RingId) → HasLeft (after_inputs (opening n me) before) ring → (front (after_inputs (after_inputs (opening n me) before) later) ring ≡ front (after_inputs (opening n me) before) ring) × (mark (after_inputs (after_inputs (opening n me) before) later) ring ≡ mark (after_inputs (opening n me) before) ring) }
+{}
 
 /// A ring has one set of members: who takes part in it does so with those that its representative proposed.
 pub fn members_law<A: Allocator + Copy>()
@@ -72,6 +79,7 @@ pub fn told_law<A: Allocator + Copy>()
 pub fn laws_at_global()
     ensures { (n : ℕ) (events : List (RingEvent Heap)) (ring : RingId) → HasOneText (run (unformed n) events) ring }
 {
+    left_law::<Global>();
     members_law::<Global>();
     rounds_law::<Global>();
     chain_law::<Global>();
