@@ -1,9 +1,7 @@
 -- The token's chain: the visits of a ring are one list, each of the token as the one before sent it on, by the member whose turn it is. A token is visited only by whom it was sent to, and only where it is newer than all that one visited: so it is the newest of all, since the one after it would have been that one's too.
-use Rattle.std.proofs.Common.{◌≡◌, ℕ, suc, ◌+◌, ◌%◌, ◌<◌, ◌≤◌, ◌⊎◌, inl, inr, Bool, true, false, ◌==◌, cond, List, [], ◌∷◌, length, Option, Some, None, refl, ap, sym, ◌∙◌, subst, arith}
-use Rattle.std.specs.Prelude.{nat_lt, filter}
-use Rattle.std.specs.List.{AllByRecursion as Each, list_all}
+use Rattle.std.proofs.Common.{◌≡◌, ℕ, ◌%◌, ◌<◌, ◌≤◌, ◌⊎◌, inl, inr, Bool, true, false, ◌==◌, cond, List, [], ◌∷◌, length, refl, ap, sym, ◌∙◌, subst}
 use Rattle.std.proofs.Math.Nat.{zero-mod}
-use Rattle.std.proofs.lemmas.Bool.{cond_both, eqb-false, eq-eqb, ne_eqb, cond-true, cond-false}
+use Rattle.std.proofs.lemmas.Bool.{cond_both, eq-eqb, ne_eqb, cond-true, cond-false}
 use Rattle.ring_base.specs.Rings.{same_ring}
 use Rattle.ring_base.specs.Processors.{only, has, at, size, next}
 use Rattle.ring_base.specs.declared.ring_id.RingId.{RingId}
@@ -12,16 +10,16 @@ use Rattle.ring_wire.specs.declared.frame.Frame.TheVariants.{Token as TokenFrame
 use Rattle.ring_wire.specs.declared.message.Message.{Message}
 use Rattle.ring_wire.specs.declared.token.Token.{Token}
 use Rattle.ring_window.proofs.Rings.{ring_same}
-use Rattle.ring_token.specs.Turns.{Turn, first_token, turns_of, is_newer}
+use Rattle.ring_token.specs.Turns.{Turn, first_token, turns_of}
 use Rattle.ring_token.specs.Rounds.{VisitBy, arrived, IsNext, AreVisits}
 use Rattle.ring_srp.specs.State.{Core}
 use Rattle.ring_srp.specs.Visiting.{to_next}
 use Rattle.ring_moves.specs.Worlds.{Carried, put}
-use Rattle.ring_moves.specs.Moves.{Move, Idles, Enters, Learns, Visits, Takes, Installs, turn_with, went_with, moved, IsStart, MayVisit, MayMove, CameTo}
+use Rattle.ring_moves.specs.Moves.{Move, Idles, Enters, Learns, Visits, Takes, Installs, turn_with, moved, IsStart, MayVisit, MayMove, CameTo}
 use Rattle.ring_moves.proofs.Rises.{runs_in}
 use Rattle.ring_moves.proofs.Turned.{Turned, moved_turned}
 use Rattle.ring_moves.proofs.Steps.{some_member}
-use Rattle.ring_chain.specs.Words.{Chains, IsRingOf, picked, HasArrived, IsRound, IsToken, IsRight, AreRight, with_visit, visits_after}
+use Rattle.ring_chain.specs.Words.{Chains, IsRingOf, picked, HasArrived, IsRound, IsToken, AreRight, with_visit, visits_after}
 use Rattle.ring_chain.specs.Told.{AreChains}
 use Rattle.ring_chain.proofs.Growing.{AllGrown, put-each, put_grows, moved_grows}
 use Rattle.ring_chain.proofs.Rings.{AreRings, came_right, one_members}

@@ -1,34 +1,31 @@
 -- What holds in every run, from the opening in Gather and on a ring that is formed from the start.
-use Rattle.std.proofs.Common.{◌≡◌, ℕ, zero, suc, ◌≤◌, ◌<◌, ◌⊎◌, inl, inr, true, List, [], ◌∷◌, ◌++◌, length, refl, ap, sym, ◌∙◌, subst, arith}
-use Rattle.std.specs.Prelude.{Contains, filter, slice_index_or}
-use Rattle.std.specs.List.{AllByRecursion as Each}
+use Rattle.std.proofs.Common.{◌≡◌, ℕ, zero, suc, ◌≤◌, ◌<◌, inl, inr, List, [], ◌∷◌, length, refl, ap, sym, ◌∙◌, arith}
+use Rattle.std.specs.Prelude.{filter, slice_index_or}
 use Rattle.ring_base.specs.Numbers.{numbers_from}
 use Rattle.ring_base.specs.Rings.{same_ring}
-use Rattle.ring_base.specs.Processors.{IsProc, at, everybody}
+use Rattle.ring_base.specs.Processors.{at, everybody}
 use Rattle.ring_base.specs.Members.{everybody_members}
 use Rattle.ring_base.specs.Elements.{smallest-least}
 use Rattle.ring_base.specs.declared.ring_id.RingId.{RingId}
-use Rattle.ring_base.specs.declared.state.State.TheVariants.{Gather, Commit, Recovery, Operational, Stopped}
-use Rattle.ring_payload.specs.declared.content.Payload.{Payload}
-use Rattle.ring_wire.specs.declared.frame.Frame.{Frame}
+use Rattle.ring_base.specs.declared.state.State.TheVariants.{Recovery, Operational}
 use Rattle.ring_wire.specs.declared.message.Message.{Message}
 use Rattle.ring_wire.specs.declared.token.Token.{Token}
-use Rattle.ring_window.specs.Held.{of_ring, highest}
+use Rattle.ring_window.specs.Held.{of_ring}
 use Rattle.ring_window.proofs.Rings.{ring_same}
 use Rattle.ring_token.specs.Turns.{first_token}
 use Rattle.ring_srp.specs.State.{Core, all_of, formed}
-use Rattle.ring_srp.specs.Visiting.{room_at, new_payloads, repeated, held_after, requests_of, queue_after, visited}
+use Rattle.ring_srp.specs.Visiting.{room_at, new_payloads, repeated, queue_after}
 use Rattle.ring_srp.specs.Deciding.{Visit}
 use Rattle.ring_moves.specs.Facts.{IsIn}
 use Rattle.ring_moves.specs.declared.event.RingEvent.{RingEvent}
-use Rattle.ring_moves.specs.Worlds.{Carried, World, put, carried_from, run, unformed, started, ring_formed, acts_on_formed, run_formed}
+use Rattle.ring_moves.specs.Worlds.{World, run, unformed, ring_formed, acts_on_formed, run_formed}
 use Rattle.ring_moves.specs.Texts.{held_by, text_of, HasOneText}
-use Rattle.ring_moves.specs.Moves.{Move, moved, sends_of, MayVisit, CameTo}
+use Rattle.ring_moves.specs.Moves.{MayVisit, CameTo}
 use Rattle.ring_moves.proofs.Lists.{in-each, in-parts}
 use Rattle.ring_moves.proofs.Lifting.{kept_run}
 use Rattle.ring_moves.proofs.Steps.{move_of, fresh_short, fresh_users, all_repeats, queue_kept}
 use Rattle.ring_chain.specs.Words.{SharesRings, IsGenuine}
-use Rattle.ring_chain.specs.Told.{AreChains, HasChains, MarksAreSafe}
+use Rattle.ring_chain.specs.Told.{HasChains, MarksAreSafe}
 use Rattle.ring_chain.proofs.Texts.{one_text}
 use Rattle.ring_chain.proofs.Safety.{mark_safe, in_filter}
 use Rattle.ring_chain.proofs.Runs.{Holds, holding, unformed_holds, formed_holds}

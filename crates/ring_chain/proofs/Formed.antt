@@ -1,17 +1,15 @@
 -- On a ring that is formed from the start there are no joins and no commit tokens, so that it runs until a processor stops; all its messages are users', and each processor tells as agreed the numbers 1, 2, 3 and so on up to its front.
-use Rattle.std.proofs.Common.{◌≡◌, ℕ, zero, suc, ◌+◌, ◌-◌, ◌<◌, ◌≤◌, ◌⊎◌, inl, inr, Bool, true, false, ◌&&◌, ◌||◌, ◌==◌, cond, List, [], ◌∷◌, ◌++◌, map, length, Option, Some, None, refl, ap, sym, ◌∙◌, subst, arith, append-nil}
-use Rattle.std.specs.Prelude.{nat_lt, nat_le, not, filter, filter_map, find, take, slice_get}
+use Rattle.std.proofs.Common.{◌≡◌, ℕ, zero, suc, ◌+◌, ◌-◌, ◌<◌, ◌≤◌, ◌⊎◌, inl, inr, Bool, true, false, ◌&&◌, ◌==◌, List, [], ◌∷◌, ◌++◌, map, length, Option, Some, None, refl, ap, sym, ◌∙◌, subst, arith, append-nil}
+use Rattle.std.specs.Prelude.{nat_lt, not, filter, filter_map, find, slice_get}
 use Rattle.std.specs.List.{AllByRecursion as Each, cons_option, list_any}
-use Rattle.std.proofs.lemmas.Bool.{cond_both, cases_Bool, and_parts, and_right, false≢true, cond-true, cond-false, or_cases, eqb-true, eqb-false, eq-eqb, ne_eqb, leb-true, both_ways}
+use Rattle.std.proofs.lemmas.Bool.{cond_both, cases_Bool, and_parts, and_right, false≢true, cond-true, cond-false, or_cases, eqb-true, eq-eqb, ne_eqb, both_ways}
 use Rattle.std.proofs.lemmas.List.Elements.{filter_map-append}
 use Rattle.ring_base.specs.Numbers.{numbers_from}
 use Rattle.ring_base.specs.Rings.{same_ring}
 use Rattle.ring_base.specs.Processors.{nobody, only, less, has}
 use Rattle.ring_base.specs.declared.ring_id.RingId.{RingId}
-use Rattle.ring_base.specs.declared.kind.Kind.{Kind}
-use Rattle.ring_base.specs.declared.kind.Kind.TheVariants.{Retransmit, Join as JoinTime, Consensus, Loss}
 use Rattle.ring_base.specs.declared.state.State.{State}
-use Rattle.ring_base.specs.declared.state.State.TheVariants.{Gather, Commit, Recovery, Operational, Stopped}
+use Rattle.ring_base.specs.declared.state.State.TheVariants.{Recovery, Operational, Stopped}
 use Rattle.ring_base.proofs.Each.{each-weaker, each-append, each-push, each-map, each-get}
 use Rattle.ring_payload.specs.Kinds.{is_user}
 use Rattle.ring_payload.specs.Packing.{packed}
@@ -20,20 +18,20 @@ use Rattle.ring_wire.specs.declared.frame.Frame.{Frame}
 use Rattle.ring_wire.specs.declared.frame.Frame.TheVariants.{Message as MessageFrame, Token as TokenFrame, Join as JoinFrame, Commit as CommitFrame}
 use Rattle.ring_wire.specs.declared.message.Message.{Message}
 use Rattle.ring_wire.specs.declared.token.Token.{Token}
-use Rattle.ring_window.specs.Held.{is_numbered, found, holds, front_of}
+use Rattle.ring_window.specs.Held.{is_numbered, found, front_of}
 use Rattle.ring_window.proofs.Fronts.{front_is}
 use Rattle.ring_token.specs.Turns.{first_token}
 use Rattle.ring_token.specs.Visits.{numbered}
 use Rattle.ring_srp.specs.declared.input.Input.{Input}
 use Rattle.ring_srp.specs.declared.input.Input.TheVariants.{Frame as FrameInput, Timeout as TimeInput, Send as SendInput}
 use Rattle.ring_srp.specs.declared.out.Out.{Out}
-use Rattle.ring_srp.specs.declared.out.Out.TheVariants.{Send as SendOut, Agreed, Safe, Trans, Rest, Regular}
+use Rattle.ring_srp.specs.declared.out.Out.TheVariants.{Send as SendOut, Agreed, Safe}
 use Rattle.ring_commit.specs.Reports.{Configuration}
 use Rattle.ring_srp.specs.State.{Core, Sent, Did, Stepped, all_of, formed, halted}
 use Rattle.ring_srp.specs.Views.{front, mark}
-use Rattle.ring_srp.specs.Visiting.{room_at, offers, new_payloads, new_messages, repeated, queue_after, to_others, to_next, forwarded}
+use Rattle.ring_srp.specs.Visiting.{room_at, new_payloads, new_messages, repeated, to_others, to_next, forwarded}
 use Rattle.ring_srp.specs.Joining.{proposes, proposes_in}
-use Rattle.ring_srp.specs.Giving.{installs_in, may_install, addressed, sent, users, agreed_from, safe_from, given, settle, delivered}
+use Rattle.ring_srp.specs.Giving.{installs_in, addressed, sent, agreed_from, safe_from, given, settle, delivered}
 use Rattle.ring_srp.specs.Deciding.{Act, Ignore, Enqueue, Repeat, Announce, Invite, GiveUp, Regather, Agree, Widen, RegatherAndAgree, RegatherAndWiden, Take, Visit, Fill, Learn, decide}
 use Rattle.ring_srp.specs.Acting.{gives_old, shown_again, act, may_follow, proposed_after}
 use Rattle.ring_srp.specs.Stepping.{ring_step}
@@ -41,13 +39,13 @@ use Rattle.ring_moves.specs.Laws.{HasPassed, CameWith}
 use Rattle.ring_moves.specs.Facts.{IsIn}
 use Rattle.ring_moves.specs.declared.event.RingEvent.{RingEvent}
 use Rattle.ring_moves.specs.declared.event.RingEvent.TheVariants.{Send, Deliver, Timeout, Stop}
-use Rattle.ring_moves.specs.Worlds.{Carried, World, put, carried_by, carried_from, after_step, is_node, stepped_if, stopped_if, handed_if, handed, frame_at, is_repeat, happens, run, started, ring_formed, acts_on_formed, run_formed}
+use Rattle.ring_moves.specs.Worlds.{Carried, World, put, carried_by, carried_from, after_step, is_node, stepped_if, stopped_if, handed_if, handed, frame_at, is_repeat, happens, run, ring_formed, acts_on_formed, run_formed}
 use Rattle.ring_moves.specs.Moves.{AllAreUsers}
 use Rattle.ring_moves.proofs.Guards.{guarded}
 use Rattle.ring_moves.proofs.Causes.{caused}
 use Rattle.ring_moves.proofs.Steps.{move_of, acted, IsAsked, asked_by, fresh_users, all_repeats, queue_kept}
-use Rattle.ring_moves.proofs.Lists.{in-each, each-in, each-filter}
-use Rattle.ring_moves.proofs.Lifting.{put-here, outs_carried, told_from}
+use Rattle.ring_moves.proofs.Lists.{in-each, each-filter}
+use Rattle.ring_moves.proofs.Lifting.{outs_carried, told_from}
 use Rattle.ring_chain.specs.Told.{agreed_of, agreed_number, agreed_numbers}
 use Rattle.ring_chain.proofs.Growing.{put-each, moved_grows}
 

@@ -1,5 +1,5 @@
 -- The commit tokens of a run: each ever sent is a hop with the reports of the members up to there, and two of one ring name the same members.
-use Rattle.std.proofs.Common.{◌≡◌, ℕ, zero, suc, ◌+◌, ◌-◌, ◌*◌, ◌%◌, min, ◌<◌, ◌≤◌, ◌⊎◌, inl, inr, Bool, true, false, ◌&&◌, ◌||◌, ◌==◌, cond, eqb, leb, List, [], ◌∷◌, length, Option, Some, None, refl, ap, sym, ◌∙◌, subst, arith}
+use Rattle.std.proofs.Common.{◌≡◌, ℕ, suc, ◌-◌, ◌*◌, ◌%◌, min, ◌≤◌, inl, inr, true, ◌&&◌, ◌==◌, List, [], ◌∷◌, length, Some, refl, ap, sym, subst, arith}
 use Rattle.std.specs.Prelude.{not, nat_eq, nat_le, filter_map, slice_get, slice_index}
 use Rattle.std.specs.List.{AllByRecursion as Each, list_all}
 use Rattle.std.specs.Cmp.Lexicographic.{pointwise}
@@ -16,15 +16,14 @@ use Rattle.ring_commit.specs.Reports.{same_entry}
 use Rattle.ring_commit.specs.Rounds.{receiver, is_own}
 use Rattle.ring_srp.specs.State.{Core, Report}
 use Rattle.ring_moves.specs.Facts.{IsIn}
-use Rattle.ring_moves.specs.declared.event.RingEvent.{RingEvent}
-use Rattle.ring_moves.specs.Worlds.{Carried, World, run, unformed}
+use Rattle.ring_moves.specs.Worlds.{Carried, World}
 use Rattle.ring_moves.specs.CommitRounds.{all_pairs, report_for, are_reports, is_handed_on, is_hop, is_hop_if_commit, are_hops, commit_in, commits_of, agree_on_members}
 use Rattle.ring_moves.proofs.Lists.{each-filter_map}
 use Rattle.ring_chain.specs.Words.{Chains, IsRingOf, IsHop, IsRight, AreRight}
 use Rattle.ring_chain.proofs.Filed.{Filed}
 use Rattle.ring_chain.proofs.Rings.{AreRings, one_members}
 use Rattle.ring_chain.proofs.Turns.{same-self}
-use Rattle.ring_chain.proofs.Runs.{Holds, unformed_holds}
+use Rattle.ring_chain.proofs.Runs.{Holds}
 
 -- Reports as tests
 

@@ -1,5 +1,5 @@
 -- What is known of a ring that was left stays as it is: each fact that a move adds is of the ring that runs or of the one installed, and a new ring is above all before.
-use Rattle.std.proofs.Common.{◌≡◌, ℕ, suc, ◌≤◌, ◌<◌, ◌⊎◌, inl, inr, Bool, true, false, ◌&&◌, ◌||◌, ◌==◌, cond, List, [], ◌∷◌, ◌++◌, refl, ap, sym, ◌∙◌, subst, arith}
+use Rattle.std.proofs.Common.{◌≡◌, ℕ, suc, ◌≤◌, ◌<◌, inl, inr, false, ◌&&◌, ◌||◌, ◌==◌, List, [], ◌∷◌, ◌++◌, refl, ap, sym, ◌∙◌, arith}
 use Rattle.std.specs.Prelude.{max, map, filter}
 use Rattle.std.specs.List.{AllByRecursion as Each}
 use Rattle.std.proofs.lemmas.Bool.{cond_both, cond-false, false_from_ne_true, and_parts}
@@ -8,28 +8,25 @@ use Rattle.ring_base.specs.Rings.{same_ring}
 use Rattle.ring_base.specs.declared.ring_id.RingId.{RingId}
 use Rattle.ring_base.specs.declared.state.State.{State}
 use Rattle.ring_base.specs.declared.state.State.TheVariants.{Gather, Commit, Recovery, Operational, Stopped}
-use Rattle.ring_base.proofs.Each.{each-append, each-weaker}
 use Rattle.ring_payload.specs.declared.content.Payload.{Payload}
 use Rattle.ring_payload.specs.declared.content.Payload.TheVariants.{Call, Wrapped, End, Head, Part, Pack, Snap}
 use Rattle.ring_payload.specs.declared.content.Wrapped.{Wrapped as WrappedMessage}
 use Rattle.ring_wire.specs.declared.frame.Frame.{Frame}
 use Rattle.ring_wire.specs.declared.message.Message.{Message}
-use Rattle.ring_window.specs.Held.{is_numbered, holds, front_of, is_new}
+use Rattle.ring_window.specs.Held.{holds, front_of, is_new}
 use Rattle.ring_window.proofs.Fronts.{front_is, front_only}
 use Rattle.ring_window.proofs.Rings.{ring_same}
 use Rattle.ring_token.specs.Turns.{Turn, Raise, turns_of, mark_by, forwarded_in, raised_to, safe_mark}
 use Rattle.ring_token.specs.Visits.{numbered}
-use Rattle.ring_commit.specs.Reports.{Configuration}
 use Rattle.ring_recover.specs.Wrapping.{inner_if_new, unwrapped}
 use Rattle.ring_srp.specs.declared.input.Input.{Input}
 use Rattle.ring_srp.specs.State.{Core, opening, floor, alone}
 use Rattle.ring_srp.specs.Views.{front, mark}
 use Rattle.ring_srp.specs.Acting.{gives_old}
 use Rattle.ring_srp.specs.Stepping.{after_inputs}
-use Rattle.ring_moves.specs.Facts.{IsIn}
 use Rattle.ring_moves.specs.Moves.{Move, Idles, Enters, Learns, Visits, Takes, Installs, turn_with, moved, MayMove}
 use Rattle.ring_moves.proofs.Lists.{each-in}
-use Rattle.ring_moves.proofs.Everywhere.{IsKept, always}
+use Rattle.ring_moves.proofs.Everywhere.{always}
 use Rattle.ring_moves.proofs.Rises.{Rising, rising, alone_rises, moved_rises, below_floor}
 use Rattle.ring_chain.specs.Told.{HasLeft}
 use Rattle.ring_chain.proofs.Texts.{numbered_in}

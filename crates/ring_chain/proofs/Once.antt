@@ -1,8 +1,8 @@
 -- Each hop of a ring is taken at most once. Who takes one keeps a fact that shows it: in the first round the ring, in the second the plan, at the end the visit of the first token; and with that fact the same hop would be ignored.
-use Rattle.std.proofs.Common.{◌≡◌, ℕ, zero, suc, ◌+◌, ◌*◌, ◌%◌, ◌<◌, ◌≤◌, ◌⊎◌, inl, inr, Bool, true, false, ◌&&◌, ◌==◌, cond, List, [], ◌∷◌, ◌++◌, Option, Some, None, refl, ap, sym, ◌∙◌, subst, arith}
+use Rattle.std.proofs.Common.{◌≡◌, ℕ, zero, suc, ◌*◌, ◌%◌, ◌<◌, ◌≤◌, ◌⊎◌, inl, inr, Bool, true, false, ◌&&◌, ◌==◌, List, [], ◌∷◌, ◌++◌, Option, Some, None, refl, ap, sym, ◌∙◌, subst, arith}
 use Rattle.std.specs.Prelude.{not, nat_lt, nat_le, filter}
-use Rattle.std.specs.List.{AllByRecursion as Each, list_all}
-use Rattle.std.proofs.lemmas.Bool.{cond_both, cases_Bool, and_from, and_parts, eqb-true, ltb-true, leb-true, eq-eqb, both_ways, true≢false}
+use Rattle.std.specs.List.{list_all}
+use Rattle.std.proofs.lemmas.Bool.{cond_both, cases_Bool, and_from, and_parts, eqb-true, ltb-true, both_ways, true≢false}
 use Rattle.std.proofs.lemmas.List.Folds.{list_all-append}
 use Rattle.ring_base.specs.Rings.{same_ring}
 use Rattle.ring_base.specs.Processors.{has, at, size}
@@ -13,24 +13,24 @@ use Rattle.ring_wire.specs.declared.frame.Frame.TheVariants.{Message as MessageF
 use Rattle.ring_wire.specs.declared.token.Token.{Token}
 use Rattle.ring_window.specs.Held.{highest}
 use Rattle.ring_window.proofs.Rings.{ring_same}
-use Rattle.ring_token.specs.Turns.{Turn, first_token, turns_of, is_newer}
+use Rattle.ring_token.specs.Turns.{Turn, is_newer}
 use Rattle.ring_join.specs.Gathering.{candidates}
 use Rattle.ring_commit.specs.Rounds.{receiver, is_of}
 use Rattle.ring_srp.specs.declared.input.Input.{Input}
-use Rattle.ring_srp.specs.declared.input.Input.TheVariants.{Frame as FrameInput, Timeout as TimeInput, Send as SendInput}
+use Rattle.ring_srp.specs.declared.input.Input.TheVariants.{Frame as FrameInput}
 use Rattle.ring_srp.specs.declared.out.Out.{Out}
 use Rattle.ring_srp.specs.State.{Core, Did, floor}
 use Rattle.ring_srp.specs.Visiting.{accepts}
 use Rattle.ring_srp.specs.Joining.{proposes}
 use Rattle.ring_srp.specs.Giving.{may_install, settle}
 use Rattle.ring_srp.specs.Deciding.{Act, Ignore, Enqueue, Repeat, Announce, Invite, GiveUp, Regather, Agree, Widen, RegatherAndAgree, RegatherAndWiden, Take, Visit, Fill, Learn, decide}
-use Rattle.ring_srp.specs.Acting.{act, may_follow, proposed_after, done}
+use Rattle.ring_srp.specs.Acting.{act, may_follow, proposed_after}
 use Rattle.ring_srp.specs.Stepping.{ring_step}
 use Rattle.ring_moves.specs.Laws.{HasPassed, CameWith}
 use Rattle.ring_moves.specs.Facts.{IsIn}
 use Rattle.ring_moves.specs.declared.event.RingEvent.{RingEvent}
 use Rattle.ring_moves.specs.declared.event.RingEvent.TheVariants.{Send, Deliver, Timeout, Stop}
-use Rattle.ring_moves.specs.Worlds.{Carried, World, put, is_node, stepped_if, handed_if, handed, frame_at, happens, run, unformed}
+use Rattle.ring_moves.specs.Worlds.{Carried, World, is_node, stepped_if, handed_if, handed, frame_at, happens, run, unformed}
 use Rattle.ring_moves.specs.CommitRounds.{CommitRounds, all_pairs, Taking, is_ignored, taken_unless, taken_at, taken_if, taken_of, taken_in, takings, are_other_hops}
 use Rattle.ring_moves.specs.Moves.{Enters, Installs, moved, CameTo}
 use Rattle.ring_moves.proofs.Guards.{guarded, one_position}

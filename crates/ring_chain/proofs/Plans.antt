@@ -1,20 +1,18 @@
 -- Plans: the full commit token on which recovery begins has the reports of all members; and since each wrote one report of its way into the ring, all who recover have one plan.
-use Rattle.std.proofs.Common.{◌≡◌, ℕ, zero, suc, ◌*◌, min, ◌<◌, ◌≤◌, inl, inr, List, [], ◌∷◌, ◌++◌, length, Option, Some, None, refl, ap, sym, ◌∙◌, subst, arith}
+use Rattle.std.proofs.Common.{◌≡◌, ℕ, suc, min, ◌≤◌, List, [], ◌∷◌, ◌++◌, length, Some, refl, ap, sym, ◌∙◌, subst, arith}
 use Rattle.std.specs.Prelude.{slice_get}
 use Rattle.std.specs.List.{AllByRecursion as Each}
 use Rattle.ring_base.specs.Processors.{at, size}
-use Rattle.ring_base.specs.declared.ring_id.RingId.{RingId}
 use Rattle.ring_base.proofs.Each.{each-weaker}
 use Rattle.ring_wire.specs.declared.commit.CommitToken.{CommitToken}
-use Rattle.ring_wire.specs.declared.entries.CommitEntry.{CommitEntry}
 use Rattle.ring_wire.specs.declared.frame.Frame.TheVariants.{Commit as CommitFrame}
 use Rattle.ring_srp.specs.State.{Core, Report}
 use Rattle.ring_moves.specs.Facts.{IsIn}
 use Rattle.ring_moves.specs.declared.event.RingEvent.{RingEvent}
-use Rattle.ring_moves.specs.Worlds.{Carried, World, put, carried_from, run, unformed}
+use Rattle.ring_moves.specs.Worlds.{Carried, put, carried_from, run, unformed}
 use Rattle.ring_moves.specs.Moves.{Move, Idles, Enters, Learns, Visits, Takes, Installs, moved, sends_of, MayMove, CameTo}
 use Rattle.ring_moves.proofs.Lists.{in-each}
-use Rattle.ring_moves.proofs.Lifting.{IsKeptInWorlds, kept_run}
+use Rattle.ring_moves.proofs.Lifting.{kept_run}
 use Rattle.ring_chain.specs.Words.{IsRingOf, AreReports, IsHop}
 use Rattle.ring_chain.specs.Told.{HaveOnePlan, ReportsAreSafe}
 use Rattle.ring_chain.proofs.Growing.{AllGrown, put-each, put_grows, moved_grows}

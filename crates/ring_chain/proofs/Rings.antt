@@ -1,6 +1,5 @@
 -- Rings: one list of members a ring. A ring is born as its representative proposes it, above its floor; all others take part in it by its commit token, which names the same members.
-use Rattle.std.proofs.Common.{◌≡◌, ℕ, ◌≤◌, ◌⊎◌, inl, inr, true, List, [], ◌∷◌, refl, ap, sym, ◌∙◌, subst, arith}
-use Rattle.std.specs.List.{AllByRecursion as Each}
+use Rattle.std.proofs.Common.{◌≡◌, ℕ, ◌⊎◌, inl, inr, true, List, refl, ap, sym, ◌∙◌, subst}
 use Rattle.ring_base.specs.declared.ring_id.RingId.{RingId}
 use Rattle.ring_wire.specs.declared.commit.CommitToken.{CommitToken}
 use Rattle.ring_wire.specs.declared.frame.Frame.{Frame}
@@ -8,13 +7,13 @@ use Rattle.ring_wire.specs.declared.frame.Frame.TheVariants.{Commit as CommitFra
 use Rattle.ring_commit.specs.Reports.{Configuration}
 use Rattle.ring_base.specs.Processors.{has}
 use Rattle.ring_srp.specs.State.{Core}
-use Rattle.ring_moves.specs.Facts.{IsIn, SomeIs}
+use Rattle.ring_moves.specs.Facts.{IsIn}
 use Rattle.ring_moves.specs.Worlds.{Carried, put}
 use Rattle.ring_moves.specs.Moves.{Move, Idles, Enters, Learns, Visits, Takes, Installs, moved, MayMove, MayEnter, CameTo}
 use Rattle.ring_moves.proofs.Lists.{some-each}
 use Rattle.ring_moves.proofs.Lifting.{put-here}
 use Rattle.ring_moves.proofs.Rises.{Rising, moved_rises, one_ring}
-use Rattle.ring_chain.specs.Words.{Chains, IsRingOf, SharesRings, IsHop, IsRight, AreRight}
+use Rattle.ring_chain.specs.Words.{Chains, IsRingOf, SharesRings, IsRight, AreRight}
 use Rattle.ring_chain.proofs.Growing.{AllGrown, put-each, put_grows, moved_grows}
 
 pub record AreRings {A : Type 0} (cores : ℕ → Core A) : Type 0 where

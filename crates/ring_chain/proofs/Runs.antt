@@ -1,18 +1,16 @@
 -- What holds of all cores and of all frames, in every world after all events: each layer is kept by each move.
-use Rattle.std.proofs.Common.{◌≡◌, ℕ, ◌≤◌, ◌<◌, ◌⊎◌, inl, inr, List, [], ◌∷◌, ◌++◌, refl, ap, sym, ◌∙◌, subst, arith, None, Some}
-use Rattle.std.specs.List.{AllByRecursion as Each}
-use Rattle.ring_base.specs.declared.ring_id.RingId.{RingId}
+use Rattle.std.proofs.Common.{◌≡◌, ℕ, ◌≤◌, inl, inr, List, [], ◌++◌, refl, ap, sym, subst}
 use Rattle.ring_commit.specs.Reports.{Configuration}
 use Rattle.ring_srp.specs.State.{Core, opening, formed, alone, all_of}
 use Rattle.ring_moves.specs.Facts.{IsIn}
 use Rattle.ring_moves.specs.declared.event.RingEvent.{RingEvent}
-use Rattle.ring_moves.specs.Worlds.{Carried, World, put, carried_from, run, unformed}
+use Rattle.ring_moves.specs.Worlds.{Carried, put, carried_from, run, unformed}
 use Rattle.ring_moves.specs.Moves.{Move, moved, sends_of, MayMove, CameTo}
 use Rattle.ring_moves.proofs.Lifting.{IsKeptInWorlds, kept_run}
 use Rattle.ring_moves.proofs.Rises.{alone_rises}
 use Rattle.ring_moves.proofs.Turned.{Turned, moved_turned}
 use Rattle.ring_chain.proofs.Filed.{Filed, moved_filed}
-use Rattle.ring_chain.specs.Words.{Chains, visits_after, IsRingOf}
+use Rattle.ring_chain.specs.Words.{Chains, visits_after}
 use Rattle.ring_chain.proofs.Growing.{put-each}
 use Rattle.ring_chain.proofs.Rings.{AreRings, rings_moved}
 use Rattle.ring_chain.specs.Told.{AreChains}

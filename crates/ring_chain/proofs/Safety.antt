@@ -1,31 +1,30 @@
 -- Safety: what a safe mark covers, each member of its ring holds. By the safe lemma it is so of what two visits forwarded; and what a commit token reports as safe was a mark as it was reported.
-use Rattle.std.proofs.Common.{◌≡◌, ℕ, suc, ◌<◌, ◌≤◌, max, ◌⊎◌, inl, inr, Bool, true, false, ◌==◌, cond, List, [], ◌∷◌, map, Some, refl, ap, sym, ◌∙◌, subst, arith}
-use Rattle.std.specs.Prelude.{filter, slice_get}
+use Rattle.std.proofs.Common.{◌≡◌, ℕ, ◌≤◌, max, inl, inr, Bool, true, false, ◌==◌, cond, List, [], ◌∷◌, map, refl, ap, sym, ◌∙◌, subst, arith}
+use Rattle.std.specs.Prelude.{filter}
 use Rattle.std.specs.List.{AllByRecursion as Each}
 use Rattle.std.proofs.lemmas.Bool.{cond_both, cases_lt, eq-eqb, cond-true}
 use Rattle.ring_base.specs.Numbers.{greatest}
 use Rattle.ring_base.specs.Rings.{same_ring}
-use Rattle.ring_base.specs.Processors.{IsProc, IsMember}
 use Rattle.ring_base.specs.declared.ring_id.RingId.{RingId}
 use Rattle.ring_base.proofs.Each.{each-weaker, each-placed}
 use Rattle.ring_wire.specs.declared.commit.CommitToken.{CommitToken}
 use Rattle.ring_wire.specs.declared.entries.CommitEntry.{CommitEntry}
 use Rattle.ring_wire.specs.declared.frame.Frame.TheVariants.{Commit as CommitFrame}
 use Rattle.ring_window.proofs.Rings.{ring_same}
-use Rattle.ring_token.specs.Turns.{Turn, Raise, turns_of, mark_by, forwarded_in, raised_to}
-use Rattle.ring_token.specs.Rounds.{VisitBy, AreVisits, forwarded_by, HaveGrown}
+use Rattle.ring_token.specs.Turns.{Turn, Raise, mark_by, forwarded_in, raised_to}
+use Rattle.ring_token.specs.Rounds.{VisitBy, forwarded_by, HaveGrown}
 use Rattle.ring_token.proofs.Safe.{marks_safe}
 use Rattle.ring_commit.specs.Reports.{reports_of, safe_of}
 use Rattle.ring_srp.specs.State.{Core, Report}
-use Rattle.ring_srp.specs.Views.{front, mark, own_entry}
+use Rattle.ring_srp.specs.Views.{front, mark}
 use Rattle.ring_moves.specs.Facts.{IsIn}
 use Rattle.ring_moves.specs.Worlds.{Carried, put}
-use Rattle.ring_moves.specs.Moves.{Move, Idles, Enters, Learns, Visits, Takes, Installs, moved, MayLearn, MayMove, CameTo}
+use Rattle.ring_moves.specs.Moves.{Move, Idles, Enters, Learns, Visits, Takes, Installs, moved, MayMove, CameTo}
 use Rattle.ring_moves.proofs.Lists.{in-each, each-in}
 use Rattle.ring_moves.proofs.Turned.{Turned}
-use Rattle.ring_chain.specs.Words.{Chains, IsRingOf, picked, IsRound, IsSafe, IsHop, AreRight}
+use Rattle.ring_chain.specs.Words.{Chains, picked, IsSafe, IsHop, AreRight}
 use Rattle.ring_chain.proofs.Growing.{AllGrown, put-each, put_grows, moved_grows, safe_grows}
-use Rattle.ring_chain.proofs.Rings.{AreRings, came_right}
+use Rattle.ring_chain.proofs.Rings.{came_right}
 use Rattle.ring_chain.specs.Told.{AreChains}
 
 pub record AreSafe {A : Type 0} (cores : ℕ → Core A) : Type 0 where

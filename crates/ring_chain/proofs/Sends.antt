@@ -1,33 +1,29 @@
 -- Each frame that a move sends is right: a message is genuine, a token goes to the member whose turn is next, a commit token is the next hop, with the reports of the members up to there.
-use Rattle.std.proofs.Common.{◌≡◌, ℕ, zero, suc, ◌+◌, ◌-◌, ◌*◌, ◌%◌, min, ◌<◌, ◌≤◌, ◌⊎◌, inl, inr, Bool, true, false, ◌==◌, cond, List, [], ◌∷◌, ◌++◌, map, length, Option, Some, None, refl, ap, sym, ◌∙◌, subst, arith, append-nil, length-append, mod-eq_of_lt}
+use Rattle.std.proofs.Common.{◌≡◌, ℕ, zero, suc, ◌-◌, ◌*◌, ◌%◌, min, ◌<◌, ◌≤◌, ◌⊎◌, inl, inr, Bool, ◌==◌, List, [], ◌∷◌, ◌++◌, length, Option, Some, None, refl, ap, sym, ◌∙◌, subst, arith, append-nil, mod-eq_of_lt}
 use Rattle.std.specs.Prelude.{filter, slice_get, not}
 use Rattle.std.specs.List.{AllByRecursion as Each}
-use Rattle.std.proofs.lemmas.Bool.{cond_both}
-use Rattle.ring_base.specs.Processors.{nobody, only, less, has, at, size}
-use Rattle.ring_base.specs.declared.ring_id.RingId.{RingId}
+use Rattle.ring_base.specs.Processors.{nobody, only, less, at, size}
 use Rattle.ring_base.proofs.Each.{each-weaker, each-append, each-map}
 use Rattle.ring_payload.specs.declared.content.Payload.{Payload}
 use Rattle.ring_wire.specs.declared.commit.CommitToken.{CommitToken}
 use Rattle.ring_wire.specs.declared.entries.CommitEntry.{CommitEntry}
-use Rattle.ring_wire.specs.declared.frame.Frame.{Frame}
-use Rattle.ring_wire.specs.declared.frame.Frame.TheVariants.{Message as MessageFrame, Token as TokenFrame, Join as JoinFrame, Commit as CommitFrame}
+use Rattle.ring_wire.specs.declared.frame.Frame.TheVariants.{Message as MessageFrame, Commit as CommitFrame}
 use Rattle.ring_wire.specs.declared.message.Message.{Message}
 use Rattle.ring_wire.specs.declared.token.Token.{Token}
 use Rattle.ring_token.specs.Visits.{numbered}
-use Rattle.ring_token.specs.Rounds.{VisitBy}
 use Rattle.ring_commit.specs.Rounds.{receiver, hopped}
-use Rattle.ring_srp.specs.State.{Core, Sent, Report}
+use Rattle.ring_srp.specs.State.{Core, Sent}
 use Rattle.ring_srp.specs.Views.{own_entry}
 use Rattle.ring_srp.specs.Visiting.{to_others, to_next}
 use Rattle.ring_srp.specs.Handing.{passed}
 use Rattle.ring_moves.specs.Facts.{IsIn}
 use Rattle.ring_moves.specs.Worlds.{Carried, put, carried_from}
-use Rattle.ring_moves.specs.Moves.{Move, Idles, Enters, Learns, Visits, Takes, Installs, went_with, moved, sends_of, IsRepeated, MayIdle, MayEnter, MayLearn, MayVisit, MayMove, CameTo}
-use Rattle.ring_moves.proofs.Lists.{in-each, each-in, each-filter}
+use Rattle.ring_moves.specs.Moves.{Move, Idles, Enters, Learns, Visits, Takes, Installs, went_with, moved, sends_of, IsRepeated, MayEnter, MayLearn, MayVisit, MayMove, CameTo}
+use Rattle.ring_moves.proofs.Lists.{in-each, each-filter}
 use Rattle.ring_moves.proofs.Lifting.{put-here}
 use Rattle.ring_moves.proofs.Turned.{Turned}
-use Rattle.ring_chain.specs.Words.{Chains, IsRingOf, IsGenuine, AreReports, IsHop, IsToken, IsRight, AreRight, with_visit, visits_after}
-use Rattle.ring_chain.proofs.Growing.{AllGrown, ChainsGrow, put-each, put_grows, moved_grows, visits_grow, right_grows, all_right_grow}
+use Rattle.ring_chain.specs.Words.{Chains, IsGenuine, AreReports, IsHop, IsRight, AreRight, visits_after}
+use Rattle.ring_chain.proofs.Growing.{AllGrown, put-each, put_grows, moved_grows, visits_grow, right_grows, all_right_grow}
 use Rattle.ring_chain.proofs.Rings.{AreRings, came_right, entered_shared}
 use Rattle.ring_chain.specs.Told.{AreChains}
 use Rattle.ring_chain.proofs.Chain.{went_right}

@@ -1,5 +1,5 @@
 -- Text: each number of a ring has one sender and payload. What is held was numbered by its sender in one of the ring's visits, and these number without overlap. What a message wraps was held by who wrapped it, so it is genuine too.
-use Rattle.std.proofs.Common.{◌≡◌, ℕ, suc, ◌+◌, ◌<◌, ◌≤◌, ◌⊎◌, inl, inr, Bool, true, false, ◌&&◌, cond, List, [], ◌∷◌, ◌++◌, length, refl, ap, sym, ◌∙◌, subst, arith}
+use Rattle.std.proofs.Common.{◌≡◌, ℕ, suc, ◌+◌, ◌<◌, ◌≤◌, ◌⊎◌, inl, inr, true, ◌&&◌, List, [], ◌∷◌, length, refl, ap, sym, ◌∙◌, subst, arith}
 use Rattle.std.specs.List.{AllByRecursion as Each}
 use Rattle.std.proofs.lemmas.Bool.{cond_both, cond-true, false≢true}
 use Rattle.ring_base.specs.Rings.{same_ring}
@@ -7,7 +7,7 @@ use Rattle.ring_base.specs.declared.ring_id.RingId.{RingId}
 use Rattle.ring_base.specs.declared.state.State.{State}
 use Rattle.ring_base.specs.declared.state.State.TheVariants.{Gather, Commit, Recovery, Operational, Stopped}
 use Rattle.ring_base.proofs.Each.{each-weaker, each-append}
-use Rattle.ring_payload.specs.Kinds.{is_user, payload_of}
+use Rattle.ring_payload.specs.Kinds.{is_user}
 use Rattle.ring_payload.specs.declared.content.Payload.{Payload}
 use Rattle.ring_payload.specs.declared.content.Payload.TheVariants.{Call, Wrapped, End, Head, Part, Pack, Snap}
 use Rattle.ring_payload.specs.declared.content.Wrapped.{Wrapped as WrappedMessage}
@@ -17,15 +17,15 @@ use Rattle.ring_wire.specs.declared.token.Token.{Token}
 use Rattle.ring_window.specs.Held.{is_new}
 use Rattle.ring_token.specs.Visits.{numbered}
 use Rattle.ring_token.specs.Rounds.{VisitBy, arrived, AreVisits}
-use Rattle.ring_recover.specs.Wrapping.{inner_if_new, unwrapped}
+use Rattle.ring_recover.specs.Wrapping.{unwrapped}
 use Rattle.ring_srp.specs.State.{Core}
 use Rattle.ring_srp.specs.Views.{mark}
 use Rattle.ring_srp.specs.Acting.{gives_old}
 use Rattle.ring_moves.specs.Facts.{IsIn, SomeIs}
 use Rattle.ring_moves.specs.Worlds.{Carried, put}
-use Rattle.ring_moves.specs.Moves.{Move, Idles, Enters, Learns, Visits, Takes, Installs, turn_with, held_in, moved, AllAreUsers, IsWrapping, AreWraps, MayVisit, MayMove, CameTo}
+use Rattle.ring_moves.specs.Moves.{Move, Idles, Enters, Learns, Visits, Takes, Installs, turn_with, moved, AllAreUsers, IsWrapping, MayVisit, MayMove, CameTo}
 use Rattle.ring_moves.proofs.Lists.{in-each, each-in, some-each}
-use Rattle.ring_chain.specs.Words.{Chains, IsRound, IsGenuine, inner_message, WrapsGenuine, IsRight, AreRight, with_visit, visits_after}
+use Rattle.ring_chain.specs.Words.{Chains, IsGenuine, inner_message, WrapsGenuine, AreRight, with_visit, visits_after}
 use Rattle.ring_chain.proofs.Growing.{ChainsGrow, visits_grow, put-each}
 use Rattle.ring_chain.proofs.Rings.{AreRings, came_right}
 use Rattle.ring_chain.specs.Told.{AreChains}

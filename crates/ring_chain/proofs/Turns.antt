@@ -1,17 +1,17 @@
 -- Whose turn it is, and which token is the newest: lemmas over one list of visits.
-use Rattle.std.proofs.Common.{◌≡◌, ℕ, suc, ◌+◌, ◌*◌, ◌/◌, ◌%◌, ◌<◌, ◌≤◌, ◌⊎◌, inl, inr, Bool, true, false, ◌==◌, ◌&&◌, cond, List, [], ◌∷◌, length, refl, ap, sym, ◌∙◌, subst, arith, mod-lt}
-use Rattle.std.specs.Prelude.{nat_lt, filter}
+use Rattle.std.proofs.Common.{◌≡◌, ℕ, ◌+◌, ◌*◌, ◌/◌, ◌%◌, ◌<◌, ◌≤◌, inl, inr, true, ◌==◌, List, [], ◌∷◌, length, refl, ap, sym, ◌∙◌, subst, arith, mod-lt}
+use Rattle.std.specs.Prelude.{nat_lt}
 use Rattle.std.specs.List.{list_all}
 use Rattle.std.proofs.Math.Nat.{div-add-mod, mul-add-mod_self_left}
-use Rattle.std.proofs.lemmas.Bool.{cond_both, and_parts, ltb-true, eqb-false, eqb-true, eq-eqb, cond-true, and_from}
+use Rattle.std.proofs.lemmas.Bool.{cond_both, and_parts, ltb-true, eq-eqb, cond-true, and_from}
 use Rattle.ring_base.specs.Rings.{same_ring}
-use Rattle.ring_base.specs.Processors.{IsProc, IsMember, only, has, at, size, position_of, next}
+use Rattle.ring_base.specs.Processors.{only, has, at, size, position_of, next}
 use Rattle.ring_base.specs.Members.{only_members, member_had}
 use Rattle.ring_base.specs.Elements.{at_member, position_of-at}
 use Rattle.ring_base.specs.declared.ring_id.RingId.{RingId}
 use Rattle.ring_wire.specs.declared.token.Token.{Token}
 use Rattle.ring_token.specs.Turns.{Turn, first_token}
-use Rattle.ring_token.specs.Rounds.{VisitBy, arrived, IsNext, AreVisits}
+use Rattle.ring_token.specs.Rounds.{VisitBy, arrived, AreVisits}
 use Rattle.ring_chain.specs.Words.{picked, HasArrived}
 
 -- Sets and positions

@@ -1,5 +1,5 @@
 -- What each move keeps holds of each core after all inputs, and of each core of every world.
-use Rattle.std.proofs.Common.{◌≡◌, ℕ, ◌≤◌, Bool, true, false, ◌==◌, List, [], ◌∷◌, Option, Some, None, inl, inr, refl, ap, sym, subst}
+use Rattle.std.proofs.Common.{◌≡◌, ℕ, Bool, true, false, ◌==◌, List, [], ◌∷◌, Option, Some, None, inr, refl, sym, subst}
 use Rattle.std.proofs.lemmas.Bool.{cond_both}
 use Rattle.ring_base.specs.Processors.{has}
 use Rattle.ring_base.specs.declared.state.State.TheVariants.{Stopped}
@@ -7,12 +7,12 @@ use Rattle.ring_wire.specs.declared.frame.Frame.{Frame}
 use Rattle.ring_srp.specs.declared.input.Input.{Input}
 use Rattle.ring_srp.specs.declared.input.Input.TheVariants.{Frame as FrameInput, Timeout as TimeInput, Send as SendInput}
 use Rattle.ring_srp.specs.declared.out.Out.{Out}
-use Rattle.ring_srp.specs.State.{Core, Did, opening, formed, halted}
-use Rattle.ring_srp.specs.Giving.{may_install, settle, delivered}
+use Rattle.ring_srp.specs.State.{Core, halted}
+use Rattle.ring_srp.specs.Giving.{may_install, settle}
 use Rattle.ring_srp.specs.Stepping.{ring_step, after_inputs}
 use Rattle.ring_moves.specs.declared.event.RingEvent.{RingEvent}
 use Rattle.ring_moves.specs.declared.event.RingEvent.TheVariants.{Send, Deliver, Timeout, Stop}
-use Rattle.ring_moves.specs.Worlds.{Carried, World, put, is_node, stepped_if, stopped_if, handed_if, handed, frame_at, happens, run, unformed}
+use Rattle.ring_moves.specs.Worlds.{Carried, World, put, is_node, stepped_if, stopped_if, handed_if, handed, frame_at, happens, run}
 use Rattle.ring_moves.specs.Moves.{Move, Idles, Installs, moved, MayIdle, MayMove, after_moves, MayAll, MayInstall}
 use Rattle.ring_moves.proofs.Steps.{step_moves}
 

@@ -1,5 +1,5 @@
 -- After any inputs: a safe mark is at most its front, and what is held lies within the window after its mark.
-use Rattle.std.proofs.Common.{◌≡◌, ℕ, zero, suc, ◌+◌, ◌-◌, ◌≤◌, min, Bool, true, false, ◌&&◌, cond, ltb, leb, eqb, List, [], ◌∷◌, ◌++◌, length, Option, Some, None, slice_get, refl, sym, subst, inl, inr, arith, length-take}
+use Rattle.std.proofs.Common.{◌≡◌, ℕ, zero, suc, ◌+◌, ◌-◌, ◌≤◌, true, ◌&&◌, cond, ltb, leb, eqb, List, [], ◌∷◌, ◌++◌, length, Option, Some, None, slice_get, refl, sym, subst, inl, inr, arith}
 use Rattle.std.specs.Cmp.Lexicographic.{pointwise}
 use Rattle.std.specs.List.{AllByRecursion}
 use Rattle.std.proofs.lemmas.Bool.{cond_both, cond-true, and_parts, or_parts, or_cases, or_right, ltb-false, leb-true, eqb-true}
@@ -19,7 +19,7 @@ use Rattle.ring_window.specs.Held.{is_numbered, holds, front_of, in_window, is_n
 use Rattle.ring_window.proofs.Fronts.{front_grows}
 use Rattle.ring_window.proofs.Rings.{ring_same}
 use Rattle.ring_token.specs.Turns.{Turn, Raise, safe_mark}
-use Rattle.ring_token.specs.Visits.{room, numbered, may_set, is_mine, aru_after}
+use Rattle.ring_token.specs.Visits.{numbered, may_set, is_mine, aru_after}
 use Rattle.ring_token.proofs.Marks.{safe_mark-below, safe_mark-turn, safe_mark-raise}
 use Rattle.ring_commit.specs.Reports.{same_entry, reports_of, safe_of, none_behind, is_sound}
 use Rattle.ring_commit.specs.Rounds.{position_of_hop, is_own}
@@ -28,7 +28,7 @@ use Rattle.ring_recover.specs.Wrapping.{inner_if_new, unwrapped}
 use Rattle.ring_srp.specs.declared.input.Input.{Input}
 use Rattle.ring_base.specs.declared.state.State.{State}
 use Rattle.ring_base.specs.declared.state.State.TheVariants.{Gather, Commit, Recovery, Operational, Stopped}
-use Rattle.ring_srp.specs.State.{Core, Did, opening}
+use Rattle.ring_srp.specs.State.{Core, opening}
 use Rattle.ring_srp.specs.Views.{front, mark, own_entry, takes_number}
 use Rattle.ring_srp.specs.Acting.{gives_old}
 use Rattle.ring_srp.specs.Stepping.{after_inputs}

@@ -1,9 +1,9 @@
 -- What each move of one core keeps of all cores and all frames sent, holds in every world after all events.
-use Rattle.std.proofs.Common.{◌≡◌, ℕ, ◌≤◌, Bool, true, false, ◌==◌, ◌&&◌, cond, List, [], ◌∷◌, ◌++◌, map, Option, Some, None, inl, inr, refl, ap, sym, ◌∙◌, subst, append-nil, append_assoc}
-use Rattle.std.specs.Prelude.{not, filter, filter_map, nat_le, nat_lt, slice_get, suc, zero}
+use Rattle.std.proofs.Common.{◌≡◌, ℕ, ◌≤◌, Bool, true, false, ◌==◌, cond, List, [], ◌∷◌, ◌++◌, map, Option, Some, None, inl, inr, refl, ap, sym, ◌∙◌, subst, append-nil, append_assoc}
+use Rattle.std.specs.Prelude.{not, filter, filter_map, nat_le, nat_lt, suc, zero}
 use Rattle.std.specs.List.{AllByRecursion as Each, cons_option}
 use Rattle.std.proofs.Math.Path.{fun_ext}
-use Rattle.std.proofs.lemmas.Bool.{cond_both, cases_Bool, and_parts, eqb-true, eq-eqb, cond-true, leb-true}
+use Rattle.std.proofs.lemmas.Bool.{cond_both, and_parts, eqb-true, eq-eqb, cond-true, leb-true}
 use Rattle.std.proofs.lemmas.List.{map-append}
 use Rattle.std.proofs.lemmas.List.Elements.{filter-append, filter_map-append}
 use Rattle.ring_base.specs.Processors.{nobody, has}
@@ -11,21 +11,19 @@ use Rattle.ring_base.specs.declared.ring_id.RingId.{RingId}
 use Rattle.ring_base.specs.declared.state.State.TheVariants.{Stopped}
 use Rattle.ring_base.proofs.Each.{each-append, each-map}
 use Rattle.ring_wire.specs.declared.frame.Frame.{Frame}
-use Rattle.ring_wire.specs.declared.message.Message.{Message}
 use Rattle.ring_srp.specs.declared.input.Input.{Input}
 use Rattle.ring_srp.specs.declared.input.Input.TheVariants.{Frame as FrameInput, Timeout as TimeInput, Send as SendInput}
 use Rattle.ring_srp.specs.declared.out.Out.{Out}
-use Rattle.ring_srp.specs.declared.out.Out.TheVariants.{Send as SendOut, Agreed, Safe, Trans, Rest, Regular}
-use Rattle.ring_srp.specs.State.{Core, Sent, Did, halted}
-use Rattle.ring_srp.specs.Giving.{may_install, install, addressed, sent, users, agreed_from, safe_from, delivered_from, given, configured, settle, delivered}
+use Rattle.ring_srp.specs.declared.out.Out.TheVariants.{Send as SendOut, Agreed, Safe, Rest, Regular}
+use Rattle.ring_srp.specs.State.{Core, Sent, halted}
+use Rattle.ring_srp.specs.Giving.{may_install, install, addressed, sent, users, agreed_from, safe_from, delivered_from, given, configured, settle}
 use Rattle.ring_srp.specs.Stepping.{ring_step}
 use Rattle.ring_srp.specs.Views.{front, mark, plan}
 use Rattle.ring_recover.specs.Deliveries.{rests}
 use Rattle.ring_moves.specs.declared.event.RingEvent.{RingEvent}
 use Rattle.ring_moves.specs.declared.event.RingEvent.TheVariants.{Send, Deliver, Timeout, Stop}
-use Rattle.ring_moves.specs.Facts.{SomeIs}
-use Rattle.ring_moves.specs.Worlds.{Carried, World, put, carried_by, carried_from, after_step, is_node, stepped_if, stepped, stopped_if, handed_if, handed, frame_at, happens, run}
-use Rattle.ring_moves.specs.Moves.{Move, Idles, Enters, Learns, Visits, Takes, Installs, moved, sends_of, MayIdle, MayEnter, MayLearn, MayVisit, MayTake, MayInstall, MayMove, after_moves, all_sends, MayAll, CameTo}
+use Rattle.ring_moves.specs.Worlds.{Carried, World, put, carried_by, carried_from, after_step, is_node, stepped_if, stopped_if, handed_if, handed, frame_at, happens, run}
+use Rattle.ring_moves.specs.Moves.{Move, Idles, Enters, Learns, Visits, Takes, Installs, moved, sends_of, MayInstall, MayMove, after_moves, all_sends, MayAll, CameTo}
 use Rattle.ring_moves.proofs.Lists.{each-in, some-left, some-get}
 use Rattle.ring_moves.proofs.Everywhere.{may_halt}
 use Rattle.ring_moves.proofs.Steps.{step_moves}

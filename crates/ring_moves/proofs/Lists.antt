@@ -1,8 +1,8 @@
 -- Lists of facts: what stands in them, and what is so of each.
-use Rattle.std.proofs.Common.{◌≡◌, ℕ, zero, suc, ◌+◌, ◌-◌, ◌<◌, ◌≤◌, ◌⊎◌, inl, inr, Bool, true, false, ◌&&◌, cond, eqb, List, [], ◌∷◌, ◌++◌, length, Option, Some, None, slice_get, refl, ap, sym, ◌∙◌, subst, arith}
+use Rattle.std.proofs.Common.{◌≡◌, ℕ, zero, suc, ◌-◌, ◌≤◌, ◌⊎◌, inl, inr, Bool, true, List, [], ◌∷◌, ◌++◌, length, Option, Some, None, slice_get, refl, ap, sym, subst, arith}
 use Rattle.std.specs.Prelude.{filter, filter_map, find, take, drop}
 use Rattle.std.specs.List.{AllByRecursion as Each, cons_option}
-use Rattle.std.proofs.lemmas.Bool.{cond_both, and_parts, eqb-true}
+use Rattle.std.proofs.lemmas.Bool.{cond_both}
 use Rattle.ring_base.specs.Numbers.{numbers_from}
 use Rattle.ring_moves.specs.Facts.{IsIn, SomeIs}
 

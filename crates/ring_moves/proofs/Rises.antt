@@ -1,7 +1,5 @@
 -- The rings that a core takes part in strictly rise.
-use Rattle.std.proofs.Common.{◌≡◌, ℕ, ◌<◌, ◌≤◌, ◌⊎◌, inl, inr, List, [], ◌∷◌, refl, ap, sym, ◌∙◌, subst, arith}
-use Rattle.ring_base.specs.declared.ring_id.RingId.{RingId}
-use Rattle.ring_wire.specs.declared.commit.CommitToken.{CommitToken}
+use Rattle.std.proofs.Common.{◌≡◌, ℕ, ◌<◌, ◌≤◌, inl, inr, List, [], ◌∷◌, refl, ap, sym, ◌∙◌, subst, arith}
 use Rattle.ring_wire.specs.declared.frame.Frame.{Frame}
 use Rattle.ring_commit.specs.Reports.{Configuration}
 use Rattle.ring_srp.specs.declared.input.Input.{Input}

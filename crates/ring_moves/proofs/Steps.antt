@@ -1,16 +1,15 @@
 -- Each step of the definition is moves: the act is one, a proposal after it is another, and an installation the last.
-use Rattle.std.proofs.Common.{◌≡◌, ℕ, suc, ◌+◌, ◌-◌, ◌*◌, ◌%◌, ◌<◌, ◌≤◌, min, ◌⊎◌, inl, inr, Bool, true, false, ◌&&◌, ◌==◌, cond, eqb, ltb, leb, List, [], ◌∷◌, ◌++◌, length, Option, Some, None, refl, ap, sym, ◌∙◌, subst, arith, length-take, append-nil, zero}
-use Rattle.std.specs.Prelude.{nat_lt, nat_le, filter, filter_map, take, drop, slice_get, not}
+use Rattle.std.proofs.Common.{◌≡◌, ℕ, suc, ◌+◌, ◌-◌, ◌*◌, ◌%◌, ◌<◌, ◌≤◌, min, ◌⊎◌, inl, inr, Bool, true, false, ◌&&◌, ◌==◌, cond, eqb, List, [], ◌∷◌, ◌++◌, length, Option, Some, None, refl, ap, sym, ◌∙◌, subst, arith, length-take, append-nil, zero}
+use Rattle.std.specs.Prelude.{nat_lt, nat_le, filter, filter_map, take, slice_get, not}
 use Rattle.std.specs.List.{AllByRecursion as Each}
-use Rattle.std.proofs.lemmas.Bool.{cond_both, cases_Bool, and_parts, eqb-true, ltb-true, leb-true, false≢true, true≢false, cases_lt}
+use Rattle.std.proofs.lemmas.Bool.{cond_both, and_parts, eqb-true, ltb-true, leb-true, false≢true}
 use Rattle.ring_base.specs.Numbers.{window_size, max_number, numbers_from}
 use Rattle.ring_base.specs.Rings.{same_ring}
-use Rattle.ring_base.specs.Processors.{has, within, at, size, smallest, elements}
+use Rattle.ring_base.specs.Processors.{has, at, size, smallest, elements}
 use Rattle.ring_base.specs.declared.ring_id.RingId.{RingId}
 use Rattle.ring_base.specs.declared.state.State.{State}
 use Rattle.ring_base.specs.declared.state.State.TheVariants.{Gather, Commit, Recovery, Operational, Stopped}
-use Rattle.ring_base.specs.declared.kind.Kind.{Kind}
-use Rattle.ring_base.proofs.Each.{each-weaker, each-append, each-push}
+use Rattle.ring_base.proofs.Each.{each-push}
 use Rattle.ring_payload.specs.Kinds.{is_user, payload_of, content_of}
 use Rattle.ring_payload.specs.Packing.{is_queued}
 use Rattle.ring_payload.proofs.Packing.{length-packed, packed-users, user-queued, left_behind-each}
@@ -18,42 +17,39 @@ use Rattle.ring_payload.specs.declared.content.Content.{Content}
 use Rattle.ring_payload.specs.declared.content.Content.TheVariants.{Call as CallContent, Head as HeadContent, Part as PartContent, Pack as PackContent, Snap as SnapContent}
 use Rattle.ring_payload.specs.declared.content.Payload.{Payload}
 use Rattle.ring_payload.specs.declared.content.Payload.TheVariants.{Call, Wrapped, End, Head, Part, Pack, Snap}
-use Rattle.ring_payload.specs.declared.content.Wrapped.{Wrapped as WrappedMessage}
 use Rattle.ring_wire.specs.declared.commit.CommitToken.{CommitToken}
 use Rattle.ring_wire.specs.declared.frame.Frame.{Frame}
-use Rattle.ring_wire.specs.declared.frame.Frame.TheVariants.{Message as MessageFrame, Token as TokenFrame, Join as JoinFrame, Commit as CommitFrame}
-use Rattle.ring_wire.specs.declared.join.Join.{Join}
+use Rattle.ring_wire.specs.declared.frame.Frame.TheVariants.{Token as TokenFrame}
 use Rattle.ring_wire.specs.declared.message.Message.{Message}
 use Rattle.ring_wire.specs.declared.token.Token.{Token}
 use Rattle.ring_window.specs.Held.{is_numbered, found, highest}
 use Rattle.ring_window.proofs.Rings.{ring_same}
 use Rattle.ring_token.specs.Turns.{first_token, is_newer}
-use Rattle.ring_token.specs.Visits.{room, above_mark}
-use Rattle.ring_join.specs.Gathering.{Gathering, AllSaySame, candidates, new_number, has_consensus, own_join, agreed, widened, given_up, entered}
-use Rattle.ring_commit.specs.Rounds.{position_of_hop, receiver, hopped, proposal, is_of, is_own}
+use Rattle.ring_token.specs.Visits.{above_mark}
+use Rattle.ring_join.specs.Gathering.{Gathering, AllSaySame, candidates, new_number, has_consensus, own_join, agreed, widened, given_up}
+use Rattle.ring_commit.specs.Rounds.{position_of_hop, receiver, is_of, is_own}
 use Rattle.ring_commit.specs.Reports.{is_sound}
-use Rattle.ring_commit.specs.Outcomes.{is_at}
 use Rattle.ring_recover.specs.Installing.{is_ready}
 use Rattle.ring_recover.specs.Deliveries.{is_complete}
-use Rattle.ring_recover.specs.Plans.{Plan, low}
-use Rattle.ring_recover.specs.Wrapping.{wrap, wrap_content, above_low, to_wrap, has_ended, is_wrapped, wraps_and_end}
+use Rattle.ring_recover.specs.Plans.{low}
+use Rattle.ring_recover.specs.Wrapping.{wrap, wrap_content, above_low, to_wrap, has_ended, wraps_and_end}
 use Rattle.ring_srp.specs.declared.input.Input.{Input}
-use Rattle.ring_srp.specs.declared.input.Input.TheVariants.{Frame as FrameInput, Timeout as TimeInput, Send as SendInput}
+use Rattle.ring_srp.specs.declared.input.Input.TheVariants.{Frame as FrameInput}
 use Rattle.ring_srp.specs.State.{Core, Sent, Did, floor}
 use Rattle.ring_srp.specs.Views.{mark, own_entry, plan, takes_number}
-use Rattle.ring_srp.specs.Visiting.{accepts, repeated, room_at, offers, new_payloads, held_after, requests_of, queue_after}
-use Rattle.ring_srp.specs.Joining.{first_procs, regathered, with_gathering, announced, invited, proposes, proposes_in}
+use Rattle.ring_srp.specs.Visiting.{repeated, room_at, offers, new_payloads, held_after, requests_of, queue_after}
+use Rattle.ring_srp.specs.Joining.{regathered, with_gathering, announced, invited, proposes, proposes_in}
 use Rattle.ring_srp.specs.Giving.{ready_then_complete, installs_in, may_install, delivered}
-use Rattle.ring_srp.specs.Deciding.{Act, Ignore, Enqueue, Repeat, Announce, Invite, GiveUp, Regather, Agree, Widen, RegatherAndAgree, RegatherAndWiden, Take, Visit, Fill, Learn, takes_of, members_of, is_taken, decide_user, decide_payload, decide}
+use Rattle.ring_srp.specs.Deciding.{Act, Ignore, Enqueue, Repeat, Announce, Invite, GiveUp, Regather, Agree, Widen, RegatherAndAgree, RegatherAndWiden, Take, Visit, Fill, Learn, takes_of, members_of, decide_user, decide_payload, decide}
 use Rattle.ring_srp.specs.Acting.{shown_again, act, may_follow, proposed_after, done}
 use Rattle.ring_srp.specs.Stepping.{ring_step}
 use Rattle.ring_moves.specs.Laws.{HasPassed, CameWith}
 use Rattle.ring_moves.specs.Facts.{IsIn}
-use Rattle.ring_moves.specs.Moves.{Move, Idles, Enters, Learns, Visits, Takes, Installs, moved, sends_of, did, AllAreUsers, IsRepeated, MayIdle, IsProposal, MayEnter, MayLearn, IsHandedOn, IsWrapping, AreWraps, IsStart, MayVisit, TakesFrom, TakesLate, MayTake, MayInstall, MayMove, after_moves, all_sends, MayAll, IsMoved}
+use Rattle.ring_moves.specs.Moves.{Move, Idles, Enters, Learns, Visits, Takes, moved, did, AllAreUsers, IsRepeated, MayIdle, MayEnter, IsWrapping, AreWraps, IsStart, TakesFrom, TakesLate, MayInstall, MayMove, after_moves, all_sends, MayAll, IsMoved}
 use Rattle.ring_moves.proofs.Guards.{guarded}
 use Rattle.ring_moves.proofs.Causes.{caused}
 use Rattle.ring_moves.proofs.Agreeing.{agreed_same, widened_same}
-use Rattle.ring_moves.proofs.Lists.{in-each, each-in, each-filter, each-take, each-drop, each-filter_map, numbers-above, take-append, find-in}
+use Rattle.ring_moves.proofs.Lists.{each-in, each-filter, each-take, each-filter_map, numbers-above, take-append, find-in}
 
 -- The move of each act
 
@@ -206,13 +202,13 @@ all_wraps c =
     each-filter_map (IsAbove c) (IsWrapping c) wrap (λ x q h e. wraps_user c x (content_of x.payload) q refl h.held h.ring h.above e)
     (to_wrap (plan c) c.running.ring c.held) (each-filter (IsAbove c) _ (above_low (plan c) c.held) (all_above c))
 
-abbrev pub nothing : (X : Type 0) → List X
+abbrev nothing : (X : Type 0) → List X
 nothing X = []
 
 abbrev end_alone : (A : Type 0) → List (Payload A)
 end_alone A = End ∷ []
 
-pub take_none : (X : Type 0) (n : ℕ) → take n (nothing X) ≡ []
+take_none : (X : Type 0) (n : ℕ) → take n (nothing X) ≡ []
 take_none X zero = refl
 take_none X (suc n) = refl
 

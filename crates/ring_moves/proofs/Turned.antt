@@ -1,6 +1,6 @@
 -- Each visit that a core took is one by the rules, and its front has only grown since.
-use Rattle.std.proofs.Common.{◌≡◌, ℕ, suc, ◌+◌, ◌≤◌, Bool, true, false, ◌&&◌, ◌==◌, leb, List, [], ◌∷◌, ◌++◌, length, refl, arith, inl, inr}
-use Rattle.std.proofs.lemmas.Bool.{cases_lt, and_parts, or_cases, or_left, or_right, leb-true, eqb-true, false≢true}
+use Rattle.std.proofs.Common.{◌≡◌, ℕ, suc, ◌+◌, ◌≤◌, true, ◌&&◌, ◌==◌, List, [], ◌∷◌, ◌++◌, length, refl, arith, inl, inr}
+use Rattle.std.proofs.lemmas.Bool.{cases_lt, and_parts, or_cases, or_left, or_right, eqb-true, false≢true}
 use Rattle.ring_base.specs.Rings.{same_ring}
 use Rattle.ring_base.specs.declared.ring_id.RingId.{RingId}
 use Rattle.ring_payload.specs.declared.content.Payload.{Payload}
@@ -12,7 +12,7 @@ use Rattle.ring_window.proofs.Fronts.{front_is, highest_covers}
 use Rattle.ring_token.specs.Turns.{Turn}
 use Rattle.ring_token.specs.Visits.{numbered}
 use Rattle.ring_srp.specs.declared.input.Input.{Input}
-use Rattle.ring_srp.specs.State.{Core, Did, opening}
+use Rattle.ring_srp.specs.State.{Core, opening}
 use Rattle.ring_srp.specs.Acting.{gives_old}
 use Rattle.ring_srp.specs.Stepping.{after_inputs}
 use Rattle.ring_moves.specs.Laws.{AreTurnsOf}

@@ -1,12 +1,11 @@
 -- All that can happen to a ring core. Each step of the definition is at most three of these six moves, and then its outputs: Rings and states, rule 13 of docs/PROTOCOL.md. What a move has passed asks less than the definition's tests do, so that what is proved of moves rests on no more than stands here: how a core comes to its sets in Gather, whom it hears and when a time is over play no part.
-use Rattle.std.specs.Prelude.{◌≡◌, ℕ, ◌+◌, ◌-◌, ◌*◌, ◌<◌, ◌≤◌, ◌⊎◌, Bool, true, List, [], ◌∷◌, ◌++◌, length, Option, Some, None, slice_get}
+use Rattle.std.specs.Prelude.{◌≡◌, ℕ, ◌+◌, ◌-◌, ◌*◌, ◌<◌, ◌≤◌, ◌⊎◌, true, List, [], ◌∷◌, ◌++◌, length, Option, Some, None, slice_get}
 use Rattle.std.specs.List.{AllByRecursion}
 use Rattle.ring_base.specs.Numbers.{window_size}
 use Rattle.ring_base.specs.Processors.{has, at, size}
-use Rattle.ring_base.specs.declared.ring_id.RingId.{RingId}
 use Rattle.ring_base.specs.declared.state.State.{State}
 use Rattle.ring_base.specs.declared.state.State.TheVariants.{Gather, Commit, Recovery, Operational, Stopped}
-use Rattle.ring_payload.specs.Kinds.{is_user, is_end, payload_of}
+use Rattle.ring_payload.specs.Kinds.{is_user, payload_of}
 use Rattle.ring_payload.specs.declared.content.Payload.{Payload}
 use Rattle.ring_payload.specs.declared.content.Payload.TheVariants.{Wrapped, End}
 use Rattle.ring_payload.specs.declared.content.Wrapped.{Wrapped as WrappedMessage}
