@@ -1,5 +1,5 @@
 -- After any inputs: a safe mark is at most its front, and what is held lies within the window after its mark.
-use Rattle.std.proofs.Common.{◌≡◌, ℕ, zero, suc, ◌+◌, ◌-◌, ◌≤◌, min, Bool, true, false, ◌&&◌, cond, ltb, leb, eqb, List, [], ◌∷◌, ◌++◌, length, Option, Some, None, slice_get, take, refl, sym, subst, inl, inr, arith, length-take}
+use Rattle.std.proofs.Common.{◌≡◌, ℕ, zero, suc, ◌+◌, ◌-◌, ◌≤◌, true, ◌&&◌, cond, ltb, leb, eqb, List, [], ◌∷◌, ◌++◌, length, Option, Some, None, slice_get, refl, sym, subst, inl, inr, arith}
 use Rattle.std.specs.Cmp.Lexicographic.{pointwise}
 use Rattle.std.specs.List.{AllByRecursion}
 use Rattle.std.proofs.lemmas.Bool.{cond_both, cond-true, and_parts, or_parts, or_cases, or_right, ltb-false, leb-true, eqb-true}
@@ -10,6 +10,7 @@ use Rattle.ring_base.specs.declared.ring_id.RingId.{RingId}
 use Rattle.ring_payload.specs.declared.content.Payload.{Payload}
 use Rattle.ring_payload.specs.declared.content.Payload.TheVariants.{Call, Wrapped, End, Head, Part, Pack, Snap}
 use Rattle.ring_payload.specs.declared.content.Wrapped.{Wrapped as WrappedMessage}
+use Rattle.ring_wire.specs.declared.frame.Frame.{Frame}
 use Rattle.ring_wire.specs.declared.commit.CommitToken.{CommitToken}
 use Rattle.ring_wire.specs.declared.entries.CommitEntry.{CommitEntry}
 use Rattle.ring_wire.specs.declared.message.Message.{Message}
@@ -23,24 +24,17 @@ use Rattle.ring_token.proofs.Marks.{safe_mark-below, safe_mark-turn, safe_mark-r
 use Rattle.ring_commit.specs.Reports.{same_entry, reports_of, safe_of, none_behind, is_sound}
 use Rattle.ring_commit.specs.Rounds.{position_of_hop, is_own}
 use Rattle.ring_payload.specs.Kinds.{payload_of}
-use Rattle.ring_payload.proofs.Packing.{length-packed}
-use Rattle.ring_recover.specs.Wrapping.{wraps_and_end, inner_if_new, unwrapped}
+use Rattle.ring_recover.specs.Wrapping.{inner_if_new, unwrapped}
 use Rattle.ring_srp.specs.declared.input.Input.{Input}
-use Rattle.ring_srp.specs.declared.out.Out.{Out}
 use Rattle.ring_base.specs.declared.state.State.{State}
 use Rattle.ring_base.specs.declared.state.State.TheVariants.{Gather, Commit, Recovery, Operational, Stopped}
-use Rattle.ring_srp.specs.State.{Core, Did, opening}
-use Rattle.ring_srp.specs.Views.{front, mark, plan, own_entry, takes_number}
-use Rattle.ring_srp.specs.Visiting.{room_at, offers, new_payloads, new_messages, held_after, turn_of}
-use Rattle.ring_srp.specs.Joining.{proposes}
-use Rattle.ring_srp.specs.Handing.{takes_second_round}
-use Rattle.ring_srp.specs.Giving.{settle}
-use Rattle.ring_srp.specs.Deciding.{Act, Ignore, Enqueue, Repeat, Announce, Invite, GiveUp, Regather, Agree, Widen, RegatherAndAgree, RegatherAndWiden, Take, Visit, Fill, Learn, is_taken, decide}
-use Rattle.ring_srp.specs.Acting.{gives_old, act, may_follow, proposed_after}
-use Rattle.ring_srp.specs.Stepping.{ring_step, after_inputs}
-use Rattle.ring_moves.specs.Laws.{HasPassed}
+use Rattle.ring_srp.specs.State.{Core, opening}
+use Rattle.ring_srp.specs.Views.{front, mark, own_entry, takes_number}
+use Rattle.ring_srp.specs.Acting.{gives_old}
+use Rattle.ring_srp.specs.Stepping.{after_inputs}
+use Rattle.ring_moves.specs.Moves.{Move, Idles, Enters, Learns, Visits, Takes, Installs, held_in, turn_with, moved, MayMove}
 use Rattle.ring_base.proofs.Each.{each-weaker, each-append}
-use Rattle.ring_moves.proofs.Guards.{guarded}
+use Rattle.ring_moves.proofs.Everywhere.{IsKept, always}
 
 -- Lists of facts
 
@@ -122,10 +116,10 @@ gives_within Commit c x = tt
 gives_within Operational c x = tt
 gives_within Stopped c x = tt
 
-taken_fits : {A : Type 0} → (c : Core A) (x : Message A) → is_taken c x ≡ true → Fit c → IsFit (gives_old c.state c x ++ x ∷ c.held) c.turns c.raises
+taken_fits : {A : Type 0} → (c : Core A) (x : Message A) → takes_number c x.ring x.number ≡ true → Fit c → IsFit (gives_old c.state c x ++ x ∷ c.held) c.turns c.raises
 taken_fits c x h f =
     more_held (gives_old c.state c x) (x ∷ c.held) c.turns c.raises (gives_within c.state c x)
-    (more_held (x ∷ []) c.held c.turns c.raises (new_within c.held (mark c x.ring) x.ring x.number (and_parts _ (takes_number c x.ring x.number) h).1, tt) f)
+    (more_held (x ∷ []) c.held c.turns c.raises (new_within c.held (mark c x.ring) x.ring x.number h, tt) f)
 
 -- Visiting
 
@@ -133,27 +127,13 @@ numbered_below : {A : Type 0} → (turns : List (Turn A)) (raises : List Raise) 
 numbered_below turns raises r me seq [] h = tt
 numbered_below turns raises r me seq (p ∷ ps) h = (omega arith, numbered_below turns raises r me (suc seq) ps (omega arith))
 
-offers_few : {A : Type 0} → (s : State) (c : Core A) (count : ℕ) → length (offers s c count) ≤ count
-offers_few Operational c count = length-packed count c.queue
-offers_few Recovery c count = (let xs = wraps_and_end c.me (plan c) c.running.ring c.held in let e : length (take count xs) ≡ min count (length xs) = length-take count xs in omega arith)
-offers_few Gather c count = omega arith
-offers_few Commit c count = omega arith
-offers_few Stopped c count = omega arith
-
--- no more messages than a visit has room for
-pub fresh_few : {A : Type 0} → (c : Core A) (t : Token) → length (new_payloads c t) ≤ room_at c t
-fresh_few c t = offers_few c.state c (room_at c t)
-
-fresh_short : {A : Type 0} → (c : Core A) (t : Token) → length (new_payloads c t) ≤ mark c t.ring + window_size - t.seq
-fresh_short c t = omega (arith, fresh_few c t)
-
 aru_below : (me f : ℕ) (t : Token) → aru_after me f t ≤ f
 aru_below me f t = cond_both (may_set me f t) f t.aru (λ a. a ≤ f) (λ e. omega arith) (λ e. ltb-false f t.aru (or_parts (ltb f t.aru) (is_mine me t.aru_id) e).0)
 
-visited_fits : {A : Type 0} → (c : Core A) (t : Token) → Fit c → IsFit (held_after c t) (turn_of c t ∷ c.turns) c.raises
-visited_fits c t f =
-    more_turns (turn_of c t) (held_after c t) c.turns c.raises (aru_below c.me (front_of (held_after c t) t.ring) t)
-    (more_held (new_messages c t) c.held c.turns c.raises (numbered_below c.turns c.raises t.ring c.me t.seq (new_payloads c t) (fresh_short c t)) f)
+visited_fits : {A : Type 0} → (c : Core A) (t : Token) (fresh : List (Payload A)) (requests : List ℕ) → length fresh ≤ mark c t.ring + window_size - t.seq → Fit c → IsFit (held_in c t fresh) (turn_with c t fresh requests ∷ c.turns) c.raises
+visited_fits c t fresh requests h f =
+    more_turns (turn_with c t fresh requests) (held_in c t fresh) c.turns c.raises (aru_below c.me (front_of (held_in c t fresh) t.ring) t)
+    (more_held (numbered t.ring c.me t.seq fresh) c.held c.turns c.raises (numbered_below c.turns c.raises t.ring c.me t.seq fresh h) f)
 
 -- Learning
 
@@ -186,50 +166,25 @@ learned_front c k h g =
     let j : e.front ≡ front c c.installed.ring = eqb-true _ _ (and_parts (same_ring e.old c.installed.ring) _ ring_and_front).1 in
     subst (λ n. safe_of (reports_of c.installed.ring k.entries) ≤ n) j i
 
-learned_fits : {A : Type 0} → (c : Core A) (k : CommitToken) → takes_second_round c k ≡ true → Fit c → IsFit c.held c.turns (record { ring = c.installed.ring; mark = safe_of (reports_of c.installed.ring k.entries) } ∷ c.raises)
-learned_fits c k h f =
-    let p : (_ ≡ true) × (is_sound c.installed.ring k.entries ≡ true) = and_parts _ (is_sound c.installed.ring k.entries) h in
-    more_raises (record { ring = c.installed.ring; mark = safe_of (reports_of c.installed.ring k.entries) }) c.held c.turns c.raises
-    (learned_front c k (and_parts _ (is_own (own_entry c) (slice_get k.entries (position_of_hop k))) p.0).1 p.1) f
+learned_fits : {A : Type 0} → (c : Core A) (k : CommitToken) → is_own (own_entry c) (slice_get k.entries (position_of_hop k)) ≡ true → is_sound c.installed.ring k.entries ≡ true → Fit c → IsFit c.held c.turns (record { ring = c.installed.ring; mark = safe_of (reports_of c.installed.ring k.entries) } ∷ c.raises)
+learned_fits c k o s f =
+    more_raises (record { ring = c.installed.ring; mark = safe_of (reports_of c.installed.ring k.entries) }) c.held c.turns c.raises (learned_front c k o s) f
 
--- Each act, and a step
+-- Each move
 
-act_fits : {A : Type 0} → (c : Core A) (a : Act A) → HasPassed c a → Fit c → Fit (act c a).core
-act_fits c (Take x) g f = taken_fits c x g f
-act_fits c (Visit t) g f = visited_fits c t f
-act_fits c (Learn k) g f = learned_fits c k g.passes f
-act_fits c (Fill k) g f = f
-act_fits c Ignore g f = f
-act_fits c (Enqueue p) g f = f
-act_fits c Repeat g f = f
-act_fits c Announce g f = f
-act_fits c Invite g f = f
-act_fits c GiveUp g f = f
-act_fits c Regather g f = f
-act_fits c (Agree j) g f = f
-act_fits c (Widen j) g f = f
-act_fits c (RegatherAndAgree j) g f = f
-act_fits c (RegatherAndWiden j) g f = f
+pub moved_fits : {A : Type 0} → (came : Frame A → Type 0) (c : Core A) (m : Move A) → MayMove came c m → Fit c → Fit (moved c m)
+moved_fits came c (Takes x) h f = taken_fits c x h.new f
+moved_fits came c (Visits t fresh requests again queue) h f = visited_fits c t fresh requests h.room f
+moved_fits came c (Learns k) h f = learned_fits c k h.own h.sound f
+moved_fits came c (Idles state gathering shown queue sends) h f = f
+moved_fits came c (Enters k) h f = f
+moved_fits came c Installs h f = f
 
-proposed_fits : {A : Type 0} → (b : Bool) (did : Did A) → Fit did.core → Fit (proposed_after b did).core
-proposed_fits false did f = f
-proposed_fits true did f = f
-
-settled_fits : {A : Type 0} → (b : Bool) (c : Core A) (outs : List (Out A)) → Fit c → Fit (settle b c outs).core
-settled_fits false c outs f = f
-settled_fits true c outs f = f
-
-pub step_fits : {A : Type 0} → (c : Core A) (input : Input A) → Fit c → Fit (ring_step c input).core
-unfolding ring_step
-step_fits c input f =
-    settled_fits _ _ _ (proposed_fits (may_follow (decide c input) && proposes (act c (decide c input)).core) _ (act_fits c (decide c input) (guarded c input) f))
-
-pub always_fits : {A : Type 0} → (c : Core A) (inputs : List (Input A)) → Fit c → Fit (after_inputs c inputs)
-always_fits c [] f = f
-always_fits c (x ∷ inputs) f = always_fits (ring_step c x).core inputs (step_fits c x f)
+pub fitting : {A : Type 0} → IsKept (Fit {A = A})
+fitting = record { moves = moved_fits }
 
 opening_fits : {A : Type 0} → (n me : ℕ) (inputs : List (Input A)) → Fit (after_inputs (opening n me) inputs)
-opening_fits n me inputs = always_fits (opening n me) inputs (record { window = tt; visits = tt; raised = tt })
+opening_fits n me inputs = always Fit fitting (opening n me) inputs (record { window = tt; visits = tt; raised = tt })
 
 -- The laws
 

@@ -8,7 +8,6 @@ use Rattle.ring_base.specs.declared.state.State.TheVariants.{Gather, Commit, Rec
 use Rattle.ring_base.proofs.Each.{each-weaker, each-push}
 use Rattle.ring_payload.specs.declared.content.Payload.{Payload}
 use Rattle.ring_payload.specs.Packing.{is_queued, AreQueued}
-use Rattle.ring_payload.proofs.Packing.{left_behind-each}
 use Rattle.ring_wire.specs.declared.message.Message.{Message}
 use Rattle.ring_wire.specs.declared.token.Token.{Token}
 use Rattle.ring_window.proofs.Rings.{ring_same}
@@ -17,7 +16,7 @@ use Rattle.ring_srp.specs.declared.input.Input.{Input}
 use Rattle.ring_srp.specs.declared.out.Out.{Out}
 use Rattle.ring_srp.specs.State.{Core, Did, opening}
 use Rattle.ring_srp.specs.Views.{plan}
-use Rattle.ring_srp.specs.Visiting.{accepts, room_at, offers, new_payloads, new_messages, held_after, turn_of, queue_after}
+use Rattle.ring_srp.specs.Visiting.{accepts, room_at, offers, new_payloads, new_messages, held_after, turn_of}
 use Rattle.ring_srp.specs.Joining.{proposes}
 use Rattle.ring_srp.specs.Giving.{settle}
 use Rattle.ring_srp.specs.Deciding.{Act, Ignore, Enqueue, Repeat, Announce, Invite, GiveUp, Regather, Agree, Widen, RegatherAndAgree, RegatherAndWiden, Take, Visit, Fill, Learn, decide}
@@ -25,7 +24,8 @@ use Rattle.ring_srp.specs.Acting.{gives_old, act, may_follow, proposed_after}
 use Rattle.ring_srp.specs.Stepping.{ring_step, after_inputs}
 use Rattle.ring_moves.specs.Laws.{HasPassed, AreOfQueue, AreOfRecovery, IsFreshOf, AreFreshOf}
 use Rattle.ring_moves.proofs.Guards.{guarded}
-use Rattle.ring_moves.proofs.Fits.{fresh_few}
+use Rattle.ring_moves.proofs.Steps.{fresh_few, queue_each}
+use Rattle.ring_moves.proofs.Everywhere.{IsStepKept, after_all}
 
 -- what waits was handed over, and each visit's new messages are made in one of the two ways
 pub record IsMade {A : Type 0} (me : ℕ) (held : List (Message A)) (queue : List (Payload A)) (turns : List (Turn A)) : Type 0 where
@@ -37,14 +37,11 @@ Made c = IsMade c.me c.held c.queue c.turns
 
 -- Messages more leave it
 
-still_recovered : {A : Type 0} → (me : ℕ) (ring : RingId) (xs held : List (Message A)) (fresh : List (Payload A)) → AreOfRecovery me ring held fresh →
-    AreOfRecovery me ring (xs ++ held) fresh
+still_recovered : {A : Type 0} → (me : ℕ) (ring : RingId) (xs held : List (Message A)) (fresh : List (Payload A)) → AreOfRecovery me ring held fresh → AreOfRecovery me ring (xs ++ held) fresh
 still_recovered me ring xs held fresh r =
-    let grown = append_assoc xs r.later r.before ∙ ap (λ ys. xs ++ ys) r.grown in
-    record { count = r.count; plan = r.plan; later = xs ++ r.later; before = r.before; grown = grown; made = r.made }
+    record { count = r.count; plan = r.plan; later = xs ++ r.later; before = r.before; grown = append_assoc xs r.later r.before ∙ ap (λ ys. xs ++ ys) r.grown; made = r.made }
 
-still_either : {A : Type 0} → (me : ℕ) (ring : RingId) (xs held : List (Message A)) (fresh : List (Payload A)) →
-    AreOfQueue fresh ⊎ AreOfRecovery me ring held fresh → AreOfQueue fresh ⊎ AreOfRecovery me ring (xs ++ held) fresh
+still_either : {A : Type 0} → (me : ℕ) (ring : RingId) (xs held : List (Message A)) (fresh : List (Payload A)) → AreOfQueue fresh ⊎ AreOfRecovery me ring held fresh → AreOfQueue fresh ⊎ AreOfRecovery me ring (xs ++ held) fresh
 still_either me ring xs held fresh h = elim h [ inl q ↦ inl q | inr r ↦ inr (still_recovered me ring xs held fresh r) ]
 
 still_fresh : {A : Type 0} → (me : ℕ) (xs held : List (Message A)) (turns : List (Turn A)) → AreFreshOf me held turns → AreFreshOf me (xs ++ held) turns
@@ -54,8 +51,7 @@ still_fresh {A} me xs held turns h =
 
 -- Visits
 
-offered : {A : Type 0} → (s : State) (c : Core A) (xs : List (Message A)) (count : ℕ) → AreQueued c.queue →
-    AreOfQueue (offers s c count) ⊎ AreOfRecovery c.me c.running.ring (xs ++ c.held) (offers s c count)
+offered : {A : Type 0} → (s : State) (c : Core A) (xs : List (Message A)) (count : ℕ) → AreQueued c.queue → AreOfQueue (offers s c count) ⊎ AreOfRecovery c.me c.running.ring (xs ++ c.held) (offers s c count)
 offered Operational c xs count q = inl (record { count = count; queue = c.queue; queued = q; made = refl })
 offered Recovery c xs count q = inr (record { count = count; plan = plan c; later = xs; before = c.held; grown = refl; made = refl })
 offered Gather c xs count q = inl (record { count = 0; queue = []; queued = tt; made = refl })
@@ -72,16 +68,8 @@ fresh_of {A} c t a q =
     record {
       few = omega arith;
       numbered = omega arith;
-      made = subst (λ (r : RingId). AreOfQueue (new_payloads c t) ⊎ AreOfRecovery c.me r (held_after c t) (new_payloads c t))
-          (sym (accepted_ring c t a)) (offered c.state c (new_messages c t) (room_at c t) q);
+      made = subst (λ (r : RingId). AreOfQueue (new_payloads c t) ⊎ AreOfRecovery c.me r (held_after c t) (new_payloads c t)) (sym (accepted_ring c t a)) (offered c.state c (new_messages c t) (room_at c t) q);
     }
-
-queue_kept : {A : Type 0} → (s : State) (count : ℕ) (queue : List (Payload A)) → AreQueued queue → AreQueued (queue_after s count queue)
-queue_kept {A} Operational count queue q = left_behind-each (λ (p : Payload A). is_queued p ≡ true) count queue q
-queue_kept Gather count queue q = q
-queue_kept Commit count queue q = q
-queue_kept Recovery count queue q = q
-queue_kept Stopped count queue q = q
 
 -- Each act, and a step
 
@@ -100,10 +88,7 @@ act_made c (RegatherAndWiden j) g m = record { queued = tt; fresh = m.fresh }
 act_made c (Take x) g m =
     record { queued = m.queued; fresh = still_fresh c.me (gives_old c.state c x) (x ∷ c.held) c.turns (still_fresh c.me (x ∷ []) c.held c.turns m.fresh) }
 act_made c (Visit t) g m =
-    record {
-      queued = queue_kept c.state (room_at c t) c.queue m.queued;
-      fresh = (fresh_of c t g.1 m.queued, still_fresh c.me (new_messages c t) c.held c.turns m.fresh);
-    }
+    record { queued = queue_each (λ (p : Payload _). is_queued p ≡ true) c.state (room_at c t) c.queue m.queued; fresh = (fresh_of c t g.1 m.queued, still_fresh c.me (new_messages c t) c.held c.turns m.fresh) }
 act_made c (Fill k) g m = m
 act_made c (Learn k) g m = m
 
@@ -115,18 +100,16 @@ settled_made : {A : Type 0} → (b : Bool) (c : Core A) (outs : List (Out A)) �
 settled_made false c outs m = m
 settled_made true c outs m = m
 
-pub step_made : {A : Type 0} → (c : Core A) (input : Input A) → Made c → Made (ring_step c input).core
+step_made : {A : Type 0} → (c : Core A) (input : Input A) → Made c → Made (ring_step c input).core
 unfolding ring_step
 step_made c input m =
     settled_made _ _ _ (proposed_made (may_follow (decide c input) && proposes (act c (decide c input)).core) _ (act_made c (decide c input) (guarded c input) m))
 
-always_made : {A : Type 0} → (c : Core A) (inputs : List (Input A)) → Made c → Made (after_inputs c inputs)
-always_made c [] m = m
-always_made c (x ∷ inputs) m = always_made (ring_step c x).core inputs (step_made c x m)
+pub made : {A : Type 0} → IsStepKept (Made {A = A})
+made = record { steps = step_made; stops = λ c m. m }
 
 pub opening_made : {A : Type 0} → (n me : ℕ) → Made (opening {A = A} n me)
 opening_made n me = record { queued = tt; fresh = tt }
 
-pub all_made : {A : Type 0} → (n me : ℕ) (inputs : List (Input A)) →
-    AreFreshOf (after_inputs (opening n me) inputs).me (after_inputs (opening n me) inputs).held (after_inputs (opening n me) inputs).turns
-all_made n me inputs = (always_made (opening n me) inputs (opening_made n me)).fresh
+pub all_made : {A : Type 0} → (n me : ℕ) (inputs : List (Input A)) → AreFreshOf (after_inputs (opening n me) inputs).me (after_inputs (opening n me) inputs).held (after_inputs (opening n me) inputs).turns
+all_made n me inputs = (after_all Made made (opening n me) inputs (opening_made n me)).fresh

@@ -1,10 +1,14 @@
+pub mod Lists
+pub mod Agreeing
 pub mod Guards
 pub mod Causes
+pub mod Steps
+pub mod Everywhere
+pub mod Lifting
 pub mod Rises
 pub mod Fits
 pub mod Agrees
 pub mod Turned
 pub mod Fresh
-pub mod Everywhere
 pub mod Rounds
 pub mod Worlds

@@ -17,7 +17,7 @@ use Rattle.ring_commit.specs.Outcomes.{is_at}
 use Rattle.ring_srp.specs.declared.input.Input.TheVariants.{Frame as FrameInput}
 use Rattle.ring_base.specs.declared.state.State.{State}
 use Rattle.ring_base.specs.declared.state.State.TheVariants.{Gather, Commit, Recovery, Operational, Stopped}
-use Rattle.ring_srp.specs.State.{Core, floor}
+use Rattle.ring_srp.specs.State.{Core, floor, alone}
 use Rattle.ring_srp.specs.Naming.{is_named}
 use Rattle.ring_srp.specs.Views.{own_entry}
 use Rattle.ring_srp.specs.Visiting.{accepts}
@@ -29,7 +29,7 @@ use Rattle.ring_moves.specs.Worlds.{Carried, World, is_node, frame_at, happens, 
 use Rattle.ring_moves.specs.Laws.{IsFalling}
 use Rattle.ring_moves.specs.CommitRounds.{all_pairs, is_above, has_rising_rings, Taking, is_ignored, taken_unless, taken_at, taken_if, taken_of, taken_in, takings, is_second, still_reports, is_taken}
 use Rattle.ring_moves.proofs.Guards.{one_position}
-use Rattle.ring_moves.proofs.Rises.{Rising, alone_rises, step_rises, falls_of}
+use Rattle.ring_moves.proofs.Rises.{Rising, rising, alone_rises, falls_of}
 use Rattle.ring_moves.proofs.Everywhere.{Everywhere, everywhere}
 
 -- The second round
@@ -156,7 +156,7 @@ all_numbers test h [] = refl
 all_numbers test h (i ∷ numbers) = both (test i) (list_all test numbers) (h i) (all_numbers test h numbers)
 
 pub rises_everywhere : {A : Type 0} → (n : ℕ) (events : List (RingEvent A)) → Everywhere Rising (run (unformed n) events)
-rises_everywhere n events = everywhere Rising (record { opens = λ n i. alone_rises i; steps = step_rises; stops = λ c r. r }) n events
+rises_everywhere n events = everywhere Rising rising (unformed n) events (λ i. alone_rises (alone i))
 
 pub all_rise : {A : Type 0} → (n : ℕ) (events : List (RingEvent A)) → list_all (λ i. has_rising_rings ((run (unformed n) events).cores i)) (numbers_from 1 n) ≡ true
 all_rise n events =

@@ -1,9 +1,10 @@
 -- Each visit that a core took is one by the rules, and its front has only grown since.
-use Rattle.std.proofs.Common.{◌≡◌, ℕ, suc, ◌+◌, ◌≤◌, Bool, true, false, ◌&&◌, ◌==◌, leb, List, [], ◌∷◌, ◌++◌, length, refl, arith, inl, inr}
-use Rattle.std.proofs.lemmas.Bool.{cases_lt, and_parts, or_cases, or_left, or_right, leb-true, eqb-true, false≢true}
+use Rattle.std.proofs.Common.{◌≡◌, ℕ, suc, ◌+◌, ◌≤◌, true, ◌&&◌, ◌==◌, List, [], ◌∷◌, ◌++◌, length, refl, arith, inl, inr}
+use Rattle.std.proofs.lemmas.Bool.{cases_lt, and_parts, or_cases, or_left, or_right, eqb-true, false≢true}
 use Rattle.ring_base.specs.Rings.{same_ring}
 use Rattle.ring_base.specs.declared.ring_id.RingId.{RingId}
 use Rattle.ring_payload.specs.declared.content.Payload.{Payload}
+use Rattle.ring_wire.specs.declared.frame.Frame.{Frame}
 use Rattle.ring_wire.specs.declared.message.Message.{Message}
 use Rattle.ring_wire.specs.declared.token.Token.{Token}
 use Rattle.ring_window.specs.Held.{is_numbered, holds, highest, front_of}
@@ -11,16 +12,12 @@ use Rattle.ring_window.proofs.Fronts.{front_is, highest_covers}
 use Rattle.ring_token.specs.Turns.{Turn}
 use Rattle.ring_token.specs.Visits.{numbered}
 use Rattle.ring_srp.specs.declared.input.Input.{Input}
-use Rattle.ring_srp.specs.declared.out.Out.{Out}
-use Rattle.ring_srp.specs.State.{Core, Did, opening}
-use Rattle.ring_srp.specs.Visiting.{accepts, new_payloads, new_messages, held_after, turn_of}
-use Rattle.ring_srp.specs.Joining.{proposes}
-use Rattle.ring_srp.specs.Giving.{settle}
-use Rattle.ring_srp.specs.Deciding.{Act, Ignore, Enqueue, Repeat, Announce, Invite, GiveUp, Regather, Agree, Widen, RegatherAndAgree, RegatherAndWiden, Take, Visit, Fill, Learn, decide}
-use Rattle.ring_srp.specs.Acting.{gives_old, act, may_follow, proposed_after}
-use Rattle.ring_srp.specs.Stepping.{ring_step, after_inputs}
-use Rattle.ring_moves.specs.Laws.{HasPassed, AreTurnsOf}
-use Rattle.ring_moves.proofs.Guards.{guarded}
+use Rattle.ring_srp.specs.State.{Core, opening}
+use Rattle.ring_srp.specs.Acting.{gives_old}
+use Rattle.ring_srp.specs.Stepping.{after_inputs}
+use Rattle.ring_moves.specs.Laws.{AreTurnsOf}
+use Rattle.ring_moves.specs.Moves.{Move, Idles, Enters, Learns, Visits, Takes, Installs, held_in, turn_with, moved, MayMove}
+use Rattle.ring_moves.proofs.Everywhere.{IsKept, always}
 use Rattle.ring_moves.proofs.Fits.{front-append}
 
 -- where nothing above a number is held, the front is at most that
@@ -48,14 +45,10 @@ held-append (x ∷ xs) ys r n bound f g h =
       | inr e ↦ held-append xs ys r n bound (λ k. f (or_right (is_numbered r n x) (holds xs r n) k)) g e
     ]
 
-accepted_seq : {A : Type 0} → (c : Core A) (t : Token) → accepts c t ≡ true → highest c.held t.ring ≤ t.seq
-accepted_seq c t h = leb-true _ _ (and_parts _ (leb (highest c.held t.ring) t.seq) h).1
-
-front_within : {A : Type 0} → (c : Core A) (t : Token) → accepts c t ≡ true → front_of (held_after c t) t.ring ≤ t.seq + length (new_payloads c t)
-front_within c t h =
-    let top : highest c.held t.ring ≤ t.seq = accepted_seq c t h in
-    front_below (held_after c t) t.ring (t.seq + length (new_payloads c t)) (λ n k.
-    held-append (new_messages c t) c.held t.ring n (t.seq + length (new_payloads c t)) (λ e. numbered_within t.ring t.ring c.me t.seq (new_payloads c t) n e)
+front_within : {A : Type 0} → (c : Core A) (t : Token) (fresh : List (Payload A)) → highest c.held t.ring ≤ t.seq → front_of (held_in c t fresh) t.ring ≤ t.seq + length fresh
+front_within c t fresh top =
+    front_below (held_in c t fresh) t.ring (t.seq + length fresh) (λ n k.
+    held-append (numbered t.ring c.me t.seq fresh) c.held t.ring n (t.seq + length fresh) (λ e. numbered_within t.ring t.ring c.me t.seq fresh n e)
     (λ e. (let q : n ≤ highest c.held t.ring = highest_covers c.held t.ring n e in omega arith)) k)
 
 -- with messages more, the fronts of the visits are still reached
@@ -69,45 +62,23 @@ still me xs held (v ∷ turns) h =
 abbrev pub Turned : {A : Type 0} → Core A → Type 0
 Turned c = AreTurnsOf c.me c.held c.turns
 
-visited_turned : {A : Type 0} → (c : Core A) (t : Token) → accepts c t ≡ true → Turned c → AreTurnsOf c.me (held_after c t) (turn_of c t ∷ c.turns)
-visited_turned c t a h = (record { goes = refl; within = front_within c t a; grown = omega arith }, still c.me (new_messages c t) c.held c.turns h)
+visited_turned : {A : Type 0} → (c : Core A) (t : Token) (fresh : List (Payload A)) (requests : List ℕ) → highest c.held t.ring ≤ t.seq → Turned c → AreTurnsOf c.me (held_in c t fresh) (turn_with c t fresh requests ∷ c.turns)
+visited_turned c t fresh requests a h =
+    (record { goes = refl; within = front_within c t fresh a; grown = omega arith }, still c.me (numbered t.ring c.me t.seq fresh) c.held c.turns h)
 
 took_turned : {A : Type 0} → (c : Core A) (x : Message A) → Turned c → AreTurnsOf c.me (gives_old c.state c x ++ x ∷ c.held) c.turns
 took_turned c x h = still c.me (gives_old c.state c x) (x ∷ c.held) c.turns (still c.me (x ∷ []) c.held c.turns h)
 
-act_turned : {A : Type 0} → (c : Core A) (a : Act A) → HasPassed c a → Turned c → Turned (act c a).core
-act_turned c Ignore g h = h
-act_turned c (Enqueue p) g h = h
-act_turned c Repeat g h = h
-act_turned c Announce g h = h
-act_turned c Invite g h = h
-act_turned c GiveUp g h = h
-act_turned c Regather g h = h
-act_turned c (Agree j) g h = h
-act_turned c (Widen j) g h = h
-act_turned c (RegatherAndAgree j) g h = h
-act_turned c (RegatherAndWiden j) g h = h
-act_turned c (Take x) g h = took_turned c x h
-act_turned c (Visit t) g h = visited_turned c t g.1 h
-act_turned c (Fill k) g h = h
-act_turned c (Learn k) g h = h
+pub moved_turned : {A : Type 0} → (came : Frame A → Type 0) (c : Core A) (m : Move A) → MayMove came c m → Turned c → Turned (moved c m)
+moved_turned came c (Visits t fresh requests again queue) h p = visited_turned c t fresh requests h.ahead p
+moved_turned came c (Takes x) h p = took_turned c x p
+moved_turned came c (Idles state gathering shown queue sends) h p = p
+moved_turned came c (Enters k) h p = p
+moved_turned came c (Learns k) h p = p
+moved_turned came c Installs h p = p
 
-proposed_turned : {A : Type 0} → (b : Bool) (did : Did A) → Turned did.core → Turned (proposed_after b did).core
-proposed_turned false did h = h
-proposed_turned true did h = h
-
-settled_turned : {A : Type 0} → (b : Bool) (c : Core A) (outs : List (Out A)) → Turned c → Turned (settle b c outs).core
-settled_turned false c outs h = h
-settled_turned true c outs h = h
-
-pub step_turned : {A : Type 0} → (c : Core A) (input : Input A) → Turned c → Turned (ring_step c input).core
-unfolding ring_step
-step_turned c input h =
-    settled_turned _ _ _ (proposed_turned (may_follow (decide c input) && proposes (act c (decide c input)).core) _ (act_turned c (decide c input) (guarded c input) h))
-
-always_turned : {A : Type 0} → (c : Core A) (inputs : List (Input A)) → Turned c → Turned (after_inputs c inputs)
-always_turned c [] h = h
-always_turned c (x ∷ inputs) h = always_turned (ring_step c x).core inputs (step_turned c x h)
+pub turned : {A : Type 0} → IsKept (Turned {A = A})
+turned = record { moves = moved_turned }
 
 pub all_turned : {A : Type 0} → (n me : ℕ) (inputs : List (Input A)) → Turned (after_inputs (opening n me) inputs)
-all_turned n me inputs = always_turned (opening n me) inputs tt
+all_turned n me inputs = always Turned turned (opening n me) inputs tt

@@ -1,5 +1,7 @@
 pub mod Worlds
 pub mod Pumping
+pub mod Facts
+pub mod Moves
 pub mod Laws
 pub mod CommitRounds
 pub mod Texts

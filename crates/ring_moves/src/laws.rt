@@ -21,6 +21,7 @@ ghost use Rattle.ring_srp.specs.Stepping.{after_inputs};
 ghost use Rattle.ring_moves.specs.declared.event.RingEvent.{RingEvent};
 ghost use Rattle.ring_moves.specs.Worlds.{World, run, unformed};
 ghost use Rattle.ring_moves.specs.CommitRounds.{has_rising_rings, is_taken, takings};
+ghost use Rattle.ring_moves.specs.Moves.{IsMoved};
 ghost use Rattle.ring_moves.specs.Laws.{CameWith, HasPassed, IsFalling, TakesCommit, AreTurnsOf, AreFreshOf};
 
 use ring_recover::finish_law;
@@ -41,6 +42,11 @@ pub fn cause_law<A: Allocator + Copy>()
 /// A commit token is taken at one position alone: by the member that its hop goes to.
 pub fn hop_law<A: Allocator + Copy>()
     ensures { (c : Core A) (k : CommitToken) → TakesCommit c k → receiver k ≡ c.me }
+{}
+
+/// Each step of a core is one or two moves, its outputs, and then perhaps an installation: at most three moves.
+pub fn moves_law<A: Allocator + Copy>()
+    ensures { (c : Core A) (input : Input A) → IsMoved c input }
 {}
 
 /// The rings that a core takes part in strictly rise.
@@ -64,9 +70,11 @@ pub fn agreement_law<A: Allocator + Copy>()
     ensures { (n me : ℕ) (inputs : List (Input A)) → AllSaySame (after_inputs (opening n me) inputs).gathering }
 {}
 
-/// Each visit that a core took went by the rules, so that the visits of a ring are those of which `ring_token`
-/// says how far they make it safe. Its new messages are what a queue makes, each run of calls packed, or, in
-/// Recovery, what is wrapped and the End.
+/// Each visit that a core took went by the rules, and its new messages are what a queue makes, each run of calls
+/// packed, or, in Recovery, what is wrapped and the End. That it was of the token as the visit before it had sent it
+/// on, and by the member whose turn it was, holds in every run of cores, not of one core that hears forged frames:
+/// that stands in `ring_chain`, and with it the visits of a ring are those of which `ring_token` says how far they
+/// make it safe.
 pub fn visit_law<A: Allocator + Copy>()
     ensures turns { (n me : ℕ) (inputs : List (Input A)) → AreTurnsOf (after_inputs (opening n me) inputs).me (after_inputs (opening n me) inputs).held (after_inputs (opening n me) inputs).turns }
     ensures fresh { (n me : ℕ) (inputs : List (Input A)) → AreFreshOf (after_inputs (opening n me) inputs).me (after_inputs (opening n me) inputs).held (after_inputs (opening n me) inputs).turns }
@@ -94,7 +102,7 @@ pub fn world_law<A: Allocator + Copy>()
 
 /// Of the commit token's rounds in every run: the rings that each processor takes part in rise; and each commit
 /// token that is taken, also a forged one, is taken by the member at its position, in the second round with a
-/// report that it would write again. Two of the five facts of `CommitRounds`.
+/// report that it would write again. Two of the five facts of `CommitRounds`; `ring_chain` has all five.
 pub fn rounds_law<A: Allocator + Copy>()
     ensures rings { (n : ℕ) (events : List (RingEvent A)) → list_all (λ i. has_rising_rings ((run (unformed n) events).cores i)) (numbers_from 1 n) ≡ true }
     ensures taken { (w : World A) (events : List (RingEvent A)) → list_all is_taken (takings w events) ≡ true }
@@ -111,6 +119,7 @@ pub fn laws_at_global()
     decision_law::<Global>();
     cause_law::<Global>();
     hop_law::<Global>();
+    moves_law::<Global>();
     rings_law::<Global>();
     window_law::<Global>();
     agreement_law::<Global>();

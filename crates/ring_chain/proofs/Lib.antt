@@ -1,0 +1,16 @@
+pub mod Growing
+pub mod Filed
+pub mod Rings
+pub mod Turns
+pub mod Chain
+pub mod Texts
+pub mod Safety
+pub mod Sends
+pub mod Runs
+pub mod Everywhere
+pub mod Hops
+pub mod Once
+pub mod Plans
+pub mod Left
+pub mod Outputs
+pub mod Formed

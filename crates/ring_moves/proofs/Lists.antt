@@ -1,0 +1,95 @@
+-- Lists of facts: what stands in them, and what is so of each.
+use Rattle.std.proofs.Common.{◌≡◌, ℕ, zero, suc, ◌-◌, ◌≤◌, ◌⊎◌, inl, inr, Bool, true, List, [], ◌∷◌, ◌++◌, length, Option, Some, None, slice_get, refl, ap, sym, subst, arith}
+use Rattle.std.specs.Prelude.{filter, filter_map, find, take, drop}
+use Rattle.std.specs.List.{AllByRecursion as Each, cons_option}
+use Rattle.std.proofs.lemmas.Bool.{cond_both}
+use Rattle.ring_base.specs.Numbers.{numbers_from}
+use Rattle.ring_moves.specs.Facts.{IsIn, SomeIs}
+
+-- What stands in a list
+
+pub in-left : {X : Type 0} (x : X) (xs ys : List X) → IsIn x xs → IsIn x (xs ++ ys)
+in-left x [] ys h = absurd h
+in-left x (y ∷ xs) ys (inl e) = inl e
+in-left x (y ∷ xs) ys (inr h) = inr (in-left x xs ys h)
+
+pub in-right : {X : Type 0} (x : X) (xs ys : List X) → IsIn x ys → IsIn x (xs ++ ys)
+in-right x [] ys h = h
+in-right x (y ∷ xs) ys h = inr (in-right x xs ys h)
+
+pub in-parts : {X : Type 0} (x : X) (xs ys : List X) → IsIn x (xs ++ ys) → IsIn x xs ⊎ IsIn x ys
+in-parts x [] ys h = inr h
+in-parts x (y ∷ xs) ys (inl e) = inl (inl e)
+in-parts x (y ∷ xs) ys (inr h) = elim (in-parts x xs ys h) [ inl a ↦ inl (inr a) | inr b ↦ inr b ]
+
+pub in-each : {X : Type 0} (P : X → Type 0) (x : X) (xs : List X) → Each P xs → IsIn x xs → P x
+in-each P x [] h i = absurd i
+in-each P x (y ∷ xs) h (inl e) = subst P (sym e) h.0
+in-each P x (y ∷ xs) h (inr i) = in-each P x xs h.1 i
+
+pub some-left : {X : Type 0} (P : X → Type 0) (xs ys : List X) → SomeIs P xs → SomeIs P (xs ++ ys)
+some-left P [] ys h = absurd h
+some-left P (x ∷ xs) ys (inl p) = inl p
+some-left P (x ∷ xs) ys (inr h) = inr (some-left P xs ys h)
+
+pub some-weaker : {X : Type 0} (P Q : X → Type 0) → ((x : X) → P x → Q x) → (xs : List X) → SomeIs P xs → SomeIs Q xs
+some-weaker P Q f [] h = absurd h
+some-weaker P Q f (x ∷ xs) (inl p) = inl (f x p)
+some-weaker P Q f (x ∷ xs) (inr h) = inr (some-weaker P Q f xs h)
+
+pub some-get : {X : Type 0} (P : X → Type 0) (xs : List X) (k : ℕ) (x : X) → slice_get xs k ≡ Some x → P x → SomeIs P xs
+some-get P [] k x e p = absurd cc
+some-get P (y ∷ xs) zero x e p = inl (let same : y ≡ x = cc in subst P (sym same) p)
+some-get P (y ∷ xs) (suc k) x e p = inr (some-get P xs k x e p)
+
+-- where each is so, one that is found is so
+pub some-each : {X : Type 0} (P Q : X → Type 0) (C : Type 0) → ((x : X) → P x → Q x → C) → (xs : List X) → Each P xs → SomeIs Q xs → C
+some-each P Q C f [] h s = absurd s
+some-each P Q C f (x ∷ xs) h (inl q) = f x h.0 q
+some-each P Q C f (x ∷ xs) h (inr s) = some-each P Q C f xs h.1 s
+
+-- What is so of each
+
+pub each-in : {X : Type 0} (P : X → Type 0) (xs : List X) → ((x : X) → IsIn x xs → P x) → Each P xs
+each-in P [] f = tt
+each-in P (x ∷ xs) f = (f x (inl refl), each-in P xs (λ y i. f y (inr i)))
+
+pub each-filter : {X : Type 0} (P : X → Type 0) (p : X → Bool) (xs : List X) → Each P xs → Each P (filter p xs)
+each-filter P p [] h = tt
+each-filter P p (x ∷ xs) h = cond_both (p x) (x ∷ filter p xs) (filter p xs) (Each P) (λ e. (h.0, each-filter P p xs h.1)) (λ e. each-filter P p xs h.1)
+
+pub each-take : {X : Type 0} (P : X → Type 0) (n : ℕ) (xs : List X) → Each P xs → Each P (take n xs)
+each-take P zero xs h = tt
+each-take P (suc n) [] h = tt
+each-take P (suc n) (x ∷ xs) h = (h.0, each-take P n xs h.1)
+
+pub each-drop : {X : Type 0} (P : X → Type 0) (n : ℕ) (xs : List X) → Each P xs → Each P (drop n xs)
+each-drop P zero xs h = h
+each-drop P (suc n) [] h = tt
+each-drop P (suc n) (x ∷ xs) h = each-drop P n xs h.1
+
+each-cons_option : {Y : Type 0} (Q : Y → Type 0) (o : Option Y) (ys : List Y) → ((y : Y) → o ≡ Some y → Q y) → Each Q ys → Each Q (cons_option o ys)
+each-cons_option Q None ys f h = h
+each-cons_option Q (Some y) ys f h = (f y refl, h)
+
+pub each-filter_map : {X Y : Type 0} (P : X → Type 0) (Q : Y → Type 0) (f : X → Option Y) → ((x : X) (y : Y) → P x → f x ≡ Some y → Q y) → (xs : List X) → Each P xs → Each Q (filter_map f xs)
+each-filter_map P Q f g [] h = tt
+each-filter_map P Q f g (x ∷ xs) h = each-cons_option Q (f x) (filter_map f xs) (λ y e. g x y h.0 e) (each-filter_map P Q f g xs h.1)
+
+pub numbers-above : (first count : ℕ) → Each (λ n. first ≤ n) (numbers_from first count)
+numbers-above first zero = tt
+numbers-above first (suc count) = (omega arith, each-in (λ n. first ≤ n) (numbers_from (suc first) count) (λ n i. (let a : suc first ≤ n = in-each (λ m. suc first ≤ m) n (numbers_from (suc first) count) (numbers-above (suc first) count) i in omega arith)))
+
+-- the front of two lists
+pub take-append : {X : Type 0} (n : ℕ) (xs ys : List X) → take n (xs ++ ys) ≡ take n xs ++ take (n - length xs) ys
+take-append zero xs ys = (let e : 0 - length xs ≡ 0 = omega arith in rw e refl)
+take-append (suc n) [] ys = (let e : suc n - 0 ≡ suc n = omega arith in rw e refl)
+take-append (suc n) (x ∷ xs) ys = (let e : suc n - suc (length xs) ≡ n - length xs = omega arith in rw e (ap (λ zs. x ∷ zs) (take-append n xs ys)))
+
+-- what is found stands there, and passes
+pub find-in : {X : Type 0} (p : X → Bool) (x : X) (xs : List X) → find p xs ≡ Some x → IsIn x xs × (p x ≡ true)
+find-in p x [] e = absurd cc
+find-in p x (y ∷ xs) e =
+    cond_both (p y) (Some y) (find p xs) (λ o. o ≡ Some x → IsIn x (y ∷ xs) × (p x ≡ true))
+    (λ t k. (let same : y ≡ x = cc in (inl (sym same), subst (λ z. p z ≡ true) same t)))
+    (λ t k. (let r = find-in p x xs k in (inr r.0, r.1))) e

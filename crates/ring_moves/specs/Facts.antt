@@ -1,0 +1,12 @@
+-- What stands in a list of facts: lists of facts only grow, so that what stands in one stays there.
+use Rattle.std.specs.Prelude.{◌≡◌, ◌⊎◌, List, [], ◌∷◌}
+
+-- the fact stands in the list
+abbrev pub IsIn : {X : Type 0} → X → List X → Type 0
+IsIn x [] = ⊥
+IsIn x (y ∷ ys) = (x ≡ y) ⊎ IsIn x ys
+
+-- one of the list is so
+abbrev pub SomeIs : {X : Type 0} → (X → Type 0) → List X → Type 0
+SomeIs P [] = ⊥
+SomeIs P (x ∷ xs) = P x ⊎ SomeIs P xs
