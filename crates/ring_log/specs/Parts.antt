@@ -1,16 +1,16 @@
 -- The Parts in which the owner of an exchange sends places of its log: 7 places in each, the last perhaps shorter. The replicated log, rule 2 of docs/PROTOCOL.md.
-use Rattle.std.specs.Prelude.{ℕ, zero, suc, ◌+◌, ◌-◌, ◌/◌, List, [], ◌∷◌, length, take, drop}
+use Rattle.std.specs.Prelude.{ℕ, ◌+◌, ◌-◌, ◌*◌, ◌/◌, List, length, map, take, drop}
+use Rattle.ring_base.specs.Numbers.{numbers_from}
 use Rattle.ring_payload.specs.declared.call.Call.{Call as OneCall}
 use Rattle.ring_payload.specs.declared.calls.Part.{Part as OnePart}
 
--- so many Parts of places, of which the first is the place at
-abbrev pub cut : {A : Type 0} → ℕ → ℕ → List (OneCall A) → List (OnePart A)
-cut zero at places = []
-cut (suc count) at places = record { first = at; calls = take 7 places } ∷ cut count (at + 7) (drop 7 places)
+-- Part k, from 0, of places of which the first is the place at: the next 7 places, or those that are left
+abbrev pub nth_part : {A : Type 0} → ℕ → List (OneCall A) → ℕ → OnePart A
+nth_part at places k = record { first = at + 7 * k; calls = take 7 (drop (7 * k) places) }
 
--- the Parts of all these places: each but the last has 7
+-- as many of them as there are sevens begun
 abbrev pub parts_of : {A : Type 0} → ℕ → List (OneCall A) → List (OnePart A)
-parts_of at places = cut ((length places + 6) / 7) at places
+parts_of at places = map (nth_part at places) (numbers_from 0 ((length places + 6) / 7))
 
 -- the Parts of a log's places from one on, up to another
 abbrev pub parts_between : {A : Type 0} → List (OneCall A) → ℕ → ℕ → List (OnePart A)

@@ -81,24 +81,28 @@ fn heard<A: Allocator + Copy>(
 fn adopted<A: Allocator + Copy>(
     rt: &impl Abort,
     heap: A,
-    ample: A,
     refused: &mut u64,
 ) -> Result<Log<A>, Fault> {
     let mut exchange = Exchange::new(heap, three());
-    for (sender, head) in [(1u8, head(8, 20, 16)), (2, head(8, 18, 16)), (3, head(4, 9, 9))] {
+    for (sender, head) in [
+        (1u8, head(8, 20, 16)),
+        (2, head(8, 18, 16)),
+        (3, head(4, 9, 9)),
+    ] {
         assert!(rt; heard(&mut exchange, sender, &head, refused)?.is_none());
     }
-    let late = part(ample, 16, 4)?;
-    assert!(rt; heard(&mut exchange, 1, &late, refused)?.is_none());
-    let first = part(ample, 9, 7)?;
+    let last = part(heap, 16, 4)?;
+    assert!(rt; heard(&mut exchange, 1, &last, refused)?.is_none());
+    let first = part(heap, 9, 7)?;
     assert!(rt; heard(&mut exchange, 2, &first, refused)?.is_none());
     assert!(rt; heard(&mut exchange, 1, &first, refused)?.is_none());
     let mut log = Log::new(heap);
-    for call in calls(ample, 1, 10)?.into_vec() {
+    for call in calls(heap, 1, 10)?.into_vec() {
         log.append(call)?;
     }
-    match heard(&mut exchange, 1, &late, refused)? {
-        Some(base) => log.adopt(RingId { seq: 12, rep: Proc::new(1) }, base)?,
+    let rep = Proc::new(1);
+    match heard(&mut exchange, 1, &last, refused)? {
+        Some(base) => log.adopt(RingId { seq: 12, rep }, base)?,
         None => assert!(rt; false),
     }
     Ok(log)
@@ -106,12 +110,47 @@ fn adopted<A: Allocator + Copy>(
 
 #[test]
 fn wanted_places_make_the_log(rt: HostRuntime) -> Result<(), Fail> {
-    let log = adopted(&rt, rt.alloc(), rt.alloc(), &mut 0)?;
+    let mut log = adopted(&rt, rt.alloc(), &mut 0)?;
     assert_eq!(rt; log.length(), 20);
     let mut place = 0u64;
     for call in log.calls() {
-        assert_eq!(rt; call.number, place.saturating_add(1));
         place = place.saturating_add(1);
+        assert_eq!(rt; call.number, place);
+    }
+    log.commit_upto(16);
+    log.commit_upto(9);
+    assert_eq!(rt; log.committed_calls().len(), 16);
+    let head = log.head();
+    assert_eq!(rt; (head.length, head.committed, head.trimmed), (20, 16, 0));
+    let wanted = Wanted {
+        owner: Proc::new(1),
+        from: 9,
+        to: 20,
+    };
+    let mut sizes = Vec::new(rt.alloc());
+    for part in log.parts(rt.alloc(), &wanted)? {
+        sizes.push((part.first, part.calls.as_slice().len()))?;
+    }
+    assert_eq!(rt; sizes.as_slice(), [(9, 7), (16, 4)].as_slice());
+    Ok(())
+}
+
+#[test]
+fn each_request_is_refused_in_turn(rt: HostRuntime) -> Result<(), Fail> {
+    let heap = Refusing::new(rt.alloc(), u64::MAX);
+    adopted(&rt, &heap, &mut 0)?;
+    let requests = heap.requests();
+    assert!(rt; requests > 3, "{requests}");
+    for passed in 0..requests {
+        let heap = Refusing::new(rt.alloc(), passed);
+        let mut refused = 0;
+        match adopted(&rt, &heap, &mut refused) {
+            Ok(log) => {
+                assert_eq!(rt; refused, 1);
+                assert_eq!(rt; log.length(), 20);
+            }
+            Err(fault) => assert_eq!(rt; (fault, refused), (Fault::Memory, 0)),
+        }
     }
     Ok(())
 }
