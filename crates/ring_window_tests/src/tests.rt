@@ -84,17 +84,20 @@ fn the_first_missing_are_asked_for(rt: HostRuntime) -> Result<(), Fail> {
 /// A window takes memory once, as it is made.
 #[test]
 fn a_window_is_refused_memory(rt: HostRuntime) -> Result<(), Fail> {
-    let refused = refuse_in_turn(rt.alloc(), &|heap| {
-        match Window::new(heap, ring()) {
-            Ok(mut window) => {
-                for number in 1..300 {
-                    take(&mut window, number);
+    let refused = refuse_in_turn(
+        rt.alloc(),
+        &|heap| {
+            match Window::new(heap, ring()) {
+                Ok(mut window) => {
+                    for number in 1..300 {
+                        take(&mut window, number);
+                    }
+                    Ok(())
                 }
-                Ok(())
+                Err(_) => Err(AllocError),
             }
-            Err(_) => Err(AllocError),
-        }
-    });
+        },
+    );
     assert_eq!(rt; refused, Some(1));
     Ok(())
 }
