@@ -57,11 +57,13 @@ fn the_front_and_the_bits_after_it(rt: HostRuntime) -> Result<(), Fail> {
 #[test]
 fn what_is_forgotten_makes_room(rt: HostRuntime) -> Result<(), Fail> {
     let mut window = worked(rt.alloc())?;
+    assert!(rt; 2 <= window.front());
     window.forget(2);
     assert!(rt; take(&mut window, 257));
     assert!(rt; take(&mut window, 258));
     assert!(rt; !take(&mut window, 259));
     assert_eq!(rt; window.held_bits(), bits(0x02, 0xE0));
+    assert!(rt; 1 <= window.front());
     window.forget(1);
     assert_eq!(rt; window.mark(), 2);
     assert!(rt; window.holds(2) && window.get(2).is_none());
