@@ -3,7 +3,9 @@ use Rattle.std.proofs.Common.{◌≡◌, ℕ, Bool, true, false, ◌&&◌, eqb, 
 use Rattle.std.specs.List.{AllByRecursion}
 use Rattle.std.proofs.lemmas.Bool.{cond_both, and_parts, eqb-true}
 use Rattle.ring_wire.specs.declared.join.Join.{Join}
-use Rattle.ring_join.specs.Gathering.{Gathering, Hearing, Agrees, SaysSame, AllSaySame, is_unheard, has_same_sets, has_smaller_sets, hearing, agreed, widened_sets, widened}
+use Rattle.ring_join.specs.Gathering.{Gathering, SaysSame, AllSaySame, is_unheard, has_same_sets, has_smaller_sets, hearing, agreed, widened_sets, widened}
+use Rattle.ring_join.specs.declared.hearing.Hearing.{Hearing}
+use Rattle.ring_join.specs.declared.hearing.Hearing.TheVariants.{Agrees}
 use Rattle.ring_srp.specs.declared.input.Input.{Input}
 use Rattle.ring_srp.specs.declared.out.Out.{Out}
 use Rattle.ring_srp.specs.State.{Core, Did, opening}

@@ -2,7 +2,7 @@
 use Rattle.std.proofs.Common.{◌≡◌, ℕ, ◌<◌, Bool, true, false, ◌&&◌, List, [], ◌∷◌, refl, sym, subst, ltb, arith}
 use Rattle.std.proofs.lemmas.Bool.{and_parts, ltb-true}
 use Rattle.ring_wire.specs.declared.commit.CommitToken.{CommitToken}
-use Rattle.ring_commit.specs.Reports.{Configuration}
+use Rattle.ring_commit.specs.declared.configuration.Configuration.{Configuration}
 use Rattle.ring_commit.specs.Rounds.{hopped, proposal}
 use Rattle.ring_join.specs.Gathering.{candidates, new_number}
 use Rattle.ring_srp.specs.declared.input.Input.{Input}
