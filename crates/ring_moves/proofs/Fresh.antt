@@ -105,11 +105,11 @@ unfolding ring_step
 step_made c input m =
     settled_made _ _ _ (proposed_made (may_follow (decide c input) && proposes (act c (decide c input)).core) _ (act_made c (decide c input) (guarded c input) m))
 
-pub made : {A : Type 0} → IsStepKept (Made {A = A})
-made = record { steps = step_made; stops = λ c m. m }
+pub making : {A : Type 0} → IsStepKept (Made {A = A})
+making = record { steps = step_made; stops = λ c m. m }
 
 pub opening_made : {A : Type 0} → (n me : ℕ) → Made (opening {A = A} n me)
 opening_made n me = record { queued = tt; fresh = tt }
 
 pub all_made : {A : Type 0} → (n me : ℕ) (inputs : List (Input A)) → AreFreshOf (after_inputs (opening n me) inputs).me (after_inputs (opening n me) inputs).held (after_inputs (opening n me) inputs).turns
-all_made n me inputs = (after_all Made made (opening n me) inputs (opening_made n me)).fresh
+all_made n me inputs = (after_all Made making (opening n me) inputs (opening_made n me)).fresh

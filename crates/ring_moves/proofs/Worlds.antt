@@ -11,7 +11,7 @@ use Rattle.ring_moves.specs.Laws.{AreTurnsOf, AreFreshOf}
 use Rattle.ring_moves.proofs.Fits.{Fit, fitting, mark_below, held_below}
 use Rattle.ring_moves.proofs.Agrees.{SayingSame, saying_same}
 use Rattle.ring_moves.proofs.Turned.{Turned, turned}
-use Rattle.ring_moves.proofs.Fresh.{Made, made, opening_made}
+use Rattle.ring_moves.proofs.Fresh.{Made, making, opening_made}
 use Rattle.ring_moves.proofs.Everywhere.{Everywhere, everywhere, kept_run}
 
 fits : {A : Type 0} → (n : ℕ) (events : List (RingEvent A)) → Everywhere Fit (run (unformed n) events)
@@ -27,7 +27,7 @@ pub all_turns : {A : Type 0} → (n i : ℕ) (events : List (RingEvent A)) → A
 all_turns n i events = everywhere Turned turned (unformed n) events (λ i. tt) i
 
 pub all_fresh : {A : Type 0} → (n i : ℕ) (events : List (RingEvent A)) → AreFreshOf ((run (unformed n) events).cores i).me ((run (unformed n) events).cores i).held ((run (unformed n) events).cores i).turns
-all_fresh n i events = (kept_run Made made (unformed n) events (λ i. opening_made n i) i).fresh
+all_fresh n i events = (kept_run Made making (unformed n) events (λ i. opening_made n i) i).fresh
 
 pub all_same_sets : {A : Type 0} → (n i : ℕ) (events : List (RingEvent A)) → AllSaySame ((run (unformed n) events).cores i).gathering
 all_same_sets n i events = everywhere SayingSame saying_same (unformed n) events (λ i. tt) i
