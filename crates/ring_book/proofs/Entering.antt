@@ -6,10 +6,9 @@ use Rattle.std.proofs.lemmas.Bool.Decides.{nat_tests}
 use Rattle.rtrb.specs.Ring.{sent, received, known_items, known_free, IsPair, producer_capacity, SameProducer, SameConsumer}
 use mathlib.Core.List.{IsPrefix}
 use Rattle.ring_book.specs.declared.line.Line.{Line}
-use Rattle.ring_book.specs.declared.TheConstants.{PLACES, FRAME_BYTES}
 use Rattle.ring_session.specs.declared.answer.Answer.{Answer}
 use Rattle.ring_book.specs.Answers.{told_by, told_from}
-use Rattle.ring_book.specs.Books.{IsBook, IsEnd, End}
+use Rattle.ring_book.specs.Books.{most_places, frame_bytes, IsBook, IsEnd, End}
 use Rattle.ring_book.specs.Cells.{IsCell, AllOf}
 use Rattle.ring_book.specs.Ends.{Name, Ring, ring_of_producer, ring_of_consumer}
 use Rattle.ring_book.specs.Lines.{steps_of, IsFound}
@@ -206,7 +205,7 @@ ring_at rings me i r is h = let e : i ≡ me - 1 = omega arith in rw e h
 
 -- a book with more room, for more places
 pub book_grows : {S A : Type 0} (m : Machine S A) (name : Name A) (lines lines' : List (Line A)) (reserved reserved' : ℕ) (ends : List (End A)) (told told' : List (Option Answer)) (calls calls' : List ℕ) (capacity capacity' tickets tickets' places places' space : ℕ)
-    → IsBook m name lines reserved ends told calls capacity tickets places space → lines' ≡ lines → told' ≡ told → calls' ≡ calls → length lines + reserved' ≤ capacity' → length told + reserved' ≤ tickets' → length calls + reserved' ≤ places' → length lines + reserved' ≤ PLACES
+    → IsBook m name lines reserved ends told calls capacity tickets places space → lines' ≡ lines → told' ≡ told → calls' ≡ calls → length lines + reserved' ≤ capacity' → length told + reserved' ≤ tickets' → length calls + reserved' ≤ places' → length lines + reserved' ≤ most_places
     → IsBook m name lines' reserved' ends told' calls' capacity' tickets' places' space
 book_grows m name lines lines' reserved reserved' ends told told' calls calls' capacity capacity' tickets tickets' places places' space b same same_told same_calls room tickets_room places_room limit = rw (same, same_told, same_calls) record {
   alone = b.alone;
@@ -244,7 +243,7 @@ cell_looks m name me ahead node p q k same e more = record {
 
 -- a book whose text was written
 pub book_texts : {S A : Type 0} (m : Machine S A) (name : Name A) (lines : List (Line A)) (reserved : ℕ) (ends : List (End A)) (told : List (Option Answer)) (calls : List ℕ) (capacity tickets places space space' : ℕ)
-    → IsBook m name lines reserved ends told calls capacity tickets places space → FRAME_BYTES ≤ space' → IsBook m name lines reserved ends told calls capacity tickets places space'
+    → IsBook m name lines reserved ends told calls capacity tickets places space → frame_bytes ≤ space' → IsBook m name lines reserved ends told calls capacity tickets places space'
 book_texts m name lines reserved ends told calls capacity tickets places space space' b text = record {
   alone = b.alone;
   count = b.count;

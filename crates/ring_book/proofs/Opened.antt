@@ -1,8 +1,7 @@
 -- Openings that grow.
 use Rattle.std.proofs.Common.{◌≡◌, ℕ, zero, suc, ◌+◌, ◌-◌, ◌++◌, ◌≤◌, List, [], ◌∷◌, refl, ap, subst, sym, ◌∙◌, length, arith, drop, Some, slice_get, false}
 use Rattle.rtrb.specs.Ring.{received, consumer_capacity, IsPair}
-use Rattle.ring_book.specs.declared.TheConstants.{FRAME_BYTES}
-use Rattle.ring_book.specs.Books.{End, IsBook}
+use Rattle.ring_book.specs.Books.{frame_bytes, End, IsBook}
 use Rattle.ring_book.specs.Cells.{IsCell}
 use Rattle.ring_book.specs.Ends.{Name, Ring, ring_of_producer, ring_of_consumer}
 use Rattle.ring_book.specs.Machines.{Machine}
@@ -66,7 +65,7 @@ starts_length m i (n ∷ ns) [] h = absurd h
 starts_length m i (n ∷ ns) (p ∷ ps) h = ap suc (starts_length m (suc i) ns ps h.1)
 
 pub start_book : {S A : Type 0} (m : Machine S A) (name : Name A) (ns : List S) (ps : List (Writer A)) (cs : List (End A)) (room : ℕ)
-    → AllStart m 1 ns ps → AllStartEnds ps cs → length ns ≡ 1 → name.count ≡ length ns → name.rings ≡ rings_of ps → FRAME_BYTES ≤ room → IsBook m name [] 0 cs [] [] 0 0 0 room
+    → AllStart m 1 ns ps → AllStartEnds ps cs → length ns ≡ 1 → name.count ≡ length ns → name.rings ≡ rings_of ps → frame_bytes ≤ room → IsBook m name [] 0 cs [] [] 0 0 0 room
 start_book m name ns ps cs room a b one n r text = record {
   alone = n ∙ one;
   count = ends_length ps cs b ∙ (sym (starts_length m 1 ns ps a) ∙ sym n);

@@ -10,7 +10,7 @@ use Rattle.std.specs.Option.{option_and_then, option_copied}
 use Rattle.ring_wire.specs.declared.frame.Frame.{Frame}
 use Rattle.ring_book.specs.declared.frame_ref.FrameRef.{FrameRef}
 use Rattle.ring_book.specs.declared.line.Line.{Line}
-use Rattle.ring_book.specs.declared.TheConstants.{FRAME_BYTES}
+use Rattle.ring_book.specs.Books.{frame_bytes}
 use Rattle.ring_book.specs.Lines.{frame_at, frame_of, frame_to, AreKept}
 use Rattle.ring_book.specs.Machines.{IsKept}
 use Rattle.ring_base.proofs.Each.{each-get}
@@ -71,6 +71,6 @@ stands_none None bytes h = ((λ t. absurd cc), (λ p. absurd p))
 stands_none (Some x) bytes h = absurd cc
 
 -- the room for a text stays, once it was cleared and written
-pub room_after : (before written text cleared : List ℕ) (spare spare' spare'' : ℕ) → FRAME_BYTES ≤ length before + spare → length before + spare ≤ spare' → written ≡ cleared ++ text → spare' ≤ spare'' + length text
-    → FRAME_BYTES ≤ length written + spare''
+pub room_after : (before written text cleared : List ℕ) (spare spare' spare'' : ℕ) → frame_bytes ≤ length before + spare → length before + spare ≤ spare' → written ≡ cleared ++ text → spare' ≤ spare'' + length text
+    → frame_bytes ≤ length written + spare''
 room_after before written text cleared spare spare' spare'' room clear wrote left = omega (arith, ap length wrote, length-append cleared text)

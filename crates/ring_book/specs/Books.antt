@@ -4,7 +4,6 @@ use Rattle.rtrb.specs.declared.consumer.Consumer.{Consumer}
 use Rattle.rtrb.specs.declared.AnyItems.{AnyItems}
 use Rattle.rtrb.specs.Ring.{received, consumer_capacity}
 use Rattle.ring_book.specs.declared.line.Line.{Line}
-use Rattle.ring_book.specs.declared.TheConstants.{PLACES, FRAME_BYTES}
 use Rattle.ring_session.specs.declared.answer.Answer.{Answer}
 use Rattle.ring_book.specs.Answers.{told_to}
 use Rattle.ring_book.specs.Ends.{Name, ring_of_consumer}
@@ -14,6 +13,14 @@ use Rattle.ring_book.specs.Orders.{call_lines}
 use Rattle.ring_book.specs.Runs.{IsBookRun}
 use Rattle.ring_book.specs.Seen.{CellView, BookView}
 use Rattle.ring_book.specs.Steps.{StepView}
+
+-- a book has at most so many lines
+abbrev pub most_places : ℕ
+most_places = 262144
+
+-- no frame has more bytes
+abbrev pub frame_bytes : ℕ
+frame_bytes = 8192
 
 abbrev pub End : Type 0 → Type 0
 End A = Consumer (StepView A) A AnyItems
@@ -33,12 +40,12 @@ module _ {S A : Type 0} (m : Machine S A) where
     pub run : IsBookRun m name.count lines
     pub kept : AreKept lines
     pub room : length lines + reserved ≤ capacity
-    pub limit : length lines + reserved ≤ PLACES
+    pub limit : length lines + reserved ≤ most_places
     pub answers : told ≡ told_to 1 lines
     pub answers_room : length told + reserved ≤ tickets
     pub numbers : calls ≡ call_lines lines
     pub numbers_room : length calls + reserved ≤ places
-    pub text : FRAME_BYTES ≤ space
+    pub text : frame_bytes ≤ space
 
 module _ {S A : Type 0} where
   -- The cell's one step went to the end of the list, as its line, and what it delivers stood in the list before. Then

@@ -66,7 +66,7 @@ impl<O: Object, K: BookName<O::Alloc>> Book<O, K> {
     ghost use denote.Follow.{follows_so};
     ghost use Rattle.ring_book.specs.contracts.book.Book.{the_row};
     ghost use Rattle.ring_book.specs.Answers.{answer_in};
-    ghost use Rattle.ring_book.specs.Books.{Enters, IsStrange, IsBook};
+    ghost use Rattle.ring_book.specs.Books.{most_places, Enters, IsStrange, IsBook};
     ghost use Rattle.ring_book.specs.Entered.{EnterGives};
     ghost use Rattle.ring_book.specs.Events.{IsRun, events_of, history_of};
     ghost use Rattle.ring_book.specs.Lines.{frame_at, steps_of};
@@ -125,7 +125,7 @@ impl<O: Object, K: BookName<O::Alloc>> Book<O, K> {
         ensures lines { self.new.lines ≡ self.old.lines }
         ensures ok { OnOk result (self.new.reserved ≡ self.old.reserved + 1) }
         ensures err { IfErr result (λ e. (self.new ≡ self.old) × ((e ≡ Memory) ⊎ (e ≡ BookFull))) }
-        ensures full { (result ≡ Err BookFull) ↔ (length self.old.lines + self.old.reserved ≡ PLACES) }
+        ensures full { (result ≡ Err BookFull) ↔ (length self.old.lines + self.old.reserved ≡ most_places) }
     {
         if self.places() == PLACES {
             return Err(Fault::BookFull);

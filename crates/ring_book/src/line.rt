@@ -3,9 +3,9 @@
 ghost use Rattle.std.specs.Prelude.{◌≡◌, ◌+◌, ◌≤◌, ◌↔◌, Some, IsTrue, length};
 ghost use Rattle.std.specs.Option.{option_copied};
 ghost use Rattle.ring_base.specs.Processors.{only};
+ghost use Rattle.ring_book.specs.Books.{frame_bytes};
 ghost use Rattle.ring_book.specs.Lines.{frame_of as frame_in, frame_at as frame_standing, frame_to as frame_there, IsFound, IsThere, AreKept, Stands};
 
-use crate::FRAME_BYTES;
 use crate::frame_ref::FrameRef;
 use crate::input::LineInput;
 use crate::step::Step;
@@ -113,9 +113,9 @@ pub(crate) fn stands<A: Allocator + Copy + Drop>(
     text: &mut BytesMut<A>,
 ) -> bool
     requires kept { AreKept lines.now }
-    requires room { FRAME_BYTES ≤ length text.old.items + text.old.spare }
+    requires room { frame_bytes ≤ length text.old.items + text.old.spare }
     ensures found { IsTrue result ↔ Stands lines.now at node bytes.now }
-    ensures room { FRAME_BYTES ≤ length text.new.items + text.new.spare }
+    ensures room { frame_bytes ≤ length text.new.items + text.new.spare }
 {
     match frame_to(lines, at, node) {
         Some(frame) => {

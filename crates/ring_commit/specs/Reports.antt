@@ -6,11 +6,7 @@ use Rattle.ring_base.specs.Rings.{same_ring}
 use Rattle.ring_base.specs.Numbers.{greatest}
 use Rattle.ring_base.specs.declared.ring_id.RingId.{RingId}
 use Rattle.ring_wire.specs.declared.entries.CommitEntry.{CommitEntry}
-
--- a ring with its members
-pub record Configuration : Type 0 where
-  pub ring : RingId
-  pub members : ℕ
+pub use Rattle.ring_commit.specs.declared.configuration.Configuration.{Configuration}
 
 -- two reports say the same
 abbrev pub same_entry : CommitEntry → CommitEntry → Bool

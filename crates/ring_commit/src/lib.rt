@@ -1,6 +1,13 @@
 //! The commit token: how a ring is proposed, and handed round its members twice.
 #![tactic(auto)]
 
+pub mod configuration;
 pub mod outcome;
+mod rounds;
 
+pub use configuration::Configuration;
 pub use outcome::Outcome;
+pub use rounds::{
+    fill, is_at, is_first_round, is_second_round, is_start, learn, propose, receiver, safe_of,
+    start,
+};

@@ -25,7 +25,6 @@ use Rattle.ring_one.specs.declared.input.Input.TheVariants.{Frame as Comes, Nois
 use Rattle.ring_session.specs.declared.answer.Answer.{Answer}
 use Rattle.ring_one.specs.declared.outs.Answered.{Answered}
 use Rattle.ring_one.specs.declared.outs.Outs.{Outs}
-use Rattle.ring_one.specs.declared.TheConstants.{MAX_UNANSWERED}
 use Rattle.ring_one.specs.Texts.{is_adopted, log_of}
 use Rattle.ring_one.specs.Tickets.{Asked, asked_calls, unanswered, answers_after, all_answers, kept_answers, answer_to}
 
@@ -267,7 +266,7 @@ IsMove object s move (Err fault) new = (fault ≡ Memory) × (new ≡ one_stoppe
 abbrev pub submit_fault : {A : Type 0} → One A → Option Fault
 submit_fault s =
     if is_stopped s.state then Some StoppedFault
-    else if (length (unanswered (committed_of s) s.tickets) == MAX_UNANSWERED) || nat_le max_number (length s.tickets) then Some PendingFull
+    else if (length (unanswered (committed_of s) s.tickets) == 64) || nat_le max_number (length s.tickets) then Some PendingFull
     else None
 
 -- The state after a submit. The call is queued if the running ring is installed and adopted, and is pending otherwise.

@@ -3,11 +3,10 @@ use Rattle.std.specs.Prelude.{ℕ, ◌-◌, ◌==◌, List, [], ◌∷◌, lengt
 use Rattle.ring_session.specs.declared.answer.Answer.{Answer}
 use Rattle.ring_one.specs.declared.outs.Answered.{Answered}
 use Rattle.ring_one.specs.declared.recent.Kept.{Kept}
-use Rattle.ring_one.specs.declared.TheConstants.{KEPT_ANSWERS}
 
--- the last of a list, so many as are kept
+-- the last of a list, the 64 that are kept
 abbrev pub last_kept : {X : Type 0} → List X → List X
-last_kept xs = drop (length xs - KEPT_ANSWERS) xs
+last_kept xs = drop (length xs - 64) xs
 
 -- what is kept of an answer
 abbrev pub kept_of : {A : Type 0} → Answered A → Kept

@@ -7,7 +7,6 @@ use Rattle.ring_payload.specs.declared.call.Call.{Call}
 use Rattle.ring_session.specs.declared.answer.Answer.{Answer}
 use Rattle.ring_session.specs.SessionAnswer.{is_same, session_answer}
 use Rattle.ring_one.specs.declared.outs.Answered.{Answered}
-use Rattle.ring_one.specs.declared.TheConstants.{KEPT_ANSWERS}
 
 -- What a ticket stands for: the call, and how many places were committed when it was submitted.
 pub record Asked (A : Type 0) : Type 0 where
@@ -61,7 +60,7 @@ module _ {O : Type 0} (object : Sequential O) where
 
 -- the last answers, so many as are kept
 abbrev pub kept_answers : {A : Type 0} → List (Answered A) → List (Answered A)
-kept_answers answers = drop (length answers - KEPT_ANSWERS) answers
+kept_answers answers = drop (length answers - 64) answers
 
 -- the answer to the ticket among these
 abbrev pub answer_to : {A : Type 0} → ℕ → List (Answered A) → Option Answer

@@ -3,8 +3,8 @@
 use crate::driven::{ADD, ADD_ONE, Driven, READ, Seen, counted};
 use ring_base::{Fault, Kind, State};
 use ring_object::Object;
-use ring_one::{Input, KEPT_ANSWERS, MAX_UNANSWERED, Ticket, first_reply_example, linear_law};
-use ring_session::{Answer, MAX_CLIENTS};
+use ring_one::{Input, Ticket, first_reply_example, linear_law};
+use ring_session::Answer;
 use ring_things::{Counters, Queue};
 use ring_wire::Frame;
 use std::alloc::Allocator;
@@ -147,7 +147,7 @@ fn answers_of_the_sessions(rt: HostRuntime) -> Result<(), Fail> {
 fn knows_so_many_clients(rt: HostRuntime) -> Result<(), Fail> {
     let mut driven = Driven::<Counters>::new(rt.alloc(), rt.alloc())?;
     driven.form()?;
-    for client in 0..MAX_CLIENTS as u32 {
+    for client in 0..1024u32 {
         let ticket = driven.ask(client, 1, &READ)?;
         assert_told(&rt, &driven, ticket, Some(Answer::Done(counted(0))));
     }
@@ -174,7 +174,7 @@ fn sixty_four_wait(rt: HostRuntime) -> Result<(), Fail> {
         );
     }
     let ticket = driven.submit_on(7, 65, &READ)?;
-    assert_eq!(rt; ticket.number(), MAX_UNANSWERED as u64);
+    assert_eq!(rt; ticket.number(), 64);
     Ok(())
 }
 
@@ -246,7 +246,7 @@ fn tells_the_last_answers(rt: HostRuntime) -> Result<(), Fail> {
     driven.form()?;
     let first = driven.ask(7, 1, &ADD_ONE)?;
     let mut later = Vec::new(rt.alloc());
-    for number in 2..=KEPT_ANSWERS as u64 {
+    for number in 2..=64u64 {
         later.push(driven.ask(7, number, &ADD_ONE)?)?;
     }
     assert_told(&rt, &driven, first, Some(Answer::Done(counted(1))));

@@ -17,17 +17,21 @@ use Rattle.ring_payload.specs.Packing.{is_queued, AreQueued, IsLongestRun, run_w
 pub length-packed : {A : Type 0} → (count : ℕ) (queue : List (Payload A)) → length (packed count queue) ≤ count
 length-packed zero queue = omega arith
 length-packed (suc more) [] = omega arith
-length-packed (suc more) (first ∷ queue) = let i : length (packed more (behind (first ∷ queue))) ≤ more = length-packed more (behind (first ∷ queue)) in omega arith
+length-packed (suc more) (first ∷ queue) =
+    let i : length (packed more (behind (first ∷ queue))) ≤ more = length-packed more (behind (first ∷ queue)) in
+    omega arith
 
 abbrev pub calls_as : {A : Type 0} → List (OneCall A) → List (Payload A)
 calls_as run = map (λ c. Call c) run
 
 -- a run stands at the queue's front
-run-front : {A : Type 0} → (more bytes : ℕ) (queue : List (Payload A)) → calls_as (run_within more bytes queue) ++ drop (length (run_within more bytes queue)) queue ≡ queue
+run-front : {A : Type 0} → (more bytes : ℕ) (queue : List (Payload A)) →
+    calls_as (run_within more bytes queue) ++ drop (length (run_within more bytes queue)) queue ≡ queue
 run-front zero bytes queue = refl
 run-front (suc more) bytes [] = refl
 run-front (suc more) bytes (Call c ∷ queue) =
-    cond_both (nat_le (call_bytes c) bytes) (c ∷ run_within more (bytes - call_bytes c) queue) [] (λ run. calls_as run ++ drop (length run) (Call c ∷ queue) ≡ Call c ∷ queue)
+    cond_both (nat_le (call_bytes c) bytes) (c ∷ run_within more (bytes - call_bytes c) queue) []
+    (λ run. calls_as run ++ drop (length run) (Call c ∷ queue) ≡ Call c ∷ queue)
     (λ e. ap (λ q. Call c ∷ q) (run-front more (bytes - call_bytes c) queue)) (λ e. refl)
 run-front (suc more) bytes (Wrapped old ∷ queue) = refl
 run-front (suc more) bytes (End ∷ queue) = refl
@@ -68,7 +72,8 @@ run-short (suc more) bytes (Pack pack ∷ queue) = omega arith
 run-short (suc more) bytes (Snap snap ∷ queue) = omega arith
 
 -- no other run at the front that fits is longer
-run-longest : {A : Type 0} → (more bytes : ℕ) (queue : List (Payload A)) (other : List (OneCall A)) (rest : List (Payload A)) → calls_as other ++ rest ≡ queue → length other ≤ more → calls_bytes other ≤ bytes →
+run-longest : {A : Type 0} → (more bytes : ℕ) (queue : List (Payload A)) (other : List (OneCall A)) (rest : List (Payload A)) →
+    calls_as other ++ rest ≡ queue → length other ≤ more → calls_bytes other ≤ bytes →
     length other ≤ length (run_within more bytes queue)
 run-longest more bytes queue [] rest e l b = omega arith
 run-longest zero bytes queue (x ∷ other) rest e l b = absurd (omega arith)
@@ -77,7 +82,8 @@ run-longest (suc more) bytes (Call c ∷ queue) (x ∷ other) rest e l b =
     let same : c ≡ x = cc in
     let behind : calls_as other ++ rest ≡ queue = cc in
     let size : call_bytes c ≡ call_bytes x = ap call_bytes same in
-    let i : length other ≤ length (run_within more (bytes - call_bytes c) queue) = run-longest more (bytes - call_bytes c) queue other rest behind (omega arith) (omega arith) in
+    let less = bytes - call_bytes c in
+    let i : length other ≤ length (run_within more less queue) = run-longest more less queue other rest behind (omega arith) (omega arith) in
     cond_both (nat_le (call_bytes c) bytes) (c ∷ run_within more (bytes - call_bytes c) queue) [] (λ run. suc (length other) ≤ length run) (λ t. omega arith)
     (λ t. absurd (true≢false (sym (le-leb (call_bytes c) bytes (omega arith)) ∙ t)))
 run-longest (suc more) bytes (Wrapped old ∷ queue) (x ∷ other) rest e l b = absurd cc
@@ -93,8 +99,14 @@ front_run-longest queue =
     let bytes = most_pack_bytes - 2 in
     let short : calls_bytes (front_run queue) ≤ bytes = run-short most_pack bytes queue in
     record {
-      fits = record { begins = (drop (length (front_run queue)) queue, run-front most_pack bytes queue); few = run-few most_pack bytes queue; short = omega arith };
-      longest = λ other r. run-longest most_pack bytes queue other r.begins.0 r.begins.1 r.few (let i : pack_bytes other ≤ most_pack_bytes = r.short in omega arith);
+      fits = record {
+        begins = (drop (length (front_run queue)) queue, run-front most_pack bytes queue);
+        few = run-few most_pack bytes queue;
+        short = omega arith;
+      };
+      longest = λ other r.
+          let i : pack_bytes other ≤ most_pack_bytes = r.short in
+          run-longest most_pack bytes queue other r.begins.0 r.begins.1 r.few (omega arith);
     }
 
 -- the first payload of a queue is its own unit
@@ -108,7 +120,8 @@ units-queued (Pack pack) h = absurd cc
 units-queued (Snap snap) h = refl
 
 -- the first message, unpacked, and what is left behind it
-units-made : {A : Type 0} → (first : Payload A) (queue : List (Payload A)) (run : List (OneCall A)) → is_queued first ≡ true → calls_as run ++ drop (length run) (first ∷ queue) ≡ first ∷ queue →
+units-made : {A : Type 0} → (first : Payload A) (queue : List (Payload A)) (run : List (OneCall A)) → is_queued first ≡ true →
+    calls_as run ++ drop (length run) (first ∷ queue) ≡ first ∷ queue →
     units (made_of first run) ++ drop (max 1 (length run)) (first ∷ queue) ≡ first ∷ queue
 units-made first queue [] h e = ap (λ q. q ++ queue) (units-queued first h)
 units-made first queue (c ∷ []) h e = ap (λ q. q ++ queue) (units-queued first h)
@@ -116,7 +129,8 @@ units-made first queue (c ∷ d ∷ run) h e =
     let n : suc (suc (length run)) ≡ max 1 (suc (suc (length run))) = omega arith in
     subst (λ n. units (made_of first (c ∷ d ∷ run)) ++ drop n (first ∷ queue) ≡ first ∷ queue) n e
 
-units-first : {A : Type 0} → (first : Payload A) (queue : List (Payload A)) → is_queued first ≡ true → units (made_of first (front_run (first ∷ queue))) ++ behind (first ∷ queue) ≡ first ∷ queue
+units-first : {A : Type 0} → (first : Payload A) (queue : List (Payload A)) → is_queued first ≡ true →
+    units (made_of first (front_run (first ∷ queue))) ++ behind (first ∷ queue) ≡ first ∷ queue
 units-first first queue h = units-made first queue (front_run (first ∷ queue)) h (run-front most_pack (most_pack_bytes - 2) (first ∷ queue))
 
 -- what is dropped from a list leaves what holds of each
@@ -126,7 +140,8 @@ each-drop P (suc n) [] h = h
 each-drop P (suc n) (x ∷ xs) h = each-drop P n xs h.1
 
 -- what holds of each payload of a queue holds of each that is left
-pub left_behind-each : {A : Type 0} → (P : Payload A → Type 0) (count : ℕ) (queue : List (Payload A)) → AllByRecursion P queue → AllByRecursion P (left_behind count queue)
+pub left_behind-each : {A : Type 0} → (P : Payload A → Type 0) (count : ℕ) (queue : List (Payload A)) → AllByRecursion P queue →
+    AllByRecursion P (left_behind count queue)
 left_behind-each P zero queue h = h
 left_behind-each P (suc more) queue h = left_behind-each P more (behind queue) (each-drop P (max 1 (length (front_run queue))) queue h)
 
@@ -135,7 +150,8 @@ behind-nil zero = refl
 behind-nil (suc more) = behind-nil more
 
 -- the messages, unpacked, and then what is left: the queue
-pub units-packed : {A : Type 0} → (count : ℕ) (queue : List (Payload A)) → AreQueued queue → flat_map units (packed count queue) ++ left_behind count queue ≡ queue
+pub units-packed : {A : Type 0} → (count : ℕ) (queue : List (Payload A)) → AreQueued queue →
+    flat_map units (packed count queue) ++ left_behind count queue ≡ queue
 units-packed zero queue h = refl
 units-packed (suc more) [] h = behind-nil more
 units-packed {A} (suc more) (first ∷ queue) h =
@@ -150,7 +166,8 @@ run-fits : {A : Type 0} → (more bytes : ℕ) (queue : List (Payload A)) → Al
 run-fits zero bytes queue h = tt
 run-fits (suc more) bytes [] h = tt
 run-fits (suc more) bytes (Call c ∷ queue) h =
-    cond_both (nat_le (call_bytes c) bytes) (c ∷ run_within more (bytes - call_bytes c) queue) [] (λ run. AllByRecursion CallFits run) (λ e. (h.0, run-fits more (bytes - call_bytes c) queue h.1)) (λ e. tt)
+    cond_both (nat_le (call_bytes c) bytes) (c ∷ run_within more (bytes - call_bytes c) queue) []
+    (λ run. AllByRecursion CallFits run) (λ e. (h.0, run-fits more (bytes - call_bytes c) queue h.1)) (λ e. tt)
 run-fits (suc more) bytes (Wrapped old ∷ queue) h = tt
 run-fits (suc more) bytes (End ∷ queue) h = tt
 run-fits (suc more) bytes (Head head ∷ queue) h = tt
@@ -158,7 +175,8 @@ run-fits (suc more) bytes (Part part ∷ queue) h = tt
 run-fits (suc more) bytes (Pack pack ∷ queue) h = tt
 run-fits (suc more) bytes (Snap snap ∷ queue) h = tt
 
-made-fits : {A : Type 0} → (first : Payload A) (run : List (OneCall A)) → PayloadFits first → AllByRecursion CallFits run → length run ≤ most_pack → pack_bytes run ≤ most_pack_bytes → PayloadFits (made_of first run)
+made-fits : {A : Type 0} → (first : Payload A) (run : List (OneCall A)) → PayloadFits first → AllByRecursion CallFits run → length run ≤ most_pack →
+    pack_bytes run ≤ most_pack_bytes → PayloadFits (made_of first run)
 made-fits first [] f each few short = f
 made-fits first (c ∷ []) f each few short = f
 made-fits first (c ∷ d ∷ run) f each few short = record { some = omega arith; few = few; each = each; short = short }
@@ -170,7 +188,9 @@ packed-fits (suc more) [] h = tt
 packed-fits (suc more) (first ∷ queue) h =
     let run = front_run (first ∷ queue) in
     let is = (front_run-longest (first ∷ queue)).fits in
-    (made-fits first run h.0 (run-fits most_pack (most_pack_bytes - 2) (first ∷ queue) h) is.few is.short, packed-fits more (behind (first ∷ queue)) (each-drop PayloadFits (max 1 (length run)) (first ∷ queue) h))
+    let each = run-fits most_pack (most_pack_bytes - 2) (first ∷ queue) h in
+    let rest = each-drop PayloadFits (max 1 (length run)) (first ∷ queue) h in
+    (made-fits first run h.0 each is.few is.short, packed-fits more (behind (first ∷ queue)) rest)
 
 -- Users
 
@@ -180,12 +200,14 @@ user-made first (c ∷ []) h = h
 user-made first (c ∷ d ∷ run) h = refl
 
 -- of users' payloads users' messages are made
-pub packed-users : {A : Type 0} → (count : ℕ) (queue : List (Payload A)) → AllByRecursion (λ (p : Payload A). is_user p ≡ true) queue → AllByRecursion (λ (p : Payload A). is_user p ≡ true) (packed count queue)
+pub packed-users : {A : Type 0} → (count : ℕ) (queue : List (Payload A)) → AllByRecursion (λ (p : Payload A). is_user p ≡ true) queue →
+    AllByRecursion (λ (p : Payload A). is_user p ≡ true) (packed count queue)
 packed-users zero queue h = tt
 packed-users (suc more) [] h = tt
 packed-users {A} (suc more) (first ∷ queue) h =
     let run = front_run (first ∷ queue) in
-    (user-made first run h.0, packed-users more (behind (first ∷ queue)) (each-drop (λ (p : Payload A). is_user p ≡ true) (max 1 (length run)) (first ∷ queue) h))
+    let rest = each-drop (λ (p : Payload A). is_user p ≡ true) (max 1 (length run)) (first ∷ queue) h in
+    (user-made first run h.0, packed-users more (behind (first ∷ queue)) rest)
 
 -- a queue's payload is a user's
 pub user-queued : {A : Type 0} → (p : Payload A) → is_queued p ≡ true → is_user p ≡ true

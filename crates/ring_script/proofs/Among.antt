@@ -7,11 +7,11 @@ use Rattle.std.proofs.lemmas.Result.{IfOk-at_ok}
 use Rattle.ring_base.specs.Group.{Group}
 use Rattle.ring_script.specs.declared.scripts.Numbered.{Numbered}
 use Rattle.ring_script.specs.declared.scripts.Rings.{Rings}
-use Rattle.ring_script.specs.Lines.{Asked, IsAmong, call_at, deliver_at, timeout_at, noise_at, stop_at, cut_line_at, pump_at, form_at, whole, asked_of}
+use Rattle.ring_script.specs.Lines.{Asked, IsAmong, call_at, deliver_at, timeout_at, noise_at, stop_at, cut_line_at, pump_at, form_at, asked_of}
 use Rattle.ring_script.specs.Numbers.{word_at, node_at}
 use Rattle.ring_script.specs.Reading.{◌>>=◌}
 use Rattle.ring_script.specs.Scripts.{unless_skipped, useful_of, then_asked, asked_in, numbered_by, AreAmong}
-use Rattle.ring_script.specs.Words.{words_of}
+use Rattle.ring_script.specs.Words.{words_of, whole}
 
 -- ---- the forms of lines
 

@@ -16,7 +16,7 @@ use Rattle.ring_script.specs.Operations.{is_name, argument_at, argument_after, a
 use Rattle.ring_script.specs.Reading.{Refuses}
 
 -- what a step and then another have given
-and_then_some : {A B : Type 0} (o : Option A) (f : A → Option B) (y : B) → option_and_then f o ≡ Some y → (x : A) × (o ≡ Some x) × (f x ≡ Some y)
+pub and_then_some : {A B : Type 0} (o : Option A) (f : A → Option B) (y : B) → option_and_then f o ≡ Some y → (x : A) × (o ≡ Some x) × (f x ≡ Some y)
 and_then_some None f y e = absurd cc
 and_then_some (Some x) f y e = (x, refl, e)
 
@@ -68,7 +68,7 @@ unfolding form_of
 form_short word =
     pick (is (codes "get") word) _ _ (refl, omega arith) (pick (is (codes "put") word) _ _ (refl, omega arith) (pick (is (codes "cas") word) _ _ (refl, omega arith) (pick (is (codes "add") word) _ _ (refl, omega arith) (pick (is (codes "read") word) _ _ (refl, omega arith) (pick (is (codes "push") word) _ _ (refl, omega arith) (pick (is (codes "pop") word) _ _ (refl, omega arith) (pick (is (codes "length") word) _ _ (refl, omega arith) (pick (is (codes "insert") word) _ _ (refl, omega arith) (pick (is (codes "remove") word) _ _ (refl, omega arith) (pick (is (codes "has") word) _ _ (refl, omega arith) (tt)))))))))))
 
-some_has : {X : Type 0} (P : X → Type 0) (o : Option X) (x : X) → o ≡ Some x → IfSome o P → P x
+pub some_has : {X : Type 0} (P : X → Type 0) (o : Option X) (x : X) → o ≡ Some x → IfSome o P → P x
 some_has P o x e h = rw e at h
 
 pub operation_short : (words : List (List ℕ)) (x : List ℕ × List (List ℕ)) → operation_at words ≡ Some x → length x.0 ≤ 1024

@@ -8,3 +8,4 @@ pub mod Readings
 pub mod Refusals
 pub mod Spelling
 pub mod Together
+pub mod Voting

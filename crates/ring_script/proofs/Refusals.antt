@@ -2,7 +2,7 @@
 use Rattle.std.proofs.Common.{◌≡◌, Option, None}
 use Rattle.ring_base.specs.declared.fault.Fault.{Fault}
 use Rattle.ring_base.specs.declared.fault.Fault.TheVariants.{NotMember, PendingFull, OpTooLong, Conflict, Stale, NumberGap, SessionsFull, Stopped, BookFull, Stranger, Memory, BadFrame, BadScript, NoAnswer, BadSnapshot}
-use Rattle.ring_script.specs.Reading.{Refuses}
+use Rattle.ring_script.specs.Reading.{Misses, Refuses}
 
 -- a refusal passes on to whatever is nothing where this is
 pub Refuses-on : {A B : Type 0} (e : Fault) (r : Option A) (s : Option B) → Refuses e r → (r ≡ None → s ≡ None) → Refuses e s
@@ -21,3 +21,21 @@ Refuses-on BadFrame r s h f = h
 Refuses-on BadScript r s h f = f h
 Refuses-on NoAnswer r s h f = h
 Refuses-on BadSnapshot r s h f = h
+
+-- the same where memory is not refused
+pub Misses-on : {A B : Type 0} (e : Fault) (r : Option A) (s : Option B) → Misses e r → (r ≡ None → s ≡ None) → Misses e s
+Misses-on NotMember r s h f = h
+Misses-on PendingFull r s h f = h
+Misses-on OpTooLong r s h f = h
+Misses-on Conflict r s h f = h
+Misses-on Stale r s h f = h
+Misses-on NumberGap r s h f = h
+Misses-on SessionsFull r s h f = h
+Misses-on Stopped r s h f = h
+Misses-on BookFull r s h f = h
+Misses-on Stranger r s h f = h
+Misses-on Memory r s h f = h
+Misses-on BadFrame r s h f = h
+Misses-on BadScript r s h f = f h
+Misses-on NoAnswer r s h f = h
+Misses-on BadSnapshot r s h f = h

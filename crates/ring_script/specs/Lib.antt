@@ -6,4 +6,5 @@ pub mod Numbers
 pub mod Operations
 pub mod Reading
 pub mod Scripts
+pub mod Votes
 pub mod Words

@@ -13,7 +13,7 @@ use Rattle.ring_script.specs.Cuts.{cut_at}
 use Rattle.ring_script.specs.Numbers.{is, decimal_of, word_at, number_at, node_at}
 use Rattle.ring_script.specs.Operations.{operation_at}
 use Rattle.ring_script.specs.Reading.{◌>>=◌}
-use Rattle.ring_script.specs.Words.{words_of}
+use Rattle.ring_script.specs.Words.{words_of, whole}
 
 -- ---- what a line asks for
 
@@ -145,10 +145,6 @@ form_at nodes word words =
     else if is (codes "pump") word then pump_at words
     else if is (codes "show") word then Some (Show, words)
     else None
-
--- what was read, where no word is left
-abbrev pub whole : {X : Type 0} → X × List (List ℕ) → Option X
-whole read = if length read.1 == 0 then Some read.0 else None
 
 -- what the line asks for
 unfoldable pub asked_of : Group → List ℕ → Option Asked

@@ -1,7 +1,6 @@
 -- What scripts are for, and the whole language of them: which script a text is, or which line of it is at fault.
 use Rattle.std.specs.Prelude.{◌≡◌, ℕ, ◌+◌, ◌≤◌, ◌⊎◌, Bool, true, false, ◌==◌, ◌&&◌, if◌then◌else◌, List, [], ◌∷◌, length, map, codes, Option, Some, None, option_map, Result, Ok, Err, ⊤}
-use Rattle.std.specs.Char.{is_ascii}
-use Rattle.std.specs.List.{list_all, AllByRecursion}
+use Rattle.std.specs.List.{AllByRecursion}
 use Rattle.ring_base.specs.Group.{Group}
 use Rattle.ring_base.specs.declared.fault.Fault.{Fault}
 use Rattle.ring_base.specs.declared.fault.Fault.TheVariants as faults
@@ -13,10 +12,11 @@ use Rattle.ring_script.specs.declared.scripts.Rings.TheVariants.{OfOne, OfMany}
 use Rattle.ring_script.specs.declared.scripts.Script.{Script}
 use Rattle.ring_script.specs.declared.scripts.ScriptFault.{ScriptFault}
 use Rattle.ring_script.specs.declared.scripts.ScriptFault.TheVariants.{Memory, AtLine}
-use Rattle.ring_script.specs.Lines.{Asked, Timeout, asked_by, asked_of, whole, IsAmong}
+use Rattle.ring_script.specs.Lines.{Asked, Timeout, asked_by, asked_of, IsAmong}
 use Rattle.ring_script.specs.Numbers.{is, word_at, number_at}
 use Rattle.ring_script.specs.Reading.{◌>>=◌}
-use Rattle.ring_script.specs.Words.{LinesLeft, words_of, lines_of}
+use Rattle.ring_script.specs.Votes.{nodes_alike, votes_in}
+use Rattle.ring_script.specs.Words.{LinesLeft, words_of, whole, are_ascii, is_skipped, lines_of}
 
 -- ---- what a script may have
 
@@ -36,22 +36,13 @@ allowed OfOne nodes kind = nodes.count == 1 && is_join kind
 
 -- ---- lines
 
--- whether a line asks for nothing: it is empty, or begins with `#`
-abbrev pub is_skipped : List ℕ → Bool
-is_skipped [] = true
-is_skipped (b ∷ line) = b == 35
-
--- whether each byte is below 128
-abbrev pub are_ascii : List ℕ → Bool
-are_ascii line = list_all is_ascii line
-
--- the nodes that a line `nodes N` tells, if they can form such rings
+-- the nodes that a line `nodes N` tells, with one vote each, if they can form such rings
 unfoldable pub nodes_of : Rings → List ℕ → Option Group
 nodes_of rings line = do
   word ← word_at (words_of line)
   count ← if is (codes "nodes") word.0 then number_at 1 16 word.1 else None
   nodes ← whole count
-  if allowed rings (record { count = nodes }) kinds.Join then Some (record { count = nodes }) else None
+  if allowed rings (nodes_alike nodes) kinds.Join then Some (nodes_alike nodes) else None
 
 -- whether such rings have a use for what a line asks for
 abbrev pub is_useful : Rings → Group → Asked → Bool
@@ -70,7 +61,7 @@ unless_skipped read line = if are_ascii line then (if is_skipped line then Some 
 
 -- ---- scripts
 
--- how many nodes there are, and what the lines ask for, each with its number
+-- the nodes with their votes, and what the lines ask for, each with its number
 pub record Schedule : Type 0 where
   pub nodes : Group
   pub asked : List (ℕ × Asked)
@@ -107,9 +98,14 @@ abbrev pub with_nodes : Group → Result (List (ℕ × Asked)) ℕ → Result Sc
 with_nodes nodes (Ok asked) = Ok (record { nodes = nodes; asked = asked })
 with_nodes nodes (Err line) = Err line
 
+-- the schedule of the nodes with their votes and of the lines after them
+abbrev pub with_votes : Rings → Result (Group × LinesLeft) ℕ → Result Schedule ℕ
+with_votes rings (Ok voted) = with_nodes voted.0 (asked_in rings voted.0 voted.1.before voted.1.lines)
+with_votes rings (Err line) = Err line
+
 -- the schedule of the nodes and of the lines after them
 abbrev pub schedule_of : Rings → Result (Group × LinesLeft) ℕ → Result Schedule ℕ
-schedule_of rings (Ok first) = with_nodes first.0 (asked_in rings first.0 first.1.before first.1.lines)
+schedule_of rings (Ok first) = with_votes rings (votes_in first.0 first.1.before first.1.lines)
 schedule_of rings (Err line) = Err line
 
 -- the script that a text is, or the number of its first line at fault, counted from 1: the line after the last where no line asks for anything

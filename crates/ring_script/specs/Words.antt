@@ -1,6 +1,8 @@
 -- The words of a line, and the lines of a text.
-use Rattle.std.specs.Prelude.{◌≡◌, ℕ, ◌+◌, ◌==◌, if◌then◌else◌, List, [], ◌∷◌, Option, Some, None, Result, Ok, Err}
+use Rattle.std.specs.Prelude.{◌≡◌, ℕ, ◌+◌, Bool, true, ◌==◌, if◌then◌else◌, List, [], ◌∷◌, length, Option, Some, None, Result, Ok, Err}
 use Rattle.std.specs.Borrow.{Bor}
+use Rattle.std.specs.Char.{is_ascii}
+use Rattle.std.specs.List.{list_all}
 use Rattle.ring_base.specs.declared.fault.Fault.{Fault}
 use Rattle.ring_base.specs.declared.fault.Fault.TheVariants.{BadScript}
 
@@ -18,6 +20,10 @@ pieces separator (b ∷ text) = if b == separator then [] ∷ pieces separator t
 abbrev pub words_of : List ℕ → List (List ℕ)
 words_of line = pieces 32 line
 
+-- what was read, where no word is left
+abbrev pub whole : {X : Type 0} → X × List (List ℕ) → Option X
+whole read = if length read.1 == 0 then Some read.0 else None
+
 -- the lines of a text: a line feed ends a line, and after the last there is one more exactly if bytes follow
 unfoldable pub lines_of : List ℕ → List (List ℕ)
 lines_of [] = []
@@ -32,6 +38,15 @@ pieces_left separator (Some rest) = pieces separator rest.now
 abbrev pub ended : List (List ℕ) → Result (Unit {0}) Fault
 ended [] = Ok tt
 ended (word ∷ words) = Err BadScript
+
+-- whether a line asks for nothing: it is empty, or begins with `#`
+abbrev pub is_skipped : List ℕ → Bool
+is_skipped [] = true
+is_skipped (b ∷ line) = b == 35
+
+-- whether each byte is below 128
+abbrev pub are_ascii : List ℕ → Bool
+are_ascii line = list_all is_ascii line
 
 -- the lines of a text that are left, and how many stood before them
 pub record LinesLeft : Type 0 where

@@ -1,4 +1,4 @@
-//! The language of scripts, as a text: how many nodes there are, and which events come, in their order. The
+//! The language of scripts, as a text: how many nodes there are, their votes, and which events come, in their order. The
 //! reader takes a text whole or tells its first fault; it runs nothing.
 #![tactic(auto)]
 
@@ -9,6 +9,7 @@ mod line;
 mod lines;
 mod operation;
 mod scripts;
+mod votes;
 mod words;
 
 pub use examples::script_example;

@@ -37,6 +37,16 @@ impl<'a> Lines<'a> {
         }
     }
 
+    /// The same lines once more.
+    pub fn again(&self) -> Lines<'a>
+        ensures { result ≡ self.now }
+    {
+        Lines {
+            rest: self.rest,
+            before: self.before,
+        }
+    }
+
     /// The number that the next line has or would have.
     pub fn number(&self) -> u64
         ensures { result ≡ self.now.before + 1 }

@@ -6,10 +6,12 @@ ghost use Rattle.std.specs.Prelude.{◌≡◌, ℕ, ◌≤◌, Some, None, List,
 ghost use Rattle.ring_script.specs.Faults.{IsOfText};
 ghost use Rattle.ring_script.specs.Lines.{asked_by};
 ghost use Rattle.ring_script.specs.Reading.{Gives, Tells};
-ghost use Rattle.ring_script.specs.Scripts.{CanForm, allowed, is_skipped, are_ascii, nodes_of, is_useful, useful_of, unless_skipped, at_line, nodes_in, asked_in, script_of, numbered_by, schedule_by, AreAmong, Answers, longest_text, IsAllOf, AnswersInput, IsUnread};
+ghost use Rattle.ring_script.specs.Scripts.{CanForm, allowed, nodes_of, is_useful, useful_of, unless_skipped, at_line, nodes_in, asked_in, script_of, numbered_by, schedule_by, AreAmong, Answers, longest_text, IsAllOf, AnswersInput, IsUnread};
+ghost use Rattle.ring_script.specs.Words.{are_ascii, is_skipped};
 
 use crate::line::Line;
 use crate::lines::Lines;
+use crate::votes::read_votes;
 use crate::words::{Words, is};
 use ring_base::{Fault, Fixed, Kind};
 use std::alloc::{Allocator, Global};
@@ -27,7 +29,7 @@ pub enum ScriptFault {
     AtLine(u64),
 }
 
-/// A script: how many nodes there are, and what its other lines ask for, in their order.
+/// A script: how many nodes there are with how many votes each, and what its other lines ask for, in their order.
 #[derive(Drop)]
 pub struct Script<A: Allocator + Copy = Global> {
     pub nodes: Fixed,
@@ -83,7 +85,8 @@ impl<A: Allocator + Copy> Script<A> {
         ensures refused { IfErr result IsOfText }
     {
         let mut rest = Lines::new(text);
-        let nodes = read_nodes(&mut rest, rings)?;
+        let alike = read_nodes(&mut rest, rings)?;
+        let nodes = read_votes(&mut rest, alike)?;
         let lines = read_lines(alloc, nodes, rings, &mut rest)?;
         Ok(Script { nodes, lines })
     }
@@ -151,7 +154,7 @@ fn read_lines<A: Allocator + Copy>(
 }
 
 /// What a fault comes to in the line of this number: but for want of memory, it is the line's.
-fn at_line(fault: Fault, number: u64) -> ScriptFault
+pub(crate) fn at_line(fault: Fault, number: u64) -> ScriptFault
     ensures { result ≡ at_line fault number }
 {
     match fault {
@@ -165,7 +168,7 @@ fn first_of(line: &[u8], rings: Rings) -> Result<Option<Fixed>, Fault>
     ensures nodes { IfOk result (λ told. IfSome told (CanForm rings)) }
     ensures read { Tells (λ told. told) result (unless_skipped (nodes_of rings) line.now) }
 {
-    if is_skipped(line)? {
+    if skips(line)? {
         return Ok(None);
     }
     Ok(Some(nodes_of(line, rings)?))
@@ -181,28 +184,35 @@ fn line_of<A: Allocator + Copy>(
 ) -> Result<Option<Line<A>>, Fault>
     ensures { Gives (option_map asked_by) result (unless_skipped (useful_of rings nodes) line.now) }
 {
-    if is_skipped(line)? {
+    if skips(line)? {
         return Ok(None);
     }
     Ok(Some(useful_of(alloc, nodes, rings, line)?))
 }
 
 /// Whether the line asks for nothing: it is empty, or a comment. `BadScript` where it is not ASCII.
-fn is_skipped(line: &[u8]) -> Result<bool, Fault>
+fn skips(line: &[u8]) -> Result<bool, Fault>
     ensures { Tells (λ skipped. skipped) result
         (if are_ascii line.now then Some (is_skipped line.now) else None) }
 {
     if !are_ascii(line) {
         return Err(Fault::BadScript);
     }
+    Ok(is_skipped(line))
+}
+
+/// Whether the line is empty, or a comment.
+pub(crate) fn is_skipped(line: &[u8]) -> bool
+    ensures { result ≡ is_skipped line.now }
+{
     match line.first() {
-        None => Ok(true),
-        Some(first) => Ok(*first == b'#'),
+        None => true,
+        Some(first) => *first == b'#',
     }
 }
 
 /// Whether each byte is below 128.
-fn are_ascii(line: &[u8]) -> bool
+pub(crate) fn are_ascii(line: &[u8]) -> bool
     ensures { result ≡ are_ascii line.now }
 {
     line.iter().all(|byte| byte.is_ascii())

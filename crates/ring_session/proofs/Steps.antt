@@ -10,7 +10,7 @@ use Rattle.std.proofs.lemmas.Map.Steps.{set_value_same}
 use Rattle.std.proofs.lemmas.Map.Views.{All-values-insert_entry}
 use Rattle.ring_object.specs.Operations.{Sequential}
 use Rattle.ring_payload.specs.declared.call.Call.{Call}
-use Rattle.ring_session.specs.declared.TheConstants.{MAX_CLIENTS}
+use Rattle.ring_session.specs.Deduplicated.{most_clients}
 use Rattle.ring_session.specs.Table.{LastCall, IsTable, table_of, last_number, last_call, is_taken, table_next}
 use Rattle.ring_session.proofs.Entries.{set_value-known, remove_entry-new, length-new}
 
@@ -28,7 +28,7 @@ taken_out es put after client new out was none = out ∙ ap (remove_entry (is_at
 
 pub IsTable-content : {O : Type 0} (es after : List (ℕ × LastCall)) (content content' : O) → IsTable (table_of es content) → after ≡ es → IsTable (table_of after content')
 IsTable-content es after content content' is same = record {
-  few = subst (λ (l : List (ℕ × LastCall)). length l ≤ MAX_CLIENTS) (sym same) is.few;
+  few = subst (λ (l : List (ℕ × LastCall)). length l ≤ most_clients) (sym same) is.few;
   numbered = subst (λ (l : List (ℕ × LastCall)). All (λ (last : LastCall). 1 ≤ last.number) (values_of l)) (sym same) is.numbered;
 }
 
@@ -41,7 +41,7 @@ IsTable-known es after client last new content content' is sorted found written 
       (All-values-insert_entry nat_cmp client new (λ (last : LastCall). 1 ≤ last.number) es is.numbered number);
 }
 
-pub IsTable-new : {O : Type 0} (es after : List (ℕ × LastCall)) (client : ℕ) (new : LastCall) (content content' : O) → IsTable (table_of es content) → lookup (is_at (nat_cmp client)) es ≡ None → length es < MAX_CLIENTS
+pub IsTable-new : {O : Type 0} (es after : List (ℕ × LastCall)) (client : ℕ) (new : LastCall) (content content' : O) → IsTable (table_of es content) → lookup (is_at (nat_cmp client)) es ≡ None → length es < most_clients
     → after ≡ insert_entry nat_cmp es client new → 1 ≤ new.number → IsTable (table_of after content')
 IsTable-new es after client new content content' is none room put number = record {
   few = omega (arith, room, ap length put, length-new es client new none);
@@ -59,8 +59,8 @@ pub next-known : {O A : Type 0} (object : Sequential O) (es after : List (ℕ ×
 next-known {O} {A} object es after content content' c last sorted found number written does =
     let new = last_call c (object.reply content c.op) in
     let taken : is_taken (table_of es content) c ≡ true =
-    ap (λ o. (c.number == last_number o + 1) && (is_some o || nat_lt (length es) MAX_CLIENTS)) found
-    ∙ ap (λ b. b && (true || nat_lt (length es) MAX_CLIENTS)) (eq-eqb c.number (last.number + 1) number) in
+    ap (λ o. (c.number == last_number o + 1) && (is_some o || nat_lt (length es) most_clients)) found
+    ∙ ap (λ b. b && (true || nat_lt (length es) most_clients)) (eq-eqb c.number (last.number + 1) number) in
     ap (λ w. table_of w content') (written ∙ set_value-known es c.client new last sorted found)
     ∙ ap (λ (w : O). table_of (insert_entry nat_cmp es c.client new) w) does
     ∙ sym (cond-true (is_taken (table_of es content) c) (table_of (insert_entry nat_cmp es c.client new) (object.next content c.op)) (table_of es content) taken)
@@ -71,7 +71,7 @@ pub next-other : {O A : Type 0} (object : Sequential O) (es after : List (ℕ ×
     → table_of after content ≡ table_next object (table_of es content) c
 next-other {O} {A} object es after content c last found other same =
     let left : is_taken (table_of es content) c ≡ false =
-    ap (λ o. (c.number == last_number o + 1) && (is_some o || nat_lt (length es) MAX_CLIENTS)) found
-    ∙ ap (λ b. b && (true || nat_lt (length es) MAX_CLIENTS)) (sym other) in
+    ap (λ o. (c.number == last_number o + 1) && (is_some o || nat_lt (length es) most_clients)) found
+    ∙ ap (λ b. b && (true || nat_lt (length es) most_clients)) (sym other) in
     ap (λ w. table_of w content) same
     ∙ sym (cond-false (is_taken (table_of es content) c) (table_of (insert_entry nat_cmp es c.client (last_call c (object.reply content c.op))) (object.next content c.op)) (table_of es content) left)

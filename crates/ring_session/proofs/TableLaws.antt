@@ -19,10 +19,9 @@ use Rattle.ring_base.specs.Fronts.{front_get, front_append}
 use Rattle.ring_base.specs.declared.fault.Fault.TheVariants.{Conflict, Stale, NumberGap, SessionsFull}
 use Rattle.ring_object.specs.Operations.{Sequential, content_after}
 use Rattle.ring_payload.specs.declared.call.Call.{Call}
-use Rattle.ring_session.specs.declared.TheConstants.{MAX_CLIENTS}
 use Rattle.ring_session.specs.declared.answer.Answer.{Answer}
 use Rattle.ring_session.specs.declared.answer.Answer.TheVariants.{Done, Kept}
-use Rattle.ring_session.specs.Deduplicated.{is_of, count_of, client_count, may_call, takes_effect, deduplicated, StandsAt, operations}
+use Rattle.ring_session.specs.Deduplicated.{is_of, count_of, client_count, most_clients, may_call, takes_effect, deduplicated, StandsAt, operations}
 use Rattle.ring_session.specs.DeduplicatedLaws.{get-push_last, count_of-push_own, count_of-push_other, deduplicated-push, deduplicated-front, deduplicated-numbered, numbered_once, takes_effect-number}
 use Rattle.ring_session.specs.SessionAnswer.{refusal, is_same, repeated, answer_after, call_reply, session_answer, is_done}
 use Rattle.ring_session.specs.SessionAnswerLaws.{call_reply-front, position-is_same, session_answer-at, same_cases}
@@ -102,8 +101,8 @@ module _ {O A : Type 0} (object : Sequential O) where
 
   room-is : (calls : List (Call A)) (table : Table O) (client : ℕ) → Holds object (deduplicated calls) table → has_room table client ≡ may_call (deduplicated calls) client
   room-is calls table client holds =
-      ap (λ b. b || nat_lt (length table.sessions) MAX_CLIENTS) (known-is calls client (session_of table client) (holds.known client))
-      ∙ ap (λ n. nat_lt 0 (count_of client (deduplicated calls)) || nat_lt n MAX_CLIENTS) holds.many
+      ap (λ b. b || nat_lt (length table.sessions) most_clients) (known-is calls client (session_of table client) (holds.known client))
+      ∙ ap (λ n. nat_lt 0 (count_of client (deduplicated calls)) || nat_lt n most_clients) holds.many
 
   taken-is : (calls : List (Call A)) (table : Table O) (c : Call A) → Holds object (deduplicated calls) table → is_taken table c ≡ takes_effect (deduplicated calls) c
   taken-is calls table c holds =

@@ -2,7 +2,6 @@
 -- late or leaves a number out takes no effect, nor does one of a client beyond the first 1,024.
 use Rattle.std.specs.Prelude.{◌≡◌, ℕ, ◌+◌, ◌==◌, ◌&&◌, ◌||◌, nat_lt, Bool, List, [], ◌∷◌, ◌++◌, count_by, map, take, slice_get, Some, if◌then◌else◌}
 use Rattle.ring_payload.specs.declared.call.Call.{Call}
-use Rattle.ring_session.specs.declared.TheConstants.{MAX_CLIENTS}
 
 -- whether the call is the client's
 abbrev pub is_of : {A : Type 0} → ℕ → Call A → Bool
@@ -17,9 +16,13 @@ abbrev pub client_count : {A : Type 0} → List (Call A) → ℕ
 client_count [] = 0
 client_count (c ∷ cs) = if count_of c.client cs == 0 then client_count cs + 1 else client_count cs
 
+-- no more clients are known
+abbrev pub most_clients : ℕ
+most_clients = 1024
+
 -- whether the client is among those of these calls, or may be added to them
 abbrev pub may_call : {A : Type 0} → List (Call A) → ℕ → Bool
-may_call kept client = nat_lt 0 (count_of client kept) || nat_lt (client_count kept) MAX_CLIENTS
+may_call kept client = nat_lt 0 (count_of client kept) || nat_lt (client_count kept) most_clients
 
 -- whether the call takes effect after these, which did: its number is the client's next, and the client may call
 abbrev pub takes_effect : {A : Type 0} → List (Call A) → Call A → Bool

@@ -7,7 +7,7 @@ use Rattle.std.specs.Str.{bytes_eq}
 use Rattle.ring_base.specs.declared.fault.Fault.TheVariants.{Conflict, Stale, NumberGap, SessionsFull}
 use Rattle.ring_object.specs.Operations.{Sequential}
 use Rattle.ring_payload.specs.declared.call.Call.{Call}
-use Rattle.ring_session.specs.declared.TheConstants.{MAX_CLIENTS}
+use Rattle.ring_session.specs.Deduplicated.{most_clients}
 use Rattle.ring_session.specs.declared.answer.Answer.{Answer}
 use Rattle.ring_session.specs.declared.answer.Answer.TheVariants.{Done, Kept}
 use Rattle.ring_session.specs.SessionAnswer.{refusal}
@@ -29,7 +29,7 @@ table_of sessions content = record { sessions = sessions; content = content }
 
 -- what every table keeps: the clients are few enough, and each has a last call that took effect
 pub record IsTable {O : Type 0} (table : Table O) : Type 0 where
-  pub few : length table.sessions ≤ MAX_CLIENTS
+  pub few : length table.sessions ≤ most_clients
   pub numbered : All (λ (last : LastCall). 1 ≤ last.number) (values_of table.sessions)
 
 -- the table before any call
@@ -55,7 +55,7 @@ last_call c reply = record { number = c.number; operation = c.op; reply = reply 
 
 -- whether the client is known, or may be added
 abbrev pub has_room : {O : Type 0} → Table O → ℕ → Bool
-has_room table client = is_some (session_of table client) || nat_lt (length table.sessions) MAX_CLIENTS
+has_room table client = is_some (session_of table client) || nat_lt (length table.sessions) most_clients
 
 -- whether the call takes effect: its number is the client's next, and the table has room for the client
 abbrev pub is_taken : {O A : Type 0} → Table O → Call A → Bool

@@ -3,6 +3,7 @@
 ghost use Rattle.std.specs.Prelude.{◌≡◌, ◌<◌, ◌≤◌, ◌∷◌, [], ◌++◌, List, length, IfOk, IfErr, OnOk, OnErr, Some, None, IsSome};
 ghost use Rattle.ring_base.specs.declared.fault.Fault.TheVariants.{Memory, SessionsFull};
 ghost use Rattle.ring_payload.specs.declared.call.Call.{Call};
+ghost use Rattle.ring_session.specs.Deduplicated.{most_clients};
 ghost use Rattle.ring_session.specs.SessionAnswer.{refusal, reply_in, session_answer};
 ghost use Rattle.ring_session.specs.Table.{opening, session_of, table_answer, table_next, table_after};
 
@@ -62,7 +63,7 @@ impl<O: Object> Sessions<O> {
 
         // A call of number 0 has no reply, and the table is full at exactly so many clients.
         ensures replied_from_one { IfOk result (λ answer. IsSome (reply_in answer) → 1 ≤ call.now.number) }
-        ensures full_only_at_limit { IfOk result (λ answer. answer ≡ refusal SessionsFull → length self.old.sessions ≡ MAX_CLIENTS) }
+        ensures full_only_at_limit { IfOk result (λ answer. answer ≡ refusal SessionsFull → length self.old.sessions ≡ most_clients) }
     {
         match self.sessions.get_mut(&call.client) {
             Some(session) => {
@@ -90,7 +91,7 @@ impl<O: Object> Sessions<O> {
         ensures ok { OnOk result (self.new ≡ table_next O.sequential self.old call.now) }
         ensures err { OnErr result (self.new ≡ self.old) }
         ensures refused { IfErr result (λ fault. fault ≡ Memory) }
-        ensures full_only_at_limit { IfOk result (λ answer. answer ≡ refusal SessionsFull → length self.old.sessions ≡ MAX_CLIENTS) }
+        ensures full_only_at_limit { IfOk result (λ answer. answer ≡ refusal SessionsFull → length self.old.sessions ≡ most_clients) }
     {
         if self.sessions.len() >= MAX_CLIENTS {
             return Ok(Answer::refusal(Fault::SessionsFull));

@@ -1,6 +1,6 @@
 //! The session table row by row, with ample memory and with each request refused in turn.
 
-use crate::{Answer, MAX_CLIENTS, Sessions, deduplicated_law, session_law, table_law};
+use crate::{Answer, Sessions, deduplicated_law, session_law, table_law};
 use refusing_alloc::Refusing;
 use ring_base::Fault;
 use ring_object::{Object, Reply};
@@ -123,7 +123,7 @@ fn takes_operations_of_every_length(rt: HostRuntime) -> Result<(), Fail> {
 fn knows_so_many_clients(rt: HostRuntime) -> Result<(), Fail> {
     let alloc = rt.alloc();
     let mut sessions = Sessions::<Diary>::new(alloc)?;
-    for client in 0..MAX_CLIENTS as u32 {
+    for client in 0..1024u32 {
         let call = Call::new(alloc, client * 5 % 1024, 1, &[])?;
         assert_eq!(rt;
             sessions.apply(&call),

@@ -1,0 +1,149 @@
+-- The log of a node, its last primary and its committed places, as functions of its life: The replicated log, rules 6, 8, 9, 11, 12 and 16 of docs/PROTOCOL.md.
+use Rattle.std.specs.Prelude.{ℕ, Bool, true, false, ◌&&◌, ◌||◌, ◌==◌, nat_lt, nat_le, is_some, if◌then◌else◌, List, [], ◌∷◌, ◌++◌, length, Option, Some, None}
+use Rattle.ring_base.specs.Group.{Group, is_primary}
+use Rattle.ring_base.specs.Rings.{same_ring}
+use Rattle.ring_base.specs.declared.ring_id.RingId.{RingId}
+use Rattle.ring_payload.specs.declared.call.Call.{Call as OneCall}
+use Rattle.ring_payload.specs.declared.head.Head.{Head as OneHead}
+use Rattle.ring_payload.specs.Kinds.{calls_of}
+use Rattle.ring_wire.specs.declared.message.Message.{Message}
+use Rattle.ring_log.specs.declared.wanted.Wanted.{Wanted}
+use Rattle.ring_log.specs.Exchanges.{Exchange, opened, heard, is_whole, wanted, base_from, based}
+use Rattle.ring_log.specs.Logs.{Log, head_of, begins, is_log_length}
+use Rattle.ring_log.specs.Stays.{Stay}
+
+-- The exchange in what was heard of a ring
+
+-- an exchange that was heard whole, the number of the message that made it so, and what was heard after it
+pub record Whole (A : Type 0) : Type 0 where
+  pub exchange : Exchange A
+  pub end : ℕ
+  pub rest : List (Message A)
+
+-- the exchange after a message
+abbrev pub heard_by : {A : Type 0} → Exchange A → Message A → Exchange A
+heard_by e x = heard e x.sender x.payload
+
+-- the least front of what was heard with which the exchange is whole, and what follows it
+abbrev pub whole_from : {A : Type 0} → Exchange A → List (Message A) → Option (Whole A)
+whole_from e [] = None
+whole_from e (x ∷ xs) =
+    if is_whole (heard_by e x) then Some (record { exchange = heard_by e x; end = x.number; rest = xs }) else whole_from (heard_by e x) xs
+
+-- the exchange after all that was heard, whole or not
+abbrev pub after_all : {A : Type 0} → Exchange A → List (Message A) → Exchange A
+after_all e [] = e
+after_all e (x ∷ xs) = after_all (heard_by e x) xs
+
+-- the exchange of a ring of these members, by what was heard there; none in a ring that isn't primary
+abbrev pub exchanged : {A : Type 0} → Group → ℕ → List (Message A) → Option (Whole A)
+exchanged group members text = if is_primary group members then whole_from (opened members) text else None
+
+-- the number at which a ring's exchange ends
+abbrev pub end_by : {A : Type 0} → Option (Whole A) → Option ℕ
+end_by None = None
+end_by (Some w) = Some w.end
+
+abbrev pub exchange_end : {A : Type 0} → Group → ℕ → List (Message A) → Option ℕ
+exchange_end group members text = end_by (exchanged group members text)
+
+-- Log and last primary: the base of the newest ring that was adopted, and the calls heard there after its exchange
+
+-- the calls that messages bring
+abbrev pub calls_in : {A : Type 0} → List (Message A) → List (OneCall A)
+calls_in [] = []
+calls_in (x ∷ xs) = calls_of x.payload ++ calls_in xs
+
+abbrev pub base_on : {A : Type 0} → List (OneCall A) → Option Wanted → List (OneCall A) → List (OneCall A)
+base_on own None calls = own
+base_on own (Some w) calls = based own (record { from = w.from; calls = calls })
+
+-- the base that an exchange makes of a node's own log
+abbrev pub own_base : {A : Type 0} → List (OneCall A) → Exchange A → List (OneCall A)
+own_base own e = base_on own (wanted e) e.brought
+
+abbrev pub log_by : {A : Type 0} → List (OneCall A) → Option (Whole A) → List (OneCall A)
+log_by old None = old
+log_by old (Some w) = own_base old w.exchange ++ calls_in w.rest
+
+abbrev pub log_of : {A : Type 0} → Group → List (Stay A) → List (OneCall A)
+log_of group [] = []
+log_of group (s ∷ older) = log_by (log_of group older) (exchanged group s.members s.heard)
+
+abbrev pub last_by : {A : Type 0} → RingId → Option RingId → Option (Whole A) → Option RingId
+last_by ring old None = old
+last_by ring old (Some w) = Some ring
+
+-- none before any was adopted
+abbrev pub last_of : {A : Type 0} → Group → List (Stay A) → Option RingId
+last_of group [] = None
+last_of group (s ∷ older) = last_by s.ring (last_of group older) (exchanged group s.members s.heard)
+
+-- the ring is primary, and the node heard its exchange whole
+abbrev pub has_adopted : {A : Type 0} → Group → List (Stay A) → RingId → Bool
+has_adopted group [] ring = false
+has_adopted group (s ∷ older) ring = (same_ring s.ring ring && is_some (exchanged group s.members s.heard)) || has_adopted group older ring
+
+-- Committed places: the longest log that a ring's safe mark covers, the exchange included
+
+-- what was heard up to a number
+abbrev pub upto : {A : Type 0} → ℕ → List (Message A) → List (Message A)
+upto mark [] = []
+upto mark (x ∷ xs) = if nat_le x.number mark then x ∷ upto mark xs else []
+
+-- of two lists the longer, the first if they are equally long
+abbrev pub longer : {A : Type 0} → List (OneCall A) → List (OneCall A) → List (OneCall A)
+longer old new = if nat_lt (length old) (length new) then new else old
+
+abbrev pub committed_by : {A : Type 0} → List (OneCall A) → List (OneCall A) → Option (Whole A) → List (OneCall A)
+committed_by own old None = old
+committed_by own old (Some w) = longer old (own_base own w.exchange ++ calls_in w.rest)
+
+abbrev pub committed_of : {A : Type 0} → Group → List (Stay A) → List (OneCall A)
+committed_of group [] = []
+committed_of group (s ∷ older) =
+    committed_by (log_of group older) (committed_of group older) (exchanged group s.members (upto s.mark s.heard))
+
+-- a life as a log, and what a node states of it
+abbrev pub kept_of : {A : Type 0} → Group → List (Stay A) → Log A
+kept_of group life = record { calls = log_of group life; committed = length (committed_of group life); last = last_of group life }
+
+abbrev pub head_of_life : {A : Type 0} → Group → List (Stay A) → OneHead
+head_of_life group life = head_of (kept_of group life)
+
+-- The base of a ring, for all nodes at once: the chosen sender's places when it sent its Head
+
+-- the life before the ring of that number: its numbers only rise
+abbrev pub older_at : {A : Type 0} → ℕ → List (Stay A) → List (Stay A)
+older_at number [] = []
+older_at number (s ∷ older) = if s.ring.seq == number then older else older_at number older
+
+abbrev pub owner_log : {A : Type 0} → Group → (ℕ → List (Stay A)) → RingId → Option Wanted → List (OneCall A)
+owner_log group lives ring None = []
+owner_log group lives ring (Some w) = log_of group (older_at ring.seq (lives w.owner))
+
+abbrev pub base_of : {A : Type 0} → Group → (ℕ → List (Stay A)) → RingId → Exchange A → List (OneCall A)
+base_of group lives ring e = owner_log group lives ring (wanted e)
+
+-- a ring's log by this much of its text: the base, and the calls after the exchange; none before the exchange is whole
+abbrev pub ring_log_by : {A : Type 0} → Group → (ℕ → List (Stay A)) → RingId → Option (Whole A) → Option (List (OneCall A))
+ring_log_by group lives ring None = None
+ring_log_by group lives ring (Some w) = Some (base_of group lives ring w.exchange ++ calls_in w.rest)
+
+abbrev pub ring_log : {A : Type 0} → Group → (ℕ → List (Stay A)) → RingId → ℕ → List (Message A) → Option (List (OneCall A))
+ring_log group lives ring members text = ring_log_by group lives ring (exchanged group members text)
+
+-- What stops a node
+
+-- the base that a ring's exchange makes begins with what was committed before
+abbrev pub keeps_committed : {A : Type 0} → List (OneCall A) → List (OneCall A) → Option (Whole A) → Bool
+keeps_committed own committed None = true
+keeps_committed own committed (Some w) = begins committed (own_base own w.exchange)
+
+-- each base of a life began with the places committed before it, and no log had more than the greatest number of places
+abbrev pub is_sound : {A : Type 0} → Group → List (Stay A) → Bool
+is_sound group [] = true
+is_sound group (s ∷ older) =
+    is_sound group older
+    && keeps_committed (log_of group older) (committed_of group older) (exchanged group s.members s.heard)
+    && is_log_length (length (log_of group (s ∷ older)))

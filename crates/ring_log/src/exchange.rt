@@ -1,0 +1,158 @@
+//! The exchange of a primary ring.
+
+ghost use Rattle.std.specs.Prelude.{◌≡◌, ◌+◌, ◌^◌, ◌<◌, length, true, IfOk, IfErr, OnOk, OnErr};
+ghost use Rattle.ring_base.specs.declared.fault.Fault.TheVariants.{Memory};
+ghost use Rattle.ring_log.specs.Exchanges.{opened, wanted, heard, hear_head, hear_part, is_next, is_wanted, is_whole, base_at, handed_out, relieved};
+
+use crate::base::Base;
+use crate::heads::wanted_by;
+use crate::stated::Stated;
+use crate::wanted::Wanted;
+use ring_base::{Fault, Proc, ProcSet};
+use ring_payload::{Call, Calls, Head, Part, Payload};
+use std::alloc::{Allocator, Global};
+use std::marker::Model;
+use std::mem;
+
+/// What a member heard of the exchange of a primary ring: every member's Head, and then the places that are wanted of the
+/// owner's log. Contracts see what was heard.
+#[derive(Drop)]
+pub struct Exchange<A: Allocator + Copy = Global> {
+    alloc: A,
+    unheard: ProcSet,
+    heads: Vec<Stated, A>,
+    places: u64,
+    brought: Vec<Call<A>, A>,
+}
+
+impl<A: Allocator + Copy> Model for Exchange<A> {
+    ghost use Rattle.ring_log.specs.Exchanges.{Exchange as ToldExchange};
+
+    ghost Value = { ToldExchange A };
+
+    ghost view = { λ e. record { unheard = e.unheard; heads = e.heads.items; places = e.places; brought = e.brought.items } };
+}
+
+impl<A: Allocator + Copy> Exchange<A> {
+    /// The exchange of a ring of these members, of which nothing was heard.
+    pub fn new(alloc: A, members: ProcSet) -> Exchange<A>
+        ensures { result ≡ opened members }
+    {
+        Exchange {
+            alloc,
+            unheard: members,
+            heads: Vec::new(alloc),
+            places: 0,
+            brought: Vec::new(alloc),
+        }
+    }
+
+    /// Whose places are wanted, and which; none until every member's Head was heard.
+    pub fn wanted(&self) -> Option<Wanted>
+        ensures { result ≡ wanted self.now }
+    {
+        if self.unheard.bits() == 0 {
+            wanted_by(self.heads.as_slice())
+        } else {
+            None
+        }
+    }
+
+    /// Hears a member's payload, in the order of the ring. A member's first Head counts, and then each next Part of the
+    /// places that are wanted; all else is ignored for good. Gives the base exactly where the exchange becomes whole
+    /// by this payload, and has then handed out its calls. `Memory` leaves it as it was.
+    pub fn hear(&mut self, sender: Proc, payload: &Payload<A>) -> Result<Option<Base<A>>, Fault>
+        ensures base { IfOk result (λ base. base ≡ base_at self.old sender payload.now) }
+        ensures ok { OnOk result (self.new ≡ relieved (heard self.old sender payload.now)) }
+        ensures err { OnErr result (self.new ≡ self.old) }
+        ensures refused { IfErr result (λ fault. fault ≡ Memory) }
+    {
+        let was_whole = self.is_whole();
+        match payload {
+            Payload::Head(head) => self.hear_head(sender, head)?,
+            Payload::Part(part) => self.hear_part(sender, part)?,
+            _ => {}
+        }
+        let base = self.hand_out();
+        if was_whole { Ok(None) } else { Ok(base) }
+    }
+
+    /// Whether every Head was heard, and all that is wanted.
+    fn is_whole(&self) -> bool
+        ensures { result ≡ is_whole self.now }
+    {
+        match self.wanted() {
+            Some(wanted) => wanted.to.saturating_sub(wanted.from) <= self.places,
+            None => false,
+        }
+    }
+
+    fn hear_head(&mut self, sender: Proc, head: &Head) -> Result<(), Fault>
+        ensures ok { OnOk result (self.new ≡ hear_head self.old sender head.now) }
+        ensures err { OnErr result (self.new ≡ self.old) }
+        ensures refused { IfErr result (λ fault. fault ≡ Memory) }
+    {
+        if self.unheard.contains(sender) {
+            self.heads.push(Stated {
+                sender,
+                head: *head,
+            })?;
+            self.unheard = self.unheard.less(ProcSet::only(sender));
+        }
+        Ok(())
+    }
+
+    fn hear_part(&mut self, sender: Proc, part: &Part<A>) -> Result<(), Fault>
+        ensures ok { OnOk result (self.new ≡ hear_part self.old sender part.now) }
+        ensures err { OnErr result (self.new ≡ self.old) }
+        ensures refused { IfErr result (λ fault. fault ≡ Memory) }
+    {
+        if self.is_wanted(sender, part) {
+            let mut calls = part.calls.clone()?.into_vec();
+            let count = calls.len() as u64;
+            self.brought.append(&mut calls)?;
+            self.places += count;
+        }
+        Ok(())
+    }
+
+    /// Whether a Part is the next of those wanted.
+    fn is_wanted(&self, sender: Proc, part: &Part<A>) -> bool
+        ensures value { result ≡ is_wanted (wanted self.now) self.now.places sender part.now }
+        ensures room { result ≡ true → self.now.places + length part.now.calls < 2 ^ 64 }
+    {
+        match self.wanted() {
+            Some(wanted) => is_next(&wanted, self.places, sender, part),
+            None => false,
+        }
+    }
+
+    /// Hands out the base of an exchange that is whole, its calls without a copy.
+    fn hand_out(&mut self) -> Option<Base<A>>
+        ensures base { result ≡ handed_out self.old }
+        ensures state { self.new ≡ relieved self.old }
+    {
+        if !self.is_whole() {
+            return None;
+        }
+        let wanted = self.wanted()?;
+        let calls = mem::replace(&mut self.brought, Vec::new(self.alloc));
+        Some(Base {
+            from: wanted.from,
+            calls: Calls::from_vec(calls),
+        })
+    }
+}
+
+/// Whether a Part is the owner's, begins where the places brought so far end, and doesn't pass the end.
+fn is_next<A: Allocator + Copy>(wanted: &Wanted, places: u64, sender: Proc, part: &Part<A>) -> bool
+    ensures value { result ≡ is_next wanted.now places sender part.now }
+    ensures room { result ≡ true → places + length part.now.calls < 2 ^ 64 }
+{
+    let count = part.calls.as_slice().len() as u64;
+    sender == wanted.owner
+        && wanted.from <= part.first
+        && part.first - wanted.from == places
+        && part.first <= wanted.to
+        && count <= wanted.to - part.first
+}

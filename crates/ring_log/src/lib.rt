@@ -1,0 +1,18 @@
+//! The replicated log: how the members of a primary ring come to one log, and what a node keeps of it.
+#![tactic(auto)]
+
+mod base;
+mod examples;
+mod exchange;
+mod heads;
+mod log;
+mod parts;
+mod stated;
+mod wanted;
+
+pub use base::Base;
+pub use examples::{chosen_logs, wanted_parts};
+pub use exchange::Exchange;
+pub use log::Log;
+pub use stated::Stated;
+pub use wanted::Wanted;

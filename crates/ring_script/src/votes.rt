@@ -1,0 +1,76 @@
+//! The votes of the nodes, and the line that tells them.
+
+ghost use Rattle.std.specs.Prelude.{◌≡◌, codes, IfOk};
+ghost use Rattle.ring_script.specs.Reading.{Tells};
+ghost use Rattle.ring_script.specs.Scripts.{Answers};
+ghost use Rattle.ring_script.specs.Votes.{votes_at, votes_of, is_votes, votes_in};
+
+use crate::lines::Lines;
+use crate::scripts::{ScriptFault, are_ascii, at_line, is_skipped};
+use crate::words::{Words, is};
+use ring_base::{Fault, Fixed};
+
+/// The nodes with the votes that the next line tells which is not skipped, where that is a line of votes. Then the
+/// lines after it are left, and else those from the first on that is not skipped.
+#[tactic(auto, unfolding(crate::specs::Votes::votes_in))]
+pub(crate) fn read_votes(lines: &mut Lines<'_>, nodes: Fixed) -> Result<Fixed, ScriptFault>
+    ensures count { IfOk result (λ voted. voted.count ≡ nodes.count) }
+    ensures read { Answers (λ voted. (voted, lines.new)) result
+        (votes_in nodes lines.old.before lines.old.lines) }
+{
+    let mut from = lines.again();
+    while let Some((number, line)) = lines.next_line() {
+        if is_votes(line) {
+            return match votes_of(line, nodes) {
+                Ok(voted) => Ok(voted),
+                Err(fault) => Err(at_line(fault, number)),
+            };
+        }
+        if !are_ascii(line) || !is_skipped(line) {
+            *lines = from;
+            return Ok(nodes);
+        }
+        from = lines.again();
+    }
+    Ok(nodes)
+}
+
+/// Whether this is a line of votes.
+fn is_votes(line: &[u8]) -> bool
+    ensures { result ≡ is_votes line.now }
+{
+    match Words::new(line, b' ').next_word() {
+        Some(word) => is(word, b"votes"),
+        None => false,
+    }
+}
+
+/// The nodes with the votes that a line `votes V1 .. VN` tells. `BadScript` where these are not as many as there
+/// are nodes, each 1 to 255.
+#[tactic(auto, unfolding(crate::specs::Votes::votes_of))]
+fn votes_of(line: &[u8], nodes: Fixed) -> Result<Fixed, Fault>
+    ensures count { IfOk result (λ voted. voted.count ≡ nodes.count) }
+    ensures read { Tells (λ voted. voted) result (votes_of nodes line.now) }
+{
+    let mut words = Words::new(line, b' ');
+    words.word()?;
+    let voted = votes_at(&mut words, nodes)?;
+    words.end()?;
+    Ok(voted)
+}
+
+/// The nodes with the votes that the next words are.
+fn votes_at(words: &mut Words<'_>, nodes: Fixed) -> Result<Fixed, Fault>
+    ensures count { IfOk result (λ voted. voted.count ≡ nodes.count) }
+    ensures read { Tells (λ voted. (voted.votes, words.new)) result (votes_at nodes.count words.old) }
+{
+    let mut votes = [0; 16];
+    let count = usize::from(nodes.count());
+    for i in 0..count {
+        votes[i] = words.number(1, 255)? as u8;
+    }
+    match Fixed::with_votes(&votes[..count]) {
+        Ok(voted) => Ok(voted),
+        Err(_) => Err(Fault::BadScript),
+    }
+}
