@@ -1,5 +1,5 @@
 -- On a ring that is formed from the start there are no joins and no commit tokens, so that it runs until a processor stops; all its messages are users', and each processor tells as agreed the numbers 1, 2, 3 and so on up to its front.
-use Rattle.std.proofs.Common.{◌≡◌, ℕ, zero, suc, ◌+◌, ◌-◌, ◌<◌, ◌≤◌, ◌⊎◌, inl, inr, Bool, true, false, ◌&&◌, ◌==◌, List, [], ◌∷◌, ◌++◌, map, length, Option, Some, None, refl, ap, sym, ◌∙◌, subst, arith, append-nil}
+use Rattle.std.proofs.Common.{◌≡◌, ℕ, zero, suc, ◌+◌, ◌-◌, ◌<◌, ◌≤◌, ◌⊎◌, inl, inr, Bool, true, false, ◌&&◌, ◌==◌, List, [], ◌∷◌, ◌++◌, map, Option, Some, None, refl, ap, sym, ◌∙◌, subst, arith, append-nil}
 use Rattle.std.specs.Prelude.{nat_lt, not, filter, filter_map, find, slice_get}
 use Rattle.std.specs.List.{AllByRecursion as Each, cons_option, list_any}
 use Rattle.std.proofs.lemmas.Bool.{cond_both, cases_Bool, and_parts, and_right, false≢true, cond-true, cond-false, or_cases, eqb-true, eq-eqb, ne_eqb, both_ways}
