@@ -80,7 +80,8 @@ kept_if : {A : Type 0} → (P : Core A → Type 0) → IsStepKept P → (b : Boo
 kept_if P k false w i frame h = h
 kept_if P k true w i frame h = kept_stepped P k (is_node w i) w i (FrameInput frame) h
 
-kept_handed : {A : Type 0} → (P : Core A → Type 0) → IsStepKept P → (w : World A) (i : ℕ) (f : Option (Carried A)) → Everywhere P w → Everywhere P (handed w i f)
+kept_handed : {A : Type 0} → (P : Core A → Type 0) → IsStepKept P → (w : World A) (i : ℕ) (f : Option (Carried A)) → Everywhere P w →
+    Everywhere P (handed w i f)
 kept_handed P k w i None h = h
 kept_handed P k w i (Some f) h = kept_if P k (has f.to i) w i f.frame h
 

@@ -23,10 +23,12 @@ marks_below n i events ring = mark_below ((run (unformed n) events).cores i) rin
 pub all_held_below : {A : Type 0} → (n i : ℕ) (events : List (RingEvent A)) (ring : RingId) (k : ℕ) → holds ((run (unformed n) events).cores i).held ring k ≡ true → k ≤ mark ((run (unformed n) events).cores i) ring + window_size
 all_held_below n i events ring k h = held_below ((run (unformed n) events).cores i) ring k (fits n events i) h
 
-pub all_turns : {A : Type 0} → (n i : ℕ) (events : List (RingEvent A)) → AreTurnsOf ((run (unformed n) events).cores i).me ((run (unformed n) events).cores i).held ((run (unformed n) events).cores i).turns
+pub all_turns : {A : Type 0} → (n i : ℕ) (events : List (RingEvent A)) →
+    AreTurnsOf ((run (unformed n) events).cores i).me ((run (unformed n) events).cores i).held ((run (unformed n) events).cores i).turns
 all_turns n i events = everywhere Turned turned (unformed n) events (λ i. tt) i
 
-pub all_fresh : {A : Type 0} → (n i : ℕ) (events : List (RingEvent A)) → AreFreshOf ((run (unformed n) events).cores i).me ((run (unformed n) events).cores i).held ((run (unformed n) events).cores i).turns
+pub all_fresh : {A : Type 0} → (n i : ℕ) (events : List (RingEvent A)) →
+    AreFreshOf ((run (unformed n) events).cores i).me ((run (unformed n) events).cores i).held ((run (unformed n) events).cores i).turns
 all_fresh n i events = (kept_run Made making (unformed n) events (λ i. opening_made n i) i).fresh
 
 pub all_same_sets : {A : Type 0} → (n i : ℕ) (events : List (RingEvent A)) → AllSaySame ((run (unformed n) events).cores i).gathering
