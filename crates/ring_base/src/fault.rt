@@ -12,7 +12,7 @@ use thiserror::Error;
 /// exit line.
 #[derive(Clone, Copy, Debug, PartialEq, Eq, Error)]
 pub enum Fault {
-    /// A number of processors, or a processor's number, is out of range.
+    /// A number of processors, a processor's number, or a vote is out of range.
     NotMember = 1,
     /// As many calls as a node may have unanswered are unanswered, or its tickets are used up.
     PendingFull = 2,
@@ -22,7 +22,7 @@ pub enum Fault {
     Conflict = 4,
     /// The call's number is below the client's last.
     Stale = 5,
-    /// The call's number is 0, or not the next after the client's last.
+    /// The call's number is 0, or above the next after the client's last.
     NumberGap = 6,
     /// As many clients as may be known are known.
     SessionsFull = 7,

@@ -26,7 +26,7 @@ proposal me number members own = record { ring = record { seq = number; rep = me
 abbrev pub is_of : Configuration → CommitToken → Bool
 is_of running k = same_ring k.ring running.ring && (k.members == running.members)
 
--- rule 5, the first round: the members are those that the node agreed on, and the ring's number is above its floor
+-- rule 5, the first round: the members are those that the node has not given up, and the ring's number is above its floor
 abbrev pub is_first_round : ℕ → ℕ → CommitToken → Bool
 is_first_round floor agreed k = nat_lt k.hop (size k.members) && (k.members == agreed) && nat_lt floor k.ring.seq
 

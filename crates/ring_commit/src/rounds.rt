@@ -29,7 +29,7 @@ pub fn is_at(me: Proc, token: &CommitToken) -> bool
 }
 
 /// Whether a commit token is in its first round at a node in Gather: its members are those that the node
-/// agreed on, and its ring's number is above the node's floor.
+/// has not given up (`proc_set` less `fail_set`), and its ring's number is above the node's floor.
 pub fn is_first_round(floor: u64, agreed: ProcSet, token: &CommitToken) -> bool
     ensures { result ≡ is_first_round floor agreed token.now }
 {
@@ -138,7 +138,8 @@ pub fn learn(
     Outcome::Recover(token)
 }
 
-/// The end of the second round, in Recovery: the representative visits the first token of the ring.
+/// The end of the second round, in Recovery: the representative visits the token that the caller gives as the first
+/// of the ring.
 pub fn start(me: Proc, running: &Configuration, first: Token, token: &CommitToken) -> Outcome
     ensures { result ≡ started me running.now first token.now }
 {

@@ -1,4 +1,6 @@
--- The log of a node, its last primary and its committed places, as functions of its life: The replicated log, rules 6, 8, 9, 11, 12 and 16 of docs/PROTOCOL.md.
+-- The log of a node, its last primary and its committed places, as functions of its life: The replicated log, rules 6, 8, 9, 11 and 12 of docs/PROTOCOL.md.
+-- A base is here the node's own places up to the exchange's first, and the places that the exchange brought; that these are the chosen sender's
+-- places, as rule 16 says, holds in runs and is to be proved there.
 use Rattle.std.specs.Prelude.{ℕ, Bool, true, false, ◌&&◌, ◌||◌, ◌==◌, nat_lt, nat_le, is_some, if◌then◌else◌, List, [], ◌∷◌, ◌++◌, length, Option, Some, None}
 use Rattle.ring_base.specs.Group.{Group, is_primary}
 use Rattle.ring_base.specs.Rings.{same_ring}

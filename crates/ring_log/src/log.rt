@@ -122,7 +122,8 @@ impl<A: Allocator + Copy> Log<A> {
         &self.calls[..end]
     }
 
-    /// Whether so many places more are no more than a log may have, 2^62.
+    /// Whether this log with so many calls more has no more places than a log may have, 2^62. Of a base that is to be
+    /// adopted this says nothing, since adopting drops the places from its first one on.
     pub fn has_room(&self, more: u64) -> bool
         ensures { result ≡ is_log_length (length self.now.calls + more) }
     {

@@ -2,7 +2,7 @@
 
 use ring_base::Proc;
 
-/// Whose places an exchange wants: of the owner's log the places `from` to `to` - 1. None where `to` is at most `from`.
+/// Whose places an exchange wants: of the owner's log the places `from` to `to` - 1. No places where `to` is at most `from`.
 #[derive(Clone, Copy, Debug, PartialEq, Eq)]
 pub struct Wanted {
     pub owner: Proc,

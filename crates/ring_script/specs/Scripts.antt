@@ -108,7 +108,7 @@ abbrev pub schedule_of : Rings → Result (Group × LinesLeft) ℕ → Result Sc
 schedule_of rings (Ok first) = with_votes rings (votes_in first.0 first.1.before first.1.lines)
 schedule_of rings (Err line) = Err line
 
--- the script that a text is, or the number of its first line at fault, counted from 1: the line after the last where no line asks for anything
+-- the script that a text is, or the number of its first line at fault, counted from 1: the line after the last where all lines are skipped
 unfoldable pub script_of : Rings → List ℕ → Result Schedule ℕ
 script_of rings text = schedule_of rings (nodes_in rings 0 (lines_of text))
 

@@ -76,7 +76,7 @@ impl<A: Allocator + Copy> Script<A> {
     }
 
     /// The script that the text is, in which no line names a node past the script's nodes. Otherwise `AtLine` with
-    /// the first line at fault, or with the line after the last where no line asks for anything, or `Memory`.
+    /// the first line at fault, or with the line after the last where all lines are skipped, or `Memory`.
     #[tactic(auto, unfolding(crate::specs::Scripts::script_of))]
     pub fn parse(alloc: A, text: &[u8], rings: Rings) -> Result<Script<A>, ScriptFault>
         ensures nodes { IfOk result (λ script. CanForm rings script.nodes) }

@@ -4,7 +4,7 @@ ghost use Rattle.std.specs.Prelude.{◌≡◌, ◌≢◌, ℕ, ◌+◌, ◌*◌,
 ghost use Rattle.ring_base.specs.Numbers.{has_bit, word_of};
 ghost use Rattle.ring_window.specs.Bits.{is_set, IsFirstClear};
 
-/// 256 bits, from the least of the first word on. HeldBits past the last are clear.
+/// 256 bits, from the least of the first word on. Bits past the last are clear.
 #[derive(Clone, Copy)]
 pub(crate) struct HeldBits {
     words: [u64; 4],
