@@ -26,7 +26,7 @@ use Rattle.ring_srp.specs.declared.input.Input.{Input}
 use Rattle.ring_srp.specs.declared.input.Input.TheVariants.{Frame as FrameInput, Timeout as TimeInput, Send as SendInput}
 use Rattle.ring_srp.specs.declared.out.Out.{Out}
 use Rattle.ring_srp.specs.declared.out.Out.TheVariants.{Send as SendOut, Agreed, Safe}
-use Rattle.ring_commit.specs.Reports.{Configuration}
+use Rattle.ring_commit.specs.declared.configuration.Configuration.{Configuration}
 use Rattle.ring_srp.specs.State.{Core, Sent, Did, Stepped, all_of, formed, halted}
 use Rattle.ring_srp.specs.Views.{front, mark}
 use Rattle.ring_srp.specs.Visiting.{room_at, new_payloads, new_messages, repeated, to_others, to_next, forwarded}

@@ -12,7 +12,7 @@ use Rattle.ring_wire.specs.declared.token.Token.{Token}
 use Rattle.ring_token.specs.Turns.{Turn}
 use Rattle.ring_token.specs.Rounds.{VisitBy}
 use Rattle.ring_token.specs.Visits.{numbered}
-use Rattle.ring_commit.specs.Reports.{Configuration}
+use Rattle.ring_commit.specs.declared.configuration.Configuration.{Configuration}
 use Rattle.ring_srp.specs.State.{Core, Report}
 use Rattle.ring_srp.specs.Views.{front}
 use Rattle.ring_srp.specs.Acting.{gives_old}

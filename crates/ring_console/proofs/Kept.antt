@@ -9,7 +9,7 @@ use Rattle.ring_base.specs.Processors.{only}
 use Rattle.ring_one.specs.Machine.{One}
 use Rattle.ring_book.specs.declared.frame_ref.FrameRef.{FrameRef}
 use Rattle.ring_book.specs.declared.line.Line.{Line}
-use Rattle.ring_book.specs.declared.TheConstants.{PLACES}
+use Rattle.ring_book.specs.Books.{most_places}
 use Rattle.ring_book.specs.Openings.{new_book}
 use Rattle.ring_book.specs.Seen.{BookView, CellView}
 use Rattle.ring_book.specs.Steps.{StepView}
@@ -24,10 +24,10 @@ use Rattle.ring_console.proofs.Sending.{all_sent_later, all_on_their_way_later, 
 
 -- why no place is reserved
 pub place_fault : {A T : Type 0} (book book' : BookView A) (AreAmong : Type 0) (fault : Fault) (r : Result T Fault) → r ≡ Err fault → book.reserved ≡ 0 → book' ≡ book → (fault ≡ Memory) ⊎ (fault ≡ BookFull)
-    → ((r ≡ Err BookFull) ↔ (length book.lines + book.reserved ≡ PLACES)) → EndsRun book'.lines AreAmong (Refused fault)
+    → ((r ≡ Err BookFull) ↔ (length book.lines + book.reserved ≡ most_places)) → EndsRun book'.lines AreAmong (Refused fault)
 place_fault book book' AreAmong fault r is none same (inl memory) full = inr (inl (ap Refused memory))
 place_fault {A} book book' AreAmong fault r is none same (inr book_full) full =
-    let all : length book.lines + book.reserved ≡ PLACES = full.0 (is ∙ ap Err book_full) in
+    let all : length book.lines + book.reserved ≡ most_places = full.0 (is ∙ ap Err book_full) in
     inr (inr (inl (ap Refused book_full, omega (arith, all, none, ap (λ (b : BookView A). length b.lines) same))))
 
 -- a run that ends for the nodes of one line ends for those of all

@@ -22,7 +22,7 @@ use Rattle.ring_book.specs.declared.input.LineInput.TheVariants.{Called, Came}
 use Rattle.ring_book.specs.declared.line.Line.{Line}
 use Rattle.ring_book.specs.Cells.{IsRefusal, Journals}
 use Rattle.ring_book.specs.Events.{events_of}
-use Rattle.ring_book.specs.declared.TheConstants.{PLACES}
+use Rattle.ring_book.specs.Books.{most_places}
 use Rattle.ring_book.specs.Lines.{frame_at, frame_to, steps_of, AreKept}
 use Rattle.ring_book.specs.Machines.{one_machine}
 use Rattle.ring_book.specs.Runs.{IsStep}
@@ -72,7 +72,7 @@ Grows {A} old new = (more : List (Line A)) × (new ≡ old ++ more)
 -- Why a run ends before its script does: its output fails, memory is refused, the book has its greatest length, or the nodes named are not all among its own.
 abbrev pub EndsRun : {A : Type 0} → List (Line A) → Type 0 → Failure → Type 0
 EndsRun lines AreAmong failure =
-    (failure ≡ failures.Output) ⊎ (failure ≡ failures.Refused fault.Memory) ⊎ ((failure ≡ failures.Refused fault.BookFull) × (length lines ≡ PLACES))
+    (failure ≡ failures.Output) ⊎ (failure ≡ failures.Refused fault.Memory) ⊎ ((failure ≡ failures.Refused fault.BookFull) × (length lines ≡ most_places))
     ⊎ ((failure ≡ failures.Refused fault.NotMember) × (AreAmong → ⊥))
 
 -- why the run of a script ends before it, whatever its book came to: its nodes are among the run's

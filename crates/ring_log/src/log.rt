@@ -3,7 +3,7 @@
 ghost use Rattle.std.specs.Prelude.{◌≡◌, ◌+◌, length, IfOk, IfErr, OnOk, OnErr};
 ghost use Rattle.ring_base.specs.declared.fault.Fault.TheVariants.{Memory};
 ghost use Rattle.ring_log.specs.Parts.{parts_between};
-ghost use Rattle.ring_log.specs.Logs.{empty, appended, adopted, committed_upto, committed_calls, head_of, is_log_length, is_adoptable};
+ghost use Rattle.ring_log.specs.Logs.{empty, appended, adopted, committed_upto, committed_calls, head_of, is_log_length};
 
 use crate::base::Base;
 use crate::parts::parts_of;

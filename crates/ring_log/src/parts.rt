@@ -12,7 +12,7 @@ use std::alloc::Allocator;
 const PLACES: usize = 7;
 
 /// The Parts of places, of which the first is the place `at`. Refused with `Memory` alone.
-#[tactic(auto, using(crate::proofs::Parts::map_numbers, crate::proofs::Parts::take_shorter))]
+#[tactic(auto, using(crate::proofs::Fronts::map_numbers, crate::proofs::Fronts::take_shorter))]
 pub(crate) fn parts_of<A: Allocator + Copy>(
     alloc: A,
     at: u64,

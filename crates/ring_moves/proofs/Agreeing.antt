@@ -3,7 +3,9 @@ use Rattle.std.proofs.Common.{◌≡◌, ℕ, true, eqb, List, [], ◌∷◌, re
 use Rattle.std.specs.List.{AllByRecursion}
 use Rattle.std.proofs.lemmas.Bool.{cond_both, and_parts, eqb-true}
 use Rattle.ring_wire.specs.declared.join.Join.{Join}
-use Rattle.ring_join.specs.Gathering.{Gathering, Hearing, Agrees, SaysSame, AllSaySame, is_unheard, has_same_sets, has_smaller_sets, hearing, agreed, widened_sets, widened}
+use Rattle.ring_join.specs.Gathering.{Gathering, SaysSame, AllSaySame, is_unheard, has_same_sets, has_smaller_sets, hearing, agreed, widened_sets, widened}
+use Rattle.ring_join.specs.declared.hearing.Hearing.{Hearing}
+use Rattle.ring_join.specs.declared.hearing.Hearing.TheVariants.{Agrees}
 
 says_same : (g : Gathering) (j : Join) → has_same_sets g j ≡ true → SaysSame g j
 says_same g j h =

@@ -9,7 +9,7 @@ use Rattle.ring_wire.specs.declared.commit.CommitToken.{CommitToken}
 use Rattle.ring_wire.specs.declared.entries.CommitEntry.{CommitEntry}
 use Rattle.ring_wire.specs.declared.frame.Frame.{Frame}
 use Rattle.ring_wire.specs.declared.frame.Frame.TheVariants.{Message as MessageFrame, Token as TokenFrame, Join as JoinFrame, Commit as CommitFrame}
-use Rattle.ring_commit.specs.Reports.{Configuration}
+use Rattle.ring_commit.specs.declared.configuration.Configuration.{Configuration}
 use Rattle.ring_commit.specs.Rounds.{position_of_hop, receiver, is_own}
 use Rattle.ring_srp.specs.declared.input.Input.TheVariants.{Frame as FrameInput}
 use Rattle.ring_srp.specs.State.{Core, Report}

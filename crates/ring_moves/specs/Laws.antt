@@ -13,8 +13,9 @@ use Rattle.ring_wire.specs.declared.token.Token.{Token}
 use Rattle.ring_window.specs.Held.{front_of}
 use Rattle.ring_token.specs.Turns.{Turn, first_token}
 use Rattle.ring_token.specs.Visits.{token_after}
-use Rattle.ring_join.specs.Gathering.{Hearing, Ignored, Agrees, Widens}
-use Rattle.ring_commit.specs.Reports.{Configuration}
+use Rattle.ring_join.specs.declared.hearing.Hearing.{Hearing}
+use Rattle.ring_join.specs.declared.hearing.Hearing.TheVariants.{Ignored, Agrees, Widens}
+use Rattle.ring_commit.specs.declared.configuration.Configuration.{Configuration}
 use Rattle.ring_commit.specs.Rounds.{is_start}
 use Rattle.ring_commit.specs.Outcomes.{is_at}
 use Rattle.ring_recover.specs.Plans.{Plan}

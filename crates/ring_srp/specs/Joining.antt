@@ -3,7 +3,8 @@ use Rattle.std.specs.Prelude.{ℕ, Bool, true, false, ◌==◌, nat_le, if◌the
 use Rattle.ring_base.specs.Processors.{nobody, only, everybody, has, less}
 use Rattle.ring_wire.specs.declared.frame.Frame.TheVariants.{Join as JoinFrame}
 use Rattle.ring_wire.specs.declared.join.Join.{Join}
-use Rattle.ring_join.specs.Gathering.{Gathering, Hearing, entered, own_join, hearing, may_propose}
+use Rattle.ring_join.specs.Gathering.{Gathering, entered, own_join, hearing, may_propose}
+use Rattle.ring_join.specs.declared.hearing.Hearing.{Hearing}
 use Rattle.ring_base.specs.declared.state.State.{State}
 use Rattle.ring_base.specs.declared.state.State.TheVariants.{Gather, Commit, Recovery, Operational, Stopped}
 use Rattle.ring_srp.specs.State.{Core, Sent, floor}

@@ -57,11 +57,13 @@ fn the_front_and_the_bits_after_it(rt: HostRuntime) -> Result<(), Fail> {
 #[test]
 fn what_is_forgotten_makes_room(rt: HostRuntime) -> Result<(), Fail> {
     let mut window = worked(rt.alloc())?;
+    assert!(rt; 2 <= window.front());
     window.forget(2);
     assert!(rt; take(&mut window, 257));
     assert!(rt; take(&mut window, 258));
     assert!(rt; !take(&mut window, 259));
     assert_eq!(rt; window.held_bits(), bits(0x02, 0xE0));
+    assert!(rt; 1 <= window.front());
     window.forget(1);
     assert_eq!(rt; window.mark(), 2);
     assert!(rt; window.holds(2) && window.get(2).is_none());
@@ -84,17 +86,20 @@ fn the_first_missing_are_asked_for(rt: HostRuntime) -> Result<(), Fail> {
 /// A window takes memory once, as it is made.
 #[test]
 fn a_window_is_refused_memory(rt: HostRuntime) -> Result<(), Fail> {
-    let refused = refuse_in_turn(rt.alloc(), &|heap| {
-        match Window::new(heap, ring()) {
-            Ok(mut window) => {
-                for number in 1..300 {
-                    take(&mut window, number);
+    let refused = refuse_in_turn(
+        rt.alloc(),
+        &|heap| {
+            match Window::new(heap, ring()) {
+                Ok(mut window) => {
+                    for number in 1..300 {
+                        take(&mut window, number);
+                    }
+                    Ok(())
                 }
-                Ok(())
+                Err(_) => Err(AllocError),
             }
-            Err(_) => Err(AllocError),
-        }
-    });
+        },
+    );
     assert_eq!(rt; refused, Some(1));
     Ok(())
 }

@@ -1,5 +1,5 @@
 -- Those taken so far and what is left of both make the same.
-use Rattle.std.proofs.Common.{ℕ, ◌-◌, length, take}
+use Rattle.std.proofs.Common.{◌-◌, length, take}
 use Rattle.ring_base.specs.Numbers.{merged}
 use Rattle.ring_token.proofs.Merging.{AreTaken}
 use Rattle.ring_token.proofs.requests.requests_after.Given as goal
