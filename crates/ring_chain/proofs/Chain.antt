@@ -25,16 +25,19 @@ use Rattle.ring_chain.proofs.Growing.{AllGrown, put-each, put_grows, moved_grows
 use Rattle.ring_chain.proofs.Rings.{AreRings, came_right, one_members}
 use Rattle.ring_chain.proofs.Turns.{same-self, only-is, next-turn, at-low, number-visits, first-arrived, AllBelow, newest}
 
-pub round_grows : {A : Type 0} → (old new : ℕ → Core A) → AllGrown old new → (r : RingId) (vs : List (VisitBy A)) → (vs ≡ []) ⊎ IsRound old r vs → (vs ≡ []) ⊎ IsRound new r vs
+pub round_grows : {A : Type 0} → (old new : ℕ → Core A) → AllGrown old new → (r : RingId) (vs : List (VisitBy A)) → (vs ≡ []) ⊎ IsRound old r vs →
+    (vs ≡ []) ⊎ IsRound new r vs
 round_grows old new g r vs (inl e) = inl e
 round_grows old new g r vs (inr h) = inr (record { members = h.members; ring_of = (g r.rep).rings _ h.ring_of; some = h.some; visits_are = h.visits_are })
 
 -- a turn more
-turn_picked : {A : Type 0} → (b : Bool) (i : ℕ) (turn : Turn A) (ts : List (Turn A)) (vs : List (VisitBy A)) → ts ≡ picked i vs → cond b (turn ∷ ts) ts ≡ picked i (cond b (record { who = i; turn = turn } ∷ vs) vs)
+turn_picked : {A : Type 0} → (b : Bool) (i : ℕ) (turn : Turn A) (ts : List (Turn A)) (vs : List (VisitBy A)) → ts ≡ picked i vs →
+    cond b (turn ∷ ts) ts ≡ picked i (cond b (record { who = i; turn = turn } ∷ vs) vs)
 turn_picked true i turn ts vs e = ap (λ us. turn ∷ us) e ∙ sym (cond-true (i == i) (turn ∷ picked i vs) (picked i vs) (eq-eqb i i refl))
 turn_picked false i turn ts vs e = e
 
-other_picked : {A : Type 0} → (b : Bool) (i q : ℕ) (turn : Turn A) (ts : List (Turn A)) (vs : List (VisitBy A)) → (q ≡ i → ⊥) → ts ≡ picked q vs → ts ≡ picked q (cond b (record { who = i; turn = turn } ∷ vs) vs)
+other_picked : {A : Type 0} → (b : Bool) (i q : ℕ) (turn : Turn A) (ts : List (Turn A)) (vs : List (VisitBy A)) → (q ≡ i → ⊥) → ts ≡ picked q vs →
+    ts ≡ picked q (cond b (record { who = i; turn = turn } ∷ vs) vs)
 other_picked true i q turn ts vs n e = e ∙ sym (cond-false (i == q) (turn ∷ picked q vs) (picked q vs) (ne_eqb i q (λ k. n (sym k))))
 other_picked false i q turn ts vs n e = e
 

@@ -35,7 +35,8 @@ use Rattle.ring_chain.proofs.Runs.{Holds, holding, unformed_holds, formed_holds}
 first_of_all : (n : ℕ) → 1 ≤ n → at (everybody n) 0 ≡ 1
 first_of_all n some = smallest-least (everybody n) 1 (omega arith, omega arith) ((everybody_members n 1).1 (omega arith, some)) (λ j m. ((everybody_members n j).0 m).0)
 
-may_start : {A : Type 0} → (n : ℕ) → 1 ≤ n → (t : Token) → t ≡ first_token (all_of n).ring → MayVisit (CameTo {A = A} [] 1) (formed n 1) t (new_payloads (formed n 1) t) (repeated (formed n 1) t) (queue_after Operational (room_at (formed {A = A} n 1) t) [])
+may_start : {A : Type 0} → (n : ℕ) → 1 ≤ n → (t : Token) → t ≡ first_token (all_of n).ring →
+    MayVisit (CameTo {A = A} [] 1) (formed n 1) t (new_payloads (formed n 1) t) (repeated (formed n 1) t) (queue_after Operational (room_at (formed {A = A} n 1) t) [])
 may_start {A} n some t e =
     record {
       state = inr refl;
@@ -65,7 +66,8 @@ contains-in [] k x l e = absurd (omega arith)
 contains-in (y ∷ xs) zero x l e = inl (sym e)
 contains-in (y ∷ xs) (suc k) x l e = inr (contains-in xs k x (omega arith) e)
 
-held_somewhere : {A : Type 0} → (cores : ℕ → Core A) (ring : RingId) (is : List ℕ) (x : Message A) → IsIn x (held_by cores ring is) → (q : ℕ) × IsIn x (cores q).held × (x.ring ≡ ring)
+held_somewhere : {A : Type 0} → (cores : ℕ → Core A) (ring : RingId) (is : List ℕ) (x : Message A) → IsIn x (held_by cores ring is) →
+    (q : ℕ) × IsIn x (cores q).held × (x.ring ≡ ring)
 held_somewhere cores ring [] x h = absurd h
 held_somewhere {A} cores ring (i ∷ is) x h =
     elim (in-parts x (of_ring ring (cores i).held) (held_by cores ring is) h) [

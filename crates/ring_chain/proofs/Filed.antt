@@ -22,7 +22,9 @@ pub record IsFiled (state : State) (top : ℕ) (reports : List Report) (plans : 
 abbrev pub Filed : {A : Type 0} → Core A → Type 0
 Filed c = IsFiled c.state (floor c) c.reports c.plans
 
-report_more : (top : ℕ) (reports : List Report) (new : Report) → top < new.ring.seq → Each (λ (x : Report). x.ring.seq ≤ top) reports → ((x y : Report) → IsIn x reports → IsIn y reports → x.ring ≡ y.ring → x ≡ y) → (x y : Report) → IsIn x (new ∷ reports) → IsIn y (new ∷ reports) → x.ring ≡ y.ring → x ≡ y
+report_more : (top : ℕ) (reports : List Report) (new : Report) → top < new.ring.seq → Each (λ (x : Report). x.ring.seq ≤ top) reports →
+    ((x y : Report) → IsIn x reports → IsIn y reports → x.ring ≡ y.ring → x ≡ y) → (x y : Report) → IsIn x (new ∷ reports) → IsIn y (new ∷ reports) →
+    x.ring ≡ y.ring → x ≡ y
 report_more top reports new l low one x y (inl a) (inl b) e = a ∙ sym b
 report_more top reports new l low one x y (inl a) (inr k) e =
     (let p : y.ring.seq ≤ top = in-each (λ (x : Report). x.ring.seq ≤ top) y reports low k in let q : x.ring.seq ≡ new.ring.seq = ap (λ (r : Report). r.ring.seq) a in let s : x.ring.seq ≡ y.ring.seq = ap (λ (r : RingId). r.seq) e in absurd (omega arith))

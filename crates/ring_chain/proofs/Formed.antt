@@ -1,5 +1,5 @@
 -- On a ring that is formed from the start there are no joins and no commit tokens, so that it runs until a processor stops; all its messages are users', and each processor tells as agreed the numbers 1, 2, 3 and so on up to its front.
-use Rattle.std.proofs.Common.{◌≡◌, ℕ, zero, suc, ◌+◌, ◌-◌, ◌<◌, ◌≤◌, ◌⊎◌, inl, inr, Bool, true, false, ◌&&◌, ◌==◌, List, [], ◌∷◌, ◌++◌, map, length, Option, Some, None, refl, ap, sym, ◌∙◌, subst, arith, append-nil}
+use Rattle.std.proofs.Common.{◌≡◌, ℕ, zero, suc, ◌+◌, ◌-◌, ◌<◌, ◌≤◌, ◌⊎◌, inl, inr, Bool, true, false, ◌&&◌, ◌==◌, List, [], ◌∷◌, ◌++◌, map, Option, Some, None, refl, ap, sym, ◌∙◌, subst, arith, append-nil}
 use Rattle.std.specs.Prelude.{nat_lt, not, filter, filter_map, find, slice_get}
 use Rattle.std.specs.List.{AllByRecursion as Each, cons_option, list_any}
 use Rattle.std.proofs.lemmas.Bool.{cond_both, cases_Bool, and_parts, and_right, false≢true, cond-true, cond-false, or_cases, eqb-true, eq-eqb, ne_eqb, both_ways}
@@ -81,7 +81,8 @@ record IsActed {A : Type 0} (n : ℕ) (d : Did A) : Type 0 where
 
 -- Acts
 
-again_quiet : {A : Type 0} → (shown : Option (Sent A)) → ((s : Sent A) → shown ≡ Some s → IsQuiet s.frame) → Each (λ (s : Sent A). IsQuiet s.frame) (shown_again shown)
+again_quiet : {A : Type 0} → (shown : Option (Sent A)) → ((s : Sent A) → shown ≡ Some s → IsQuiet s.frame) →
+    Each (λ (s : Sent A). IsQuiet s.frame) (shown_again shown)
 again_quiet None h = tt
 again_quiet (Some s) h = (h s refl, tt)
 
@@ -89,7 +90,8 @@ gives_nothing : {A : Type 0} → (s : State) → Running s → (c : Core A) (x :
 gives_nothing s (inl e) c x = ap (λ s. gives_old s c x) e
 gives_nothing s (inr e) c x = ap (λ s. gives_old s c x) e
 
-numbered_users : {A : Type 0} → (ring : RingId) (me seq : ℕ) (ps : List (Payload A)) → AllAreUsers ps → Each (λ (x : Message A). IsUsers x) (numbered ring me seq ps)
+numbered_users : {A : Type 0} → (ring : RingId) (me seq : ℕ) (ps : List (Payload A)) → AllAreUsers ps →
+    Each (λ (x : Message A). IsUsers x) (numbered ring me seq ps)
 numbered_users ring me seq [] h = tt
 numbered_users ring me seq (p ∷ ps) h = (h.0, numbered_users ring me (suc seq) ps h.1)
 
@@ -132,7 +134,8 @@ took_formed {A} n c x f u =
       users = subst (λ xs. Each (λ (x : Message A). IsUsers x) (xs ++ x ∷ c.held)) (sym (gives_nothing c.state f.state c x)) (u, f.users);
     }
 
-acted_formed : {A : Type 0} → (n : ℕ) (c : Core A) (input : Input A) (a : Act A) → IsFormed n c → IsAllowed input → HasPassed c a → CameWith c input a → IsAsked a → IsActed n (act c a)
+acted_formed : {A : Type 0} → (n : ℕ) (c : Core A) (input : Input A) (a : Act A) → IsFormed n c → IsAllowed input → HasPassed c a → CameWith c input a →
+    IsAsked a → IsActed n (act c a)
 acted_formed n c input Ignore f w g h u = record { core = f; sends = tt }
 acted_formed {A} n c input (Enqueue p) f w g h u =
     record { core = record { installed = f.installed; state = f.state; users = f.users; queued = each-push (λ (p : Payload A). is_user p ≡ true) c.queue p f.queued u; shown = f.shown }; sends = tt }
@@ -164,7 +167,8 @@ none_installed s (inr e) c = ap (λ s. installs_in s c) e
 abbrev acting : {A : Type 0} → Core A → Input A → Did A
 acting c input = act c (decide c input)
 
-step_is : {A : Type 0} → (n : ℕ) (c : Core A) (input : Input A) → IsFormed n (acting c input).core → ring_step c input ≡ record { core = (acting c input).core; outs = sent (acting c input).sends ++ given c (acting c input).core }
+step_is : {A : Type 0} → (n : ℕ) (c : Core A) (input : Input A) → IsFormed n (acting c input).core →
+    ring_step c input ≡ record { core = (acting c input).core; outs = sent (acting c input).sends ++ given c (acting c input).core }
 unfolding ring_step
 step_is n c input f =
     let d = acting c input in
@@ -183,7 +187,8 @@ record IsFound {A : Type 0} (held : List (Message A)) (ring : RingId) (n : ℕ) 
   pub number : message.number ≡ n
   pub user : is_user message.payload ≡ true
 
-find_one : {A : Type 0} → (p : Message A → Bool) (xs : List (Message A)) → list_any p xs ≡ true → (x : Message A) × (find p xs ≡ Some x) × (p x ≡ true) × IsIn x xs
+find_one : {A : Type 0} → (p : Message A → Bool) (xs : List (Message A)) → list_any p xs ≡ true →
+    (x : Message A) × (find p xs ≡ Some x) × (p x ≡ true) × IsIn x xs
 find_one p [] h = absurd (false≢true h)
 find_one {A} p (y ∷ xs) h =
     elim (cases_Bool (p y)) [
@@ -192,7 +197,8 @@ find_one {A} p (y ∷ xs) h =
           (r.0, cond-false (p y) (Some y) (find p xs) f ∙ r.1, r.2, inr r.3))
     ]
 
-found_in_front : {A : Type 0} → (held : List (Message A)) → Each (λ (x : Message A). IsUsers x) held → (ring : RingId) (n : ℕ) → 1 ≤ n → n ≤ front_of held ring → IsFound held ring n
+found_in_front : {A : Type 0} → (held : List (Message A)) → Each (λ (x : Message A). IsUsers x) held → (ring : RingId) (n : ℕ) → 1 ≤ n →
+    n ≤ front_of held ring → IsFound held ring n
 found_in_front {A} held u ring n low high =
     let f = find_one (is_numbered ring n) held ((front_is held ring).below n low high) in
     record { message = f.0; is = f.1; number = eqb-true (f.0).number n (and_parts (same_ring (f.0).ring ring) ((f.0).number == n) f.2).1; user = in-each (λ (x : Message A). IsUsers x) f.0 held u f.3 }
@@ -215,7 +221,8 @@ none_sent : {A : Type 0} → (sends : List (Sent A)) → filter_map agreed_of (m
 none_sent [] = refl
 none_sent (s ∷ sends) = none_sent sends
 
-step_tells : {A : Type 0} → (n : ℕ) (c d : Core A) (sends : List (Sent A)) → c.installed ≡ all_of n → Each (λ (x : Message A). IsUsers x) d.held → filter_map agreed_of (sent sends ++ given c d) ≡ numbers_from (front c (all_of n).ring + 1) (front d (all_of n).ring - front c (all_of n).ring)
+step_tells : {A : Type 0} → (n : ℕ) (c d : Core A) (sends : List (Sent A)) → c.installed ≡ all_of n → Each (λ (x : Message A). IsUsers x) d.held →
+    filter_map agreed_of (sent sends ++ given c d) ≡ numbers_from (front c (all_of n).ring + 1) (front d (all_of n).ring - front c (all_of n).ring)
 step_tells {A} n c d sends e u =
     let r = c.installed.ring in
     let f = front c r in
@@ -314,7 +321,8 @@ module _ {A : Type 0} (n : ℕ) (w : World A) (f : IsFormedWorld n w) where
   event_formed (Timeout i kind) h = stepped_formed (is_node w i) i (TimeInput kind) h
   event_formed (Stop i) h = stopped_formed (is_node w i) i
 
-run_formed_holds : {A : Type 0} → (n : ℕ) (w : World A) (events : List (RingEvent A)) → Each (λ (e : RingEvent A). acts_on_formed e ≡ true) events → IsFormedWorld n w → IsFormedWorld n (run w events)
+run_formed_holds : {A : Type 0} → (n : ℕ) (w : World A) (events : List (RingEvent A)) → Each (λ (e : RingEvent A). acts_on_formed e ≡ true) events →
+    IsFormedWorld n w → IsFormedWorld n (run w events)
 run_formed_holds n w [] h f = f
 run_formed_holds n w (e ∷ events) h f = run_formed_holds n (happens w e) events h.1 (event_formed n w f e h.0)
 
@@ -347,5 +355,6 @@ start_formed {A} n =
       told = put-each (λ q (x : Core A). [] ≡ numbers_from 1 (front x r)) (formed n) 1 d.core (λ q m. refl) (ap (numbers_from 1) (sym held));
     }
 
-pub agreed_ascend : {A : Type 0} → (n i : ℕ) (events : List (RingEvent A)) → agreed_numbers (run_formed n events) i ≡ numbers_from 1 (front ((run_formed n events).cores i) (all_of n).ring)
+pub agreed_ascend : {A : Type 0} → (n i : ℕ) (events : List (RingEvent A)) →
+    agreed_numbers (run_formed n events) i ≡ numbers_from 1 (front ((run_formed n events).cores i) (all_of n).ring)
 agreed_ascend n i events = (run_formed_holds n (ring_formed n) (filter acts_on_formed events) (all_act events) (start_formed n)).told i

@@ -54,7 +54,8 @@ moved_grows c Installs = record { me = refl; rings = λ p h. h; reports = λ x h
 -- All cores
 
 -- what holds of each core, of the new one at its place
-pub put-each : {A : Type 0} → (Q : ℕ → Core A → Type 0) (cores : ℕ → Core A) (i : ℕ) (d : Core A) → ((q : ℕ) → (q ≡ i → ⊥) → Q q (cores q)) → Q i d → (q : ℕ) → Q q (put cores i d q)
+pub put-each : {A : Type 0} → (Q : ℕ → Core A → Type 0) (cores : ℕ → Core A) (i : ℕ) (d : Core A) → ((q : ℕ) → (q ≡ i → ⊥) → Q q (cores q)) → Q i d →
+    (q : ℕ) → Q q (put cores i d q)
 put-each Q cores i d old new q =
     cond_both (q == i) d (cores q) (Q q) (λ e. subst (λ x. Q x d) (sym (eqb-true q i e)) new) (λ e. old q (eqb-false q i e))
 
@@ -89,7 +90,8 @@ safe_grows old new g r s (inr (members, known, safe)) =
     inr (members, (g r.rep).rings _ known, λ p proc m. (let a = safe p proc m in let b = (g p).fronts r in omega (arith, a, b)))
 
 -- a frame that was right stays right
-pub right_grows : {A : Type 0} → (visits visits' : Chains A) (old new : ℕ → Core A) → ChainsGrow visits visits' → AllGrown old new → (from to : ℕ) (f : Frame A) → IsRight visits old from to f → IsRight visits' new from to f
+pub right_grows : {A : Type 0} → (visits visits' : Chains A) (old new : ℕ → Core A) → ChainsGrow visits visits' → AllGrown old new →
+    (from to : ℕ) (f : Frame A) → IsRight visits old from to f → IsRight visits' new from to f
 right_grows visits visits' old new c g from to (MessageFrame x) h = c.genuine x h
 right_grows visits visits' old new c g from to (TokenFrame t) h =
     record { members = h.members; ring_of = (g t.ring.rep).rings _ h.ring_of; some = h.some; sent_to = h.sent_to; arrived = c.arrived t.ring t h.arrived }
@@ -105,5 +107,6 @@ right_grows visits visits' old new c g from to (CommitFrame k) h =
     }
 right_grows visits visits' old new c g from to (JoinFrame j) h = tt
 
-pub all_right_grow : {A : Type 0} → (visits visits' : Chains A) (old new : ℕ → Core A) → ChainsGrow visits visits' → AllGrown old new → (frames : List (Carried A)) → AreRight visits old frames → AreRight visits' new frames
+pub all_right_grow : {A : Type 0} → (visits visits' : Chains A) (old new : ℕ → Core A) → ChainsGrow visits visits' → AllGrown old new →
+    (frames : List (Carried A)) → AreRight visits old frames → AreRight visits' new frames
 all_right_grow {A} visits visits' old new c g frames h = each-weaker _ _ (λ (f : Carried A) k. right_grows visits visits' old new c g f.from f.to f.frame k) frames h

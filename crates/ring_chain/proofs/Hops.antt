@@ -38,7 +38,8 @@ entry-self e =
     and_from (same_ring e.old e.old && (e.front == e.front) && (e.mark == e.mark)) (pointwise nat_eq e.held e.held) b (pointwise-self e.held)
 
 -- where a ring has one report, that is the one found
-report_found : (ring : RingId) (e : CommitEntry) (rs : List Report) → ((x : Report) → IsIn x rs → x.ring ≡ ring → x.entry ≡ e) → IsIn (record { ring = ring; entry = e }) rs → report_for ring rs ≡ Some e
+report_found : (ring : RingId) (e : CommitEntry) (rs : List Report) → ((x : Report) → IsIn x rs → x.ring ≡ ring → x.entry ≡ e) →
+    IsIn (record { ring = ring; entry = e }) rs → report_for ring rs ≡ Some e
 report_found ring e [] f h = absurd h
 report_found ring e (r ∷ rs) f h =
     cond_both (same_ring r.ring ring) (Some r.entry) (report_for ring rs) (λ o. o ≡ Some e)
@@ -48,7 +49,10 @@ report_found ring e (r ∷ rs) f h =
       | inr k ↦ report_found ring e rs (λ x i. f x (inr i)) k
     ])
 
-reports_true : {A : Type 0} → (cores : ℕ → Core A) → ((q : ℕ) → Filed (cores q)) → (ring : RingId) (is : List ℕ) (es : List CommitEntry) → length es ≤ length is → ((x : ℕ) (e : CommitEntry) → slice_get es x ≡ Some e → IsIn (record { ring = ring; entry = e }) (cores (slice_index is x)).reports) → are_reports cores ring is es ≡ true
+reports_true : {A : Type 0} → (cores : ℕ → Core A) → ((q : ℕ) → Filed (cores q)) → (ring : RingId) (is : List ℕ) (es : List CommitEntry) →
+    length es ≤ length is →
+    ((x : ℕ) (e : CommitEntry) → slice_get es x ≡ Some e → IsIn (record { ring = ring; entry = e }) (cores (slice_index is x)).reports) →
+    are_reports cores ring is es ≡ true
 reports_true cores filed ring is [] l h = refl
 reports_true cores filed ring [] (e ∷ es) l h = absurd (omega arith)
 reports_true cores filed ring (i ∷ is) (e ∷ es) l h =
@@ -85,7 +89,8 @@ module _ {A : Type 0} (visits : Chains A) (cores : ℕ → Core A) (filed : (q :
 
   -- Members
 
-  commit_right : (from to : ℕ) (frame : Frame A) (k : CommitToken) → IsRight visits cores from to frame → commit_in frame ≡ Some k → IsRingOf cores k.ring k.members
+  commit_right : (from to : ℕ) (frame : Frame A) (k : CommitToken) → IsRight visits cores from to frame → commit_in frame ≡ Some k →
+      IsRingOf cores k.ring k.members
   commit_right from to (CommitFrame l) k h e = (let same : l ≡ k = cc in subst (λ (k : CommitToken). IsRingOf cores k.ring k.members) same h.ring_of)
   commit_right from to (MessageFrame x) k h e = absurd (let n : ⊥ = cc in n)
   commit_right from to (TokenFrame t) k h e = absurd (let n : ⊥ = cc in n)

@@ -39,32 +39,38 @@ IsOther ring x = x.ring ≡ ring → ⊥
 other_ring : (a ring : RingId) → (a ≡ ring → ⊥) → same_ring a ring ≡ false
 other_ring a ring n = false_from_ne_true (same_ring a ring) (λ e. n (ring_same a ring e))
 
-holds_other : {A : Type 0} → (xs held : List (Message A)) (ring : RingId) (n : ℕ) → Each (λ (x : Message A). IsOther ring x) xs → holds (xs ++ held) ring n ≡ holds held ring n
+holds_other : {A : Type 0} → (xs held : List (Message A)) (ring : RingId) (n : ℕ) → Each (λ (x : Message A). IsOther ring x) xs →
+    holds (xs ++ held) ring n ≡ holds held ring n
 holds_other [] held ring n h = refl
 holds_other (x ∷ xs) held ring n h = ap (λ b. (b && (x.number == n)) || holds (xs ++ held) ring n) (other_ring x.ring ring h.0) ∙ holds_other xs held ring n h.1
 
-front_other : {A : Type 0} → (xs held : List (Message A)) (ring : RingId) → Each (λ (x : Message A). IsOther ring x) xs → front_of (xs ++ held) ring ≡ front_of held ring
+front_other : {A : Type 0} → (xs held : List (Message A)) (ring : RingId) → Each (λ (x : Message A). IsOther ring x) xs →
+    front_of (xs ++ held) ring ≡ front_of held ring
 front_other xs held ring h =
     let f = front_is (xs ++ held) ring in
     front_only held ring (front_of (xs ++ held) ring)
     (record { below = λ n a b. sym (holds_other xs held ring n h) ∙ f.below n a b; next = sym (holds_other xs held ring (suc (front_of (xs ++ held) ring)) h) ∙ f.next })
 
-turns_other : {A : Type 0} → (v : Turn A) (turns : List (Turn A)) (raises : List Raise) (ring : RingId) → (v.came.ring ≡ ring → ⊥) → safe_mark (v ∷ turns) raises ring ≡ safe_mark turns raises ring
+turns_other : {A : Type 0} → (v : Turn A) (turns : List (Turn A)) (raises : List Raise) (ring : RingId) → (v.came.ring ≡ ring → ⊥) →
+    safe_mark (v ∷ turns) raises ring ≡ safe_mark turns raises ring
 turns_other {A} v turns raises ring n =
     ap (λ (ts : List (Turn A)). max (mark_by (map (λ (v : Turn A). v.went.aru) ts)) (raised_to ring raises)) (cond-false (same_ring v.came.ring ring) (v ∷ turns_of ring turns) (turns_of ring turns) (other_ring v.came.ring ring n))
 
-raises_other : {A : Type 0} → (x : Raise) (turns : List (Turn A)) (raises : List Raise) (ring : RingId) → (x.ring ≡ ring → ⊥) → safe_mark turns (x ∷ raises) ring ≡ safe_mark turns raises ring
+raises_other : {A : Type 0} → (x : Raise) (turns : List (Turn A)) (raises : List Raise) (ring : RingId) → (x.ring ≡ ring → ⊥) →
+    safe_mark turns (x ∷ raises) ring ≡ safe_mark turns raises ring
 raises_other {A} x turns raises ring n =
     let rest = filter (λ (x : Raise). same_ring x.ring ring) raises in
     ap (λ (rs : List Raise). max (mark_by (forwarded_in ring turns)) (greatest (map (λ (x : Raise). x.mark) rs))) (cond-false (same_ring x.ring ring) (x ∷ rest) rest (other_ring x.ring ring n))
 
 -- what is unwrapped is of the installed ring
-inner_other : {A : Type 0} → (old : RingId) (m : ℕ) (held : List (Message A)) (w : WrappedMessage A) (ring : RingId) → (ring ≡ old → ⊥) → Each (λ (x : Message A). IsOther ring x) (inner_if_new old m held w)
+inner_other : {A : Type 0} → (old : RingId) (m : ℕ) (held : List (Message A)) (w : WrappedMessage A) (ring : RingId) → (ring ≡ old → ⊥) →
+    Each (λ (x : Message A). IsOther ring x) (inner_if_new old m held w)
 inner_other {A} old m held w ring n =
     cond_both (same_ring w.ring old && is_new held m old w.number) _ [] (Each (λ (x : Message A). IsOther ring x))
     (λ e. (λ k. n (sym k ∙ ring_same w.ring old (and_parts (same_ring w.ring old) (is_new held m old w.number) e).0), tt)) (λ e. tt)
 
-unwrapped_other : {A : Type 0} → (old : RingId) (m : ℕ) (held : List (Message A)) (p : Payload A) (ring : RingId) → (ring ≡ old → ⊥) → Each (λ (x : Message A). IsOther ring x) (unwrapped old m held p)
+unwrapped_other : {A : Type 0} → (old : RingId) (m : ℕ) (held : List (Message A)) (p : Payload A) (ring : RingId) → (ring ≡ old → ⊥) →
+    Each (λ (x : Message A). IsOther ring x) (unwrapped old m held p)
 unwrapped_other old m held (Wrapped w) ring n = inner_other old m held w ring n
 unwrapped_other old m held (Call call) ring n = tt
 unwrapped_other old m held End ring n = tt
@@ -73,7 +79,8 @@ unwrapped_other old m held (Part part) ring n = tt
 unwrapped_other old m held (Pack pack) ring n = tt
 unwrapped_other old m held (Snap snap) ring n = tt
 
-gives_other : {A : Type 0} → (s : State) (c : Core A) (x : Message A) (ring : RingId) → (ring ≡ c.installed.ring → ⊥) → Each (λ (x : Message A). IsOther ring x) (gives_old s c x)
+gives_other : {A : Type 0} → (s : State) (c : Core A) (x : Message A) (ring : RingId) → (ring ≡ c.installed.ring → ⊥) →
+    Each (λ (x : Message A). IsOther ring x) (gives_old s c x)
 gives_other Recovery c x ring n = unwrapped_other c.installed.ring (mark c c.installed.ring) c.held x.payload ring n
 gives_other Gather c x ring n = tt
 gives_other Commit c x ring n = tt
@@ -89,7 +96,8 @@ record HasStayed {A : Type 0} (ring : RingId) (f m : ℕ) (c : Core A) : Type 0 
   pub front_is : front c ring ≡ f
   pub mark_is : mark c ring ≡ m
 
-moved_stays : {A : Type 0} → (ring : RingId) (f m : ℕ) (came : Frame A → Type 0) (c : Core A) (move : Move A) → MayMove came c move → HasStayed ring f m c → HasStayed ring f m (moved c move)
+moved_stays : {A : Type 0} → (ring : RingId) (f m : ℕ) (came : Frame A → Type 0) (c : Core A) (move : Move A) → MayMove came c move → HasStayed ring f m c →
+    HasStayed ring f m (moved c move)
 moved_stays ring f m came c (Idles state gathering shown queue sends) h s = record { rises = s.rises; left = record { members = (s.left).members; there = (s.left).there; running = (s.left).running; installed = (s.left).installed }; front_is = s.front_is; mark_is = s.mark_is }
 moved_stays ring f m came c (Enters k) h s =
     record {

@@ -111,10 +111,12 @@ first_hop c k g =
     let p = and_parts (nat_lt k.hop (size k.members) && (k.members == candidates c.gathering)) (nat_lt (floor c) k.ring.seq) g.passes in
     (ltb-true _ _ (and_parts (nat_lt k.hop (size k.members)) (k.members == candidates c.gathering) p.0).0, ltb-true _ _ p.1)
 
-start_hop : {A : Type 0} → (c : Core A) (input : Input A) (t : Token) (s : Rattle.ring_moves.specs.Laws.StartsWith c input t) → s.commit.hop ≡ 2 * size s.commit.members
+start_hop : {A : Type 0} → (c : Core A) (input : Input A) (t : Token) (s : Rattle.ring_moves.specs.Laws.StartsWith c input t) →
+    s.commit.hop ≡ 2 * size s.commit.members
 start_hop c input t s = eqb-true _ _ (and_parts (s.commit.hop == 2 * size s.commit.members) (is_of c.running s.commit) s.starts).0
 
-acted_took : {A : Type 0} → (c : Core A) (k : CommitToken) (a : Act A) → HasPassed c a → CameWith c (FrameInput (CommitFrame k)) a → (a ≡ Ignore → ⊥) → Took (act c a).core k.ring k.hop k.members
+acted_took : {A : Type 0} → (c : Core A) (k : CommitToken) (a : Act A) → HasPassed c a → CameWith c (FrameInput (CommitFrame k)) a → (a ≡ Ignore → ⊥) →
+    Took (act c a).core k.ring k.hop k.members
 acted_took c k Ignore g h n = absurd (n refl)
 acted_took c k (Fill j) g h n =
     let same : j ≡ k = cc in
@@ -142,14 +144,16 @@ acted_took c k (RegatherAndAgree j) g h n = absurd (let x : ⊥ = cc in x)
 acted_took c k (RegatherAndWiden j) g h n = absurd (let x : ⊥ = cc in x)
 acted_took c k (Take y) g h n = absurd (let x : ⊥ = cc in x)
 
-step_took : {A : Type 0} → (c : Core A) (k : CommitToken) → (decide c (FrameInput (CommitFrame k)) ≡ Ignore → ⊥) → Took (ring_step c (FrameInput (CommitFrame k))).core k.ring k.hop k.members
+step_took : {A : Type 0} → (c : Core A) (k : CommitToken) → (decide c (FrameInput (CommitFrame k)) ≡ Ignore → ⊥) →
+    Took (ring_step c (FrameInput (CommitFrame k))).core k.ring k.hop k.members
 step_took c k n =
     let input = FrameInput (CommitFrame k) in
     took_grows _ _ (step_grows c input) k.ring k.hop k.members (acted_took c k (decide c input) (guarded c input) (caused c input) n)
 
 -- with the fact it is ignored
 
-newer_all : {A : Type 0} → (n : ℕ) (p : Turn A → Bool) (v : Turn A) (vs : List (Turn A)) → list_all (λ (v : Turn A). nat_lt v.came.number n) (filter p vs) ≡ true → IsIn v vs → p v ≡ true → v.came.number < n
+newer_all : {A : Type 0} → (n : ℕ) (p : Turn A → Bool) (v : Turn A) (vs : List (Turn A)) →
+    list_all (λ (v : Turn A). nat_lt v.came.number n) (filter p vs) ≡ true → IsIn v vs → p v ≡ true → v.came.number < n
 newer_all n p v [] h i e = absurd i
 newer_all {A} n p v (u ∷ vs) h i e =
     let test : Turn A → Bool = λ v. nat_lt v.came.number n in
@@ -165,7 +169,8 @@ visited_again c t h v i e =
     let r = and_parts (same_ring t.ring c.running.ring) (is_newer c.turns t) q.0 in
     newer_all t.number (λ (v : Turn _). same_ring v.came.ring t.ring) v c.turns r.1 i (subst (λ r. same_ring r t.ring ≡ true) (sym e) (same-self t.ring))
 
-not_again : {A : Type 0} → (c : Core A) → Rising c → Filed c → (k : CommitToken) (a : Act A) → HasPassed c a → CameWith c (FrameInput (CommitFrame k)) a → (a ≡ Ignore → ⊥) → Took c k.ring k.hop k.members → ⊥
+not_again : {A : Type 0} → (c : Core A) → Rising c → Filed c → (k : CommitToken) (a : Act A) → HasPassed c a → CameWith c (FrameInput (CommitFrame k)) a →
+    (a ≡ Ignore → ⊥) → Took c k.ring k.hop k.members → ⊥
 not_again c r f k Ignore g h n t = n refl
 not_again c r f k (Fill j) g h n t =
     let same : k ≡ j = cc in
@@ -226,12 +231,14 @@ not_ignored : {A : Type 0} → (a : Act A) → is_ignored a ≡ false → a ≡ 
 not_ignored {A} a h e = true≢false (subst (λ (x : Act A). is_ignored x ≡ false) e h)
 
 module _ {A : Type 0} (w : World A) (i n : ℕ) where
-  taking_unless : (b : Bool) (k : CommitToken) → is_ignored (decide (w.cores i) (FrameInput (CommitFrame k))) ≡ b → CameTo w.frames i (CommitFrame k) → (happens w (Deliver i n)).cores i ≡ (ring_step (w.cores i) (FrameInput (CommitFrame k))).core → TakesOne w (Deliver i n) (taken_unless b (w.cores i) k)
+  taking_unless : (b : Bool) (k : CommitToken) → is_ignored (decide (w.cores i) (FrameInput (CommitFrame k))) ≡ b → CameTo w.frames i (CommitFrame k) →
+      (happens w (Deliver i n)).cores i ≡ (ring_step (w.cores i) (FrameInput (CommitFrame k))).core → TakesOne w (Deliver i n) (taken_unless b (w.cores i) k)
   taking_unless true k e came after = inl refl
   taking_unless false k e came after =
       inr (_, refl, record { i = i; who = refl; taken = not_ignored (decide (w.cores i) (FrameInput (CommitFrame k))) e; came = came; after = after })
 
-  taking_frame : (frame : Frame A) → CameTo w.frames i frame → (happens w (Deliver i n)).cores i ≡ (ring_step (w.cores i) (FrameInput frame)).core → TakesOne w (Deliver i n) (taken_at (w.cores i) frame)
+  taking_frame : (frame : Frame A) → CameTo w.frames i frame → (happens w (Deliver i n)).cores i ≡ (ring_step (w.cores i) (FrameInput frame)).core →
+      TakesOne w (Deliver i n) (taken_at (w.cores i) frame)
   taking_frame (CommitFrame k) came after = taking_unless (is_ignored (decide (w.cores i) (FrameInput (CommitFrame k)))) k refl came after
   taking_frame (MessageFrame x) came after = inl refl
   taking_frame (TokenFrame t) came after = inl refl
@@ -241,11 +248,13 @@ module _ {A : Type 0} (w : World A) (i n : ℕ) where
   came_at zero f e h = absurd (let x : ⊥ = cc in x)
   came_at (suc m) f e h = some-get (λ (g : Carried A). (has g.to i ≡ true) × (g.frame ≡ f.frame)) w.frames m f e (h, refl)
 
-  stepped_here : (f : Carried A) → frame_at w.frames n ≡ Some f → has f.to i ≡ true → is_node w i ≡ true → (happens w (Deliver i n)).cores i ≡ (ring_step (w.cores i) (FrameInput f.frame)).core
+  stepped_here : (f : Carried A) → frame_at w.frames n ≡ Some f → has f.to i ≡ true → is_node w i ≡ true →
+      (happens w (Deliver i n)).cores i ≡ (ring_step (w.cores i) (FrameInput f.frame)).core
   stepped_here f e h k =
       ap (λ o. (handed w i o).cores i) e ∙ ap (λ b. (handed_if b w i f.frame).cores i) h ∙ ap (λ b. (stepped_if b w i (FrameInput f.frame)).cores i) k ∙ put-here w.cores i (ring_step (w.cores i) (FrameInput f.frame)).core
 
-  taking_if : (b : Bool) (f : Carried A) → frame_at w.frames n ≡ Some f → (has f.to i && is_node w i) ≡ b → TakesOne w (Deliver i n) (taken_if b (w.cores i) f.frame)
+  taking_if : (b : Bool) (f : Carried A) → frame_at w.frames n ≡ Some f → (has f.to i && is_node w i) ≡ b →
+      TakesOne w (Deliver i n) (taken_if b (w.cores i) f.frame)
   taking_if false f e h = inl refl
   taking_if true f e h =
       let p = and_parts (has f.to i) (is_node w i) h in
@@ -301,14 +310,16 @@ module _ {A : Type 0} (w : World A) (p : Holds w.cores w.frames) (e : RingEvent 
       let input = FrameInput (CommitFrame u.commit) in
       not_again c (p.rings.rising new.i) (p.filed new.i) u.commit (decide c input) (guarded c input) (caused c input) new.taken took
 
-others_of : {A : Type 0} → (w : World A) → Holds w.cores w.frames → (e : RingEvent A) (t : Taking) → HasTaken w.cores t → (ts : List Taking) → TakesOne w e ts → list_all (are_other_hops t) ts ≡ true
+others_of : {A : Type 0} → (w : World A) → Holds w.cores w.frames → (e : RingEvent A) (t : Taking) → HasTaken w.cores t → (ts : List Taking) →
+    TakesOne w e ts → list_all (are_other_hops t) ts ≡ true
 others_of w p e t h ts (inl q) = subst (λ ts. list_all (are_other_hops t) ts ≡ true) (sym q) refl
 others_of w p e t h ts (inr (u, q, new)) =
     subst (λ ts. list_all (are_other_hops t) ts ≡ true) (sym q)
     (and_from (are_other_hops t u) true
     (elim (cases_Bool (same_ring t.commit.ring u.commit.ring && (t.commit.hop == u.commit.hop))) [ inl same ↦ absurd (other w p e u new t h same) | inr differ ↦ ap not differ ]) refl)
 
-others : {A : Type 0} → (w : World A) → Holds w.cores w.frames → (t : Taking) → HasTaken w.cores t → (events : List (RingEvent A)) → list_all (are_other_hops t) (takings w events) ≡ true
+others : {A : Type 0} → (w : World A) → Holds w.cores w.frames → (t : Taking) → HasTaken w.cores t → (events : List (RingEvent A)) →
+    list_all (are_other_hops t) (takings w events) ≡ true
 others w p t h [] = refl
 others w p t h (e ∷ events) =
     list_all-append (are_other_hops t) (taken_in w e) (takings (happens w e) events)

@@ -70,7 +70,8 @@ same_marks c outs h = each-weaker (IsMark c) (IsMark (install c)) one outs h
     one (Rest ring n x) k = tt
     one (Regular ring set) k = tt
 
-marks_settled : {A : Type 0} → (b : Bool) (c : Core A) (outs : List (Out A)) → Each (IsMark c) outs → Each (IsMark (settle b c outs).core) (settle b c outs).outs
+marks_settled : {A : Type 0} → (b : Bool) (c : Core A) (outs : List (Out A)) → Each (IsMark c) outs →
+    Each (IsMark (settle b c outs).core) (settle b c outs).outs
 marks_settled false c outs h = h
 marks_settled true c outs h = same_marks c (outs ++ configured c) (each-append (IsMark c) outs (configured c) h (marks_configured c))
 
@@ -125,7 +126,8 @@ told_grows old new g (Trans o n set) h = tt
 told_grows old new g (Rest ring n x) h = tt
 told_grows old new g (Regular ring set) h = tt
 
-told_new : {A : Type 0} → (cores : ℕ → Core A) → ((q : ℕ) (ring : RingId) → IsSafe cores ring (mark (cores q) ring)) → (i : ℕ) (c : Core A) → cores i ≡ c → (o : Out A) → IsMark c o → IsSafelyTold cores o
+told_new : {A : Type 0} → (cores : ℕ → Core A) → ((q : ℕ) (ring : RingId) → IsSafe cores ring (mark (cores q) ring)) → (i : ℕ) (c : Core A) → cores i ≡ c →
+    (o : Out A) → IsMark c o → IsSafelyTold cores o
 told_new cores safe i c e (Safe ring upto) h = subst (IsSafe cores ring) (ap (λ (c : Core _). mark c ring) e ∙ sym h) (safe i ring)
 told_new cores safe i c e (SendOut to frame) h = tt
 told_new cores safe i c e (Agreed ring n x) h = tt

@@ -36,7 +36,8 @@ record HoldsPlans {A : Type 0} (cores : ℕ → Core A) (frames : List (Carried 
   pub all : Holds cores frames
   pub plans : ArePlans cores
 
-learned_plan : {A : Type 0} → (cores : ℕ → Core A) (frames : List (Carried A)) (i : ℕ) (k : CommitToken) → Holds cores frames → MayMove (CameTo frames i) (cores i) (Learns k) → IsPlan cores k
+learned_plan : {A : Type 0} → (cores : ℕ → Core A) (frames : List (Carried A)) (i : ℕ) (k : CommitToken) → Holds cores frames →
+    MayMove (CameTo frames i) (cores i) (Learns k) → IsPlan cores k
 learned_plan cores frames i k p h =
     let f = came_right p.visits cores frames i (CommitFrame k) p.sent.right h.from in
     let hop : IsHop cores f.0 f.1 k = f.3 in
@@ -44,7 +45,8 @@ learned_plan cores frames i k p h =
     let second : size k.members ≤ k.hop = h.second in
     record { ring_of = hop.ring_of; count = omega arith; reports = hop.reports }
 
-plans_after : {A : Type 0} → (cores : ℕ → Core A) (frames : List (Carried A)) (i : ℕ) (m : Move A) → Holds cores frames → ArePlans cores → MayMove (CameTo frames i) (cores i) m → Each (IsPlan cores) (moved (cores i) m).plans
+plans_after : {A : Type 0} → (cores : ℕ → Core A) (frames : List (Carried A)) (i : ℕ) (m : Move A) → Holds cores frames → ArePlans cores →
+    MayMove (CameTo frames i) (cores i) m → Each (IsPlan cores) (moved (cores i) m).plans
 plans_after cores frames i (Learns k) p h may = (learned_plan cores frames i k p may, h i)
 plans_after cores frames i (Idles state gathering shown queue sends) p h may = h i
 plans_after cores frames i (Enters k) p h may = h i
@@ -52,7 +54,8 @@ plans_after cores frames i (Visits t fresh requests again queue) p h may = h i
 plans_after cores frames i (Takes x) p h may = h i
 plans_after cores frames i Installs p h may = h i
 
-plans_moved : {A : Type 0} → (cores : ℕ → Core A) (frames : List (Carried A)) (i : ℕ) (m : Move A) → 1 ≤ i → MayMove (CameTo frames i) (cores i) m → HoldsPlans cores frames → HoldsPlans (put cores i (moved (cores i) m)) (frames ++ carried_from i (sends_of (cores i) m))
+plans_moved : {A : Type 0} → (cores : ℕ → Core A) (frames : List (Carried A)) (i : ℕ) (m : Move A) → 1 ≤ i → MayMove (CameTo frames i) (cores i) m →
+    HoldsPlans cores frames → HoldsPlans (put cores i (moved (cores i) m)) (frames ++ carried_from i (sends_of (cores i) m))
 plans_moved {A} cores frames i m low h p =
     let d = moved (cores i) m in
     let new = put cores i d in
@@ -72,7 +75,8 @@ same_lists [] (y ∷ ys) e h = absurd (omega arith)
 same_lists (x ∷ xs) [] e h = absurd (omega arith)
 same_lists (x ∷ xs) (y ∷ ys) e h = ap (λ z. z ∷ xs) (h 0 x y refl refl) ∙ ap (λ zs. y ∷ zs) (same_lists xs ys (omega arith) (λ k a b s t. h (suc k) a b s t))
 
-one_plan : {A : Type 0} → (cores : ℕ → Core A) → AreRings cores → ((q : ℕ) → Filed (cores q)) → (k l : CommitToken) → IsPlan cores k → IsPlan cores l → k.ring ≡ l.ring → (k.members ≡ l.members) × (k.entries ≡ l.entries)
+one_plan : {A : Type 0} → (cores : ℕ → Core A) → AreRings cores → ((q : ℕ) → Filed (cores q)) → (k l : CommitToken) → IsPlan cores k → IsPlan cores l →
+    k.ring ≡ l.ring → (k.members ≡ l.members) × (k.entries ≡ l.entries)
 one_plan cores are filed k l hk hl e =
     let members : k.members ≡ l.members = one_members cores are k.ring k.members l.members hk.ring_of (subst (λ r. IsRingOf cores r l.members) (sym e) hl.ring_of) in (
       members,

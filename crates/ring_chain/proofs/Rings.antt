@@ -22,7 +22,8 @@ pub record AreRings {A : Type 0} (cores : ℕ → Core A) : Type 0 where
   pub shared : SharesRings cores
 
 -- a frame that came is right, and to this processor
-pub came_right : {A : Type 0} → (visits : Chains A) (cores : ℕ → Core A) (frames : List (Carried A)) (i : ℕ) (f : Frame A) → AreRight visits cores frames → CameTo frames i f → (from : ℕ) × (to : ℕ) × (has to i ≡ true) × IsRight visits cores from to f
+pub came_right : {A : Type 0} → (visits : Chains A) (cores : ℕ → Core A) (frames : List (Carried A)) (i : ℕ) (f : Frame A) → AreRight visits cores frames →
+    CameTo frames i f → (from : ℕ) × (to : ℕ) × (has to i ≡ true) × IsRight visits cores from to f
 came_right {A} visits cores frames i f all came =
     some-each _ _ ((from : ℕ) × (to : ℕ) × (has to i ≡ true) × IsRight visits cores from to f)
     (λ (g : Carried A) right e. (g.from, g.to, e.0, subst (IsRight visits cores g.from g.to) e.1 right)) frames all came
@@ -41,7 +42,8 @@ module _ {A : Type 0} (visits : Chains A) (cores : ℕ → Core A) (frames : Lis
       ]
 
   -- a ring of the core is that one, or was there before
-  rings_after : (m : Move A) → MayMove (CameTo frames i) (cores i) m → (p : Configuration) → IsIn p (moved (cores i) m).rings → IsRingOf (put cores i (moved (cores i) m)) p.ring p.members ⊎ IsIn p (cores i).rings
+  rings_after : (m : Move A) → MayMove (CameTo frames i) (cores i) m → (p : Configuration) → IsIn p (moved (cores i) m).rings →
+      IsRingOf (put cores i (moved (cores i) m)) p.ring p.members ⊎ IsIn p (cores i).rings
   rings_after (Enters k) h p (inl e) = inl (subst (λ (p : Configuration). IsRingOf (put cores i (moved (cores i) (Enters k))) p.ring p.members) (sym e) (entered_shared k h))
   rings_after (Enters k) h p (inr x) = inr x
   rings_after (Idles state gathering shown queue sends) h p x = inr x

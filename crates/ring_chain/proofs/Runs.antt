@@ -30,7 +30,8 @@ pub record Holds {A : Type 0} (cores : ℕ → Core A) (frames : List (Carried A
   pub safe : AreSafe cores
   pub sent : AreSent visits cores frames
 
-moved_holds : {A : Type 0} → (cores : ℕ → Core A) (frames : List (Carried A)) (i : ℕ) (m : Move A) → 1 ≤ i → MayMove (CameTo frames i) (cores i) m → Holds cores frames → Holds (put cores i (moved (cores i) m)) (frames ++ carried_from i (sends_of (cores i) m))
+moved_holds : {A : Type 0} → (cores : ℕ → Core A) (frames : List (Carried A)) (i : ℕ) (m : Move A) → 1 ≤ i → MayMove (CameTo frames i) (cores i) m →
+    Holds cores frames → Holds (put cores i (moved (cores i) m)) (frames ++ carried_from i (sends_of (cores i) m))
 moved_holds {A} cores frames i m low h p =
     let right = p.sent.right in
     record {

@@ -40,7 +40,8 @@ safe_max cores r a b ha hb =
     ]
 
 -- the greatest mark that a ring was raised to
-raised_safe : {A : Type 0} → (cores : ℕ → Core A) (r : RingId) (raises : List Raise) → Each (λ (x : Raise). IsSafe cores x.ring x.mark) raises → IsSafe cores r (raised_to r raises)
+raised_safe : {A : Type 0} → (cores : ℕ → Core A) (r : RingId) (raises : List Raise) → Each (λ (x : Raise). IsSafe cores x.ring x.mark) raises →
+    IsSafe cores r (raised_to r raises)
 raised_safe cores r [] h = inl refl
 raised_safe cores r (x ∷ raises) h =
     let rest = filter (λ (x : Raise). same_ring x.ring r) raises in
@@ -49,7 +50,8 @@ raised_safe cores r (x ∷ raises) h =
     (λ e. raised_safe cores r raises h.1)
 
 -- the greatest that reports of a ring tell
-pub reported_safe : {A : Type 0} → (cores : ℕ → Core A) (r : RingId) (entries : List CommitEntry) → Each (λ (e : CommitEntry). IsSafe cores e.old e.mark) entries → IsSafe cores r (safe_of (reports_of r entries))
+pub reported_safe : {A : Type 0} → (cores : ℕ → Core A) (r : RingId) (entries : List CommitEntry) →
+    Each (λ (e : CommitEntry). IsSafe cores e.old e.mark) entries → IsSafe cores r (safe_of (reports_of r entries))
 reported_safe cores r [] h = inl refl
 reported_safe cores r (x ∷ entries) h =
     let rest = reports_of r entries in
@@ -63,7 +65,8 @@ forwarded_picked : {A : Type 0} → (q : ℕ) (vs : List (VisitBy A)) → map (�
 forwarded_picked q [] = refl
 forwarded_picked {A} q (v ∷ vs) = one (v.who == q) (forwarded_picked q vs)
   where
-    one : (b : Bool) → map (λ (v : Turn A). v.went.aru) (picked q vs) ≡ forwarded_by q vs → map (λ (v : Turn A). v.went.aru) (cond b (v.turn ∷ picked q vs) (picked q vs)) ≡ cond b (v.turn.went.aru ∷ forwarded_by q vs) (forwarded_by q vs)
+    one : (b : Bool) → map (λ (v : Turn A). v.went.aru) (picked q vs) ≡ forwarded_by q vs →
+        map (λ (v : Turn A). v.went.aru) (cond b (v.turn ∷ picked q vs) (picked q vs)) ≡ cond b (v.turn.went.aru ∷ forwarded_by q vs) (forwarded_by q vs)
     one true e = ap (λ xs. v.turn.went.aru ∷ xs) e
     one false e = e
 

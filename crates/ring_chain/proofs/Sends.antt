@@ -38,7 +38,8 @@ pub record AreSent {A : Type 0} (visits : Chains A) (cores : ℕ → Core A) (fr
   pub shown : (q : ℕ) → ShowsRight visits cores q (cores q).shown
 
 -- an entry more
-slice_push : {X : Type 0} → (xs : List X) (y : X) (k : ℕ) (x : X) → slice_get (xs ++ y ∷ []) k ≡ Some x → (slice_get xs k ≡ Some x) ⊎ ((k ≡ length xs) × (y ≡ x))
+slice_push : {X : Type 0} → (xs : List X) (y : X) (k : ℕ) (x : X) → slice_get (xs ++ y ∷ []) k ≡ Some x →
+    (slice_get xs k ≡ Some x) ⊎ ((k ≡ length xs) × (y ≡ x))
 slice_push [] y zero x e = inr (refl, let s : y ≡ x = cc in s)
 slice_push [] y (suc k) x e = absurd (let n : ⊥ = cc in n)
 slice_push (z ∷ xs) y zero x e = inl e
@@ -69,7 +70,8 @@ module _ {A : Type 0} (visits : Chains A) (cores : ℕ → Core A) (frames : Lis
             record { count = (let c : length k.entries ≡ min k.hop (size k.members) = hop.count in omega arith); reports = hop.reports })
       ]
 
-  entered_right : (k : CommitToken) → MayEnter (CameTo frames i) (cores i) k → IsHop (put cores i (moved (cores i) (Enters k))) i (only (receiver (hopped k (own_entry (cores i) ∷ [])))) (hopped k (own_entry (cores i) ∷ []))
+  entered_right : (k : CommitToken) → MayEnter (CameTo frames i) (cores i) k →
+      IsHop (put cores i (moved (cores i) (Enters k))) i (only (receiver (hopped k (own_entry (cores i) ∷ [])))) (hopped k (own_entry (cores i) ∷ []))
   entered_right k h =
       let own = own_entry (cores i) in
       let d = moved (cores i) (Enters k) in
@@ -96,7 +98,8 @@ module _ {A : Type 0} (visits : Chains A) (cores : ℕ → Core A) (frames : Lis
         ];
       }
 
-  learned_right : (k : CommitToken) → MayLearn (CameTo frames i) (cores i) k → IsHop (put cores i (moved (cores i) (Learns k))) i (only (receiver (hopped k []))) (hopped k [])
+  learned_right : (k : CommitToken) → MayLearn (CameTo frames i) (cores i) k →
+      IsHop (put cores i (moved (cores i) (Learns k))) i (only (receiver (hopped k []))) (hopped k [])
   learned_right k h =
       let d = moved (cores i) (Learns k) in
       let g : AllGrown cores (put cores i d) = put_grows cores i d (moved_grows (cores i) (Learns k)) in
@@ -133,10 +136,13 @@ module _ {A : Type 0} (visits : Chains A) (cores : ℕ → Core A) (frames : Lis
     repeated_right m s (inl e) = shown_again m i s e
     repeated_right m s (inr (j, e)) = subst (IsRight (visits_after visits i (cores i) m) (after m) i s.to) (sym e) tt
 
-    messages_right : (m : Move A) (xs : List (Message A)) → Each (IsGenuine (visits_after visits i (cores i) m)) xs → Each (SendsRight m) (to_others (cores i) xs)
+    messages_right : (m : Move A) (xs : List (Message A)) → Each (IsGenuine (visits_after visits i (cores i) m)) xs →
+        Each (SendsRight m) (to_others (cores i) xs)
     messages_right m xs h = each-map (SendsRight m) (λ x. record { to = less (cores i).running.members (only (cores i).me); frame = MessageFrame x }) xs h
 
-    visit_right : (t : Token) (fresh : List (Payload A)) (requests : List ℕ) (again : List (Message A)) (queue : List (Payload A)) → MayVisit (CameTo frames i) (cores i) t fresh again queue → Each (SendsRight (Visits t fresh requests again queue)) (sends_of (cores i) (Visits t fresh requests again queue))
+    visit_right : (t : Token) (fresh : List (Payload A)) (requests : List ℕ) (again : List (Message A)) (queue : List (Payload A)) →
+        MayVisit (CameTo frames i) (cores i) t fresh again queue →
+        Each (SendsRight (Visits t fresh requests again queue)) (sends_of (cores i) (Visits t fresh requests again queue))
     visit_right t fresh requests again queue h =
         let m = Visits t fresh requests again queue in
         let g = visits_grow visits i (cores i) m in
@@ -171,7 +177,8 @@ module _ {A : Type 0} (visits : Chains A) (cores : ℕ → Core A) (frames : Lis
     shown_right (Takes x) h = shown_again (Takes x) i
     shown_right Installs h = shown_again Installs i
 
-    pub sent_moved : (m : Move A) → MayMove (CameTo frames i) (cores i) m → AreSent (visits_after visits i (cores i) m) (after m) (frames ++ carried_from i (sends_of (cores i) m))
+    pub sent_moved : (m : Move A) → MayMove (CameTo frames i) (cores i) m →
+        AreSent (visits_after visits i (cores i) m) (after m) (frames ++ carried_from i (sends_of (cores i) m))
     sent_moved m h =
         let vs = visits_after visits i (cores i) m in
         let g = put_grows cores i (moved (cores i) m) (moved_grows (cores i) m) in

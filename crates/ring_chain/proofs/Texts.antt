@@ -40,7 +40,8 @@ pub record IsNumbered {A : Type 0} (ring : RingId) (me seq : ℕ) (ps : List (Pa
   pub sender_is : x.sender ≡ me
   pub payload_in : IsIn x.payload ps
 
-pub numbered_in : {A : Type 0} → (ring : RingId) (me seq : ℕ) (ps : List (Payload A)) (x : Message A) → IsIn x (numbered ring me seq ps) → IsNumbered ring me seq ps x
+pub numbered_in : {A : Type 0} → (ring : RingId) (me seq : ℕ) (ps : List (Payload A)) (x : Message A) → IsIn x (numbered ring me seq ps) →
+    IsNumbered ring me seq ps x
 numbered_in ring me seq [] x h = absurd h
 numbered_in {A} ring me seq (p ∷ ps) x (inl e) =
     let n : x.number ≡ suc seq = ap (λ (y : Message A). y.number) e in
@@ -51,7 +52,8 @@ numbered_in ring me seq (p ∷ ps) x (inr h) =
     let b : x.number ≤ suc seq + length ps = r.within in
     record { above = omega arith; within = omega arith; ring_is = r.ring_is; sender_is = r.sender_is; payload_in = inr r.payload_in }
 
-numbered_one : {A : Type 0} → (ring : RingId) (me seq : ℕ) (ps : List (Payload A)) (x y : Message A) → IsIn x (numbered ring me seq ps) → IsIn y (numbered ring me seq ps) → x.number ≡ y.number → x ≡ y
+numbered_one : {A : Type 0} → (ring : RingId) (me seq : ℕ) (ps : List (Payload A)) (x y : Message A) → IsIn x (numbered ring me seq ps) →
+    IsIn y (numbered ring me seq ps) → x.number ≡ y.number → x ≡ y
 numbered_one ring me seq [] x y hx hy e = absurd hx
 numbered_one ring me seq (p ∷ ps) x y (inl ex) (inl ey) e = ex ∙ sym ey
 numbered_one {A} ring me seq (p ∷ ps) x y (inl ex) (inr hy) e =
@@ -65,18 +67,22 @@ numbered_one ring me seq (p ∷ ps) x y (inr hx) (inr hy) e = numbered_one ring 
 abbrev NumberedIn : {A : Type 0} → RingId → Message A → List (VisitBy A) → Type 0
 NumberedIn ring x vs = SomeIs (λ (v : VisitBy _). IsIn x (numbered ring v.who v.turn.came.seq v.turn.fresh)) vs
 
-seq_after : {A : Type 0} → (members : ℕ) (ring : RingId) (v : VisitBy A) (vs : List (VisitBy A)) → AreVisits members ring (v ∷ vs) → v.turn.came.seq + length v.turn.fresh ≡ v.turn.went.seq
+seq_after : {A : Type 0} → (members : ℕ) (ring : RingId) (v : VisitBy A) (vs : List (VisitBy A)) → AreVisits members ring (v ∷ vs) →
+    v.turn.came.seq + length v.turn.fresh ≡ v.turn.went.seq
 seq_after members ring v vs h = sym (ap (λ (t : Token). t.seq) h.0.goes)
 
-seq_before : {A : Type 0} → (members : ℕ) (ring : RingId) (v : VisitBy A) (vs : List (VisitBy A)) → AreVisits members ring (v ∷ vs) → v.turn.came.seq ≡ (arrived ring vs).seq
+seq_before : {A : Type 0} → (members : ℕ) (ring : RingId) (v : VisitBy A) (vs : List (VisitBy A)) → AreVisits members ring (v ∷ vs) →
+    v.turn.came.seq ≡ (arrived ring vs).seq
 seq_before members ring v vs h = ap (λ (t : Token). t.seq) h.0.comes
 
-pub numbered_below : {A : Type 0} → (members : ℕ) (ring : RingId) (vs : List (VisitBy A)) → AreVisits members ring vs → (x : Message A) → NumberedIn ring x vs → x.number ≤ (arrived ring vs).seq
+pub numbered_below : {A : Type 0} → (members : ℕ) (ring : RingId) (vs : List (VisitBy A)) → AreVisits members ring vs → (x : Message A) →
+    NumberedIn ring x vs → x.number ≤ (arrived ring vs).seq
 numbered_below members ring [] h x n = absurd n
 numbered_below members ring (v ∷ vs) h x (inl n) = (let a = (numbered_in ring v.who v.turn.came.seq v.turn.fresh x n).within in let b = seq_after members ring v vs h in omega (arith, a, b))
 numbered_below members ring (v ∷ vs) h x (inr n) = (let a = numbered_below members ring vs h.1 x n in let b = seq_after members ring v vs h in let c = seq_before members ring v vs h in omega (arith, a, b, c))
 
-numbers_one : {A : Type 0} → (members : ℕ) (ring : RingId) (vs : List (VisitBy A)) → AreVisits members ring vs → (x y : Message A) → NumberedIn ring x vs → NumberedIn ring y vs → x.number ≡ y.number → x ≡ y
+numbers_one : {A : Type 0} → (members : ℕ) (ring : RingId) (vs : List (VisitBy A)) → AreVisits members ring vs → (x y : Message A) → NumberedIn ring x vs →
+    NumberedIn ring y vs → x.number ≡ y.number → x ≡ y
 numbers_one members ring [] h x y hx hy e = absurd hx
 numbers_one members ring (v ∷ vs) h x y (inl hx) (inl hy) e = numbered_one ring v.who v.turn.came.seq v.turn.fresh x y hx hy e
 numbers_one members ring (v ∷ vs) h x y (inl hx) (inr hy) e =
@@ -86,7 +92,8 @@ numbers_one members ring (v ∷ vs) h x y (inr hx) (inl hy) e =
 numbers_one members ring (v ∷ vs) h x y (inr hx) (inr hy) e = numbers_one members ring vs h.1 x y hx hy e
 
 -- genuine messages of one ring and number are one
-pub one_text : {A : Type 0} → (visits : Chains A) (cores : ℕ → Core A) → AreChains visits cores → (x y : Message A) → IsGenuine visits x → IsGenuine visits y → x.ring ≡ y.ring → x.number ≡ y.number → x ≡ y
+pub one_text : {A : Type 0} → (visits : Chains A) (cores : ℕ → Core A) → AreChains visits cores → (x y : Message A) → IsGenuine visits x →
+    IsGenuine visits y → x.ring ≡ y.ring → x.number ≡ y.number → x ≡ y
 one_text {A} visits cores chains x y gx gy er en =
     let gy' : NumberedIn x.ring y (visits x.ring) = subst (λ r. NumberedIn r y (visits r)) (sym er) gy in
     elim (chains.rounds x.ring) [
@@ -102,7 +109,8 @@ pub record AreTexts {A : Type 0} (visits : Chains A) (cores : ℕ → Core A) : 
   pub wraps : (r : RingId) → Each (λ (v : VisitBy A). Each (WrapsGenuine visits) v.turn.fresh) (visits r)
 
 -- what a genuine message wraps is genuine
-genuine_inner : {A : Type 0} → (visits : Chains A) (cores : ℕ → Core A) → AreTexts visits cores → (x : Message A) (w : WrappedMessage A) → IsGenuine visits x → x.payload ≡ Wrapped w → IsGenuine visits (inner_message w)
+genuine_inner : {A : Type 0} → (visits : Chains A) (cores : ℕ → Core A) → AreTexts visits cores → (x : Message A) (w : WrappedMessage A) →
+    IsGenuine visits x → x.payload ≡ Wrapped w → IsGenuine visits (inner_message w)
 genuine_inner {A} visits cores texts x w g e =
     some-each _ _ (IsGenuine visits (inner_message w))
     (λ (v : VisitBy A) each i. in-each (WrapsGenuine visits) x.payload v.turn.fresh each (numbered_in x.ring v.who v.turn.came.seq v.turn.fresh x i).payload_in w e)
@@ -111,7 +119,8 @@ genuine_inner {A} visits cores texts x w g e =
 module _ {A : Type 0} (visits : Chains A) (cores : ℕ → Core A) (frames : List (Carried A)) (i : ℕ) (right : AreRight visits cores frames) (are : AreRings cores) (texts : AreTexts visits cores) where
   -- Taking
 
-  gives_inner : (old : RingId) (m : ℕ) (held : List (Message A)) (x : Message A) (p : Payload A) → IsGenuine visits x → x.payload ≡ p → Each (IsGenuine visits) (unwrapped old m held p)
+  gives_inner : (old : RingId) (m : ℕ) (held : List (Message A)) (x : Message A) (p : Payload A) → IsGenuine visits x → x.payload ≡ p →
+      Each (IsGenuine visits) (unwrapped old m held p)
   gives_inner old m held x (Wrapped w) g e =
       cond_both (same_ring w.ring old && is_new held m old w.number) (inner_message w ∷ []) [] (Each (IsGenuine visits)) (λ t. (genuine_inner visits cores texts x w g e, tt)) (λ t. tt)
   gives_inner old m held x (Call call) g e = tt
@@ -167,7 +176,8 @@ module _ {A : Type 0} (visits : Chains A) (cores : ℕ → Core A) (frames : Lis
     end_wraps ends (inl e) = subst (Each (WrapsGenuine after)) (sym e) tt
     end_wraps ends (inr e) = subst (Each (WrapsGenuine after)) (sym e) (λ w k. absurd (let n : ⊥ = cc in n), tt)
 
-    fresh_wraps : ChainsGrow visits after → (again : List (Message A)) (queue : List (Payload A)) → MayVisit (CameTo frames i) (cores i) t fresh again queue → Each (WrapsGenuine after) fresh
+    fresh_wraps : ChainsGrow visits after → (again : List (Message A)) (queue : List (Payload A)) → MayVisit (CameTo frames i) (cores i) t fresh again queue →
+        Each (WrapsGenuine after) fresh
     fresh_wraps g again queue h =
         elim (h.state) [
           | inl r ↦ (let ws = h.wraps r in
@@ -176,7 +186,8 @@ module _ {A : Type 0} (visits : Chains A) (cores : ℕ → Core A) (frames : Lis
           | inr o ↦ each-weaker (λ (p : Payload A). is_user p ≡ true) (WrapsGenuine after) user_wraps fresh (h.users o (texts.queued i))
         ]
 
-    wraps_grow : ChainsGrow visits after → (vs : List (VisitBy A)) → Each (λ (v : VisitBy A). Each (WrapsGenuine visits) v.turn.fresh) vs → Each (λ (v : VisitBy A). Each (WrapsGenuine after) v.turn.fresh) vs
+    wraps_grow : ChainsGrow visits after → (vs : List (VisitBy A)) → Each (λ (v : VisitBy A). Each (WrapsGenuine visits) v.turn.fresh) vs →
+        Each (λ (v : VisitBy A). Each (WrapsGenuine after) v.turn.fresh) vs
     wraps_grow g vs h =
         each-weaker _ _ (λ (v : VisitBy A) each. each-weaker (WrapsGenuine visits) (WrapsGenuine after) (λ p k w e. g.genuine (inner_message w) (k w e)) v.turn.fresh each) vs h
 
@@ -200,7 +211,8 @@ module _ {A : Type 0} (visits : Chains A) (cores : ℕ → Core A) (frames : Lis
   queued_moved (Learns k) h = texts.queued i
   queued_moved Installs h = texts.queued i
 
-  wraps_moved : (m : Move A) → MayMove (CameTo frames i) (cores i) m → (r : RingId) → Each (λ (v : VisitBy A). Each (WrapsGenuine (visits_after visits i (cores i) m)) v.turn.fresh) (visits_after visits i (cores i) m r)
+  wraps_moved : (m : Move A) → MayMove (CameTo frames i) (cores i) m → (r : RingId) →
+      Each (λ (v : VisitBy A). Each (WrapsGenuine (visits_after visits i (cores i) m)) v.turn.fresh) (visits_after visits i (cores i) m r)
   wraps_moved (Visits t fresh requests again queue) h r =
       let g = visits_grow visits i (cores i) (Visits t fresh requests again queue) in
       let old = wraps_grow t fresh requests g (visits r) (texts.wraps r) in

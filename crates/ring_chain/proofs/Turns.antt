@@ -66,7 +66,8 @@ below_rest {A} i n v vs h =
     (λ e k. (and_parts (nat_lt v.turn.came.number n) (list_all (λ (v : Turn A). nat_lt v.came.number n) (picked i vs)) k).1) (λ e k. k) h
 
 -- a token is the newest where the one whose turn it is visited only older ones
-pub newest : {A : Type 0} → (members : ℕ) (ring : RingId) (t : Token) (i : ℕ) (vs : List (VisitBy A)) → 0 < size members → AreVisits members ring vs → HasArrived ring t vs → i ≡ at members (t.number % size members) → AllBelow t.number (picked i vs) → arrived ring vs ≡ t
+pub newest : {A : Type 0} → (members : ℕ) (ring : RingId) (t : Token) (i : ℕ) (vs : List (VisitBy A)) → 0 < size members → AreVisits members ring vs →
+    HasArrived ring t vs → i ≡ at members (t.number % size members) → AllBelow t.number (picked i vs) → arrived ring vs ≡ t
 newest members ring t i [] some h a here below = a
 newest members ring t i (v ∷ vs) some h (inl e) here below = e
 newest {A} members ring t i (v ∷ vs) some h (inr a) here below =

@@ -1,4 +1,4 @@
--- What a caller gets of every run.
+-- What a caller gets of every run: one chain of visits, one plan, safe marks and what is told. Token and window, rule 13, Recovery, rule 1, and Outputs, rules 3 and 4 of docs/PROTOCOL.md.
 use Rattle.std.specs.Prelude.{◌≡◌, ℕ, ◌⊎◌, ◌==◌, if◌then◌else◌, List, [], filter_map, Option, Some, None}
 use Rattle.std.specs.List.{AllByRecursion}
 use Rattle.ring_base.specs.declared.ring_id.RingId.{RingId}

@@ -1,4 +1,4 @@
--- What is said of all cores together: who took part in a ring with which members, the visits of its token, what was numbered there, and what is safe.
+-- What is said of all cores together: who took part in a ring with which members, the visits of its token, what was numbered there, and what is safe. Rings and states, rule 14, Token and window, rule 13, and The commit token, rule 1 of docs/PROTOCOL.md.
 use Rattle.std.specs.Prelude.{◌≡◌, ℕ, ◌-◌, ◌*◌, ◌%◌, min, ◌<◌, ◌≤◌, ◌==◌, ◌⊎◌, if◌then◌else◌, List, [], ◌∷◌, length, Some, slice_get}
 use Rattle.std.specs.List.{AllByRecursion}
 use Rattle.ring_base.specs.Rings.{same_ring}

@@ -6,7 +6,6 @@ mod examples;
 mod exchange;
 mod heads;
 mod log;
-mod parts;
 mod stated;
 mod wanted;
 

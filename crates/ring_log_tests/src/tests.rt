@@ -122,16 +122,6 @@ fn wanted_places_make_the_log(rt: HostRuntime) -> Result<(), Fail> {
     assert_eq!(rt; log.committed_calls().len(), 16);
     let head = log.head();
     assert_eq!(rt; (head.length, head.committed, head.trimmed), (20, 16, 0));
-    let wanted = Wanted {
-        owner: Proc::new(1),
-        from: 9,
-        to: 20,
-    };
-    let mut sizes = Vec::new(rt.alloc());
-    for part in log.parts(rt.alloc(), &wanted)? {
-        sizes.push((part.first, part.calls.as_slice().len()))?;
-    }
-    assert_eq!(rt; sizes.as_slice(), [(9, 7), (16, 4)].as_slice());
     Ok(())
 }
 

@@ -20,11 +20,13 @@ use Rattle.ring_moves.proofs.Steps.{step_moves}
 pub record IsKept {A : Type 0} (P : Core A → Type 0) : Type 1 where
   pub moves : (came : Frame A → Type 0) (c : Core A) (m : Move A) → MayMove came c m → P c → P (moved c m)
 
-kept_all : {A : Type 0} → (P : Core A → Type 0) → IsKept P → (came : Frame A → Type 0) (c : Core A) (ms : List (Move A)) → MayAll came c ms → P c → P (after_moves c ms)
+kept_all : {A : Type 0} → (P : Core A → Type 0) → IsKept P → (came : Frame A → Type 0) (c : Core A) (ms : List (Move A)) → MayAll came c ms → P c →
+    P (after_moves c ms)
 kept_all P k came c [] h p = p
 kept_all P k came c (m ∷ ms) h p = kept_all P k came (moved c m) ms h.1 (k.moves came c m h.0 p)
 
-kept_settled : {A : Type 0} → (P : Core A → Type 0) → IsKept P → (b : Bool) (c : Core A) (outs : List (Out A)) → (b ≡ true → MayInstall c) → P c → P (settle b c outs).core
+kept_settled : {A : Type 0} → (P : Core A → Type 0) → IsKept P → (b : Bool) (c : Core A) (outs : List (Out A)) → (b ≡ true → MayInstall c) → P c →
+    P (settle b c outs).core
 kept_settled P k false c outs h p = p
 kept_settled P k true c outs h p = k.moves (λ frame. Unit {0}) c Installs (h refl) p
 
@@ -64,7 +66,8 @@ Everywhere P w = (i : ℕ) → P (w.cores i)
 kept_put : {A : Type 0} → (P : Core A → Type 0) (cores : ℕ → Core A) (i : ℕ) (c : Core A) → ((j : ℕ) → P (cores j)) → P c → (j : ℕ) → P (put cores i c j)
 kept_put P cores i c h p j = cond_both (j == i) c (cores j) P (λ e. p) (λ e. h j)
 
-kept_stepped : {A : Type 0} → (P : Core A → Type 0) → IsStepKept P → (b : Bool) (w : World A) (i : ℕ) (input : Input A) → Everywhere P w → Everywhere P (stepped_if b w i input)
+kept_stepped : {A : Type 0} → (P : Core A → Type 0) → IsStepKept P → (b : Bool) (w : World A) (i : ℕ) (input : Input A) → Everywhere P w →
+    Everywhere P (stepped_if b w i input)
 kept_stepped P k false w i input h = h
 kept_stepped P k true w i input h = kept_put P w.cores i (ring_step (w.cores i) input).core h (k.steps (w.cores i) input (h i))
 
@@ -72,11 +75,13 @@ kept_stopped : {A : Type 0} → (P : Core A → Type 0) → IsStepKept P → (b 
 kept_stopped P k false w i h = h
 kept_stopped P k true w i h = kept_put P w.cores i (halted (w.cores i)) h (k.stops (w.cores i) (h i))
 
-kept_if : {A : Type 0} → (P : Core A → Type 0) → IsStepKept P → (b : Bool) (w : World A) (i : ℕ) (frame : Frame A) → Everywhere P w → Everywhere P (handed_if b w i frame)
+kept_if : {A : Type 0} → (P : Core A → Type 0) → IsStepKept P → (b : Bool) (w : World A) (i : ℕ) (frame : Frame A) → Everywhere P w →
+    Everywhere P (handed_if b w i frame)
 kept_if P k false w i frame h = h
 kept_if P k true w i frame h = kept_stepped P k (is_node w i) w i (FrameInput frame) h
 
-kept_handed : {A : Type 0} → (P : Core A → Type 0) → IsStepKept P → (w : World A) (i : ℕ) (f : Option (Carried A)) → Everywhere P w → Everywhere P (handed w i f)
+kept_handed : {A : Type 0} → (P : Core A → Type 0) → IsStepKept P → (w : World A) (i : ℕ) (f : Option (Carried A)) → Everywhere P w →
+    Everywhere P (handed w i f)
 kept_handed P k w i None h = h
 kept_handed P k w i (Some f) h = kept_if P k (has f.to i) w i f.frame h
 

@@ -37,11 +37,13 @@ Made c = IsMade c.me c.held c.queue c.turns
 
 -- Messages more leave it
 
-still_recovered : {A : Type 0} → (me : ℕ) (ring : RingId) (xs held : List (Message A)) (fresh : List (Payload A)) → AreOfRecovery me ring held fresh → AreOfRecovery me ring (xs ++ held) fresh
+still_recovered : {A : Type 0} → (me : ℕ) (ring : RingId) (xs held : List (Message A)) (fresh : List (Payload A)) → AreOfRecovery me ring held fresh →
+    AreOfRecovery me ring (xs ++ held) fresh
 still_recovered me ring xs held fresh r =
     record { count = r.count; plan = r.plan; later = xs ++ r.later; before = r.before; grown = append_assoc xs r.later r.before ∙ ap (λ ys. xs ++ ys) r.grown; made = r.made }
 
-still_either : {A : Type 0} → (me : ℕ) (ring : RingId) (xs held : List (Message A)) (fresh : List (Payload A)) → AreOfQueue fresh ⊎ AreOfRecovery me ring held fresh → AreOfQueue fresh ⊎ AreOfRecovery me ring (xs ++ held) fresh
+still_either : {A : Type 0} → (me : ℕ) (ring : RingId) (xs held : List (Message A)) (fresh : List (Payload A)) →
+    AreOfQueue fresh ⊎ AreOfRecovery me ring held fresh → AreOfQueue fresh ⊎ AreOfRecovery me ring (xs ++ held) fresh
 still_either me ring xs held fresh h = elim h [ inl q ↦ inl q | inr r ↦ inr (still_recovered me ring xs held fresh r) ]
 
 still_fresh : {A : Type 0} → (me : ℕ) (xs held : List (Message A)) (turns : List (Turn A)) → AreFreshOf me held turns → AreFreshOf me (xs ++ held) turns
@@ -51,7 +53,8 @@ still_fresh {A} me xs held turns h =
 
 -- Visits
 
-offered : {A : Type 0} → (s : State) (c : Core A) (xs : List (Message A)) (count : ℕ) → AreQueued c.queue → AreOfQueue (offers s c count) ⊎ AreOfRecovery c.me c.running.ring (xs ++ c.held) (offers s c count)
+offered : {A : Type 0} → (s : State) (c : Core A) (xs : List (Message A)) (count : ℕ) → AreQueued c.queue →
+    AreOfQueue (offers s c count) ⊎ AreOfRecovery c.me c.running.ring (xs ++ c.held) (offers s c count)
 offered Operational c xs count q = inl (record { count = count; queue = c.queue; queued = q; made = refl })
 offered Recovery c xs count q = inr (record { count = count; plan = plan c; later = xs; before = c.held; grown = refl; made = refl })
 offered Gather c xs count q = inl (record { count = 0; queue = []; queued = tt; made = refl })
@@ -105,11 +108,12 @@ unfolding ring_step
 step_made c input m =
     settled_made _ _ _ (proposed_made (may_follow (decide c input) && proposes (act c (decide c input)).core) _ (act_made c (decide c input) (guarded c input) m))
 
-pub made : {A : Type 0} → IsStepKept (Made {A = A})
-made = record { steps = step_made; stops = λ c m. m }
+pub making : {A : Type 0} → IsStepKept (Made {A = A})
+making = record { steps = step_made; stops = λ c m. m }
 
 pub opening_made : {A : Type 0} → (n me : ℕ) → Made (opening {A = A} n me)
 opening_made n me = record { queued = tt; fresh = tt }
 
-pub all_made : {A : Type 0} → (n me : ℕ) (inputs : List (Input A)) → AreFreshOf (after_inputs (opening n me) inputs).me (after_inputs (opening n me) inputs).held (after_inputs (opening n me) inputs).turns
-all_made n me inputs = (after_all Made made (opening n me) inputs (opening_made n me)).fresh
+pub all_made : {A : Type 0} → (n me : ℕ) (inputs : List (Input A)) →
+    AreFreshOf (after_inputs (opening n me) inputs).me (after_inputs (opening n me) inputs).held (after_inputs (opening n me) inputs).turns
+all_made n me inputs = (after_all Made making (opening n me) inputs (opening_made n me)).fresh

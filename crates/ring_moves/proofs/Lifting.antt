@@ -30,7 +30,8 @@ use Rattle.ring_moves.proofs.Steps.{step_moves}
 
 -- each move of a processor keeps it
 pub record IsKeptInWorlds {A : Type 0} (P : (ℕ → Core A) → List (Carried A) → Type 0) : Type 1 where
-  pub moves : (cores : ℕ → Core A) (frames : List (Carried A)) (i : ℕ) (m : Move A) → 1 ≤ i → MayMove (CameTo frames i) (cores i) m → P cores frames → P (put cores i (moved (cores i) m)) (frames ++ carried_from i (sends_of (cores i) m))
+  pub moves : (cores : ℕ → Core A) (frames : List (Carried A)) (i : ℕ) (m : Move A) → 1 ≤ i → MayMove (CameTo frames i) (cores i) m → P cores frames →
+      P (put cores i (moved (cores i) m)) (frames ++ carried_from i (sends_of (cores i) m))
 
 -- One core put in place of another
 
@@ -55,7 +56,8 @@ carried-append {A} i xs ys =
     let p : Sent A → Bool = λ s. not (s.to == nobody) in
     ap (map f) (filter-append p xs ys) ∙ map-append f (filter p xs) (filter p ys)
 
-sends_carried : {A : Type 0} → (i : ℕ) (xs : List (Sent A)) → filter_map (carried_by i) (map (λ s. SendOut s.to s.frame) xs) ≡ map (λ s. record { from = i; to = s.to; frame = s.frame }) xs
+sends_carried : {A : Type 0} → (i : ℕ) (xs : List (Sent A)) →
+    filter_map (carried_by i) (map (λ s. SendOut s.to s.frame) xs) ≡ map (λ s. record { from = i; to = s.to; frame = s.frame }) xs
 sends_carried i [] = refl
 sends_carried i (x ∷ xs) = ap (λ ys. record { from = i; to = x.to; frame = x.frame } ∷ ys) (sends_carried i xs)
 
@@ -84,13 +86,15 @@ told_configured c = (
       (λ i. refl, told_from c c.running.ring 0 0),
 )
 
-pub outs_carried : {A : Type 0} → (i : ℕ) (sends : List (Sent A)) (told : List (Out A)) → Each IsTold told → filter_map (carried_by i) (sent sends ++ told) ≡ carried_from i sends
+pub outs_carried : {A : Type 0} → (i : ℕ) (sends : List (Sent A)) (told : List (Out A)) → Each IsTold told →
+    filter_map (carried_by i) (sent sends ++ told) ≡ carried_from i sends
 outs_carried i sends told h =
     filter_map-append (carried_by i) (sent sends) told ∙ ap (λ xs. filter_map (carried_by i) (sent sends) ++ xs) (none_carried i told h) ∙ append-nil _ ∙ sends_carried i (addressed sends)
 
 -- Moves
 
-may_when : {A : Type 0} → (came came' : Frame A → Type 0) → ((f : Frame A) → came f → came' f) → (c : Core A) (m : Move A) → MayMove came c m → MayMove came' c m
+may_when : {A : Type 0} → (came came' : Frame A → Type 0) → ((f : Frame A) → came f → came' f) → (c : Core A) (m : Move A) → MayMove came c m →
+    MayMove came' c m
 may_when came came' f c (Idles state gathering shown queue sends) h = h
 may_when came came' f c (Enters k) h = record { state = h.state; above = h.above; first = h.first; here = h.here; from = elim (h.from) [ inl p ↦ inl p | inr q ↦ inr (f _ q) ] }
 may_when came came' f c (Learns k) h =
@@ -101,7 +105,9 @@ may_when came came' f c (Takes x) h = record { ring = h.ring; new = h.new; from 
 may_when came came' f c Installs h = h
 
 module _ {A : Type 0} (P : (ℕ → Core A) → List (Carried A) → Type 0) (k : IsKeptInWorlds P) where
-  kept_all : (came : Frame A → Type 0) (cores : ℕ → Core A) (frames : List (Carried A)) (i : ℕ) (c : Core A) (ms : List (Move A)) → cores i ≡ c → 1 ≤ i → ((f : Frame A) → came f → CameTo frames i f) → MayAll came c ms → P cores frames → P (put cores i (after_moves c ms)) (frames ++ carried_from i (all_sends c ms))
+  kept_all : (came : Frame A → Type 0) (cores : ℕ → Core A) (frames : List (Carried A)) (i : ℕ) (c : Core A) (ms : List (Move A)) → cores i ≡ c → 1 ≤ i →
+      ((f : Frame A) → came f → CameTo frames i f) → MayAll came c ms → P cores frames →
+      P (put cores i (after_moves c ms)) (frames ++ carried_from i (all_sends c ms))
   kept_all came cores frames i c [] e low f h p =
       let same : cores ≡ put cores i c = sym (ap (put cores i) (sym e) ∙ put-own cores i) in
       subst (λ fs. P (put cores i c) fs) (sym (append-nil frames)) (subst (λ cs. P cs frames) same p)
@@ -115,7 +121,9 @@ module _ {A : Type 0} (P : (ℕ → Core A) → List (Carried A) → Type 0) (k 
       append_assoc frames (carried_from i (sends_of c m)) (carried_from i (all_sends (moved c m) ms)) ∙ ap (λ xs. frames ++ xs) (sym (carried-append i (sends_of c m) (all_sends (moved c m) ms))) in
       subst (λ fs. P (put cores i (after_moves (moved c m) ms)) fs) both (subst (λ cs. P cs ((frames ++ carried_from i (sends_of c m)) ++ carried_from i (all_sends (moved c m) ms))) (put-put cores i (moved c m) (after_moves (moved c m) ms)) rest)
 
-  kept_settled : (cores : ℕ → Core A) (frames : List (Carried A)) (i : ℕ) (old c : Core A) (sends : List (Sent A)) (b : Bool) → 1 ≤ i → (b ≡ true → MayInstall c) → P (put cores i c) (frames ++ carried_from i sends) → P (put cores i (settle b c (sent sends ++ given old c)).core) (frames ++ filter_map (carried_by i) (settle b c (sent sends ++ given old c)).outs)
+  kept_settled : (cores : ℕ → Core A) (frames : List (Carried A)) (i : ℕ) (old c : Core A) (sends : List (Sent A)) (b : Bool) → 1 ≤ i →
+      (b ≡ true → MayInstall c) → P (put cores i c) (frames ++ carried_from i sends) →
+      P (put cores i (settle b c (sent sends ++ given old c)).core) (frames ++ filter_map (carried_by i) (settle b c (sent sends ++ given old c)).outs)
   kept_settled cores frames i old c sends false low h p =
       subst (λ fs. P (put cores i c) (frames ++ fs)) (sym (outs_carried i sends (given old c) (told_from c old.installed.ring _ _))) p
   kept_settled cores frames i old c sends true low h p =
@@ -128,7 +136,8 @@ module _ {A : Type 0} (P : (ℕ → Core A) → List (Carried A) → Type 0) (k 
       let outs : filter_map (carried_by i) ((sent sends ++ given old c) ++ configured c) ≡ carried_from i sends = ap (filter_map (carried_by i)) (append_assoc (sent sends) (given old c) (configured c)) ∙ outs_carried i sends (given old c ++ configured c) told in
       subst (λ gs. P (put cores i (install c)) (frames ++ gs)) (sym outs) s
 
-  kept_after : (w : World A) (i : ℕ) (input : Input A) → 1 ≤ i → ((f : Frame A) → input ≡ FrameInput f → CameTo w.frames i f) → P w.cores w.frames → P (after_step w i (ring_step (w.cores i) input)).cores (after_step w i (ring_step (w.cores i) input)).frames
+  kept_after : (w : World A) (i : ℕ) (input : Input A) → 1 ≤ i → ((f : Frame A) → input ≡ FrameInput f → CameTo w.frames i f) → P w.cores w.frames →
+      P (after_step w i (ring_step (w.cores i) input)).cores (after_step w i (ring_step (w.cores i) input)).frames
   kept_after w i input low f p =
       let c = w.cores i in
       let s = step_moves c input in
@@ -140,7 +149,8 @@ module _ {A : Type 0} (P : (ℕ → Core A) → List (Carried A) → Type 0) (k 
   abbrev Kept : World A → Type 0
   Kept w = P w.cores w.frames
 
-  kept_stepped : (b : Bool) (w : World A) (i : ℕ) (input : Input A) → (b ≡ true → 1 ≤ i) → ((f : Frame A) → input ≡ FrameInput f → CameTo w.frames i f) → Kept w → Kept (stepped_if b w i input)
+  kept_stepped : (b : Bool) (w : World A) (i : ℕ) (input : Input A) → (b ≡ true → 1 ≤ i) → ((f : Frame A) → input ≡ FrameInput f → CameTo w.frames i f) →
+      Kept w → Kept (stepped_if b w i input)
   kept_stepped false w i input low f p = p
   kept_stepped true w i input low f p = kept_after w i input (low refl) f p
 
@@ -158,7 +168,8 @@ module _ {A : Type 0} (P : (ℕ → Core A) → List (Carried A) → Type 0) (k 
   kept_handed true w i frame came p =
       kept_stepped (is_node w i) w i (FrameInput frame) (node_low w i) (λ f e. (let same : frame ≡ f = cc in subst (CameTo w.frames i) same (came refl))) p
 
-  kept_found : (w : World A) (i : ℕ) (o : Option (Carried A)) → ((f : Carried A) → o ≡ Some f → has f.to i ≡ true → CameTo w.frames i f.frame) → Kept w → Kept (handed w i o)
+  kept_found : (w : World A) (i : ℕ) (o : Option (Carried A)) → ((f : Carried A) → o ≡ Some f → has f.to i ≡ true → CameTo w.frames i f.frame) → Kept w →
+      Kept (handed w i o)
   kept_found w i None came p = p
   kept_found w i (Some f) came p = kept_handed (has f.to i) w i f.frame (came f refl) p
 

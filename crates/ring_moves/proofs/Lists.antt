@@ -72,7 +72,8 @@ each-cons_option : {Y : Type 0} (Q : Y → Type 0) (o : Option Y) (ys : List Y) 
 each-cons_option Q None ys f h = h
 each-cons_option Q (Some y) ys f h = (f y refl, h)
 
-pub each-filter_map : {X Y : Type 0} (P : X → Type 0) (Q : Y → Type 0) (f : X → Option Y) → ((x : X) (y : Y) → P x → f x ≡ Some y → Q y) → (xs : List X) → Each P xs → Each Q (filter_map f xs)
+pub each-filter_map : {X Y : Type 0} (P : X → Type 0) (Q : Y → Type 0) (f : X → Option Y) → ((x : X) (y : Y) → P x → f x ≡ Some y → Q y) → (xs : List X) →
+    Each P xs → Each Q (filter_map f xs)
 each-filter_map P Q f g [] h = tt
 each-filter_map P Q f g (x ∷ xs) h = each-cons_option Q (f x) (filter_map f xs) (λ y e. g x y h.0 e) (each-filter_map P Q f g xs h.1)
 

@@ -132,7 +132,8 @@ shown_repeats : {A : Type 0} → (shown : Option (Sent A)) → Each (IsRepeated 
 shown_repeats None = tt
 shown_repeats (Some s) = (inl refl, tt)
 
-idles : {A : Type 0} → (c : Core A) (g : Gathering) (sends : List (Sent A)) → (AllSaySame c.gathering → AllSaySame g) → Each (IsRepeated c.shown) sends → MayIdle c c.state g c.shown c.queue sends
+idles : {A : Type 0} → (c : Core A) (g : Gathering) (sends : List (Sent A)) → (AllSaySame c.gathering → AllSaySame g) → Each (IsRepeated c.shown) sends →
+    MayIdle c c.state g c.shown c.queue sends
 idles c g sends h s = record { leaves = inl refl; joins = h; shows = inr refl; queued = λ q. q; sent = s }
 
 leaves : {A : Type 0} → (c : Core A) (g : Gathering) → AllSaySame g → MayIdle c Gather g None [] (announced (with_gathering (regathered c) g) ∷ [])
@@ -161,7 +162,9 @@ content_user (PartContent part) = refl
 content_user (PackContent pack) = refl
 content_user (SnapContent snap) = refl
 
-wrapped_content : {A : Type 0} → (c : Core A) (x : Message A) (content : Content A) → x.payload ≡ payload_of content → is_user (payload_of content) ≡ true → IsIn x c.held → x.ring ≡ c.installed.ring → low (plan c) < x.number → IsWrapping c (Wrapped (record { ring = x.ring; number = x.number; sender = x.sender; payload = content }))
+wrapped_content : {A : Type 0} → (c : Core A) (x : Message A) (content : Content A) → x.payload ≡ payload_of content → is_user (payload_of content) ≡ true →
+    IsIn x c.held → x.ring ≡ c.installed.ring → low (plan c) < x.number →
+    IsWrapping c (Wrapped (record { ring = x.ring; number = x.number; sender = x.sender; payload = content }))
 wrapped_content {A} c x content e u i r l = (
   record { ring = x.ring; number = x.number; sender = x.sender; payload = content },
   refl,
@@ -174,7 +177,8 @@ wrapped_content {A} c x content e u i r l = (
 )
 
 -- a message that is handed on is a user's, wrapped
-wraps_user : {A : Type 0} → (c : Core A) (x : Message A) (o : Option (Content A)) (q : Payload A) → content_of x.payload ≡ o → IsIn x c.held → x.ring ≡ c.installed.ring → low (plan c) < x.number → wrap_content x o ≡ Some q → IsWrapping c q
+wraps_user : {A : Type 0} → (c : Core A) (x : Message A) (o : Option (Content A)) (q : Payload A) → content_of x.payload ≡ o → IsIn x c.held →
+    x.ring ≡ c.installed.ring → low (plan c) < x.number → wrap_content x o ≡ Some q → IsWrapping c q
 wraps_user c x None q e i r l h = absurd (let n : ⊥ = cc in n)
 wraps_user c x (Some content) q e i r l h =
     subst (IsWrapping c) (let k : wrapping x content ≡ q = cc in k) (wrapped_content c x content (content_back x.payload content e) (content_user content) i r l)
@@ -185,7 +189,8 @@ record IsAbove {A : Type 0} (c : Core A) (x : Message A) : Type 0 where
   pub ring : x.ring ≡ c.installed.ring
   pub above : low (plan c) < x.number
 
-numbered_of : {A : Type 0} → (held : List (Message A)) (ring : RingId) (n : ℕ) (x : Message A) → found held ring n ≡ Some x → IsIn x held × (x.ring ≡ ring) × (x.number ≡ n)
+numbered_of : {A : Type 0} → (held : List (Message A)) (ring : RingId) (n : ℕ) (x : Message A) → found held ring n ≡ Some x →
+    IsIn x held × (x.ring ≡ ring) × (x.number ≡ n)
 numbered_of held ring n x e =
     let f = find-in (is_numbered ring n) x held e in
     let p = and_parts (same_ring x.ring ring) (eqb x.number n) f.1 in
@@ -285,7 +290,8 @@ starts c input t (inr s) =
       first = ap (λ ms. at ms 0) (sym members) ∙ ap (at k.members) (sym zero) ∙ here;
     })
 
-visits : {A : Type 0} → (c : Core A) (input : Input A) (t : Token) → HasPassed c (Visit t) → CameWith c input (Visit t) → MayMove (λ frame. input ≡ FrameInput frame) c (move_of c (Visit t))
+visits : {A : Type 0} → (c : Core A) (input : Input A) (t : Token) → HasPassed c (Visit t) → CameWith c input (Visit t) →
+    MayMove (λ frame. input ≡ FrameInput frame) c (move_of c (Visit t))
 visits c input t g h =
     let p = and_parts ((same_ring t.ring c.running.ring && is_newer c.turns t) && nat_lt t.number max_number) (nat_le (highest c.held t.ring) t.seq) g.1 in
     let q = and_parts (same_ring t.ring c.running.ring && is_newer c.turns t) (nat_lt t.number max_number) p.0 in
@@ -305,13 +311,15 @@ visits c input t g h =
 
 -- Handing on a commit token
 
-enters : {A : Type 0} → (c : Core A) (input : Input A) (k : CommitToken) → HasPassed c (Fill k) → CameWith c input (Fill k) → MayMove (λ frame. input ≡ FrameInput frame) c (Enters k)
+enters : {A : Type 0} → (c : Core A) (input : Input A) (k : CommitToken) → HasPassed c (Fill k) → CameWith c input (Fill k) →
+    MayMove (λ frame. input ≡ FrameInput frame) c (Enters k)
 enters c input k g h =
     let p = and_parts (nat_lt k.hop (size k.members) && (k.members == candidates c.gathering)) (nat_lt (floor c) k.ring.seq) g.passes in
     let q = and_parts (nat_lt k.hop (size k.members)) (k.members == candidates c.gathering) p.0 in
     record { state = g.state; above = ltb-true _ _ p.1; first = λ low. ltb-true _ _ q.0; here = eqb-true _ _ g.here; from = inr h }
 
-pub learns : {A : Type 0} → (c : Core A) (input : Input A) (k : CommitToken) → HasPassed c (Learn k) → CameWith c input (Learn k) → MayMove (λ frame. input ≡ FrameInput frame) c (Learns k)
+pub learns : {A : Type 0} → (c : Core A) (input : Input A) (k : CommitToken) → HasPassed c (Learn k) → CameWith c input (Learn k) →
+    MayMove (λ frame. input ≡ FrameInput frame) c (Learns k)
 learns c input k g h =
     let e = and_parts _ (is_sound c.installed.ring k.entries) g.passes in
     let d = and_parts _ (is_own (own_entry c) (slice_get k.entries (position_of_hop k))) e.0 in
@@ -332,7 +340,8 @@ learns c input k g h =
 
 -- Taking
 
-taken_from : {A : Type 0} → (c : Core A) (x : Message A) (s : State) → c.state ≡ s → takes_of s c x.ring ≡ true → has (members_of s c) x.sender ≡ true → TakesFrom c x ⊎ TakesLate c x
+taken_from : {A : Type 0} → (c : Core A) (x : Message A) (s : State) → c.state ≡ s → takes_of s c x.ring ≡ true → has (members_of s c) x.sender ≡ true →
+    TakesFrom c x ⊎ TakesLate c x
 taken_from c x Recovery e r m = inl (record { state = inl e; ring = ring_same _ _ r; sender = m })
 taken_from c x Operational e r m = inl (record { state = inr e; ring = ring_same _ _ r; sender = m })
 taken_from c x Gather e r m =
@@ -341,7 +350,8 @@ taken_from c x Gather e r m =
 taken_from c x Commit e r m = absurd (false≢true r)
 taken_from c x Stopped e r m = absurd (false≢true r)
 
-takes : {A : Type 0} → (c : Core A) (input : Input A) (x : Message A) → HasPassed c (Take x) → CameWith c input (Take x) → MayMove (λ frame. input ≡ FrameInput frame) c (Takes x)
+takes : {A : Type 0} → (c : Core A) (input : Input A) (x : Message A) → HasPassed c (Take x) → CameWith c input (Take x) →
+    MayMove (λ frame. input ≡ FrameInput frame) c (Takes x)
 takes c input x g h =
     let p = and_parts (takes_of c.state c x.ring && has (members_of c.state c) x.sender) (takes_number c x.ring x.number) g in
     let q = and_parts (takes_of c.state c x.ring) (has (members_of c.state c) x.sender) p.0 in
@@ -349,7 +359,8 @@ takes c input x g h =
 
 -- Each act has passed what its move asks
 
-may_act : {A : Type 0} → (c : Core A) (input : Input A) (a : Act A) → HasPassed c a → CameWith c input a → IsAsked a → MayMove (λ frame. input ≡ FrameInput frame) c (move_of c a)
+may_act : {A : Type 0} → (c : Core A) (input : Input A) (a : Act A) → HasPassed c a → CameWith c input a → IsAsked a →
+    MayMove (λ frame. input ≡ FrameInput frame) c (move_of c a)
 may_act c input Ignore g h u = idles c c.gathering [] (λ a. a) tt
 may_act {A} c input (Enqueue p) g h u = record { leaves = inl refl; joins = λ a. a; shows = inr refl; queued = λ q. each-push (λ (p : Payload A). is_user p ≡ true) c.queue p q u; sent = tt }
 may_act c input Repeat g h u = idles c c.gathering (shown_again c.shown) (λ a. a) (shown_repeats c.shown)
@@ -429,7 +440,8 @@ record DoneBy {A : Type 0} (c : Core A) (input : Input A) (d : Did A) : Type 0 w
   pub may : MayAll (λ frame. input ≡ FrameInput frame) c moves
   pub is : d ≡ record { core = after_moves c moves; sends = all_sends c moves }
 
-then_proposed : {A : Type 0} → (c : Core A) (input : Input A) (m : Move A) → MayMove (λ frame. input ≡ FrameInput frame) c m → (b : Bool) → (b ≡ true → proposes (moved c m) ≡ true) → DoneBy c input (proposed_after b (did c m))
+then_proposed : {A : Type 0} → (c : Core A) (input : Input A) (m : Move A) → MayMove (λ frame. input ≡ FrameInput frame) c m → (b : Bool) →
+    (b ≡ true → proposes (moved c m) ≡ true) → DoneBy c input (proposed_after b (did c m))
 then_proposed c input m h false p = record { moves = m ∷ []; few = omega arith; may = (h, tt); is = rw append-nil refl }
 then_proposed c input m h true p =
     record { moves = m ∷ Enters (proposed_token (moved c m)) ∷ []; few = omega arith; may = (h, (may_propose _ (moved c m) (p refl), tt)); is = refl }

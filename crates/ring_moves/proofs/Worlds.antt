@@ -11,7 +11,7 @@ use Rattle.ring_moves.specs.Laws.{AreTurnsOf, AreFreshOf}
 use Rattle.ring_moves.proofs.Fits.{Fit, fitting, mark_below, held_below}
 use Rattle.ring_moves.proofs.Agrees.{SayingSame, saying_same}
 use Rattle.ring_moves.proofs.Turned.{Turned, turned}
-use Rattle.ring_moves.proofs.Fresh.{Made, made, opening_made}
+use Rattle.ring_moves.proofs.Fresh.{Made, making, opening_made}
 use Rattle.ring_moves.proofs.Everywhere.{Everywhere, everywhere, kept_run}
 
 fits : {A : Type 0} → (n : ℕ) (events : List (RingEvent A)) → Everywhere Fit (run (unformed n) events)
@@ -23,11 +23,13 @@ marks_below n i events ring = mark_below ((run (unformed n) events).cores i) rin
 pub all_held_below : {A : Type 0} → (n i : ℕ) (events : List (RingEvent A)) (ring : RingId) (k : ℕ) → holds ((run (unformed n) events).cores i).held ring k ≡ true → k ≤ mark ((run (unformed n) events).cores i) ring + window_size
 all_held_below n i events ring k h = held_below ((run (unformed n) events).cores i) ring k (fits n events i) h
 
-pub all_turns : {A : Type 0} → (n i : ℕ) (events : List (RingEvent A)) → AreTurnsOf ((run (unformed n) events).cores i).me ((run (unformed n) events).cores i).held ((run (unformed n) events).cores i).turns
+pub all_turns : {A : Type 0} → (n i : ℕ) (events : List (RingEvent A)) →
+    AreTurnsOf ((run (unformed n) events).cores i).me ((run (unformed n) events).cores i).held ((run (unformed n) events).cores i).turns
 all_turns n i events = everywhere Turned turned (unformed n) events (λ i. tt) i
 
-pub all_fresh : {A : Type 0} → (n i : ℕ) (events : List (RingEvent A)) → AreFreshOf ((run (unformed n) events).cores i).me ((run (unformed n) events).cores i).held ((run (unformed n) events).cores i).turns
-all_fresh n i events = (kept_run Made made (unformed n) events (λ i. opening_made n i) i).fresh
+pub all_fresh : {A : Type 0} → (n i : ℕ) (events : List (RingEvent A)) →
+    AreFreshOf ((run (unformed n) events).cores i).me ((run (unformed n) events).cores i).held ((run (unformed n) events).cores i).turns
+all_fresh n i events = (kept_run Made making (unformed n) events (λ i. opening_made n i) i).fresh
 
 pub all_same_sets : {A : Type 0} → (n i : ℕ) (events : List (RingEvent A)) → AllSaySame ((run (unformed n) events).cores i).gathering
 all_same_sets n i events = everywhere SayingSame saying_same (unformed n) events (λ i. tt) i

@@ -1,4 +1,4 @@
--- What stands in a list of facts: lists of facts only grow, so that what stands in one stays there.
+-- What stands in a list of a core's facts: these lists only grow, so that what stands in one stays there. Rings and states, rule 3 of docs/PROTOCOL.md.
 use Rattle.std.specs.Prelude.{◌≡◌, ◌⊎◌, List, [], ◌∷◌}
 
 -- the fact stands in the list

@@ -45,21 +45,35 @@ outs =
     (1, SendOut 30 (join 1 0 31 0)) ∷ (2, SendOut 29 (join 2 0 31 0)) ∷ (3, SendOut 27 (join 3 0 31 0)) ∷ (4, SendOut 23 (join 4 0 31 0)) ∷
     (5, SendOut 15 (join 5 0 31 0)) ∷ (1, SendOut 2 (commit (ring_of 1 1) 31 1 (report (ring_of 0 1) 0 0 0 ∷ []))) ∷
     (2, SendOut 4 (commit (ring_of 1 1) 31 2 (report (ring_of 0 1) 0 0 0 ∷ report (ring_of 0 2) 0 0 0 ∷ []))) ∷
-    (3, SendOut 8 (commit (ring_of 1 1) 31 3 (report (ring_of 0 1) 0 0 0 ∷ report (ring_of 0 2) 0 0 0 ∷ report (ring_of 0 3) 0 0 0 ∷ []))) ∷
-    (4, SendOut 16 (commit (ring_of 1 1) 31 4 (report (ring_of 0 1) 0 0 0 ∷ report (ring_of 0 2) 0 0 0 ∷ report (ring_of 0 3) 0 0 0 ∷
-        report (ring_of 0 4) 0 0 0 ∷ []))) ∷
-    (5, SendOut 1 (commit (ring_of 1 1) 31 5 (report (ring_of 0 1) 0 0 0 ∷ report (ring_of 0 2) 0 0 0 ∷ report (ring_of 0 3) 0 0 0 ∷
-        report (ring_of 0 4) 0 0 0 ∷ report (ring_of 0 5) 0 0 0 ∷ []))) ∷
-    (1, SendOut 2 (commit (ring_of 1 1) 31 6 (report (ring_of 0 1) 0 0 0 ∷ report (ring_of 0 2) 0 0 0 ∷ report (ring_of 0 3) 0 0 0 ∷
-        report (ring_of 0 4) 0 0 0 ∷ report (ring_of 0 5) 0 0 0 ∷ []))) ∷
-    (2, SendOut 4 (commit (ring_of 1 1) 31 7 (report (ring_of 0 1) 0 0 0 ∷ report (ring_of 0 2) 0 0 0 ∷ report (ring_of 0 3) 0 0 0 ∷
-        report (ring_of 0 4) 0 0 0 ∷ report (ring_of 0 5) 0 0 0 ∷ []))) ∷
-    (3, SendOut 8 (commit (ring_of 1 1) 31 8 (report (ring_of 0 1) 0 0 0 ∷ report (ring_of 0 2) 0 0 0 ∷ report (ring_of 0 3) 0 0 0 ∷
-        report (ring_of 0 4) 0 0 0 ∷ report (ring_of 0 5) 0 0 0 ∷ []))) ∷
-    (4, SendOut 16 (commit (ring_of 1 1) 31 9 (report (ring_of 0 1) 0 0 0 ∷ report (ring_of 0 2) 0 0 0 ∷ report (ring_of 0 3) 0 0 0 ∷
-        report (ring_of 0 4) 0 0 0 ∷ report (ring_of 0 5) 0 0 0 ∷ []))) ∷
-    (5, SendOut 1 (commit (ring_of 1 1) 31 10 (report (ring_of 0 1) 0 0 0 ∷ report (ring_of 0 2) 0 0 0 ∷ report (ring_of 0 3) 0 0 0 ∷
-        report (ring_of 0 4) 0 0 0 ∷ report (ring_of 0 5) 0 0 0 ∷ []))) ∷
+    (3, SendOut 8 (commit (ring_of 1 1) 31 3 (report (ring_of 0 1) 0 0 0 ∷ report (ring_of 0 2) 0 0 0 ∷ report (ring_of 0 3) 0 0 0 ∷ []))) ∷ (
+      4,
+      SendOut 16 (commit (ring_of 1 1) 31 4 (report (ring_of 0 1) 0 0 0 ∷ report (ring_of 0 2) 0 0 0 ∷ report (ring_of 0 3) 0 0 0 ∷
+          report (ring_of 0 4) 0 0 0 ∷ [])),
+    ) ∷ (
+      5,
+      SendOut 1 (commit (ring_of 1 1) 31 5 (report (ring_of 0 1) 0 0 0 ∷ report (ring_of 0 2) 0 0 0 ∷ report (ring_of 0 3) 0 0 0 ∷
+          report (ring_of 0 4) 0 0 0 ∷ report (ring_of 0 5) 0 0 0 ∷ [])),
+    ) ∷ (
+      1,
+      SendOut 2 (commit (ring_of 1 1) 31 6 (report (ring_of 0 1) 0 0 0 ∷ report (ring_of 0 2) 0 0 0 ∷ report (ring_of 0 3) 0 0 0 ∷
+          report (ring_of 0 4) 0 0 0 ∷ report (ring_of 0 5) 0 0 0 ∷ [])),
+    ) ∷ (
+      2,
+      SendOut 4 (commit (ring_of 1 1) 31 7 (report (ring_of 0 1) 0 0 0 ∷ report (ring_of 0 2) 0 0 0 ∷ report (ring_of 0 3) 0 0 0 ∷
+          report (ring_of 0 4) 0 0 0 ∷ report (ring_of 0 5) 0 0 0 ∷ [])),
+    ) ∷ (
+      3,
+      SendOut 8 (commit (ring_of 1 1) 31 8 (report (ring_of 0 1) 0 0 0 ∷ report (ring_of 0 2) 0 0 0 ∷ report (ring_of 0 3) 0 0 0 ∷
+          report (ring_of 0 4) 0 0 0 ∷ report (ring_of 0 5) 0 0 0 ∷ [])),
+    ) ∷ (
+      4,
+      SendOut 16 (commit (ring_of 1 1) 31 9 (report (ring_of 0 1) 0 0 0 ∷ report (ring_of 0 2) 0 0 0 ∷ report (ring_of 0 3) 0 0 0 ∷
+          report (ring_of 0 4) 0 0 0 ∷ report (ring_of 0 5) 0 0 0 ∷ [])),
+    ) ∷ (
+      5,
+      SendOut 1 (commit (ring_of 1 1) 31 10 (report (ring_of 0 1) 0 0 0 ∷ report (ring_of 0 2) 0 0 0 ∷ report (ring_of 0 3) 0 0 0 ∷
+          report (ring_of 0 4) 0 0 0 ∷ report (ring_of 0 5) 0 0 0 ∷ [])),
+    ) ∷
     (1, SendOut 30 (MessageFrame (message (ring_of 1 1) 1 1 End))) ∷ (1, SendOut 2 (token (ring_of 1 1) 1 1 1 None [])) ∷
     (2, SendOut 29 (MessageFrame (message (ring_of 1 1) 2 2 End))) ∷ (2, SendOut 4 (token (ring_of 1 1) 2 2 2 None [])) ∷
     (3, SendOut 27 (MessageFrame (message (ring_of 1 1) 3 3 End))) ∷ (3, SendOut 8 (token (ring_of 1 1) 3 3 3 None [])) ∷

@@ -48,17 +48,27 @@ outs =
     (1, SendOut 14 (join 1 0 15 0)) ∷ (2, SendOut 13 (join 2 0 15 0)) ∷ (3, SendOut 11 (join 3 0 15 0)) ∷ (4, SendOut 7 (join 4 0 15 0)) ∷
     (1, SendOut 2 (commit (ring_of 1 1) 15 1 (report (ring_of 0 1) 0 0 0 ∷ []))) ∷
     (2, SendOut 4 (commit (ring_of 1 1) 15 2 (report (ring_of 0 1) 0 0 0 ∷ report (ring_of 0 2) 0 0 0 ∷ []))) ∷
-    (3, SendOut 8 (commit (ring_of 1 1) 15 3 (report (ring_of 0 1) 0 0 0 ∷ report (ring_of 0 2) 0 0 0 ∷ report (ring_of 0 3) 0 0 0 ∷ []))) ∷
-    (4, SendOut 1 (commit (ring_of 1 1) 15 4 (report (ring_of 0 1) 0 0 0 ∷ report (ring_of 0 2) 0 0 0 ∷ report (ring_of 0 3) 0 0 0 ∷
-        report (ring_of 0 4) 0 0 0 ∷ []))) ∷
-    (1, SendOut 2 (commit (ring_of 1 1) 15 5 (report (ring_of 0 1) 0 0 0 ∷ report (ring_of 0 2) 0 0 0 ∷ report (ring_of 0 3) 0 0 0 ∷
-        report (ring_of 0 4) 0 0 0 ∷ []))) ∷
-    (2, SendOut 4 (commit (ring_of 1 1) 15 6 (report (ring_of 0 1) 0 0 0 ∷ report (ring_of 0 2) 0 0 0 ∷ report (ring_of 0 3) 0 0 0 ∷
-        report (ring_of 0 4) 0 0 0 ∷ []))) ∷
-    (3, SendOut 8 (commit (ring_of 1 1) 15 7 (report (ring_of 0 1) 0 0 0 ∷ report (ring_of 0 2) 0 0 0 ∷ report (ring_of 0 3) 0 0 0 ∷
-        report (ring_of 0 4) 0 0 0 ∷ []))) ∷
-    (4, SendOut 1 (commit (ring_of 1 1) 15 8 (report (ring_of 0 1) 0 0 0 ∷ report (ring_of 0 2) 0 0 0 ∷ report (ring_of 0 3) 0 0 0 ∷
-        report (ring_of 0 4) 0 0 0 ∷ []))) ∷
+    (3, SendOut 8 (commit (ring_of 1 1) 15 3 (report (ring_of 0 1) 0 0 0 ∷ report (ring_of 0 2) 0 0 0 ∷ report (ring_of 0 3) 0 0 0 ∷ []))) ∷ (
+      4,
+      SendOut 1 (commit (ring_of 1 1) 15 4 (report (ring_of 0 1) 0 0 0 ∷ report (ring_of 0 2) 0 0 0 ∷ report (ring_of 0 3) 0 0 0 ∷
+          report (ring_of 0 4) 0 0 0 ∷ [])),
+    ) ∷ (
+      1,
+      SendOut 2 (commit (ring_of 1 1) 15 5 (report (ring_of 0 1) 0 0 0 ∷ report (ring_of 0 2) 0 0 0 ∷ report (ring_of 0 3) 0 0 0 ∷
+          report (ring_of 0 4) 0 0 0 ∷ [])),
+    ) ∷ (
+      2,
+      SendOut 4 (commit (ring_of 1 1) 15 6 (report (ring_of 0 1) 0 0 0 ∷ report (ring_of 0 2) 0 0 0 ∷ report (ring_of 0 3) 0 0 0 ∷
+          report (ring_of 0 4) 0 0 0 ∷ [])),
+    ) ∷ (
+      3,
+      SendOut 8 (commit (ring_of 1 1) 15 7 (report (ring_of 0 1) 0 0 0 ∷ report (ring_of 0 2) 0 0 0 ∷ report (ring_of 0 3) 0 0 0 ∷
+          report (ring_of 0 4) 0 0 0 ∷ [])),
+    ) ∷ (
+      4,
+      SendOut 1 (commit (ring_of 1 1) 15 8 (report (ring_of 0 1) 0 0 0 ∷ report (ring_of 0 2) 0 0 0 ∷ report (ring_of 0 3) 0 0 0 ∷
+          report (ring_of 0 4) 0 0 0 ∷ [])),
+    ) ∷
     (1, SendOut 14 (MessageFrame (message (ring_of 1 1) 1 1 End))) ∷ (1, SendOut 2 (token (ring_of 1 1) 1 1 1 None [])) ∷
     (2, SendOut 13 (MessageFrame (message (ring_of 1 1) 2 2 End))) ∷ (2, SendOut 4 (token (ring_of 1 1) 2 2 2 None [])) ∷
     (3, SendOut 11 (MessageFrame (message (ring_of 1 1) 3 3 End))) ∷ (3, SendOut 8 (token (ring_of 1 1) 3 3 3 None [])) ∷
@@ -114,17 +124,27 @@ outs =
     (3, SendOut 11 (join 3 1 15 0)) ∷ (4, SendOut 7 (join 4 1 15 0)) ∷ (1, SendOut 14 (join 1 1 15 0)) ∷
     (1, SendOut 2 (commit (ring_of 2 1) 15 1 (report (ring_of 1 1) 5 4 0 ∷ []))) ∷
     (2, SendOut 4 (commit (ring_of 2 1) 15 2 (report (ring_of 1 1) 5 4 0 ∷ report (ring_of 1 1) 5 4 0 ∷ []))) ∷
-    (3, SendOut 8 (commit (ring_of 2 1) 15 3 (report (ring_of 1 1) 5 4 0 ∷ report (ring_of 1 1) 5 4 0 ∷ report (ring_of 1 1) 5 4 0 ∷ []))) ∷
-    (4, SendOut 1 (commit (ring_of 2 1) 15 4 (report (ring_of 1 1) 5 4 0 ∷ report (ring_of 1 1) 5 4 0 ∷ report (ring_of 1 1) 5 4 0 ∷
-        report (ring_of 1 1) 4 4 0 ∷ []))) ∷
-    (1, SendOut 2 (commit (ring_of 2 1) 15 5 (report (ring_of 1 1) 5 4 0 ∷ report (ring_of 1 1) 5 4 0 ∷ report (ring_of 1 1) 5 4 0 ∷
-        report (ring_of 1 1) 4 4 0 ∷ []))) ∷
-    (2, SendOut 4 (commit (ring_of 2 1) 15 6 (report (ring_of 1 1) 5 4 0 ∷ report (ring_of 1 1) 5 4 0 ∷ report (ring_of 1 1) 5 4 0 ∷
-        report (ring_of 1 1) 4 4 0 ∷ []))) ∷
-    (3, SendOut 8 (commit (ring_of 2 1) 15 7 (report (ring_of 1 1) 5 4 0 ∷ report (ring_of 1 1) 5 4 0 ∷ report (ring_of 1 1) 5 4 0 ∷
-        report (ring_of 1 1) 4 4 0 ∷ []))) ∷
-    (4, SendOut 1 (commit (ring_of 2 1) 15 8 (report (ring_of 1 1) 5 4 0 ∷ report (ring_of 1 1) 5 4 0 ∷ report (ring_of 1 1) 5 4 0 ∷
-        report (ring_of 1 1) 4 4 0 ∷ []))) ∷
+    (3, SendOut 8 (commit (ring_of 2 1) 15 3 (report (ring_of 1 1) 5 4 0 ∷ report (ring_of 1 1) 5 4 0 ∷ report (ring_of 1 1) 5 4 0 ∷ []))) ∷ (
+      4,
+      SendOut 1 (commit (ring_of 2 1) 15 4 (report (ring_of 1 1) 5 4 0 ∷ report (ring_of 1 1) 5 4 0 ∷ report (ring_of 1 1) 5 4 0 ∷
+          report (ring_of 1 1) 4 4 0 ∷ [])),
+    ) ∷ (
+      1,
+      SendOut 2 (commit (ring_of 2 1) 15 5 (report (ring_of 1 1) 5 4 0 ∷ report (ring_of 1 1) 5 4 0 ∷ report (ring_of 1 1) 5 4 0 ∷
+          report (ring_of 1 1) 4 4 0 ∷ [])),
+    ) ∷ (
+      2,
+      SendOut 4 (commit (ring_of 2 1) 15 6 (report (ring_of 1 1) 5 4 0 ∷ report (ring_of 1 1) 5 4 0 ∷ report (ring_of 1 1) 5 4 0 ∷
+          report (ring_of 1 1) 4 4 0 ∷ [])),
+    ) ∷ (
+      3,
+      SendOut 8 (commit (ring_of 2 1) 15 7 (report (ring_of 1 1) 5 4 0 ∷ report (ring_of 1 1) 5 4 0 ∷ report (ring_of 1 1) 5 4 0 ∷
+          report (ring_of 1 1) 4 4 0 ∷ [])),
+    ) ∷ (
+      4,
+      SendOut 1 (commit (ring_of 2 1) 15 8 (report (ring_of 1 1) 5 4 0 ∷ report (ring_of 1 1) 5 4 0 ∷ report (ring_of 1 1) 5 4 0 ∷
+          report (ring_of 1 1) 4 4 0 ∷ [])),
+    ) ∷
     (1, SendOut 14 (MessageFrame (message (ring_of 2 1) 1 1 (wrapped (ring_of 1 1) 5 1 (pack_content (call_of 1 1 ∷ call_of 2 1 ∷ [])))))) ∷
     (1, SendOut 14 (MessageFrame (message (ring_of 2 1) 2 1 End))) ∷ (1, SendOut 2 (token (ring_of 2 1) 1 2 2 None [])) ∷
     (2, SendOut 13 (MessageFrame (message (ring_of 2 1) 3 2 End))) ∷ (2, SendOut 4 (token (ring_of 2 1) 2 3 3 None [])) ∷

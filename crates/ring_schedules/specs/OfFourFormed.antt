@@ -55,17 +55,27 @@ outs =
     (1, Agreed (ring_of 1 1) 4 (message (ring_of 1 1) 4 4 (head_after (ring_of 1 1) 5 2))) ∷ (4, SendOut 7 (join 4 1 15 0)) ∷
     (1, SendOut 2 (commit (ring_of 2 1) 15 1 (report (ring_of 1 1) 4 0 0 ∷ []))) ∷
     (2, SendOut 4 (commit (ring_of 2 1) 15 2 (report (ring_of 1 1) 4 0 0 ∷ report (ring_of 1 1) 1 0 4 ∷ []))) ∷
-    (3, SendOut 8 (commit (ring_of 2 1) 15 3 (report (ring_of 1 1) 4 0 0 ∷ report (ring_of 1 1) 1 0 4 ∷ report (ring_of 1 1) 0 0 14 ∷ []))) ∷
-    (4, SendOut 1 (commit (ring_of 2 1) 15 4 (report (ring_of 1 1) 4 0 0 ∷ report (ring_of 1 1) 1 0 4 ∷ report (ring_of 1 1) 0 0 14 ∷
-        report (ring_of 1 1) 4 0 0 ∷ []))) ∷
-    (1, SendOut 2 (commit (ring_of 2 1) 15 5 (report (ring_of 1 1) 4 0 0 ∷ report (ring_of 1 1) 1 0 4 ∷ report (ring_of 1 1) 0 0 14 ∷
-        report (ring_of 1 1) 4 0 0 ∷ []))) ∷
-    (2, SendOut 4 (commit (ring_of 2 1) 15 6 (report (ring_of 1 1) 4 0 0 ∷ report (ring_of 1 1) 1 0 4 ∷ report (ring_of 1 1) 0 0 14 ∷
-        report (ring_of 1 1) 4 0 0 ∷ []))) ∷
-    (3, SendOut 8 (commit (ring_of 2 1) 15 7 (report (ring_of 1 1) 4 0 0 ∷ report (ring_of 1 1) 1 0 4 ∷ report (ring_of 1 1) 0 0 14 ∷
-        report (ring_of 1 1) 4 0 0 ∷ []))) ∷
-    (4, SendOut 1 (commit (ring_of 2 1) 15 8 (report (ring_of 1 1) 4 0 0 ∷ report (ring_of 1 1) 1 0 4 ∷ report (ring_of 1 1) 0 0 14 ∷
-        report (ring_of 1 1) 4 0 0 ∷ []))) ∷
+    (3, SendOut 8 (commit (ring_of 2 1) 15 3 (report (ring_of 1 1) 4 0 0 ∷ report (ring_of 1 1) 1 0 4 ∷ report (ring_of 1 1) 0 0 14 ∷ []))) ∷ (
+      4,
+      SendOut 1 (commit (ring_of 2 1) 15 4 (report (ring_of 1 1) 4 0 0 ∷ report (ring_of 1 1) 1 0 4 ∷ report (ring_of 1 1) 0 0 14 ∷
+          report (ring_of 1 1) 4 0 0 ∷ [])),
+    ) ∷ (
+      1,
+      SendOut 2 (commit (ring_of 2 1) 15 5 (report (ring_of 1 1) 4 0 0 ∷ report (ring_of 1 1) 1 0 4 ∷ report (ring_of 1 1) 0 0 14 ∷
+          report (ring_of 1 1) 4 0 0 ∷ [])),
+    ) ∷ (
+      2,
+      SendOut 4 (commit (ring_of 2 1) 15 6 (report (ring_of 1 1) 4 0 0 ∷ report (ring_of 1 1) 1 0 4 ∷ report (ring_of 1 1) 0 0 14 ∷
+          report (ring_of 1 1) 4 0 0 ∷ [])),
+    ) ∷ (
+      3,
+      SendOut 8 (commit (ring_of 2 1) 15 7 (report (ring_of 1 1) 4 0 0 ∷ report (ring_of 1 1) 1 0 4 ∷ report (ring_of 1 1) 0 0 14 ∷
+          report (ring_of 1 1) 4 0 0 ∷ [])),
+    ) ∷ (
+      4,
+      SendOut 1 (commit (ring_of 2 1) 15 8 (report (ring_of 1 1) 4 0 0 ∷ report (ring_of 1 1) 1 0 4 ∷ report (ring_of 1 1) 0 0 14 ∷
+          report (ring_of 1 1) 4 0 0 ∷ [])),
+    ) ∷
     (1, SendOut 14 (MessageFrame (message (ring_of 2 1) 1 1 (wrapped (ring_of 1 1) 1 1 (head_content_after (ring_of 2 1) 5 2))))) ∷
     (1, SendOut 14 (MessageFrame (message (ring_of 2 1) 2 1 (wrapped (ring_of 1 1) 2 3 (pack_content (call_of 2 1 ∷ call_of 3 1 ∷ call_of 6 1 ∷ [])))))) ∷
     (1, SendOut 14 (MessageFrame (message (ring_of 2 1) 3 1 (wrapped (ring_of 1 1) 3 4 (call_content 4 1))))) ∷

@@ -47,25 +47,43 @@ outs =
     (5, SendOut 47 (join 5 0 63 0)) ∷ (6, SendOut 31 (join 6 0 63 0)) ∷ (1, SendOut 2 (commit (ring_of 1 1) 63 1 (report (ring_of 0 1) 0 0 0 ∷ []))) ∷
     (2, SendOut 61 (join 2 0 63 0)) ∷ (3, SendOut 59 (join 3 0 63 0)) ∷ (5, SendOut 47 (join 5 0 63 0)) ∷
     (2, SendOut 4 (commit (ring_of 1 1) 63 2 (report (ring_of 0 1) 0 0 0 ∷ report (ring_of 0 2) 0 0 0 ∷ []))) ∷
-    (3, SendOut 8 (commit (ring_of 1 1) 63 3 (report (ring_of 0 1) 0 0 0 ∷ report (ring_of 0 2) 0 0 0 ∷ report (ring_of 0 3) 0 0 0 ∷ []))) ∷
-    (4, SendOut 16 (commit (ring_of 1 1) 63 4 (report (ring_of 0 1) 0 0 0 ∷ report (ring_of 0 2) 0 0 0 ∷ report (ring_of 0 3) 0 0 0 ∷
-        report (ring_of 0 4) 0 0 0 ∷ []))) ∷
-    (5, SendOut 32 (commit (ring_of 1 1) 63 5 (report (ring_of 0 1) 0 0 0 ∷ report (ring_of 0 2) 0 0 0 ∷ report (ring_of 0 3) 0 0 0 ∷
-        report (ring_of 0 4) 0 0 0 ∷ report (ring_of 0 5) 0 0 0 ∷ []))) ∷
-    (6, SendOut 1 (commit (ring_of 1 1) 63 6 (report (ring_of 0 1) 0 0 0 ∷ report (ring_of 0 2) 0 0 0 ∷ report (ring_of 0 3) 0 0 0 ∷
-        report (ring_of 0 4) 0 0 0 ∷ report (ring_of 0 5) 0 0 0 ∷ report (ring_of 0 6) 0 0 0 ∷ []))) ∷
-    (1, SendOut 2 (commit (ring_of 1 1) 63 7 (report (ring_of 0 1) 0 0 0 ∷ report (ring_of 0 2) 0 0 0 ∷ report (ring_of 0 3) 0 0 0 ∷
-        report (ring_of 0 4) 0 0 0 ∷ report (ring_of 0 5) 0 0 0 ∷ report (ring_of 0 6) 0 0 0 ∷ []))) ∷
-    (2, SendOut 4 (commit (ring_of 1 1) 63 8 (report (ring_of 0 1) 0 0 0 ∷ report (ring_of 0 2) 0 0 0 ∷ report (ring_of 0 3) 0 0 0 ∷
-        report (ring_of 0 4) 0 0 0 ∷ report (ring_of 0 5) 0 0 0 ∷ report (ring_of 0 6) 0 0 0 ∷ []))) ∷
-    (3, SendOut 8 (commit (ring_of 1 1) 63 9 (report (ring_of 0 1) 0 0 0 ∷ report (ring_of 0 2) 0 0 0 ∷ report (ring_of 0 3) 0 0 0 ∷
-        report (ring_of 0 4) 0 0 0 ∷ report (ring_of 0 5) 0 0 0 ∷ report (ring_of 0 6) 0 0 0 ∷ []))) ∷
-    (4, SendOut 16 (commit (ring_of 1 1) 63 10 (report (ring_of 0 1) 0 0 0 ∷ report (ring_of 0 2) 0 0 0 ∷ report (ring_of 0 3) 0 0 0 ∷
-        report (ring_of 0 4) 0 0 0 ∷ report (ring_of 0 5) 0 0 0 ∷ report (ring_of 0 6) 0 0 0 ∷ []))) ∷
-    (5, SendOut 32 (commit (ring_of 1 1) 63 11 (report (ring_of 0 1) 0 0 0 ∷ report (ring_of 0 2) 0 0 0 ∷ report (ring_of 0 3) 0 0 0 ∷
-        report (ring_of 0 4) 0 0 0 ∷ report (ring_of 0 5) 0 0 0 ∷ report (ring_of 0 6) 0 0 0 ∷ []))) ∷
-    (6, SendOut 1 (commit (ring_of 1 1) 63 12 (report (ring_of 0 1) 0 0 0 ∷ report (ring_of 0 2) 0 0 0 ∷ report (ring_of 0 3) 0 0 0 ∷
-        report (ring_of 0 4) 0 0 0 ∷ report (ring_of 0 5) 0 0 0 ∷ report (ring_of 0 6) 0 0 0 ∷ []))) ∷
+    (3, SendOut 8 (commit (ring_of 1 1) 63 3 (report (ring_of 0 1) 0 0 0 ∷ report (ring_of 0 2) 0 0 0 ∷ report (ring_of 0 3) 0 0 0 ∷ []))) ∷ (
+      4,
+      SendOut 16 (commit (ring_of 1 1) 63 4 (report (ring_of 0 1) 0 0 0 ∷ report (ring_of 0 2) 0 0 0 ∷ report (ring_of 0 3) 0 0 0 ∷
+          report (ring_of 0 4) 0 0 0 ∷ [])),
+    ) ∷ (
+      5,
+      SendOut 32 (commit (ring_of 1 1) 63 5 (report (ring_of 0 1) 0 0 0 ∷ report (ring_of 0 2) 0 0 0 ∷ report (ring_of 0 3) 0 0 0 ∷
+          report (ring_of 0 4) 0 0 0 ∷ report (ring_of 0 5) 0 0 0 ∷ [])),
+    ) ∷ (
+      6,
+      SendOut 1 (commit (ring_of 1 1) 63 6 (report (ring_of 0 1) 0 0 0 ∷ report (ring_of 0 2) 0 0 0 ∷ report (ring_of 0 3) 0 0 0 ∷
+          report (ring_of 0 4) 0 0 0 ∷ report (ring_of 0 5) 0 0 0 ∷ report (ring_of 0 6) 0 0 0 ∷ [])),
+    ) ∷ (
+      1,
+      SendOut 2 (commit (ring_of 1 1) 63 7 (report (ring_of 0 1) 0 0 0 ∷ report (ring_of 0 2) 0 0 0 ∷ report (ring_of 0 3) 0 0 0 ∷
+          report (ring_of 0 4) 0 0 0 ∷ report (ring_of 0 5) 0 0 0 ∷ report (ring_of 0 6) 0 0 0 ∷ [])),
+    ) ∷ (
+      2,
+      SendOut 4 (commit (ring_of 1 1) 63 8 (report (ring_of 0 1) 0 0 0 ∷ report (ring_of 0 2) 0 0 0 ∷ report (ring_of 0 3) 0 0 0 ∷
+          report (ring_of 0 4) 0 0 0 ∷ report (ring_of 0 5) 0 0 0 ∷ report (ring_of 0 6) 0 0 0 ∷ [])),
+    ) ∷ (
+      3,
+      SendOut 8 (commit (ring_of 1 1) 63 9 (report (ring_of 0 1) 0 0 0 ∷ report (ring_of 0 2) 0 0 0 ∷ report (ring_of 0 3) 0 0 0 ∷
+          report (ring_of 0 4) 0 0 0 ∷ report (ring_of 0 5) 0 0 0 ∷ report (ring_of 0 6) 0 0 0 ∷ [])),
+    ) ∷ (
+      4,
+      SendOut 16 (commit (ring_of 1 1) 63 10 (report (ring_of 0 1) 0 0 0 ∷ report (ring_of 0 2) 0 0 0 ∷ report (ring_of 0 3) 0 0 0 ∷
+          report (ring_of 0 4) 0 0 0 ∷ report (ring_of 0 5) 0 0 0 ∷ report (ring_of 0 6) 0 0 0 ∷ [])),
+    ) ∷ (
+      5,
+      SendOut 32 (commit (ring_of 1 1) 63 11 (report (ring_of 0 1) 0 0 0 ∷ report (ring_of 0 2) 0 0 0 ∷ report (ring_of 0 3) 0 0 0 ∷
+          report (ring_of 0 4) 0 0 0 ∷ report (ring_of 0 5) 0 0 0 ∷ report (ring_of 0 6) 0 0 0 ∷ [])),
+    ) ∷ (
+      6,
+      SendOut 1 (commit (ring_of 1 1) 63 12 (report (ring_of 0 1) 0 0 0 ∷ report (ring_of 0 2) 0 0 0 ∷ report (ring_of 0 3) 0 0 0 ∷
+          report (ring_of 0 4) 0 0 0 ∷ report (ring_of 0 5) 0 0 0 ∷ report (ring_of 0 6) 0 0 0 ∷ [])),
+    ) ∷
     (1, SendOut 62 (MessageFrame (message (ring_of 1 1) 1 1 End))) ∷ (1, SendOut 2 (token (ring_of 1 1) 1 1 1 None [])) ∷
     (2, SendOut 61 (MessageFrame (message (ring_of 1 1) 2 2 End))) ∷ (2, SendOut 4 (token (ring_of 1 1) 2 2 2 None [])) ∷
     (3, SendOut 59 (MessageFrame (message (ring_of 1 1) 3 3 End))) ∷ (3, SendOut 8 (token (ring_of 1 1) 3 3 3 None [])) ∷

@@ -1,11 +1,12 @@
-use Rattle.std.proofs.Common.{◌-◌, ◌<◌, ◌∙◌, ap, arith, get_or, length}
+use Rattle.std.proofs.Common.{◌-◌, ◌<◌, ◌∙◌, ap, arith, get_or, length, sym}
+use Rattle.std.proofs.lemmas.Bool.{eqb-true}
 use Rattle.std.proofs.lemmas.Bool.Decides.{nat_tests}
 use Rattle.std.proofs.lemmas.Option.{slice_get-get_or}
 use Rattle.ring_book.proofs.Ordering.{committed-none, committed-last}
 use Rattle.ring_book.proofs.order.committed_after.Goals as goal
 
 pub returns-then-is_empty : goal.returns-then-is_empty
-returns-then-is_empty g c = committed-none c.args.lines.now (grind (arith, nat_tests, c.is_empty.ensures, c.if-is_empty.true))
+returns-then-is_empty g c = committed-none c.args.lines.now (eqb-true (length c.args.lines.now) 0 (sym c.is_empty.ensures ∙ c.if-is_empty.true))
 
 pub returns : goal.returns
 returns g c =

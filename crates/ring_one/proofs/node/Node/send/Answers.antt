@@ -17,6 +17,6 @@ pub returns-in-Ok : goal.returns-in-Ok
 returns-in-Ok g c =
     let s = c.args.self.now in (
       c.in-Ok.ensures.frames,
-      c.in-Ok.ensures.answers ∙ sym (nothing-new g.O.Object.reply g.O.Object.next g.O.Object.initial s (record s { state = c.args.state }) refl),
+      c.in-Ok.ensures.answers ∙ sym (nothing-new g.O.Object.sequential s (record s { state = c.args.state }) refl),
       ap (λ (u : One g.row.O-Alloc.Denot). record u { state = c.args.state }) c.self.view_is,
     )

@@ -10,9 +10,9 @@ invariant_of-self g c = rw c.stop.ensures (node-stopped c.self.invariant c.self.
 pub returns-in-Noise-clause-answers : goal.returns-in-Noise-clause-answers
 returns-in-Noise-clause-answers g c =
     let s = c.args.self.now in
-    rw c.in-Noise.is (c.new.ensures.answers ∙ sym (nothing-new g.O.Object.reply g.O.Object.next g.O.Object.initial s s refl))
+    rw c.in-Noise.is (c.new.ensures.answers ∙ sym (nothing-new g.O.Object.sequential s s refl))
 
 pub returns-in-Stop-clause-answers : goal.returns-in-Stop-clause-answers
 returns-in-Stop-clause-answers g c =
     let s = c.args.self.now in
-    rw c.in-Stop.is (c.new-in-Stop.ensures.answers ∙ sym (nothing-new g.O.Object.reply g.O.Object.next g.O.Object.initial s (one_stopped s) refl))
+    rw c.in-Stop.is (c.new-in-Stop.ensures.answers ∙ sym (nothing-new g.O.Object.sequential s (one_stopped s) refl))

@@ -3,6 +3,16 @@ use Rattle.std.proofs.lemmas.Bool.{cases_eq}
 use Rattle.ring_window.proofs.Windows.{taken_is, front_stays, front_goes, bits_fit}
 use Rattle.ring_window.proofs.window.Window.take.Goals as goal
 
+pub overflow_sub-number : goal.overflow_sub-number
+overflow_sub-number g c =
+    let t = taken_is (record { ring = c.self.inside.ring; mark = c.self.inside.mark; held = c.self.inside.past.value }) c.args.message (rw (← c.self.view_is) at (sym c.if-not-takes.ensures)) in
+    omega (arith, t.above)
+
+pub overflow_sub-number-2 : goal.overflow_sub-number-2
+overflow_sub-number-2 g c =
+    let t = taken_is (record { ring = c.self.inside.ring; mark = c.self.inside.mark; held = c.self.inside.past.value }) c.args.message (rw (← c.self.view_is) at (sym c.if-not-takes.ensures)) in
+    omega (arith, t.above)
+
 pub set-requires : goal.set-requires
 set-requires g c =
     let t = taken_is (record { ring = c.self.inside.ring; mark = c.self.inside.mark; held = c.self.inside.past.value }) c.args.message (rw (← c.self.view_is) at (sym c.if-not-takes.ensures)) in
