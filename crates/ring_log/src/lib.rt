@@ -6,6 +6,7 @@ mod examples;
 mod exchange;
 mod heads;
 mod log;
+mod parts;
 mod stated;
 mod wanted;
 

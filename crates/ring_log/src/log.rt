@@ -2,11 +2,14 @@
 
 ghost use Rattle.std.specs.Prelude.{◌≡◌, ◌+◌, length, IfOk, IfErr, OnOk, OnErr};
 ghost use Rattle.ring_base.specs.declared.fault.Fault.TheVariants.{Memory};
+ghost use Rattle.ring_log.specs.Parts.{parts_between};
 ghost use Rattle.ring_log.specs.Logs.{empty, appended, adopted, committed_upto, committed_calls, head_of, is_log_length};
 
 use crate::base::Base;
+use crate::parts::parts_of;
+use crate::wanted::Wanted;
 use ring_base::{Fault, MAX, RingId};
-use ring_payload::{Call, Head};
+use ring_payload::{Call, Head, Part};
 use std::alloc::{Allocator, Global};
 use std::marker::Model;
 
@@ -124,5 +127,19 @@ impl<A: Allocator + Copy> Log<A> {
         ensures { result ≡ is_log_length (length self.now.calls + more) }
     {
         self.length() <= MAX && more <= MAX - self.length()
+    }
+
+    /// The Parts of the places that an exchange wants of this log, its owner's: 7 places in each, the last perhaps
+    /// shorter. Refused with `Memory` alone.
+    pub fn parts(&self, alloc: A, wanted: &Wanted) -> Result<Vec<Part<A>, A>, Fault>
+        ensures ok { IfOk result (λ parts. parts.items ≡ parts_between self.now.calls wanted.now.from wanted.now.to) }
+        ensures refused { IfErr result (λ fault. fault ≡ Memory) }
+    {
+        let end = self.calls.len().min(wanted.to as usize);
+        let from = wanted.from as usize;
+        if from >= end {
+            return Ok(Vec::new(alloc));
+        }
+        parts_of(alloc, wanted.from, &self.calls[from..end])
     }
 }

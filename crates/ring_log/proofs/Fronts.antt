@@ -1,8 +1,7 @@
--- Open: the step of the loop of parts_of. These lemmas are accepted; the invariant stands below.
 -- One Part more, and what a front takes of a list.
-use Rattle.std.proofs.Common.{◌≡◌, ℕ, zero, suc, ◌+◌, List, [], ◌∷◌, ◌++◌, length, take, refl, ap, sym, ◌∙◌, arith}
+use Rattle.std.proofs.Common.{◌≡◌, ℕ, zero, suc, ◌+◌, List, [], ◌∷◌, ◌++◌, length, take, refl, ap, sym, ◌∙◌, arith, ◌-◌, drop}
 use Rattle.std.specs.Prelude.{map, min}
-use Rattle.std.proofs.lemmas.List.{map-append, take_min}
+use Rattle.std.proofs.lemmas.List.{map-append, take_min, take_all, length-drop}
 use Rattle.ring_base.specs.Numbers.{numbers_from}
 
 numbers_more : (first n : ℕ) → numbers_from first (n + 1) ≡ numbers_from first n ++ (first + n) ∷ []
@@ -23,20 +22,6 @@ map_numbers f n =
 pub take_shorter : {X : Type 0} (n : ℕ) (xs : List X) → take (min (length xs) n) xs ≡ take n xs
 take_shorter n xs = let e : min (length xs) n ≡ min n (length xs) = omega arith in rw e (take_min n xs)
 
--- proofs/parts/parts_of/Invariants.antt
-use Rattle.std.proofs.Common.{◌≡◌}
-use Rattle.std.specs.Prelude.{map}
-use Rattle.ring_base.specs.Numbers.{numbers_from}
-use Rattle.ring_log.specs.Parts.{nth_part}
-use Rattle.ring_log.proofs.parts.parts_of.Given as goal
-
--- the Parts of the sevens so far
-abbrev pub invariant-loop-k : goal.invariant-loop-k
-invariant-loop-k g l = l.parts.items ≡ map (nth_part l.at l.places) (numbers_from 0 l.k)
--- proofs/parts/copied/Invariants.antt
-use Rattle.std.proofs.Common.{◌≡◌, take}
-use Rattle.ring_log.proofs.parts.copied.Given as goal
-
--- the calls so far
-abbrev pub invariant-loop-call : goal.invariant-loop-call
-invariant-loop-call g l = l.copy.items ≡ take l.call-index l.calls
+-- what stands behind a place, up to the end
+pub rest_whole : {X : Type 0} (start : ℕ) (xs : List X) → take (length xs - start) (drop start xs) ≡ drop start xs
+rest_whole start xs = take_all (length xs - start) (drop start xs) (omega (arith, length-drop start xs))

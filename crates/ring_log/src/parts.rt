@@ -1,4 +1,3 @@
-// Open: of `parts_of` the step of its loop (`loop-k-preserved`); its end is proved. `Log::parts` waits for it.
 //! Places of a log as Parts.
 
 ghost use Rattle.std.specs.Prelude.{◌≡◌, ◌+◌, ◌^◌, ◌<◌, length, IfOk, IfErr};
@@ -47,18 +46,3 @@ fn copied<A: Allocator + Copy>(alloc: A, calls: &[Call<A>]) -> Result<Calls<A>, 
     }
     Ok(Calls::from_vec(copy))
 }
-
-// In `impl Log`:
-    /// The Parts of the places that an exchange wants of this log, its owner's: 7 places in each, the last perhaps
-    /// shorter. Refused with `Memory` alone.
-    pub fn parts(&self, alloc: A, wanted: &Wanted) -> Result<Vec<Part<A>, A>, Fault>
-        ensures ok { IfOk result (λ parts. parts.items ≡ parts_between self.now.calls wanted.now.from wanted.now.to) }
-        ensures refused { IfErr result (λ fault. fault ≡ Memory) }
-    {
-        let end = self.calls.len().min(wanted.to as usize);
-        let from = wanted.from as usize;
-        if from >= end {
-            return Ok(Vec::new(alloc));
-        }
-        parts_of(alloc, wanted.from, &self.calls[from..end])
-    }
