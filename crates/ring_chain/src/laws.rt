@@ -1,5 +1,5 @@
 //! Laws of every run, whatever events happen: from the opening in Gather, and on a ring of all that is formed from
-//! the start.
+//! the start. The first is of one core, whatever comes in.
 
 ghost use Rattle.std.specs.Prelude.{◌≡◌, ℕ, ◌≤◌, List};
 ghost use Rattle.std.specs.declared.alloc.Global.{Global as Heap};
@@ -23,7 +23,7 @@ pub fn left_law<A: Allocator + Copy>()
     ensures { (n me : ℕ) (before later : List (Input A)) (ring : RingId) → HasLeft (after_inputs (opening n me) before) ring → (front (after_inputs (after_inputs (opening n me) before) later) ring ≡ front (after_inputs (opening n me) before) ring) × (mark (after_inputs (after_inputs (opening n me) before) later) ring ≡ mark (after_inputs (opening n me) before) ring) }
 {}
 
-/// A ring has one set of members: who takes part in it does so with those that its representative proposed.
+/// Who takes part in a ring has the members that its representative took part in it with.
 pub fn members_law<A: Allocator + Copy>()
     ensures { (n : ℕ) (events : List (RingEvent A)) → SharesRings (run (unformed n) events).cores }
 {}
@@ -50,8 +50,8 @@ pub fn text_law<A: Allocator + Copy>()
     ensures formed { (n : ℕ) (events : List (RingEvent A)) (ring : RingId) → 1 ≤ n → HasOneText (run_formed n events) ring }
 {}
 
-/// What a processor's safe mark of a ring covers, each member of the ring holds; so too what a processor reported as
-/// safe of its last installed ring, on the way into a new one.
+/// What a processor's safe mark of a ring covers, each of the members holds that the ring's representative took part
+/// in it with; so too what a processor reported as safe of its last installed ring, on the way into a new one.
 pub fn mark_law<A: Allocator + Copy>()
     ensures unformed { (n : ℕ) (events : List (RingEvent A)) → MarksAreSafe (run (unformed n) events).cores }
     ensures formed { (n : ℕ) (events : List (RingEvent A)) → 1 ≤ n → MarksAreSafe (run_formed n events).cores }
@@ -64,12 +64,13 @@ pub fn plan_law<A: Allocator + Copy>()
 {}
 
 /// On a ring that is formed from the start each processor tells as agreed the numbers 1, 2, 3 and so on, up to its
-/// front, each once.
+/// front, each once. Which message it tells with a number, this law does not say.
 pub fn agreed_law<A: Allocator + Copy>()
     ensures { (n i : ℕ) (events : List (RingEvent A)) → agreed_numbers (run_formed n events) i ≡ numbers_from 1 (front ((run_formed n events).cores i) (all_of n).ring) }
 {}
 
-/// What `Safe` told at any processor, each member of its ring holds: then, and ever after.
+/// What `Safe` told at any processor, each of the members holds that the ring's representative took part in it with:
+/// then, and ever after.
 pub fn told_law<A: Allocator + Copy>()
     ensures unformed { (n : ℕ) (events : List (RingEvent A)) → SafeIsSafe (run (unformed n) events) }
     ensures formed { (n : ℕ) (events : List (RingEvent A)) → 1 ≤ n → SafeIsSafe (run_formed n events) }

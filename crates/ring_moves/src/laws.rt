@@ -70,8 +70,8 @@ pub fn agreement_law<A: Allocator + Copy>()
     ensures { (n me : ℕ) (inputs : List (Input A)) → AllSaySame (after_inputs (opening n me) inputs).gathering }
 {}
 
-/// Each visit that a core took went by the rules, and its new messages are what a queue makes, each run of calls
-/// packed, or, in Recovery, what is wrapped and the End. That it was of the token as the visit before it had sent it
+/// Each visit that a core took forwards the token by the rules, whatever it asks for, and its new messages are what
+/// some queue makes, each run of calls packed, or what is wrapped by some plan and the End. That it was of the token as the visit before it had sent it
 /// on, and by the member whose turn it was, holds in every run of cores, not of one core that hears forged frames:
 /// that stands in `ring_chain`, and with it the visits of a ring are those of which `ring_token` says how far they
 /// make it safe.
