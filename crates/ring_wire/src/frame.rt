@@ -133,8 +133,8 @@ impl<A: Allocator + Copy> Decode<A> for Frame<A> {
     }
 }
 
-/// The frame that the bytes are, all of them. Refused with `BadFrame` exactly where they are none, or
-/// with `Memory`.
+/// The frame that the bytes are, all of them. `BadFrame` comes only where they are none. `Memory` may come in place of
+/// either answer.
 pub fn decode_frame<A: Allocator + Copy>(alloc: A, src: &[u8]) -> Result<Frame<A>, Fault>
     ensures found { IfOk result (λ frame. Spells frame src.now) }
     ensures bad { IfErr result (λ fault. fault ≡ BadFrame

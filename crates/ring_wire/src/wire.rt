@@ -24,8 +24,8 @@ pub trait Wire<A: Allocator + Copy>: Sized {
         ensures err { OnErr result (out.new.items ≡ out.old.items) }
         ensures memory { IfErr result (λ fault. fault ≡ Memory) };
 
-    /// The value whose spelling stands at the front, and the spelling's length. Refused with `BadFrame`
-    /// exactly where no spelling stands there, or with `Memory`.
+    /// The value whose spelling stands at the front, and the spelling's length. `BadFrame` comes only where no
+    /// spelling stands there. `Memory` may come in place of either answer.
     fn get(alloc: A, src: &[u8]) -> Result<(Self, usize), Fault>
         ensures found { IfOk result (λ got. IsGot spelling fits src.now got.0 got.1) }
         ensures bad { IfErr result (λ fault. fault ≡ BadFrame → IsNoFront spelling fits src.now) }
