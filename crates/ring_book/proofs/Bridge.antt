@@ -17,7 +17,7 @@ use Rattle.ring_one.proofs.Moves.{goes-on}
 use Rattle.ring_one.specs.Machine.{One, Did, committed_of, one_opening, one_step, is_stopped, submitted}
 use Rattle.ring_one.specs.Runs as runs
 use Rattle.ring_one.specs.Runs.{World, order_in, replies}
-use Rattle.ring_one.specs.Tickets.{Asked, asked_calls}
+use Rattle.ring_ticket.specs.Tickets.{Asked, asked_calls}
 use Rattle.ring_book.specs.declared.frame_ref.FrameRef.{FrameRef}
 use Rattle.ring_book.specs.declared.input.LineInput.{LineInput}
 use Rattle.ring_book.specs.declared.input.LineInput.TheVariants.{Called, Came}

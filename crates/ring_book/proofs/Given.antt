@@ -11,11 +11,11 @@ use Rattle.ring_session.specs.SessionAnswer.{session_answer}
 use Rattle.ring_session.specs.declared.answer.Answer.{Answer}
 use Rattle.ring_one.proofs.Linear.{committed-front}
 use Rattle.ring_one.proofs.Moves.{goes-on}
-use Rattle.ring_one.proofs.Telling.{answers_after-append, answers_after-push}
+use Rattle.ring_ticket.proofs.Telling.{answers_after-append, answers_after-push}
 use Rattle.ring_one.specs.Machine.{One, committed_of, move_on, new_answers, one_step, submitted}
-use Rattle.ring_one.specs.Tickets.{Asked, all_answers, answered, answers_after, answers_at, is_place, place_of}
+use Rattle.ring_ticket.specs.Tickets.{Asked, all_answers, answered, answers_after, answers_at, is_place, place_of}
 use Rattle.ring_one.specs.declared.input.Input.{Input}
-use Rattle.ring_one.specs.declared.outs.Answered.{Answered}
+use Rattle.ring_ticket.specs.declared.answered.Answered.{Answered}
 use Rattle.ring_book.specs.Answers.{answered_in, by_ticket}
 use Rattle.ring_book.specs.Events.{answers_of}
 use Rattle.ring_book.proofs.Telling.{answered_in-append, answered_in-left}

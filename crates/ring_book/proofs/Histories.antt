@@ -1,6 +1,6 @@
 -- Histories, line by line and reply by reply.
 use Rattle.std.proofs.Common.{◌≡◌, ℕ, zero, suc, ◌≤◌, ◌++◌, List, [], ◌∷◌, length, arith, take, Some, slice_get, refl, ap, sym, ◌∙◌, append-nil, append_assoc}
-use Rattle.ring_one.specs.declared.outs.Answered.{Answered}
+use Rattle.ring_ticket.specs.declared.answered.Answered.{Answered}
 use Rattle.ring_one.specs.Runs.{replied, replies}
 use Rattle.ring_session.specs.SessionAnswer.{reply_in}
 use Rattle.ring_book.specs.declared.line.Line.{Line}

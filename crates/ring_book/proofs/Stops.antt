@@ -8,7 +8,7 @@ use Rattle.ring_base.specs.declared.state.State.{State}
 use Rattle.ring_base.specs.declared.state.State.TheVariants.{Gather, Commit, Recovery, Operational, Stopped}
 use Rattle.ring_object.specs.Operations.{Sequential}
 use Rattle.ring_one.specs.Machine.{One, committed_of, is_stopped, new_answers, one_stopped}
-use Rattle.ring_one.specs.Tickets.{answers_after}
+use Rattle.ring_ticket.specs.Tickets.{answers_after}
 
 -- memory is refused to a node that runs
 pub memory_runs : (b : Bool) → Memory ≡ (if b then StoppedFault else Memory) → b ≡ false

@@ -6,7 +6,7 @@ use Rattle.std.proofs.lemmas.Bool.Decides.{nat_tests}
 use Rattle.std.proofs.lemmas.List.{set-append_left}
 use Rattle.std.specs.List.{AllByRecursion}
 use Rattle.ring_session.specs.declared.answer.Answer.{Answer}
-use Rattle.ring_one.specs.declared.outs.Answered.{Answered}
+use Rattle.ring_ticket.specs.declared.answered.Answered.{Answered}
 use Rattle.ring_book.specs.declared.input.LineInput.{LineInput}
 use Rattle.ring_book.specs.declared.input.LineInput.TheVariants.{Called, Came}
 use Rattle.ring_book.specs.declared.line.Line.{Line}

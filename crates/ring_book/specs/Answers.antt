@@ -1,8 +1,9 @@
 -- Answers by ticket.
+-- The book and the threads, of docs/PROTOCOL.md.
 use Rattle.std.specs.Prelude.{ℕ, List, [], ◌∷◌, ◌++◌, Option, Some, None, replicate, slice_get, slice_set}
 use Rattle.std.specs.Option.{option_and_then}
 use Rattle.ring_session.specs.declared.answer.Answer.{Answer}
-use Rattle.ring_one.specs.declared.outs.Answered.{Answered}
+use Rattle.ring_ticket.specs.declared.answered.Answered.{Answered}
 use Rattle.ring_book.specs.declared.input.LineInput.{LineInput}
 use Rattle.ring_book.specs.declared.input.LineInput.TheVariants.{Called, Came}
 use Rattle.ring_book.specs.declared.line.Line.{Line}

@@ -1,4 +1,5 @@
 -- The rings of the journals, and what names a book by them.
+-- The book and the threads, of docs/PROTOCOL.md.
 use Rattle.std.specs.Prelude.{ℕ, List}
 use denote.RawPtr.{Ptr}
 use Rattle.rtrb.specs.Shared.{Names}

@@ -1,4 +1,5 @@
 -- What `enter` answers.
+-- The book and the threads, of docs/PROTOCOL.md.
 use Rattle.std.specs.Prelude.{◌≡◌, ◌-◌, Result, MatchResult, Some, slice_get, length}
 use Rattle.std.specs.Borrow.{Bor}
 use Rattle.ring_base.specs.declared.fault.Fault.{Fault}

@@ -1,4 +1,5 @@
 -- The book's lines as the events of a run of the node of a ring of one.
+-- The book and the threads, of docs/PROTOCOL.md.
 use Rattle.std.specs.Prelude.{ℕ, suc, ◌≡◌, ◌+◌, false, List, [], ◌∷◌, ◌++◌, length, take, Option, None, Some}
 use Rattle.ring_wire.specs.declared.frame.Frame.{Frame}
 use Rattle.ring_object.specs.Operations.{Sequential}
@@ -8,10 +9,10 @@ use Rattle.ring_one.specs.declared.event.Event.{Event}
 use Rattle.ring_one.specs.declared.event.Event.TheVariants as events
 use Rattle.ring_one.specs.declared.input.Input.{Input}
 use Rattle.ring_one.specs.declared.input.Input.TheVariants.{Frame as Comes, Noise, Timeout, Stop}
-use Rattle.ring_one.specs.declared.outs.Answered.{Answered}
+use Rattle.ring_ticket.specs.declared.answered.Answered.{Answered}
 use Rattle.ring_session.specs.declared.answer.Answer.{Answer}
 use Rattle.ring_one.specs.Machine.{One, committed_of, one_step, is_stopped, submit_fault}
-use Rattle.ring_one.specs.Tickets.{all_answers, asked_calls}
+use Rattle.ring_ticket.specs.Tickets.{all_answers, asked_calls}
 use Rattle.ring_one.specs.Runs.{World, frame_of, happens, replies, run, world_opening}
 use Rattle.ring_book.specs.Answers.{by_ticket, told_to}
 use Rattle.ring_book.specs.declared.frame_ref.FrameRef.{FrameRef}

@@ -1,4 +1,5 @@
 -- The lines of the book, and the frames in them.
+-- The book and the threads, of docs/PROTOCOL.md.
 use Rattle.std.specs.Prelude.{ℕ, ◌≡◌, ◌==◌, List, map, filter, Option, Some, None, slice_get, IsSomeAnd, if◌then◌else◌}
 use Rattle.std.specs.List.{AllByRecursion}
 use Rattle.std.specs.Option.{option_and_then}

@@ -8,7 +8,7 @@ use Rattle.ring_wire.specs.declared.frame.Frame.{Frame}
 use Rattle.ring_wire.specs.declared.frame.Frame.TheVariants as frames
 use Rattle.ring_wire.specs.Frames.{FrameFits}
 use Rattle.ring_one.specs.declared.input.Input.{Input}
-use Rattle.ring_one.specs.declared.outs.Answered.{Answered}
+use Rattle.ring_ticket.specs.declared.answered.Answered.{Answered}
 use Rattle.ring_one.specs.Machine.{One, one_opening, one_step, is_stopped, submit_fault, submitted, committed_of}
 
 -- What a step makes: the next state, the frames sent, and the answers given.

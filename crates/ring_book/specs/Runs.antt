@@ -1,4 +1,5 @@
 -- Which lists of lines are runs: each node's steps are a run of that node, and each frame that came was sent before.
+-- The book and the threads, of docs/PROTOCOL.md.
 use Rattle.std.specs.Prelude.{ℕ, ◌≡◌, ◌≤◌, ◌++◌, false, List, [], ◌∷◌, length, None}
 use Rattle.std.specs.List.{AllByRecursion}
 use Rattle.ring_book.specs.declared.input.LineInput.{LineInput}

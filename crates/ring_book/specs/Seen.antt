@@ -1,4 +1,5 @@
 -- What contracts see of a cell and of a book.
+-- The book and the threads, of docs/PROTOCOL.md.
 use Rattle.std.specs.Prelude.{ℕ, Bool, List}
 use Rattle.ring_book.specs.declared.line.Line.{Line}
 use Rattle.ring_book.specs.Steps.{StepView}

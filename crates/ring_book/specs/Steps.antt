@@ -1,7 +1,8 @@
 -- What a node did, as the journal carries it.
+-- The book and the threads, of docs/PROTOCOL.md.
 use Rattle.std.specs.Prelude.{ℕ, List}
 use Rattle.ring_wire.specs.declared.frame.Frame.{Frame}
-use Rattle.ring_one.specs.declared.outs.Answered.{Answered}
+use Rattle.ring_ticket.specs.declared.answered.Answered.{Answered}
 use Rattle.ring_book.specs.declared.input.LineInput.{LineInput}
 
 -- One step of a node, or one submit at it.

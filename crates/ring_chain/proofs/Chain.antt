@@ -19,11 +19,13 @@ use Rattle.ring_moves.specs.Moves.{Move, Idles, Enters, Learns, Visits, Takes, I
 use Rattle.ring_moves.proofs.Rises.{runs_in}
 use Rattle.ring_moves.proofs.Turned.{Turned, moved_turned}
 use Rattle.ring_moves.proofs.Steps.{some_member}
-use Rattle.ring_chain.specs.Words.{Chains, IsRingOf, picked, HasArrived, IsRound, IsToken, AreRight, with_visit, visits_after}
+use Rattle.ring_chain.specs.Words.{Chains, IsRingOf, picked, IsRound}
+use Rattle.ring_chain.proofs.Words.{HasArrived, IsToken, AreRight, with_visit, visits_after}
 use Rattle.ring_chain.specs.Told.{AreChains}
 use Rattle.ring_chain.proofs.Growing.{AllGrown, put-each, put_grows, moved_grows}
 use Rattle.ring_chain.proofs.Rings.{AreRings, came_right, one_members}
-use Rattle.ring_chain.proofs.Turns.{same-self, only-is, next-turn, at-low, number-visits, first-arrived, AllBelow, newest}
+use Rattle.ring_base.proofs.Turning.{next-turn, at-low}
+use Rattle.ring_chain.proofs.Turns.{same-self, only-is, number-visits, first-arrived, AllBelow, newest}
 
 pub round_grows : {A : Type 0} → (old new : ℕ → Core A) → AllGrown old new → (r : RingId) (vs : List (VisitBy A)) → (vs ≡ []) ⊎ IsRound old r vs →
     (vs ≡ []) ⊎ IsRound new r vs

@@ -25,7 +25,7 @@ use Rattle.ring_moves.proofs.Lists.{in-each, in-parts}
 use Rattle.ring_moves.proofs.Lifting.{kept_run}
 use Rattle.ring_moves.proofs.Steps.{move_of, fresh_short, fresh_users, all_repeats, queue_kept}
 use Rattle.ring_chain.specs.Words.{SharesRings, IsGenuine}
-use Rattle.ring_chain.specs.Told.{HasChains, MarksAreSafe}
+use Rattle.ring_chain.specs.Told.{HasChains, HasNumbered, MarksAreSafe}
 use Rattle.ring_chain.proofs.Texts.{one_text}
 use Rattle.ring_chain.proofs.Safety.{mark_safe, in_filter}
 use Rattle.ring_chain.proofs.Runs.{Holds, holding, unformed_holds, formed_holds}
@@ -35,7 +35,7 @@ use Rattle.ring_chain.proofs.Runs.{Holds, holding, unformed_holds, formed_holds}
 first_of_all : (n : ℕ) → 1 ≤ n → at (everybody n) 0 ≡ 1
 first_of_all n some = smallest-least (everybody n) 1 (omega arith, omega arith) ((everybody_members n 1).1 (omega arith, some)) (λ j m. ((everybody_members n j).0 m).0)
 
-may_start : {A : Type 0} → (n : ℕ) → 1 ≤ n → (t : Token) → t ≡ first_token (all_of n).ring →
+pub may_start : {A : Type 0} → (n : ℕ) → 1 ≤ n → (t : Token) → t ≡ first_token (all_of n).ring →
     MayVisit (CameTo {A = A} [] 1) (formed n 1) t (new_payloads (formed n 1) t) (repeated (formed n 1) t) (queue_after Operational (room_at (formed {A = A} n 1) t) [])
 may_start {A} n some t e =
     record {
@@ -66,7 +66,7 @@ contains-in [] k x l e = absurd (omega arith)
 contains-in (y ∷ xs) zero x l e = inl (sym e)
 contains-in (y ∷ xs) (suc k) x l e = inr (contains-in xs k x (omega arith) e)
 
-held_somewhere : {A : Type 0} → (cores : ℕ → Core A) (ring : RingId) (is : List ℕ) (x : Message A) → IsIn x (held_by cores ring is) →
+pub held_somewhere : {A : Type 0} → (cores : ℕ → Core A) (ring : RingId) (is : List ℕ) (x : Message A) → IsIn x (held_by cores ring is) →
     (q : ℕ) × IsIn x (cores q).held × (x.ring ≡ ring)
 held_somewhere cores ring [] x h = absurd h
 held_somewhere {A} cores ring (i ∷ is) x h =
@@ -75,7 +75,7 @@ held_somewhere {A} cores ring (i ∷ is) x h =
       | inr there ↦ held_somewhere cores ring is x there
     ]
 
-texts_agree : {A : Type 0} → (w : World A) → Holds w.cores w.frames → (ring : RingId) → HasOneText w ring
+pub texts_agree : {A : Type 0} → (w : World A) → Holds w.cores w.frames → (ring : RingId) → HasOneText w ring
 texts_agree {A} w p ring x y hx hy e =
     let a = held_somewhere w.cores ring (numbers_from 1 w.total) x (contains-in (text_of w ring) hx.0 x hx.1 hx.2) in
     let b = held_somewhere w.cores ring (numbers_from 1 w.total) y (contains-in (text_of w ring) hy.0 y hy.1 hy.2) in
@@ -106,3 +106,9 @@ unformed_marks n events = marks_are_safe (run (unformed n) events) (unformed_hol
 
 pub formed_marks : {A : Type 0} → (n : ℕ) (events : List (RingEvent A)) → 1 ≤ n → MarksAreSafe (run_formed n events).cores
 formed_marks n events some = marks_are_safe (run_formed n events) (formed_runs n some events)
+
+pub unformed_numbered : {A : Type 0} → (n : ℕ) (events : List (RingEvent A)) → HasNumbered (run (unformed n) events).cores
+unformed_numbered n events = let p = unformed_holds n events in (p.visits, p.chains, record { held = p.texts.held; wraps = p.texts.wraps })
+
+pub formed_numbered : {A : Type 0} → (n : ℕ) (events : List (RingEvent A)) → 1 ≤ n → HasNumbered (run_formed n events).cores
+formed_numbered n events some = let p = formed_runs n some events in (p.visits, p.chains, record { held = p.texts.held; wraps = p.texts.wraps })

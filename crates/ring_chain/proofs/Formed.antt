@@ -1,6 +1,6 @@
 -- On a ring that is formed from the start there are no joins and no commit tokens, so that it runs until a processor stops; all its messages are users', and each processor tells as agreed the numbers 1, 2, 3 and so on up to its front.
 use Rattle.std.proofs.Common.{◌≡◌, ℕ, zero, suc, ◌+◌, ◌-◌, ◌<◌, ◌≤◌, ◌⊎◌, inl, inr, Bool, true, false, ◌&&◌, ◌==◌, List, [], ◌∷◌, ◌++◌, map, Option, Some, None, refl, ap, sym, ◌∙◌, subst, arith, append-nil}
-use Rattle.std.specs.Prelude.{nat_lt, not, filter, filter_map, find, slice_get}
+use Rattle.std.specs.Prelude.{nat_lt, not, filter, filter_map, find, reverse, slice_get}
 use Rattle.std.specs.List.{AllByRecursion as Each, cons_option, list_any}
 use Rattle.std.proofs.lemmas.Bool.{cond_both, cases_Bool, and_parts, and_right, false≢true, cond-true, cond-false, or_cases, eqb-true, eq-eqb, ne_eqb, both_ways}
 use Rattle.std.proofs.lemmas.List.Elements.{filter_map-append}
@@ -44,7 +44,7 @@ use Rattle.ring_moves.specs.Moves.{AllAreUsers}
 use Rattle.ring_moves.proofs.Guards.{guarded}
 use Rattle.ring_moves.proofs.Causes.{caused}
 use Rattle.ring_moves.proofs.Steps.{move_of, acted, IsAsked, asked_by, fresh_users, all_repeats, queue_kept}
-use Rattle.ring_moves.proofs.Lists.{in-each, each-filter}
+use Rattle.ring_moves.proofs.Lists.{in-each, each-filter, each-reverse}
 use Rattle.ring_moves.proofs.Lifting.{outs_carried, told_from}
 use Rattle.ring_chain.specs.Told.{agreed_of, agreed_number, agreed_numbers}
 use Rattle.ring_chain.proofs.Growing.{put-each, moved_grows}
@@ -68,8 +68,10 @@ IsUsers x = is_user x.payload ≡ true
 abbrev Running : State → Type 0
 Running s = (s ≡ Operational) ⊎ (s ≡ Stopped)
 
-record IsFormed {A : Type 0} (n : ℕ) (c : Core A) : Type 0 where
+pub record IsFormed {A : Type 0} (n : ℕ) (c : Core A) : Type 0 where
   pub installed : c.installed ≡ all_of n
+  pub rings : c.rings ≡ all_of n ∷ []
+  pub installs : c.installs ≡ all_of n ∷ []
   pub state : Running c.state
   pub users : Each (λ (x : Message A). IsUsers x) c.held
   pub queued : AllAreUsers c.queue
@@ -114,8 +116,10 @@ visited_formed {A} n c t f o =
     record {
       core = record {
         installed = f.installed;
+        rings = f.rings;
+        installs = f.installs;
         state = f.state;
-        users = each-append (λ (x : Message A). IsUsers x) (new_messages c t) c.held new f.users;
+        users = each-append (λ (x : Message A). IsUsers x) (reverse (new_messages c t)) c.held (each-reverse (λ (x : Message A). IsUsers x) (new_messages c t) new) f.users;
         queued = queue_kept c.state (room_at c t) c.queue f.queued;
         shown = λ s e. one_token (to_next c (forwarded c t)) s tt e;
       };
@@ -128,6 +132,8 @@ took_formed : {A : Type 0} → (n : ℕ) (c : Core A) (x : Message A) → IsForm
 took_formed {A} n c x f u =
     record {
       installed = f.installed;
+      rings = f.rings;
+      installs = f.installs;
       state = f.state;
       queued = f.queued;
       shown = f.shown;
@@ -138,7 +144,7 @@ acted_formed : {A : Type 0} → (n : ℕ) (c : Core A) (input : Input A) (a : Ac
     IsAsked a → IsActed n (act c a)
 acted_formed n c input Ignore f w g h u = record { core = f; sends = tt }
 acted_formed {A} n c input (Enqueue p) f w g h u =
-    record { core = record { installed = f.installed; state = f.state; users = f.users; queued = each-push (λ (p : Payload A). is_user p ≡ true) c.queue p f.queued u; shown = f.shown }; sends = tt }
+    record { core = record { installed = f.installed; rings = f.rings; installs = f.installs; state = f.state; users = f.users; queued = each-push (λ (p : Payload A). is_user p ≡ true) c.queue p f.queued u; shown = f.shown }; sends = tt }
 acted_formed n c input Repeat f w g h u = record { core = f; sends = again_quiet c.shown f.shown }
 acted_formed {A} n c input (Take x) f w g h u = record { core = took_formed n c x f (subst (λ (i : Input A). IsAllowed i) h w); sends = tt }
 acted_formed n c input (Visit t) f w g h u = visited_formed n c t f (operating n c f g.0)
@@ -236,12 +242,12 @@ step_tells {A} n c d sends e u =
 
 -- Worlds
 
-record IsFormedWorld {A : Type 0} (n : ℕ) (w : World A) : Type 0 where
+pub record IsFormedWorld {A : Type 0} (n : ℕ) (w : World A) : Type 0 where
   pub cores : (q : ℕ) → IsFormed n (w.cores q)
   pub frames : Each (λ (f : Carried A). IsQuiet f.frame) w.frames
   pub told : (q : ℕ) → agreed_numbers w q ≡ numbers_from 1 (front (w.cores q) (all_of n).ring)
 
-numbers-append : (first m k : ℕ) → numbers_from first m ++ numbers_from (first + m) k ≡ numbers_from first (m + k)
+pub numbers-append : (first m k : ℕ) → numbers_from first m ++ numbers_from (first + m) k ≡ numbers_from first (m + k)
 numbers-append first zero k = (let e : first + 0 ≡ first = omega arith in let f : 0 + k ≡ k = omega arith in rw (e, f) refl)
 numbers-append first (suc m) k =
     (let e : first + suc m ≡ suc first + m = omega arith in let f : suc m + k ≡ suc (m + k) = omega arith in rw (e, f) (ap (λ ns. first ∷ ns) (numbers-append (suc first) m k)))
@@ -298,7 +304,7 @@ module _ {A : Type 0} (n : ℕ) (w : World A) (f : IsFormedWorld n w) where
   stopped_formed true i =
       let c = w.cores i in
       record {
-        cores = put-each (λ q (x : Core A). IsFormed n x) w.cores i (halted c) (λ q m. f.cores q) (record { installed = (f.cores i).installed; state = inr refl; users = (f.cores i).users; queued = (f.cores i).queued; shown = (f.cores i).shown });
+        cores = put-each (λ q (x : Core A). IsFormed n x) w.cores i (halted c) (λ q m. f.cores q) (record { installed = (f.cores i).installed; rings = (f.cores i).rings; installs = (f.cores i).installs; state = inr refl; users = (f.cores i).users; queued = (f.cores i).queued; shown = (f.cores i).shown });
         frames = f.frames;
         told = put-each (λ q (x : Core A). agreed_numbers w q ≡ numbers_from 1 (front x (all_of n).ring)) w.cores i (halted c) (λ q m. f.told q) (f.told i);
       }
@@ -315,7 +321,7 @@ module _ {A : Type 0} (n : ℕ) (w : World A) (f : IsFormedWorld n w) where
   handed_formed i zero (Some g) e = absurd (let x : ⊥ = cc in x)
   handed_formed i (suc m) (Some g) e = frame_formed (has g.to i) i g.frame (quiet_at w.frames m g f.frames e)
 
-  event_formed : (e : RingEvent A) → acts_on_formed e ≡ true → IsFormedWorld n (happens w e)
+  pub event_formed : (e : RingEvent A) → acts_on_formed e ≡ true → IsFormedWorld n (happens w e)
   event_formed (Send i payload) h = stepped_formed (is_node w i) i (SendInput payload) tt
   event_formed (Deliver i m) h = handed_formed i m (frame_at w.frames m) refl
   event_formed (Timeout i kind) h = stepped_formed (is_node w i) i (TimeInput kind) h
@@ -326,21 +332,21 @@ run_formed_holds : {A : Type 0} → (n : ℕ) (w : World A) (events : List (Ring
 run_formed_holds n w [] h f = f
 run_formed_holds n w (e ∷ events) h f = run_formed_holds n (happens w e) events h.1 (event_formed n w f e h.0)
 
-all_act : {A : Type 0} → (events : List (RingEvent A)) → Each (λ (e : RingEvent A). acts_on_formed e ≡ true) (filter acts_on_formed events)
+pub all_act : {A : Type 0} → (events : List (RingEvent A)) → Each (λ (e : RingEvent A). acts_on_formed e ≡ true) (filter acts_on_formed events)
 all_act [] = tt
 all_act {A} (e ∷ events) = cond_both (acts_on_formed e) (e ∷ filter acts_on_formed events) (filter acts_on_formed events) (Each (λ (e : RingEvent A). acts_on_formed e ≡ true)) (λ t. (t, all_act events)) (λ t. all_act events)
 
 -- Openings
 
 formed_core : {A : Type 0} → (n q : ℕ) → IsFormed {A = A} n (formed n q)
-formed_core n q = record { installed = refl; state = inl refl; users = tt; queued = tt; shown = λ s e. absurd (let x : ⊥ = cc in x) }
+formed_core n q = record { installed = refl; rings = refl; installs = refl; state = inl refl; users = tt; queued = tt; shown = λ s e. absurd (let x : ⊥ = cc in x) }
 
 packed_none : {A : Type 0} → (n : ℕ) → packed {A = A} n [] ≡ []
 packed_none zero = refl
 packed_none (suc n) = refl
 
 -- the first visit has nothing to send
-start_formed : {A : Type 0} → (n : ℕ) → IsFormedWorld {A = A} n (ring_formed n)
+pub start_formed : {A : Type 0} → (n : ℕ) → IsFormedWorld {A = A} n (ring_formed n)
 start_formed {A} n =
     let c : Core A = formed n 1 in
     let t = first_token (all_of n).ring in
@@ -348,13 +354,16 @@ start_formed {A} n =
     let d = act c (Visit t) in
     let first = visited_formed n c t (formed_core n 1) refl in
     let none : new_payloads c t ≡ [] = packed_none (room_at c t) in
-    let held : front d.core r ≡ 0 = ap (λ (ps : List (Payload A)). front_of (numbered t.ring c.me t.seq ps ++ c.held) r) none in
+    let held : front d.core r ≡ 0 = ap (λ (ps : List (Payload A)). front_of (reverse (numbered t.ring c.me t.seq ps) ++ c.held) r) none in
     record {
       cores = put-each (λ q (x : Core A). IsFormed n x) (formed n) 1 d.core (λ q m. formed_core n q) first.core;
       frames = each-map (λ (g : Carried A). IsQuiet g.frame) (λ s. record { from = 1; to = s.to; frame = s.frame }) (addressed d.sends) (each-filter (λ (s : Sent A). IsQuiet s.frame) (λ s. not (s.to == nobody)) d.sends first.sends);
       told = put-each (λ q (x : Core A). [] ≡ numbers_from 1 (front x r)) (formed n) 1 d.core (λ q m. refl) (ap (numbers_from 1) (sym held));
     }
 
+pub formed_worlds : {A : Type 0} → (n : ℕ) (events : List (RingEvent A)) → IsFormedWorld n (run_formed n events)
+formed_worlds n events = run_formed_holds n (ring_formed n) (filter acts_on_formed events) (all_act events) (start_formed n)
+
 pub agreed_ascend : {A : Type 0} → (n i : ℕ) (events : List (RingEvent A)) →
     agreed_numbers (run_formed n events) i ≡ numbers_from 1 (front ((run_formed n events).cores i) (all_of n).ring)
-agreed_ascend n i events = (run_formed_holds n (ring_formed n) (filter acts_on_formed events) (all_act events) (start_formed n)).told i
+agreed_ascend n i events = (formed_worlds n events).told i

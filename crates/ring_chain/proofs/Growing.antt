@@ -1,5 +1,6 @@
 -- A move only adds to a core's facts, and what is said of all cores stays so as one of them grows.
 use Rattle.std.proofs.Common.{◌≡◌, ℕ, ◌≤◌, inl, inr, ◌==◌, List, [], ◌∷◌, refl, sym, subst, arith}
+use Rattle.std.specs.Prelude.{reverse}
 use Rattle.std.proofs.lemmas.Bool.{cond_both, eqb-true, eqb-false}
 use Rattle.ring_base.specs.Rings.{same_ring}
 use Rattle.ring_base.specs.declared.ring_id.RingId.{RingId}
@@ -20,7 +21,8 @@ use Rattle.ring_moves.specs.Facts.{IsIn, SomeIs}
 use Rattle.ring_moves.specs.Worlds.{Carried, put}
 use Rattle.ring_moves.specs.Moves.{Move, Idles, Enters, Learns, Visits, Takes, Installs, moved, turn_with}
 use Rattle.ring_moves.proofs.Fits.{front-append}
-use Rattle.ring_chain.specs.Words.{Chains, HasArrived, IsGenuine, IsSafe, IsRight, AreRight, visits_after}
+use Rattle.ring_chain.specs.Words.{Chains, IsSafe, IsGenuine}
+use Rattle.ring_chain.proofs.Words.{HasArrived, IsRight, AreRight, visits_after}
 
 -- One core
 
@@ -39,7 +41,7 @@ pub moved_grows : {A : Type 0} → (c : Core A) (m : Move A) → HasGrown c (mov
 moved_grows c (Idles state gathering shown queue sends) = record { me = refl; rings = λ p h. h; reports = λ x h. h; plans = λ k h. h; turns = λ v h. h; fronts = λ r. omega arith }
 moved_grows c (Enters k) = record { me = refl; rings = λ p h. inr h; reports = λ x h. inr h; plans = λ k h. h; turns = λ v h. h; fronts = λ r. omega arith }
 moved_grows c (Learns k) = record { me = refl; rings = λ p h. h; reports = λ x h. h; plans = λ k h. inr h; turns = λ v h. h; fronts = λ r. omega arith }
-moved_grows c (Visits t fresh requests again queue) = record { me = refl; rings = λ p h. h; reports = λ x h. h; plans = λ k h. h; turns = λ v h. inr h; fronts = λ r. front-append (numbered t.ring c.me t.seq fresh) c.held r }
+moved_grows c (Visits t fresh requests again queue) = record { me = refl; rings = λ p h. h; reports = λ x h. h; plans = λ k h. h; turns = λ v h. inr h; fronts = λ r. front-append (reverse (numbered t.ring c.me t.seq fresh)) c.held r }
 moved_grows c (Takes x) =
     record {
       me = refl;

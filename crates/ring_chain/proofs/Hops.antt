@@ -19,7 +19,8 @@ use Rattle.ring_moves.specs.Facts.{IsIn}
 use Rattle.ring_moves.specs.Worlds.{Carried, World}
 use Rattle.ring_moves.specs.CommitRounds.{all_pairs, report_for, are_reports, is_handed_on, is_hop, is_hop_if_commit, are_hops, commit_in, commits_of, agree_on_members}
 use Rattle.ring_moves.proofs.Lists.{each-filter_map}
-use Rattle.ring_chain.specs.Words.{Chains, IsRingOf, IsHop, IsRight, AreRight}
+use Rattle.ring_chain.specs.Words.{Chains, IsRingOf}
+use Rattle.ring_chain.proofs.Words.{IsHop, IsRight, AreRight}
 use Rattle.ring_chain.proofs.Filed.{Filed}
 use Rattle.ring_chain.proofs.Rings.{AreRings, one_members}
 use Rattle.ring_chain.proofs.Turns.{same-self}

@@ -1,3 +1,4 @@
+pub mod Words
 pub mod Growing
 pub mod Filed
 pub mod Rings
@@ -14,3 +15,8 @@ pub mod Plans
 pub mod Left
 pub mod Outputs
 pub mod Formed
+pub mod Parts
+pub mod Spacing
+pub mod Tells
+pub mod Together
+pub mod Facts

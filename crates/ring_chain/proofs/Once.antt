@@ -1,8 +1,8 @@
 -- Each hop of a ring is taken at most once. Who takes one keeps a fact that shows it: in the first round the ring, in the second the plan, at the end the visit of the first token; and with that fact the same hop would be ignored.
-use Rattle.std.proofs.Common.{◌≡◌, ℕ, zero, suc, ◌*◌, ◌%◌, ◌<◌, ◌≤◌, ◌⊎◌, inl, inr, Bool, true, false, ◌&&◌, ◌==◌, List, [], ◌∷◌, ◌++◌, Option, Some, None, refl, ap, sym, ◌∙◌, subst, arith}
+use Rattle.std.proofs.Common.{◌≡◌, ℕ, ◌*◌, ◌%◌, ◌<◌, ◌≤◌, ◌⊎◌, inl, inr, Bool, true, false, ◌&&◌, ◌==◌, List, [], ◌∷◌, ◌++◌, Option, Some, None, refl, ap, sym, ◌∙◌, subst, arith}
 use Rattle.std.specs.Prelude.{not, nat_lt, nat_le, filter}
 use Rattle.std.specs.List.{list_all}
-use Rattle.std.proofs.lemmas.Bool.{cond_both, cases_Bool, and_from, and_parts, eqb-true, ltb-true, both_ways, true≢false}
+use Rattle.std.proofs.lemmas.Bool.{cond_both, cases_Bool, and_from, and_parts, eqb-true, ltb-true, both_ways}
 use Rattle.std.proofs.lemmas.List.Folds.{list_all-append}
 use Rattle.ring_base.specs.Rings.{same_ring}
 use Rattle.ring_base.specs.Processors.{has, at, size}
@@ -38,9 +38,11 @@ use Rattle.ring_moves.proofs.Causes.{caused}
 use Rattle.ring_moves.proofs.Steps.{learns, proposed_token}
 use Rattle.ring_moves.proofs.Rises.{Rising, below_floor}
 use Rattle.ring_moves.proofs.Rounds.{all_taken, all_rise}
-use Rattle.ring_moves.proofs.Lists.{in-each, some-get}
-use Rattle.ring_moves.proofs.Lifting.{IsKeptInWorlds, kept_run, put-here}
-use Rattle.ring_chain.specs.Words.{IsRingOf, IsHop}
+use Rattle.ring_moves.proofs.Lists.{in-each}
+use Rattle.ring_moves.proofs.Lifting.{IsKeptInWorlds, kept_run, put-here, came_at}
+use Rattle.ring_moves.proofs.Rounds.{not_ignored}
+use Rattle.ring_chain.specs.Words.{IsRingOf}
+use Rattle.ring_chain.proofs.Words.{IsHop}
 use Rattle.ring_chain.proofs.Growing.{HasGrown, AllGrown, grown_same, moved_grows, put_grows}
 use Rattle.ring_chain.proofs.Filed.{Filed}
 use Rattle.ring_chain.proofs.Rings.{came_right, one_members}
@@ -227,9 +229,6 @@ record IsTaking {A : Type 0} (w : World A) (e : RingEvent A) (t : Taking) : Type
 abbrev TakesOne : {A : Type 0} → World A → RingEvent A → List Taking → Type 0
 TakesOne w e ts = (ts ≡ []) ⊎ ((t : Taking) × (ts ≡ t ∷ []) × IsTaking w e t)
 
-not_ignored : {A : Type 0} → (a : Act A) → is_ignored a ≡ false → a ≡ Ignore → ⊥
-not_ignored {A} a h e = true≢false (subst (λ (x : Act A). is_ignored x ≡ false) e h)
-
 module _ {A : Type 0} (w : World A) (i n : ℕ) where
   taking_unless : (b : Bool) (k : CommitToken) → is_ignored (decide (w.cores i) (FrameInput (CommitFrame k))) ≡ b → CameTo w.frames i (CommitFrame k) →
       (happens w (Deliver i n)).cores i ≡ (ring_step (w.cores i) (FrameInput (CommitFrame k))).core → TakesOne w (Deliver i n) (taken_unless b (w.cores i) k)
@@ -244,10 +243,6 @@ module _ {A : Type 0} (w : World A) (i n : ℕ) where
   taking_frame (TokenFrame t) came after = inl refl
   taking_frame (JoinFrame j) came after = inl refl
 
-  came_at : (m : ℕ) (f : Carried A) → frame_at w.frames m ≡ Some f → has f.to i ≡ true → CameTo w.frames i f.frame
-  came_at zero f e h = absurd (let x : ⊥ = cc in x)
-  came_at (suc m) f e h = some-get (λ (g : Carried A). (has g.to i ≡ true) × (g.frame ≡ f.frame)) w.frames m f e (h, refl)
-
   stepped_here : (f : Carried A) → frame_at w.frames n ≡ Some f → has f.to i ≡ true → is_node w i ≡ true →
       (happens w (Deliver i n)).cores i ≡ (ring_step (w.cores i) (FrameInput f.frame)).core
   stepped_here f e h k =
@@ -258,7 +253,7 @@ module _ {A : Type 0} (w : World A) (i n : ℕ) where
   taking_if false f e h = inl refl
   taking_if true f e h =
       let p = and_parts (has f.to i) (is_node w i) h in
-      taking_frame f.frame (came_at n f e p.0) (stepped_here f e p.0 p.1)
+      taking_frame f.frame (came_at w.frames i n f e p.0) (stepped_here f e p.0 p.1)
 
   taking_of : (o : Option (Carried A)) → frame_at w.frames n ≡ o → TakesOne w (Deliver i n) (taken_of w i o)
   taking_of None e = inl refl

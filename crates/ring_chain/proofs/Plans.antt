@@ -13,30 +13,24 @@ use Rattle.ring_moves.specs.Worlds.{Carried, put, carried_from, run, unformed}
 use Rattle.ring_moves.specs.Moves.{Move, Idles, Enters, Learns, Visits, Takes, Installs, moved, sends_of, MayMove, CameTo}
 use Rattle.ring_moves.proofs.Lists.{in-each}
 use Rattle.ring_moves.proofs.Lifting.{kept_run}
-use Rattle.ring_chain.specs.Words.{IsRingOf, AreReports, IsHop}
+use Rattle.ring_chain.specs.Words.{IsRingOf}
+use Rattle.ring_chain.proofs.Words.{IsHop}
+pub use Rattle.ring_chain.specs.Told.{IsPlan, ArePlans}
 use Rattle.ring_chain.specs.Told.{HaveOnePlan, ReportsAreSafe}
 use Rattle.ring_chain.proofs.Growing.{AllGrown, put-each, put_grows, moved_grows}
 use Rattle.ring_chain.proofs.Filed.{Filed}
 use Rattle.ring_chain.proofs.Rings.{AreRings, came_right, one_members}
 use Rattle.ring_chain.proofs.Runs.{Holds, holding, opening_holds, unformed_holds}
 
-record IsPlan {A : Type 0} (cores : ℕ → Core A) (k : CommitToken) : Type 0 where
-  pub ring_of : IsRingOf cores k.ring k.members
-  pub count : length k.entries ≡ size k.members
-  pub reports : AreReports cores k
-
-abbrev ArePlans : {A : Type 0} → (ℕ → Core A) → Type 0
-ArePlans cores = (q : ℕ) → Each (IsPlan cores) (cores q).plans
-
 plan_grows : {A : Type 0} → (old new : ℕ → Core A) → AllGrown old new → (k : CommitToken) → IsPlan old k → IsPlan new k
 plan_grows old new g k h = record { ring_of = (g k.ring.rep).rings _ h.ring_of; count = h.count; reports = λ x e s. (g (at k.members x)).reports _ (h.reports x e s) }
 
 -- all that holds, and the plans
-record HoldsPlans {A : Type 0} (cores : ℕ → Core A) (frames : List (Carried A)) : Type 0 where
+pub record HoldsPlans {A : Type 0} (cores : ℕ → Core A) (frames : List (Carried A)) : Type 0 where
   pub all : Holds cores frames
   pub plans : ArePlans cores
 
-learned_plan : {A : Type 0} → (cores : ℕ → Core A) (frames : List (Carried A)) (i : ℕ) (k : CommitToken) → Holds cores frames →
+pub learned_plan : {A : Type 0} → (cores : ℕ → Core A) (frames : List (Carried A)) (i : ℕ) (k : CommitToken) → Holds cores frames →
     MayMove (CameTo frames i) (cores i) (Learns k) → IsPlan cores k
 learned_plan cores frames i k p h =
     let f = came_right p.visits cores frames i (CommitFrame k) p.sent.right h.from in
@@ -54,7 +48,7 @@ plans_after cores frames i (Visits t fresh requests again queue) p h may = h i
 plans_after cores frames i (Takes x) p h may = h i
 plans_after cores frames i Installs p h may = h i
 
-plans_moved : {A : Type 0} → (cores : ℕ → Core A) (frames : List (Carried A)) (i : ℕ) (m : Move A) → 1 ≤ i → MayMove (CameTo frames i) (cores i) m →
+pub plans_moved : {A : Type 0} → (cores : ℕ → Core A) (frames : List (Carried A)) (i : ℕ) (m : Move A) → 1 ≤ i → MayMove (CameTo frames i) (cores i) m →
     HoldsPlans cores frames → HoldsPlans (put cores i (moved (cores i) m)) (frames ++ carried_from i (sends_of (cores i) m))
 plans_moved {A} cores frames i m low h p =
     let d = moved (cores i) m in
@@ -65,7 +59,7 @@ plans_moved {A} cores frames i m low h p =
       plans = put-each (λ q (x : Core A). Each (IsPlan new) x.plans) cores i d (λ q n. each-weaker (IsPlan cores) (IsPlan new) (plan_grows cores new g) (cores q).plans (p.plans q)) (each-weaker (IsPlan cores) (IsPlan new) (plan_grows cores new g) d.plans (plans_after cores frames i m p.all p.plans h));
     }
 
-plans_hold : {A : Type 0} → (n : ℕ) (events : List (RingEvent A)) → HoldsPlans (run (unformed n) events).cores (run (unformed n) events).frames
+pub plans_hold : {A : Type 0} → (n : ℕ) (events : List (RingEvent A)) → HoldsPlans (run (unformed n) events).cores (run (unformed n) events).frames
 plans_hold n events = kept_run HoldsPlans (record { moves = plans_moved }) (unformed n) events (record { all = opening_holds n; plans = λ q. tt })
 
 -- lists whose elements agree at each place are one
@@ -75,7 +69,7 @@ same_lists [] (y ∷ ys) e h = absurd (omega arith)
 same_lists (x ∷ xs) [] e h = absurd (omega arith)
 same_lists (x ∷ xs) (y ∷ ys) e h = ap (λ z. z ∷ xs) (h 0 x y refl refl) ∙ ap (λ zs. y ∷ zs) (same_lists xs ys (omega arith) (λ k a b s t. h (suc k) a b s t))
 
-one_plan : {A : Type 0} → (cores : ℕ → Core A) → AreRings cores → ((q : ℕ) → Filed (cores q)) → (k l : CommitToken) → IsPlan cores k → IsPlan cores l →
+pub one_plan : {A : Type 0} → (cores : ℕ → Core A) → AreRings cores → ((q : ℕ) → Filed (cores q)) → (k l : CommitToken) → IsPlan cores k → IsPlan cores l →
     k.ring ≡ l.ring → (k.members ≡ l.members) × (k.entries ≡ l.entries)
 one_plan cores are filed k l hk hl e =
     let members : k.members ≡ l.members = one_members cores are k.ring k.members l.members hk.ring_of (subst (λ r. IsRingOf cores r l.members) (sym e) hl.ring_of) in (
@@ -91,6 +85,9 @@ one_plan_in_runs n events p q k l hk hl e =
     let cores = (run (unformed n) events).cores in
     let h = plans_hold n events in
     one_plan cores (h.all).rings (h.all).filed k l (in-each (IsPlan cores) k (cores p).plans (h.plans p) hk) (in-each (IsPlan cores) l (cores q).plans (h.plans q) hl) e
+
+pub plans_in_runs : {A : Type 0} → (n : ℕ) (events : List (RingEvent A)) → ArePlans (run (unformed n) events).cores
+plans_in_runs n events = (plans_hold n events).plans
 
 pub reports_are_safe : {A : Type 0} → (n : ℕ) (events : List (RingEvent A)) → ReportsAreSafe (run (unformed n) events).cores
 reports_are_safe n events = (unformed_holds n events).safe.reports

@@ -13,7 +13,8 @@ use Rattle.ring_moves.specs.Moves.{Move, Idles, Enters, Learns, Visits, Takes, I
 use Rattle.ring_moves.proofs.Lists.{some-each}
 use Rattle.ring_moves.proofs.Lifting.{put-here}
 use Rattle.ring_moves.proofs.Rises.{Rising, moved_rises, one_ring}
-use Rattle.ring_chain.specs.Words.{Chains, IsRingOf, SharesRings, IsRight, AreRight}
+use Rattle.ring_chain.specs.Words.{Chains, IsRingOf, SharesRings}
+use Rattle.ring_chain.proofs.Words.{IsRight, AreRight}
 use Rattle.ring_chain.proofs.Growing.{AllGrown, put-each, put_grows, moved_grows}
 
 pub record AreRings {A : Type 0} (cores : ℕ → Core A) : Type 0 where

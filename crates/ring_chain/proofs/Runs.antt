@@ -10,7 +10,8 @@ use Rattle.ring_moves.proofs.Lifting.{IsKeptInWorlds, kept_run}
 use Rattle.ring_moves.proofs.Rises.{alone_rises}
 use Rattle.ring_moves.proofs.Turned.{Turned, moved_turned}
 use Rattle.ring_chain.proofs.Filed.{Filed, moved_filed}
-use Rattle.ring_chain.specs.Words.{Chains, visits_after}
+use Rattle.ring_chain.specs.Words.{Chains}
+use Rattle.ring_chain.proofs.Words.{visits_after}
 use Rattle.ring_chain.proofs.Growing.{put-each}
 use Rattle.ring_chain.proofs.Rings.{AreRings, rings_moved}
 use Rattle.ring_chain.specs.Told.{AreChains}

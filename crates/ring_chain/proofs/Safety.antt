@@ -22,7 +22,8 @@ use Rattle.ring_moves.specs.Worlds.{Carried, put}
 use Rattle.ring_moves.specs.Moves.{Move, Idles, Enters, Learns, Visits, Takes, Installs, moved, MayMove, CameTo}
 use Rattle.ring_moves.proofs.Lists.{in-each, each-in}
 use Rattle.ring_moves.proofs.Turned.{Turned}
-use Rattle.ring_chain.specs.Words.{Chains, picked, IsSafe, IsHop, AreRight}
+use Rattle.ring_chain.specs.Words.{Chains, picked, IsSafe}
+use Rattle.ring_chain.proofs.Words.{IsHop, AreRight}
 use Rattle.ring_chain.proofs.Growing.{AllGrown, put-each, put_grows, moved_grows, safe_grows}
 use Rattle.ring_chain.proofs.Rings.{came_right}
 use Rattle.ring_chain.specs.Told.{AreChains}
@@ -70,7 +71,7 @@ forwarded_picked {A} q (v ∷ vs) = one (v.who == q) (forwarded_picked q vs)
     one true e = ap (λ xs. v.turn.went.aru ∷ xs) e
     one false e = e
 
-in_picked : {A : Type 0} → (v : VisitBy A) (vs : List (VisitBy A)) → IsIn v vs → IsIn v.turn (picked v.who vs)
+pub in_picked : {A : Type 0} → (v : VisitBy A) (vs : List (VisitBy A)) → IsIn v vs → IsIn v.turn (picked v.who vs)
 in_picked v [] h = absurd h
 in_picked {A} v (w ∷ vs) (inl e) =
     let P : List (Turn A) → Type 0 = λ ts. IsIn v.turn ts in

@@ -22,7 +22,8 @@ use Rattle.ring_moves.specs.Moves.{Move, Idles, Enters, Learns, Visits, Takes, I
 use Rattle.ring_moves.proofs.Lists.{in-each, each-filter}
 use Rattle.ring_moves.proofs.Lifting.{put-here}
 use Rattle.ring_moves.proofs.Turned.{Turned}
-use Rattle.ring_chain.specs.Words.{Chains, IsGenuine, AreReports, IsHop, IsRight, AreRight, visits_after}
+use Rattle.ring_chain.specs.Words.{Chains, IsGenuine, AreReports}
+use Rattle.ring_chain.proofs.Words.{IsHop, IsRight, AreRight, visits_after}
 use Rattle.ring_chain.proofs.Growing.{AllGrown, put-each, put_grows, moved_grows, visits_grow, right_grows, all_right_grow}
 use Rattle.ring_chain.proofs.Rings.{AreRings, came_right, entered_shared}
 use Rattle.ring_chain.specs.Told.{AreChains}

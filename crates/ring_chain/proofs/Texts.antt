@@ -1,5 +1,6 @@
 -- Text: each number of a ring has one sender and payload. What is held was numbered by its sender in one of the ring's visits, and these number without overlap. What a message wraps was held by who wrapped it, so it is genuine too.
 use Rattle.std.proofs.Common.{◌≡◌, ℕ, suc, ◌+◌, ◌<◌, ◌≤◌, ◌⊎◌, inl, inr, true, ◌&&◌, List, [], ◌∷◌, length, refl, ap, sym, ◌∙◌, subst, arith}
+use Rattle.std.specs.Prelude.{reverse}
 use Rattle.std.specs.List.{AllByRecursion as Each}
 use Rattle.std.proofs.lemmas.Bool.{cond_both, cond-true, false≢true}
 use Rattle.ring_base.specs.Rings.{same_ring}
@@ -23,9 +24,11 @@ use Rattle.ring_srp.specs.Views.{mark}
 use Rattle.ring_srp.specs.Acting.{gives_old}
 use Rattle.ring_moves.specs.Facts.{IsIn, SomeIs}
 use Rattle.ring_moves.specs.Worlds.{Carried, put}
-use Rattle.ring_moves.specs.Moves.{Move, Idles, Enters, Learns, Visits, Takes, Installs, turn_with, moved, AllAreUsers, IsWrapping, MayVisit, MayMove, CameTo}
-use Rattle.ring_moves.proofs.Lists.{in-each, each-in, some-each}
-use Rattle.ring_chain.specs.Words.{Chains, IsGenuine, inner_message, WrapsGenuine, AreRight, with_visit, visits_after}
+use Rattle.ring_moves.specs.Moves.{Move, Idles, Enters, Learns, Visits, Takes, Installs, turn_with, moved, AllAreUsers, IsWrapping, MayEnd, MayVisit, MayMove, CameTo}
+use Rattle.ring_moves.proofs.Lists.{in-each, each-in, each-reverse, some-each}
+use Rattle.ring_moves.proofs.Wraps.{found_in}
+use Rattle.ring_chain.specs.Words.{Chains, IsGenuine, inner_message, WrapsGenuine}
+use Rattle.ring_chain.proofs.Words.{AreRight, with_visit, visits_after}
 use Rattle.ring_chain.proofs.Growing.{ChainsGrow, visits_grow, put-each}
 use Rattle.ring_chain.proofs.Rings.{AreRings, came_right}
 use Rattle.ring_chain.specs.Told.{AreChains}
@@ -170,11 +173,13 @@ module _ {A : Type 0} (visits : Chains A) (cores : ℕ → Core A) (frames : Lis
     handed_wraps : ChainsGrow visits after → (p : Payload A) → IsWrapping (cores i) p → WrapsGenuine after p
     handed_wraps g p (w, e, h) v k =
         let same : w ≡ v = cc in
-        subst (λ (v : WrappedMessage A). IsGenuine after (inner_message v)) same (g.genuine (inner_message w) (in-each (IsGenuine visits) (inner_message w) (cores i).held (texts.held i) h.held))
+        let there = (found_in (cores i).held w.ring w.number (inner_message w) h.held).0 in
+        let genuine = in-each (IsGenuine visits) (inner_message w) (cores i).held (texts.held i) there in
+        subst (λ (v : WrappedMessage A). IsGenuine after (inner_message v)) same (g.genuine (inner_message w) genuine)
 
-    end_wraps : (ends : List (Payload A)) → (ends ≡ []) ⊎ (ends ≡ End ∷ []) → Each (WrapsGenuine after) ends
-    end_wraps ends (inl e) = subst (Each (WrapsGenuine after)) (sym e) tt
-    end_wraps ends (inr e) = subst (Each (WrapsGenuine after)) (sym e) (λ w k. absurd (let n : ⊥ = cc in n), tt)
+    end_wraps : (wraps ends : List (Payload A)) → (ends ≡ []) ⊎ MayEnd (cores i) wraps ends → Each (WrapsGenuine after) ends
+    end_wraps wraps ends (inl e) = subst (Each (WrapsGenuine after)) (sym e) tt
+    end_wraps wraps ends (inr e) = subst (Each (WrapsGenuine after)) (sym e.one) (λ w k. absurd (let n : ⊥ = cc in n), tt)
 
     fresh_wraps : ChainsGrow visits after → (again : List (Message A)) (queue : List (Payload A)) → MayVisit (CameTo frames i) (cores i) t fresh again queue →
         Each (WrapsGenuine after) fresh
@@ -182,7 +187,8 @@ module _ {A : Type 0} (visits : Chains A) (cores : ℕ → Core A) (frames : Lis
         elim (h.state) [
           | inl r ↦ (let ws = h.wraps r in
               subst (Each (WrapsGenuine after)) (sym ws.parts)
-              (each-append (WrapsGenuine after) ws.wraps ws.ends (each-weaker (IsWrapping (cores i)) (WrapsGenuine after) (handed_wraps g) ws.wraps ws.handed) (end_wraps ws.ends ws.ended)))
+              (each-append (WrapsGenuine after) ws.wraps ws.ends
+              (each-weaker (IsWrapping (cores i)) (WrapsGenuine after) (handed_wraps g) ws.wraps ws.handed) (end_wraps ws.wraps ws.ends ws.ended)))
           | inr o ↦ each-weaker (λ (p : Payload A). is_user p ≡ true) (WrapsGenuine after) user_wraps fresh (h.users o (texts.queued i))
         ]
 
@@ -196,7 +202,9 @@ module _ {A : Type 0} (visits : Chains A) (cores : ℕ → Core A) (frames : Lis
   held_moved : (m : Move A) → MayMove (CameTo frames i) (cores i) m → Each (IsGenuine (visits_after visits i (cores i) m)) (moved (cores i) m).held
   held_moved (Visits t fresh requests again queue) h =
       let g = visits_grow visits i (cores i) (Visits t fresh requests again queue) in
-      each-append (IsGenuine (after t fresh requests)) (numbered t.ring (cores i).me t.seq fresh) (cores i).held (new_genuine t fresh requests) (each-weaker (IsGenuine visits) (IsGenuine (after t fresh requests)) g.genuine (cores i).held (texts.held i))
+      let new = numbered t.ring (cores i).me t.seq fresh in
+      each-append (IsGenuine (after t fresh requests)) (reverse new) (cores i).held (each-reverse (IsGenuine (after t fresh requests)) new (new_genuine t fresh requests))
+      (each-weaker (IsGenuine visits) (IsGenuine (after t fresh requests)) g.genuine (cores i).held (texts.held i))
   held_moved (Takes x) h = took_genuine x h.from
   held_moved (Idles state gathering shown queue sends) h = texts.held i
   held_moved (Enters k) h = texts.held i

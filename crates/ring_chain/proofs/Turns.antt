@@ -3,8 +3,7 @@ use Rattle.std.proofs.Common.{◌≡◌, ℕ, ◌+◌, ◌*◌, ◌/◌, ◌%◌
 use Rattle.std.specs.Prelude.{nat_lt}
 use Rattle.std.specs.List.{list_all}
 use Rattle.std.proofs.Math.Nat.{div-add-mod, mul-add-mod_self_left}
-use Rattle.std.proofs.lemmas.Bool.{cond_both, and_parts, ltb-true, eq-eqb, cond-true, and_from}
-use Rattle.ring_base.specs.Rings.{same_ring}
+use Rattle.std.proofs.lemmas.Bool.{cond_both, and_parts, ltb-true, eq-eqb, cond-true}
 use Rattle.ring_base.specs.Processors.{only, has, at, size, position_of, next}
 use Rattle.ring_base.specs.Members.{only_members, member_had}
 use Rattle.ring_base.specs.Elements.{at_member, position_of-at}
@@ -12,31 +11,15 @@ use Rattle.ring_base.specs.declared.ring_id.RingId.{RingId}
 use Rattle.ring_wire.specs.declared.token.Token.{Token}
 use Rattle.ring_token.specs.Turns.{Turn, first_token}
 use Rattle.ring_token.specs.Rounds.{VisitBy, arrived, AreVisits}
-use Rattle.ring_chain.specs.Words.{picked, HasArrived}
+pub use Rattle.ring_moves.proofs.Wraps.{same-self}
+use Rattle.ring_chain.specs.Words.{picked}
+use Rattle.ring_chain.proofs.Words.{HasArrived}
 
 -- Sets and positions
-
-pub same-self : (r : RingId) → same_ring r r ≡ true
-same-self r = and_from (r.seq == r.seq) (r.rep == r.rep) (eq-eqb r.seq r.seq refl) (eq-eqb r.rep r.rep refl)
 
 -- who has what was sent to one alone is that one
 pub only-is : (j i : ℕ) → 1 ≤ j → 1 ≤ i → has (only j) i ≡ true → i ≡ j
 only-is j i low other h = (only_members j i low).0 (member_had (only j) i other h)
-
-mod-next : (n m : ℕ) → (n % m + 1) % m ≡ (n + 1) % m
-mod-next n m =
-    let e : m * (n / m) + n % m ≡ n = div-add-mod n m in
-    let f : n + 1 ≡ m * (n / m) + (n % m + 1) = omega arith in
-    sym (ap (λ k. k % m) f ∙ mul-add-mod_self_left m (n / m) (n % m + 1))
-
--- the member after the one whose turn it is has the next turn
-pub next-turn : (members n : ℕ) → 0 < size members → next members (at members (n % size members)) ≡ at members ((n + 1) % size members)
-next-turn members n some =
-    let p : position_of members (at members (n % size members)) ≡ n % size members = position_of-at members (n % size members) (mod-lt n some) in
-    ap (at members) (ap (λ k. (k + 1) % size members) p ∙ mod-next n (size members))
-
-pub at-low : (members n : ℕ) → 0 < size members → 1 ≤ at members (n % size members)
-at-low members n some = ((at_member members (n % size members) (mod-lt n some)).0).0
 
 -- Numbers of tokens
 

@@ -19,7 +19,7 @@ proposed me number members own = if nat_le number max_number then Pass (proposal
 
 -- in Gather: the first round
 abbrev pub filled : ℕ → ℕ → ℕ → CommitEntry → CommitToken → Outcome
-filled me floor agreed own k = if is_at me k && is_first_round floor agreed k then Pass (hopped k (own ∷ [])) else Ignored
+filled me floor candidates own k = if is_at me k && is_first_round floor candidates k then Pass (hopped k (own ∷ [])) else Ignored
 
 -- in Commit: the second round
 abbrev pub learned : ℕ → Configuration → CommitEntry → CommitToken → Outcome

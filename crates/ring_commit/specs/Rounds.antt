@@ -28,7 +28,7 @@ is_of running k = same_ring k.ring running.ring && (k.members == running.members
 
 -- rule 5, the first round: the members are those that the node has not given up, and the ring's number is above its floor
 abbrev pub is_first_round : ℕ → ℕ → CommitToken → Bool
-is_first_round floor agreed k = nat_lt k.hop (size k.members) && (k.members == agreed) && nat_lt floor k.ring.seq
+is_first_round floor candidates k = nat_lt k.hop (size k.members) && (k.members == candidates) && nat_lt floor k.ring.seq
 
 -- the node's report in the token is what it would write now
 abbrev pub is_own : CommitEntry → Option CommitEntry → Bool

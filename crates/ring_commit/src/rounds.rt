@@ -30,10 +30,12 @@ pub fn is_at(me: Proc, token: &CommitToken) -> bool
 
 /// Whether a commit token is in its first round at a node in Gather: its members are those that the node
 /// has not given up (`proc_set` less `fail_set`), and its ring's number is above the node's floor.
-pub fn is_first_round(floor: u64, agreed: ProcSet, token: &CommitToken) -> bool
-    ensures { result ≡ is_first_round floor agreed token.now }
+pub fn is_first_round(floor: u64, candidates: ProcSet, token: &CommitToken) -> bool
+    ensures { result ≡ is_first_round floor candidates token.now }
 {
-    u32::from(token.hop) < token.members.len() && token.members == agreed && floor < token.ring.seq
+    u32::from(token.hop) < token.members.len()
+        && token.members == candidates
+        && floor < token.ring.seq
 }
 
 /// Whether a commit token is in its second round at a node that takes part in this ring: the node's own entry
@@ -101,17 +103,17 @@ pub fn propose(me: Proc, greatest: u64, members: ProcSet, own: CommitEntry) -> O
 pub fn fill(
     me: Proc,
     floor: u64,
-    agreed: ProcSet,
+    candidates: ProcSet,
     own: CommitEntry,
     mut token: CommitToken,
 ) -> Outcome
     requires { length token.entries ≡ entries_at token.hop (size token.members) }
-    ensures { result ≡ filled me floor agreed own token }
+    ensures { result ≡ filled me floor candidates own token }
 {
     if !is_at(me, &token) {
         return Outcome::Ignored;
     }
-    if !is_first_round(floor, agreed, &token) {
+    if !is_first_round(floor, candidates, &token) {
         return Outcome::Ignored;
     }
     token.hop += 1;

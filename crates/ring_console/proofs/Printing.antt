@@ -4,7 +4,7 @@ use Rattle.std.specs.Io.KnownBytes.{Appends}
 use Rattle.std.proofs.KnownBytes.{Appends-trans}
 use Rattle.std.proofs.lemmas.List.{take-append-drop}
 use Rattle.ring_object.specs.Operations.{Sequential}
-use Rattle.ring_one.proofs.Waits.{drop-next}
+use Rattle.ring_ticket.proofs.Waits.{drop-next}
 use Rattle.std.specs.Prelude.{IsSomeAnd, IfErr}
 use Rattle.ring_report.specs.declared.failure.Failure.{Failure}
 use Rattle.ring_book.specs.declared.line.Line.{Line}

@@ -1,4 +1,5 @@
 -- The network between the nodes of a script.
+-- Pump, of docs/FORMATS.md.
 use Rattle.std.specs.Prelude.{ℕ, zero, suc, ◌-◌, Bool, true, List, [], ◌∷◌, ◌++◌, map, Option, Some, None, slice_get, slice_index, if◌then◌else◌}
 use Rattle.ring_base.specs.Processors.{has, elements}
 use Rattle.ring_book.specs.declared.frame_ref.FrameRef.{FrameRef}

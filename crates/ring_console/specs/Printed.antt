@@ -1,10 +1,11 @@
 -- The lines that a script prints.
+-- What a script prints, of docs/FORMATS.md.
 use Rattle.std.specs.Prelude.{ℕ, List, ◌++◌, flat_map, codes}
 use Rattle.std.specs.Fmt.{decimal}
 use Rattle.hex.specs.Hex.{encode_lower}
 use Rattle.ring_base.specs.Rings.{ring_text}
 use Rattle.ring_base.specs.declared.ring_id.RingId.{RingId}
-use Rattle.ring_one.specs.declared.outs.Answered.{Answered}
+use Rattle.ring_ticket.specs.declared.answered.Answered.{Answered}
 use Rattle.ring_report.specs.Texts.{line_of}
 use Rattle.ring_session.specs.declared.answer.Answer.{Answer}
 use Rattle.ring_session.specs.declared.answer.Answer.TheVariants.{Done, Kept, Refused}

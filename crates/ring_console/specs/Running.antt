@@ -1,4 +1,5 @@
 -- What the lines of a script do to the book and to the network, and what they print.
+-- Scripts, and What a script prints, of docs/FORMATS.md.
 use Rattle.std.specs.Prelude.{◌≡◌, ℕ, zero, suc, ◌+◌, ◌-◌, ◌^◌, ◌<◌, ◌≤◌, ◌⊎◌, Bool, true, false, min, List, [], ◌∷◌, ◌++◌, length, drop, Option, None, Some, MatchOption, IsSome, IsSomeAnd, slice_get, if◌then◌else◌, ⊤}
 use Rattle.std.specs.List.{AllByRecursion}
 use Rattle.std.specs.Option.{option_and_then}

@@ -1,5 +1,6 @@
 -- Values told by a tag: a list of cases, each a tag, the format of what stands behind it, and the value that is
 -- made of that.
+-- Numbers and parts, of docs/FORMATS.md.
 use Rattle.std.proofs.Common.{◌≡◌, ℕ, Bool, true, false, eqb, cond, List, [], ◌∷◌, Option, None, sym, subst, ◌∙◌, inl, inr}
 use Rattle.std.specs.Prelude.{◌==◌, if◌then◌else◌}
 use Rattle.std.proofs.lemmas.Bool.{eqb-true, cases_Bool}

@@ -1,4 +1,5 @@
 -- Formats put together, each with the law that its reading is exact.
+-- Numbers and parts, of docs/FORMATS.md.
 use Rattle.std.proofs.Common.{◌≡◌, ℕ, ◌^◌, ◌<◌, Bool, true, List, [], ◌∷◌, ◌++◌, length, Option, refl, ap, subst, ◌∙◌}
 use Rattle.std.specs.List.{flat_map, AllByRecursion}
 use Rattle.byteorder.specs.Endian.{big_bytes}

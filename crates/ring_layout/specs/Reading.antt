@@ -1,4 +1,5 @@
 -- What it means to read a value from the front of bytes, and how such readings are put together.
+-- Numbers and parts, of docs/FORMATS.md.
 use Rattle.std.specs.Prelude.{◌≡◌, ℕ, zero, suc, ◌+◌, ◌≤◌, ◌^◌, ◌<◌, Bool, List, [], ◌∷◌, ◌++◌, length, take, drop, slice_index, Option, Some, None, Result, Ok, Err, nat_lt, ◌==◌, if◌then◌else◌}
 use Rattle.bytes.specs.Filled.{Filled}
 use Rattle.byteorder.specs.Endian.{big_number}

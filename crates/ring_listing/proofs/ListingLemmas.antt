@@ -1,6 +1,6 @@
 -- How frames are taken from the front of an input, and how a listing goes on.
-use Rattle.std.proofs.Common.{◌≡◌, ℕ, ◌+◌, ◌-◌, ◌≤◌, List, [], ◌∷◌, ◌++◌, length, take, drop, Option, Some, None, Result, Ok, Err, refl, sym, ap, subst, ◌∙◌, arith, append_assoc}
-use Rattle.std.specs.Prelude.{IfOk, IfErr, IsErrAnd}
+use Rattle.std.proofs.Common.{◌≡◌, ℕ, ◌+◌, ◌-◌, ◌≤◌, true, false, List, [], ◌∷◌, ◌++◌, length, take, drop, Option, Some, None, Result, Ok, Err, refl, sym, ap, subst, ◌∙◌, arith, append_assoc}
+use Rattle.std.specs.Prelude.{IsSome, IfSome, OnOk, IfErr, IsErrAnd}
 use Rattle.std.specs.Io.Iter.{u64_saturate}
 use Rattle.std.specs.Io.KnownBytes.{Keeps, Appends, Consumes, IsAtEnd, prepend_known}
 use Rattle.std.proofs.lemmas.List.{take-append-drop, take_at, take-append-le, append-nil, take_all, drop-drop, length-drop, length-append, flat_map_more}
@@ -39,6 +39,15 @@ got_front bytes start n frame got =
     let left = length-drop n rest in
     let size : length (take n rest) ≡ n = omega arith in
     (parts ∙ ap (λ (t : List ℕ). t ++ drop n rest) front ∙ ap (λ (t : List ℕ). spelling_of frame ++ t) after, sym (ap length front) ∙ size)
+
+-- a frame that was got from there and put into its place is the next
+pub next_put : {A : Type 0} (bytes : List ℕ) (start n from to : ℕ) (place : Option (Frame A)) → IsSome place
+    → IfSome place (λ (frame : Frame A). IsGot spelling_of FrameFits (take (length bytes - start) (drop start bytes)) frame n) → to ≡ u64_saturate (from + n)
+    → IsNext (Some (drop start bytes)) (Some (drop (start + n) bytes)) from to place
+next_put bytes start n from to None some got place = absurd (let no : false ≡ true = some in cc)
+next_put bytes start n from to (Some frame) some got place =
+    let front = got_front bytes start n frame got in
+    (got.fits, front.0, place ∙ ap (λ (m : ℕ). u64_saturate (from + m)) (sym front.1))
 
 -- where so many bytes begin with no frame, more of them don't either
 pub none_longer : (A : Type 0) (bytes more : List ℕ) → 8192 ≤ length bytes → BeginsWithNone A bytes → BeginsWithNone A (bytes ++ more)
@@ -106,16 +115,12 @@ stop_after A old mid from state Output kept stop = absurd stop
 
 -- ---- a result's facts
 
--- what is told of a value at `Ok`, where that is the result
-pub value_at_ok : {T E : Type 0} (r : Result T E) (P : T → Type 0) (x : T) → IfOk r P → r ≡ Ok x → P x
-value_at_ok {T} {E} r P x told is = let both : IfOk {E = E} (Ok x) P = subst (λ (q : Result T E). IfOk q P) is told in both
+-- what follows at `Ok` from two facts there
+pub both_at_ok : {T E : Type 0} (r : Result T E) (P Q R : Type 0) → OnOk r P → OnOk r Q → (P → Q → R) → OnOk r R
+both_at_ok (Ok x) P Q R p q more = more p q
+both_at_ok (Err e) P Q R p q more = tt
 
--- what follows at `Ok` from what is told there
-pub weaker_at_ok : {T E : Type 0} (r : Result T E) (P Q : T → Type 0) → IfOk r P → ((x : T) → r ≡ Ok x → P x → Q x) → IfOk r Q
-weaker_at_ok (Ok x) P Q told more = more x refl told
-weaker_at_ok (Err e) P Q told more = tt
-
--- the same at `Err`
+-- what follows at `Err` from what is told there
 pub weaker_at_err : {T E : Type 0} (r : Result T E) (P Q : E → Type 0) → IfErr r P → ((e : E) → P e → Q e) → IfErr r Q
 weaker_at_err (Ok x) P Q told more = tt
 weaker_at_err (Err e) P Q told more = more e told

@@ -1,4 +1,5 @@
 -- How frames stand in a listing: a line each.
+-- Listing frames, of docs/FORMATS.md.
 use Rattle.std.specs.Prelude.{ℕ, List, [], ◌∷◌, ◌++◌, length, flat_map, codes, Option, Some, None, ◌==◌, if◌then◌else◌}
 use Rattle.std.specs.Fmt.{decimal}
 use Rattle.std.specs.List.{join_by}

@@ -1,4 +1,5 @@
 -- Frames that stand one after another in an input, and what is listed of them.
+-- Listing frames, of docs/FORMATS.md.
 use Rattle.std.specs.Prelude.{◌≡◌, ℕ, ◌+◌, List, length, drop, All, IfSome, Option, Some, None, flat_map}
 use Rattle.std.specs.Io.Iter.{u64_saturate}
 use Rattle.std.specs.Io.KnownBytes.{Keeps, Appends, Consumes, IsAtEnd, prepend_known}

@@ -4,7 +4,7 @@ ghost use Rattle.std.specs.Prelude.{◌≤◌, vec_len};
 
 use ring_base::Fault;
 use ring_report::Failure;
-use ring_wire::{Frame, Wire};
+use ring_wire::Frame;
 use std::alloc::Allocator;
 use std::io::{ErrorKind, Read};
 use std::mem;
@@ -63,39 +63,41 @@ impl<A: Allocator + Copy> Ahead<A> {
         }
     }
 
-    /// The next frame, none at the end of the input. `BadFrame` where the rest begins with none, at byte 0
-    /// where reading failed.
+    /// Puts the next frame into its place, or none at the end of the input: no frame is moved. `BadFrame` where the
+    /// rest begins with none, at byte 0 where reading failed.
     pub fn next_frame<R: Read>(
         &mut self,
         alloc: A,
         input: &mut R,
-    ) -> Result<Option<Frame<A>>, Failure>
+        next: &mut Option<Frame<A>>,
+    ) -> Result<(), Failure>
         requires { IsEndRight self.old (R.remaining input.old) }
-        ensures next { IfOk result (IsNext (left_of self.old (R.remaining input.old))
-            (left_of self.new (R.remaining input.new)) self.old.position self.new.position) }
+        ensures next { OnOk result (IsNext (left_of self.old (R.remaining input.old))
+            (left_of self.new (R.remaining input.new)) self.old.position self.new.position next.new) }
         ensures ended { OnOk result (IsEndRight self.new (R.remaining input.new)) }
         ensures stopped { IfErr result (IsStop A (left_of self.old (R.remaining input.old)) self.old.position self.new.state) }
     {
         self.read_enough(input)?;
-        self.take_frame(alloc)
+        self.take_frame(alloc, next)
     }
 
-    /// The frame at the front of what was read ahead.
-    fn take_frame(&mut self, alloc: A) -> Result<Option<Frame<A>>, Failure>
-        ensures next { IfOk result (IsNext (Some (untaken self.old)) (Some (untaken self.new)) self.old.position self.new.position) }
-        ensures ended { IfOk result (λ next. next ≡ None → self.old.state ≡ Ended) }
+    /// Puts the frame at the front of what was read ahead into its place.
+    fn take_frame(&mut self, alloc: A, next: &mut Option<Frame<A>>) -> Result<(), Failure>
+        ensures next { OnOk result (IsNext (Some (untaken self.old)) (Some (untaken self.new)) self.old.position self.new.position next.new) }
+        ensures ended { OnOk result (next.new ≡ None → self.old.state ≡ Ended) }
         ensures state { self.new.state ≡ self.old.state }
         ensures stopped { IfErr result (IsStop A (Some (untaken self.old)) self.old.position self.old.state) }
     {
         let rest = &self.bytes[self.taken..];
         if rest.is_empty() && self.state == State::Ended {
-            return Ok(None);
+            *next = None;
+            return Ok(());
         }
-        match Frame::get(alloc, rest) {
-            Ok((frame, length)) => {
+        match Frame::get_into(alloc, rest, next) {
+            Ok(length) => {
                 self.taken += length;
                 self.position = self.position.saturating_add(length as u64);
-                Ok(Some(frame))
+                Ok(())
             }
             Err(Fault::BadFrame) if self.state == State::Failed => Err(Failure::BadFrame(0)),
             Err(Fault::BadFrame) => Err(Failure::BadFrame(self.position)),

@@ -58,11 +58,13 @@ fn list_frames<A: Allocator + Copy, R: Read, W: Write>(
     ensures cut { IfErr result (IsCut A (R.remaining input.old) (W.contents out.old) (W.contents out.new)) }
 {
     let mut ahead = Ahead::new(alloc)?;
+    let mut next = None;
     for _ in 0..u64::MAX {
-        let Some(frame) = ahead.next_frame(alloc, input)? else {
+        ahead.next_frame(alloc, input, &mut next)?;
+        let Some(frame) = &next else {
             return Ok(());
         };
-        print_frame(out, &frame)?;
+        print_frame(out, frame)?;
     }
     Err(Failure::Output)
 }

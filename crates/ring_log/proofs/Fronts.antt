@@ -1,5 +1,5 @@
 -- One Part more, and what a front takes of a list.
-use Rattle.std.proofs.Common.{◌≡◌, ℕ, zero, suc, ◌+◌, List, [], ◌∷◌, ◌++◌, length, take, refl, ap, sym, ◌∙◌, arith, ◌-◌, drop}
+use Rattle.std.proofs.Common.{◌≡◌, ℕ, zero, suc, ◌+◌, List, [], ◌∷◌, ◌++◌, length, take, refl, ap, ◌∙◌, arith, ◌-◌, drop}
 use Rattle.std.specs.Prelude.{map, min}
 use Rattle.std.proofs.lemmas.List.{map-append, take_min, take_all, length-drop}
 use Rattle.ring_base.specs.Numbers.{numbers_from}

@@ -1,15 +1,19 @@
--- Worked heads: which log an exchange goes by, what is wanted of it, and in which Parts it comes. The replicated log, rules 2 to 6 of docs/PROTOCOL.md.
+-- Worked heads: which log an exchange goes by, what is wanted of it, and in which Parts it comes; and a worked life, with the logs that it makes. The replicated log, rules 2 to 6, 11 and 12 of docs/PROTOCOL.md.
 use Rattle.std.specs.Prelude.{ℕ, List, [], ◌∷◌, map, Option, Some, None}
 use Rattle.std.specs.declared.alloc.Global.{Global}
+use Rattle.ring_base.specs.Group.{Group}
 use Rattle.ring_base.specs.Numbers.{numbers_from}
+use Rattle.ring_base.specs.declared.ring_id.RingId.{RingId}
 use Rattle.ring_payload.specs.declared.call.Call.{Call as OneCall}
 use Rattle.ring_payload.specs.declared.calls.Part.{Part as OnePart}
 use Rattle.ring_payload.specs.declared.head.Head.{Head as OneHead}
-use Rattle.ring_payload.specs.declared.content.Payload.TheVariants.{Head, Part}
+use Rattle.ring_payload.specs.declared.content.Payload.{Payload}
+use Rattle.ring_payload.specs.declared.content.Payload.TheVariants.{Call as CallPayload, Head, Part, Pack}
+use Rattle.ring_wire.specs.declared.message.Message.{Message}
 use Rattle.ring_log.specs.declared.base.Base.{Base}
 use Rattle.ring_log.specs.declared.wanted.Wanted.{Wanted}
-use Rattle.ring_log.specs.Exchanges.{Exchange, opened, heard, wanted, base_at}
-use Rattle.ring_log.specs.Parts.{parts_of}
+use Rattle.ring_log.specs.Exchanges.{Exchange, opened, heard}
+use Rattle.ring_log.specs.Stays.{Stay, stay_in, born, hears, marks}
 
 -- a Head of a log whose last primary is the ring of this number that processor 1 represents
 abbrev pub head_at : ℕ → ℕ → ℕ → OneHead
@@ -50,3 +54,51 @@ after_one_part = heard unequal 1 (Part (part_at 9 7))
 
 abbrev pub unequal_base : Option (Base Global)
 unequal_base = Some (record { from = 9; calls = calls_from 9 11 })
+
+-- A life of processor 2 in a group of three: in its first ring a call is heard after the three Heads; then it is alone; then its next primary ring brings the log of processor 1, which has a call more
+
+abbrev pub group_of_three : Group
+group_of_three = record { count = 3; votes = 1 ∷ 1 ∷ 1 ∷ [] }
+
+abbrev pub ring_of : ℕ → ℕ → RingId
+ring_of seq rep = record { seq = seq; rep = rep }
+
+abbrev pub message_of : RingId → ℕ → ℕ → Payload Global → Message Global
+message_of ring number sender payload = record { ring = ring; number = number; sender = sender; payload = payload }
+
+-- a Head of a log that no ring was adopted for
+abbrev pub empty_head : OneHead
+empty_head = record { last = None; length = 0; committed = 0; trimmed = 0 }
+
+-- numbers 1 to 3 were the members' Ends
+abbrev pub first_heard : List (Message Global)
+first_heard =
+    message_of (ring_of 1 1) 4 1 (Head empty_head)
+    ∷ message_of (ring_of 1 1) 5 2 (Head empty_head)
+    ∷ message_of (ring_of 1 1) 6 3 (Head empty_head)
+    ∷ message_of (ring_of 1 1) 7 2 (CallPayload (call_of_seven 1))
+    ∷ []
+
+abbrev pub heard_all : List (Message Global) → List (Stay Global) → List (Stay Global)
+heard_all [] life = life
+heard_all (x ∷ xs) life = heard_all xs (hears x life)
+
+-- all was heard, and what is safe ends with this number
+abbrev pub first_life : ℕ → List (Stay Global)
+first_life mark = marks mark (heard_all first_heard (stay_in (ring_of 1 1) 7 ∷ born 2))
+
+abbrev pub alone : List (Stay Global)
+alone = stay_in (ring_of 2 2) 2 ∷ first_life 7
+
+-- a Pack comes after the exchange, which the Part of processor 1 ended
+abbrev pub second_heard : List (Message Global)
+second_heard =
+    message_of (ring_of 3 1) 4 1 (Head (head_at 1 2 1))
+    ∷ message_of (ring_of 3 1) 5 2 (Head (head_at 1 1 1))
+    ∷ message_of (ring_of 3 1) 6 3 (Head (head_at 1 1 0))
+    ∷ message_of (ring_of 3 1) 7 1 (Part (record { first = 0; calls = calls_from 1 2 }))
+    ∷ message_of (ring_of 3 1) 8 3 (Pack (record { calls = calls_from 3 2 }))
+    ∷ []
+
+abbrev pub second_life : ℕ → List (Stay Global)
+second_life mark = marks mark (heard_all second_heard (stay_in (ring_of 3 1) 7 ∷ alone))

@@ -9,8 +9,9 @@ use Rattle.ring_payload.specs.declared.call.Call.{Call as OneCall}
 use Rattle.ring_payload.specs.declared.head.Head.{Head as OneHead}
 use Rattle.ring_payload.specs.Kinds.{calls_of}
 use Rattle.ring_wire.specs.declared.message.Message.{Message}
+use Rattle.ring_log.specs.declared.base.Base.{Base}
 use Rattle.ring_log.specs.declared.wanted.Wanted.{Wanted}
-use Rattle.ring_log.specs.Exchanges.{Exchange, opened, heard, is_whole, wanted, base_from, based}
+use Rattle.ring_log.specs.Exchanges.{Exchange, opened, heard, is_whole, wanted, handed_out, relieved, based}
 use Rattle.ring_log.specs.Logs.{Log, head_of, begins, is_log_length}
 use Rattle.ring_log.specs.Stays.{Stay}
 
@@ -37,6 +38,11 @@ abbrev pub after_all : {A : Type 0} → Exchange A → List (Message A) → Exch
 after_all e [] = e
 after_all e (x ∷ xs) = after_all (heard_by e x) xs
 
+-- what a member keeps of it that hands out the calls as it becomes whole
+abbrev pub heard_on : {A : Type 0} → Exchange A → List (Message A) → Exchange A
+heard_on e [] = e
+heard_on e (x ∷ xs) = heard_on (relieved (heard_by e x)) xs
+
 -- the exchange of a ring of these members, by what was heard there; none in a ring that isn't primary
 abbrev pub exchanged : {A : Type 0} → Group → ℕ → List (Message A) → Option (Whole A)
 exchanged group members text = if is_primary group members then whole_from (opened members) text else None
@@ -48,6 +54,12 @@ end_by (Some w) = Some w.end
 
 abbrev pub exchange_end : {A : Type 0} → Group → ℕ → List (Message A) → Option ℕ
 exchange_end group members text = end_by (exchanged group members text)
+
+-- the base of an exchange that wasn't whole before, and is now
+abbrev pub base_ending : {A : Type 0} → Option (Whole A) → Option (Whole A) → Option (Base A)
+base_ending (Some old) now = None
+base_ending None None = None
+base_ending None (Some w) = handed_out w.exchange
 
 -- Log and last primary: the base of the newest ring that was adopted, and the calls heard there after its exchange
 

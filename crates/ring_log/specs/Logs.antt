@@ -1,7 +1,8 @@
 -- A node's log, and what changes it: The replicated log, rules 1, 6, 8, 9, 11 and 12 of docs/PROTOCOL.md.
-use Rattle.std.specs.Prelude.{ℕ, ◌+◌, max, min, Bool, ◌==◌, ◌&&◌, nat_le, List, [], ◌∷◌, ◌++◌, length, take, Option, Some, None}
+use Rattle.std.specs.Prelude.{ℕ, ◌≤◌, max, min, Bool, ◌==◌, ◌&&◌, nat_le, List, [], ◌∷◌, ◌++◌, length, take, Option, Some, None}
 use Rattle.std.specs.Cmp.Lexicographic.{pointwise}
 use Rattle.std.specs.Str.{bytes_eq}
+use Rattle.ring_base.specs.Fronts.{IsFront}
 use Rattle.ring_base.specs.Numbers.{max_number}
 use Rattle.ring_base.specs.declared.ring_id.RingId.{RingId}
 use Rattle.ring_payload.specs.declared.call.Call.{Call as OneCall}
@@ -54,3 +55,14 @@ is_log_length n = nat_le n max_number
 -- a base may be adopted: it begins with the committed places, and isn't too long
 abbrev pub is_adoptable : {A : Type 0} → Log A → Base A → Bool
 is_adoptable log base = begins (committed_calls log) (based log.calls base) && is_log_length (length (based log.calls base))
+
+-- What stays
+
+-- no more places are committed than there are
+abbrev pub IsLog : {A : Type 0} → Log A → Type 0
+IsLog log = log.committed ≤ length log.calls
+
+-- the new log is one, and its committed places begin with those of the old one
+pub record KeepsCommitted {A : Type 0} (old new : Log A) : Type 0 where
+  pub log : IsLog new
+  pub front : IsFront (committed_calls old) (committed_calls new)

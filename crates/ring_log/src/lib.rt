@@ -2,17 +2,20 @@
 #![tactic(auto)]
 
 mod base;
+mod begins;
 mod examples;
 mod exchange;
 mod heads;
+mod laws;
 mod log;
 mod parts;
 mod stated;
 mod wanted;
 
 pub use base::Base;
-pub use examples::{chosen_logs, wanted_parts};
+pub use examples::{chosen_logs, lived_logs, wanted_parts};
 pub use exchange::Exchange;
+pub use laws::{committed_law, exchange_law};
 pub use log::Log;
 pub use stated::Stated;
 pub use wanted::Wanted;

@@ -3,9 +3,10 @@
 ghost use Rattle.std.specs.Prelude.{◌≡◌, ◌+◌, length, IfOk, IfErr, OnOk, OnErr};
 ghost use Rattle.ring_base.specs.declared.fault.Fault.TheVariants.{Memory};
 ghost use Rattle.ring_log.specs.Parts.{parts_between};
-ghost use Rattle.ring_log.specs.Logs.{empty, appended, adopted, committed_upto, committed_calls, head_of, is_log_length};
+ghost use Rattle.ring_log.specs.Logs.{empty, appended, adopted, committed_upto, committed_calls, head_of, is_log_length, is_adoptable};
 
 use crate::base::Base;
+use crate::begins::begins;
 use crate::parts::parts_of;
 use crate::wanted::Wanted;
 use ring_base::{Fault, MAX, RingId};
@@ -65,6 +66,18 @@ impl<A: Allocator + Copy> Log<A> {
         self.calls.append(&mut calls)?;
         self.last = Some(ring);
         Ok(())
+    }
+
+    /// Whether a base may be adopted: it begins with the committed places, and makes no log of more than 2^62 places. The
+    /// places that the log keeps aren't looked at.
+    pub fn may_adopt(&self, base: &Base<A>) -> bool
+        ensures { result ≡ is_adoptable self.now base.now }
+    {
+        let committed = self.committed_calls();
+        let same = committed.len().min(base.from as usize);
+        let kept = self.length().min(base.from);
+        let brought = base.calls.as_slice();
+        begins(&committed[same..], brought) && is_length(kept, brought.len() as u64)
     }
 
     /// Raises the committed length to n, or to the length where that is less. It never falls.
@@ -127,7 +140,7 @@ impl<A: Allocator + Copy> Log<A> {
     pub fn has_room(&self, more: u64) -> bool
         ensures { result ≡ is_log_length (length self.now.calls + more) }
     {
-        self.length() <= MAX && more <= MAX - self.length()
+        is_length(self.length(), more)
     }
 
     /// The Parts of the places that an exchange wants of this log, its owner's: 7 places in each, the last perhaps
@@ -143,4 +156,11 @@ impl<A: Allocator + Copy> Log<A> {
         }
         parts_of(alloc, wanted.from, &self.calls[from..end])
     }
+}
+
+/// Whether a log may have these places, and so many more.
+fn is_length(places: u64, more: u64) -> bool
+    ensures { result ≡ is_log_length (places + more) }
+{
+    places <= MAX && more <= MAX - places
 }

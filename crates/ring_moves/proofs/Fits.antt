@@ -3,7 +3,7 @@ use Rattle.std.proofs.Common.{◌≡◌, ℕ, zero, suc, ◌+◌, ◌-◌, ◌�
 use Rattle.std.specs.Cmp.Lexicographic.{pointwise}
 use Rattle.std.specs.List.{AllByRecursion}
 use Rattle.std.proofs.lemmas.Bool.{cond_both, cond-true, and_parts, or_parts, or_cases, or_right, ltb-false, leb-true, eqb-true}
-use Rattle.std.specs.Prelude.{nat_eq}
+use Rattle.std.specs.Prelude.{nat_eq, reverse}
 use Rattle.ring_base.specs.Numbers.{window_size}
 use Rattle.ring_base.specs.Rings.{same_ring}
 use Rattle.ring_base.specs.declared.ring_id.RingId.{RingId}
@@ -32,8 +32,10 @@ use Rattle.ring_srp.specs.State.{Core, opening}
 use Rattle.ring_srp.specs.Views.{front, mark, own_entry, takes_number}
 use Rattle.ring_srp.specs.Acting.{gives_old}
 use Rattle.ring_srp.specs.Stepping.{after_inputs}
+pub use Rattle.ring_moves.specs.Standing.{Within, IsFit, Fit}
 use Rattle.ring_moves.specs.Moves.{Move, Idles, Enters, Learns, Visits, Takes, Installs, held_in, turn_with, moved, MayMove}
 use Rattle.ring_base.proofs.Each.{each-weaker, each-append}
+use Rattle.ring_moves.proofs.Lists.{each-reverse}
 use Rattle.ring_moves.proofs.Everywhere.{IsKept, always}
 
 -- Lists of facts
@@ -47,18 +49,6 @@ pub front-append : {A : Type 0} → (xs ys : List (Message A)) (r : RingId) → 
 front-append xs ys r = front_grows ys (xs ++ ys) r (λ n h. holds-append xs ys r n h)
 
 -- The invariant, over the facts alone
-
--- the message is within the window
-abbrev pub Within : {A : Type 0} → List (Turn A) → List Raise → Message A → Type 0
-Within turns raises x = x.number ≤ safe_mark turns raises x.ring + window_size
-
-pub record IsFit {A : Type 0} (held : List (Message A)) (turns : List (Turn A)) (raises : List Raise) : Type 0 where
-  pub window : AllByRecursion (λ (x : Message A). Within turns raises x) held
-  pub visits : AllByRecursion (λ (v : Turn A). v.went.aru ≤ front_of held v.came.ring) turns
-  pub raised : AllByRecursion (λ (x : Raise). x.mark ≤ front_of held x.ring) raises
-
-abbrev pub Fit : {A : Type 0} → Core A → Type 0
-Fit c = IsFit c.held c.turns c.raises
 
 more_held : {A : Type 0} → (xs held : List (Message A)) (turns : List (Turn A)) (raises : List Raise) → AllByRecursion (λ (x : Message A). Within turns raises x) xs → IsFit held turns raises → IsFit (xs ++ held) turns raises
 more_held {A} xs held turns raises h f =
@@ -133,7 +123,8 @@ aru_below me f t = cond_both (may_set me f t) f t.aru (λ a. a ≤ f) (λ e. ome
 visited_fits : {A : Type 0} → (c : Core A) (t : Token) (fresh : List (Payload A)) (requests : List ℕ) → length fresh ≤ mark c t.ring + window_size - t.seq → Fit c → IsFit (held_in c t fresh) (turn_with c t fresh requests ∷ c.turns) c.raises
 visited_fits c t fresh requests h f =
     more_turns (turn_with c t fresh requests) (held_in c t fresh) c.turns c.raises (aru_below c.me (front_of (held_in c t fresh) t.ring) t)
-    (more_held (numbered t.ring c.me t.seq fresh) c.held c.turns c.raises (numbered_below c.turns c.raises t.ring c.me t.seq fresh h) f)
+    (more_held (reverse (numbered t.ring c.me t.seq fresh)) c.held c.turns c.raises
+    (each-reverse (Within c.turns c.raises) (numbered t.ring c.me t.seq fresh) (numbered_below c.turns c.raises t.ring c.me t.seq fresh h)) f)
 
 -- Learning
 

@@ -1,5 +1,6 @@
 -- The new messages of each visit: in Operational what a queue makes, in Recovery what is wrapped and the End.
 use Rattle.std.proofs.Common.{◌≡◌, ℕ, ◌≤◌, Bool, true, false, ◌&&◌, List, [], ◌∷◌, ◌++◌, length, refl, sym, ap, subst, ◌∙◌, inl, inr, ◌⊎◌, arith, append_assoc}
+use Rattle.std.specs.Prelude.{reverse}
 use Rattle.std.proofs.lemmas.Bool.{and_parts}
 use Rattle.ring_base.specs.Rings.{same_ring}
 use Rattle.ring_base.specs.declared.ring_id.RingId.{RingId}
@@ -71,7 +72,7 @@ fresh_of {A} c t a q =
     record {
       few = omega arith;
       numbered = omega arith;
-      made = subst (λ (r : RingId). AreOfQueue (new_payloads c t) ⊎ AreOfRecovery c.me r (held_after c t) (new_payloads c t)) (sym (accepted_ring c t a)) (offered c.state c (new_messages c t) (room_at c t) q);
+      made = subst (λ (r : RingId). AreOfQueue (new_payloads c t) ⊎ AreOfRecovery c.me r (held_after c t) (new_payloads c t)) (sym (accepted_ring c t a)) (offered c.state c (reverse (new_messages c t)) (room_at c t) q);
     }
 
 -- Each act, and a step
@@ -91,7 +92,7 @@ act_made c (RegatherAndWiden j) g m = record { queued = tt; fresh = m.fresh }
 act_made c (Take x) g m =
     record { queued = m.queued; fresh = still_fresh c.me (gives_old c.state c x) (x ∷ c.held) c.turns (still_fresh c.me (x ∷ []) c.held c.turns m.fresh) }
 act_made c (Visit t) g m =
-    record { queued = queue_each (λ (p : Payload _). is_queued p ≡ true) c.state (room_at c t) c.queue m.queued; fresh = (fresh_of c t g.1 m.queued, still_fresh c.me (new_messages c t) c.held c.turns m.fresh) }
+    record { queued = queue_each (λ (p : Payload _). is_queued p ≡ true) c.state (room_at c t) c.queue m.queued; fresh = (fresh_of c t g.1 m.queued, still_fresh c.me (reverse (new_messages c t)) c.held c.turns m.fresh) }
 act_made c (Fill k) g m = m
 act_made c (Learn k) g m = m
 

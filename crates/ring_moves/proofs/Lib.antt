@@ -2,6 +2,7 @@ pub mod Lists
 pub mod Agreeing
 pub mod Guards
 pub mod Causes
+pub mod Wraps
 pub mod Steps
 pub mod Everywhere
 pub mod Lifting
@@ -10,5 +11,6 @@ pub mod Fits
 pub mod Agrees
 pub mod Turned
 pub mod Fresh
+pub mod Ended
 pub mod Rounds
 pub mod Worlds

@@ -78,7 +78,7 @@ told_from c ring f m =
     (each-map IsTold (λ x. Agreed ring x.number x) (users c ring f (front c ring)) (each-in _ _ (λ x k i. refl)))
     (cond_both (nat_lt m (mark c ring)) (Safe ring (mark c ring) ∷ []) [] (Each IsTold) (λ e. (λ i. refl, tt)) (λ e. tt))
 
-told_configured : {A : Type 0} → (c : Core A) → Each IsTold (configured c)
+pub told_configured : {A : Type 0} → (c : Core A) → Each IsTold (configured c)
 told_configured c = (
   λ i. refl,
   each-append IsTold (map (λ x. Rest x.ring x.number x) (rests (plan c) c.held)) (Regular c.running.ring c.running.members ∷ delivered_from c c.running.ring 0 0)
@@ -90,6 +90,11 @@ pub outs_carried : {A : Type 0} → (i : ℕ) (sends : List (Sent A)) (told : Li
     filter_map (carried_by i) (sent sends ++ told) ≡ carried_from i sends
 outs_carried i sends told h =
     filter_map-append (carried_by i) (sent sends) told ∙ ap (λ xs. filter_map (carried_by i) (sent sends) ++ xs) (none_carried i told h) ∙ append-nil _ ∙ sends_carried i (addressed sends)
+
+-- a frame that was sent to a processor came to it
+pub came_at : {A : Type 0} → (frames : List (Carried A)) (i n : ℕ) (f : Carried A) → frame_at frames n ≡ Some f → has f.to i ≡ true → CameTo frames i f.frame
+came_at frames i zero f e h = absurd cc
+came_at {A} frames i (suc n) f e h = some-get (λ (g : Carried A). (has g.to i ≡ true) × (g.frame ≡ f.frame)) frames n f e (h, refl)
 
 -- Moves
 
@@ -172,10 +177,6 @@ module _ {A : Type 0} (P : (ℕ → Core A) → List (Carried A) → Type 0) (k 
       Kept (handed w i o)
   kept_found w i None came p = p
   kept_found w i (Some f) came p = kept_handed (has f.to i) w i f.frame (came f refl) p
-
-  came_at : (frames : List (Carried A)) (i n : ℕ) (f : Carried A) → frame_at frames n ≡ Some f → has f.to i ≡ true → CameTo frames i f.frame
-  came_at frames i zero f e h = absurd cc
-  came_at frames i (suc n) f e h = some-get (λ (g : Carried A). (has g.to i ≡ true) × (g.frame ≡ f.frame)) frames n f e (h, refl)
 
   kept_event : (w : World A) (e : RingEvent A) → Kept w → Kept (happens w e)
   kept_event w (Send i payload) p = kept_stepped (is_node w i) w i (SendInput payload) (node_low w i) (λ f e. absurd cc) p

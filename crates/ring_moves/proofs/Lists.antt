@@ -1,9 +1,11 @@
 -- Lists of facts: what stands in them, and what is so of each.
-use Rattle.std.proofs.Common.{◌≡◌, ℕ, zero, suc, ◌-◌, ◌≤◌, ◌⊎◌, inl, inr, Bool, true, List, [], ◌∷◌, ◌++◌, length, Option, Some, None, slice_get, refl, ap, sym, subst, arith}
-use Rattle.std.specs.Prelude.{filter, filter_map, find, take, drop}
-use Rattle.std.specs.List.{AllByRecursion as Each, cons_option}
-use Rattle.std.proofs.lemmas.Bool.{cond_both}
+use Rattle.std.proofs.Common.{◌≡◌, ℕ, zero, suc, ◌+◌, ◌-◌, ◌<◌, ◌≤◌, ◌⊎◌, inl, inr, Bool, true, List, [], ◌∷◌, ◌++◌, length, Option, Some, None, slice_get, refl, ap, sym, ◌∙◌, subst, arith}
+use Rattle.std.specs.Prelude.{filter, filter_map, find, reverse, take}
+use Rattle.std.specs.List.{AllByRecursion as Each, cons_option, list_any}
+use Rattle.std.proofs.lemmas.Bool.{cond_both, cases_lt, or_left, or_right, or_cases, both_ways, false≢true}
+use Rattle.std.proofs.lemmas.List.{reverse-append}
 use Rattle.ring_base.specs.Numbers.{numbers_from}
+use Rattle.ring_base.proofs.Each.{each-append}
 use Rattle.ring_moves.specs.Facts.{IsIn, SomeIs}
 
 -- What stands in a list
@@ -26,6 +28,58 @@ pub in-each : {X : Type 0} (P : X → Type 0) (x : X) (xs : List X) → Each P x
 in-each P x [] h i = absurd i
 in-each P x (y ∷ xs) h (inl e) = subst P (sym e) h.0
 in-each P x (y ∷ xs) h (inr i) = in-each P x xs h.1 i
+
+pub in-reverse : {X : Type 0} (x : X) (xs : List X) → IsIn x xs → IsIn x (reverse xs)
+in-reverse x [] i = absurd i
+in-reverse x (y ∷ xs) (inl e) = subst (IsIn x) (sym (reverse-append (y ∷ []) xs)) (in-right x (reverse xs) (y ∷ []) (inl e))
+in-reverse x (y ∷ xs) (inr i) = subst (IsIn x) (sym (reverse-append (y ∷ []) xs)) (in-left x (reverse xs) (y ∷ []) (in-reverse x xs i))
+
+pub in-filter : {X : Type 0} (p : X → Bool) (x : X) (xs : List X) → IsIn x xs → p x ≡ true → IsIn x (filter p xs)
+in-filter p x [] i t = absurd i
+in-filter p x (y ∷ xs) (inl e) t = cond_both (p y) (y ∷ filter p xs) (filter p xs) (IsIn x) (λ k. inl e) (λ k. absurd (both_ways (p x) (ap p e ∙ k) t))
+in-filter p x (y ∷ xs) (inr i) t = cond_both (p y) (y ∷ filter p xs) (filter p xs) (IsIn x) (λ k. inr (in-filter p x xs i t)) (λ k. in-filter p x xs i t)
+
+pub in-filtered : {X : Type 0} (p : X → Bool) (x : X) (xs : List X) → IsIn x (filter p xs) → IsIn x xs × (p x ≡ true)
+in-filtered p x [] i = absurd i
+in-filtered {X} p x (y ∷ xs) i =
+    cond_both (p y) (y ∷ filter p xs) (filter p xs) (λ ys. IsIn x ys → IsIn x (y ∷ xs) × (p x ≡ true))
+    (λ t k. elim k [ inl e ↦ (inl e, ap p e ∙ t) | inr h ↦ (let r = in-filtered p x xs h in (inr r.0, r.1)) ])
+    (λ t k. (let r = in-filtered p x xs k in (inr r.0, r.1))) i
+
+in-option : {Y : Type 0} (y : Y) (o : Option Y) (ys : List Y) → IsIn y ys → IsIn y (cons_option o ys)
+in-option y None ys i = i
+in-option y (Some z) ys i = inr i
+
+pub in-filter_map : {X Y : Type 0} (f : X → Option Y) (x : X) (y : Y) (xs : List X) → IsIn x xs → f x ≡ Some y → IsIn y (filter_map f xs)
+in-filter_map f x y [] i e = absurd i
+in-filter_map f x y (z ∷ xs) (inl same) e = subst (λ o. IsIn y (cons_option o (filter_map f xs))) (sym (ap f (sym same) ∙ e)) (inl refl)
+in-filter_map f x y (z ∷ xs) (inr i) e = in-option y (f z) (filter_map f xs) (in-filter_map f x y xs i e)
+
+pub in-numbers : (first count n : ℕ) → first ≤ n → n < first + count → IsIn n (numbers_from first count)
+in-numbers first zero n l h = absurd (omega arith)
+in-numbers first (suc count) n l h =
+    elim (cases_lt first n) [
+      | inl above ↦ inr (in-numbers (suc first) count n (omega arith) (omega arith))
+      | inr same ↦ inl (omega arith)
+    ]
+
+pub any-in : {X : Type 0} (p : X → Bool) (x : X) (xs : List X) → IsIn x xs → p x ≡ true → list_any p xs ≡ true
+any-in p x [] i t = absurd i
+any-in p x (y ∷ xs) (inl e) t = or_left (p y) (list_any p xs) (ap p (sym e) ∙ t)
+any-in p x (y ∷ xs) (inr i) t = or_right (p y) (list_any p xs) (any-in p x xs i t)
+
+pub any-some : {X : Type 0} (p : X → Bool) (xs : List X) → list_any p xs ≡ true → (x : X) × IsIn x xs × (p x ≡ true)
+any-some p [] h = absurd (false≢true h)
+any-some p (x ∷ xs) h =
+    elim (or_cases (p x) (list_any p xs) h) [
+      | inl t ↦ (x, inl refl, t)
+      | inr k ↦ (let (y, i, t) = any-some p xs k in (y, inr i, t))
+    ]
+
+pub some-in : {X : Type 0} (P : X → Type 0) (x : X) (xs : List X) → IsIn x xs → P x → SomeIs P xs
+some-in P x [] i p = absurd i
+some-in P x (y ∷ xs) (inl e) p = inl (subst P e p)
+some-in P x (y ∷ xs) (inr i) p = inr (some-in P x xs i p)
 
 pub some-left : {X : Type 0} (P : X → Type 0) (xs ys : List X) → SomeIs P xs → SomeIs P (xs ++ ys)
 some-left P [] ys h = absurd h
@@ -58,15 +112,19 @@ pub each-filter : {X : Type 0} (P : X → Type 0) (p : X → Bool) (xs : List X)
 each-filter P p [] h = tt
 each-filter P p (x ∷ xs) h = cond_both (p x) (x ∷ filter p xs) (filter p xs) (Each P) (λ e. (h.0, each-filter P p xs h.1)) (λ e. each-filter P p xs h.1)
 
+pub each-reverse : {X : Type 0} (P : X → Type 0) (xs : List X) → Each P xs → Each P (reverse xs)
+each-reverse P [] h = tt
+each-reverse P (x ∷ xs) h = subst (Each P) (sym (reverse-append (x ∷ []) xs)) (each-append P (reverse xs) (x ∷ []) (each-reverse P xs h.1) (h.0, tt))
+
+pub each-filtered : {X : Type 0} (P Q : X → Type 0) (p : X → Bool) → ((x : X) → P x → p x ≡ true → Q x) → (xs : List X) → Each P xs → Each Q (filter p xs)
+each-filtered P Q p f [] h = tt
+each-filtered P Q p f (x ∷ xs) h =
+    cond_both (p x) (x ∷ filter p xs) (filter p xs) (Each Q) (λ e. (f x h.0 e, each-filtered P Q p f xs h.1)) (λ e. each-filtered P Q p f xs h.1)
+
 pub each-take : {X : Type 0} (P : X → Type 0) (n : ℕ) (xs : List X) → Each P xs → Each P (take n xs)
 each-take P zero xs h = tt
 each-take P (suc n) [] h = tt
 each-take P (suc n) (x ∷ xs) h = (h.0, each-take P n xs h.1)
-
-pub each-drop : {X : Type 0} (P : X → Type 0) (n : ℕ) (xs : List X) → Each P xs → Each P (drop n xs)
-each-drop P zero xs h = h
-each-drop P (suc n) [] h = tt
-each-drop P (suc n) (x ∷ xs) h = each-drop P n xs h.1
 
 each-cons_option : {Y : Type 0} (Q : Y → Type 0) (o : Option Y) (ys : List Y) → ((y : Y) → o ≡ Some y → Q y) → Each Q ys → Each Q (cons_option o ys)
 each-cons_option Q None ys f h = h

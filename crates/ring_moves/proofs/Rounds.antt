@@ -2,7 +2,7 @@
 use Rattle.std.proofs.Common.{◌≡◌, ℕ, ◌<◌, Bool, true, false, not, ◌&&◌, ◌||◌, ◌==◌, List, [], ◌∷◌, Option, Some, None, refl, ◌∙◌, subst, arith, inl, inr}
 use Rattle.std.specs.Prelude.{◌*◌, nat_le, nat_lt, slice_get}
 use Rattle.std.specs.List.{list_all}
-use Rattle.std.proofs.lemmas.Bool.{cases_Bool, and_parts, eqb-true, leb-true, ltb-true, lt-ltb, eq-eqb, true≢false, cond-true, cond-false}
+use Rattle.std.proofs.lemmas.Bool.{cases_Bool, and_from, and_parts, eqb-true, leb-true, ltb-true, lt-ltb, eq-eqb, true≢false, cond-true, cond-false}
 use Rattle.std.proofs.lemmas.List.Folds.{list_all-append}
 use Rattle.ring_base.specs.Numbers.{numbers_from}
 use Rattle.ring_base.specs.Processors.{has, size}
@@ -87,11 +87,8 @@ in_named true c k h s = in_commit c k h s
 
 -- Takings
 
-not_ignored : {A : Type 0} → (a : Act A) → is_ignored a ≡ false → a ≡ Ignore → ⊥
+pub not_ignored : {A : Type 0} → (a : Act A) → is_ignored a ≡ false → a ≡ Ignore → ⊥
 not_ignored {A} a h e = true≢false (subst (λ (x : Act A). is_ignored x ≡ false) e h)
-
-both : (a b : Bool) → a ≡ true → b ≡ true → (a && b) ≡ true
-both a b e f = rw (e, f) refl
 
 if_then : (a b : Bool) → (a ≡ true → b ≡ true) → (not a || b) ≡ true
 if_then true b f = f refl
@@ -102,12 +99,12 @@ taking_of c k = record { who = c.me; commit = k; report = own_entry c }
 
 is_taken_by : {A : Type 0} → (c : Core A) (k : CommitToken) → (decide c (FrameInput (CommitFrame k)) ≡ Ignore → ⊥) → is_taken (taking_of c k) ≡ true
 is_taken_by {A} c k h =
-    both (receiver k == c.me) (not (is_second k) || still_reports (taking_of c k)) (eq-eqb (receiver k) c.me (one_position c k h))
+    and_from (receiver k == c.me) (not (is_second k) || still_reports (taking_of c k)) (eq-eqb (receiver k) c.me (one_position c k h))
     (if_then (is_second k) (still_reports (taking_of c k)) (in_named (is_named {A = A} c.total (CommitFrame k)) c k h))
 
 taken_unless-all : {A : Type 0} → (b : Bool) (c : Core A) (k : CommitToken) → (b ≡ false → is_taken (taking_of c k) ≡ true) → list_all is_taken (taken_unless b c k) ≡ true
 taken_unless-all true c k h = refl
-taken_unless-all false c k h = both (is_taken (taking_of c k)) true (h refl) refl
+taken_unless-all false c k h = and_from (is_taken (taking_of c k)) true (h refl) refl
 
 taken_at-all : {A : Type 0} → (c : Core A) (frame : Frame A) → list_all is_taken (taken_at c frame) ≡ true
 taken_at-all c (CommitFrame k) =
@@ -136,25 +133,25 @@ all_taken w [] = refl
 all_taken w (e ∷ events) =
     let xs = taken_in w e in
     let ys = takings (happens w e) events in
-    list_all-append is_taken xs ys ∙ both (list_all is_taken xs) (list_all is_taken ys) (taken_in-all w e) (all_taken (happens w e) events)
+    list_all-append is_taken xs ys ∙ and_from (list_all is_taken xs) (list_all is_taken ys) (taken_in-all w e) (all_taken (happens w e) events)
 
 -- Rings
 
 -- a ring above the first of falling ones is above each of them
 above_all : (x y : Configuration) (rest : List Configuration) → y.ring.seq < x.ring.seq → IsFalling (y ∷ rest) → list_all (is_above x) (y ∷ rest) ≡ true
-above_all x y [] h f = both (is_above x y) true (lt-ltb y.ring.seq x.ring.seq h) refl
+above_all x y [] h f = and_from (is_above x y) true (lt-ltb y.ring.seq x.ring.seq h) refl
 above_all x y (z ∷ rest) h f =
     let below : z.ring.seq < x.ring.seq = omega (arith, h, f.0) in
-    both (is_above x y) (list_all (is_above x) (z ∷ rest)) (lt-ltb y.ring.seq x.ring.seq h) (above_all x z rest below f.1)
+    and_from (is_above x y) (list_all (is_above x) (z ∷ rest)) (lt-ltb y.ring.seq x.ring.seq h) (above_all x z rest below f.1)
 
-pairs_fall : (rings : List Configuration) → IsFalling rings → all_pairs is_above rings ≡ true
+pub pairs_fall : (rings : List Configuration) → IsFalling rings → all_pairs is_above rings ≡ true
 pairs_fall [] f = refl
 pairs_fall (x ∷ []) f = refl
-pairs_fall (x ∷ y ∷ rest) f = both (list_all (is_above x) (y ∷ rest)) (all_pairs is_above (y ∷ rest)) (above_all x y rest f.0 f.1) (pairs_fall (y ∷ rest) f.1)
+pairs_fall (x ∷ y ∷ rest) f = and_from (list_all (is_above x) (y ∷ rest)) (all_pairs is_above (y ∷ rest)) (above_all x y rest f.0 f.1) (pairs_fall (y ∷ rest) f.1)
 
 all_numbers : (test : ℕ → Bool) → ((i : ℕ) → test i ≡ true) → (numbers : List ℕ) → list_all test numbers ≡ true
 all_numbers test h [] = refl
-all_numbers test h (i ∷ numbers) = both (test i) (list_all test numbers) (h i) (all_numbers test h numbers)
+all_numbers test h (i ∷ numbers) = and_from (test i) (list_all test numbers) (h i) (all_numbers test h numbers)
 
 pub rises_everywhere : {A : Type 0} → (n : ℕ) (events : List (RingEvent A)) → Everywhere Rising (run (unformed n) events)
 rises_everywhere n events = everywhere Rising rising (unformed n) events (λ i. alone_rises (alone i))

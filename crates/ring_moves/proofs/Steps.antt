@@ -1,28 +1,24 @@
 -- Each step of the definition is moves: the act is one, a proposal after it is another, and an installation the last.
-use Rattle.std.proofs.Common.{◌≡◌, ℕ, suc, ◌+◌, ◌-◌, ◌*◌, ◌%◌, ◌<◌, ◌≤◌, min, ◌⊎◌, inl, inr, Bool, true, false, ◌&&◌, ◌==◌, cond, eqb, List, [], ◌∷◌, ◌++◌, length, Option, Some, None, refl, ap, sym, ◌∙◌, subst, arith, length-take, append-nil, zero}
+use Rattle.std.proofs.Common.{◌≡◌, ℕ, suc, ◌+◌, ◌-◌, ◌*◌, ◌%◌, ◌<◌, ◌≤◌, min, ◌⊎◌, inl, inr, Bool, true, false, ◌&&◌, ◌==◌, eqb, List, [], ◌∷◌, ◌++◌, length, Option, Some, None, refl, ap, sym, ◌∙◌, subst, arith, length-take, append-nil}
 use Rattle.std.specs.Prelude.{nat_lt, nat_le, filter, filter_map, take, slice_get, not}
 use Rattle.std.specs.List.{AllByRecursion as Each}
 use Rattle.std.proofs.lemmas.Bool.{cond_both, and_parts, eqb-true, ltb-true, leb-true, false≢true}
-use Rattle.ring_base.specs.Numbers.{window_size, max_number, numbers_from}
+use Rattle.ring_base.specs.Numbers.{window_size, max_number}
 use Rattle.ring_base.specs.Rings.{same_ring}
 use Rattle.ring_base.specs.Processors.{has, at, size, smallest, elements}
-use Rattle.ring_base.specs.declared.ring_id.RingId.{RingId}
 use Rattle.ring_base.specs.declared.state.State.{State}
 use Rattle.ring_base.specs.declared.state.State.TheVariants.{Gather, Commit, Recovery, Operational, Stopped}
 use Rattle.ring_base.proofs.Each.{each-push}
-use Rattle.ring_payload.specs.Kinds.{is_user, payload_of, content_of}
+use Rattle.ring_payload.specs.Kinds.{is_user}
 use Rattle.ring_payload.specs.Packing.{is_queued}
 use Rattle.ring_payload.proofs.Packing.{length-packed, packed-users, user-queued, left_behind-each}
-use Rattle.ring_payload.specs.declared.content.Content.{Content}
-use Rattle.ring_payload.specs.declared.content.Content.TheVariants.{Call as CallContent, Head as HeadContent, Part as PartContent, Pack as PackContent, Snap as SnapContent}
 use Rattle.ring_payload.specs.declared.content.Payload.{Payload}
-use Rattle.ring_payload.specs.declared.content.Payload.TheVariants.{Call, Wrapped, End, Head, Part, Pack, Snap}
 use Rattle.ring_wire.specs.declared.commit.CommitToken.{CommitToken}
 use Rattle.ring_wire.specs.declared.frame.Frame.{Frame}
 use Rattle.ring_wire.specs.declared.frame.Frame.TheVariants.{Token as TokenFrame}
 use Rattle.ring_wire.specs.declared.message.Message.{Message}
 use Rattle.ring_wire.specs.declared.token.Token.{Token}
-use Rattle.ring_window.specs.Held.{is_numbered, found, highest}
+use Rattle.ring_window.specs.Held.{found, highest}
 use Rattle.ring_window.proofs.Rings.{ring_same}
 use Rattle.ring_token.specs.Turns.{first_token, is_newer}
 use Rattle.ring_token.specs.Visits.{above_mark}
@@ -31,8 +27,7 @@ use Rattle.ring_commit.specs.Rounds.{position_of_hop, receiver, is_of, is_own}
 use Rattle.ring_commit.specs.Reports.{is_sound}
 use Rattle.ring_recover.specs.Installing.{is_ready}
 use Rattle.ring_recover.specs.Deliveries.{is_complete}
-use Rattle.ring_recover.specs.Plans.{low}
-use Rattle.ring_recover.specs.Wrapping.{wrap, wrap_content, above_low, to_wrap, has_ended, wraps_and_end}
+use Rattle.ring_recover.specs.Wrapping.{wraps_and_end}
 use Rattle.ring_srp.specs.declared.input.Input.{Input}
 use Rattle.ring_srp.specs.declared.input.Input.TheVariants.{Frame as FrameInput}
 use Rattle.ring_srp.specs.State.{Core, Sent, Did, floor}
@@ -45,11 +40,12 @@ use Rattle.ring_srp.specs.Acting.{shown_again, act, may_follow, proposed_after, 
 use Rattle.ring_srp.specs.Stepping.{ring_step}
 use Rattle.ring_moves.specs.Laws.{HasPassed, CameWith}
 use Rattle.ring_moves.specs.Facts.{IsIn}
-use Rattle.ring_moves.specs.Moves.{Move, Idles, Enters, Learns, Visits, Takes, moved, did, AllAreUsers, IsRepeated, MayIdle, MayEnter, IsWrapping, AreWraps, IsStart, TakesFrom, TakesLate, MayInstall, MayMove, after_moves, all_sends, MayAll, IsMoved}
+use Rattle.ring_moves.specs.Moves.{Move, Idles, Enters, Learns, Visits, Takes, moved, did, AllAreUsers, IsRepeated, MayIdle, MayEnter, AreWraps, IsStart, TakesFrom, TakesLate, MayInstall, MayMove, after_moves, all_sends, MayAll, IsMoved}
 use Rattle.ring_moves.proofs.Guards.{guarded}
 use Rattle.ring_moves.proofs.Causes.{caused}
+use Rattle.ring_moves.proofs.Wraps.{found_in, are_wraps}
 use Rattle.ring_moves.proofs.Agreeing.{agreed_same, widened_same}
-use Rattle.ring_moves.proofs.Lists.{each-in, each-filter, each-take, each-filter_map, numbers-above, take-append, find-in}
+use Rattle.ring_moves.proofs.Lists.{each-in, each-filter_map}
 
 -- The move of each act
 
@@ -139,101 +135,6 @@ idles c g sends h s = record { leaves = inl refl; joins = h; shows = inr refl; q
 leaves : {A : Type 0} → (c : Core A) (g : Gathering) → AllSaySame g → MayIdle c Gather g None [] (announced (with_gathering (regathered c) g) ∷ [])
 leaves c g h = record { leaves = inr (inl refl); joins = λ a. h; shows = inl refl; queued = λ q. tt; sent = (inr (own_join c.me (floor c) g, refl), tt) }
 
--- Handing on
-
--- the message, wrapped
-abbrev wrapping : {A : Type 0} → Message A → Content A → Payload A
-wrapping x content = Wrapped (record { ring = x.ring; number = x.number; sender = x.sender; payload = content })
-
--- what may be wrapped is a user's, and comes back as it was
-content_back : {A : Type 0} → (p : Payload A) (content : Content A) → content_of p ≡ Some content → p ≡ payload_of content
-content_back (Call call) content e = (let k : CallContent call ≡ content = cc in ap payload_of k)
-content_back (Head head) content e = (let k : HeadContent head ≡ content = cc in ap payload_of k)
-content_back (Part part) content e = (let k : PartContent part ≡ content = cc in ap payload_of k)
-content_back (Pack pack) content e = (let k : PackContent pack ≡ content = cc in ap payload_of k)
-content_back (Snap snap) content e = (let k : SnapContent snap ≡ content = cc in ap payload_of k)
-content_back (Wrapped w) content e = absurd (let n : ⊥ = cc in n)
-content_back End content e = absurd (let n : ⊥ = cc in n)
-
-content_user : {A : Type 0} → (content : Content A) → is_user (payload_of content) ≡ true
-content_user (CallContent call) = refl
-content_user (HeadContent head) = refl
-content_user (PartContent part) = refl
-content_user (PackContent pack) = refl
-content_user (SnapContent snap) = refl
-
-wrapped_content : {A : Type 0} → (c : Core A) (x : Message A) (content : Content A) → x.payload ≡ payload_of content → is_user (payload_of content) ≡ true →
-    IsIn x c.held → x.ring ≡ c.installed.ring → low (plan c) < x.number →
-    IsWrapping c (Wrapped (record { ring = x.ring; number = x.number; sender = x.sender; payload = content }))
-wrapped_content {A} c x content e u i r l = (
-  record { ring = x.ring; number = x.number; sender = x.sender; payload = content },
-  refl,
-  record {
-    ring = r;
-    user = u;
-    above = l;
-    held = subst (λ p. IsIn (record { ring = x.ring; number = x.number; sender = x.sender; payload = p }) c.held) e i;
-  },
-)
-
--- a message that is handed on is a user's, wrapped
-wraps_user : {A : Type 0} → (c : Core A) (x : Message A) (o : Option (Content A)) (q : Payload A) → content_of x.payload ≡ o → IsIn x c.held →
-    x.ring ≡ c.installed.ring → low (plan c) < x.number → wrap_content x o ≡ Some q → IsWrapping c q
-wraps_user c x None q e i r l h = absurd (let n : ⊥ = cc in n)
-wraps_user c x (Some content) q e i r l h =
-    subst (IsWrapping c) (let k : wrapping x content ≡ q = cc in k) (wrapped_content c x content (content_back x.payload content e) (content_user content) i r l)
-
--- what stands above the least front
-record IsAbove {A : Type 0} (c : Core A) (x : Message A) : Type 0 where
-  pub held : IsIn x c.held
-  pub ring : x.ring ≡ c.installed.ring
-  pub above : low (plan c) < x.number
-
-numbered_of : {A : Type 0} → (held : List (Message A)) (ring : RingId) (n : ℕ) (x : Message A) → found held ring n ≡ Some x →
-    IsIn x held × (x.ring ≡ ring) × (x.number ≡ n)
-numbered_of held ring n x e =
-    let f = find-in (is_numbered ring n) x held e in
-    let p = and_parts (same_ring x.ring ring) (eqb x.number n) f.1 in
-    (f.0, ring_same x.ring ring p.0, eqb-true x.number n p.1)
-
-all_above : {A : Type 0} → (c : Core A) → Each (IsAbove c) (above_low (plan c) c.held)
-all_above c =
-    each-filter_map (λ n. low (plan c) + 1 ≤ n) (IsAbove c) (found c.held c.installed.ring)
-    (λ n x h e. (let f = numbered_of c.held c.installed.ring n x e in record { held = f.0; ring = f.1; above = (let q : x.number ≡ n = f.2 in omega arith) }))
-    (numbers_from (low (plan c) + 1) (highest c.held c.installed.ring - low (plan c))) (numbers-above _ _)
-
-all_wraps : {A : Type 0} → (c : Core A) → Each (IsWrapping c) (filter_map wrap (to_wrap (plan c) c.running.ring c.held))
-all_wraps c =
-    each-filter_map (IsAbove c) (IsWrapping c) wrap (λ x q h e. wraps_user c x (content_of x.payload) q refl h.held h.ring h.above e)
-    (to_wrap (plan c) c.running.ring c.held) (each-filter (IsAbove c) _ (above_low (plan c) c.held) (all_above c))
-
-abbrev nothing : (X : Type 0) → List X
-nothing X = []
-
-abbrev end_alone : (A : Type 0) → List (Payload A)
-end_alone A = End ∷ []
-
-take_none : (X : Type 0) (n : ℕ) → take n (nothing X) ≡ []
-take_none X zero = refl
-take_none X (suc n) = refl
-
-one_end : (A : Type 0) (b : Bool) (n : ℕ) → (take n (cond b [] (end_alone A)) ≡ []) ⊎ (take n (cond b [] (end_alone A)) ≡ End ∷ [])
-one_end A true n = inl (take_none (Payload A) n)
-one_end A false zero = inl refl
-one_end A false (suc n) = inr (ap (λ zs. End ∷ zs) (take_none (Payload A) n))
-
-are_wraps : {A : Type 0} → (c : Core A) (n : ℕ) → AreWraps c (take n (wraps_and_end c.me (plan c) c.running.ring c.held))
-are_wraps {A} c n =
-    let ws = filter_map wrap (to_wrap (plan c) c.running.ring c.held) in
-    let ended = has_ended c.me c.running.ring c.held in
-    record {
-      wraps = take n ws;
-      ends = take (n - length ws) (cond ended [] (End ∷ []));
-      parts = take-append n ws (cond ended [] (End ∷ []));
-      handed = each-take (IsWrapping c) n ws (all_wraps c);
-      ended = one_end A ended (n - length ws);
-    }
-
 -- Visiting
 
 offers_few : {A : Type 0} → (s : State) (c : Core A) (count : ℕ) → length (offers s c count) ≤ count
@@ -269,7 +170,7 @@ queue_kept {A} s n queue h = queue_each (λ (p : Payload A). is_user p ≡ true)
 
 pub all_repeats : {A : Type 0} → (c : Core A) (t : Token) → Each (λ (x : Message A). IsIn x c.held) (repeated c t)
 all_repeats {A} c t =
-    each-filter_map (λ n. Unit {0}) (λ (x : Message A). IsIn x c.held) (found c.held t.ring) (λ n x h e. (numbered_of c.held t.ring n x e).0)
+    each-filter_map (λ n. Unit {0}) (λ (x : Message A). IsIn x c.held) (found c.held t.ring) (λ n x h e. (found_in c.held t.ring n x e).0)
     (above_mark (mark c t.ring) t.requests) (each-in _ _ (λ n i. tt))
 
 double : (m : ℕ) → (2 * m) % m ≡ 0
@@ -359,7 +260,7 @@ takes c input x g h =
 
 -- Each act has passed what its move asks
 
-may_act : {A : Type 0} → (c : Core A) (input : Input A) (a : Act A) → HasPassed c a → CameWith c input a → IsAsked a →
+pub may_act : {A : Type 0} → (c : Core A) (input : Input A) (a : Act A) → HasPassed c a → CameWith c input a → IsAsked a →
     MayMove (λ frame. input ≡ FrameInput frame) c (move_of c a)
 may_act c input Ignore g h u = idles c c.gathering [] (λ a. a) tt
 may_act {A} c input (Enqueue p) g h u = record { leaves = inl refl; joins = λ a. a; shows = inr refl; queued = λ q. each-push (λ (p : Payload A). is_user p ≡ true) c.queue p q u; sent = tt }
@@ -396,7 +297,7 @@ some_member set me e low = go (elements set) refl
     go [] q = absurd (let z : smallest set ≡ 0 = ap (λ xs. Rattle.std.specs.Prelude.slice_index xs 0) q in omega arith)
     go (x ∷ xs) q = (let z : size set ≡ suc (length xs) = ap (λ xs. length xs) q in omega arith)
 
-may_propose : {A : Type 0} → (came : Frame A → Type 0) (c : Core A) → proposes c ≡ true → MayEnter came c (proposed_token c)
+pub may_propose : {A : Type 0} → (came : Frame A → Type 0) (c : Core A) → proposes c ≡ true → MayEnter came c (proposed_token c)
 may_propose came c h =
     let s = in_gather c.state c h in
     let k = subst (λ s. proposes_in s c ≡ true) s h in

@@ -1,5 +1,7 @@
 -- Each visit that a core took is one by the rules, and its front has only grown since.
-use Rattle.std.proofs.Common.{◌≡◌, ℕ, suc, ◌+◌, ◌≤◌, true, ◌&&◌, ◌==◌, List, [], ◌∷◌, ◌++◌, length, refl, arith, inl, inr}
+use Rattle.std.proofs.Common.{◌≡◌, ℕ, suc, ◌+◌, ◌≤◌, true, ◌==◌, List, [], ◌∷◌, ◌++◌, length, refl, arith, inl, inr}
+use Rattle.std.specs.Prelude.{reverse}
+use Rattle.std.specs.List.{AllByRecursion as Each}
 use Rattle.std.proofs.lemmas.Bool.{cases_lt, and_parts, or_cases, or_left, or_right, eqb-true, false≢true}
 use Rattle.ring_base.specs.Rings.{same_ring}
 use Rattle.ring_base.specs.declared.ring_id.RingId.{RingId}
@@ -17,6 +19,7 @@ use Rattle.ring_srp.specs.Acting.{gives_old}
 use Rattle.ring_srp.specs.Stepping.{after_inputs}
 use Rattle.ring_moves.specs.Laws.{AreTurnsOf}
 use Rattle.ring_moves.specs.Moves.{Move, Idles, Enters, Learns, Visits, Takes, Installs, held_in, turn_with, moved, MayMove}
+use Rattle.ring_moves.proofs.Lists.{each-reverse}
 use Rattle.ring_moves.proofs.Everywhere.{IsKept, always}
 use Rattle.ring_moves.proofs.Fits.{front-append}
 
@@ -29,12 +32,18 @@ front_below held ring seq h =
     ]
 
 -- new messages have the numbers after seq
-numbered_within : {A : Type 0} → (ring r : RingId) (me seq : ℕ) (ps : List (Payload A)) (n : ℕ) → holds (numbered ring me seq ps) r n ≡ true → n ≤ seq + length ps
-numbered_within ring r me seq [] n h = absurd (false≢true h)
-numbered_within ring r me seq (p ∷ ps) n h =
-    elim (or_cases (same_ring ring r && (suc seq == n)) (holds (numbered ring me (suc seq) ps) r n) h) [
-      | inl e ↦ (let q : suc seq ≡ n = eqb-true (suc seq) n (and_parts (same_ring ring r) (suc seq == n) e).1 in omega arith)
-      | inr e ↦ (let q : n ≤ suc seq + length ps = numbered_within ring r me (suc seq) ps n e in omega arith)
+numbered_within : {A : Type 0} → (ring : RingId) (me seq bound : ℕ) (ps : List (Payload A)) → seq + length ps ≤ bound →
+    Each (λ (x : Message A). x.number ≤ bound) (numbered ring me seq ps)
+numbered_within ring me seq bound [] h = tt
+numbered_within ring me seq bound (p ∷ ps) h = (omega arith, numbered_within ring me (suc seq) bound ps (omega arith))
+
+-- where no message is past a number, none is held past it
+held_within : {A : Type 0} → (xs : List (Message A)) (r : RingId) (n bound : ℕ) → Each (λ (x : Message A). x.number ≤ bound) xs → holds xs r n ≡ true → n ≤ bound
+held_within [] r n bound f h = absurd (false≢true h)
+held_within (x ∷ xs) r n bound f h =
+    elim (or_cases (is_numbered r n x) (holds xs r n) h) [
+      | inl e ↦ (let q : x.number ≡ n = eqb-true x.number n (and_parts (same_ring x.ring r) (x.number == n) e).1 in let k : x.number ≤ bound = f.0 in omega arith)
+      | inr e ↦ held_within xs r n bound f.1 e
     ]
 
 held-append : {A : Type 0} → (xs ys : List (Message A)) (r : RingId) (n bound : ℕ) → (holds xs r n ≡ true → n ≤ bound) → (holds ys r n ≡ true → n ≤ bound) → holds (xs ++ ys) r n ≡ true → n ≤ bound
@@ -45,10 +54,12 @@ held-append (x ∷ xs) ys r n bound f g h =
       | inr e ↦ held-append xs ys r n bound (λ k. f (or_right (is_numbered r n x) (holds xs r n) k)) g e
     ]
 
-front_within : {A : Type 0} → (c : Core A) (t : Token) (fresh : List (Payload A)) → highest c.held t.ring ≤ t.seq → front_of (held_in c t fresh) t.ring ≤ t.seq + length fresh
+pub front_within : {A : Type 0} → (c : Core A) (t : Token) (fresh : List (Payload A)) → highest c.held t.ring ≤ t.seq → front_of (held_in c t fresh) t.ring ≤ t.seq + length fresh
 front_within c t fresh top =
-    front_below (held_in c t fresh) t.ring (t.seq + length fresh) (λ n k.
-    held-append (numbered t.ring c.me t.seq fresh) c.held t.ring n (t.seq + length fresh) (λ e. numbered_within t.ring t.ring c.me t.seq fresh n e)
+    let new = numbered t.ring c.me t.seq fresh in
+    let bound = t.seq + length fresh in
+    let within = each-reverse (λ (x : Message _). x.number ≤ bound) new (numbered_within t.ring c.me t.seq bound fresh (omega arith)) in
+    front_below (held_in c t fresh) t.ring bound (λ n k. held-append (reverse new) c.held t.ring n bound (λ e. held_within (reverse new) t.ring n bound within e)
     (λ e. (let q : n ≤ highest c.held t.ring = highest_covers c.held t.ring n e in omega arith)) k)
 
 -- with messages more, the fronts of the visits are still reached
@@ -64,7 +75,7 @@ Turned c = AreTurnsOf c.me c.held c.turns
 
 visited_turned : {A : Type 0} → (c : Core A) (t : Token) (fresh : List (Payload A)) (requests : List ℕ) → highest c.held t.ring ≤ t.seq → Turned c → AreTurnsOf c.me (held_in c t fresh) (turn_with c t fresh requests ∷ c.turns)
 visited_turned c t fresh requests a h =
-    (record { goes = refl; within = front_within c t fresh a; grown = omega arith }, still c.me (numbered t.ring c.me t.seq fresh) c.held c.turns h)
+    (record { goes = refl; within = front_within c t fresh a; grown = omega arith }, still c.me (reverse (numbered t.ring c.me t.seq fresh)) c.held c.turns h)
 
 took_turned : {A : Type 0} → (c : Core A) (x : Message A) → Turned c → AreTurnsOf c.me (gives_old c.state c x ++ x ∷ c.held) c.turns
 took_turned c x h = still c.me (gives_old c.state c x) (x ∷ c.held) c.turns (still c.me (x ∷ []) c.held c.turns h)

@@ -7,11 +7,12 @@ use Rattle.ring_join.specs.Gathering.{AllSaySame}
 use Rattle.ring_srp.specs.Views.{front, mark}
 use Rattle.ring_moves.specs.declared.event.RingEvent.{RingEvent}
 use Rattle.ring_moves.specs.Worlds.{run, unformed}
-use Rattle.ring_moves.specs.Laws.{AreTurnsOf, AreFreshOf}
+use Rattle.ring_moves.specs.Laws.{AreTurnsOf, AreFreshOf, HasEnded}
 use Rattle.ring_moves.proofs.Fits.{Fit, fitting, mark_below, held_below}
 use Rattle.ring_moves.proofs.Agrees.{SayingSame, saying_same}
 use Rattle.ring_moves.proofs.Turned.{Turned, turned}
 use Rattle.ring_moves.proofs.Fresh.{Made, making, opening_made}
+use Rattle.ring_moves.proofs.Ended.{IsOver, ending, opening_over}
 use Rattle.ring_moves.proofs.Everywhere.{Everywhere, everywhere, kept_run}
 
 fits : {A : Type 0} → (n : ℕ) (events : List (RingEvent A)) → Everywhere Fit (run (unformed n) events)
@@ -33,3 +34,6 @@ all_fresh n i events = (kept_run Made making (unformed n) events (λ i. opening_
 
 pub all_same_sets : {A : Type 0} → (n i : ℕ) (events : List (RingEvent A)) → AllSaySame ((run (unformed n) events).cores i).gathering
 all_same_sets n i events = everywhere SayingSame saying_same (unformed n) events (λ i. tt) i
+
+pub all_ended : {A : Type 0} → (n i : ℕ) (events : List (RingEvent A)) → HasEnded ((run (unformed n) events).cores i)
+all_ended n i events = (everywhere IsOver ending (unformed n) events (λ i. opening_over n i) i).ended

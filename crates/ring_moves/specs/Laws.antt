@@ -4,6 +4,7 @@ use Rattle.std.specs.List.{AllByRecursion}
 use Rattle.ring_base.specs.Numbers.{max_number, visit_limit}
 use Rattle.ring_base.specs.declared.ring_id.RingId.{RingId}
 use Rattle.ring_payload.specs.declared.content.Payload.{Payload}
+use Rattle.ring_payload.specs.declared.content.Payload.TheVariants.{End}
 use Rattle.ring_payload.specs.Packing.{is_queued, AreQueued, packed}
 use Rattle.ring_wire.specs.declared.commit.CommitToken.{CommitToken}
 use Rattle.ring_wire.specs.declared.frame.Frame.TheVariants.{Message as MessageFrame, Token as TokenFrame, Join as JoinFrame, Commit as CommitFrame}
@@ -30,6 +31,8 @@ use Rattle.ring_srp.specs.Visiting.{accepts}
 use Rattle.ring_srp.specs.Joining.{regathered, hears, disturbs}
 use Rattle.ring_srp.specs.Handing.{takes_first_round, takes_second_round}
 use Rattle.ring_srp.specs.Deciding.{Act, Ignore, Enqueue, Repeat, Announce, Invite, GiveUp, Regather, Agree, Widen, RegatherAndAgree, RegatherAndWiden, Take, Visit, Fill, Learn, is_taken, decide}
+use Rattle.ring_moves.specs.Facts.{IsIn}
+use Rattle.ring_moves.specs.Moves.{AreLast}
 
 -- a ring runs
 abbrev pub IsRunning : State → Type 0
@@ -150,3 +153,11 @@ pub record IsFreshOf {A : Type 0} (me : ℕ) (held : List (Message A)) (v : Turn
 
 abbrev pub AreFreshOf : {A : Type 0} → ℕ → List (Message A) → List (Turn A) → Type 0
 AreFreshOf me held turns = AllByRecursion (IsFreshOf me held) turns
+
+-- a visit of the running ring that sent an End left nothing to wrap: each users' message of the installed ring that is held above the least front is seen wrapped
+abbrev pub EndsWrapping : {A : Type 0} → Core A → Turn A → Type 0
+EndsWrapping c v = v.came.ring ≡ c.running.ring → IsIn End v.fresh → AreLast c []
+
+-- so in Recovery of each of its visits
+abbrev pub HasEnded : {A : Type 0} → Core A → Type 0
+HasEnded c = c.state ≡ Recovery → AllByRecursion (EndsWrapping c) c.turns

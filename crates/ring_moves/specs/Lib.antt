@@ -2,6 +2,7 @@ pub mod Worlds
 pub mod Pumping
 pub mod Facts
 pub mod Moves
+pub mod Standing
 pub mod Laws
 pub mod CommitRounds
 pub mod Texts

@@ -1,5 +1,5 @@
 -- All that can happen to a ring core. Each step of the definition is at most three of these six moves, and then its outputs: Rings and states, rule 13 of docs/PROTOCOL.md. What a move has passed asks less than the definition's tests do, so that what is proved of moves rests on no more than stands here: how a core comes to its sets in Gather, whom it hears and when a time is over play no part.
-use Rattle.std.specs.Prelude.{◌≡◌, ℕ, ◌+◌, ◌-◌, ◌*◌, ◌<◌, ◌≤◌, ◌⊎◌, true, List, [], ◌∷◌, ◌++◌, length, Option, Some, None, slice_get}
+use Rattle.std.specs.Prelude.{◌≡◌, ℕ, ◌+◌, ◌-◌, ◌*◌, ◌<◌, ◌≤◌, ◌⊎◌, Bool, true, false, List, [], ◌∷◌, ◌++◌, reverse, length, Option, Some, None, slice_get}
 use Rattle.std.specs.List.{AllByRecursion}
 use Rattle.ring_base.specs.Numbers.{window_size}
 use Rattle.ring_base.specs.Processors.{has, at, size}
@@ -15,7 +15,7 @@ use Rattle.ring_wire.specs.declared.frame.Frame.TheVariants.{Message as MessageF
 use Rattle.ring_wire.specs.declared.join.Join.{Join}
 use Rattle.ring_wire.specs.declared.message.Message.{Message}
 use Rattle.ring_wire.specs.declared.token.Token.{Token}
-use Rattle.ring_window.specs.Held.{highest, front_of}
+use Rattle.ring_window.specs.Held.{found, of_ring, highest, front_of}
 use Rattle.ring_token.specs.Turns.{Turn, first_token, is_newer}
 use Rattle.ring_token.specs.Visits.{numbered, token_after}
 use Rattle.ring_join.specs.Gathering.{Gathering, AllSaySame}
@@ -24,6 +24,7 @@ use Rattle.ring_commit.specs.Rounds.{position_of_hop, receiver, hopped, is_own}
 use Rattle.ring_recover.specs.Installing.{is_ready}
 use Rattle.ring_recover.specs.Deliveries.{is_complete}
 use Rattle.ring_recover.specs.Plans.{low}
+use Rattle.ring_recover.specs.Wrapping.{is_wrap_of, is_wrapped, has_ended}
 use Rattle.ring_srp.specs.State.{Core, Sent, Did, floor}
 use Rattle.ring_srp.specs.Views.{mark, takes_number, own_entry, plan}
 use Rattle.ring_srp.specs.Visiting.{to_others, to_next}
@@ -52,9 +53,9 @@ pub data Move (A : Type 0) : Type 0 where
 
 -- What each does
 
--- the messages held in a visit, its new ones among them
+-- the messages held in a visit, its new ones the newest
 abbrev pub held_in : {A : Type 0} → Core A → Token → List (Payload A) → List (Message A)
-held_in c t fresh = numbered t.ring c.me t.seq fresh ++ c.held
+held_in c t fresh = reverse (numbered t.ring c.me t.seq fresh) ++ c.held
 
 -- the token as it goes
 abbrev pub went_with : {A : Type 0} → Core A → Token → List (Payload A) → List ℕ → Token
@@ -128,23 +129,46 @@ pub record MayLearn {A : Type 0} (came : Frame A → Type 0) (c : Core A) (k : C
   pub sound : is_sound c.installed.ring k.entries ≡ true
   pub from : came (CommitFrame k)
 
--- a message of the installed ring as it is handed on: one that is held, a user's, above the least front
+-- a number of the installed ring is seen wrapped: something held of the running ring wraps it
+abbrev pub is_seen : {A : Type 0} → Core A → ℕ → Bool
+is_seen c n = is_wrapped (of_ring c.running.ring c.held) c.installed.ring n
+
+-- a message of the installed ring as it is handed on: the one that is held of its number, a user's, above the least front and not yet seen wrapped
 pub record IsHandedOn {A : Type 0} (c : Core A) (w : WrappedMessage A) : Type 0 where
   pub ring : w.ring ≡ c.installed.ring
   pub user : is_user (payload_of w.payload) ≡ true
   pub above : low (plan c) < w.number
-  pub held : IsIn (record { ring = w.ring; number = w.number; sender = w.sender; payload = payload_of w.payload }) c.held
+  pub held : found c.held w.ring w.number ≡ Some (record { ring = w.ring; number = w.number; sender = w.sender; payload = payload_of w.payload })
+  pub unseen : is_seen c w.number ≡ false
 
--- what is new in Recovery: first what is handed on, and then at most an End
 abbrev pub IsWrapping : {A : Type 0} → Core A → Payload A → Type 0
 IsWrapping {A} c p = (w : WrappedMessage A) × (p ≡ Wrapped w) × IsHandedOn c w
 
+-- each wraps a greater number than the one before it
+abbrev pub AreRising : {A : Type 0} → ℕ → List (Payload A) → Type 0
+AreRising below [] = Unit {0}
+AreRising {A} below (p ∷ ps) = (w : WrappedMessage A) × (p ≡ Wrapped w) × (below < w.number) × AreRising w.number ps
+
+-- nothing but these is left to wrap: where a users' message of the installed ring is held above the least front, its number is seen wrapped, or one of these wraps it
+abbrev pub AreLast : {A : Type 0} → Core A → List (Payload A) → Type 0
+AreLast {A} c wraps =
+    (n : ℕ) (x : Message A) → low (plan c) < n → found c.held c.installed.ring n ≡ Some x → is_user x.payload ≡ true →
+    (is_seen c n ≡ true) ⊎ SomeIs (λ p. is_wrap_of c.installed.ring n p ≡ true) wraps
+
+-- an End, behind the last that was left to wrap, and where the core holds none of its own yet
+pub record MayEnd {A : Type 0} (c : Core A) (wraps ends : List (Payload A)) : Type 0 where
+  pub one : ends ≡ End ∷ []
+  pub first : has_ended c.me c.running.ring c.held ≡ false
+  pub last : AreLast c wraps
+
+-- what is new in Recovery: first what is handed on, ascending, and then at most an End
 pub record AreWraps {A : Type 0} (c : Core A) (fresh : List (Payload A)) : Type 0 where
   pub wraps : List (Payload A)
   pub ends : List (Payload A)
   pub parts : fresh ≡ wraps ++ ends
   pub handed : AllByRecursion (IsWrapping c) wraps
-  pub ended : (ends ≡ []) ⊎ (ends ≡ End ∷ [])
+  pub rising : AreRising (low (plan c)) wraps
+  pub ended : (ends ≡ []) ⊎ MayEnd c wraps ends
 
 -- the first token, at the representative
 pub record IsStart {A : Type 0} (c : Core A) (t : Token) : Type 0 where

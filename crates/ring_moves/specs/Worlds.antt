@@ -9,18 +9,13 @@ use Rattle.ring_srp.specs.declared.input.Input.{Input}
 use Rattle.ring_srp.specs.declared.input.Input.TheVariants.{Frame as FrameInput, Timeout as TimeInput, Send as SendInput}
 use Rattle.ring_srp.specs.declared.out.Out.{Out}
 use Rattle.ring_srp.specs.declared.out.Out.TheVariants.{Send as SendOut, Agreed, Safe, Trans, Rest, Regular}
+pub use Rattle.ring_srp.specs.State.{Carried}
 use Rattle.ring_srp.specs.State.{Core, Sent, Did, Stepped, all_of, opening, formed, halted}
 use Rattle.ring_srp.specs.Visiting.{visited}
 use Rattle.ring_srp.specs.Giving.{addressed}
 use Rattle.ring_srp.specs.Stepping.{ring_step}
 use Rattle.ring_moves.specs.declared.event.RingEvent.{RingEvent}
 use Rattle.ring_moves.specs.declared.event.RingEvent.TheVariants.{Send, Deliver, Timeout, Stop}
-
--- a frame sent, with its sender and its receivers
-pub record Carried (A : Type 0) : Type 0 where
-  pub from : ℕ
-  pub to : ℕ
-  pub frame : Frame A
 
 pub record World (A : Type 0) : Type 0 where
   -- processors 1 to this

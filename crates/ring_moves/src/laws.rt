@@ -22,7 +22,7 @@ ghost use Rattle.ring_moves.specs.declared.event.RingEvent.{RingEvent};
 ghost use Rattle.ring_moves.specs.Worlds.{World, run, unformed};
 ghost use Rattle.ring_moves.specs.CommitRounds.{has_rising_rings, is_taken, takings};
 ghost use Rattle.ring_moves.specs.Moves.{IsMoved};
-ghost use Rattle.ring_moves.specs.Laws.{CameWith, HasPassed, IsFalling, TakesCommit, AreTurnsOf, AreFreshOf};
+ghost use Rattle.ring_moves.specs.Laws.{CameWith, HasPassed, IsFalling, TakesCommit, AreTurnsOf, AreFreshOf, HasEnded};
 
 use ring_recover::finish_law;
 use ring_token::safe_law;
@@ -80,6 +80,13 @@ pub fn visit_law<A: Allocator + Copy>()
     ensures fresh { (n me : ℕ) (inputs : List (Input A)) → AreFreshOf (after_inputs (opening n me) inputs).me (after_inputs (opening n me) inputs).held (after_inputs (opening n me) inputs).turns }
 {}
 
+/// In Recovery nothing is left to wrap once one of the core's own visits of the running ring sent an End: the number of
+/// each users' message of the installed ring that it holds above the least front is wrapped by something that it holds of
+/// the running ring. That an End of its own is held doesn't say so: a forged one may be.
+pub fn ended_law<A: Allocator + Copy>()
+    ensures { (n me : ℕ) (inputs : List (Input A)) → HasEnded (after_inputs (opening n me) inputs) }
+{}
+
 /// What a visit makes of a queue: the run of calls that goes out first is the longest that fits one message; no
 /// payload of the queue is lost, doubled or moved; messages keep the limits that the payloads keep, and are users'.
 pub fn packing_law<A: Allocator + Copy>()
@@ -91,13 +98,15 @@ pub fn packing_law<A: Allocator + Copy>()
 {}
 
 /// The same of each processor of every world: marks never pass fronts, nothing is held past the window, each
-/// visit went by the rules with new messages made by them, and each join kept as heard says exactly the sets.
+/// visit went by the rules with new messages made by them, each join kept as heard says exactly the sets, and nothing
+/// is left to wrap behind an End.
 pub fn world_law<A: Allocator + Copy>()
     ensures marks { (n i : ℕ) (events : List (RingEvent A)) (ring : RingId) → mark ((run (unformed n) events).cores i) ring ≤ front ((run (unformed n) events).cores i) ring }
     ensures window { (n i : ℕ) (events : List (RingEvent A)) (ring : RingId) (k : ℕ) → holds ((run (unformed n) events).cores i).held ring k ≡ true → k ≤ mark ((run (unformed n) events).cores i) ring + window_size }
     ensures visits { (n i : ℕ) (events : List (RingEvent A)) → AreTurnsOf ((run (unformed n) events).cores i).me ((run (unformed n) events).cores i).held ((run (unformed n) events).cores i).turns }
     ensures fresh { (n i : ℕ) (events : List (RingEvent A)) → AreFreshOf ((run (unformed n) events).cores i).me ((run (unformed n) events).cores i).held ((run (unformed n) events).cores i).turns }
     ensures joins { (n i : ℕ) (events : List (RingEvent A)) → AllSaySame ((run (unformed n) events).cores i).gathering }
+    ensures ends { (n i : ℕ) (events : List (RingEvent A)) → HasEnded ((run (unformed n) events).cores i) }
 {}
 
 /// Of the commit token's rounds in every run: the rings that each processor takes part in rise; and each commit
@@ -124,6 +133,7 @@ pub fn laws_at_global()
     window_law::<Global>();
     agreement_law::<Global>();
     visit_law::<Global>();
+    ended_law::<Global>();
     packing_law::<Global>();
     world_law::<Global>();
     rounds_law::<Global>();

@@ -1,4 +1,5 @@
 -- An object as a function of content and operation, and what a list of operations makes of it.
+-- Objects, of docs/PROTOCOL.md.
 use Rattle.std.specs.Prelude.{ℕ, ◌≤◌, List, [], ◌∷◌, length, take, slice_index_or}
 use Rattle.ring_object.specs.Bytes.{AreBytes}
 

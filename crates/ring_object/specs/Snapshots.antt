@@ -1,4 +1,5 @@
 -- Snapshots: a content as bytes, and the way back.
+-- Objects, of docs/PROTOCOL.md.
 use Rattle.std.specs.Prelude.{◌≡◌, ℕ, ◌^◌, ◌<◌, List, length, Option, Some, None, Result, MatchResult}
 use Rattle.ring_base.specs.declared.fault.Fault.{Fault}
 use Rattle.ring_base.specs.declared.fault.Fault.TheVariants.{Memory, BadSnapshot}

@@ -5,7 +5,7 @@ use Rattle.ring_payload.specs.declared.call.Call.{Call}
 use Rattle.ring_payload.specs.declared.content.Payload.{Payload}
 use Rattle.ring_payload.specs.declared.content.Payload.TheVariants.{Call as OneCall, Wrapped, End, Head, Part, Pack, Snap}
 use Rattle.ring_one.specs.Texts.{calls_in, log_of}
-use Rattle.ring_one.specs.Tickets.{Asked, asked_calls}
+use Rattle.ring_ticket.specs.Tickets.{Asked, asked_calls}
 
 -- P holds of each call among the messages
 abbrev pub EachCall : {A : Type 0} → (Call A → Type 0) → List (Payload A) → Type 0

@@ -3,10 +3,6 @@ pub mod Each
 pub mod Moves
 pub mod Answering
 pub mod Linear
-pub mod Waits
 pub mod Shapes
-pub mod Places
-pub mod Telling
-pub mod Effects
 pub mod Nodes
 pub mod Logged

@@ -24,7 +24,7 @@ use Rattle.ring_one.specs.declared.event.Event.TheVariants.{Issue, Deliver, Nois
 use Rattle.ring_one.specs.declared.input.Input.{Input}
 use Rattle.ring_one.specs.declared.input.Input.TheVariants.{Frame as Comes, Noise as NoiseComes, Timeout as TimeIsOver, Stop as IsToStop}
 use Rattle.ring_one.specs.Texts.{calls_in, is_adopted, base_of}
-use Rattle.ring_one.specs.Tickets.{Asked, asked_calls}
+use Rattle.ring_ticket.specs.Tickets.{Asked, asked_calls}
 use Rattle.ring_one.specs.Machine.{One, committed_of, move_on, one_step, new_answers, is_stopped, is_operational, submit_fault}
 use Rattle.ring_one.specs.Runs.{World, frame_of, replies, issues, did, world_opening, moment_of, order_in, steps, delivers, happens, run_from, run}
 use Rattle.ring_one.proofs.Fronts.{take-front, log_of-front, log_of-unadopted}

@@ -23,7 +23,7 @@ use Rattle.ring_one.specs.declared.ring.Ring.{Ring}
 use Rattle.ring_one.specs.Machine.{One, Move, accepts, commit_token, committed_of, is_commit_token, is_operational, is_own_report, is_running, is_stopped, move_on, on_commit_token, on_join_timeout, one_step, stays, submit_fault, submitted, visits}
 use Rattle.ring_one.specs.Numbers.{IsRing, committed_length, one_of, ring_opening, ring_visited}
 use Rattle.ring_one.specs.Runs.{World, frame_of, issues, did, world_opening, steps, delivers, happens, run_from, run}
-use Rattle.ring_one.specs.Tickets.{asked_calls}
+use Rattle.ring_ticket.specs.Tickets.{asked_calls}
 use Rattle.ring_one.proofs.Nodes.{length-asked_of, none_of, or_false, ring-more, ring-state, ring-stopped, ring-visited, submitted-one_of}
 use Rattle.ring_one.proofs.Shapes.{asked_calls-asked_of, committed_of-one_of, visited-one_of}
 

@@ -15,7 +15,7 @@ use Rattle.ring_base.specs.declared.state.State.{State}
 use Rattle.ring_base.specs.declared.state.State.TheVariants.{Gather, Commit, Recovery, Operational, Stopped}
 use Rattle.ring_one.specs.declared.input.Input.{Input}
 use Rattle.ring_one.specs.declared.input.Input.TheVariants.{Frame as Comes, Noise, Timeout, Stop}
-use Rattle.ring_one.specs.Tickets.{Asked, asked_calls, place_of, unanswered}
+use Rattle.ring_ticket.specs.Tickets.{Asked, asked_calls, place_of, unanswered}
 use Rattle.ring_one.specs.Machine.{One, Move, ring_before, ring_of_one, empty_head, is_operational, committed_of, room, end_after, new_messages, installs, adopts, due, visited, stays, visits, accepts, on_commit_token, on_join_timeout, move_on, is_commit_token, is_own_report, commit_token}
 use Rattle.ring_one.proofs.Each.{EachCall, call-append, call-take, call-drop, call-map, asked-filter}
 

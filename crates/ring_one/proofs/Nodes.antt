@@ -14,8 +14,8 @@ use Rattle.ring_payload.specs.declared.content.Payload.{Payload}
 use Rattle.ring_payload.specs.declared.content.Payload.TheVariants.{Call as OneCall, End, Head}
 use Rattle.ring_session.specs.Deduplicated.{deduplicated}
 use Rattle.ring_session.specs.Table.{Table, table_next, table_after}
-use Rattle.ring_one.specs.declared.outs.Answered.{Answered}
-use Rattle.ring_one.specs.declared.recent.Kept.{Kept}
+use Rattle.ring_ticket.specs.declared.answered.Answered.{Answered}
+use Rattle.ring_ticket.specs.declared.recent.Kept.{Kept}
 use Rattle.ring_one.specs.declared.ring.Ring.{Ring}
 use Rattle.ring_base.specs.declared.state.State.{State}
 use Rattle.ring_base.specs.declared.state.State.TheVariants.{Gather, Commit, Recovery, Operational, Stopped}
@@ -26,18 +26,18 @@ use Rattle.ring_wire.specs.declared.frame.Frame.TheVariants.{Token as OneToken, 
 use Rattle.ring_base.specs.declared.kind.Kind.{Kind}
 use Rattle.ring_base.specs.declared.kind.Kind.TheVariants.{Retransmit, Join, Consensus, Loss}
 use Rattle.ring_one.specs.Texts.{is_adopted, log_of}
-use Rattle.ring_one.specs.Tickets.{Asked, unanswered, answers_after, all_answers, kept_answers, answer_to}
+use Rattle.ring_ticket.specs.Tickets.{Asked, unanswered, answers_after, all_answers, kept_answers, answer_to}
 use Rattle.ring_one.specs.Machine.{One, Move, commit_token, is_commit_token, is_own_report, on_frame, stays, visits, accepts, on_join_timeout, on_timeout, on_commit_token, is_ring_of_one, text_after, empty_head, is_operational, is_running, is_stopped, committed_of, new_answers, one_reply, visited, submit_fault, submitted}
 use Rattle.ring_one.specs.Numbers.{IsRing, ring_accepts, committed_length, logged_length, waits, sent, ring_visited, messages_of, asked_of, one_of}
-use Rattle.ring_one.specs.Recent.{last_kept, kept_of, kept_answer}
-use Rattle.ring_one.specs.Waiting.{waiting_from, waiting_after, given_after, done_after}
+use Rattle.ring_ticket.specs.Recent.{last_kept, kept_of, kept_answer}
+use Rattle.ring_ticket.specs.Waiting.{waiting_from, waiting_after, given_after, done_after}
 use Rattle.ring_one.specs.Kept.{committed_calls, IsNode}
 use Rattle.ring_base.proofs.Each.{each-weaker}
-use Rattle.ring_one.proofs.Effects.{length-deduplicated, deduplicated_after-few, done_after-few}
+use Rattle.ring_ticket.proofs.Effects.{length-deduplicated, deduplicated_after-few, done_after-few}
 use Rattle.ring_one.proofs.Shapes.{length-messages_of, map-push, log_of-messages, committed_of-one_of, asked_calls-asked_of, asked_of-push, visited-one_of, take-more, waits-late}
-use Rattle.ring_one.proofs.Places.{Goes, goes-on}
-use Rattle.ring_one.proofs.Telling.{length-unanswered, waiting_from-push, answers_after-push, answers_after-append, kept-more, kept_answer-map}
-use Rattle.ring_one.proofs.Waits.{waiting_from-known}
+use Rattle.ring_ticket.proofs.Places.{Goes, goes-on}
+use Rattle.ring_ticket.proofs.Telling.{length-unanswered, waiting_from-push, answers_after-push, answers_after-append, kept-more, kept_answer-map}
+use Rattle.ring_ticket.proofs.Waits.{waiting_from-known}
 
 -- ---- the ring's numbers
 

@@ -12,7 +12,7 @@ use Rattle.ring_one.specs.declared.ring.Ring.{Ring}
 use Rattle.ring_base.specs.declared.state.State.{State}
 use Rattle.ring_base.specs.declared.state.State.TheVariants.{Gather, Commit, Recovery, Operational, Stopped}
 use Rattle.ring_one.specs.Texts.{calls_in, is_adopted, log_of}
-use Rattle.ring_one.specs.Tickets.{Asked, asked_calls, unanswered}
+use Rattle.ring_ticket.specs.Tickets.{Asked, asked_calls, unanswered}
 use Rattle.ring_one.specs.Machine.{One, is_running, ring_before, ring_of_one, committed_of, room, new_messages, text_after, mark_after, adopts, due, queue_after, visited}
 use Rattle.ring_one.specs.Numbers.{IsRing, waits, ring_room, sent, ring_visited, messages_of, asked_of, one_of}
 use Rattle.ring_one.specs.Kept.{committed_calls}

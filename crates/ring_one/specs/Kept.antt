@@ -5,13 +5,13 @@ use Rattle.ring_object.specs.Operations.{Sequential}
 use Rattle.ring_payload.specs.declared.call.Call.{Call}
 use Rattle.ring_session.specs.Deduplicated.{deduplicated}
 use Rattle.ring_session.specs.Table.{Table, table_after}
-use Rattle.ring_one.specs.declared.recent.Kept.{Kept}
+use Rattle.ring_ticket.specs.declared.recent.Kept.{Kept}
 use Rattle.ring_one.specs.declared.ring.Ring.{Ring}
 use Rattle.ring_one.specs.Machine.{is_stopped}
 use Rattle.ring_one.specs.Numbers.{IsRing, committed_length, asked_of}
-use Rattle.ring_one.specs.Recent.{kept_of}
-use Rattle.ring_one.specs.Tickets.{Asked, all_answers, kept_answers}
-use Rattle.ring_one.specs.Waiting.{waiting_from}
+use Rattle.ring_ticket.specs.Recent.{kept_of}
+use Rattle.ring_ticket.specs.Tickets.{Asked, all_answers, kept_answers}
+use Rattle.ring_ticket.specs.Waiting.{waiting_from}
 
 -- the committed places
 abbrev pub committed_calls : {A : Type 0} → Ring → List (Call A) → List (Call A)

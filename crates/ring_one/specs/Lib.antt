@@ -1,9 +1,6 @@
 pub mod Texts
-pub mod Tickets
 pub mod Machine
 pub mod Runs
 pub mod Numbers
 pub mod Examples
-pub mod Waiting
-pub mod Recent
 pub mod Kept

@@ -1,5 +1,6 @@
 -- The node of a ring of one as a machine: its state, one step, and one submit. Rings of one have the name (1, 1). No
 -- message of theirs is a frame, since it would go to nobody; the tokens go to the node itself.
+-- Rings and states, and The replicated log, of docs/PROTOCOL.md, for a ring of one.
 use Rattle.std.specs.Prelude.{◌≡◌, ℕ, ◌+◌, ◌-◌, ◌==◌, ◌&&◌, ◌||◌, nat_le, nat_lt, min, max, Bool, true, false, not, List, [], ◌∷◌, ◌++◌, length, take, drop, map, replicate, Option, Some, None, Result, Ok, Err, if◌then◌else◌}
 use Rattle.std.specs.Str.{bytes_eq}
 use Rattle.ring_base.specs.declared.fault.Fault.{Fault}
@@ -23,10 +24,10 @@ use Rattle.ring_base.specs.declared.state.State.TheVariants.{Gather, Commit, Rec
 use Rattle.ring_one.specs.declared.input.Input.{Input}
 use Rattle.ring_one.specs.declared.input.Input.TheVariants.{Frame as Comes, Noise, Timeout, Stop}
 use Rattle.ring_session.specs.declared.answer.Answer.{Answer}
-use Rattle.ring_one.specs.declared.outs.Answered.{Answered}
+use Rattle.ring_ticket.specs.declared.answered.Answered.{Answered}
 use Rattle.ring_one.specs.declared.outs.Outs.{Outs}
 use Rattle.ring_one.specs.Texts.{is_adopted, log_of}
-use Rattle.ring_one.specs.Tickets.{Asked, asked_calls, unanswered, answers_after, all_answers, kept_answers, answer_to}
+use Rattle.ring_ticket.specs.Tickets.{Asked, asked_calls, unanswered, answers_after, all_answers, kept_answers, answer_to}
 
 -- The node's state.
 pub record One (A : Type 0) : Type 0 where

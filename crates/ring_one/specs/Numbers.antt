@@ -7,7 +7,7 @@ use Rattle.ring_payload.specs.declared.content.Payload.TheVariants.{Call as OneC
 use Rattle.ring_wire.specs.declared.token.Token.{Token}
 use Rattle.ring_one.specs.declared.ring.Ring.{Ring}
 use Rattle.ring_base.specs.declared.state.State.TheVariants.{Gather, Operational}
-use Rattle.ring_one.specs.Tickets.{Asked}
+use Rattle.ring_ticket.specs.Tickets.{Asked}
 use Rattle.ring_one.specs.Machine.{One, is_operational, is_running, is_stopped, is_ring_of_one, ring_before, ring_of_one, empty_head}
 
 abbrev pub ring_opening : Ring

@@ -1,4 +1,5 @@
 -- Runs: what a list of events makes of the node, the frames ever sent, and the history.
+-- Worlds and runs, in The book and the threads, of docs/PROTOCOL.md, for a ring of one.
 use Rattle.std.specs.Prelude.{ℕ, zero, suc, List, [], ◌∷◌, ◌++◌, Option, Some, None, slice_get, if◌then◌else◌}
 use Rattle.ring_base.specs.declared.fault.Fault.{Fault}
 use Rattle.ring_object.specs.Operations.{Sequential}
@@ -12,7 +13,7 @@ use Rattle.ring_one.specs.declared.event.Event.{Event}
 use Rattle.ring_one.specs.declared.event.Event.TheVariants.{Issue, Deliver, Noise, Timeout, Stop}
 use Rattle.ring_one.specs.declared.input.Input.{Input}
 use Rattle.ring_one.specs.declared.input.Input.TheVariants.{Frame as Comes, Noise as NoiseComes, Timeout as TimeIsOver, Stop as IsToStop}
-use Rattle.ring_one.specs.declared.outs.Answered.{Answered}
+use Rattle.ring_ticket.specs.declared.answered.Answered.{Answered}
 use Rattle.ring_one.specs.Machine.{One, Did, one_opening, one_step, is_stopped, submit_fault, submitted, committed_of}
 
 -- A world of one node.

@@ -1,4 +1,5 @@
 -- The text of a ring of one, the list of its messages' payloads from number 1 on, and the log that it makes.
+-- Rings and states, and The replicated log, of docs/PROTOCOL.md, for a ring of one.
 use Rattle.std.specs.Prelude.{Bool, true, false, List, [], ◌∷◌, ◌++◌}
 use Rattle.ring_payload.specs.declared.call.Call.{Call}
 use Rattle.ring_payload.specs.declared.content.Payload.{Payload}

@@ -11,7 +11,7 @@ ghost use Rattle.ring_one.specs.Examples.{first_operation, first_call, call_sent
 ghost use Rattle.ring_one.specs.Machine.{committed_of, ring_before, ring_of_one};
 ghost use Rattle.ring_one.specs.Texts.{is_adopted, base_of, log_of};
 ghost use Rattle.ring_one.specs.Runs.{run, happens, order_in};
-ghost use Rattle.ring_one.specs.Tickets.{asked_calls};
+ghost use Rattle.ring_ticket.specs.Tickets.{asked_calls};
 
 use ring_object::Object;
 

@@ -8,20 +8,11 @@ mod input;
 mod laws;
 mod node;
 mod outs;
-mod recent;
 mod ring;
-mod ticket;
-mod waiting;
 
 pub use event::Event;
 pub use input::Input;
 pub use laws::{first_reply_example, linear_law};
 pub use node::Node;
-pub use outs::{Answered, Outs};
-pub use ticket::Ticket;
-
-/// At most so many tickets of a node are unanswered.
-pub const MAX_UNANSWERED: usize = 64;
-
-/// The answers of so many tickets, those answered last, are kept.
-pub const KEPT_ANSWERS: usize = 64;
+pub use outs::Outs;
+pub use ring_ticket::{Answered, Ticket};

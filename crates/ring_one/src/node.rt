@@ -6,25 +6,22 @@ ghost use Rattle.ring_base.specs.declared.fault.Fault.TheVariants.{Memory, Stopp
 ghost use Rattle.ring_wire.specs.declared.frame.Frame.TheVariants.{Token as OneToken, Commit as OneCommit};
 ghost use Rattle.ring_session.specs.Deduplicated.{deduplicated};
 ghost use Rattle.ring_session.specs.Table.{table_next};
-ghost use Rattle.ring_one.specs.Waiting.{waiting_after, given_after, done_after};
+ghost use Rattle.ring_ticket.specs.Waiting.{waiting_after, given_after, done_after};
 ghost use Rattle.ring_one.specs.Machine.{one_opening, one_stopped, one_step, one_reply, is_stopped, is_operational, is_running, committed_of, submit_fault, submitted, on_frame, on_commit_token, on_join_timeout, on_timeout, visits, IsMove};
 ghost use Rattle.ring_one.specs.Texts.{log_of};
 
-use crate::MAX_UNANSWERED;
 use crate::frames::{
     commit_token, is_commit_token, is_own_report, ring_before, ring_of_one, token_of,
 };
 use crate::input::Input;
 use crate::outs::Outs;
-use crate::recent::Recent;
 use crate::ring::Ring;
-use crate::ticket::Ticket;
-use crate::waiting::{Waiting, answer_calls, copied, copy_of};
 use arrayvec::ArrayVec;
 use ring_base::{Fault, Fixed, Kind, MAX, Past, Proc, RingId, State, past_of};
 use ring_object::Object;
 use ring_payload::Call;
 use ring_session::{Answer, Sessions};
+use ring_ticket::{MAX_UNANSWERED, Recent, Ticket, Waiting, answer_calls, copied, copy_of};
 use ring_wire::{CommitToken, Frame, Token};
 use std::marker::Model;
 

@@ -3,20 +3,10 @@
 ghost use Rattle.std.specs.Prelude.{◌≡◌, [], ◌∷◌, IfOk, IfErr};
 ghost use Rattle.ring_base.specs.declared.fault.Fault.TheVariants.{Memory};
 
-use crate::ticket::Ticket;
 use ring_base::Fault;
-use ring_payload::Call;
-use ring_session::Answer;
+use ring_ticket::Answered;
 use ring_wire::{CommitBox, CommitToken, Frame};
 use std::alloc::{Allocator, Global};
-
-/// The answer to a ticket's call.
-#[derive(Drop)]
-pub struct Answered<A: Allocator + Copy = Global> {
-    pub ticket: Ticket,
-    pub call: Call<A>,
-    pub answer: Answer,
-}
 
 /// What a step gives: the frames sent, and the answers by the order of their places, then of their tickets.
 #[derive(Drop)]

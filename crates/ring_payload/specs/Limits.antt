@@ -90,10 +90,6 @@ whole_piece = 7000
 abbrev pub most_requests : ℕ
 most_requests = 32
 
--- numbers of messages past the safe mark by at most so many are held and reported
-abbrev pub most_ahead : ℕ
-most_ahead = 256
-
 -- a frame has at most so many bytes
 abbrev pub most_frame : ℕ
 most_frame = 8192

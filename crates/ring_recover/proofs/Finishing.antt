@@ -39,7 +39,7 @@ one_plan k i j p q e f same = plan_from_is k i p e ∙ ap (λ (r : RingId). plan
 -- One delivery
 
 -- what is held is found
-holds-found : {A : Type 0} → (held : List (Message A)) (ring : RingId) (n : ℕ) → holds held ring n ≡ true → (x : Message A) × (found held ring n ≡ Some x)
+pub holds-found : {A : Type 0} → (held : List (Message A)) (ring : RingId) (n : ℕ) → holds held ring n ≡ true → (x : Message A) × (found held ring n ≡ Some x)
 holds-found [] ring n h = absurd (let q : ⊥ = cc in q)
 holds-found {A} (y ∷ held) ring n h =
     elim (cases_Bool (is_numbered ring n y)) [

@@ -1,1 +1,11 @@
 pub mod Finishing
+pub mod Choosing
+pub mod Gaps
+pub mod Planning
+pub mod Mates
+pub mod Handing
+pub mod Counting
+pub mod Following
+pub mod Lent
+pub mod AllRings
+pub mod Sending

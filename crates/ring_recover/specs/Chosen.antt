@@ -1,11 +1,27 @@
 -- Numbers as bits: of the 256 after a number, those whose bit is set.
-use Rattle.std.specs.Prelude.{ℕ, ◌+◌, ◌-◌, ◌/◌, ◌%◌, Bool, List, filter, slice_index}
-use Rattle.ring_base.specs.Numbers.{window_size, numbers_from, has_bit}
+use Rattle.std.specs.Prelude.{◌≡◌, ℕ, ◌+◌, ◌-◌, ◌^◌, ◌<◌, ◌≤◌, ◌≢◌, Bool, true, false, List, filter}
+use Rattle.ring_base.specs.Numbers.{window_size, numbers_from}
+use Rattle.ring_window.specs.Bits.{is_set}
 
 -- four words of 64 bits, the least bit of the first for the number after + 1
 abbrev pub is_chosen : ℕ → List ℕ → ℕ → Bool
-is_chosen after words n = has_bit (slice_index words ((n - after - 1) / 64)) ((n - after - 1) % 64)
+is_chosen after words n = is_set words (n - (after + 1))
+
+-- those from an offset on, ascending
+abbrev pub chosen_from : ℕ → List ℕ → ℕ → List ℕ
+chosen_from after words offset = filter (is_chosen after words) (numbers_from (after + 1 + offset) (window_size - offset))
 
 -- the numbers, ascending
 abbrev pub chosen : ℕ → List ℕ → List ℕ
 chosen after words = filter (is_chosen after words) (numbers_from (after + 1) window_size)
+
+-- each can be told as a word of 64 bits
+abbrev pub AreWords : ℕ → List ℕ → Type 0
+AreWords after words = (j : ℕ) → is_set words j ≡ true → after + 1 + j < 2 ^ 64
+
+-- from an offset on, the first whose bit is set, 256 where there is none
+pub record IsFirstSet (words : List ℕ) (from k : ℕ) : Type 0 where
+  pub later : from ≤ k
+  pub inside : k ≤ 256
+  pub clear : (j : ℕ) → from ≤ j → j < k → is_set words j ≡ false
+  pub set : k ≢ 256 → is_set words k ≡ true

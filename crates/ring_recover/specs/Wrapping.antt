@@ -40,13 +40,21 @@ wrap x = wrap_content x (content_of x.payload)
 abbrev pub above_low : {A : Type 0} → Plan → List (Message A) → List (Message A)
 above_low p held = filter_map (found held p.old) (numbers_from (low p + 1) (highest held p.old - low p))
 
+-- those that none of these messages of the new ring wraps
+abbrev pub left_to_wrap : {A : Type 0} → Plan → List (Message A) → List (Message A) → List (Message A)
+left_to_wrap p fresh held = filter (λ (x : Message _). not (is_wrapped fresh p.old x.number)) (above_low p held)
+
 -- those not yet seen wrapped on the new ring
 abbrev pub to_wrap : {A : Type 0} → Plan → RingId → List (Message A) → List (Message A)
-to_wrap p running held = filter (λ (x : Message _). not (is_wrapped (of_ring running held) p.old x.number)) (above_low p held)
+to_wrap p running held = left_to_wrap p (of_ring running held) held
 
--- the node's own End is held, so it went out
+-- the node's own End is among these messages of the new ring
+abbrev pub has_own_end : {A : Type 0} → ℕ → List (Message A) → Bool
+has_own_end me fresh = list_any (λ (x : Message _). is_end x.payload && (x.sender == me)) fresh
+
+-- it is held, so it went out
 abbrev pub has_ended : {A : Type 0} → ℕ → RingId → List (Message A) → Bool
-has_ended me running held = list_any (λ (x : Message _). is_end x.payload && (x.sender == me)) (of_ring running held)
+has_ended me running held = has_own_end me (of_ring running held)
 
 -- what a node in Recovery would send: first what is left to wrap, then one End
 abbrev pub wraps_and_end : {A : Type 0} → ℕ → Plan → RingId → List (Message A) → List (Payload A)

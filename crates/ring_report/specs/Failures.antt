@@ -1,4 +1,5 @@
 -- Why a function ends before its work is done, and the line that says so.
+-- The command line, of docs/FORMATS.md.
 use Rattle.std.specs.Prelude.{ℕ, List, [], ◌++◌, codes}
 use Rattle.std.specs.Fmt.{decimal}
 use Rattle.ring_base.specs.Fault.{fault_number, fault_text}

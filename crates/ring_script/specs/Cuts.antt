@@ -1,4 +1,5 @@
 -- The groups that a cut parts the nodes into: GROUP GROUP.. of a line `cut`.
+-- Scripts, of docs/FORMATS.md.
 use Rattle.std.specs.Prelude.{◌≡◌, ℕ, ◌+◌, Bool, true, nat_le, ◌&&◌, ◌==◌, if◌then◌else◌, List, [], ◌∷◌, length, replicate, Contains, Option, Some, None}
 use Rattle.ring_base.specs.Group.{Group}
 use Rattle.ring_base.specs.Processors.{IsMember, most_processors, has, nobody, only, everybody, union, common}

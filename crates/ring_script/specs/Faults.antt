@@ -1,4 +1,5 @@
 -- Why a text is no script.
+-- Scripts, of docs/FORMATS.md.
 use Rattle.std.specs.Prelude.{◌≤◌, ⊤}
 use Rattle.ring_script.specs.declared.scripts.ScriptFault.{ScriptFault}
 use Rattle.ring_script.specs.declared.scripts.ScriptFault.TheVariants.{Memory, AtLine}

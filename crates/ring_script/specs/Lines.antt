@@ -1,4 +1,5 @@
 -- The lines of a script after its first: what they ask for, by their words.
+-- Scripts, of docs/FORMATS.md.
 use Rattle.std.specs.Prelude.{ℕ, ◌*◌, ◌^◌, ◌-◌, ◌≤◌, Bool, false, not, nat_le, ◌&&◌, ◌==◌, if◌then◌else◌, List, length, codes, Option, Some, None, IfSome}
 use Rattle.std.specs.Char.{is_ascii_uppercase}
 use Rattle.std.specs.List.{list_any}

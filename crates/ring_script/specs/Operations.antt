@@ -1,4 +1,5 @@
 -- The operations of the program's object, by their words: OP of a line `call`.
+-- Scripts, of docs/FORMATS.md.
 use Rattle.std.specs.Prelude.{ℕ, ◌^◌, ◌-◌, Bool, nat_le, ◌&&◌, if◌then◌else◌, List, [], ◌∷◌, ◌++◌, length, codes, Option, Some, None}
 use Rattle.std.specs.Char.{is_ascii_graphic}
 use Rattle.std.specs.Int.{w64, to_be_bytes}

@@ -1,4 +1,5 @@
 -- What the reader's calls answer, by what is to be read.
+-- Scripts, of docs/FORMATS.md.
 use Rattle.std.specs.Prelude.{◌≡◌, Option, Some, None, Result, Ok, Err, option_and_then, ⊤}
 use Rattle.ring_base.specs.declared.fault.Fault.{Fault}
 use Rattle.ring_base.specs.declared.fault.Fault.TheVariants.{Memory, BadScript}

@@ -1,5 +1,6 @@
 -- The votes of the nodes, one number a processor, and the line `votes V1 .. VN` that tells them. It may stand directly
 -- after the line of the nodes, among those that are not skipped.
+-- Scripts, of docs/FORMATS.md.
 use Rattle.std.specs.Prelude.{ℕ, zero, suc, ◌+◌, Bool, false, ◌&&◌, if◌then◌else◌, List, [], ◌∷◌, codes, replicate, Option, Some, None, Result, Ok, Err}
 use Rattle.ring_base.specs.Group.{Group}
 use Rattle.ring_script.specs.Numbers.{is, word_at, number_at}

@@ -1,5 +1,6 @@
 -- Which calls of a list take effect. Each client numbers its calls 1, 2 and so on; a call that is sent again, comes
 -- late or leaves a number out takes no effect, nor does one of a client beyond the first 1,024.
+-- Sessions, of docs/PROTOCOL.md.
 use Rattle.std.specs.Prelude.{◌≡◌, ℕ, ◌+◌, ◌==◌, ◌&&◌, ◌||◌, nat_lt, Bool, List, [], ◌∷◌, ◌++◌, count_by, map, take, slice_get, Some, if◌then◌else◌}
 use Rattle.ring_payload.specs.declared.call.Call.{Call}
 

@@ -1,5 +1,6 @@
 -- The session table's answer to each call of a list, as a function of the list alone: what was answered before, where
 -- and by whom plays no part.
+-- Sessions, of docs/PROTOCOL.md.
 use Rattle.std.specs.Prelude.{◌≡◌, ℕ, ◌+◌, ◌==◌, ◌&&◌, nat_lt, Bool, true, false, List, length, take, slice_get, Option, Some, None, position, if◌then◌else◌}
 use Rattle.std.specs.Option.{option_map}
 use Rattle.std.specs.Str.{bytes_eq}

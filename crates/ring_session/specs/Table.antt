@@ -1,4 +1,5 @@
 -- The session table as a value, and what a call makes of it.
+-- Sessions, of docs/PROTOCOL.md.
 use Rattle.std.specs.Prelude.{ℕ, ◌+◌, ◌≤◌, ◌==◌, ◌&&◌, ◌||◌, nat_lt, Bool, List, [], length, Option, Some, None, is_some, fold, All, if◌then◌else◌}
 use Rattle.std.specs.BTreeMap.{insert_entry, is_at}
 use Rattle.std.specs.Map.{lookup, values_of}

@@ -19,6 +19,12 @@ pub record Sent (A : Type 0) : Type 0 where
   pub to : ℕ
   pub frame : Frame A
 
+-- a frame sent, with its sender and its receivers
+pub record Carried (A : Type 0) : Type 0 where
+  pub from : ℕ
+  pub to : ℕ
+  pub frame : Frame A
+
 -- what was reported on the way into a ring
 pub record Report : Type 0 where
   pub ring : RingId

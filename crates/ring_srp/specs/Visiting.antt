@@ -1,5 +1,5 @@
 -- A core visits the token: Token and window, rules 6 to 9 of docs/PROTOCOL.md.
-use Rattle.std.specs.Prelude.{ℕ, ◌+◌, Bool, List, [], ◌∷◌, ◌++◌, map, filter_map, take, length, Some}
+use Rattle.std.specs.Prelude.{ℕ, ◌+◌, Bool, List, [], ◌∷◌, ◌++◌, map, filter_map, reverse, take, length, Some}
 use Rattle.ring_base.specs.Processors.{only, less, next}
 use Rattle.ring_payload.specs.declared.content.Payload.{Payload}
 use Rattle.ring_payload.specs.Packing.{packed, left_behind}
@@ -42,9 +42,9 @@ new_payloads c t = offers c.state c (room_at c t)
 abbrev pub new_messages : {A : Type 0} → Core A → Token → List (Message A)
 new_messages c t = numbered t.ring c.me t.seq (new_payloads c t)
 
--- it holds them at once
+-- it holds them at once, one after another: what is held stands newest first
 abbrev pub held_after : {A : Type 0} → Core A → Token → List (Message A)
-held_after c t = new_messages c t ++ c.held
+held_after c t = reverse (new_messages c t) ++ c.held
 
 -- (c) to (e) the token as it goes, by what is held now
 abbrev pub requests_of : {A : Type 0} → Core A → Token → List (Message A) → ℕ → List ℕ

@@ -1,5 +1,6 @@
 -- A set of names as a table: how an operation is read, what is replied to it, and which names are in the set after it.
 -- A set is the ascending list of its names.
+-- Objects, of docs/PROTOCOL.md; Operations and replies, and Snapshots, of docs/FORMATS.md.
 use Rattle.std.specs.Prelude.{◌≡◌, ℕ, zero, suc, ◌<◌, ◌≤◌, Bool, true, false, ◌==◌, nat_le, ◌&&◌, if◌then◌else◌, not, List, [], ◌∷◌, ◌++◌, length, take, drop, filter, insert, remove, All, Option, Some, None, is_some}
 use Rattle.std.specs.List.{list_any, flat_map}
 use Rattle.std.specs.Option.{option_map, option_and_then}

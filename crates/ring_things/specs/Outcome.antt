@@ -1,4 +1,5 @@
 -- How an operation went, as the first byte of its reply.
+-- Operations and replies, of docs/FORMATS.md.
 use Rattle.std.specs.Prelude.{ℕ}
 use Rattle.ring_things.specs.declared.replies.Outcome.{Outcome}
 use Rattle.ring_things.specs.declared.replies.Outcome.TheVariants.{Done, NotDone, Full, Unreadable}

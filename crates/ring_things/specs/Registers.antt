@@ -1,4 +1,5 @@
 -- Registers as a table: how an operation is read, what is replied to it, and which values stand after it.
+-- Objects, of docs/PROTOCOL.md; Operations and replies, and Snapshots, of docs/FORMATS.md.
 use Rattle.std.specs.Prelude.{ℕ, Bool, ◌==◌, ◌&&◌, if◌then◌else◌, List, [], ◌∷◌, length, drop, slice_index, slice_set, Option, Some, None, is_some}
 use Rattle.byteorder.specs.Endian.{big_bytes, big_number}
 use Rattle.ring_object.specs.Operations.{unreadable}

@@ -1,5 +1,4 @@
 pub mod Marks
-pub mod Turning
 pub mod Arus
 pub mod Safe
 pub mod Keeping

@@ -8,7 +8,7 @@ use Rattle.ring_wire.specs.declared.token.Token.{Token}
 use Rattle.ring_token.specs.Turns.{mark_by, mark_after}
 use Rattle.ring_token.specs.Visits.{aru_after, aru_id_after}
 use Rattle.ring_token.specs.Rounds.{VisitBy, arrived, IsNext, AreVisits, forwarded_by, HaveGrown, MarksAreSafe, PairsAreSafe}
-use Rattle.ring_token.proofs.Turning.{member_of, turns_differ, turns_differ_at, turns_return, turns_reach}
+use Rattle.ring_base.proofs.Turning.{member_of, turns_differ, turns_differ_at, turns_return, turns_reach}
 use Rattle.ring_token.proofs.Arus.{Sets, Stays, aru_step}
 
 -- none of these members lacked a number up to s

@@ -2,13 +2,10 @@
 use Rattle.std.specs.Prelude.{ℕ, suc, ◌+◌, ◌-◌, min, Bool, true, not, ◌&&◌, ◌||◌, ◌==◌, nat_lt, if◌then◌else◌, List, [], ◌∷◌, filter, take, Option, Some, None}
 use Rattle.ring_base.specs.Numbers.{window_size, visit_limit, max_number, merged}
 use Rattle.ring_base.specs.declared.ring_id.RingId.{RingId}
+use Rattle.ring_payload.specs.Limits.{most_requests}
 use Rattle.ring_payload.specs.declared.content.Payload.{Payload}
 use Rattle.ring_wire.specs.declared.message.Message.{Message}
 use Rattle.ring_wire.specs.declared.token.Token.{Token}
-
--- the numbers that a token asks for are at most
-abbrev pub request_limit : ℕ
-request_limit = 32
 
 -- (a) What was asked for
 
@@ -58,7 +55,7 @@ aru_id_after me front seq t = if may_set me front t then (if front == seq then N
 
 -- the smallest of what stays and of what the node lacks
 abbrev pub requests_after : List ℕ → List ℕ → List ℕ
-requests_after stays missing = take request_limit (merged stays missing)
+requests_after stays missing = take most_requests (merged stays missing)
 
 -- (e) The token as it goes
 

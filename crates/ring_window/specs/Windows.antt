@@ -2,6 +2,7 @@
 use Rattle.std.specs.Prelude.{ℕ, max, Bool, ◌&&◌, nat_lt, if◌then◌else◌, List, [], ◌∷◌, take, Option, None}
 use Rattle.ring_base.specs.Rings.{same_ring}
 use Rattle.ring_base.specs.declared.ring_id.RingId.{RingId}
+use Rattle.ring_payload.specs.Limits.{most_requests}
 use Rattle.ring_wire.specs.declared.message.Message.{Message}
 use Rattle.ring_window.specs.Held.{found, is_new, missing}
 
@@ -32,4 +33,4 @@ kept w n = if nat_lt w.mark n then found w.held w.ring n else None
 
 -- what a token may be asked for: the least of the missing numbers
 abbrev pub first_missing : {A : Type 0} → Windowed A → ℕ → List ℕ
-first_missing w upto = take 32 (missing w.held w.ring w.mark upto)
+first_missing w upto = take most_requests (missing w.held w.ring w.mark upto)

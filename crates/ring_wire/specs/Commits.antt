@@ -1,4 +1,5 @@
 -- How commit tokens are spelled: the ring, its members, the hop, and the entries of the members that it has come to.
+-- Frames, of docs/FORMATS.md.
 use Rattle.std.proofs.Common.{◌≡◌, ◌≢◌, ℕ, ◌*◌, ◌^◌, ◌<◌, ◌≤◌, Bool, true, false, min, List, [], ◌∷◌, length, Option, refl, arith, inl, inr, eq-eqb, ap}
 use Rattle.std.specs.Prelude.{nat_le, nat_lt, ◌&&◌, ◌||◌, not, ◌==◌}
 use Rattle.std.specs.List.{flat_map, AllByRecursion}

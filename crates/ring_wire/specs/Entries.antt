@@ -1,10 +1,11 @@
 -- How the entries of a commit token are spelled.
+-- The commit entry, of docs/FORMATS.md.
 use Rattle.std.proofs.Common.{◌≡◌, ℕ, zero, suc, ◌+◌, ◌<◌, ◌≤◌, ◌/◌, ◌%◌, Bool, true, false, List, [], ◌∷◌, length, Option, refl, arith, add-one, inl, inr, eq-eqb}
 use Rattle.std.specs.Prelude.{nat_le, nat_lt, ◌&&◌, ◌||◌, not, ◌==◌, slice_index}
 use Rattle.std.specs.List.{AllByRecursion, list_all}
 use Rattle.std.proofs.lemmas.Bool.{cases_lt, cases_Bool, leb-true, le-leb, ltb-false, le-ltb, eqb-true, and_parts, not-true, and_cases, or_parts, both_ways, and_right}
 use Rattle.byteorder.specs.Endian.{big_bytes}
-use Rattle.ring_base.specs.Numbers.{max_number, has_bit}
+use Rattle.ring_base.specs.Numbers.{max_number, window_size, has_bit}
 use Rattle.ring_base.specs.declared.ring_id.RingId.{RingId}
 use Rattle.ring_layout.specs.Reading.{IsFormat, such_at, made_at, ◌⊕◌}
 use Rattle.ring_layout.specs.Formats.{Format, word8, text, ◌&◌, tested_format}
@@ -19,11 +20,11 @@ bit_of held j = has_bit (slice_index held (j / 8)) (j % 8)
 -- A bit may be set where it isn't the first, and its number is at most mark + 256.
 pub record MayHold (front mark j : ℕ) : Type 0 where
   pub later : 1 ≤ j
-  pub inside : front + 1 + j ≤ mark + 256
+  pub inside : front + 1 + j ≤ mark + window_size
 
 -- what is wrong with one bit
 abbrev pub is_wrong : ℕ → ℕ → List ℕ → ℕ → Bool
-is_wrong front mark held j = bit_of held j && ((j == 0) || nat_lt (mark + 256) (front + 1 + j))
+is_wrong front mark held j = bit_of held j && ((j == 0) || nat_lt (mark + window_size) (front + 1 + j))
 
 -- of the first n bits none is wrong
 unfoldable pub held_test : ℕ → ℕ → List ℕ → ℕ → Bool
@@ -53,7 +54,7 @@ may_hold front mark held j right set =
     elim (and_cases _ _ right) [
       | inl clear ↦ absurd (both_ways _ clear set)
       | inr fine ↦
-          let both : ((j == 0) ≡ false) × (nat_lt (mark + 256) (front + 1 + j) ≡ false) = or_parts _ _ fine in
+          let both : ((j == 0) ≡ false) × (nat_lt (mark + window_size) (front + 1 + j) ≡ false) = or_parts _ _ fine in
           elim (cases_lt 0 j) [
             | inl some ↦ record { later = omega arith; inside = ltb-false _ _ both.1 }
             | inr none ↦ absurd (both_ways _ both.0 (eq-eqb j 0 (omega arith)))
@@ -120,7 +121,7 @@ pub record EntryFits (e : CommitEntry) : Type 0 where
   pub bits : length e.held ≡ 32
   pub mark : e.mark ≤ e.front
   pub front : e.front ≤ max_number
-  pub window : e.front ≤ e.mark + 256
+  pub window : e.front ≤ e.mark + window_size
   pub held : (j : ℕ) → j < 256 → bit_of e.held j ≡ true → MayHold e.front e.mark j
   pub nothing : e.old.seq ≡ 0 → ReportsNothing e
 
@@ -129,7 +130,7 @@ nothing_test e = (e.front == 0) && ((e.mark == 0) && are_zero e.held)
 
 -- the limits that join the fields
 abbrev pub entry_test : CommitEntry → Bool
-entry_test e = nat_le e.mark e.front && (nat_le e.front max_number && (nat_le e.front (e.mark + 256) && (held_test e.front e.mark e.held 256 && (not (e.old.seq == 0) || nothing_test e))))
+entry_test e = nat_le e.mark e.front && (nat_le e.front max_number && (nat_le e.front (e.mark + window_size) && (held_test e.front e.mark e.held 256 && (not (e.old.seq == 0) || nothing_test e))))
 
 is_nothing : (e : CommitEntry) → (not (e.old.seq == 0) || nothing_test e) ≡ true → e.old.seq ≡ 0 → ReportsNothing e
 is_nothing e h z =

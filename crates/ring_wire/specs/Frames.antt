@@ -1,11 +1,11 @@
 -- How frames are spelled: two fixed bytes, the version, the kind, the body's length, and the body. Frames, docs/FORMATS.md.
-use Rattle.std.proofs.Common.{◌≡◌, ℕ, ◌^◌, ◌<◌, ◌≤◌, Bool, List, [], ◌∷◌, length, Option, refl, arith, inl, inr, eq-eqb}
-use Rattle.std.specs.Prelude.{◌&&◌, ◌==◌}
+use Rattle.std.proofs.Common.{◌≡◌, ℕ, ◌^◌, ◌<◌, ◌≤◌, Bool, true, false, List, [], ◌∷◌, length, Option, Some, None, refl, arith, inl, inr, eq-eqb}
+use Rattle.std.specs.Prelude.{◌&&◌, ◌==◌, if◌then◌else◌}
 use Rattle.std.proofs.lemmas.Bool.{eqb-true, and_parts, cases_Bool}
 use Rattle.byteorder.specs.Endian.{big_bytes}
-use Rattle.ring_layout.specs.Reading.{IsFormat, made_at, ◌⊕◌}
+use Rattle.ring_layout.specs.Reading.{IsFormat, made_at, such_at, byte_at, ◌>>=◌, ◌⊕◌}
 use Rattle.ring_layout.specs.Formats.{Format, byte, ◌&◌, such, sized, told_format}
-use Rattle.ring_layout.specs.Cases.{Case, case, told_at, IsMade, cases_format}
+use Rattle.ring_layout.specs.Cases.{Case, case, told_at, cases_at, IsMade, cases_format}
 use Rattle.ring_payload.specs.declared.head.Head.{Head}
 use Rattle.ring_payload.specs.declared.content.Content.{Content}
 use Rattle.ring_payload.specs.declared.content.Content.TheVariants as contents
@@ -160,8 +160,47 @@ frame_fields = such is_start (byte & byte) & such is_of_version (byte & kind)
 abbrev told : {A : Type 0} → (ℕ × ℕ) × (ℕ × Frame A) → Frame A
 told p = p.1.1
 
+-- what stands behind the version and the kind
+unfoldable pub body_at : {A : Type 0} → ℕ → ℕ → List ℕ → Option (Frame A × List ℕ)
+body_at version kind bytes = such_at (λ f. version == version_of f) (cases_at kind_cases kind) bytes
+
 unfoldable pub frame_at : {A : Type 0} → List ℕ → Option (Frame A × List ℕ)
 frame_at {A} bytes = made_at told (frame_fields {A = A}).at bytes
+
+-- ---- a frame is what stands behind its version and its kind
+
+abbrev Fields : Type 0 → Type 0
+Fields A = (ℕ × ℕ) × (ℕ × Frame A)
+
+abbrev with_version : {A : Type 0} → ℕ → Frame A × List ℕ → Option ((ℕ × Frame A) × List ℕ)
+with_version version x = Some ((version, x.0), x.1)
+
+abbrev if_of_version : {A : Type 0} → (ℕ × Frame A) × List ℕ → Option ((ℕ × Frame A) × List ℕ)
+if_of_version x = if is_of_version x.0 then Some x else None
+
+abbrev with_start : {A : Type 0} → ℕ × ℕ → (ℕ × Frame A) × List ℕ → Option (Fields A × List ℕ)
+with_start start x = Some ((start, x.0), x.1)
+
+abbrev frame_told : {A : Type 0} → Fields A × List ℕ → Option (Frame A × List ℕ)
+frame_told x = Some (told x.0, x.1)
+
+passed : {A : Type 0} (t : Bool) (start : ℕ × ℕ) (x : (ℕ × Frame A) × List ℕ)
+    → (((if t then Some x else None) >>= with_start start) >>= frame_told) ≡ (if t then Some (x.0.1, x.1) else None)
+passed true start x = refl
+passed false start x = refl
+
+read_behind : {A : Type 0} (start : ℕ × ℕ) (version : ℕ) (read : Option (Frame A × List ℕ))
+    → ((((read >>= with_version version) >>= if_of_version) >>= with_start start) >>= frame_told)
+    ≡ (read >>= (λ x. if version == version_of x.0 then Some x else None))
+read_behind start version None = refl
+read_behind start version (Some (f, rest)) = passed (version == version_of f) start ((version, f), rest)
+
+pub frame_behind : {A : Type 0} (b0 b1 b2 b3 b4 : List ℕ) (first second version kind : ℕ) → first ≡ 84 → second ≡ 82
+    → byte_at b0 ≡ Some (first, b1) → byte_at b1 ≡ Some (second, b2)
+    → byte_at b2 ≡ Some (version, b3) → byte_at b3 ≡ Some (kind, b4) → frame_at {A = A} b0 ≡ body_at version kind b4
+unfolding frame_at body_at kind_at
+frame_behind {A} b0 b1 b2 b3 b4 first second version kind is_first is_second e0 e1 e2 e3 =
+    rw (e0, is_first, e1, is_second, e2, e3) (read_behind {A = A} (84, 82) version (cases_at kind_cases kind b4))
 
 spelled : {A : Type 0} (p : (ℕ × ℕ) × (ℕ × Frame A)) → (frame_fields {A = A}).Fits p → spelling_of (told p) ≡ (frame_fields {A = A}).spelling p
 spelled p f =

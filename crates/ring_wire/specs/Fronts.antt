@@ -1,5 +1,6 @@
 -- What stands at the front of bytes.
-use Rattle.std.proofs.Common.{◌≡◌, ℕ, ◌+◌, ◌-◌, ◌≤◌, ◌⊎◌, List, [], ◌++◌, length, take, drop, Option, Some, None, refl, sym, ap, ◌∙◌, arith}
+use Rattle.std.proofs.Common.{◌≡◌, ℕ, ◌+◌, ◌-◌, ◌≤◌, ◌⊎◌, true, false, List, [], ◌++◌, length, take, drop, Option, Some, None, Result, Ok, Err, refl, sym, ap, subst, ◌∙◌, arith}
+use Rattle.std.specs.Prelude.{IsSome, IfSome}
 use Rattle.ring_base.specs.declared.fault.Fault.{Fault}
 use Rattle.ring_base.specs.declared.fault.Fault.TheVariants.{NotMember, PendingFull, OpTooLong, Conflict, Stale, NumberGap, SessionsFull, Stopped, BookFull, Stranger, Memory, BadFrame, BadScript, NoAnswer, BadSnapshot}
 use Rattle.ring_layout.specs.Reading.{IsFormat, IsBytes, Refuses}
@@ -18,6 +19,16 @@ IsNoFront {A} spelling Fits bytes = (v : A) (rest : List ℕ) → Fits v → byt
 
 abbrev pub IsReadFault : Fault → Type 0
 IsReadFault e = (e ≡ BadFrame) ⊎ (e ≡ Memory)
+
+-- a value in a place, and what is left to read behind it
+abbrev pub with_rest : {A : Type 0} → Option A → List ℕ → Option (A × List ℕ)
+with_rest None rest = None
+with_rest (Some v) rest = Some (v, rest)
+
+-- A call put into the place what reading gives, and left the rest to read. Where it was refused, the place is as it was.
+abbrev pub Puts : {U A : Type 0} → Result U Fault → Option A → Option A → List ℕ → Option (A × List ℕ) → Type 0
+Puts (Ok u) old new rest read = (read ≡ with_rest new rest) × IsSome new
+Puts (Err e) old new rest read = (new ≡ old) × Refuses e read
 
 pub same_front : {A : Type 0} {spelling : A → List ℕ} {Fits : A → Type 0} {at : List ℕ → Option (A × List ℕ)} → IsFormat spelling Fits at
     → (v w : A) (x y : List ℕ) → Fits v → Fits w → spelling v ++ x ≡ spelling w ++ y → (v ≡ w) × (x ≡ y)
@@ -50,6 +61,20 @@ none_some x e = cc
 pub read_is : {A : Type 0} {spelling : A → List ℕ} {Fits : A → Type 0} {at : List ℕ → Option (A × List ℕ)} → IsFormat spelling Fits at
     → (bytes : List ℕ) (v : A) (rest : List ℕ) → Fits v → bytes ≡ spelling v ++ rest → at bytes ≡ Some (v, rest)
 read_is {A} {spelling} {Fits} {at} p bytes v rest f e = ap at e ∙ p.again v rest f
+
+-- where reading was refused for what stands at the front, no spelling stands there
+pub refused_front : {A : Type 0} {spelling : A → List ℕ} {Fits : A → Type 0} {at : List ℕ → Option (A × List ℕ)} → IsFormat spelling Fits at
+    → (bytes : List ℕ) (e : Fault) → Refuses e (at bytes) → e ≡ BadFrame → IsNoFront spelling Fits bytes
+refused_front {A} {spelling} {Fits} {at} p bytes e refuses bad v rest f is =
+    let none : at bytes ≡ None = subst (λ (g : Fault). Refuses g (at bytes)) bad refuses in
+    none_some (v, rest) (sym none ∙ read_is p bytes v rest f is)
+
+-- what was put into a place was got, and what is left is the rest
+pub put_got : {A : Type 0} {spelling : A → List ℕ} {Fits : A → Type 0} {at : List ℕ → Option (A × List ℕ)} → IsFormat spelling Fits at
+    → (bytes : List ℕ) (place : Option A) (rest : List ℕ) → IsBytes bytes → at bytes ≡ with_rest place rest → IsSome place
+    → (length rest ≤ length bytes) × IfSome place (λ v. IsGot spelling Fits bytes v (length bytes - length rest))
+put_got p bytes None rest fits e some = absurd (let no : false ≡ true = some in cc)
+put_got p bytes (Some v) rest fits e some = is_got p bytes v rest fits e
 
 pub only_memory : {A : Type 0} (e : Fault) (r : Option A) (x : A) → r ≡ Some x → Refuses e r → e ≡ Memory
 only_memory Memory r x s h = refl

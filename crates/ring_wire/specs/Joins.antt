@@ -1,4 +1,5 @@
 -- How joins are spelled.
+-- Frames, of docs/FORMATS.md.
 use Rattle.std.proofs.Common.{ℕ, ◌^◌, ◌<◌, ◌≤◌, Bool, List, Option, refl, arith}
 use Rattle.std.specs.Prelude.{nat_le, ◌&&◌, not}
 use Rattle.std.proofs.lemmas.Bool.{leb-true, le-leb, and_parts, both_ways, not-true, not_from_false, false_from_ne_true}

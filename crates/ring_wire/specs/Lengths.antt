@@ -1,4 +1,5 @@
 -- How long spellings are at most. The greatest are those of calls of 7,276 bytes, a part or packed, sent once more.
+-- Limits, of docs/PROTOCOL.md.
 use Rattle.std.proofs.Common.{◌≡◌, ℕ, ◌≤◌, ◌++◌, length, Option, Some, None, refl, arith, inl, inr}
 use Rattle.std.specs.Prelude.{◌==◌}
 use Rattle.std.proofs.lemmas.Bool.{cases_Bool}

@@ -1,4 +1,5 @@
 -- How tokens are spelled, and the numbers that they ask for.
+-- Frames, of docs/FORMATS.md.
 use Rattle.std.proofs.Common.{◌≡◌, ℕ, ◌+◌, ◌*◌, ◌^◌, ◌≤◌, Bool, true, false, List, [], ◌∷◌, length, Option, Some, None, refl, arith, inl, inr, ap, eq-eqb}
 use Rattle.std.specs.Prelude.{nat_le, ◌&&◌, ◌==◌, is_none, is_some, ◌↔◌, if◌then◌else◌}
 use Rattle.std.specs.List.{flat_map, AllByRecursion}
@@ -12,6 +13,7 @@ use Rattle.ring_layout.specs.Reading.{IsFormat, IsWord, such_at, made_at, ◌⊕
 use Rattle.ring_layout.specs.Formats.{Format, byte, word8, ◌&◌, followed, times, such, told_format, tested_format}
 use Rattle.ring_layout.specs.Processors.{some_proc, some_proc_spelling, SomeProcFits}
 use Rattle.ring_layout.specs.Rings.{ring, ring_spelling, RingFits}
+use Rattle.ring_payload.specs.Limits.{most_requests}
 use Rattle.ring_wire.specs.declared.token.Token.{Token}
 use Rattle.ring_wire.specs.Ascending.{ascends, ascends-each, ascends-increasing, increasing-ascends, IsStrictlyIncreasing-from_zero, each_below, each_le}
 
@@ -21,11 +23,11 @@ abbrev pub requests_spelling : List ℕ → List ℕ
 requests_spelling ns = length ns ∷ flat_map (λ n. big_bytes 8 n) ns
 
 pub record RequestsFit (ns : List ℕ) : Type 0 where
-  pub few : length ns ≤ 32
+  pub few : length ns ≤ most_requests
   pub each : AllByRecursion (IsWord 8) ns
 
 abbrev requests_fields : Format (ℕ × List ℕ)
-requests_fields = followed (such (λ n. nat_le n 32) byte) (λ n. times n word8)
+requests_fields = followed (such (λ n. nat_le n most_requests) byte) (λ n. times n word8)
 
 unfoldable pub requests_at : List ℕ → Option (List ℕ × List ℕ)
 requests_at bytes = made_at (λ p. p.1) requests_fields.at bytes
@@ -34,8 +36,8 @@ pub requests_format : IsFormat requests_spelling RequestsFit requests_at
 unfolding requests_at
 requests_format = told_format requests_fields (λ p. p.1) requests_spelling RequestsFit (record {
   spelled = λ p f. rw f.1.0 refl;
-  fits = λ p f. record { few = omega (arith, leb-true p.0 32 f.0.1, f.1.0); each = f.1.1 };
-  back = λ ns f. ((length ns, ns), ((omega (arith, f.few), le-leb (length ns) 32 f.few), (refl, f.each)), refl);
+  fits = λ p f. record { few = omega (arith, leb-true p.0 most_requests f.0.1, f.1.0); each = f.1.1 };
+  back = λ ns f. ((length ns, ns), ((omega (arith, f.few), le-leb (length ns) most_requests f.few), (refl, f.each)), refl);
 })
 
 abbrev pub requests : Format (List ℕ)
@@ -61,7 +63,7 @@ pub record TokenFits (t : Token) : Type 0 where
   pub seq : t.seq ≤ max_number
   pub aru_id : SomeProcFits t.aru_id
   pub aru_id_none : (t.aru_id ≡ None) ↔ (t.aru ≡ t.seq)
-  pub few : length t.requests ≤ 32
+  pub few : length t.requests ≤ most_requests
   pub ascending : IsStrictlyIncreasing t.requests
   pub each : AllByRecursion (λ n. (1 ≤ n) × (n ≤ t.seq)) t.requests
 

@@ -1,11 +1,12 @@
 //! Frames: two fixed bytes, the version, the kind, the body's length, and the body.
 
-ghost use Rattle.std.specs.Prelude.{◌≡◌, ℕ, ◌+◌, ◌^◌, ◌<◌, ◌≤◌, List, [], ◌∷◌, ◌++◌, length, IfOk, IfErr, ◌↔◌};
+ghost use Rattle.std.specs.Prelude.{◌≡◌, ℕ, ◌+◌, ◌^◌, ◌<◌, ◌≤◌, List, [], ◌∷◌, ◌++◌, length, IfOk, IfErr, IfSome, IsSome, OnOk, OnErr, ◌↔◌};
 ghost use Rattle.ring_base.specs.declared.fault.Fault.TheVariants.{BadFrame};
 ghost use Rattle.ring_layout.specs.Reading.{Appends, Gives};
 ghost use Rattle.ring_wire.specs.declared.frame.Frame.{Frame as OneFrame};
-ghost use Rattle.ring_wire.specs.Frames.{kind_at, version_of, spelling_of, FrameFits};
-ghost use Rattle.ring_wire.specs.Fronts.{IsReadFault};
+ghost use Rattle.ring_payload.specs.Limits.{message_kind, token_kind, join_kind, commit_kind, most_frame};
+ghost use Rattle.ring_wire.specs.Frames.{body_at, frame_at, version_of, spelling_of, FrameFits};
+ghost use Rattle.ring_wire.specs.Fronts.{IsReadFault, IsGot, IsNoFront, Puts};
 ghost use Rattle.ring_wire.specs.Spells.{Spells};
 
 use crate::commit_box::CommitBox;
@@ -17,6 +18,7 @@ use bytes::BytesMut;
 use ring_base::Fault;
 use ring_layout::{Decode, Encode, Reader, read_sized, write_sized};
 use std::alloc::{Allocator, Global};
+use std::mem::size_of;
 
 /// The bytes that each frame begins with.
 const START: [u8; 2] = [0x54, 0x52];
@@ -41,6 +43,9 @@ pub enum Frame<A: Allocator + Copy = Global> {
     Join(Join),
     Commit(CommitBox<A>),
 }
+
+/// A frame is short, so that one that is kept or moved costs little.
+const _: () = prove!(size_of::<Frame>() <= 320);
 
 impl<A: Allocator + Copy> Frame<A> {
     /// Its version: that of what it carries.
@@ -101,35 +106,138 @@ impl<A: Allocator + Copy> Encode for Frame<A> {
     }
 }
 
-/// The kind, the length and the body at the front.
-#[tactic(auto, unfolding(crate::specs::Frames::kind_at))]
-fn read_kind<A: Allocator + Copy>(alloc: A, from: &mut Reader<'_>) -> Result<Frame<A>, Fault>
-    ensures { Gives result from.new (kind_at from.old) }
+/// The message at the front, behind its length, into the place: the frame of this version that it is.
+#[inline(never)]
+#[tactic(auto, unfolding(crate::specs::Frames::body_at))]
+fn read_message<A: Allocator + Copy>(
+    alloc: A,
+    version: u8,
+    from: &mut Reader<'_>,
+    place: &mut Option<Frame<A>>,
+) -> Result<(), Fault>
+    ensures { Puts result place.old place.new from.new (body_at version message_kind from.old) }
 {
+    let message: Message<A> = read_sized(alloc, from)?;
+    if version != message.payload.version() {
+        return Err(Fault::BadFrame);
+    }
+    match place {
+        Some(Frame::Message(kept)) => *kept = message,
+        _ => *place = Some(Frame::Message(message)),
+    }
+    Ok(())
+}
+
+/// The token at the front, behind its length, into the place.
+#[inline(never)]
+#[tactic(auto, unfolding(crate::specs::Frames::body_at))]
+fn read_token<A: Allocator + Copy>(
+    alloc: A,
+    version: u8,
+    from: &mut Reader<'_>,
+    place: &mut Option<Frame<A>>,
+) -> Result<(), Fault>
+    ensures { Puts result place.old place.new from.new (body_at version token_kind from.old) }
+{
+    let token = read_sized(alloc, from)?;
+    if version != VERSION {
+        return Err(Fault::BadFrame);
+    }
+    *place = Some(Frame::Token(token));
+    Ok(())
+}
+
+/// The join at the front, behind its length, into the place.
+#[inline(never)]
+#[tactic(auto, unfolding(crate::specs::Frames::body_at))]
+fn read_join<A: Allocator + Copy>(
+    alloc: A,
+    version: u8,
+    from: &mut Reader<'_>,
+    place: &mut Option<Frame<A>>,
+) -> Result<(), Fault>
+    ensures { Puts result place.old place.new from.new (body_at version join_kind from.old) }
+{
+    let join = read_sized(alloc, from)?;
+    if version != VERSION {
+        return Err(Fault::BadFrame);
+    }
+    match place {
+        Some(Frame::Join(kept)) => *kept = join,
+        _ => *place = Some(Frame::Join(join)),
+    }
+    Ok(())
+}
+
+/// The commit token at the front, behind its length, into the place.
+#[inline(never)]
+#[tactic(auto, unfolding(crate::specs::Frames::body_at))]
+fn read_commit<A: Allocator + Copy>(
+    alloc: A,
+    version: u8,
+    from: &mut Reader<'_>,
+    place: &mut Option<Frame<A>>,
+) -> Result<(), Fault>
+    ensures { Puts result place.old place.new from.new (body_at version commit_kind from.old) }
+{
+    let commit = read_sized(alloc, from)?;
+    if version != VERSION {
+        return Err(Fault::BadFrame);
+    }
+    *place = Some(Frame::Commit(commit));
+    Ok(())
+}
+
+/// The frame at the front, into the place. Each kind has a function, and a message or join takes the place of another
+/// alone, so that no frame clears or moves what only a longer kind fills.
+#[tactic(auto, unfolding(crate::specs::Frames::frame_at, crate::specs::Frames::kind_at))]
+fn read_into<A: Allocator + Copy>(
+    alloc: A,
+    from: &mut Reader<'_>,
+    place: &mut Option<Frame<A>>,
+) -> Result<(), Fault>
+    ensures { Puts result place.old place.new from.new (frame_at from.old) }
+{
+    let first: u8 = Decode::read(alloc, from)?;
+    let second: u8 = Decode::read(alloc, from)?;
+    if first != START[0] || second != START[1] {
+        return Err(Fault::BadFrame);
+    }
+    let version: u8 = Decode::read(alloc, from)?;
     let kind: u8 = Decode::read(alloc, from)?;
     match kind {
-        MESSAGE => Ok(Frame::Message(read_sized(alloc, from)?)),
-        TOKEN => Ok(Frame::Token(read_sized(alloc, from)?)),
-        JOIN => Ok(Frame::Join(read_sized(alloc, from)?)),
-        COMMIT => Ok(Frame::Commit(read_sized(alloc, from)?)),
+        MESSAGE => read_message(alloc, version, from, place),
+        TOKEN => read_token(alloc, version, from, place),
+        JOIN => read_join(alloc, version, from, place),
+        COMMIT => read_commit(alloc, version, from, place),
         _ => Err(Fault::BadFrame),
     }
 }
 
 impl<A: Allocator + Copy> Decode<A> for Frame<A> {
-    #[tactic(auto, unfolding(crate::specs::Frames::frame_at))]
     fn read(alloc: A, from: &mut Reader<'_>) -> Result<Frame<A>, Fault> {
-        let first: u8 = Decode::read(alloc, from)?;
-        let second: u8 = Decode::read(alloc, from)?;
-        if first != START[0] || second != START[1] {
-            return Err(Fault::BadFrame);
+        let mut place = None;
+        read_into(alloc, from, &mut place)?;
+        match place {
+            Some(frame) => Ok(frame),
+            None => unreachable!(),
         }
-        let version: u8 = Decode::read(alloc, from)?;
-        let frame = read_kind(alloc, from)?;
-        if version != frame.version() {
-            return Err(Fault::BadFrame);
-        }
-        Ok(frame)
+    }
+}
+
+impl<A: Allocator + Copy> Frame<A> {
+    /// As `get`, but the frame is put into the place and not moved: the length of its spelling. What stood in the
+    /// place is let go. Where it is refused, the place is as it was.
+    pub fn get_into(alloc: A, src: &[u8], place: &mut Option<Frame<A>>) -> Result<usize, Fault>
+        ensures found { IfOk result (λ len. IfSome place.new (λ frame. IsGot spelling_of FrameFits src.now frame len)) }
+        ensures placed { OnOk result (IsSome place.new) }
+        ensures bad { IfErr result (λ fault. fault ≡ BadFrame → IsNoFront {A = OneFrame A} spelling_of FrameFits src.now) }
+        ensures faults { IfErr result IsReadFault }
+        ensures kept { OnErr result (place.new ≡ place.old) }
+    {
+        let mut from = Reader::new(src);
+        read_into(alloc, &mut from, place)?;
+        Ok(src.len() - from.len())
     }
 }
 
@@ -163,5 +271,5 @@ pub fn one_spelling_law<A: Allocator + Copy>()
 
 /// No spelling passes 8,192 bytes.
 pub fn short_law<A: Allocator + Copy>()
-    ensures { (f : OneFrame A) (a : List ℕ) → Spells f a → length a ≤ 8192 }
+    ensures { (f : OneFrame A) (a : List ℕ) → Spells f a → length a ≤ most_frame }
 {}

@@ -1,4 +1,5 @@
 -- What the checker looks at, and what it finds.
+-- Sessions, of docs/PROTOCOL.md.
 use Rattle.std.specs.Prelude.{◌≡◌, ℕ, ◌+◌, ◌<◌, Bool, false, List, length, take, All, Option, Some, MatchOption, position, slice_get}
 use Rattle.ring_object.specs.Operations.{Sequential}
 use Rattle.ring_payload.specs.declared.call.Call.{Call}

@@ -1,5 +1,6 @@
 -- What it means that one order explains a history: the replies are those of one object that does the calls one after
 -- the other in this order, and the order keeps to the time at which calls were issued and replied.
+-- Sessions, of docs/PROTOCOL.md.
 use Rattle.std.specs.Prelude.{◌≡◌, ℕ, ◌<◌, List, Some, slice_get}
 use Rattle.ring_object.specs.Operations.{Sequential}
 use Rattle.ring_payload.specs.declared.call.Call.{Call}

@@ -1,3 +1,4 @@
 pub mod Checks
 pub mod Histories
 pub mod Orders
+pub mod Worlds

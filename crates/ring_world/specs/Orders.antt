@@ -1,4 +1,5 @@
 -- The one order of a group of nodes, and the facts about each step of a run that keep it one.
+-- Sessions, of docs/PROTOCOL.md.
 use Rattle.std.specs.Prelude.{◌≡◌, ℕ, nat_lt, List, [], ◌∷◌, ◌++◌, length, All, Some, slice_get, replicate, if◌then◌else◌, ◌⊎◌}
 use Rattle.ring_base.specs.Fronts.{IsFront}
 use Rattle.ring_object.specs.Operations.{Sequential}

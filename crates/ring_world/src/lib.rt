@@ -3,9 +3,13 @@
 #![tactic(auto)]
 
 mod check;
+mod event;
 mod item;
 mod laws;
+mod told;
 
 pub use check::is_linearization;
+pub use event::Event;
 pub use item::Item;
 pub use laws::{linearization_law, order_law};
+pub use told::Told;

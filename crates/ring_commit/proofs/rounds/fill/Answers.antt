@@ -6,5 +6,5 @@ use Rattle.ring_commit.proofs.rounds.fill.Goals as goal
 
 pub push-requires : goal.push-requires
 push-requires c =
-    let taken : is_first_round c.args.floor c.args.agreed c.args.token ≡ true = first_of (cc, search rules) in
-    first_round_room c.args.floor c.args.agreed c.args.token taken c.requires
+    let taken : is_first_round c.args.floor c.args.candidates c.args.token ≡ true = first_of (cc, search rules) in
+    first_round_room c.args.floor c.args.candidates c.args.token taken c.requires

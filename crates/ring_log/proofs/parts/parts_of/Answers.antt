@@ -1,5 +1,4 @@
-use Rattle.std.proofs.Common.{◌≡◌, ℕ, ◌+◌, ◌*◌, [], ◌∷◌, ◌++◌, length, take, drop, ap, sym, ◌∙◌, refl, arith}
-use Rattle.std.specs.Prelude.{map, min}
+use Rattle.std.proofs.Common.{◌*◌, drop, refl}
 use Rattle.ring_log.specs.Parts.{nth_part}
 use Rattle.ring_log.proofs.Fronts.{map_numbers, take_shorter, rest_whole}
 use Rattle.ring_log.proofs.parts.parts_of.Goals as goal

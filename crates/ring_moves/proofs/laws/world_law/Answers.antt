@@ -1,4 +1,4 @@
-use Rattle.ring_moves.proofs.Worlds.{marks_below, all_held_below, all_turns, all_fresh, all_same_sets}
+use Rattle.ring_moves.proofs.Worlds.{marks_below, all_held_below, all_turns, all_fresh, all_same_sets, all_ended}
 use Rattle.ring_moves.proofs.laws.world_law.Goals as goal
 
 pub returns-clause-marks : goal.returns-clause-marks
@@ -15,3 +15,6 @@ returns-clause-fresh g c = all_fresh
 
 pub returns-clause-joins : goal.returns-clause-joins
 returns-clause-joins g c = all_same_sets
+
+pub returns-clause-ends : goal.returns-clause-ends
+returns-clause-ends g c = all_ended

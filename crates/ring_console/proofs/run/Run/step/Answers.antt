@@ -5,7 +5,7 @@ use Rattle.ring_book.specs.declared.input.LineInput.TheVariants.{Came}
 use Rattle.ring_book.specs.Lines.{IsThere}
 use Rattle.ring_console.specs.Running.{RunView, EndsRun, Enters, after_step}
 use Rattle.ring_console.specs.Printed.{answers_text}
-use Rattle.ring_one.specs.declared.outs.Answered.{Answered}
+use Rattle.ring_ticket.specs.declared.answered.Answered.{Answered}
 use Rattle.ring_book.specs.declared.line.Line.{Line}
 use Rattle.std.specs.Io.KnownBytes.{Appends}
 use Rattle.ring_console.proofs.Entered.{gives_ok, is_entered, after_entered, again, new_is, enters_line, keeps_entered, node_is, acted_so, is_stopped_after, found_done, lent_line, after_is, cut_short}

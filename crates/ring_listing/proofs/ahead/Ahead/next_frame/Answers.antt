@@ -1,9 +1,7 @@
-use Rattle.std.proofs.Common.{◌≡◌, ℕ, Option, None, subst, sym}
-use Rattle.ring_wire.specs.declared.frame.Frame.{Frame}
+use Rattle.std.proofs.Common.{ℕ, subst, sym}
 use Rattle.ring_listing.specs.declared.ahead.State.{State}
-use Rattle.ring_listing.specs.declared.ahead.State.TheVariants.{Ended}
 use Rattle.ring_listing.specs.Listings.{untaken, left_of, IsNext, IsStop}
-use Rattle.ring_listing.proofs.ListingLemmas.{value_at_ok, weaker_at_ok, weaker_at_err, next_of_all, next_after, stop_of_all, stop_after}
+use Rattle.ring_listing.proofs.ListingLemmas.{both_at_ok, weaker_at_err, next_of_all, next_after, stop_of_all, stop_after}
 use Rattle.ring_listing.proofs.ahead.Ahead.next_frame.Goals as goal
 
 pub returns-clause-next : goal.returns-clause-next
@@ -12,8 +10,8 @@ returns-clause-next g c =
     let new = c.take_frame.new.self in
     let rest = g.R.Read.remaining c.read_enough.new.input in
     let ready = c.in_ok-read_enough in
-    weaker_at_ok c.take_frame.result _ _ c.take_frame.ensures.next (λ next is told.
-    let seen_end = value_at_ok c.take_frame.result (λ (o : Option (Frame g.row.A.Denot)). o ≡ None → mid.state ≡ Ended) next c.take_frame.ensures.ended is in
+    both_at_ok c.take_frame.result _ _ _ c.take_frame.ensures.next c.take_frame.ensures.ended (λ told seen_end.
+    let next = c.take_frame.new.next in
     let whole = next_of_all (untaken mid) (untaken new) rest mid.position new.position next told (λ none. ready.ensures.ended (seen_end none)) in
     next_after _ _ _ _ _ next ready.ensures.kept (subst (λ (p : ℕ). IsNext (left_of mid rest) (left_of new rest) p new.position next) c.read_enough.ensures.position whole))
 

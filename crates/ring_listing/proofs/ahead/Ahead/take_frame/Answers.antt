@@ -1,18 +1,20 @@
-use Rattle.std.proofs.Common.{ℕ, ◌+◌, ◌-◌, sym, ◌∙◌, ap, subst}
-use Rattle.std.specs.Prelude.{length, drop, take}
-use Rattle.std.specs.Io.Iter.{u64_saturate}
+use Rattle.std.proofs.Common.{◌-◌, ◌∙◌, ap, subst}
+use Rattle.std.specs.Prelude.{length, drop, take, IfSome}
 use Rattle.ring_wire.specs.Frames.{spelling_of, FrameFits}
 use Rattle.ring_wire.specs.Fronts.{IsGot}
+use Rattle.ring_wire.specs.declared.frame.Frame.{Frame}
 use Rattle.ring_listing.specs.Listings.{BeginsWithNone}
-use Rattle.ring_listing.proofs.ListingLemmas.{got_front, from_place, stop_here}
+use Rattle.ring_listing.proofs.ListingLemmas.{next_put, from_place, stop_here}
 use Rattle.ring_listing.proofs.ahead.Ahead.take_frame.Goals as goal
 
 pub returns-in-Ok-clause-next : goal.returns-in-Ok-clause-next
 returns-in-Ok-clause-next g c =
     let self = c.args.self.now in
-    let found : IsGot spelling_of FrameFits (take (length self.bytes.items - self.taken) (drop self.taken self.bytes.items)) c.in-Ok.frame c.in-Ok.length = rw c.deref.ensures.value at c.in-Ok.ensures.found in
-    let front = got_front self.bytes.items self.taken c.in-Ok.length c.in-Ok.frame found in
-    (found.fits, front.0, c.saturating_add-self.ensures ∙ ap (λ (n : ℕ). u64_saturate (self.position + n)) (sym front.1))
+    let place = c.get_into.new.place in
+    let found : IfSome place (λ (frame : Frame g.row.A.Denot). IsGot spelling_of FrameFits
+    (take (length self.bytes.items - self.taken) (drop self.taken self.bytes.items)) frame c.in-Ok.length)
+    = rw c.deref.ensures.value at c.in-Ok.ensures.found in
+    next_put self.bytes.items self.taken c.in-Ok.length self.position _ place c.in-Ok.ensures.placed found c.saturating_add-self.ensures
 
 pub returns-in-Err-BadFrame-2-clause-stopped : goal.returns-in-Err-BadFrame-2-clause-stopped
 returns-in-Err-BadFrame-2-clause-stopped g c =

@@ -1,0 +1,10 @@
+pub mod Mates
+pub mod Known
+pub mod Planned
+pub mod Recovering
+pub mod Heard
+pub mod Facts
+pub mod Ascending
+pub mod Whole
+pub mod Unwrapped
+pub mod Inner

@@ -1,0 +1,5 @@
+pub mod Dues
+pub mod Telling
+pub mod Steps
+pub mod Nodes
+pub mod Worlds

@@ -1,0 +1,5 @@
+pub mod Speaking
+pub mod Numbering
+pub mod Texts
+pub mod Lives
+pub mod Nodes

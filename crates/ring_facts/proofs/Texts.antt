@@ -1,0 +1,75 @@
+-- In every run of ring cores each ring has one text, all that was numbered in the visits of its token.
+use Rattle.std.proofs.Common.{◌≡◌, ℕ, ◌+◌, ◌-◌, ◌<◌, ◌≤◌, ◌⊎◌, inl, inr, true, List, [], ◌∷◌, take, Option, Some, refl, ap, sym, ◌∙◌, subst, arith}
+use Rattle.std.specs.Prelude.{filter, filter_map}
+use Rattle.ring_base.specs.Fronts.{IsFront}
+use Rattle.ring_base.specs.Numbers.{numbers_from}
+use Rattle.ring_base.specs.declared.ring_id.RingId.{RingId}
+use Rattle.ring_payload.specs.Kinds.{is_user}
+use Rattle.ring_wire.specs.declared.message.Message.{Message}
+use Rattle.ring_window.specs.Held.{found, holds}
+use Rattle.ring_window.proofs.Fronts.{front_is}
+use Rattle.ring_token.specs.Turns.{turns_of}
+use Rattle.ring_token.specs.Visits.{numbered}
+use Rattle.ring_token.specs.Rounds.{VisitBy}
+use Rattle.ring_srp.specs.State.{Core}
+use Rattle.ring_srp.specs.Views.{front}
+use Rattle.ring_srp.specs.Giving.{users}
+use Rattle.ring_moves.specs.Facts.{IsIn, SomeIs}
+use Rattle.ring_moves.specs.declared.event.RingEvent.{RingEvent}
+use Rattle.ring_moves.specs.Worlds.{World, run, unformed}
+use Rattle.ring_moves.proofs.Lists.{in-each}
+use Rattle.ring_chain.specs.Words.{IsGenuine}
+use Rattle.ring_chain.proofs.Runs.{Holds}
+use Rattle.ring_lives.proofs.Keeps.{holds-found}
+use Rattle.ring_changes.proofs.Heard.{found_as}
+use Rattle.ring_changes.proofs.Recovering.{Recovered, all_recovered}
+use Rattle.ring_facts.specs.Spoken.{spoken_in}
+use Rattle.ring_facts.specs.Texts.{HasTexts}
+use Rattle.ring_facts.proofs.Numbering.{all_numbered, users_in, AreFrom, all_from, some_numbered, users_named, IsThere, found_taken, take_whole, users_front, said_visits}
+
+module _ {A : Type 0} (w : World A) (r : Recovered w.cores w.frames) where
+  abbrev h : Holds w.cores w.frames
+  h = (r.all).all
+
+  -- all that was numbered in a ring
+  abbrev pub whole : RingId → List (Message A)
+  whole ring = all_numbered ring (h.visits ring)
+
+  pub whole_from : (ring : RingId) → AreFrom 0 (whole ring)
+  whole_from ring = elim ((h.chains).rounds ring) [
+    | inl e ↦ subst (λ (vs : List (VisitBy A)). AreFrom 0 (all_numbered ring vs)) (sym e) tt
+    | inr k ↦ (all_from k.members ring (h.visits ring) k.visits_are).0
+  ]
+
+  -- what is held up to the front is there
+  is_there : (q : ℕ) (ring : RingId) (j : ℕ) → 1 ≤ j → j ≤ front (w.cores q) ring → IsThere (found (w.cores q).held ring) (whole ring) j
+  is_there q ring j low up =
+      let held = (w.cores q).held in
+      let there : holds held ring j ≡ true = (front_is held ring).below j low up in
+      let f = holds-found held ring j there in
+      let a = found_as held ring j f.0 f.1 in
+      let g : IsGenuine h.visits f.0 = in-each (IsGenuine h.visits) f.0 held ((h.texts).held q) a.there in
+      (f.0, f.1, some_numbered ring (h.visits ring) f.0 (subst (λ (s : RingId). SomeIs (λ (v : VisitBy A). IsIn f.0 (numbered s v.who v.turn.came.seq v.turn.fresh)) (h.visits s)) a.ring_is g), a.number_is)
+
+  -- what is heard up to a number is what was numbered up to there
+  pub heard_is : (q : ℕ) (ring : RingId) (n : ℕ) → n ≤ front (w.cores q) ring → users (w.cores q) ring 0 n ≡ users_in (take n (whole ring))
+  heard_is q ring n l =
+      let get = found (w.cores q).held ring in
+      let same : n - 0 ≡ n = omega arith in
+      ap (λ (k : ℕ). users_in (filter_map get (numbers_from 1 k))) same
+      ∙ ap (λ (xs : List (Message A)). users_in xs) (found_taken get 0 n (whole ring) (whole_from ring) (λ j low up. is_there q ring j (omega (arith, low)) (omega (arith, l, up))))
+
+  pub texts : HasTexts w
+  texts =
+      record {
+        text = λ ring. users_in (whole ring);
+        named = λ ring. users_named ring (h.visits ring);
+        heard = λ q ring.
+            let n = front (w.cores q) ring in
+            subst (λ (xs : List (Message A)). IsFront xs (users_in (whole ring))) (sym (heard_is q ring n (omega arith)))
+            (users_front (take n (whole ring)) (whole ring) (take_whole n (whole ring)));
+        said = λ q ring. said_visits q ring (h.visits ring) ∙ ap spoken_in (sym ((h.chains).turns q ring));
+      }
+
+pub all_texts : {A : Type 0} → (n : ℕ) (events : List (RingEvent A)) → HasTexts (run (unformed n) events)
+all_texts {A} n events = texts (run (unformed n) events) (all_recovered n events)

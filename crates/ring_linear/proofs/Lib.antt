@@ -1,0 +1,6 @@
+pub mod Told
+pub mod Handing
+pub mod Worlds
+pub mod Steps
+pub mod Runs
+pub mod Facts

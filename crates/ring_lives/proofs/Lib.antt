@@ -1,0 +1,4 @@
+pub mod Ordered
+pub mod Keeps
+pub mod Telling
+pub mod Worlds

@@ -1,0 +1,256 @@
+-- An exchange that is whole changes no more, so what a member keeps of it hands out the base at one message: that with which the exchange ends.
+use Rattle.std.proofs.Common.{◌≡◌, ℕ, ◌+◌, ◌-◌, ◌≤◌, nat_le, ◌==◌, ◌&&◌, Bool, true, false, List, [], ◌∷◌, ◌++◌, length, Option, Some, None, refl, ap, sym, ◌∙◌, arith, add-zero, if◌then◌else◌}
+use Rattle.std.proofs.lemmas.Bool.{and_parts, cond-true, cond-false, eqb-true, leb-true}
+use Rattle.std.proofs.lemmas.List.{append-nil}
+use Rattle.std.proofs.lemmas.Nat.Bits.{bit_at-zero}
+use Rattle.ring_base.specs.Processors.{has, nobody}
+use Rattle.ring_base.specs.Group.{Group, is_primary}
+use Rattle.ring_payload.specs.declared.call.Call.{Call as OneCall}
+use Rattle.ring_payload.specs.declared.calls.Part.{Part as OnePart}
+use Rattle.ring_payload.specs.declared.head.Head.{Head as OneHead}
+use Rattle.ring_payload.specs.declared.content.Payload.{Payload}
+use Rattle.ring_payload.specs.declared.content.Payload.TheVariants.{Call, Wrapped, End, Head, Part, Pack, Snap}
+use Rattle.ring_wire.specs.declared.message.Message.{Message}
+use Rattle.ring_log.specs.declared.base.Base.{Base}
+use Rattle.ring_log.specs.declared.wanted.Wanted.{Wanted}
+use Rattle.ring_log.specs.Exchanges.{Exchange, opened, wanted_by, wanted, hear_head, is_wanted, hear_part, heard, is_brought, is_whole, base_from, handed_out, base_at, relieved, based}
+use Rattle.ring_log.specs.Lives.{Whole, heard_by, whole_from, after_all, heard_on, exchanged, base_ending, base_on, own_base}
+
+-- ---- a whole exchange
+
+stated-by : (b : Bool) (o : Option Wanted) (places : ℕ) → is_brought (if b then o else None) places ≡ true → b ≡ true
+stated-by true o places whole = refl
+stated-by false o places whole = absurd (cc whole)
+
+-- every member's Head was heard
+stated : {A : Type 0} (e : Exchange A) → is_whole e ≡ true → e.unheard ≡ nobody
+stated e whole = eqb-true e.unheard nobody (stated-by (e.unheard == nobody) (wanted_by e.heads) e.places whole)
+
+has-nobody : (i : ℕ) → has nobody i ≡ false
+has-nobody i = ap (λ k. k == 1) (bit_at-zero (i - 1))
+
+whole-head : {A : Type 0} (e : Exchange A) (sender : ℕ) (head : OneHead) → is_whole e ≡ true → hear_head e sender head ≡ e
+whole-head e sender head whole =
+    cond-false (has e.unheard sender) _ e (ap (λ set. has set sender) (stated e whole) ∙ has-nobody sender)
+
+empty : {X : Type 0} (xs : List X) → length xs ≡ 0 → xs ≡ []
+empty [] e = refl
+empty (x ∷ xs) e = absurd (omega arith)
+
+-- a Part that is wanted still has no places
+part-empty : {A : Type 0} (o : Option Wanted) (places sender : ℕ) (part : OnePart A) → is_brought o places ≡ true → is_wanted o places sender part ≡ true
+    → length part.calls ≡ 0
+part-empty None places sender part whole next = absurd (cc next)
+part-empty (Some w) places sender part whole next =
+    let parts = and_parts ((sender == w.owner) && (part.first == w.from + places)) (nat_le (part.first + length part.calls) w.to) next in
+    let first : part.first ≡ w.from + places = eqb-true part.first (w.from + places) (and_parts (sender == w.owner) (part.first == w.from + places) parts.0).1
+    in
+    let within : part.first + length part.calls ≤ w.to = leb-true (part.first + length part.calls) w.to parts.1 in
+    let end : w.to ≤ w.from + places = leb-true w.to (w.from + places) whole in
+    omega arith
+
+part-nothing : {A : Type 0} (b : Bool) (e : Exchange A) (calls : List (OneCall A)) → (b ≡ true → calls ≡ [])
+    → (if b then record e { places = e.places + length calls; brought = e.brought ++ calls } else e) ≡ e
+part-nothing {A} true e calls nothing =
+    let brings : List (OneCall A) → Exchange A = λ cs. record e { places = e.places + length cs; brought = e.brought ++ cs } in
+    let counts : ℕ → Exchange A = λ n. record e { places = n; brought = e.brought ++ [] } in
+    let joins : List (OneCall A) → Exchange A = λ cs. record e { brought = cs } in
+    ap brings (nothing refl) ∙ ap counts (add-zero e.places) ∙ ap joins (append-nil e.brought)
+part-nothing false e calls nothing = refl
+
+whole-part : {A : Type 0} (e : Exchange A) (sender : ℕ) (part : OnePart A) → is_whole e ≡ true → hear_part e sender part ≡ e
+whole-part e sender part whole =
+    part-nothing (is_wanted (wanted e) e.places sender part) e part.calls (λ next. empty part.calls (part-empty (wanted e) e.places sender part whole next))
+
+-- nothing more is heard of it
+pub whole-heard : {A : Type 0} (e : Exchange A) (sender : ℕ) (payload : Payload A) → is_whole e ≡ true → heard e sender payload ≡ e
+whole-heard e sender (Head head) whole = whole-head e sender head whole
+whole-heard e sender (Part part) whole = whole-part e sender part whole
+whole-heard e sender (Call call) whole = refl
+whole-heard e sender (Wrapped old) whole = refl
+whole-heard e sender End whole = refl
+whole-heard e sender (Pack pack) whole = refl
+whole-heard e sender (Snap snap) whole = refl
+
+whole-after : {A : Type 0} (e : Exchange A) (xs : List (Message A)) → is_whole e ≡ true → after_all e xs ≡ e
+whole-after e [] whole = refl
+whole-after e (x ∷ xs) whole = ap (λ r. after_all r xs) (whole-heard e x.sender x.payload whole) ∙ whole-after e xs whole
+
+-- ---- what is kept of it
+
+abbrev emptied : {A : Type 0} → Exchange A → Exchange A
+emptied e = record e { brought = [] }
+
+whole-by : {A : Type 0} (b : Bool) (e : Exchange A) → is_whole (if b then emptied e else e) ≡ is_whole e
+whole-by true e = refl
+whole-by false e = refl
+
+whole-relieved : {A : Type 0} (e : Exchange A) → is_whole (relieved e) ≡ is_whole e
+whole-relieved e = whole-by (is_whole e) e
+
+relieved-whole : {A : Type 0} (e : Exchange A) → is_whole e ≡ true → relieved e ≡ emptied e
+relieved-whole e whole = cond-true (is_whole e) (emptied e) e whole
+
+relieved-open : {A : Type 0} (e : Exchange A) → is_whole e ≡ false → relieved e ≡ e
+relieved-open e whole = cond-false (is_whole e) (emptied e) e whole
+
+relieved-by : {A : Type 0} (b : Bool) (e : Exchange A) (x : Message A) → is_whole e ≡ b
+    → relieved (heard_by (if b then emptied e else e) x) ≡ relieved (heard_by e x)
+relieved-by true e x whole =
+    ap relieved (whole-heard (emptied e) x.sender x.payload whole) ∙ relieved-whole (emptied e) whole
+    ∙ sym (relieved-whole e whole) ∙ ap relieved (sym (whole-heard e x.sender x.payload whole))
+relieved-by false e x whole = refl
+
+heard_on-relieved : {A : Type 0} (e : Exchange A) (xs : List (Message A)) → heard_on (relieved e) xs ≡ relieved (after_all e xs)
+heard_on-relieved e [] = refl
+heard_on-relieved e (x ∷ xs) = ap (λ r. heard_on r xs) (relieved-by (is_whole e) e x refl) ∙ heard_on-relieved (heard_by e x) xs
+
+relieved-nothing : {A : Type 0} (b : Bool) (members : ℕ) → (if b then emptied (opened {A = A} members) else opened members) ≡ opened members
+relieved-nothing true members = refl
+relieved-nothing false members = refl
+
+-- the exchange that was heard, without the calls that it handed out
+pub heard_on-after : {A : Type 0} (members : ℕ) (xs : List (Message A)) → heard_on (opened members) xs ≡ relieved (after_all (opened members) xs)
+heard_on-after {A} members xs =
+    ap (λ r. heard_on r xs) (sym (relieved-nothing (is_whole (opened {A = A} members)) members)) ∙ heard_on-relieved (opened members) xs
+
+opened-by : (b : Bool) (places : ℕ) → is_brought (if b then None else None) places ≡ false
+opened-by true places = refl
+opened-by false places = refl
+
+opened-open : (A : Type 0) (members : ℕ) → is_whole (opened {A = A} members) ≡ false
+opened-open A members = opened-by (members == nobody) 0
+
+-- ---- one message more
+
+none-step : {A : Type 0} (b : Bool) (first second : Whole A) (rest more goal : Option (Whole A)) → (if b then Some first else rest) ≡ None
+    → (rest ≡ None → more ≡ goal)
+    → (if b then Some second else more) ≡ goal
+none-step true first second rest more goal none later = absurd (cc none)
+none-step false first second rest more goal none later = later none
+
+push-none : {A : Type 0} (e : Exchange A) (xs : List (Message A)) (x : Message A) → whole_from e xs ≡ None
+    → whole_from e (xs ++ x ∷ []) ≡ whole_from (after_all e xs) (x ∷ [])
+push-none e [] x none = refl
+push-none e (y ∷ ys) x none =
+    none-step (is_whole (heard_by e y)) (record { exchange = heard_by e y; end = y.number; rest = ys })
+    (record { exchange = heard_by e y; end = y.number; rest = ys ++ x ∷ [] })
+    (whole_from (heard_by e y) ys) (whole_from (heard_by e y) (ys ++ x ∷ [])) (whole_from (after_all (heard_by e y) ys) (x ∷ [])) none
+    (push-none (heard_by e y) ys x)
+
+some-step : {A : Type 0} (b : Bool) (e : Exchange A) (n : ℕ) (ys : List (Message A)) (x : Message A) (rest more : Option (Whole A)) (w : Whole A)
+    → (if b then Some (record { exchange = e; end = n; rest = ys }) else rest) ≡ Some w → (rest ≡ Some w → more ≡ Some (record w { rest = w.rest ++ x ∷ [] }))
+    → (if b then Some (record { exchange = e; end = n; rest = ys ++ x ∷ [] }) else more) ≡ Some (record w { rest = w.rest ++ x ∷ [] })
+some-step {A} true e n ys x rest more w some later =
+    let first : Whole A = record { exchange = e; end = n; rest = ys } in
+    let same : first ≡ w = cc some in
+    ap (λ (v : Whole A). Some (record v { rest = v.rest ++ x ∷ [] })) same
+some-step false e n ys x rest more w some later = later some
+
+push-some : {A : Type 0} (e : Exchange A) (xs : List (Message A)) (x : Message A) (w : Whole A) → whole_from e xs ≡ Some w
+    → whole_from e (xs ++ x ∷ []) ≡ Some (record w { rest = w.rest ++ x ∷ [] })
+push-some e [] x w some = absurd (cc some)
+push-some e (y ∷ ys) x w some =
+    some-step (is_whole (heard_by e y)) (heard_by e y) y.number ys x (whole_from (heard_by e y) ys) (whole_from (heard_by e y) (ys ++ x ∷ [])) w some
+    (push-some (heard_by e y) ys x w)
+
+open-step : {A : Type 0} (b : Bool) (first : Whole A) (rest : Option (Whole A)) (G : Type 0) → (if b then Some first else rest) ≡ None
+    → (b ≡ false → rest ≡ None → G) → G
+open-step true first rest G none later = absurd (cc none)
+open-step false first rest G none later = later refl none
+
+-- an exchange that has no end yet isn't whole
+none-open : {A : Type 0} (e : Exchange A) (xs : List (Message A)) → is_whole e ≡ false → whole_from e xs ≡ None → is_whole (after_all e xs) ≡ false
+none-open e [] open_yet none = open_yet
+none-open e (x ∷ xs) open_yet none =
+    open-step (is_whole (heard_by e x)) (record { exchange = heard_by e x; end = x.number; rest = xs }) (whole_from (heard_by e x) xs)
+    (is_whole (after_all (heard_by e x) xs) ≡ false) none
+    (none-open (heard_by e x) xs)
+
+whole-step : {A : Type 0} (b : Bool) (first w : Whole A) (rest : Option (Whole A)) (G : Type 0) → (if b then Some first else rest) ≡ Some w → (b ≡ true → G)
+    → (rest ≡ Some w → G) → G
+whole-step true first w rest G some now later = now refl
+whole-step false first w rest G some now later = later some
+
+some-whole : {A : Type 0} (e : Exchange A) (xs : List (Message A)) (w : Whole A) → whole_from e xs ≡ Some w → is_whole (after_all e xs) ≡ true
+some-whole e [] w some = absurd (cc some)
+some-whole e (x ∷ xs) w some =
+    whole-step (is_whole (heard_by e x)) (record { exchange = heard_by e x; end = x.number; rest = xs }) w (whole_from (heard_by e x) xs)
+    (is_whole (after_all (heard_by e x) xs) ≡ true) some
+    (λ whole. ap is_whole (whole-after (heard_by e x) xs whole) ∙ whole) (some-whole (heard_by e x) xs w)
+
+-- ---- what is handed out
+
+handed-last : {A : Type 0} (b : Bool) (e : Exchange A) (n : ℕ) → is_whole e ≡ b
+    → handed_out e ≡ base_ending None (if b then Some (record { exchange = e; end = n; rest = [] }) else None)
+handed-last true e n whole = refl
+handed-last false e n whole = cond-false (is_whole e) (base_from (wanted e) e.brought) None whole
+
+handed-at : {A : Type 0} (members : ℕ) (xs : List (Message A)) (x : Message A) (o : Option (Whole A)) → whole_from (opened members) xs ≡ o
+    → base_at (relieved (after_all (opened members) xs)) x.sender x.payload ≡ base_ending o (whole_from (opened members) (xs ++ x ∷ []))
+handed-at {A} members xs x None none =
+    let e = after_all (opened members) xs in
+    let not_yet : is_whole e ≡ false = none-open (opened members) xs (opened-open A members) none in
+    ap (λ (r : Exchange A). base_at r x.sender x.payload) (relieved-open e not_yet)
+    ∙ cond-false (is_whole e) None (handed_out (heard_by e x)) not_yet
+    ∙ handed-last (is_whole (heard_by e x)) (heard_by e x) x.number refl
+    ∙ ap (base_ending None) (sym (push-none (opened members) xs x none))
+handed-at members xs x (Some w) some =
+    let e = after_all (opened members) xs in
+    cond-true (is_whole (relieved e)) None (handed_out (heard_by (relieved e) x)) (whole-relieved e ∙ some-whole (opened members) xs w some)
+
+pub handed : {A : Type 0} (group : Group) (members : ℕ) (text : List (Message A)) (x : Message A) → is_primary group members ≡ true
+    → base_at (heard_on (opened members) text) x.sender x.payload ≡ base_ending (exchanged group members text) (exchanged group members (text ++ x ∷ []))
+handed {A} group members text x primary =
+    let before : exchanged group members text ≡ whole_from (opened members) text = cond-true (is_primary group members) (whole_from (opened members) text)
+    None primary in
+    let after : exchanged group members (text ++ x ∷ []) ≡ whole_from (opened members) (text ++ x ∷ []) = cond-true (is_primary group members)
+    (whole_from (opened members) (text ++ x ∷ [])) None primary in
+    ap (λ (r : Exchange A). base_at r x.sender x.payload) (heard_on-after members text)
+    ∙ handed-at members text x (exchanged group members text) (sym before)
+    ∙ ap (base_ending (exchanged group members text)) (sym after)
+
+-- ---- the end, and what comes after it
+
+one-end : {A : Type 0} (b : Bool) (e : Exchange A) (n : ℕ) (w : Whole A) → (if b then Some (record { exchange = e; end = n; rest = [] }) else None) ≡ Some w
+    → (w.end ≡ n) × (w.rest ≡ [])
+one-end {A} true e n w some =
+    let first : Whole A = record { exchange = e; end = n; rest = [] } in
+    let same : first ≡ w = cc some in
+    (sym (ap (λ (v : Whole A). v.end) same), sym (ap (λ (v : Whole A). v.rest) same))
+one-end false e n w some = absurd (cc some)
+
+ends-by : {A : Type 0} (b : Bool) (members : ℕ) (text : List (Message A)) (x : Message A) (w : Whole A)
+    → (if b then whole_from (opened members) text else None) ≡ None
+    → (if b then whole_from (opened members) (text ++ x ∷ []) else None) ≡ Some w → (w.end ≡ x.number) × (w.rest ≡ [])
+ends-by true members text x w none some =
+    let e = after_all (opened members) text in
+    one-end (is_whole (heard_by e x)) (heard_by e x) x.number w (sym (push-none (opened members) text x none) ∙ some)
+ends-by false members text x w none some = absurd (cc some)
+
+pub ends : {A : Type 0} (group : Group) (members : ℕ) (text : List (Message A)) (x : Message A) (w : Whole A)
+    → exchanged group members text ≡ None → exchanged group members (text ++ x ∷ []) ≡ Some w → (w.end ≡ x.number) × (w.rest ≡ [])
+ends group members text x w none some = ends-by (is_primary group members) members text x w none some
+
+later-by : {A : Type 0} (b : Bool) (members : ℕ) (text : List (Message A)) (x : Message A) (w : Whole A)
+    → (if b then whole_from (opened members) text else None) ≡ Some w
+    → (if b then whole_from (opened members) (text ++ x ∷ []) else None) ≡ Some (record w { rest = w.rest ++ x ∷ [] })
+later-by true members text x w some = push-some (opened members) text x w some
+later-by false members text x w some = absurd (cc some)
+
+pub later : {A : Type 0} (group : Group) (members : ℕ) (text : List (Message A)) (x : Message A) (w : Whole A)
+    → exchanged group members text ≡ Some w → exchanged group members (text ++ x ∷ []) ≡ Some (record w { rest = w.rest ++ x ∷ [] })
+later group members text x w some = later-by (is_primary group members) members text x w some
+
+based-by : {A : Type 0} (b : Bool) (o : Option Wanted) (calls : List (OneCall A)) (base : Base A) (own : List (OneCall A))
+    → (if b then base_from o calls else None) ≡ Some base
+    → based own base ≡ base_on own o calls
+based-by true None calls base own some = absurd (cc some)
+based-by {A} true (Some w) calls base own some =
+    let first : Base A = record { from = w.from; calls = calls } in
+    let same : first ≡ base = cc some in
+    ap (based own) (sym same)
+based-by false o calls base own some = absurd (cc some)
+
+pub handed-based : {A : Type 0} (e : Exchange A) (base : Base A) (own : List (OneCall A)) → handed_out e ≡ Some base → based own base ≡ own_base own e
+handed-based e base own some = based-by (is_whole e) (wanted e) e.brought base own some

@@ -1,0 +1,14 @@
+use Rattle.ring_log.proofs.Hearing.{handed, ends, later, handed-based}
+use Rattle.ring_log.proofs.laws.exchange_law.Goals as goal
+
+pub returns-clause-handed : goal.returns-clause-handed
+returns-clause-handed g c = handed
+
+pub returns-clause-ends : goal.returns-clause-ends
+returns-clause-ends g c = ends
+
+pub returns-clause-later : goal.returns-clause-later
+returns-clause-later g c = later
+
+pub returns-clause-base : goal.returns-clause-base
+returns-clause-base g c = handed-based

@@ -1,0 +1,36 @@
+//! Whether calls are the first of others.
+
+ghost use Rattle.std.specs.Prelude.{◌≡◌, ◌↔◌, length, take, IsTrue};
+ghost use Rattle.ring_log.specs.Logs.{begins};
+
+use ring_payload::Call;
+use std::alloc::Allocator;
+
+/// Whether the others begin with these calls.
+pub(crate) fn begins<A: Allocator + Copy>(front: &[Call<A>], calls: &[Call<A>]) -> bool
+    ensures { result ≡ begins front.now calls.now }
+{
+    front.len() <= calls.len() && are_same(front, &calls[..front.len()])
+}
+
+/// Whether the two lists are one.
+fn are_same<A: Allocator + Copy>(some: &[Call<A>], others: &[Call<A>]) -> bool
+    requires { length some.now ≡ length others.now }
+    ensures { IsTrue result ↔ (some.now ≡ others.now) }
+{
+    for i in 0..some.len() {
+        if !is_same(&some[i], &others[i]) {
+            return false;
+        }
+    }
+    true
+}
+
+/// Whether the two are one call: client, number and operation.
+fn is_same<A: Allocator + Copy>(one: &Call<A>, other: &Call<A>) -> bool
+    ensures { IsTrue result ↔ (one.now ≡ other.now) }
+{
+    one.client == other.client
+        && one.number == other.number
+        && one.op.as_slice() == other.op.as_slice()
+}

@@ -1,0 +1,40 @@
+//! Laws of logs and of their exchange.
+
+ghost use Rattle.std.specs.Prelude.{◌≡◌, ℕ, ◌≤◌, true, List, [], ◌∷◌, ◌++◌, length, Some, None};
+ghost use Rattle.ring_base.specs.Fronts.{IsFront};
+ghost use Rattle.ring_base.specs.Group.{Group, is_primary};
+ghost use Rattle.ring_base.specs.declared.ring_id.RingId.{RingId};
+ghost use Rattle.ring_payload.specs.declared.call.Call.{Call as OneCall};
+ghost use Rattle.ring_wire.specs.declared.message.Message.{Message};
+ghost use Rattle.ring_log.specs.declared.base.Base.{Base};
+ghost use Rattle.ring_log.specs.Exchanges.{Exchange, opened, base_at, handed_out, based};
+ghost use Rattle.ring_log.specs.Logs.{Log, empty, appended, adopted, committed_upto, committed_calls, is_adoptable, IsLog, KeepsCommitted};
+ghost use Rattle.ring_log.specs.Lives.{Whole, exchanged, heard_on, base_ending, own_base};
+
+use std::alloc::Allocator;
+
+/// What is committed stays: no call of a log lowers its committed length or changes a committed place, `adopt` of a base
+/// that may be adopted included. The committed places are always the first of the log.
+pub fn committed_law<A: Allocator + Copy>()
+    ensures opening { IsLog (empty {A = A}) }
+    ensures first { (log : Log A) → IsLog log →
+        IsFront (committed_calls log) log.calls × (length (committed_calls log) ≡ log.committed) }
+    ensures appended { (log : Log A) (call : OneCall A) → IsLog log → KeepsCommitted log (appended log call) }
+    ensures adopted { (log : Log A) (ring : RingId) (base : Base A) → IsLog log → is_adoptable log base ≡ true →
+        KeepsCommitted log (adopted log ring base) }
+    ensures committed { (log : Log A) (n : ℕ) → IsLog log → KeepsCommitted log (committed_upto log n) }
+{}
+
+/// The text of a primary ring, heard message by message, hands out the base exactly at the message with which its
+/// exchange ends: at no message before, nor at any after it. That base makes of each log what the exchange makes of it,
+/// and what is heard later is what follows the exchange.
+pub fn exchange_law<A: Allocator + Copy>()
+    ensures handed { (group : Group) (members : ℕ) (text : List (Message A)) (x : Message A) → is_primary group members ≡ true →
+        base_at (heard_on (opened members) text) x.sender x.payload
+        ≡ base_ending (exchanged group members text) (exchanged group members (text ++ x ∷ [])) }
+    ensures ends { (group : Group) (members : ℕ) (text : List (Message A)) (x : Message A) (w : Whole A) →
+        exchanged group members text ≡ None → exchanged group members (text ++ x ∷ []) ≡ Some w → (w.end ≡ x.number) × (w.rest ≡ []) }
+    ensures later { (group : Group) (members : ℕ) (text : List (Message A)) (x : Message A) (w : Whole A) →
+        exchanged group members text ≡ Some w → exchanged group members (text ++ x ∷ []) ≡ Some (record w { rest = w.rest ++ x ∷ [] }) }
+    ensures base { (e : Exchange A) (base : Base A) (own : List (OneCall A)) → handed_out e ≡ Some base → based own base ≡ own_base own e }
+{}

@@ -1,0 +1,4 @@
+pub mod Lives
+pub mod Nodes
+pub mod Dues
+pub mod Stepping

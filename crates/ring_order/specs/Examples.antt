@@ -1,0 +1,138 @@
+-- Worked lives: three processors form ring 4.1, where a call of client 7 is committed at processor 1 alone; then 1 and 2 go on in ring 8.1 without 3.
+-- Processor 1 owns the place that 2 has not committed, and sends it in a Part. The replicated log, rules 2 to 6 and 16, of docs/PROTOCOL.md.
+use Rattle.std.specs.Prelude.{ℕ, ◌==◌, if◌then◌else◌, List, [], ◌∷◌, Option, Some, None}
+use Rattle.std.specs.declared.alloc.Global.{Global}
+use Rattle.ring_base.specs.Group.{Group}
+use Rattle.ring_base.specs.Processors.{only}
+use Rattle.ring_base.specs.Rings.{same_ring}
+use Rattle.ring_base.specs.declared.ring_id.RingId.{RingId}
+use Rattle.ring_payload.specs.declared.call.Call.{Call as OneCall}
+use Rattle.ring_payload.specs.declared.content.Payload.{Payload}
+use Rattle.ring_payload.specs.declared.content.Payload.TheVariants.{Call, Head, Part}
+use Rattle.ring_wire.specs.declared.message.Message.{Message}
+use Rattle.ring_log.specs.Stays.{Stay, born}
+
+abbrev pub three : Group
+three = record { count = 3; votes = 1 ∷ 1 ∷ 1 ∷ [] }
+
+abbrev pub first_ring : RingId
+first_ring = record { seq = 4; rep = 1 }
+
+abbrev pub second_ring : RingId
+second_ring = record { seq = 8; rep = 1 }
+
+-- the first call of a client
+abbrev pub call_by : ℕ → OneCall Global
+call_by client = record { client = client; number = 1; op = 1 ∷ 1 ∷ [] }
+
+abbrev pub head_at : Option RingId → ℕ → ℕ → Payload Global
+head_at last length committed = Head (record { last = last; length = length; committed = committed; trimmed = 0 })
+
+abbrev pub part_at : ℕ → List (OneCall Global) → Payload Global
+part_at first calls = Part (record { first = first; calls = calls })
+
+abbrev pub first_head : Payload Global
+first_head = head_at None 0 0
+
+abbrev pub message_of : RingId → ℕ → ℕ → Payload Global → Message Global
+message_of ring number sender payload = record { ring = ring; number = number; sender = sender; payload = payload }
+
+-- the user messages of the two rings: before them stand the Ends
+abbrev pub first_text : List (Message Global)
+first_text =
+    message_of first_ring 4 1 first_head
+    ∷ message_of first_ring 5 2 first_head
+    ∷ message_of first_ring 6 3 first_head
+    ∷ message_of first_ring 7 1 (Call (call_by 7))
+    ∷ []
+
+abbrev pub second_exchange : List (Message Global)
+second_exchange =
+    message_of second_ring 3 1 (head_at (Some first_ring) 1 1)
+    ∷ message_of second_ring 4 2 (head_at (Some first_ring) 1 0)
+    ∷ message_of second_ring 5 1 (part_at 0 (call_by 7 ∷ []))
+    ∷ []
+
+abbrev pub second_text : List (Message Global)
+second_text =
+    message_of second_ring 3 1 (head_at (Some first_ring) 1 1)
+    ∷ message_of second_ring 4 2 (head_at (Some first_ring) 1 0)
+    ∷ message_of second_ring 5 1 (part_at 0 (call_by 7 ∷ []))
+    ∷ message_of second_ring 6 2 (Call (call_by 9))
+    ∷ []
+
+abbrev pub text : RingId → List (Message Global)
+text r = if same_ring r first_ring then first_text else if same_ring r second_ring then second_text else []
+
+abbrev pub members : RingId → ℕ
+members r = if same_ring r first_ring then 7 else if same_ring r second_ring then 3 else only r.rep
+
+abbrev pub in_first : ℕ → List (Payload Global) → Stay Global
+in_first mark sent = record { ring = first_ring; members = 7; heard = first_text; mark = mark; sent = sent }
+
+abbrev pub in_second : List (Message Global) → ℕ → List (Payload Global) → Stay Global
+in_second heard mark sent = record { ring = second_ring; members = 3; heard = heard; mark = mark; sent = sent }
+
+abbrev pub one_first : Stay Global
+one_first = in_first 7 (first_head ∷ Call (call_by 7) ∷ [])
+
+abbrev pub one_second : Stay Global
+one_second = in_second second_text 5 (head_at (Some first_ring) 1 1 ∷ part_at 0 (call_by 7 ∷ []) ∷ [])
+
+abbrev pub two_first : Stay Global
+two_first = in_first 6 (first_head ∷ [])
+
+abbrev pub two_second : Stay Global
+two_second = in_second second_exchange 4 (head_at (Some first_ring) 1 0 ∷ Call (call_by 9) ∷ [])
+
+abbrev pub three_first : Stay Global
+three_first = in_first 4 (first_head ∷ [])
+
+abbrev pub life_of_one : List (Stay Global)
+life_of_one = one_second ∷ one_first ∷ born 1
+
+abbrev pub life_of_two : List (Stay Global)
+life_of_two = two_second ∷ two_first ∷ born 2
+
+abbrev pub life_of_three : List (Stay Global)
+life_of_three = three_first ∷ born 3
+
+-- the life of processor 2 and of the others
+abbrev pub lives_with : List (Stay Global) → ℕ → List (Stay Global)
+lives_with two p = if p == 1 then life_of_one else if p == 2 then two else if p == 3 then life_of_three else []
+
+abbrev pub lives : ℕ → List (Stay Global)
+lives = lives_with life_of_two
+
+-- Wrong lives of processor 2
+
+-- it has not heard in ring 4.1 what processor 1 knows as safe there
+abbrev pub unheard : List (Stay Global)
+unheard = record { ring = first_ring; members = 7; heard = message_of first_ring 4 1 first_head ∷ []; mark = 4; sent = first_head ∷ [] } ∷ born 2
+
+-- it heard a Head that isn't of the ring's text
+abbrev pub misheard : List (Stay Global)
+misheard = record { ring = first_ring; members = 7; heard = message_of first_ring 4 2 first_head ∷ []; mark = 0; sent = first_head ∷ [] } ∷ born 2
+
+-- it was in ring 4.1 with fewer members
+abbrev pub smaller : List (Stay Global)
+smaller = record { ring = first_ring; members = 3; heard = first_text; mark = 6; sent = first_head ∷ [] } ∷ born 2
+
+-- it was given nothing to send in ring 4.1, where its Head was heard
+abbrev pub silent : List (Stay Global)
+silent = record { ring = first_ring; members = 7; heard = first_text; mark = 6; sent = [] } ∷ born 2
+
+-- it came from ring 8.1 to ring 4.1
+abbrev pub falling : List (Stay Global)
+falling = two_first ∷ two_second ∷ born 2
+
+-- in ring 8.1 its Head names the ring before its last primary, or comes after a call
+abbrev pub older_head : List (Stay Global)
+older_head = in_second [] 0 (head_at None 1 0 ∷ []) ∷ two_first ∷ born 2
+
+abbrev pub late_head : List (Stay Global)
+late_head = in_second [] 0 (Call (call_by 9) ∷ head_at (Some first_ring) 1 0 ∷ []) ∷ two_first ∷ born 2
+
+-- a Part of it has a place that isn't of its log
+abbrev pub wrong_part : List (Stay Global)
+wrong_part = in_second [] 0 (head_at (Some first_ring) 1 0 ∷ part_at 0 (call_by 9 ∷ []) ∷ []) ∷ two_first ∷ born 2

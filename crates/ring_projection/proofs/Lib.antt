@@ -1,0 +1,4 @@
+pub mod Quiet
+pub mod Sends
+pub mod Steps
+pub mod Events

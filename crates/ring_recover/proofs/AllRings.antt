@@ -1,0 +1,87 @@
+-- A node keeps the messages of all rings in one list, and a window those of one ring: what recovery asks of the old ring and of the new is the same of both.
+use Rattle.std.proofs.Common.{◌≡◌, ℕ, ◌+◌, ◌-◌, Bool, List, [], ◌∷◌, ◌++◌, filter, filter_map, Option, Some, None, ap, ◌∙◌}
+use mathlib.Core.Path.{fun_ext}
+use Rattle.std.specs.Prelude.{not, ◌&&◌, nat_le, nat_lt, if◌then◌else◌}
+use Rattle.std.specs.List.{list_all}
+use Rattle.ring_base.specs.Numbers.{numbers_from}
+use Rattle.ring_base.specs.Rings.{same_ring}
+use Rattle.ring_base.specs.declared.ring_id.RingId.{RingId}
+use Rattle.ring_payload.specs.Kinds.{is_user, payload_of}
+use Rattle.ring_payload.specs.declared.content.Wrapped.{Wrapped as WrappedMessage}
+use Rattle.ring_wire.specs.declared.message.Message.{Message}
+use Rattle.ring_window.specs.Held.{found, holds, of_ring, highest, front_of}
+use Rattle.ring_window.proofs.OfRing.{found_of_ring, holds_of_ring, highest_of_ring, front_of_ring, is_new_of_ring}
+use Rattle.ring_recover.specs.Plans.{Plan, safe, low, gap, known_above_safe}
+use Rattle.ring_recover.specs.Wrapping.{is_wrapped, left_to_wrap, inner_if_new}
+use Rattle.ring_recover.specs.Recovering.{Recovering, first_number, next_to_wrap}
+use Rattle.ring_recover.specs.Installing.{in_front, is_ready, is_ready_by}
+use Rattle.ring_recover.specs.Deliveries.{is_complete, sent_by_mate, regular_part, transitional_part, past_gap_part, delivery, finish, rests}
+
+all_found : {A : Type 0} (held : List (Message A)) (ring : RingId) → found (of_ring ring held) ring ≡ found held ring
+all_found held ring = fun_ext (λ n. found_of_ring held ring n)
+
+all_holds : {A : Type 0} (held : List (Message A)) (ring : RingId) → holds (of_ring ring held) ring ≡ holds held ring
+all_holds held ring = fun_ext (λ n. holds_of_ring held ring n)
+
+-- What is handed on
+
+pub left_of_ring : {A : Type 0} (p : Plan) (fresh held : List (Message A)) → left_to_wrap p fresh (of_ring p.old held) ≡ left_to_wrap p fresh held
+left_of_ring {A} p fresh held =
+    ap (λ (f : ℕ → Option (Message A)). filter
+    (λ (x : Message A). not (is_wrapped fresh p.old x.number)) (filter_map f (numbers_from (low p + 1) (highest
+    (of_ring p.old held) p.old - low p)))) (all_found held p.old)
+    ∙ ap (λ n. filter (λ (x : Message A). not (is_wrapped fresh p.old x.number)) (filter_map (found held p.old) (numbers_from (low p + 1)
+    (n - low p)))) (highest_of_ring held p.old)
+
+pub next_of_ring : {A : Type 0} (r : Recovering A) (held : List (Message A)) → next_to_wrap r (of_ring r.plan.old held) ≡ next_to_wrap r held
+next_of_ring {A} r held = ap (λ (xs : List (Message A)). first_number (filter (λ (x : Message A). is_user x.payload) xs)) (left_of_ring r.plan r.seen held)
+
+-- what a message of the new ring gives to the old window
+pub inner_of_ring : {A : Type 0} (old : RingId) (mark : ℕ) (held : List (Message A)) (w : WrappedMessage A)
+    → inner_if_new old mark (of_ring old held) w ≡ inner_if_new old mark held w
+inner_of_ring {A} old mark held w =
+    ap (λ b. if same_ring w.ring old && b then record {
+      ring = w.ring;
+      number = w.number;
+      sender = w.sender;
+      payload =
+          payload_of w.payload;
+    } ∷ [] else []) (is_new_of_ring held mark old w.number)
+
+-- What is delivered
+
+pub complete_of_ring : {A : Type 0} (p : Plan) (held : List (Message A)) → is_complete p (of_ring p.old held) ≡ is_complete p held
+complete_of_ring p held =
+    ap (λ n. nat_le (safe p) n && list_all (holds (of_ring p.old held) p.old) (known_above_safe p)) (front_of_ring held p.old)
+    ∙ ap (λ (t : ℕ → Bool). nat_le (safe p) (front_of held p.old) && list_all t (known_above_safe p)) (all_holds held p.old)
+
+past_gap_of_ring : {A : Type 0} (p : Plan) (held : List (Message A)) → past_gap_part p (of_ring p.old held) ≡ past_gap_part p held
+past_gap_of_ring {A} p held = ap (λ (f : ℕ → Option (Message A)). filter
+    (λ n. sent_by_mate p (f n)) (filter (nat_lt (gap p)) (known_above_safe p))) (all_found held p.old)
+
+pub finish_of_ring : {A : Type 0} (p : Plan) (held : List (Message A)) → finish p (of_ring p.old held) ≡ finish p held
+finish_of_ring p held =
+    ap (λ b. if b then Some (delivery p (of_ring p.old held)) else None) (complete_of_ring p held)
+    ∙ ap (λ (ns : List ℕ). if is_complete p held then Some (record {
+      regular = regular_part p;
+      transitional = transitional_part p;
+      past_gap =
+          ns;
+    }) else None) (past_gap_of_ring p held)
+
+pub rests_of_ring : {A : Type 0} (p : Plan) (held : List (Message A)) → rests p (of_ring p.old held) ≡ rests p held
+rests_of_ring {A} p held =
+    ap (λ (f : ℕ → Option (Message A)). filter
+    (λ (x : Message A). is_user x.payload) (filter_map f (transitional_part p ++ past_gap_part p (of_ring p.old held)))) (all_found held p.old)
+    ∙ ap (λ (ns : List ℕ). filter (λ (x : Message A). is_user x.payload) (filter_map (found held p.old) (transitional_part p ++ ns))) (past_gap_of_ring p held)
+
+-- When the ring is installed
+
+pub in_front_of_ring : {A : Type 0} (ring : RingId) (held : List (Message A)) → in_front (of_ring ring held) ring ≡ in_front held ring
+in_front_of_ring {A} ring held =
+    ap (λ (f : ℕ → Option (Message A)). filter_map f (numbers_from 1 (front_of (of_ring ring held) ring))) (all_found held ring)
+    ∙ ap (λ n. filter_map (found held ring) (numbers_from 1 n)) (front_of_ring held ring)
+
+pub ready_of_ring : {A : Type 0} (ring : RingId) (held : List (Message A)) (members mark : ℕ)
+    → is_ready (of_ring ring held) ring members mark ≡ is_ready held ring members mark
+ready_of_ring {A} ring held members mark = ap (λ (xs : List (Message A)). is_ready_by xs members mark) (in_front_of_ring ring held)

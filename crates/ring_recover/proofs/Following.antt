@@ -1,0 +1,124 @@
+-- A new ring's messages in the front, as the front rises.
+use Rattle.std.proofs.Common.{◌≡◌, ℕ, zero, suc, ◌+◌, ◌-◌, ◌<◌, ◌≤◌, Bool, true, false, List, [], ◌∷◌, ◌++◌, filter_map, length, Option, Some, None, refl, ap, ◌∙◌, sym, subst, inl, inr, arith, length-append}
+use Rattle.std.specs.List.{cons_option}
+use Rattle.std.specs.Prelude.{nat_lt, ◌==◌, ◌||◌}
+use Rattle.std.proofs.lemmas.Bool.{cases_Bool, cond-true, cond-false, lt-ltb, and_parts, eqb-true, true≢false}
+use Rattle.std.proofs.lemmas.List.{append-nil}
+use Rattle.std.proofs.lemmas.List.Elements.{filter_map-append}
+use Rattle.ring_base.specs.Fronts.{IsFront, front_length, front_shorter, front_whole}
+use Rattle.ring_base.specs.Numbers.{numbers_from}
+use Rattle.ring_base.specs.Passing.{length-numbers_from}
+use Rattle.ring_base.specs.Rings.{same_ring}
+use Rattle.ring_base.specs.declared.ring_id.RingId.{RingId}
+use Rattle.ring_wire.specs.declared.message.Message.{Message}
+use Rattle.ring_window.specs.Held.{is_numbered, found, holds, front_of}
+use Rattle.ring_window.specs.Windows.{Windowed, kept}
+use Rattle.ring_window.proofs.Fronts.{front_is, front_grows}
+use Rattle.ring_recover.specs.Installing.{in_front}
+use Rattle.ring_recover.proofs.Finishing.{holds-found}
+
+-- the ring's messages up to a number
+abbrev pub up_to : {A : Type 0} → List (Message A) → RingId → ℕ → List (Message A)
+up_to held ring k = filter_map (found held ring) (numbers_from 1 k)
+
+-- a row in two parts
+row_parts : (first a b : ℕ) → numbers_from first (a + b) ≡ numbers_from first a ++ numbers_from (first + a) b
+row_parts first zero b = (let e : first ≡ first + 0 = omega arith in let n : zero + b ≡ b = omega arith in ap (numbers_from first) n
+    ∙ ap (λ k. numbers_from k b) e)
+row_parts first (suc a) b =
+    let n : suc a + b ≡ suc (a + b) = omega arith in
+    let e : suc first + a ≡ first + suc a = omega arith in
+    ap (numbers_from first) n ∙ ap (λ xs. first ∷ xs) (row_parts (suc first) a b) ∙ ap (λ k. first ∷ numbers_from (suc first) a ++ numbers_from k b) e
+
+few_by : {A : Type 0} (o : Option (Message A)) (xs : List (Message A)) (n : ℕ) → length xs ≤ n → length (cons_option o xs) ≤ suc n
+few_by None xs n l = omega arith
+few_by (Some x) xs n l = omega arith
+
+module _ {A : Type 0} (held : List (Message A)) (ring : RingId) where
+  parts : (a b : ℕ) → up_to held ring (a + b) ≡ up_to held ring a ++ filter_map (found held ring) (numbers_from (1 + a) b)
+  parts a b = ap (filter_map (found held ring)) (row_parts 1 a b) ∙ filter_map-append (found held ring) (numbers_from 1 a) (numbers_from (1 + a) b)
+
+  -- one number more
+  pub up_to_some : (k : ℕ) (x : Message A) → found held ring (k + 1) ≡ Some x → up_to held ring (k + 1) ≡ up_to held ring k ++ x ∷ []
+  up_to_some k x h = (let e : k + 1 ≡ 1 + k = omega arith in
+      parts k 1 ∙ ap (λ (o : Option (Message A)). up_to held ring k ++ cons_option o []) (ap (found held ring) (sym e) ∙ h))
+
+  pub up_to_none : (k : ℕ) → found held ring (k + 1) ≡ None → up_to held ring (k + 1) ≡ up_to held ring k
+  up_to_none k h = (let e : k + 1 ≡ 1 + k = omega arith in
+      parts k 1 ∙ ap (λ (o : Option (Message A)). up_to held ring k ++ cons_option o []) (ap (found held ring) (sym e) ∙ h) ∙ append-nil (up_to held ring k))
+
+  few_in : (ns : List ℕ) → length (filter_map (found held ring) ns) ≤ length ns
+  few_in [] = omega arith
+  few_in (n ∷ ns) = few_by (found held ring n) (filter_map (found held ring) ns) (length ns) (few_in ns)
+
+  pub up_to_few : (k : ℕ) → length (up_to held ring k) ≤ k
+  up_to_few k = omega (arith, few_in (numbers_from 1 k), length-numbers_from 1 k)
+
+  -- up to the front each number has its message
+  pub up_to_all : (k : ℕ) → k ≤ front_of held ring → length (up_to held ring k) ≡ k
+  up_to_all zero l = refl
+  up_to_all (suc k) l =
+      let x = holds-found held ring (k + 1) ((front_is held ring).below (k + 1) (omega arith) (omega arith)) in
+      let e : suc k ≡ k + 1 = omega arith in
+      ap (λ n. length (up_to held ring n)) e ∙ ap length (up_to_some k x.0 x.1)
+      ∙ omega (arith, length-append (up_to held ring k) (x.0 ∷ []), up_to_all k (omega arith))
+
+  pub up_to_front : (k : ℕ) → k ≤ front_of held ring → IsFront (up_to held ring k) (in_front held ring)
+  up_to_front k l =
+      let e : k + (front_of held ring - k) ≡ front_of held ring = omega arith in
+      (filter_map (found held ring) (numbers_from (1 + k) (front_of held ring - k)), sym (parts k (front_of held ring - k)) ∙ ap (up_to held ring) e)
+
+  pub front_short : (xs : List (Message A)) → IsFront xs (in_front held ring) → length xs ≤ front_of held ring
+  front_short xs f = omega (arith, front_length xs (in_front held ring) f, up_to_all (front_of held ring) (omega arith))
+
+  -- a front of the messages in the front is those up to a number
+  pub front_up_to : (xs : List (Message A)) → IsFront xs (in_front held ring) → xs ≡ up_to held ring (length xs)
+  front_up_to xs f =
+      let l = front_short xs f in
+      let n = up_to_all (length xs) l in
+      front_whole xs (up_to held ring (length xs)) (front_shorter xs (up_to held ring (length xs)) (in_front held ring) f (up_to_front
+      (length xs) l) (omega arith)) (omega arith)
+
+-- what a window still has of a number above its mark
+pub kept_found : {A : Type 0} (w : Windowed A) (n : ℕ) → w.mark < n → kept w n ≡ found w.held w.ring n
+kept_found w n l = cond-true (nat_lt w.mark n) (found w.held w.ring n) None (lt-ltb w.mark n l)
+
+pub none_from : {X : Type 0} (o : Option X) → ((x : X) → o ≡ Some x → ⊥) → o ≡ None
+none_from None h = refl
+none_from (Some x) h = absurd (h x refl)
+
+-- Once a message is held whose number was not, those in the front before are a front of those in it now
+
+found_more : {A : Type 0} (x : Message A) (held : List (Message A)) (ring : RingId) (n : ℕ) → holds held ring x.number ≡ false
+    → holds held ring n ≡ true → found (x ∷ held) ring n ≡ found held ring n
+found_more x held ring n new old =
+    elim (cases_Bool (is_numbered ring n x)) [
+      | inl h ↦ (let e : x.number ≡ n = eqb-true x.number n (and_parts (same_ring x.ring ring) (x.number == n) h).1 in absurd (true≢false (sym (ap
+          (holds held ring) e ∙ old) ∙ new)))
+      | inr h ↦ cond-false (is_numbered ring n x) (Some x) (found held ring n) h
+    ]
+
+holds_more : {A : Type 0} (x : Message A) (held : List (Message A)) (ring : RingId) (n : ℕ) → holds held ring n ≡ true → holds (x ∷ held) ring n ≡ true
+holds_more x held ring n h = ap (λ b. is_numbered ring n x || b) h ∙ or_true (is_numbered ring n x)
+  where
+    or_true : (b : Bool) → (b || true) ≡ true
+    or_true true = refl
+    or_true false = refl
+
+module _ {A : Type 0} (x : Message A) (held : List (Message A)) (ring : RingId) (new : holds held ring x.number ≡ false) where
+  same_up_to : (k : ℕ) → k ≤ front_of held ring → up_to (x ∷ held) ring k ≡ up_to held ring k
+  same_up_to zero l = refl
+  same_up_to (suc k) l =
+      let e : suc k ≡ k + 1 = omega arith in
+      let there = (front_is held ring).below (k + 1) (omega arith) (omega arith) in
+      let y = holds-found held ring (k + 1) there in
+      ap (up_to (x ∷ held) ring) e
+      ∙ up_to_some (x ∷ held) ring k y.0 (found_more x held ring (k + 1) new there ∙ y.1)
+      ∙ ap (λ ys. ys ++ y.0 ∷ []) (same_up_to k (omega arith))
+      ∙ sym (up_to_some held ring k y.0 y.1)
+      ∙ sym (ap (up_to held ring) e)
+
+  pub front_with : IsFront (in_front held ring) (in_front (x ∷ held) ring)
+  front_with =
+      let l = front_grows held (x ∷ held) ring (λ n h. holds_more x held ring n h) in
+      subst (λ ys. IsFront ys (in_front (x ∷ held) ring)) (same_up_to (front_of held ring) (omega arith)) (up_to_front (x ∷ held) ring (front_of held ring) l)

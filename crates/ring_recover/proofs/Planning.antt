@@ -1,0 +1,220 @@
+-- A plan as it is made of a commit token, and what the code keeps of it as messages of the new ring are seen.
+use Rattle.std.proofs.Common.{◌≡◌, ℕ, ◌+◌, ◌-◌, ◌<◌, ◌≤◌, min, Bool, true, false, List, [], ◌∷◌, map, length, Option, Some, None, refl, ap, ◌∙◌, sym, inl, inr, arith, leb}
+use Rattle.std.specs.Prelude.{◌&&◌, ◌||◌, ◌==◌, nat_le, nat_lt, slice_get, if◌then◌else◌}
+use Rattle.std.specs.List.{list_all, list_any}
+use Rattle.std.specs.Option.{option_map}
+use Rattle.std.proofs.lemmas.Bool.{cases_Bool, cond-true, cond-false, and_parts, leb-true, le-leb, lt-leb, lt-ltb, true≢false}
+use Rattle.ring_base.specs.Processors.{has, size, position_of}
+use Rattle.ring_base.specs.declared.ring_id.RingId.{RingId}
+use Rattle.ring_payload.specs.Kinds.{is_end}
+use Rattle.ring_wire.specs.declared.commit.CommitToken.{CommitToken}
+use Rattle.ring_wire.specs.declared.entries.CommitEntry.{CommitEntry}
+use Rattle.ring_wire.specs.declared.message.Message.{Message}
+use Rattle.ring_window.specs.Bits.{is_set}
+use Rattle.ring_window.specs.Held.{found, holds, highest, front_of}
+use Rattle.ring_window.specs.Windows.{Windowed, kept}
+use Rattle.ring_window.proofs.Fronts.{highest_covers}
+use Rattle.ring_window.proofs.Windows.{found_none}
+use Rattle.ring_commit.specs.Reports.{reports_of, safe_of, none_behind, is_sound}
+use Rattle.ring_recover.specs.Chosen.{chosen}
+use Rattle.ring_recover.specs.Plans.{Plan, plan_of, plan_if_sound, plan_from, least, low, safe, is_reported, is_known, known_above_safe}
+use Rattle.ring_recover.specs.Wrapping.{is_wrap_of, is_wrapped}
+use Rattle.ring_recover.specs.Recovering.{Recovering, with_seen, old_of, IsKept, is_from}
+use Rattle.ring_recover.specs.Deliveries.{is_complete, sent_by_mate, is_from_mate}
+use Rattle.ring_recover.proofs.Choosing.{chosen_by, chosen_each}
+
+-- From a commit token
+
+-- what a member's entry gives
+sound_is : (k : CommitToken) (o : Option CommitEntry) (old : RingId) → option_map (λ (e : CommitEntry). e.old) o ≡ Some old
+    → plan_if_sound k o ≡ (if is_sound old k.entries then Some (plan_of old k.members k.entries) else None)
+sound_is k None old e = absurd (let q : ⊥ = cc in q)
+sound_is k (Some own) old e = (let same : own.old ≡ old = cc in ap
+    (λ (r : RingId). if is_sound r k.entries then Some (plan_of r k.members k.entries) else None) same)
+
+none_is : (k : CommitToken) (o : Option CommitEntry) → option_map (λ (e : CommitEntry). e.old) o ≡ None → plan_if_sound k o ≡ None
+none_is k None e = refl
+none_is k (Some own) e = absurd (let q : ⊥ = cc in q)
+
+pub planned : (me : ℕ) (k : CommitToken) (old : RingId) → old_of me k ≡ Some old
+    → plan_from me k ≡ (if is_sound old k.entries then Some (plan_of old k.members k.entries) else None)
+planned me k old h =
+    let o = slice_get k.entries (position_of k.members me) in
+    elim (cases_Bool (has k.members me && leb (size k.members) (length k.entries))) [
+      | inl e ↦ rw e (sound_is k o old (sym (cond-true (has k.members me && leb (size k.members) (length k.entries)) (option_map
+          (λ (x : CommitEntry). x.old) o) None e) ∙ h))
+      | inr e ↦ absurd (let q : None ≡ Some old = sym (cond-false (has k.members me && leb (size k.members) (length k.entries)) (option_map
+          (λ (x : CommitEntry). x.old) o) None e) ∙ h in let r : ⊥ = cc in r)
+    ]
+
+pub planned_none : (me : ℕ) (k : CommitToken) → old_of me k ≡ None → plan_from me k ≡ None
+planned_none me k h =
+    let o = slice_get k.entries (position_of k.members me) in
+    elim (cases_Bool (has k.members me && leb (size k.members) (length k.entries))) [
+      | inl e ↦ rw e (none_is k o (sym (cond-true (has k.members me && leb (size k.members) (length k.entries)) (option_map
+          (λ (x : CommitEntry). x.old) o) None e) ∙ h))
+      | inr e ↦ rw e refl
+    ]
+
+pub planned_some : (me : ℕ) (k : CommitToken) (old : RingId) → old_of me k ≡ Some old
+    → none_behind (safe_of (reports_of old k.entries)) (reports_of old k.entries) ≡ true → plan_from me k ≡ Some (plan_of old k.members k.entries)
+planned_some me k old h s = planned me k old h ∙ cond-true (is_sound old k.entries) (Some (plan_of old k.members k.entries)) None s
+
+pub planned_behind : (me : ℕ) (k : CommitToken) (old : RingId) → old_of me k ≡ Some old
+    → none_behind (safe_of (reports_of old k.entries)) (reports_of old k.entries) ≡ false → plan_from me k ≡ None
+planned_behind me k old h s = planned me k old h ∙ cond-false (is_sound old k.entries) (Some (plan_of old k.members k.entries)) None s
+
+-- where none is behind a mark, the least front is not, if there is one
+least_behind : (mark : ℕ) (e : CommitEntry) (reports : List CommitEntry) → none_behind mark (e ∷ reports) ≡ true
+    → mark ≤ least (map (λ (x : CommitEntry). x.front) (e ∷ reports))
+least_behind mark e [] h = leb-true mark e.front (and_parts (nat_le mark e.front) true h).0
+least_behind mark e (f ∷ reports) h =
+    let both = and_parts (nat_le mark e.front) (none_behind mark (f ∷ reports)) h in
+    let rest = least_behind mark f reports both.1 in
+    let this : mark ≤ e.front = leb-true mark e.front both.0 in
+    omega arith
+
+pub safe_low : (reports : List CommitEntry) → none_behind (safe_of reports) reports ≡ true
+    → safe_of reports ≤ least (map (λ (x : CommitEntry). x.front) reports)
+safe_low [] h = omega arith
+safe_low (e ∷ reports) h = least_behind (safe_of (e ∷ reports)) e reports h
+
+-- What is kept
+
+or_none : (b : Bool) → (b || false) ≡ b
+or_none true = refl
+or_none false = refl
+
+or_swap : (a b : Bool) → (a || b) ≡ (b || a)
+or_swap true true = refl
+or_swap true false = refl
+or_swap false true = refl
+or_swap false false = refl
+
+module _ {A : Type 0} (r : Recovering A) (x : Message A) (old : RingId) (mates least_one high front : ℕ) (known wrapped more : List ℕ) (ended now : Bool) where
+  pub kept_seen : IsKept r old mates least_one high front known wrapped ended
+      → ((j : ℕ) → j < 256 → is_set more j ≡ (is_set wrapped j || is_wrap_of old (high + 1 + j) x.payload))
+      → now ≡ (ended || (is_end x.payload && (x.sender == r.me)))
+      → IsKept (with_seen r x) old mates least_one high front known more now
+  kept_seen k w e =
+      record {
+        old_is = k.old_is;
+        mates_is = k.mates_is;
+        least_is = k.least_is;
+        safe_is = k.safe_is;
+        low_is = k.low_is;
+        sound = k.sound;
+        known_is = k.known_is;
+        wrapped_is = λ j l.
+            w j l ∙ or_swap (is_set wrapped j) (is_wrap_of old (high + 1 + j) x.payload)
+            ∙ ap (λ b. is_wrap_of old (high + 1 + j) x.payload || b) (k.wrapped_is j l)
+            ∙ ap (λ (o : RingId). is_wrap_of o (high + 1 + j) x.payload || is_wrapped r.seen r.plan.old (high + 1 + j)) k.old_is;
+        ended_is =
+            e ∙ or_swap ended (is_end x.payload && (x.sender == r.me)) ∙ ap (λ b. (is_end x.payload && (x.sender == r.me)) || b) k.ended_is;
+      }
+
+-- what is known above the greatest safe mark
+pub kept_known : {A : Type 0} (r : Recovering A) (old : RingId) (mates least_one high front : ℕ) (known wrapped : List ℕ) (ended : Bool)
+    → IsKept r old mates least_one high front known wrapped ended
+    → chosen high known ≡ known_above_safe r.plan
+kept_known r old mates least_one high front known wrapped ended k =
+    ap (λ n. chosen n known) k.safe_is ∙ chosen_by (is_known r.plan) (safe r.plan) known (λ j l. k.known_is j l
+    ∙ ap (λ n. is_known r.plan (n + 1 + j)) k.safe_is)
+
+-- Of reports, one after another
+
+pub least_more : (a x : ℕ) (xs : List ℕ) → least (a ∷ x ∷ xs) ≡ least (min a x ∷ xs)
+least_more a x [] = refl
+least_more a x (y ∷ ys) = omega arith
+
+pub any_goes_on : (mark n : ℕ) (e : CommitEntry) (es reports : List CommitEntry) (holds : Bool) → (mark ≤ e.front → holds ≡ is_reported n e)
+    → (none_behind mark reports ≡ true → (none_behind mark (e ∷ es) ≡ true) × (list_any (is_reported n) (e ∷ es) ≡ list_any
+    (is_reported n) reports)) → holds ≡ false
+    → none_behind mark reports ≡ true → (none_behind mark es ≡ true) × (list_any (is_reported n) es ≡ list_any (is_reported n) reports)
+any_goes_on mark n e es reports holds is before none all =
+    let b = before all in
+    let both = and_parts (nat_le mark e.front) (none_behind mark es) b.0 in
+    let this : is_reported n e ≡ false = sym (is (leb-true mark e.front both.0)) ∙ none in
+    (both.1, sym (ap (λ c. c || list_any (is_reported n) es) this) ∙ b.1)
+
+pub any_found : (mark n : ℕ) (e : CommitEntry) (es reports : List CommitEntry) (holds : Bool) → (mark ≤ e.front → holds ≡ is_reported n e)
+    → (none_behind mark reports ≡ true → (none_behind mark (e ∷ es) ≡ true) × (list_any (is_reported n) (e ∷ es) ≡ list_any
+    (is_reported n) reports)) → holds ≡ true
+    → none_behind mark reports ≡ true → true ≡ list_any (is_reported n) reports
+any_found mark n e es reports holds is before one all =
+    let b = before all in
+    let both = and_parts (nat_le mark e.front) (none_behind mark es) b.0 in
+    let this : is_reported n e ≡ true = sym (is (leb-true mark e.front both.0)) ∙ one in
+    sym (ap (λ c. c || list_any (is_reported n) es) this) ∙ b.1
+
+-- What the window of the old ring holds
+
+sent_by : {A : Type 0} (p : Plan) (o : Option (Message A)) → is_from p.mates o ≡ sent_by_mate p o
+sent_by p None = refl
+sent_by p (Some x) = refl
+
+not_held : {A : Type 0} (held : List (Message A)) (ring : RingId) (n : ℕ) → highest held ring < n → holds held ring n ≡ false
+not_held held ring n l = elim (cases_Bool (holds held ring n)) [ inl h ↦ (let k = highest_covers held ring n h in absurd (omega arith)) | inr h ↦ h ]
+
+pub held_beyond : {A : Type 0} (held : List (Message A)) (ring : RingId) (after offset : ℕ) → highest held ring ≤ after + offset
+    → false ≡ holds held ring (after + 1 + offset)
+held_beyond held ring after offset l = sym (not_held held ring (after + 1 + offset) (omega arith))
+
+pub from_beyond : {A : Type 0} (senders : ℕ) (w : Windowed A) (after offset : ℕ) → highest w.held w.ring ≤ after + offset
+    → false ≡ is_from senders (kept w (after + 1 + offset))
+from_beyond senders w after offset l =
+    let n = after + 1 + offset in
+    let none = found_none w.held w.ring n (not_held w.held w.ring n (omega arith)) in
+    elim (cases_Bool (nat_lt w.mark n)) [
+      | inl e ↦ sym (ap (is_from senders) (cond-true (nat_lt w.mark n) (found w.held w.ring n) None e ∙ none))
+      | inr e ↦ sym (ap (is_from senders) (cond-false (nat_lt w.mark n) (found w.held w.ring n) None e))
+    ]
+
+pub not_all : (p : ℕ → Bool) (after : ℕ) (words : List ℕ) (j : ℕ) → j < 256 → is_set words j ≡ true → p (after + 1 + j) ≡ false
+    → false ≡ list_all p (chosen after words)
+not_all p after words j l s f = elim (cases_Bool (list_all p (chosen after words))) [
+  | inl t ↦ absurd (true≢false (sym
+      (chosen_each p after words t j l s) ∙ f))
+  | inr t ↦ sym t
+]
+
+module _ {A : Type 0} (r : Recovering A) (old : RingId) (mates least_one high front : ℕ) (known wrapped : List ℕ) (ended : Bool)
+    (k : IsKept r old mates least_one high front known wrapped ended) where
+  pub kept_bits : (j : ℕ) → j < 256 → is_set known j ≡ is_known r.plan (safe r.plan + 1 + j)
+  kept_bits j l = k.known_is j l ∙ ap (λ n. is_known r.plan (n + 1 + j)) k.safe_is
+
+  pub kept_sound : safe r.plan ≤ low r.plan
+  kept_sound = (let a = k.sound in let b = k.safe_is in let c = k.low_is in omega arith)
+
+  module _ (w : Windowed A) (ring : w.ring ≡ r.plan.old) where
+    pub complete_front : high ≤ front_of w.held w.ring → list_all (holds w.held w.ring) (chosen high known) ≡ is_complete r.plan w.held
+    complete_front l =
+        let all : list_all (holds w.held w.ring) (chosen high known) ≡ list_all (holds w.held r.plan.old) (known_above_safe r.plan) =
+        ap (λ (o : RingId). list_all (holds w.held o) (chosen high known)) ring
+        ∙ ap (list_all (holds w.held r.plan.old)) (kept_known r old mates least_one high front known wrapped ended k) in
+        let reached : nat_le (safe r.plan) (front_of w.held r.plan.old) ≡ true = le-leb (safe r.plan) (front_of w.held r.plan.old) (let a = ap
+        (front_of w.held) ring in let b = k.safe_is in omega arith) in
+        all ∙ sym (ap (λ b. b && list_all (holds w.held r.plan.old) (known_above_safe r.plan)) reached)
+
+    pub complete_behind : front_of w.held w.ring < high → false ≡ is_complete r.plan w.held
+    complete_behind l =
+        let behind : nat_le (safe r.plan) (front_of w.held r.plan.old) ≡ false = lt-leb (safe r.plan) (front_of w.held r.plan.old) (let a = ap
+        (front_of w.held) ring in let b = k.safe_is in omega arith) in
+        sym (ap (λ b. b && list_all (holds w.held r.plan.old) (known_above_safe r.plan)) behind)
+
+    -- once all that is known is held, nothing known is above the highest
+    pub known_reached : is_complete r.plan w.held ≡ true → (j : ℕ) → j < 256 → is_set known j ≡ true → nat_lt j (highest w.held w.ring - high) ≡ true
+    known_reached c j l s =
+        let all = (and_parts (nat_le (safe r.plan) (front_of w.held r.plan.old)) (list_all (holds w.held r.plan.old) (known_above_safe r.plan)) c).1 in
+        let some : holds w.held r.plan.old (high + 1 + j) ≡ true = chosen_each (holds w.held r.plan.old) high known (ap (list_all
+        (holds w.held r.plan.old)) (kept_known r old mates least_one high front known wrapped ended k) ∙ all) j l s in
+        let top : high + 1 + j ≤ highest w.held r.plan.old = highest_covers w.held r.plan.old (high + 1 + j) some in
+        lt-ltb j (highest w.held w.ring - high) (let a = ap (highest w.held) ring in omega arith)
+
+    -- a message past the mark is of a mate where one of these sent it
+    pub from_mate : w.mark ≤ high → (j : ℕ) → is_from mates (kept w (high + 1 + j)) ≡ is_from_mate r.plan w.held (high + 1 + j)
+    from_mate m j =
+        ap (is_from mates) (cond-true (nat_lt w.mark (high + 1 + j)) (found w.held w.ring (high + 1 + j)) None (lt-ltb w.mark (high + 1 + j)
+        (omega arith)) ∙ ap (λ (o : RingId). found w.held o (high + 1 + j)) ring)
+        ∙ ap (λ (n : ℕ). is_from n (found w.held r.plan.old (high + 1 + j))) k.mates_is
+        ∙ sent_by r.plan (found w.held r.plan.old (high + 1 + j))

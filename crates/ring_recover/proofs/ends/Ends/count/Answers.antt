@@ -1,0 +1,23 @@
+-- An End is counted as its sender's, a users' message as one, and any other as none of these.
+use Rattle.std.proofs.Common.{true, sym, ◌∙◌, ap}
+use Rattle.std.specs.Prelude.{◌||◌}
+use Rattle.ring_recover.proofs.Counting.{or_none, or_right, end_no_user, counted_end, counted_other}
+use Rattle.ring_recover.proofs.ends.Ends.count.Goals.{then-is_end, else-is_end+then-is_user, else-is_end+else-is_user}
+use Rattle.ring_recover.proofs.ends.Ends.count.Goals as goal
+
+pub invariant_of-self : goal.invariant_of-self
+invariant_of-self g c =
+    let x = c.args.message.now in
+    rw c.one_after.ensures (elim c.if-is_end.branch [
+      | then-is_end w ↦
+          let h = sym c.is_end.ensures ∙ w.if-is_end.true in
+          rw (w.self-inside-is, w.max-self-inside.ensures) (counted_end c.self.inside.past.value x _ _ _ _ _ c.self.invariant h
+          (end_no_user x.payload h) w.insert.ensures.members)
+      | else-is_end+then-is_user w ↦
+          rw w.self-inside-is (counted_other c.self.inside.past.value x _ _ _ _ true c.self.invariant (sym c.is_end.ensures
+          ∙ w.if-is_end.false) (sym (or_right c.self.inside.has_user _ (sym w.is_user.ensures ∙ w.if-is_user.true))))
+      | else-is_end+else-is_user w ↦
+          rw w.self-inside-is (counted_other c.self.inside.past.value x _ _ _ _ c.self.inside.has_user c.self.invariant (sym c.is_end.ensures
+          ∙ w.if-is_end.false)
+          (sym (ap (λ b. c.self.inside.has_user || b) (sym w.is_user.ensures ∙ w.if-is_user.false) ∙ or_none c.self.inside.has_user)))
+    ])

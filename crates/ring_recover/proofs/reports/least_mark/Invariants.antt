@@ -1,0 +1,9 @@
+-- What was read and what is left decide.
+use Rattle.std.proofs.Common.{◌≡◌, ◌∷◌, map, drop}
+use Rattle.ring_wire.specs.declared.entries.CommitEntry.{CommitEntry}
+use Rattle.ring_recover.specs.Plans.{least}
+use Rattle.ring_recover.proofs.reports.least_mark.Given as goal
+
+abbrev pub invariant-loop-report : goal.invariant-loop-report
+invariant-loop-report l = least (l.least ∷ map (λ (e : CommitEntry). e.mark) (drop l.report-index l.rest)) ≡ least (map
+    (λ (e : CommitEntry). e.mark) l.fn.reports)

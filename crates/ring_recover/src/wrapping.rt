@@ -1,0 +1,43 @@
+//! How a message of the old ring goes out on the new one.
+
+ghost use Rattle.std.specs.Prelude.{◌≡◌, IfOk, IfErr};
+ghost use Rattle.ring_base.specs.declared.fault.Fault.TheVariants.{Memory};
+ghost use Rattle.ring_payload.specs.Kinds.{content_of};
+ghost use Rattle.ring_recover.specs.Wrapping.{wrap};
+
+use ring_base::Fault;
+use ring_payload::{Content, Payload, Wrapped};
+use ring_wire::Message;
+use std::alloc::Allocator;
+
+/// A users' message of the old ring as a payload of the new one, and nothing for any other. The copy of what it
+/// carries may be refused `Memory`.
+pub fn wrap<A: Allocator + Copy>(message: &Message<A>) -> Result<Option<Payload<A>>, Fault>
+    ensures ok { IfOk result (λ wrapped. wrapped ≡ wrap message.now) }
+    ensures refused { IfErr result (λ fault. fault ≡ Memory) }
+{
+    match content_of(&message.payload)? {
+        Some(payload) => Ok(Some(Payload::Wrapped(Wrapped {
+            ring: message.ring,
+            number: message.number,
+            sender: message.sender,
+            payload,
+        }))),
+        None => Ok(None),
+    }
+}
+
+/// A users' payload as what a wrapped message may hold.
+fn content_of<A: Allocator + Copy>(payload: &Payload<A>) -> Result<Option<Content<A>>, Fault>
+    ensures ok { IfOk result (λ content. content ≡ content_of payload.now) }
+    ensures refused { IfErr result (λ fault. fault ≡ Memory) }
+{
+    match payload {
+        Payload::Call(call) => Ok(Some(Content::Call(call.clone()?))),
+        Payload::Head(head) => Ok(Some(Content::Head(*head))),
+        Payload::Part(part) => Ok(Some(Content::Part(part.clone()?))),
+        Payload::Pack(pack) => Ok(Some(Content::Pack(pack.clone()?))),
+        Payload::Snap(snap) => Ok(Some(Content::Snap(snap.clone()?))),
+        Payload::Wrapped(_) | Payload::End => Ok(None),
+    }
+}

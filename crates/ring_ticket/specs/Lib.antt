@@ -1,0 +1,4 @@
+pub mod Tickets
+pub mod Waiting
+pub mod Recent
+pub mod Pendings

@@ -1,0 +1,5 @@
+pub mod Changes
+pub mod Synchrony
+pub mod Same
+pub mod Tests
+pub mod WrongLives

@@ -1,0 +1,22 @@
+//! What happens to a world of nodes.
+
+use ring_base::{Kind, Proc};
+use ring_payload::Call;
+use std::alloc::{Allocator, Global};
+
+/// What happens next in a world of nodes. An event of a processor that is none of the group's changes nothing.
+#[derive(Drop)]
+pub enum Event<A: Allocator + Copy = Global> {
+    /// A call is submitted at the node.
+    Issue(Proc, Call<A>),
+    /// The node is handed the frame of this number. Frames are numbered from 1 in the order sent; one that was not sent,
+    /// or not to this node, changes nothing.
+    Deliver(Proc, u64),
+    /// Bytes come to the node. They change nothing: those that are no frame are ignored, and a frame is delivered by
+    /// its number alone.
+    Noise(Proc, Vec<u8, A>),
+    /// A time of the node is over.
+    Timeout(Proc, Kind),
+    /// The node stops for good.
+    Stop(Proc),
+}

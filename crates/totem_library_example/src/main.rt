@@ -1,0 +1,44 @@
+//! A node of a ring and an object, driven from a program of one's own: a client's call goes round and is answered.
+#![tactic(auto)]
+
+use ring_base::{Fault, Fixed, Kind};
+use ring_object::{Object, Reply};
+use ring_one::{Input, Node};
+use ring_payload::Call;
+use ring_session::Answer;
+use ring_things::Counters;
+use std::process::ExitCode;
+
+/// Add 5 to counter 0: the operation's number, the key, and the amount in eight bytes.
+const ADD: [u8; 10] = [1, 0, 0, 0, 0, 0, 0, 0, 0, 5];
+
+/// The frames that the node is handed: four form its ring, and the call is answered two later.
+const FRAMES: usize = 6;
+
+fn main(rt: HostRuntime) -> ExitCode {
+    let printed = match answered::<Counters>(rt.alloc()) {
+        Ok(Some(Answer::Done(reply))) => println!(rt; "the counter is at {}", count_of(&reply)),
+        Ok(_) => println!(rt; "no reply"),
+        Err(fault) => println!(rt; "{fault}"),
+    };
+    ExitCode::from(u8::from(printed.is_err()))
+}
+
+/// The last byte of a counter's reply, in which a small count stands.
+fn count_of(reply: &Reply) -> u8 {
+    reply.as_slice().last().copied().unwrap_or(0)
+}
+
+/// Submits client 7's call number 1, and hands the node its own frames until the call is answered.
+fn answered<O: Object>(alloc: O::Alloc) -> Result<Option<Answer>, Fault> {
+    let group = Fixed::new(1)?;
+    let mut node: Node<O> = Node::new(alloc, group, group.proc(1)?)?;
+    let ticket = node.submit(Call::new(alloc, 7, 1, &ADD)?)?;
+    let mut outs = node.step(Input::Timeout(Kind::Join))?;
+    for _ in 0..FRAMES {
+        if let Some(frame) = outs.frames.pop() {
+            outs = node.step(Input::Frame(frame))?;
+        }
+    }
+    Ok(node.reply(ticket))
+}
