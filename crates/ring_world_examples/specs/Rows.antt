@@ -9,10 +9,11 @@ use Rattle.ring_payload.specs.declared.call.Call.{Call}
 use Rattle.ring_session.specs.declared.answer.Answer.TheVariants.{Done}
 use Rattle.ring_node.specs.Nodes.{node_committed, node_log}
 use Rattle.ring_world.specs.declared.event.Event.{Event}
-use Rattle.ring_world.specs.declared.event.Event.TheVariants.{Issue, Deliver, Timeout}
+use Rattle.ring_world.specs.declared.event.Event.TheVariants.{Issue, Deliver, Timeout, Stop}
 use Rattle.ring_world.specs.declared.told.Told.{Told}
-use Rattle.ring_world.specs.declared.told.Told.TheVariants.{Answer as ToldAnswer}
-use Rattle.ring_world.specs.Worlds.{Carried, World, world_opening, happens, run}
+use Rattle.ring_world.specs.declared.told.Told.TheVariants.{Answer as ToldAnswer, Refused as ToldRefused}
+use Rattle.ring_srp.specs.State.{Carried}
+use Rattle.ring_world.specs.Worlds.{World, world_opening, happens, run}
 
 -- an object that counts its operations, and replies how many there were before
 abbrev pub counter : Sequential ℕ
@@ -91,3 +92,20 @@ settled = pump 100 (on (on (on (record { world = world_of 3; pairs = [] }) (Time
 
 abbrev pub answered_three : World Global
 answered_three = (pump 100 (on settled (Issue 2 (call_of_seven 1)))).world
+
+-- What a submit is refused, and what changes nothing
+
+-- node i refuses client 7's call of this number, with the refusal of another
+abbrev pub refused_at : ℕ → ℕ → ℕ → Told Global
+refused_at i number fault = ToldRefused i (call_of_seven number) fault
+
+-- a ticket more than a node may have without an answer
+abbrev pub one_too_many : World Global
+one_too_many = run counter (world_of 1) (map (λ k. Issue 1 (call_of_seven k)) (numbers_from 1 65))
+
+abbrev pub late_submit : World Global
+late_submit = run counter (world_of 1) (Stop 1 ∷ Issue 1 (call_of_seven 1) ∷ [])
+
+-- an unknown node, and a frame that was not sent
+abbrev pub strange_events : World Global
+strange_events = run counter (world_of 1) (Deliver 2 1 ∷ Deliver 1 1 ∷ [])

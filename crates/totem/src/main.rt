@@ -30,10 +30,10 @@ fn main(rt: HostRuntime) -> ExitCode {
         Err(error) if error.kind() == ErrorKind::OutOfMemory => {
             report(&mut err, Failure::Refused(Fault::Memory))
         }
-        Err(error) if error.kind() == ErrorKind::DisplayVersion => {
-            let _ = rt.print(&error);
-            0
-        }
+        Err(error) if error.kind() == ErrorKind::DisplayVersion => match rt.print(&error) {
+            Ok(()) => 0,
+            Err(_) => report(&mut err, Failure::Output),
+        },
         Err(error) => {
             let _ = rt.eprint(&error);
             BAD_COMMAND_LINE

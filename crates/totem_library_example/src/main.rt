@@ -16,12 +16,20 @@ const ADD: [u8; 10] = [1, 0, 0, 0, 0, 0, 0, 0, 0, 5];
 const FRAMES: usize = 6;
 
 fn main(rt: HostRuntime) -> ExitCode {
-    let printed = match answered::<Counters>(rt.alloc()) {
-        Ok(Some(Answer::Done(reply))) => println!(rt; "the counter is at {}", count_of(&reply)),
-        Ok(_) => println!(rt; "no reply"),
+    let printed = match count::<Counters>(rt.alloc()) {
+        Ok(Some(count)) => println!(rt; "the counter is at {count}"),
+        Ok(None) => println!(rt; "no reply"),
         Err(fault) => println!(rt; "{fault}"),
     };
     ExitCode::from(u8::from(printed.is_err()))
+}
+
+/// The count that the call is answered with, if it is.
+fn count<O: Object>(alloc: O::Alloc) -> Result<Option<u8>, Fault> {
+    match &answered::<O>(alloc)? {
+        Some(Answer::Done(reply)) => Ok(Some(count_of(reply))),
+        _ => Ok(None),
+    }
 }
 
 /// The last byte of a counter's reply, in which a small count stands.

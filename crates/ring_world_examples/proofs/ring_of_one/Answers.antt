@@ -18,3 +18,11 @@ returns-clause-told c = refl
 pub returns-clause-ordered : goal.returns-clause-ordered
 unfolding ring_step elements
 returns-clause-ordered c = refl
+
+pub returns-clause-waiting : goal.returns-clause-waiting
+unfolding ring_step elements
+returns-clause-waiting c = refl
+
+pub returns-clause-reply : goal.returns-clause-reply
+unfolding ring_step elements
+returns-clause-reply c = refl
