@@ -12,8 +12,8 @@ use Rattle.ring_wire.specs.declared.token.Token.{Token}
 use Rattle.ring_window.proofs.Rings.{ring_same}
 use Rattle.ring_token.specs.Turns.{Turn, first_token, turns_of}
 use Rattle.ring_token.specs.Rounds.{VisitBy, arrived, IsNext, AreVisits}
-use Rattle.ring_srp.specs.State.{Core}
-use Rattle.ring_srp.specs.Visiting.{to_next}
+use Rattle.ring_core.specs.State.{Core}
+use Rattle.ring_core.specs.Visiting.{to_next}
 use Rattle.ring_moves.specs.Worlds.{Carried, put}
 use Rattle.ring_moves.specs.Moves.{Move, Idles, Enters, Learns, Visits, Takes, Installs, turn_with, moved, IsStart, MayVisit, MayMove, CameTo}
 use Rattle.ring_moves.proofs.Rises.{runs_in}

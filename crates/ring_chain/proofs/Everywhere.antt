@@ -13,9 +13,9 @@ use Rattle.ring_wire.specs.declared.token.Token.{Token}
 use Rattle.ring_window.specs.Held.{of_ring}
 use Rattle.ring_window.proofs.Rings.{ring_same}
 use Rattle.ring_token.specs.Turns.{first_token}
-use Rattle.ring_srp.specs.State.{Core, all_of, formed}
-use Rattle.ring_srp.specs.Visiting.{room_at, new_payloads, repeated, queue_after}
-use Rattle.ring_srp.specs.Deciding.{Visit}
+use Rattle.ring_core.specs.State.{Core, all_of, formed}
+use Rattle.ring_core.specs.Visiting.{room_at, new_payloads, repeated, queue_after}
+use Rattle.ring_core.specs.Deciding.{Visit}
 use Rattle.ring_moves.specs.Facts.{IsIn}
 use Rattle.ring_moves.specs.declared.event.RingEvent.{RingEvent}
 use Rattle.ring_moves.specs.Worlds.{World, run, unformed, ring_formed, acts_on_formed, run_formed}

@@ -4,8 +4,8 @@ use Rattle.std.specs.Prelude.{filter}
 use Rattle.ring_base.specs.Members.{everybody_members}
 use Rattle.ring_base.specs.declared.state.State.TheVariants.{Commit, Recovery, Operational}
 use Rattle.ring_token.specs.Turns.{first_token}
-use Rattle.ring_srp.specs.State.{Core, all_of, formed}
-use Rattle.ring_srp.specs.Deciding.{Visit}
+use Rattle.ring_core.specs.State.{Core, all_of, formed}
+use Rattle.ring_core.specs.Deciding.{Visit}
 use Rattle.ring_moves.specs.declared.event.RingEvent.{RingEvent}
 use Rattle.ring_moves.specs.Worlds.{ring_formed, acts_on_formed, run_formed}
 use Rattle.ring_moves.specs.Moves.{Move, Idles, Enters, Learns, Visits, Takes, Installs, moved, CameTo}

@@ -7,8 +7,8 @@ use Rattle.ring_base.specs.declared.state.State.TheVariants.{Gather, Commit, Rec
 use Rattle.ring_base.proofs.Each.{each-weaker}
 use Rattle.ring_wire.specs.declared.commit.CommitToken.{CommitToken}
 use Rattle.ring_wire.specs.declared.frame.Frame.{Frame}
-use Rattle.ring_srp.specs.State.{Core, Report, floor}
-use Rattle.ring_srp.specs.Views.{own_entry}
+use Rattle.ring_core.specs.State.{Core, Report, floor}
+use Rattle.ring_core.specs.Views.{own_entry}
 use Rattle.ring_moves.specs.Facts.{IsIn}
 use Rattle.ring_moves.specs.Moves.{Move, Idles, Enters, Learns, Visits, Takes, Installs, moved, MayMove}
 use Rattle.ring_moves.proofs.Lists.{in-each}

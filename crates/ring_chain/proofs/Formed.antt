@@ -22,19 +22,19 @@ use Rattle.ring_window.specs.Held.{is_numbered, found, front_of}
 use Rattle.ring_window.proofs.Fronts.{front_is}
 use Rattle.ring_token.specs.Turns.{first_token}
 use Rattle.ring_token.specs.Visits.{numbered}
-use Rattle.ring_srp.specs.declared.input.Input.{Input}
-use Rattle.ring_srp.specs.declared.input.Input.TheVariants.{Frame as FrameInput, Timeout as TimeInput, Send as SendInput}
-use Rattle.ring_srp.specs.declared.out.Out.{Out}
-use Rattle.ring_srp.specs.declared.out.Out.TheVariants.{Send as SendOut, Agreed, Safe}
+use Rattle.ring_core.specs.declared.input.Input.{Input}
+use Rattle.ring_core.specs.declared.input.Input.TheVariants.{Frame as FrameInput, Timeout as TimeInput, Send as SendInput}
+use Rattle.ring_core.specs.declared.out.Out.{Out}
+use Rattle.ring_core.specs.declared.out.Out.TheVariants.{Send as SendOut, Agreed, Safe}
 use Rattle.ring_commit.specs.declared.configuration.Configuration.{Configuration}
-use Rattle.ring_srp.specs.State.{Core, Sent, Did, Stepped, all_of, formed, halted}
-use Rattle.ring_srp.specs.Views.{front, mark}
-use Rattle.ring_srp.specs.Visiting.{room_at, new_payloads, new_messages, repeated, to_others, to_next, forwarded}
-use Rattle.ring_srp.specs.Joining.{proposes, proposes_in}
-use Rattle.ring_srp.specs.Giving.{installs_in, addressed, sent, agreed_from, safe_from, given, settle, delivered}
-use Rattle.ring_srp.specs.Deciding.{Act, Ignore, Enqueue, Repeat, Announce, Invite, GiveUp, Regather, Agree, Widen, RegatherAndAgree, RegatherAndWiden, Take, Visit, Fill, Learn, decide}
-use Rattle.ring_srp.specs.Acting.{gives_old, shown_again, act, may_follow, proposed_after}
-use Rattle.ring_srp.specs.Stepping.{ring_step}
+use Rattle.ring_core.specs.State.{Core, Sent, Did, Stepped, all_of, formed, halted}
+use Rattle.ring_core.specs.Views.{front, mark}
+use Rattle.ring_core.specs.Visiting.{room_at, new_payloads, new_messages, repeated, to_others, to_next, forwarded}
+use Rattle.ring_core.specs.Joining.{proposes, proposes_in}
+use Rattle.ring_core.specs.Giving.{installs_in, addressed, sent, agreed_from, safe_from, given, settle, delivered}
+use Rattle.ring_core.specs.Deciding.{Act, Ignore, Enqueue, Repeat, Announce, Invite, GiveUp, Regather, Agree, Widen, RegatherAndAgree, RegatherAndWiden, Take, Visit, Fill, Learn, decide}
+use Rattle.ring_core.specs.Acting.{gives_old, shown_again, act, may_follow, proposed_after}
+use Rattle.ring_core.specs.Stepping.{ring_step}
 use Rattle.ring_moves.specs.Laws.{HasPassed, CameWith}
 use Rattle.ring_moves.specs.Facts.{IsIn}
 use Rattle.ring_moves.specs.declared.event.RingEvent.{RingEvent}

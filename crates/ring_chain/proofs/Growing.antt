@@ -14,9 +14,9 @@ use Rattle.ring_token.specs.Turns.{Turn}
 use Rattle.ring_token.specs.Rounds.{VisitBy}
 use Rattle.ring_token.specs.Visits.{numbered}
 use Rattle.ring_commit.specs.declared.configuration.Configuration.{Configuration}
-use Rattle.ring_srp.specs.State.{Core, Report}
-use Rattle.ring_srp.specs.Views.{front}
-use Rattle.ring_srp.specs.Acting.{gives_old}
+use Rattle.ring_core.specs.State.{Core, Report}
+use Rattle.ring_core.specs.Views.{front}
+use Rattle.ring_core.specs.Acting.{gives_old}
 use Rattle.ring_moves.specs.Facts.{IsIn, SomeIs}
 use Rattle.ring_moves.specs.Worlds.{Carried, put}
 use Rattle.ring_moves.specs.Moves.{Move, Idles, Enters, Learns, Visits, Takes, Installs, moved, turn_with}

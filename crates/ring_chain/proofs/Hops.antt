@@ -14,7 +14,7 @@ use Rattle.ring_wire.specs.declared.frame.Frame.TheVariants.{Message as MessageF
 use Rattle.ring_window.proofs.Rings.{ring_same}
 use Rattle.ring_commit.specs.Reports.{same_entry}
 use Rattle.ring_commit.specs.Rounds.{receiver, is_own}
-use Rattle.ring_srp.specs.State.{Core, Report}
+use Rattle.ring_core.specs.State.{Core, Report}
 use Rattle.ring_moves.specs.Facts.{IsIn}
 use Rattle.ring_moves.specs.Worlds.{Carried, World}
 use Rattle.ring_moves.specs.CommitRounds.{all_pairs, report_for, are_reports, is_handed_on, is_hop, is_hop_if_commit, are_hops, commit_in, commits_of, agree_on_members}

@@ -17,9 +17,9 @@ use Rattle.ring_window.proofs.Fronts.{front_is, front_only}
 use Rattle.ring_window.proofs.Rings.{ring_same}
 use Rattle.ring_token.specs.Turns.{Turn, Raise, turns_of, mark_by, forwarded_in, raised_to, safe_mark}
 use Rattle.ring_recover.specs.Wrapping.{inner_if_new, unwrapped}
-use Rattle.ring_srp.specs.State.{Core}
-use Rattle.ring_srp.specs.Views.{mark}
-use Rattle.ring_srp.specs.Acting.{gives_old}
+use Rattle.ring_core.specs.State.{Core}
+use Rattle.ring_core.specs.Views.{mark}
+use Rattle.ring_core.specs.Acting.{gives_old}
 
 -- Facts of other rings
 

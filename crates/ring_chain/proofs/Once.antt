@@ -16,16 +16,16 @@ use Rattle.ring_window.proofs.Rings.{ring_same}
 use Rattle.ring_token.specs.Turns.{Turn, is_newer}
 use Rattle.ring_join.specs.Gathering.{candidates}
 use Rattle.ring_commit.specs.Rounds.{receiver, is_of}
-use Rattle.ring_srp.specs.declared.input.Input.{Input}
-use Rattle.ring_srp.specs.declared.input.Input.TheVariants.{Frame as FrameInput}
-use Rattle.ring_srp.specs.declared.out.Out.{Out}
-use Rattle.ring_srp.specs.State.{Core, Did, floor}
-use Rattle.ring_srp.specs.Visiting.{accepts}
-use Rattle.ring_srp.specs.Joining.{proposes}
-use Rattle.ring_srp.specs.Giving.{may_install, settle}
-use Rattle.ring_srp.specs.Deciding.{Act, Ignore, Enqueue, Repeat, Announce, Invite, GiveUp, Regather, Agree, Widen, RegatherAndAgree, RegatherAndWiden, Take, Visit, Fill, Learn, decide}
-use Rattle.ring_srp.specs.Acting.{act, may_follow, proposed_after}
-use Rattle.ring_srp.specs.Stepping.{ring_step}
+use Rattle.ring_core.specs.declared.input.Input.{Input}
+use Rattle.ring_core.specs.declared.input.Input.TheVariants.{Frame as FrameInput}
+use Rattle.ring_core.specs.declared.out.Out.{Out}
+use Rattle.ring_core.specs.State.{Core, Did, floor}
+use Rattle.ring_core.specs.Visiting.{accepts}
+use Rattle.ring_core.specs.Joining.{proposes}
+use Rattle.ring_core.specs.Giving.{may_install, settle}
+use Rattle.ring_core.specs.Deciding.{Act, Ignore, Enqueue, Repeat, Announce, Invite, GiveUp, Regather, Agree, Widen, RegatherAndAgree, RegatherAndWiden, Take, Visit, Fill, Learn, decide}
+use Rattle.ring_core.specs.Acting.{act, may_follow, proposed_after}
+use Rattle.ring_core.specs.Stepping.{ring_step}
 use Rattle.ring_moves.specs.Laws.{HasPassed, CameWith}
 use Rattle.ring_moves.specs.Facts.{IsIn}
 use Rattle.ring_moves.specs.declared.event.RingEvent.{RingEvent}

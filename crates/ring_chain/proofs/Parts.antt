@@ -9,7 +9,7 @@ use Rattle.ring_wire.specs.declared.commit.CommitToken.{CommitToken}
 use Rattle.ring_wire.specs.declared.frame.Frame.TheVariants.{Commit as CommitFrame}
 use Rattle.ring_commit.specs.declared.configuration.Configuration.{Configuration}
 use Rattle.ring_commit.specs.Rounds.{position_of_hop}
-use Rattle.ring_srp.specs.State.{Core, floor, alone}
+use Rattle.ring_core.specs.State.{Core, floor, alone}
 use Rattle.ring_moves.specs.Facts.{IsIn}
 use Rattle.ring_moves.specs.declared.event.RingEvent.{RingEvent}
 use Rattle.ring_moves.specs.Worlds.{Carried, put, carried_from, run, unformed}

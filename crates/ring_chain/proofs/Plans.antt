@@ -6,7 +6,7 @@ use Rattle.ring_base.specs.Processors.{at, size}
 use Rattle.ring_base.proofs.Each.{each-weaker}
 use Rattle.ring_wire.specs.declared.commit.CommitToken.{CommitToken}
 use Rattle.ring_wire.specs.declared.frame.Frame.TheVariants.{Commit as CommitFrame}
-use Rattle.ring_srp.specs.State.{Core, Report}
+use Rattle.ring_core.specs.State.{Core, Report}
 use Rattle.ring_moves.specs.Facts.{IsIn}
 use Rattle.ring_moves.specs.declared.event.RingEvent.{RingEvent}
 use Rattle.ring_moves.specs.Worlds.{Carried, put, carried_from, run, unformed}

@@ -1,7 +1,7 @@
 -- What holds of all cores and of all frames, in every world after all events: each layer is kept by each move.
 use Rattle.std.proofs.Common.{◌≡◌, ℕ, ◌≤◌, inl, inr, List, [], ◌++◌, refl, ap, sym, subst}
 use Rattle.ring_commit.specs.declared.configuration.Configuration.{Configuration}
-use Rattle.ring_srp.specs.State.{Core, opening, formed, alone, all_of}
+use Rattle.ring_core.specs.State.{Core, opening, formed, alone, all_of}
 use Rattle.ring_moves.specs.Facts.{IsIn}
 use Rattle.ring_moves.specs.declared.event.RingEvent.{RingEvent}
 use Rattle.ring_moves.specs.Worlds.{Carried, put, carried_from, run, unformed}

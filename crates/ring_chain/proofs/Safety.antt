@@ -15,8 +15,8 @@ use Rattle.ring_token.specs.Turns.{Turn, Raise, mark_by, forwarded_in, raised_to
 use Rattle.ring_token.specs.Rounds.{VisitBy, forwarded_by, HaveGrown}
 use Rattle.ring_token.proofs.Safe.{marks_safe}
 use Rattle.ring_commit.specs.Reports.{reports_of, safe_of}
-use Rattle.ring_srp.specs.State.{Core, Report}
-use Rattle.ring_srp.specs.Views.{front, mark}
+use Rattle.ring_core.specs.State.{Core, Report}
+use Rattle.ring_core.specs.Views.{front, mark}
 use Rattle.ring_moves.specs.Facts.{IsIn}
 use Rattle.ring_moves.specs.Worlds.{Carried, put}
 use Rattle.ring_moves.specs.Moves.{Move, Idles, Enters, Learns, Visits, Takes, Installs, moved, MayMove, CameTo}

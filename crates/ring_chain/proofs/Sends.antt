@@ -12,10 +12,10 @@ use Rattle.ring_wire.specs.declared.message.Message.{Message}
 use Rattle.ring_wire.specs.declared.token.Token.{Token}
 use Rattle.ring_token.specs.Visits.{numbered}
 use Rattle.ring_commit.specs.Rounds.{receiver, hopped}
-use Rattle.ring_srp.specs.State.{Core, Sent}
-use Rattle.ring_srp.specs.Views.{own_entry}
-use Rattle.ring_srp.specs.Visiting.{to_others, to_next}
-use Rattle.ring_srp.specs.Handing.{passed}
+use Rattle.ring_core.specs.State.{Core, Sent}
+use Rattle.ring_core.specs.Views.{own_entry}
+use Rattle.ring_core.specs.Visiting.{to_others, to_next}
+use Rattle.ring_core.specs.Handing.{passed}
 use Rattle.ring_moves.specs.Facts.{IsIn}
 use Rattle.ring_moves.specs.Worlds.{Carried, put, carried_from}
 use Rattle.ring_moves.specs.Moves.{Move, Idles, Enters, Learns, Visits, Takes, Installs, went_with, moved, sends_of, IsRepeated, MayEnter, MayLearn, MayVisit, MayMove, CameTo}

@@ -8,7 +8,7 @@ use Rattle.ring_wire.specs.declared.token.Token.{Token}
 use Rattle.ring_token.specs.Turns.{Turn}
 use Rattle.ring_token.specs.Rounds.{VisitBy, AreVisits}
 use Rattle.ring_base.proofs.Turning.{member_of, turns_differ, turns_return}
-use Rattle.ring_srp.specs.State.{Core}
+use Rattle.ring_core.specs.State.{Core}
 use Rattle.ring_moves.specs.declared.event.RingEvent.{RingEvent}
 use Rattle.ring_moves.specs.Worlds.{run, unformed, run_formed}
 use Rattle.ring_chain.specs.Words.{Chains, picked}

@@ -12,15 +12,15 @@ use Rattle.ring_wire.specs.declared.message.Message.{Message}
 use Rattle.ring_window.specs.Held.{is_numbered, found}
 use Rattle.ring_window.proofs.Rings.{ring_same}
 use Rattle.ring_recover.specs.Deliveries.{transitional_part, past_gap_part, rests}
-use Rattle.ring_srp.specs.declared.input.Input.{Input}
-use Rattle.ring_srp.specs.declared.out.Out.{Out}
-use Rattle.ring_srp.specs.declared.out.Out.TheVariants.{Send as SendOut, Agreed, Safe, Trans, Rest, Regular}
-use Rattle.ring_srp.specs.State.{Core, Sent}
-use Rattle.ring_srp.specs.Views.{front, mark, plan}
-use Rattle.ring_srp.specs.Giving.{may_install, addressed, sent, users, agreed_from, safe_from, delivered_from, given, configured, settle}
-use Rattle.ring_srp.specs.Deciding.{decide}
-use Rattle.ring_srp.specs.Acting.{done}
-use Rattle.ring_srp.specs.Stepping.{ring_step}
+use Rattle.ring_core.specs.declared.input.Input.{Input}
+use Rattle.ring_core.specs.declared.out.Out.{Out}
+use Rattle.ring_core.specs.declared.out.Out.TheVariants.{Send as SendOut, Agreed, Safe, Trans, Rest, Regular}
+use Rattle.ring_core.specs.State.{Core, Sent}
+use Rattle.ring_core.specs.Views.{front, mark, plan}
+use Rattle.ring_core.specs.Giving.{may_install, addressed, sent, users, agreed_from, safe_from, delivered_from, given, configured, settle}
+use Rattle.ring_core.specs.Deciding.{decide}
+use Rattle.ring_core.specs.Acting.{done}
+use Rattle.ring_core.specs.Stepping.{ring_step}
 use Rattle.ring_moves.specs.Facts.{IsIn}
 use Rattle.ring_moves.specs.declared.event.RingEvent.{RingEvent}
 use Rattle.ring_moves.specs.Worlds.{World, happens, run, unformed, ring_formed, acts_on_formed, run_formed}

@@ -19,9 +19,9 @@ use Rattle.ring_window.specs.Held.{is_new}
 use Rattle.ring_token.specs.Visits.{numbered}
 use Rattle.ring_token.specs.Rounds.{VisitBy, arrived, AreVisits}
 use Rattle.ring_recover.specs.Wrapping.{unwrapped}
-use Rattle.ring_srp.specs.State.{Core}
-use Rattle.ring_srp.specs.Views.{mark}
-use Rattle.ring_srp.specs.Acting.{gives_old}
+use Rattle.ring_core.specs.State.{Core}
+use Rattle.ring_core.specs.Views.{mark}
+use Rattle.ring_core.specs.Acting.{gives_old}
 use Rattle.ring_moves.specs.Facts.{IsIn, SomeIs}
 use Rattle.ring_moves.specs.Worlds.{Carried, put}
 use Rattle.ring_moves.specs.Moves.{Move, Idles, Enters, Learns, Visits, Takes, Installs, turn_with, moved, AllAreUsers, IsWrapping, MayEnd, MayVisit, MayMove, CameTo}

@@ -11,7 +11,7 @@ use Rattle.ring_wire.specs.declared.token.Token.{Token}
 use Rattle.ring_token.specs.Turns.{first_token}
 use Rattle.ring_token.specs.Rounds.{VisitBy}
 use Rattle.ring_commit.specs.Rounds.{receiver}
-use Rattle.ring_srp.specs.State.{Core}
+use Rattle.ring_core.specs.State.{Core}
 use Rattle.ring_moves.specs.Moves.{Move, Idles, Enters, Learns, Visits, Takes, Installs, turn_with}
 use Rattle.ring_moves.specs.Worlds.{Carried}
 use Rattle.ring_chain.specs.Words.{Chains, IsRingOf, IsGenuine, AreReports}

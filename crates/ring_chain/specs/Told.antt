@@ -10,11 +10,11 @@ use Rattle.ring_window.specs.Held.{found}
 use Rattle.ring_token.specs.Turns.{Turn, turns_of}
 use Rattle.ring_token.specs.Rounds.{VisitBy}
 use Rattle.ring_commit.specs.declared.configuration.Configuration.{Configuration}
-use Rattle.ring_srp.specs.declared.out.Out.{Out}
-use Rattle.ring_srp.specs.declared.out.Out.TheVariants.{Send as SendOut, Agreed, Safe, Trans, Rest, Regular}
-use Rattle.ring_srp.specs.State.{Core, Report, all_of}
+use Rattle.ring_core.specs.declared.out.Out.{Out}
+use Rattle.ring_core.specs.declared.out.Out.TheVariants.{Send as SendOut, Agreed, Safe, Trans, Rest, Regular}
+use Rattle.ring_core.specs.State.{Core, Report, all_of}
 use Rattle.ring_moves.specs.Facts.{IsIn}
-use Rattle.ring_srp.specs.Views.{front, mark}
+use Rattle.ring_core.specs.Views.{front, mark}
 use Rattle.ring_moves.specs.Worlds.{World}
 use Rattle.ring_chain.specs.Words.{Chains, picked, IsRingOf, IsRound, IsGenuine, WrapsGenuine, AreReports, IsSafe}
 

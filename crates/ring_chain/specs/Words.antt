@@ -12,8 +12,8 @@ use Rattle.ring_wire.specs.declared.message.Message.{Message}
 use Rattle.ring_token.specs.Turns.{Turn}
 use Rattle.ring_token.specs.Visits.{numbered}
 use Rattle.ring_token.specs.Rounds.{VisitBy, AreVisits, IsSafeIn}
-use Rattle.ring_srp.specs.State.{Core}
-use Rattle.ring_srp.specs.Views.{front}
+use Rattle.ring_core.specs.State.{Core}
+use Rattle.ring_core.specs.Views.{front}
 use Rattle.ring_moves.specs.Facts.{IsIn, SomeIs}
 
 -- Rings

@@ -5,8 +5,8 @@ ghost use Rattle.std.specs.Prelude.{◌≡◌, ℕ, ◌≤◌, List, [], ◌∷�
 ghost use Rattle.std.specs.declared.alloc.Global.{Global as Heap};
 ghost use Rattle.ring_base.specs.Numbers.{numbers_from};
 ghost use Rattle.ring_base.specs.declared.ring_id.RingId.{RingId};
-ghost use Rattle.ring_srp.specs.State.{all_of};
-ghost use Rattle.ring_srp.specs.Views.{front};
+ghost use Rattle.ring_core.specs.State.{all_of};
+ghost use Rattle.ring_core.specs.Views.{front};
 ghost use Rattle.ring_moves.specs.declared.event.RingEvent.{RingEvent};
 ghost use Rattle.ring_moves.specs.Worlds.{run, unformed, run_formed};
 ghost use Rattle.ring_moves.specs.CommitRounds.{CommitRounds};

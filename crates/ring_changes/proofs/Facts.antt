@@ -16,8 +16,8 @@ use Rattle.ring_commit.specs.declared.configuration.Configuration.{Configuration
 use Rattle.ring_recover.specs.Plans.{Plan, plan_of, safe, gap}
 use Rattle.ring_recover.specs.Deliveries.{SameText, is_complete, rests}
 use Rattle.ring_recover.proofs.Finishing.{same_rests}
-use Rattle.ring_srp.specs.State.{Core}
-use Rattle.ring_srp.specs.Views.{front, mark, entries_for}
+use Rattle.ring_core.specs.State.{Core}
+use Rattle.ring_core.specs.Views.{front, mark, entries_for}
 use Rattle.ring_moves.specs.Facts.{IsIn}
 use Rattle.ring_moves.specs.declared.event.RingEvent.{RingEvent}
 use Rattle.ring_moves.specs.Worlds.{World, run, unformed}

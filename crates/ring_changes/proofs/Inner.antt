@@ -23,9 +23,9 @@ use Rattle.ring_window.proofs.Fronts.{front_is}
 use Rattle.ring_token.specs.Visits.{numbered}
 use Rattle.ring_recover.specs.Plans.{safe, is_reported, is_known}
 use Rattle.ring_recover.specs.Wrapping.{unwrapped}
-use Rattle.ring_srp.specs.State.{Core, floor}
-use Rattle.ring_srp.specs.Views.{front, mark}
-use Rattle.ring_srp.specs.Acting.{gives_old, took}
+use Rattle.ring_core.specs.State.{Core, floor}
+use Rattle.ring_core.specs.Views.{front, mark}
+use Rattle.ring_core.specs.Acting.{gives_old, took}
 use Rattle.ring_moves.specs.Facts.{IsIn}
 use Rattle.ring_moves.specs.declared.event.RingEvent.{RingEvent}
 use Rattle.ring_moves.specs.Worlds.{Carried, put, carried_from, run, unformed}

@@ -18,8 +18,8 @@ use Rattle.ring_token.specs.Turns.{Turn, Raise, raised_to, safe_mark, mark_by, f
 use Rattle.ring_commit.specs.Reports.{same_entry, reports_of, safe_of, none_behind}
 use Rattle.ring_commit.specs.Rounds.{is_own}
 use Rattle.ring_recover.specs.Plans.{Plan, safe, low, least, is_reported, is_known}
-use Rattle.ring_srp.specs.State.{Core}
-use Rattle.ring_srp.specs.Views.{front, mark, own_entry}
+use Rattle.ring_core.specs.State.{Core}
+use Rattle.ring_core.specs.Views.{front, mark, own_entry}
 use Rattle.ring_moves.specs.Facts.{IsIn}
 use Rattle.ring_moves.proofs.Wraps.{same-self}
 use Rattle.ring_moves.proofs.Fits.{Fit, mark_below, held_below}

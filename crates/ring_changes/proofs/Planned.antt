@@ -18,8 +18,8 @@ use Rattle.ring_commit.specs.Rounds.{position_of_hop}
 use Rattle.ring_commit.specs.declared.configuration.Configuration.{Configuration}
 use Rattle.ring_recover.specs.Plans.{Plan, plan_of, safe, low, is_known, known_above_safe}
 use Rattle.ring_recover.specs.Deliveries.{is_complete}
-use Rattle.ring_srp.specs.State.{Core}
-use Rattle.ring_srp.specs.Views.{mark, own_entry, entries_for}
+use Rattle.ring_core.specs.State.{Core}
+use Rattle.ring_core.specs.Views.{mark, own_entry, entries_for}
 use Rattle.ring_moves.specs.Facts.{IsIn}
 use Rattle.ring_moves.specs.Moves.{Learns, moved, MayLearn}
 use Rattle.ring_moves.proofs.Fits.{Fit}

@@ -29,10 +29,10 @@ use Rattle.ring_commit.specs.Rounds.{position_of_hop}
 use Rattle.ring_commit.specs.declared.configuration.Configuration.{Configuration}
 use Rattle.ring_recover.specs.Plans.{Plan, plan_of, is_known}
 use Rattle.ring_recover.specs.Wrapping.{unwrapped}
-use Rattle.ring_srp.specs.State.{Core, Report, floor, opening, alone}
-use Rattle.ring_srp.specs.Views.{mark}
-use Rattle.ring_srp.specs.Acting.{gives_old, took}
-use Rattle.ring_srp.specs.Giving.{install}
+use Rattle.ring_core.specs.State.{Core, Report, floor, opening, alone}
+use Rattle.ring_core.specs.Views.{mark}
+use Rattle.ring_core.specs.Acting.{gives_old, took}
+use Rattle.ring_core.specs.Giving.{install}
 use Rattle.ring_moves.specs.Facts.{IsIn, SomeIs}
 use Rattle.ring_moves.specs.Laws.{IsFalling}
 use Rattle.ring_moves.specs.Worlds.{Carried, put, carried_from, run, unformed}

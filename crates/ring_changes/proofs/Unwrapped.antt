@@ -13,9 +13,9 @@ use Rattle.ring_window.specs.Held.{found, front_of}
 use Rattle.ring_token.specs.Visits.{numbered}
 use Rattle.ring_commit.specs.declared.configuration.Configuration.{Configuration}
 use Rattle.ring_recover.specs.Installing.{in_front, ends, has_end_of, all_ended, is_covered, has_user, is_ready}
-use Rattle.ring_srp.specs.State.{Core, opening}
-use Rattle.ring_srp.specs.Views.{front, mark}
-use Rattle.ring_srp.specs.Acting.{gives_old}
+use Rattle.ring_core.specs.State.{Core, opening}
+use Rattle.ring_core.specs.Views.{front, mark}
+use Rattle.ring_core.specs.Acting.{gives_old}
 use Rattle.ring_moves.specs.Facts.{IsIn}
 use Rattle.ring_moves.specs.declared.event.RingEvent.{RingEvent}
 use Rattle.ring_moves.specs.Worlds.{run, unformed}

@@ -17,9 +17,9 @@ use Rattle.ring_window.proofs.Rings.{ring_same}
 use Rattle.ring_commit.specs.declared.configuration.Configuration.{Configuration}
 use Rattle.ring_recover.specs.Plans.{Plan, safe, gap}
 use Rattle.ring_recover.specs.Deliveries.{transitional_part, past_gap_part, rests}
-use Rattle.ring_srp.specs.State.{Core}
-use Rattle.ring_srp.specs.Views.{front, mark}
-use Rattle.ring_srp.specs.Giving.{users}
+use Rattle.ring_core.specs.State.{Core}
+use Rattle.ring_core.specs.Views.{front, mark}
+use Rattle.ring_core.specs.Giving.{users}
 use Rattle.ring_moves.specs.Facts.{IsIn}
 use Rattle.ring_moves.specs.Laws.{IsFalling}
 use Rattle.ring_moves.specs.declared.event.RingEvent.{RingEvent}

@@ -9,8 +9,8 @@ use Rattle.ring_wire.specs.declared.message.Message.{Message}
 use Rattle.ring_window.specs.Held.{holds}
 use Rattle.ring_commit.specs.declared.configuration.Configuration.{Configuration}
 use Rattle.ring_recover.specs.Plans.{safe, is_known}
-use Rattle.ring_srp.specs.State.{Core}
-use Rattle.ring_srp.specs.Views.{front, mark, plan}
+use Rattle.ring_core.specs.State.{Core}
+use Rattle.ring_core.specs.Views.{front, mark, plan}
 use Rattle.ring_moves.specs.Facts.{IsIn}
 
 -- a processor's End of the ring lies within the front

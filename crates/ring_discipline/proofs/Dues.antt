@@ -12,7 +12,7 @@ use Rattle.ring_payload.specs.declared.calls.Part.{Part as OnePart}
 use Rattle.ring_payload.specs.declared.content.Payload.{Payload}
 use Rattle.ring_payload.specs.declared.content.Payload.TheVariants.{Part}
 use Rattle.ring_wire.specs.declared.message.Message.{Message}
-use Rattle.ring_srp.specs.State.{Core}
+use Rattle.ring_core.specs.State.{Core}
 use Rattle.ring_log.specs.declared.wanted.Wanted.{Wanted}
 use Rattle.ring_log.specs.Exchanges.{Exchange, opened, wanted}
 use Rattle.ring_log.specs.Parts.{nth_part, parts_between}

@@ -14,16 +14,16 @@ use Rattle.ring_payload.specs.declared.call.Call.{Call as OneCall}
 use Rattle.ring_payload.specs.declared.content.Payload.{Payload}
 use Rattle.ring_payload.specs.declared.content.Payload.TheVariants.{Call}
 use Rattle.ring_commit.specs.declared.configuration.Configuration.{Configuration}
-use Rattle.ring_srp.specs.declared.input.Input.{Input}
-use Rattle.ring_srp.specs.declared.input.Input.TheVariants.{Frame as FrameInput, Timeout as TimeInput, Send as SendInput}
-use Rattle.ring_srp.specs.declared.out.Out.{Out}
-use Rattle.ring_srp.specs.State.{Core, Stepped, Did}
-use Rattle.ring_srp.specs.Joining.{is_operational}
-use Rattle.ring_srp.specs.Views.{mark}
-use Rattle.ring_srp.specs.Deciding.{decide}
-use Rattle.ring_srp.specs.Acting.{done}
-use Rattle.ring_srp.specs.Giving.{may_install, sent, given, settle}
-use Rattle.ring_srp.specs.Stepping.{ring_step}
+use Rattle.ring_core.specs.declared.input.Input.{Input}
+use Rattle.ring_core.specs.declared.input.Input.TheVariants.{Frame as FrameInput, Timeout as TimeInput, Send as SendInput}
+use Rattle.ring_core.specs.declared.out.Out.{Out}
+use Rattle.ring_core.specs.State.{Core, Stepped, Did}
+use Rattle.ring_core.specs.Joining.{is_operational}
+use Rattle.ring_core.specs.Views.{mark}
+use Rattle.ring_core.specs.Deciding.{decide}
+use Rattle.ring_core.specs.Acting.{done}
+use Rattle.ring_core.specs.Giving.{may_install, sent, given, settle}
+use Rattle.ring_core.specs.Stepping.{ring_step}
 use Rattle.ring_log.specs.Stays.{Stay, hands}
 use Rattle.ring_log.specs.Exchanges.{opened}
 use Rattle.ring_log.specs.Lives.{Whole, whole_from, exchanged, log_of, last_by, last_of, is_sound}

@@ -14,14 +14,14 @@ use Rattle.ring_payload.specs.declared.content.Payload.TheVariants.{Head}
 use Rattle.ring_wire.specs.declared.message.Message.{Message}
 use Rattle.ring_commit.specs.declared.configuration.Configuration.{Configuration}
 use Rattle.ring_recover.specs.Deliveries.{rests}
-use Rattle.ring_srp.specs.declared.out.Out.{Out}
-use Rattle.ring_srp.specs.declared.out.Out.TheVariants.{Send as SendOut, Rest, Regular as RegularOut}
-use Rattle.ring_srp.specs.State.{Core, Sent, Did}
-use Rattle.ring_srp.specs.Joining.{is_operational, proposes}
-use Rattle.ring_srp.specs.Views.{front, mark, plan}
-use Rattle.ring_srp.specs.Deciding.{Act, Ignore, Enqueue, Repeat, Announce, Invite, GiveUp, Regather, Agree, Widen, RegatherAndAgree, RegatherAndWiden, Take, Visit, Fill, Learn}
-use Rattle.ring_srp.specs.Acting.{act, may_follow, proposed_after, done}
-use Rattle.ring_srp.specs.Giving.{installs_in, install, addressed, sent, given, delivered_from, configured}
+use Rattle.ring_core.specs.declared.out.Out.{Out}
+use Rattle.ring_core.specs.declared.out.Out.TheVariants.{Send as SendOut, Rest, Regular as RegularOut}
+use Rattle.ring_core.specs.State.{Core, Sent, Did}
+use Rattle.ring_core.specs.Joining.{is_operational, proposes}
+use Rattle.ring_core.specs.Views.{front, mark, plan}
+use Rattle.ring_core.specs.Deciding.{Act, Ignore, Enqueue, Repeat, Announce, Invite, GiveUp, Regather, Agree, Widen, RegatherAndAgree, RegatherAndWiden, Take, Visit, Fill, Learn}
+use Rattle.ring_core.specs.Acting.{act, may_follow, proposed_after, done}
+use Rattle.ring_core.specs.Giving.{installs_in, install, addressed, sent, given, delivered_from, configured}
 use Rattle.ring_log.specs.Stays.{Stay, stay_in}
 use Rattle.ring_log.specs.Lives.{log_of, head_of_life}
 use Rattle.ring_node.specs.Lives.{lived, lived_through}

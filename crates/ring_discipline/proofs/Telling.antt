@@ -6,11 +6,11 @@ use Rattle.std.proofs.lemmas.Bool.{cond_both}
 use Rattle.ring_base.specs.declared.ring_id.RingId.{RingId}
 use Rattle.ring_base.specs.Group.{Group}
 use Rattle.ring_wire.specs.declared.message.Message.{Message}
-use Rattle.ring_srp.specs.declared.out.Out.{Out}
-use Rattle.ring_srp.specs.declared.out.Out.TheVariants.{Agreed as AgreedOut, Safe as SafeOut}
-use Rattle.ring_srp.specs.State.{Core}
-use Rattle.ring_srp.specs.Views.{front, mark}
-use Rattle.ring_srp.specs.Giving.{users, agreed_from, safe_from, delivered_from}
+use Rattle.ring_core.specs.declared.out.Out.{Out}
+use Rattle.ring_core.specs.declared.out.Out.TheVariants.{Agreed as AgreedOut, Safe as SafeOut}
+use Rattle.ring_core.specs.State.{Core}
+use Rattle.ring_core.specs.Views.{front, mark}
+use Rattle.ring_core.specs.Giving.{users, agreed_from, safe_from, delivered_from}
 use Rattle.ring_log.specs.Stays.{Stay}
 use Rattle.ring_log.specs.Lives.{log_of}
 use Rattle.ring_node.specs.Lives.{lived, lived_through}

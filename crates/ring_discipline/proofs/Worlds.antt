@@ -8,7 +8,7 @@ use Rattle.ring_base.specs.declared.fault.Fault.{Fault}
 use Rattle.ring_object.specs.Operations.{Sequential}
 use Rattle.ring_payload.specs.declared.call.Call.{Call as OneCall}
 use Rattle.ring_wire.specs.declared.frame.Frame.{Frame}
-use Rattle.ring_srp.specs.State.{Carried}
+use Rattle.ring_core.specs.State.{Carried}
 use Rattle.ring_log.specs.Stays.{Stay, stay_in}
 use Rattle.ring_node.specs.declared.input.Input.{Input as NodeInput}
 use Rattle.ring_node.specs.declared.input.Input.TheVariants.{Frame as NodeFrame, Timeout as NodeTime}

@@ -3,11 +3,11 @@ use Rattle.std.proofs.Common.{◌≡◌, ℕ, Bool, true, false, ◌&&◌, ◌�
 use Rattle.std.proofs.lemmas.Bool.{and_parts}
 use Rattle.ring_base.specs.Group.{Group}
 use Rattle.ring_commit.specs.declared.configuration.Configuration.{Configuration}
-use Rattle.ring_srp.specs.declared.out.Out.{Out}
-use Rattle.ring_srp.specs.declared.out.Out.TheVariants.{Send as SendOut, Agreed, Safe, Trans, Rest, Regular}
-use Rattle.ring_srp.specs.State.{Core}
-use Rattle.ring_srp.specs.Views.{front, mark}
-use Rattle.ring_srp.specs.Giving.{users}
+use Rattle.ring_core.specs.declared.out.Out.{Out}
+use Rattle.ring_core.specs.declared.out.Out.TheVariants.{Send as SendOut, Agreed, Safe, Trans, Rest, Regular}
+use Rattle.ring_core.specs.State.{Core}
+use Rattle.ring_core.specs.Views.{front, mark}
+use Rattle.ring_core.specs.Giving.{users}
 use Rattle.ring_moves.specs.Facts.{IsIn}
 use Rattle.ring_moves.specs.Worlds.{World as RingWorld, run, unformed}
 use Rattle.ring_moves.specs.Lives.{Stage, InRegular, InTransitional, Life, lived, life_after, belongs, all_belong, outs_of, begun, life_of, is_well_told}

@@ -19,15 +19,15 @@ use Rattle.ring_wire.specs.declared.token.Token.{Token}
 use Rattle.ring_window.proofs.Rings.{ring_same}
 use Rattle.ring_commit.specs.declared.configuration.Configuration.{Configuration}
 use Rattle.ring_token.specs.Turns.{Turn, turns_of}
-use Rattle.ring_srp.specs.declared.input.Input.{Input}
-use Rattle.ring_srp.specs.declared.out.Out.{Out}
-use Rattle.ring_srp.specs.State.{Core, Did, opening, halted}
-use Rattle.ring_srp.specs.Views.{plan}
-use Rattle.ring_srp.specs.Visiting.{accepts, room_at, offers, new_payloads, queue_after}
-use Rattle.ring_srp.specs.Joining.{proposes, proposes_in}
-use Rattle.ring_srp.specs.Giving.{install}
-use Rattle.ring_srp.specs.Deciding.{Act, Ignore, Enqueue, Repeat, Announce, Invite, GiveUp, Regather, Agree, Widen, RegatherAndAgree, RegatherAndWiden, Take, Visit, Fill, Learn, decide}
-use Rattle.ring_srp.specs.Acting.{act, may_follow, proposed_after, done}
+use Rattle.ring_core.specs.declared.input.Input.{Input}
+use Rattle.ring_core.specs.declared.out.Out.{Out}
+use Rattle.ring_core.specs.State.{Core, Did, opening, halted}
+use Rattle.ring_core.specs.Views.{plan}
+use Rattle.ring_core.specs.Visiting.{accepts, room_at, offers, new_payloads, queue_after}
+use Rattle.ring_core.specs.Joining.{proposes, proposes_in}
+use Rattle.ring_core.specs.Giving.{install}
+use Rattle.ring_core.specs.Deciding.{Act, Ignore, Enqueue, Repeat, Announce, Invite, GiveUp, Regather, Agree, Widen, RegatherAndAgree, RegatherAndWiden, Take, Visit, Fill, Learn, decide}
+use Rattle.ring_core.specs.Acting.{act, may_follow, proposed_after, done}
 use Rattle.ring_moves.specs.Facts.{IsIn}
 use Rattle.ring_moves.specs.Laws.{HasPassed, IsFalling}
 use Rattle.ring_moves.specs.Moves.{IsWrapping, AreWraps, MayEnd}

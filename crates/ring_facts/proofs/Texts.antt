@@ -11,9 +11,9 @@ use Rattle.ring_window.proofs.Fronts.{front_is}
 use Rattle.ring_token.specs.Turns.{turns_of}
 use Rattle.ring_token.specs.Visits.{numbered}
 use Rattle.ring_token.specs.Rounds.{VisitBy}
-use Rattle.ring_srp.specs.State.{Core}
-use Rattle.ring_srp.specs.Views.{front}
-use Rattle.ring_srp.specs.Giving.{users}
+use Rattle.ring_core.specs.State.{Core}
+use Rattle.ring_core.specs.Views.{front}
+use Rattle.ring_core.specs.Giving.{users}
 use Rattle.ring_moves.specs.Facts.{IsIn, SomeIs}
 use Rattle.ring_moves.specs.declared.event.RingEvent.{RingEvent}
 use Rattle.ring_moves.specs.Worlds.{World, run, unformed}

@@ -4,8 +4,8 @@ use Rattle.std.specs.List.{AllByRecursion as Each}
 use Rattle.ring_base.specs.Fronts.{IsFront}
 use Rattle.ring_base.specs.declared.ring_id.RingId.{RingId}
 use Rattle.ring_wire.specs.declared.message.Message.{Message}
-use Rattle.ring_srp.specs.Views.{front}
-use Rattle.ring_srp.specs.Giving.{users}
+use Rattle.ring_core.specs.Views.{front}
+use Rattle.ring_core.specs.Giving.{users}
 use Rattle.ring_moves.specs.Worlds.{World}
 use Rattle.ring_order.specs.Facts.{said_by}
 use Rattle.ring_facts.specs.Spoken.{spoken}

@@ -31,19 +31,19 @@ use Rattle.ring_token.specs.Turns.{is_newer}
 use Rattle.ring_token.specs.Visits.{left}
 use Rattle.ring_join.specs.Gathering.{Gathering, entered, agreed, widened, given_up, candidates, new_number, has_consensus}
 use Rattle.ring_commit.specs.Rounds.{receiver, hopped}
-use Rattle.ring_srp.specs.declared.input.Input.{Input}
-use Rattle.ring_srp.specs.declared.input.Input.TheVariants.{Frame as FrameInput}
-use Rattle.ring_srp.specs.declared.out.Out.{Out}
-use Rattle.ring_srp.specs.declared.out.Out.TheVariants.{Send as SendOut, Agreed, Safe, Trans, Rest, Regular}
-use Rattle.ring_srp.specs.State.{Core, Sent, Did, floor}
-use Rattle.ring_srp.specs.Views.{mark, own_entry}
-use Rattle.ring_srp.specs.Visiting.{offers, room_at, new_payloads, new_messages, repeated, held_after, requests_of, forwarded, to_others, to_next}
-use Rattle.ring_srp.specs.Joining.{first_procs, regathered, with_gathering, announced, proposes, proposes_in}
-use Rattle.ring_srp.specs.Handing.{passed, joined, proposed}
-use Rattle.ring_srp.specs.Giving.{addressed, sent, may_install, install, given, configured, settle}
-use Rattle.ring_srp.specs.Deciding.{Act, Ignore, Enqueue, Repeat, Announce, Invite, GiveUp, Regather, Agree, Widen, RegatherAndAgree, RegatherAndWiden, Take, Visit, Fill, Learn, decide}
-use Rattle.ring_srp.specs.Acting.{gives_old, shown_again, act, may_follow, proposed_after, done}
-use Rattle.ring_srp.specs.Stepping.{ring_step}
+use Rattle.ring_core.specs.declared.input.Input.{Input}
+use Rattle.ring_core.specs.declared.input.Input.TheVariants.{Frame as FrameInput}
+use Rattle.ring_core.specs.declared.out.Out.{Out}
+use Rattle.ring_core.specs.declared.out.Out.TheVariants.{Send as SendOut, Agreed, Safe, Trans, Rest, Regular}
+use Rattle.ring_core.specs.State.{Core, Sent, Did, floor}
+use Rattle.ring_core.specs.Views.{mark, own_entry}
+use Rattle.ring_core.specs.Visiting.{offers, room_at, new_payloads, new_messages, repeated, held_after, requests_of, forwarded, to_others, to_next}
+use Rattle.ring_core.specs.Joining.{first_procs, regathered, with_gathering, announced, proposes, proposes_in}
+use Rattle.ring_core.specs.Handing.{passed, joined, proposed}
+use Rattle.ring_core.specs.Giving.{addressed, sent, may_install, install, given, configured, settle}
+use Rattle.ring_core.specs.Deciding.{Act, Ignore, Enqueue, Repeat, Announce, Invite, GiveUp, Regather, Agree, Widen, RegatherAndAgree, RegatherAndWiden, Take, Visit, Fill, Learn, decide}
+use Rattle.ring_core.specs.Acting.{gives_old, shown_again, act, may_follow, proposed_after, done}
+use Rattle.ring_core.specs.Stepping.{ring_step}
 use Rattle.ring_moves.specs.Facts.{IsIn}
 use Rattle.ring_moves.specs.Laws.{HasPassed, CameWith}
 use Rattle.ring_moves.specs.Moves.{Enters, Learns, Takes, MayEnter, MayMove}

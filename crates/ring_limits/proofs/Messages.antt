@@ -23,9 +23,9 @@ use Rattle.ring_wire.specs.Messages.{IsOlder, MessageFits}
 use Rattle.ring_window.specs.Held.{is_new}
 use Rattle.ring_token.specs.Visits.{numbered}
 use Rattle.ring_recover.specs.Wrapping.{unwrapped}
-use Rattle.ring_srp.specs.State.{Core}
-use Rattle.ring_srp.specs.Views.{mark}
-use Rattle.ring_srp.specs.Acting.{gives_old}
+use Rattle.ring_core.specs.State.{Core}
+use Rattle.ring_core.specs.Views.{mark}
+use Rattle.ring_core.specs.Acting.{gives_old}
 use Rattle.ring_moves.specs.Moves.{AllAreUsers, IsWrapping, MayEnd, AreWraps}
 use Rattle.ring_moves.proofs.Lists.{in-each}
 use Rattle.ring_moves.proofs.Wraps.{found_in}

@@ -15,8 +15,8 @@ use Rattle.ring_window.specs.Bits.{bytes_of, held_bits}
 use Rattle.ring_window.proofs.Bits.{held_bit}
 use Rattle.ring_window.proofs.Fronts.{front_is}
 use Rattle.ring_window.proofs.Rings.{ring_same}
-use Rattle.ring_srp.specs.State.{Core}
-use Rattle.ring_srp.specs.Views.{front, mark, own_entry}
+use Rattle.ring_core.specs.State.{Core}
+use Rattle.ring_core.specs.Views.{front, mark, own_entry}
 use Rattle.ring_moves.proofs.Lists.{in-each, any-some}
 use Rattle.ring_moves.proofs.Fits.{mark_below, held_below}
 use Rattle.ring_limits.specs.Limits.{CoreFits}

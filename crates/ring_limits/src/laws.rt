@@ -3,9 +3,9 @@
 ghost use Rattle.std.specs.Prelude.{◌≡◌, ℕ, ◌≤◌, List};
 ghost use Rattle.std.specs.declared.alloc.Global.{Global as Heap};
 ghost use Rattle.std.specs.List.{AllByRecursion};
-ghost use Rattle.ring_srp.specs.declared.input.Input.{Input};
-ghost use Rattle.ring_srp.specs.State.{Core, opening, formed, halted};
-ghost use Rattle.ring_srp.specs.Stepping.{ring_step};
+ghost use Rattle.ring_core.specs.declared.input.Input.{Input};
+ghost use Rattle.ring_core.specs.State.{Core, opening, formed, halted};
+ghost use Rattle.ring_core.specs.Stepping.{ring_step};
 ghost use Rattle.ring_moves.specs.declared.event.RingEvent.{RingEvent};
 ghost use Rattle.ring_moves.specs.Worlds.{run, unformed, run_formed};
 ghost use Rattle.ring_limits.specs.Limits.{InputFits, EventFits, OutFits, CoreFits, WorldFits};

@@ -15,10 +15,10 @@ use Rattle.ring_base.proofs.Each.{each-get, each-front}
 use Rattle.ring_object.specs.Operations.{Sequential}
 use Rattle.ring_payload.specs.declared.call.Call.{Call}
 use Rattle.ring_payload.specs.declared.content.Payload.{Payload}
-use Rattle.ring_srp.specs.State.{Carried, Stepped}
-use Rattle.ring_srp.specs.Stepping.{ring_step}
-use Rattle.ring_srp.specs.declared.input.Input.TheVariants.{Frame as CoreFrame, Timeout as CoreTimeout}
-use Rattle.ring_srp.specs.declared.out.Out.{Out}
+use Rattle.ring_core.specs.State.{Carried, Stepped}
+use Rattle.ring_core.specs.Stepping.{ring_step}
+use Rattle.ring_core.specs.declared.input.Input.TheVariants.{Frame as CoreFrame, Timeout as CoreTimeout}
+use Rattle.ring_core.specs.declared.out.Out.{Out}
 use Rattle.ring_log.specs.Stays.{Stay, hands}
 use Rattle.ring_log.specs.Lives.{log_of, committed_of, is_sound}
 use Rattle.ring_node.specs.Lives.{lived_through}

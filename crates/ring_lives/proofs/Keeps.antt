@@ -20,9 +20,9 @@ use Rattle.ring_window.proofs.Rings.{ring_same}
 use Rattle.ring_token.specs.Visits.{numbered}
 use Rattle.ring_token.proofs.Marks.{safe_mark-turn, safe_mark-raise}
 use Rattle.ring_recover.specs.Wrapping.{inner_if_new, unwrapped}
-use Rattle.ring_srp.specs.State.{Core, floor}
-use Rattle.ring_srp.specs.Views.{front, mark, entries_for}
-use Rattle.ring_srp.specs.Acting.{gives_old}
+use Rattle.ring_core.specs.State.{Core, floor}
+use Rattle.ring_core.specs.Views.{front, mark, entries_for}
+use Rattle.ring_core.specs.Acting.{gives_old}
 use Rattle.ring_moves.specs.Moves.{Move, Idles, Enters, Learns, Visits, Takes, Installs, moved, turn_with, MayMove}
 use Rattle.ring_moves.proofs.Lists.{each-in, each-reverse}
 use Rattle.ring_chain.proofs.Growing.{moved_grows}

@@ -4,7 +4,7 @@ use Rattle.ring_base.specs.declared.state.State.{State}
 use Rattle.ring_base.specs.declared.state.State.TheVariants.{Gather, Commit, Recovery, Operational, Stopped}
 use Rattle.ring_wire.specs.declared.frame.Frame.{Frame}
 use Rattle.ring_commit.specs.declared.configuration.Configuration.{Configuration}
-use Rattle.ring_srp.specs.State.{Core, floor, opening}
+use Rattle.ring_core.specs.State.{Core, floor, opening}
 use Rattle.ring_moves.specs.Laws.{IsFalling}
 use Rattle.ring_moves.specs.Moves.{Move, Idles, Enters, Learns, Visits, Takes, Installs, moved, MayMove}
 use Rattle.ring_moves.proofs.Everywhere.{IsKept}

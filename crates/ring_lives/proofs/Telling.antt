@@ -18,17 +18,17 @@ use Rattle.ring_window.proofs.Rings.{ring_same}
 use Rattle.ring_commit.specs.declared.configuration.Configuration.{Configuration}
 use Rattle.ring_recover.specs.Plans.{Plan, plan_of, gap, known_above_safe}
 use Rattle.ring_recover.specs.Deliveries.{sent_by_mate, transitional_part, past_gap_part, rests}
-use Rattle.ring_srp.specs.declared.input.Input.{Input}
-use Rattle.ring_srp.specs.declared.out.Out.{Out}
-use Rattle.ring_srp.specs.declared.out.Out.TheVariants.{Send as SendOut, Agreed, Safe, Trans, Rest, Regular}
-use Rattle.ring_srp.specs.State.{Core, Sent, Did}
-use Rattle.ring_srp.specs.Views.{front, mark, plan, entries_for}
-use Rattle.ring_srp.specs.Giving.{may_install, install, addressed, sent, users, agreed_from, safe_from, delivered_from, given, configured, settle}
-use Rattle.ring_srp.specs.Joining.{proposes}
-use Rattle.ring_srp.specs.Deciding.{Act, Ignore, Enqueue, Repeat, Announce, Invite, GiveUp, Regather, Agree, Widen, RegatherAndAgree, RegatherAndWiden, Take, Visit, Fill, Learn, decide}
-use Rattle.ring_srp.specs.Acting.{done, may_follow, proposed_after}
-use Rattle.ring_srp.specs.Stepping.{ring_step}
-use Rattle.ring_srp.specs.declared.input.Input.TheVariants.{Frame as FrameInput}
+use Rattle.ring_core.specs.declared.input.Input.{Input}
+use Rattle.ring_core.specs.declared.out.Out.{Out}
+use Rattle.ring_core.specs.declared.out.Out.TheVariants.{Send as SendOut, Agreed, Safe, Trans, Rest, Regular}
+use Rattle.ring_core.specs.State.{Core, Sent, Did}
+use Rattle.ring_core.specs.Views.{front, mark, plan, entries_for}
+use Rattle.ring_core.specs.Giving.{may_install, install, addressed, sent, users, agreed_from, safe_from, delivered_from, given, configured, settle}
+use Rattle.ring_core.specs.Joining.{proposes}
+use Rattle.ring_core.specs.Deciding.{Act, Ignore, Enqueue, Repeat, Announce, Invite, GiveUp, Regather, Agree, Widen, RegatherAndAgree, RegatherAndWiden, Take, Visit, Fill, Learn, decide}
+use Rattle.ring_core.specs.Acting.{done, may_follow, proposed_after}
+use Rattle.ring_core.specs.Stepping.{ring_step}
+use Rattle.ring_core.specs.declared.input.Input.TheVariants.{Frame as FrameInput}
 use Rattle.ring_moves.specs.Laws.{IsFalling}
 use Rattle.ring_moves.specs.Lives.{Stage, InRegular, InTransitional, Life, belongs, lived, life_after, all_belong}
 use Rattle.ring_moves.specs.Moves.{Move, Enters, moved, did, MayMove}

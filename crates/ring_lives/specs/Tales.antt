@@ -4,9 +4,9 @@ use Rattle.std.specs.Prelude.{List, [], ◌∷◌}
 use Rattle.ring_commit.specs.declared.configuration.Configuration.{Configuration}
 use Rattle.ring_recover.specs.Plans.{Plan, plan_of}
 use Rattle.ring_recover.specs.Deliveries.{rests}
-use Rattle.ring_srp.specs.State.{Core}
-use Rattle.ring_srp.specs.Views.{front, mark, entries_for}
-use Rattle.ring_srp.specs.Giving.{users}
+use Rattle.ring_core.specs.State.{Core}
+use Rattle.ring_core.specs.Views.{front, mark, entries_for}
+use Rattle.ring_core.specs.Giving.{users}
 use Rattle.ring_moves.specs.Lives.{Stage, InRegular, InTransitional, Life}
 
 -- a ring that was installed, with what was agreed and how far it is safe

@@ -21,9 +21,9 @@ use Rattle.ring_token.specs.Turns.{Turn, Raise}
 use Rattle.ring_token.specs.Visits.{numbered}
 use Rattle.ring_recover.specs.Wrapping.{inner_if_new, unwrapped}
 use Rattle.ring_commit.specs.declared.configuration.Configuration.{Configuration}
-use Rattle.ring_srp.specs.State.{Core, Report, floor}
-use Rattle.ring_srp.specs.Views.{mark, own_entry}
-use Rattle.ring_srp.specs.Acting.{gives_old}
+use Rattle.ring_core.specs.State.{Core, Report, floor}
+use Rattle.ring_core.specs.Views.{mark, own_entry}
+use Rattle.ring_core.specs.Acting.{gives_old}
 use Rattle.ring_moves.specs.Facts.{IsIn}
 use Rattle.ring_moves.specs.Moves.{Move, Idles, Enters, Learns, Visits, Takes, Installs, moved, MayEnter, MayLearn, MayVisit, MayTake, MayMove}
 use Rattle.ring_moves.proofs.Lists.{in-each, each-reverse}

@@ -22,11 +22,11 @@ use Rattle.ring_window.proofs.Rings.{ring_same}
 use Rattle.ring_token.specs.Turns.{Turn, Raise, mark_by}
 use Rattle.ring_token.specs.Visits.{numbered}
 use Rattle.ring_commit.specs.declared.configuration.Configuration.{Configuration}
-use Rattle.ring_srp.specs.declared.input.Input.{Input}
-use Rattle.ring_srp.specs.State.{Core, Report, floor}
-use Rattle.ring_srp.specs.Views.{front, mark, own_entry}
-use Rattle.ring_srp.specs.Acting.{gives_old}
-use Rattle.ring_srp.specs.Stepping.{after_inputs}
+use Rattle.ring_core.specs.declared.input.Input.{Input}
+use Rattle.ring_core.specs.State.{Core, Report, floor}
+use Rattle.ring_core.specs.Views.{front, mark, own_entry}
+use Rattle.ring_core.specs.Acting.{gives_old}
+use Rattle.ring_core.specs.Stepping.{after_inputs}
 use Rattle.ring_moves.specs.Moves.{Move, Idles, Enters, Learns, Visits, Takes, Installs, turn_with, moved, MayMove}
 use Rattle.ring_moves.proofs.Everywhere.{always}
 use Rattle.ring_local.specs.Left.{Known, known_of, HasLeft, IsBetween, StaysLeft, StaysBetween}

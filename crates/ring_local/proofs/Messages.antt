@@ -21,9 +21,9 @@ use Rattle.ring_window.proofs.Rings.{ring_same}
 use Rattle.ring_token.specs.Turns.{Turn}
 use Rattle.ring_token.specs.Visits.{numbered}
 use Rattle.ring_recover.specs.Wrapping.{inner_if_new, unwrapped}
-use Rattle.ring_srp.specs.State.{Core, floor}
-use Rattle.ring_srp.specs.Views.{mark}
-use Rattle.ring_srp.specs.Acting.{gives_old}
+use Rattle.ring_core.specs.State.{Core, floor}
+use Rattle.ring_core.specs.Views.{mark}
+use Rattle.ring_core.specs.Acting.{gives_old}
 use Rattle.ring_moves.specs.Facts.{IsIn}
 use Rattle.ring_moves.specs.Moves.{Move, Idles, Enters, Learns, Visits, Takes, Installs, moved, MayTake, MayMove}
 use Rattle.ring_moves.proofs.Lists.{in-left, in-right, in-parts, in-reverse, in-each, each-in, each-reverse}

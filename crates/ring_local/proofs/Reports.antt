@@ -20,9 +20,9 @@ use Rattle.ring_token.specs.Visits.{numbered}
 use Rattle.ring_token.proofs.Marks.{safe_mark-turn, safe_mark-raise}
 use Rattle.ring_commit.specs.Reports.{reports_of, safe_of}
 use Rattle.ring_recover.specs.Plans.{is_reported}
-use Rattle.ring_srp.specs.State.{Core, Report}
-use Rattle.ring_srp.specs.Views.{front, mark, own_entry}
-use Rattle.ring_srp.specs.Acting.{gives_old}
+use Rattle.ring_core.specs.State.{Core, Report}
+use Rattle.ring_core.specs.Views.{front, mark, own_entry}
+use Rattle.ring_core.specs.Acting.{gives_old}
 use Rattle.ring_moves.specs.Moves.{Move, Idles, Enters, Learns, Visits, Takes, Installs, turn_with, moved, MayMove}
 use Rattle.ring_moves.proofs.Fits.{front-append, Fit, mark_below, held_below}
 use Rattle.ring_local.specs.Local.{IsNewest, TellsExactly, IsTrueEntry}

@@ -10,7 +10,7 @@ use Rattle.ring_wire.specs.declared.commit.CommitToken.{CommitToken}
 use Rattle.ring_wire.specs.declared.frame.Frame.{Frame}
 use Rattle.ring_commit.specs.declared.configuration.Configuration.{Configuration}
 use Rattle.ring_commit.specs.Rounds.{position_of_hop}
-use Rattle.ring_srp.specs.State.{Core, floor, opening}
+use Rattle.ring_core.specs.State.{Core, floor, opening}
 use Rattle.ring_moves.specs.Facts.{IsIn}
 use Rattle.ring_moves.specs.Laws.{IsFalling}
 use Rattle.ring_moves.specs.Moves.{Move, Idles, Enters, Learns, Visits, Takes, Installs, moved, MayEnter, MayMove}

@@ -7,8 +7,8 @@ use Rattle.ring_wire.specs.declared.commit.CommitToken.{CommitToken}
 use Rattle.ring_wire.specs.declared.message.Message.{Message}
 use Rattle.ring_window.specs.Held.{of_ring}
 use Rattle.ring_token.specs.Turns.{Turn, Raise, turns_of}
-use Rattle.ring_srp.specs.State.{Core, Report, floor}
-use Rattle.ring_srp.specs.Views.{front, mark, own_entry}
+use Rattle.ring_core.specs.State.{Core, Report, floor}
+use Rattle.ring_core.specs.Views.{front, mark, own_entry}
 
 -- all that is known of a ring: the messages held, the visits of its token, how far it was raised, and the report and the plan on the way into it
 pub record Known (A : Type 0) : Type 0 where

@@ -12,8 +12,8 @@ use Rattle.ring_token.specs.Turns.{Turn, Raise, is_newer}
 use Rattle.ring_token.specs.Visits.{numbered}
 use Rattle.ring_commit.specs.declared.configuration.Configuration.{Configuration}
 use Rattle.ring_recover.specs.Plans.{is_reported}
-use Rattle.ring_srp.specs.State.{Core, Report, floor}
-use Rattle.ring_srp.specs.Views.{front, mark, own_entry}
+use Rattle.ring_core.specs.State.{Core, Report, floor}
+use Rattle.ring_core.specs.Views.{front, mark, own_entry}
 use Rattle.ring_moves.specs.Facts.{IsIn}
 use Rattle.ring_moves.specs.Laws.{IsFalling}
 

@@ -3,9 +3,9 @@
 ghost use Rattle.std.specs.Prelude.{◌≡◌, ℕ, List};
 ghost use Rattle.std.specs.declared.alloc.Global.{Global as Heap};
 ghost use Rattle.ring_base.specs.declared.ring_id.RingId.{RingId};
-ghost use Rattle.ring_srp.specs.declared.input.Input.{Input};
-ghost use Rattle.ring_srp.specs.State.{Core, opening};
-ghost use Rattle.ring_srp.specs.Stepping.{after_inputs};
+ghost use Rattle.ring_core.specs.declared.input.Input.{Input};
+ghost use Rattle.ring_core.specs.State.{Core, opening};
+ghost use Rattle.ring_core.specs.Stepping.{after_inputs};
 ghost use Rattle.ring_moves.specs.declared.event.RingEvent.{RingEvent};
 ghost use Rattle.ring_moves.specs.Worlds.{run, unformed};
 ghost use Rattle.ring_local.specs.Local.{LocalFacts};

@@ -2,9 +2,9 @@
 use Rattle.std.proofs.Common.{ℕ, List}
 use Rattle.ring_wire.specs.declared.frame.Frame.{Frame}
 use Rattle.ring_join.specs.Gathering.{AllSaySame}
-use Rattle.ring_srp.specs.declared.input.Input.{Input}
-use Rattle.ring_srp.specs.State.{Core, opening}
-use Rattle.ring_srp.specs.Stepping.{after_inputs}
+use Rattle.ring_core.specs.declared.input.Input.{Input}
+use Rattle.ring_core.specs.State.{Core, opening}
+use Rattle.ring_core.specs.Stepping.{after_inputs}
 use Rattle.ring_moves.specs.Moves.{Move, Idles, Enters, Learns, Visits, Takes, Installs, moved, MayMove}
 use Rattle.ring_moves.proofs.Everywhere.{IsKept, always}
 

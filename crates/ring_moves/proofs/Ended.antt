@@ -21,11 +21,11 @@ use Rattle.ring_token.specs.Turns.{Turn}
 use Rattle.ring_token.specs.Visits.{numbered}
 use Rattle.ring_commit.specs.declared.configuration.Configuration.{Configuration}
 use Rattle.ring_recover.specs.Wrapping.{is_wrap_of, unwrapped}
-use Rattle.ring_srp.specs.declared.input.Input.{Input}
-use Rattle.ring_srp.specs.State.{Core, floor, opening}
-use Rattle.ring_srp.specs.Views.{mark}
-use Rattle.ring_srp.specs.Acting.{gives_old, took}
-use Rattle.ring_srp.specs.Stepping.{after_inputs}
+use Rattle.ring_core.specs.declared.input.Input.{Input}
+use Rattle.ring_core.specs.State.{Core, floor, opening}
+use Rattle.ring_core.specs.Views.{mark}
+use Rattle.ring_core.specs.Acting.{gives_old, took}
+use Rattle.ring_core.specs.Stepping.{after_inputs}
 use Rattle.ring_moves.specs.Facts.{IsIn}
 use Rattle.ring_moves.specs.Laws.{EndsWrapping, HasEnded}
 pub use Rattle.ring_moves.specs.Standing.{StandsIn, IsPlaced}

@@ -25,13 +25,13 @@ use Rattle.ring_commit.specs.Reports.{same_entry, reports_of, safe_of, none_behi
 use Rattle.ring_commit.specs.Rounds.{position_of_hop, is_own}
 use Rattle.ring_payload.specs.Kinds.{payload_of}
 use Rattle.ring_recover.specs.Wrapping.{inner_if_new, unwrapped}
-use Rattle.ring_srp.specs.declared.input.Input.{Input}
+use Rattle.ring_core.specs.declared.input.Input.{Input}
 use Rattle.ring_base.specs.declared.state.State.{State}
 use Rattle.ring_base.specs.declared.state.State.TheVariants.{Gather, Commit, Recovery, Operational, Stopped}
-use Rattle.ring_srp.specs.State.{Core, opening}
-use Rattle.ring_srp.specs.Views.{front, mark, own_entry, takes_number}
-use Rattle.ring_srp.specs.Acting.{gives_old}
-use Rattle.ring_srp.specs.Stepping.{after_inputs}
+use Rattle.ring_core.specs.State.{Core, opening}
+use Rattle.ring_core.specs.Views.{front, mark, own_entry, takes_number}
+use Rattle.ring_core.specs.Acting.{gives_old}
+use Rattle.ring_core.specs.Stepping.{after_inputs}
 pub use Rattle.ring_moves.specs.Standing.{Within, IsFit, Fit}
 use Rattle.ring_moves.specs.Moves.{Move, Idles, Enters, Learns, Visits, Takes, Installs, held_in, turn_with, moved, MayMove}
 use Rattle.ring_base.proofs.Each.{each-weaker, each-append}

@@ -13,16 +13,16 @@ use Rattle.ring_wire.specs.declared.message.Message.{Message}
 use Rattle.ring_wire.specs.declared.token.Token.{Token}
 use Rattle.ring_window.proofs.Rings.{ring_same}
 use Rattle.ring_token.specs.Turns.{Turn}
-use Rattle.ring_srp.specs.declared.input.Input.{Input}
-use Rattle.ring_srp.specs.declared.out.Out.{Out}
-use Rattle.ring_srp.specs.State.{Core, Did, opening}
-use Rattle.ring_srp.specs.Views.{plan}
-use Rattle.ring_srp.specs.Visiting.{accepts, room_at, offers, new_payloads, new_messages, held_after, turn_of}
-use Rattle.ring_srp.specs.Joining.{proposes}
-use Rattle.ring_srp.specs.Giving.{settle}
-use Rattle.ring_srp.specs.Deciding.{Act, Ignore, Enqueue, Repeat, Announce, Invite, GiveUp, Regather, Agree, Widen, RegatherAndAgree, RegatherAndWiden, Take, Visit, Fill, Learn, decide}
-use Rattle.ring_srp.specs.Acting.{gives_old, act, may_follow, proposed_after}
-use Rattle.ring_srp.specs.Stepping.{ring_step, after_inputs}
+use Rattle.ring_core.specs.declared.input.Input.{Input}
+use Rattle.ring_core.specs.declared.out.Out.{Out}
+use Rattle.ring_core.specs.State.{Core, Did, opening}
+use Rattle.ring_core.specs.Views.{plan}
+use Rattle.ring_core.specs.Visiting.{accepts, room_at, offers, new_payloads, new_messages, held_after, turn_of}
+use Rattle.ring_core.specs.Joining.{proposes}
+use Rattle.ring_core.specs.Giving.{settle}
+use Rattle.ring_core.specs.Deciding.{Act, Ignore, Enqueue, Repeat, Announce, Invite, GiveUp, Regather, Agree, Widen, RegatherAndAgree, RegatherAndWiden, Take, Visit, Fill, Learn, decide}
+use Rattle.ring_core.specs.Acting.{gives_old, act, may_follow, proposed_after}
+use Rattle.ring_core.specs.Stepping.{ring_step, after_inputs}
 use Rattle.ring_moves.specs.Laws.{HasPassed, AreOfQueue, AreOfRecovery, IsFreshOf, AreFreshOf}
 use Rattle.ring_moves.proofs.Guards.{guarded}
 use Rattle.ring_moves.proofs.Steps.{fresh_few, queue_each}

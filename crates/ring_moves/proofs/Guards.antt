@@ -14,18 +14,18 @@ use Rattle.ring_join.specs.declared.hearing.Hearing.{Hearing}
 use Rattle.ring_join.specs.declared.hearing.Hearing.TheVariants.{Ignored, Agrees, Widens}
 use Rattle.ring_commit.specs.Rounds.{receiver}
 use Rattle.ring_commit.specs.Outcomes.{is_at}
-use Rattle.ring_srp.specs.declared.input.Input.{Input}
-use Rattle.ring_srp.specs.declared.input.Input.TheVariants.{Frame as FrameInput, Timeout, Send}
+use Rattle.ring_core.specs.declared.input.Input.{Input}
+use Rattle.ring_core.specs.declared.input.Input.TheVariants.{Frame as FrameInput, Timeout, Send}
 use Rattle.ring_base.specs.declared.kind.Kind.{Kind}
 use Rattle.ring_base.specs.declared.kind.Kind.TheVariants.{Retransmit, Join as JoinTime, Consensus, Loss}
 use Rattle.ring_base.specs.declared.state.State.{State}
 use Rattle.ring_base.specs.declared.state.State.TheVariants.{Gather, Commit, Recovery, Operational, Stopped}
-use Rattle.ring_srp.specs.State.{Core}
-use Rattle.ring_srp.specs.Naming.{is_named}
-use Rattle.ring_srp.specs.Visiting.{accepts}
-use Rattle.ring_srp.specs.Joining.{regathered, hears, disturbs}
-use Rattle.ring_srp.specs.Handing.{takes_first_round, takes_second_round, takes_start}
-use Rattle.ring_srp.specs.Deciding.{Ignore, Enqueue, Take, Visit, Fill, Learn, is_taken, decide_message, decide_token, heard_in_gather, heard_elsewhere, overhear, decide_join, decide_round, decide_commit, decide_frame, decide_if_named, decide_time, decide_user, decide_payload, decide}
+use Rattle.ring_core.specs.State.{Core}
+use Rattle.ring_core.specs.Naming.{is_named}
+use Rattle.ring_core.specs.Visiting.{accepts}
+use Rattle.ring_core.specs.Joining.{regathered, hears, disturbs}
+use Rattle.ring_core.specs.Handing.{takes_first_round, takes_second_round, takes_start}
+use Rattle.ring_core.specs.Deciding.{Ignore, Enqueue, Take, Visit, Fill, Learn, is_taken, decide_message, decide_token, heard_in_gather, heard_elsewhere, overhear, decide_join, decide_round, decide_commit, decide_frame, decide_if_named, decide_time, decide_user, decide_payload, decide}
 use Rattle.ring_moves.specs.Laws.{IsAway, HasPassed, TakesCommit}
 
 in_message : {A : Type 0} → (c : Core A) (x : Message A) → HasPassed c (decide_message c x)

@@ -15,15 +15,15 @@ use Rattle.ring_commit.specs.Reports.{is_sound}
 use Rattle.ring_commit.specs.declared.configuration.Configuration.{Configuration}
 use Rattle.ring_commit.specs.Rounds.{position_of_hop, receiver, is_of, is_own}
 use Rattle.ring_commit.specs.Outcomes.{is_at}
-use Rattle.ring_srp.specs.declared.input.Input.TheVariants.{Frame as FrameInput}
+use Rattle.ring_core.specs.declared.input.Input.TheVariants.{Frame as FrameInput}
 use Rattle.ring_base.specs.declared.state.State.{State}
 use Rattle.ring_base.specs.declared.state.State.TheVariants.{Gather, Commit, Recovery, Operational, Stopped}
-use Rattle.ring_srp.specs.State.{Core, floor, alone}
-use Rattle.ring_srp.specs.Naming.{is_named}
-use Rattle.ring_srp.specs.Views.{own_entry}
-use Rattle.ring_srp.specs.Visiting.{accepts}
-use Rattle.ring_srp.specs.Handing.{takes_first_round, takes_second_round, takes_start}
-use Rattle.ring_srp.specs.Deciding.{Act, Ignore, decide, decide_round, decide_commit, decide_if_named}
+use Rattle.ring_core.specs.State.{Core, floor, alone}
+use Rattle.ring_core.specs.Naming.{is_named}
+use Rattle.ring_core.specs.Views.{own_entry}
+use Rattle.ring_core.specs.Visiting.{accepts}
+use Rattle.ring_core.specs.Handing.{takes_first_round, takes_second_round, takes_start}
+use Rattle.ring_core.specs.Deciding.{Act, Ignore, decide, decide_round, decide_commit, decide_if_named}
 use Rattle.ring_moves.specs.declared.event.RingEvent.{RingEvent}
 use Rattle.ring_moves.specs.declared.event.RingEvent.TheVariants.{Send, Deliver, Timeout, Stop}
 use Rattle.ring_moves.specs.Worlds.{Carried, World, is_node, frame_at, happens, run, unformed}

@@ -28,16 +28,16 @@ use Rattle.ring_commit.specs.Reports.{is_sound}
 use Rattle.ring_recover.specs.Installing.{is_ready}
 use Rattle.ring_recover.specs.Deliveries.{is_complete}
 use Rattle.ring_recover.specs.Wrapping.{wraps_and_end}
-use Rattle.ring_srp.specs.declared.input.Input.{Input}
-use Rattle.ring_srp.specs.declared.input.Input.TheVariants.{Frame as FrameInput}
-use Rattle.ring_srp.specs.State.{Core, Sent, Did, floor}
-use Rattle.ring_srp.specs.Views.{mark, own_entry, plan, takes_number}
-use Rattle.ring_srp.specs.Visiting.{repeated, room_at, offers, new_payloads, held_after, requests_of, queue_after}
-use Rattle.ring_srp.specs.Joining.{regathered, with_gathering, announced, invited, proposes, proposes_in}
-use Rattle.ring_srp.specs.Giving.{ready_then_complete, installs_in, may_install, delivered}
-use Rattle.ring_srp.specs.Deciding.{Act, Ignore, Enqueue, Repeat, Announce, Invite, GiveUp, Regather, Agree, Widen, RegatherAndAgree, RegatherAndWiden, Take, Visit, Fill, Learn, takes_of, members_of, decide_user, decide_payload, decide}
-use Rattle.ring_srp.specs.Acting.{shown_again, act, may_follow, proposed_after, done}
-use Rattle.ring_srp.specs.Stepping.{ring_step}
+use Rattle.ring_core.specs.declared.input.Input.{Input}
+use Rattle.ring_core.specs.declared.input.Input.TheVariants.{Frame as FrameInput}
+use Rattle.ring_core.specs.State.{Core, Sent, Did, floor}
+use Rattle.ring_core.specs.Views.{mark, own_entry, plan, takes_number}
+use Rattle.ring_core.specs.Visiting.{repeated, room_at, offers, new_payloads, held_after, requests_of, queue_after}
+use Rattle.ring_core.specs.Joining.{regathered, with_gathering, announced, invited, proposes, proposes_in}
+use Rattle.ring_core.specs.Giving.{ready_then_complete, installs_in, may_install, delivered}
+use Rattle.ring_core.specs.Deciding.{Act, Ignore, Enqueue, Repeat, Announce, Invite, GiveUp, Regather, Agree, Widen, RegatherAndAgree, RegatherAndWiden, Take, Visit, Fill, Learn, takes_of, members_of, decide_user, decide_payload, decide}
+use Rattle.ring_core.specs.Acting.{shown_again, act, may_follow, proposed_after, done}
+use Rattle.ring_core.specs.Stepping.{ring_step}
 use Rattle.ring_moves.specs.Laws.{HasPassed, CameWith}
 use Rattle.ring_moves.specs.Facts.{IsIn}
 use Rattle.ring_moves.specs.Moves.{Move, Idles, Enters, Learns, Visits, Takes, moved, did, AllAreUsers, IsRepeated, MayIdle, MayEnter, AreWraps, IsStart, TakesFrom, TakesLate, MayInstall, MayMove, after_moves, all_sends, MayAll, IsMoved}

@@ -13,10 +13,10 @@ use Rattle.ring_window.specs.Held.{is_numbered, holds, highest, front_of}
 use Rattle.ring_window.proofs.Fronts.{front_is, highest_covers}
 use Rattle.ring_token.specs.Turns.{Turn}
 use Rattle.ring_token.specs.Visits.{numbered}
-use Rattle.ring_srp.specs.declared.input.Input.{Input}
-use Rattle.ring_srp.specs.State.{Core, opening}
-use Rattle.ring_srp.specs.Acting.{gives_old}
-use Rattle.ring_srp.specs.Stepping.{after_inputs}
+use Rattle.ring_core.specs.declared.input.Input.{Input}
+use Rattle.ring_core.specs.State.{Core, opening}
+use Rattle.ring_core.specs.Acting.{gives_old}
+use Rattle.ring_core.specs.Stepping.{after_inputs}
 use Rattle.ring_moves.specs.Laws.{AreTurnsOf}
 use Rattle.ring_moves.specs.Moves.{Move, Idles, Enters, Learns, Visits, Takes, Installs, held_in, turn_with, moved, MayMove}
 use Rattle.ring_moves.proofs.Lists.{each-reverse}

@@ -4,7 +4,7 @@ use Rattle.ring_base.specs.Numbers.{window_size}
 use Rattle.ring_base.specs.declared.ring_id.RingId.{RingId}
 use Rattle.ring_window.specs.Held.{holds}
 use Rattle.ring_join.specs.Gathering.{AllSaySame}
-use Rattle.ring_srp.specs.Views.{front, mark}
+use Rattle.ring_core.specs.Views.{front, mark}
 use Rattle.ring_moves.specs.declared.event.RingEvent.{RingEvent}
 use Rattle.ring_moves.specs.Worlds.{run, unformed}
 use Rattle.ring_moves.specs.Laws.{AreTurnsOf, AreFreshOf, HasEnded}

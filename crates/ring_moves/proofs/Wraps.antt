@@ -18,8 +18,8 @@ use Rattle.ring_window.proofs.Rings.{ring_same}
 use Rattle.ring_window.proofs.Fronts.{highest_covers}
 use Rattle.ring_recover.specs.Plans.{low}
 use Rattle.ring_recover.specs.Wrapping.{is_wrap_of, is_wrapped, wrap, wrap_content, above_low, to_wrap, has_ended, wraps_and_end}
-use Rattle.ring_srp.specs.State.{Core}
-use Rattle.ring_srp.specs.Views.{plan}
+use Rattle.ring_core.specs.State.{Core}
+use Rattle.ring_core.specs.Views.{plan}
 use Rattle.ring_moves.specs.Facts.{IsIn, SomeIs}
 use Rattle.ring_moves.specs.Moves.{is_seen, IsWrapping, AreRising, AreLast, MayEnd, AreWraps}
 use Rattle.ring_moves.proofs.Lists.{in-filter, in-filtered, any-some, in-filter_map, in-numbers, some-in, any-in, each-filtered, each-take, each-filter_map, numbers-above, take-append, find-in}

@@ -9,7 +9,7 @@ use Rattle.ring_wire.specs.declared.entries.CommitEntry.{CommitEntry}
 use Rattle.ring_wire.specs.declared.frame.Frame.{Frame}
 use Rattle.ring_wire.specs.declared.frame.Frame.TheVariants.{Message as MessageFrame, Token as TokenFrame}
 use Rattle.ring_wire.specs.declared.message.Message.{Message}
-use Rattle.ring_srp.specs.State.{alone}
+use Rattle.ring_core.specs.State.{alone}
 use Rattle.ring_moves.specs.declared.event.RingEvent.{RingEvent}
 use Rattle.ring_moves.specs.declared.event.RingEvent.TheVariants.{Send, Deliver, Timeout}
 use Rattle.ring_moves.specs.Worlds.{Carried, World, run, unformed}

@@ -11,10 +11,10 @@ use Rattle.ring_wire.specs.declared.frame.Frame.{Frame}
 use Rattle.ring_wire.specs.declared.frame.Frame.TheVariants.{Message as MessageFrame, Token as TokenFrame, Join as JoinFrame, Commit as CommitFrame}
 use Rattle.ring_commit.specs.declared.configuration.Configuration.{Configuration}
 use Rattle.ring_commit.specs.Rounds.{position_of_hop, receiver, is_own}
-use Rattle.ring_srp.specs.declared.input.Input.TheVariants.{Frame as FrameInput}
-use Rattle.ring_srp.specs.State.{Core, Report}
-use Rattle.ring_srp.specs.Views.{own_entry}
-use Rattle.ring_srp.specs.Deciding.{Act, Ignore, decide}
+use Rattle.ring_core.specs.declared.input.Input.TheVariants.{Frame as FrameInput}
+use Rattle.ring_core.specs.State.{Core, Report}
+use Rattle.ring_core.specs.Views.{own_entry}
+use Rattle.ring_core.specs.Deciding.{Act, Ignore, decide}
 use Rattle.ring_moves.specs.declared.event.RingEvent.{RingEvent}
 use Rattle.ring_moves.specs.declared.event.RingEvent.TheVariants.{Send, Deliver, Timeout, Stop}
 use Rattle.ring_moves.specs.Worlds.{Carried, World, is_node, frame_at, happens, run}

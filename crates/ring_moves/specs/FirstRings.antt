@@ -7,8 +7,8 @@ use Rattle.ring_wire.specs.declared.entries.CommitEntry.{CommitEntry}
 use Rattle.ring_wire.specs.declared.frame.Frame.{Frame}
 use Rattle.ring_wire.specs.declared.frame.Frame.TheVariants.{Message as MessageFrame}
 use Rattle.ring_base.specs.declared.kind.Kind.TheVariants.{Join as JoinTime, Consensus}
-use Rattle.ring_srp.specs.declared.out.Out.{Out}
-use Rattle.ring_srp.specs.declared.out.Out.TheVariants.{Send as SendOut, Agreed, Safe, Trans, Rest, Regular}
+use Rattle.ring_core.specs.declared.out.Out.{Out}
+use Rattle.ring_core.specs.declared.out.Out.TheVariants.{Send as SendOut, Agreed, Safe, Trans, Rest, Regular}
 use Rattle.ring_base.specs.declared.state.State.{State}
 use Rattle.ring_moves.specs.declared.event.RingEvent.{RingEvent}
 use Rattle.ring_moves.specs.declared.event.RingEvent.TheVariants.{Send, Deliver, Timeout, Stop}

@@ -4,8 +4,8 @@ use Rattle.std.specs.declared.alloc.Global.{Global}
 use Rattle.ring_base.specs.declared.kind.Kind.TheVariants.{Retransmit, Join as JoinTime, Consensus, Loss}
 use Rattle.ring_payload.specs.declared.content.Payload.TheVariants.{Call as CallPayload}
 use Rattle.ring_wire.specs.declared.frame.Frame.TheVariants.{Message as MessageFrame}
-use Rattle.ring_srp.specs.declared.out.Out.{Out}
-use Rattle.ring_srp.specs.declared.out.Out.TheVariants.{Send as SendOut, Agreed, Safe}
+use Rattle.ring_core.specs.declared.out.Out.{Out}
+use Rattle.ring_core.specs.declared.out.Out.TheVariants.{Send as SendOut, Agreed, Safe}
 use Rattle.ring_moves.specs.declared.event.RingEvent.{RingEvent}
 use Rattle.ring_moves.specs.declared.event.RingEvent.TheVariants.{Send, Deliver, Timeout}
 use Rattle.ring_moves.specs.Samples.{first_ring, add_five, call_at, token_frame}

@@ -22,15 +22,15 @@ use Rattle.ring_commit.specs.Outcomes.{is_at}
 use Rattle.ring_recover.specs.Plans.{Plan}
 use Rattle.ring_recover.specs.Wrapping.{wraps_and_end}
 use Rattle.ring_base.specs.declared.kind.Kind.TheVariants.{Retransmit, Join as JoinTime, Consensus, Loss}
-use Rattle.ring_srp.specs.declared.input.Input.{Input}
-use Rattle.ring_srp.specs.declared.input.Input.TheVariants.{Frame as FrameInput, Timeout as TimeInput, Send as SendInput}
+use Rattle.ring_core.specs.declared.input.Input.{Input}
+use Rattle.ring_core.specs.declared.input.Input.TheVariants.{Frame as FrameInput, Timeout as TimeInput, Send as SendInput}
 use Rattle.ring_base.specs.declared.state.State.{State}
 use Rattle.ring_base.specs.declared.state.State.TheVariants.{Gather, Commit, Recovery, Operational, Stopped}
-use Rattle.ring_srp.specs.State.{Core}
-use Rattle.ring_srp.specs.Visiting.{accepts}
-use Rattle.ring_srp.specs.Joining.{regathered, hears, disturbs}
-use Rattle.ring_srp.specs.Handing.{takes_first_round, takes_second_round}
-use Rattle.ring_srp.specs.Deciding.{Act, Ignore, Enqueue, Repeat, Announce, Invite, GiveUp, Regather, Agree, Widen, RegatherAndAgree, RegatherAndWiden, Take, Visit, Fill, Learn, is_taken, decide}
+use Rattle.ring_core.specs.State.{Core}
+use Rattle.ring_core.specs.Visiting.{accepts}
+use Rattle.ring_core.specs.Joining.{regathered, hears, disturbs}
+use Rattle.ring_core.specs.Handing.{takes_first_round, takes_second_round}
+use Rattle.ring_core.specs.Deciding.{Act, Ignore, Enqueue, Repeat, Announce, Invite, GiveUp, Regather, Agree, Widen, RegatherAndAgree, RegatherAndWiden, Take, Visit, Fill, Learn, is_taken, decide}
 use Rattle.ring_moves.specs.Facts.{IsIn}
 use Rattle.ring_moves.specs.Moves.{AreLast}
 

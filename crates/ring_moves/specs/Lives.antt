@@ -4,9 +4,9 @@ use Rattle.ring_base.specs.Rings.{same_ring}
 use Rattle.ring_base.specs.declared.ring_id.RingId.{RingId}
 use Rattle.ring_wire.specs.declared.message.Message.{Message}
 use Rattle.ring_commit.specs.declared.configuration.Configuration.{Configuration}
-use Rattle.ring_srp.specs.declared.out.Out.{Out}
-use Rattle.ring_srp.specs.declared.out.Out.TheVariants.{Send as SendOut, Agreed, Safe, Trans, Rest, Regular}
-use Rattle.ring_srp.specs.State.{alone}
+use Rattle.ring_core.specs.declared.out.Out.{Out}
+use Rattle.ring_core.specs.declared.out.Out.TheVariants.{Send as SendOut, Agreed, Safe, Trans, Rest, Regular}
+use Rattle.ring_core.specs.State.{alone}
 use Rattle.ring_moves.specs.Worlds.{World}
 
 -- a configuration that a processor goes through

@@ -25,15 +25,15 @@ use Rattle.ring_recover.specs.Installing.{is_ready}
 use Rattle.ring_recover.specs.Deliveries.{is_complete}
 use Rattle.ring_recover.specs.Plans.{low}
 use Rattle.ring_recover.specs.Wrapping.{is_wrap_of, is_wrapped, has_ended}
-use Rattle.ring_srp.specs.State.{Core, Sent, Did, floor}
-use Rattle.ring_srp.specs.Views.{mark, takes_number, own_entry, plan}
-use Rattle.ring_srp.specs.Visiting.{to_others, to_next}
-use Rattle.ring_srp.specs.Handing.{joined, learned}
-use Rattle.ring_srp.specs.Acting.{took}
-use Rattle.ring_srp.specs.Giving.{may_install, install, delivered}
-use Rattle.ring_srp.specs.Stepping.{ring_step}
-use Rattle.ring_srp.specs.declared.input.Input.{Input}
-use Rattle.ring_srp.specs.declared.input.Input.TheVariants.{Frame as FrameInput}
+use Rattle.ring_core.specs.State.{Core, Sent, Did, floor}
+use Rattle.ring_core.specs.Views.{mark, takes_number, own_entry, plan}
+use Rattle.ring_core.specs.Visiting.{to_others, to_next}
+use Rattle.ring_core.specs.Handing.{joined, learned}
+use Rattle.ring_core.specs.Acting.{took}
+use Rattle.ring_core.specs.Giving.{may_install, install, delivered}
+use Rattle.ring_core.specs.Stepping.{ring_step}
+use Rattle.ring_core.specs.declared.input.Input.{Input}
+use Rattle.ring_core.specs.declared.input.Input.TheVariants.{Frame as FrameInput}
 use Rattle.ring_moves.specs.Facts.{IsIn, SomeIs}
 use Rattle.ring_moves.specs.Worlds.{Carried}
 

@@ -8,9 +8,9 @@ use Rattle.ring_payload.specs.declared.content.Content.TheVariants.{Pack as Pack
 use Rattle.ring_payload.specs.declared.content.Payload.{Payload}
 use Rattle.ring_payload.specs.declared.content.Payload.TheVariants.{Call as CallPayload, Pack as PackPayload, Snap as SnapPayload, Wrapped}
 use Rattle.ring_wire.specs.declared.message.Message.{Message}
-use Rattle.ring_srp.specs.declared.out.Out.{Out}
-use Rattle.ring_srp.specs.declared.out.Out.TheVariants.{Send as SendOut, Agreed, Safe}
-use Rattle.ring_srp.specs.State.{Core, formed}
+use Rattle.ring_core.specs.declared.out.Out.{Out}
+use Rattle.ring_core.specs.declared.out.Out.TheVariants.{Send as SendOut, Agreed, Safe}
+use Rattle.ring_core.specs.State.{Core, formed}
 use Rattle.ring_moves.specs.declared.event.RingEvent.{RingEvent}
 use Rattle.ring_moves.specs.declared.event.RingEvent.TheVariants.{Send, Deliver, Timeout}
 use Rattle.ring_moves.specs.Samples.{first_ring, second_ring, message_of, call_at, empty_head, token_frame}

@@ -5,7 +5,7 @@ use Rattle.ring_payload.specs.declared.content.Payload.TheVariants.{End}
 use Rattle.ring_wire.specs.declared.entries.CommitEntry.{CommitEntry}
 use Rattle.ring_wire.specs.declared.message.Message.{Message}
 use Rattle.ring_base.specs.declared.state.State.TheVariants.{Recovery}
-use Rattle.ring_srp.specs.State.{Core, formed}
+use Rattle.ring_core.specs.State.{Core, formed}
 use Rattle.ring_moves.specs.Samples.{first_ring, second_ring, call_at, message_of, report_of, empty_report, commit_of}
 
 -- one of n that recovers, with these reports; members are as many as the reports

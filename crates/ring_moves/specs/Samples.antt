@@ -15,7 +15,7 @@ use Rattle.ring_wire.specs.declared.join.Join.{Join}
 use Rattle.ring_wire.specs.declared.message.Message.{Message}
 use Rattle.ring_wire.specs.declared.token.Token.{Token}
 use Rattle.ring_window.specs.Bits.{bytes_of}
-use Rattle.ring_srp.specs.State.{Core, formed}
+use Rattle.ring_core.specs.State.{Core, formed}
 
 abbrev pub ring_of : ℕ → ℕ → RingId
 ring_of seq rep = record { seq = seq; rep = rep }

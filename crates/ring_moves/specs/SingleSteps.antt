@@ -8,13 +8,13 @@ use Rattle.ring_wire.specs.declared.frame.Frame.{Frame}
 use Rattle.ring_wire.specs.declared.frame.Frame.TheVariants.{Message as MessageFrame}
 use Rattle.ring_wire.specs.declared.token.Token.{Token}
 use Rattle.ring_join.specs.Gathering.{Gathering, entered}
-use Rattle.ring_srp.specs.declared.input.Input.TheVariants.{Frame as FrameInput}
-use Rattle.ring_srp.specs.declared.out.Out.{Out}
-use Rattle.ring_srp.specs.declared.out.Out.TheVariants.{Send as SendOut}
+use Rattle.ring_core.specs.declared.input.Input.TheVariants.{Frame as FrameInput}
+use Rattle.ring_core.specs.declared.out.Out.{Out}
+use Rattle.ring_core.specs.declared.out.Out.TheVariants.{Send as SendOut}
 use Rattle.ring_base.specs.declared.state.State.{State}
 use Rattle.ring_base.specs.declared.state.State.TheVariants.{Gather, Commit}
-use Rattle.ring_srp.specs.State.{Core, Stepped, opening, formed}
-use Rattle.ring_srp.specs.Stepping.{ring_step}
+use Rattle.ring_core.specs.State.{Core, Stepped, opening, formed}
+use Rattle.ring_core.specs.Stepping.{ring_step}
 use Rattle.ring_moves.specs.Samples.{first_ring, second_ring, commit_of, commit_frame, report_of, empty_report, ring_of, empty_head, call_at, token_of, token_frame, join_frame, holding}
 
 -- a frame comes

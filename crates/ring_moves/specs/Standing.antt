@@ -8,7 +8,7 @@ use Rattle.ring_wire.specs.declared.message.Message.{Message}
 use Rattle.ring_window.specs.Held.{front_of}
 use Rattle.ring_token.specs.Turns.{Turn, Raise, safe_mark}
 use Rattle.ring_commit.specs.declared.configuration.Configuration.{Configuration}
-use Rattle.ring_srp.specs.State.{Core, floor}
+use Rattle.ring_core.specs.State.{Core, floor}
 
 -- the installed ring is below the running one, or is it, as the state says; in Commit no visit is of the running ring yet
 abbrev pub StandsIn : {A : Type 0} → State → Configuration → Configuration → List (Turn A) → Type 0

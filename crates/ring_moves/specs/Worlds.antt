@@ -5,15 +5,15 @@ use Rattle.ring_base.specs.declared.kind.Kind.{Kind}
 use Rattle.ring_base.specs.declared.kind.Kind.TheVariants.{Retransmit, Join as JoinTime, Consensus, Loss}
 use Rattle.ring_wire.specs.declared.frame.Frame.{Frame}
 use Rattle.ring_token.specs.Turns.{first_token}
-use Rattle.ring_srp.specs.declared.input.Input.{Input}
-use Rattle.ring_srp.specs.declared.input.Input.TheVariants.{Frame as FrameInput, Timeout as TimeInput, Send as SendInput}
-use Rattle.ring_srp.specs.declared.out.Out.{Out}
-use Rattle.ring_srp.specs.declared.out.Out.TheVariants.{Send as SendOut, Agreed, Safe, Trans, Rest, Regular}
-pub use Rattle.ring_srp.specs.State.{Carried}
-use Rattle.ring_srp.specs.State.{Core, Sent, Did, Stepped, all_of, opening, formed, halted}
-use Rattle.ring_srp.specs.Visiting.{visited}
-use Rattle.ring_srp.specs.Giving.{addressed}
-use Rattle.ring_srp.specs.Stepping.{ring_step}
+use Rattle.ring_core.specs.declared.input.Input.{Input}
+use Rattle.ring_core.specs.declared.input.Input.TheVariants.{Frame as FrameInput, Timeout as TimeInput, Send as SendInput}
+use Rattle.ring_core.specs.declared.out.Out.{Out}
+use Rattle.ring_core.specs.declared.out.Out.TheVariants.{Send as SendOut, Agreed, Safe, Trans, Rest, Regular}
+pub use Rattle.ring_core.specs.State.{Carried}
+use Rattle.ring_core.specs.State.{Core, Sent, Did, Stepped, all_of, opening, formed, halted}
+use Rattle.ring_core.specs.Visiting.{visited}
+use Rattle.ring_core.specs.Giving.{addressed}
+use Rattle.ring_core.specs.Stepping.{ring_step}
 use Rattle.ring_moves.specs.declared.event.RingEvent.{RingEvent}
 use Rattle.ring_moves.specs.declared.event.RingEvent.TheVariants.{Send, Deliver, Timeout, Stop}
 

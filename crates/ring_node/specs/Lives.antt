@@ -1,7 +1,7 @@
 -- What the outputs of a ring core add to its node's life: The replicated log, rule 1, and Outputs, rule 9, of docs/PROTOCOL.md.
 use Rattle.std.specs.Prelude.{List, [], ◌∷◌}
-use Rattle.ring_srp.specs.declared.out.Out.{Out}
-use Rattle.ring_srp.specs.declared.out.Out.TheVariants.{Send, Agreed, Safe, Trans, Rest, Regular}
+use Rattle.ring_core.specs.declared.out.Out.{Out}
+use Rattle.ring_core.specs.declared.out.Out.TheVariants.{Send, Agreed, Safe, Trans, Rest, Regular}
 use Rattle.ring_log.specs.Stays.{Stay, stay_in, hears, marks}
 
 -- a life after an output: what comes by the transitional configuration adds nothing to it

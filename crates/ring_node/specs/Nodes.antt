@@ -8,8 +8,8 @@ use Rattle.ring_base.specs.declared.state.State.TheVariants.{Gather, Commit, Rec
 use Rattle.ring_object.specs.Operations.{Sequential}
 use Rattle.ring_payload.specs.declared.call.Call.{Call}
 use Rattle.ring_session.specs.declared.answer.Answer.{Answer}
-use Rattle.ring_srp.specs.Joining.{is_operational}
-use Rattle.ring_srp.specs.State.{Core, opening, halted}
+use Rattle.ring_core.specs.Joining.{is_operational}
+use Rattle.ring_core.specs.State.{Core, opening, halted}
 use Rattle.ring_log.specs.Stays.{Stay, born}
 use Rattle.ring_log.specs.Lives.{log_of, last_of, committed_of}
 use Rattle.ring_ticket.specs.Tickets.{Asked, unanswered, all_answers, kept_answers, answer_to}

@@ -5,9 +5,9 @@ use Rattle.ring_base.specs.Processors.{has}
 use Rattle.ring_base.specs.declared.fault.Fault.{Fault}
 use Rattle.ring_object.specs.Operations.{Sequential}
 use Rattle.ring_payload.specs.declared.call.Call.{Call as OneCall}
-use Rattle.ring_srp.specs.declared.input.Input.TheVariants.{Frame as FrameInput, Timeout as TimeInput}
-use Rattle.ring_srp.specs.declared.out.Out.{Out}
-use Rattle.ring_srp.specs.State.{Carried}
+use Rattle.ring_core.specs.declared.input.Input.TheVariants.{Frame as FrameInput, Timeout as TimeInput}
+use Rattle.ring_core.specs.declared.out.Out.{Out}
+use Rattle.ring_core.specs.State.{Carried}
 use Rattle.ring_node.specs.declared.input.Input.TheVariants.{Frame as NodeFrame, Timeout as NodeTime}
 use Rattle.ring_node.specs.Stepping.{due_by_submit, submit_fault, submitted}
 use Rattle.ring_world.specs.declared.event.Event.{Event}

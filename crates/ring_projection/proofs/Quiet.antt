@@ -13,16 +13,16 @@ use Rattle.ring_payload.specs.Packing.{is_queued}
 use Rattle.ring_wire.specs.declared.message.Message.{Message}
 use Rattle.ring_window.specs.Held.{found}
 use Rattle.ring_recover.specs.Installing.{is_ready}
-use Rattle.ring_srp.specs.declared.input.Input.{Input}
-use Rattle.ring_srp.specs.declared.input.Input.TheVariants.{Send as SendInput}
-use Rattle.ring_srp.specs.declared.out.Out.{Out}
-use Rattle.ring_srp.specs.declared.out.Out.TheVariants.{Agreed, Safe}
-use Rattle.ring_srp.specs.State.{Core, Did, Stepped}
-use Rattle.ring_srp.specs.Views.{front, mark}
-use Rattle.ring_srp.specs.Deciding.{Ignore, Enqueue, decide, decide_payload}
-use Rattle.ring_srp.specs.Acting.{silently, done}
-use Rattle.ring_srp.specs.Giving.{ready_then_complete, installs_in, may_install, sent, given, agreed_from, safe_from, settle, delivered}
-use Rattle.ring_srp.specs.Stepping.{ring_step}
+use Rattle.ring_core.specs.declared.input.Input.{Input}
+use Rattle.ring_core.specs.declared.input.Input.TheVariants.{Send as SendInput}
+use Rattle.ring_core.specs.declared.out.Out.{Out}
+use Rattle.ring_core.specs.declared.out.Out.TheVariants.{Agreed, Safe}
+use Rattle.ring_core.specs.State.{Core, Did, Stepped}
+use Rattle.ring_core.specs.Views.{front, mark}
+use Rattle.ring_core.specs.Deciding.{Ignore, Enqueue, decide, decide_payload}
+use Rattle.ring_core.specs.Acting.{silently, done}
+use Rattle.ring_core.specs.Giving.{ready_then_complete, installs_in, may_install, sent, given, agreed_from, safe_from, settle, delivered}
+use Rattle.ring_core.specs.Stepping.{ring_step}
 
 pub ap-both : {A B C : Type 0} → (f : A → B → C) {x y : A} {u v : B} → x ≡ y → u ≡ v → f x u ≡ f y v
 ap-both f {x} {y} {u} {v} p q = ap (λ a. f a u) p ∙ ap (f y) q

@@ -1,10 +1,10 @@
 -- Payloads handed to a core one after another, as events of a world of ring cores: only that core changes.
 use Rattle.std.proofs.Common.{◌≡◌, ℕ, true, false, List, [], ◌∷◌, ◌++◌, map, refl, ap, sym, ◌∙◌, subst, append-nil}
 use Rattle.ring_payload.specs.declared.content.Payload.{Payload}
-use Rattle.ring_srp.specs.declared.input.Input.TheVariants.{Send as SendInput}
-use Rattle.ring_srp.specs.State.{Core}
-use Rattle.ring_srp.specs.Giving.{may_install}
-use Rattle.ring_srp.specs.Stepping.{ring_step}
+use Rattle.ring_core.specs.declared.input.Input.TheVariants.{Send as SendInput}
+use Rattle.ring_core.specs.State.{Core}
+use Rattle.ring_core.specs.Giving.{may_install}
+use Rattle.ring_core.specs.Stepping.{ring_step}
 use Rattle.ring_node.specs.Stepping.{handed_over}
 use Rattle.ring_moves.specs.declared.event.RingEvent.{RingEvent}
 use Rattle.ring_moves.specs.declared.event.RingEvent.TheVariants.{Send}

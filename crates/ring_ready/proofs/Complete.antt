@@ -27,8 +27,8 @@ use Rattle.ring_recover.specs.Plans.{Plan, plan_of, safe, low, least, is_reporte
 use Rattle.ring_recover.specs.Deliveries.{is_complete}
 use Rattle.ring_recover.specs.Installing.{is_ready}
 use Rattle.ring_recover.specs.Wrapping.{is_wrap_of}
-use Rattle.ring_srp.specs.State.{Core, Report}
-use Rattle.ring_srp.specs.Views.{front, mark, plan}
+use Rattle.ring_core.specs.State.{Core, Report}
+use Rattle.ring_core.specs.Views.{front, mark, plan}
 use Rattle.ring_moves.specs.Facts.{IsIn, SomeIs}
 use Rattle.ring_moves.specs.Worlds.{Carried}
 use Rattle.ring_moves.proofs.Fits.{mark_below}

@@ -12,8 +12,8 @@ use Rattle.ring_wire.specs.declared.token.Token.{Token}
 use Rattle.ring_token.specs.Turns.{Turn}
 use Rattle.ring_token.specs.Visits.{numbered}
 use Rattle.ring_commit.specs.declared.configuration.Configuration.{Configuration}
-use Rattle.ring_srp.specs.State.{Core, floor}
-use Rattle.ring_srp.specs.Views.{front}
+use Rattle.ring_core.specs.State.{Core, floor}
+use Rattle.ring_core.specs.Views.{front}
 use Rattle.ring_moves.specs.Facts.{IsIn}
 use Rattle.ring_moves.specs.Moves.{Move, Idles, Enters, Learns, Visits, Takes, Installs, moved, MayMove, MayVisit}
 use Rattle.ring_chain.proofs.Growing.{moved_grows}

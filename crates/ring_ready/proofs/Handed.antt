@@ -13,8 +13,8 @@ use Rattle.ring_window.specs.Held.{found}
 use Rattle.ring_token.specs.Visits.{numbered}
 use Rattle.ring_recover.specs.Plans.{Plan, plan_of, low, is_reported}
 use Rattle.ring_recover.specs.Wrapping.{is_wrap_of}
-use Rattle.ring_srp.specs.State.{Core}
-use Rattle.ring_srp.specs.Views.{plan}
+use Rattle.ring_core.specs.State.{Core}
+use Rattle.ring_core.specs.Views.{plan}
 use Rattle.ring_moves.specs.Facts.{IsIn, SomeIs}
 use Rattle.ring_moves.specs.Moves.{Move, Idles, Enters, Learns, Visits, Takes, Installs, moved, MayMove, MayVisit, AreWraps, AllAreUsers}
 use Rattle.ring_moves.proofs.Lists.{in-left, in-right, in-reverse}

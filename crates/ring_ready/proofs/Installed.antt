@@ -12,11 +12,11 @@ use Rattle.ring_window.specs.Held.{found}
 use Rattle.ring_window.proofs.Fronts.{front_is}
 use Rattle.ring_commit.specs.declared.configuration.Configuration.{Configuration}
 use Rattle.ring_recover.specs.Installing.{in_front, ends, has_end_of, all_ended, is_covered, has_user, is_ready}
-use Rattle.ring_srp.specs.State.{Core, opening, halted}
-use Rattle.ring_srp.specs.Stepping.{ring_step}
-use Rattle.ring_srp.specs.Views.{front, mark}
-use Rattle.ring_srp.specs.declared.input.Input.{Input}
-use Rattle.ring_srp.specs.declared.input.Input.TheVariants.{Frame as FrameInput, Timeout as TimeInput, Send as SendInput}
+use Rattle.ring_core.specs.State.{Core, opening, halted}
+use Rattle.ring_core.specs.Stepping.{ring_step}
+use Rattle.ring_core.specs.Views.{front, mark}
+use Rattle.ring_core.specs.declared.input.Input.{Input}
+use Rattle.ring_core.specs.declared.input.Input.TheVariants.{Frame as FrameInput, Timeout as TimeInput, Send as SendInput}
 use Rattle.ring_moves.specs.Facts.{IsIn}
 use Rattle.ring_moves.specs.Moves.{Move, moved, sends_of, MayMove, CameTo}
 use Rattle.ring_moves.specs.Worlds.{World, Carried, put, carried_from, is_node, stepped_if, stopped_if, handed_if, handed, frame_at, happens, run, unformed}

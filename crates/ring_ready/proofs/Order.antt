@@ -2,7 +2,7 @@
 use Rattle.std.proofs.Common.{◌≡◌, ℕ, List}
 use Rattle.ring_base.specs.declared.state.State.TheVariants.{Gather, Commit, Recovery, Operational}
 use Rattle.ring_wire.specs.declared.frame.Frame.{Frame}
-use Rattle.ring_srp.specs.State.{Core, opening}
+use Rattle.ring_core.specs.State.{Core, opening}
 use Rattle.ring_moves.specs.declared.event.RingEvent.{RingEvent}
 use Rattle.ring_moves.specs.Worlds.{run, unformed}
 use Rattle.ring_moves.specs.Moves.{Move, Idles, Enters, Learns, Visits, Takes, Installs, moved, MayMove, AllAreUsers}

@@ -12,9 +12,9 @@ use Rattle.ring_window.specs.Held.{holds}
 use Rattle.ring_token.specs.Visits.{numbered}
 use Rattle.ring_commit.specs.Rounds.{position_of_hop}
 use Rattle.ring_recover.specs.Plans.{plan_of, is_reported}
-use Rattle.ring_srp.specs.State.{Core}
-use Rattle.ring_srp.specs.Views.{front, own_entry, entries_for, plan}
-use Rattle.ring_srp.specs.Acting.{gives_old}
+use Rattle.ring_core.specs.State.{Core}
+use Rattle.ring_core.specs.Views.{front, own_entry, entries_for, plan}
+use Rattle.ring_core.specs.Acting.{gives_old}
 use Rattle.ring_moves.specs.Facts.{IsIn}
 use Rattle.ring_moves.specs.Moves.{Move, Idles, Enters, Learns, Visits, Takes, Installs, moved, MayMove, MayLearn}
 use Rattle.ring_moves.proofs.Fits.{Fit}

@@ -17,16 +17,16 @@ use Rattle.ring_commit.specs.Rounds.{position_of_hop}
 use Rattle.ring_commit.specs.declared.configuration.Configuration.{Configuration}
 use Rattle.ring_recover.specs.Deliveries.{is_complete}
 use Rattle.ring_recover.specs.Installing.{in_front, is_ready, is_ready_by}
-use Rattle.ring_srp.specs.declared.input.Input.{Input}
-use Rattle.ring_srp.specs.declared.input.Input.TheVariants.{Frame as FrameInput}
-use Rattle.ring_srp.specs.declared.out.Out.{Out}
-use Rattle.ring_srp.specs.State.{Core, Did, floor}
-use Rattle.ring_srp.specs.Views.{mark, plan}
-use Rattle.ring_srp.specs.Acting.{gives_old, done, may_follow, proposed_after}
-use Rattle.ring_srp.specs.Deciding.{Act, Ignore, Enqueue, Repeat, Announce, Invite, GiveUp, Regather, Agree, Widen, RegatherAndAgree, RegatherAndWiden, Take, Visit, Fill, Learn, decide}
-use Rattle.ring_srp.specs.Giving.{may_install, installs_in, ready_then_complete, settle, sent, given}
-use Rattle.ring_srp.specs.Joining.{proposes}
-use Rattle.ring_srp.specs.Stepping.{ring_step}
+use Rattle.ring_core.specs.declared.input.Input.{Input}
+use Rattle.ring_core.specs.declared.input.Input.TheVariants.{Frame as FrameInput}
+use Rattle.ring_core.specs.declared.out.Out.{Out}
+use Rattle.ring_core.specs.State.{Core, Did, floor}
+use Rattle.ring_core.specs.Views.{mark, plan}
+use Rattle.ring_core.specs.Acting.{gives_old, done, may_follow, proposed_after}
+use Rattle.ring_core.specs.Deciding.{Act, Ignore, Enqueue, Repeat, Announce, Invite, GiveUp, Regather, Agree, Widen, RegatherAndAgree, RegatherAndWiden, Take, Visit, Fill, Learn, decide}
+use Rattle.ring_core.specs.Giving.{may_install, installs_in, ready_then_complete, settle, sent, given}
+use Rattle.ring_core.specs.Joining.{proposes}
+use Rattle.ring_core.specs.Stepping.{ring_step}
 use Rattle.ring_moves.specs.Facts.{IsIn}
 use Rattle.ring_moves.specs.Moves.{Move, Idles, Enters, Learns, Visits, Takes, Installs, moved, did, MayMove, MayEnter, MayTake}
 use Rattle.ring_moves.proofs.Causes.{caused}

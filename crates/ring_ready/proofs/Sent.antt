@@ -15,7 +15,7 @@ use Rattle.ring_window.specs.Held.{holds}
 use Rattle.ring_token.specs.Turns.{Turn}
 use Rattle.ring_token.specs.Visits.{numbered}
 use Rattle.ring_recover.specs.Wrapping.{has_ended}
-use Rattle.ring_srp.specs.State.{Core}
+use Rattle.ring_core.specs.State.{Core}
 use Rattle.ring_moves.specs.Facts.{IsIn}
 use Rattle.ring_moves.specs.Laws.{EndsWrapping, HasEnded}
 use Rattle.ring_moves.specs.Moves.{Move, Idles, Enters, Learns, Visits, Takes, Installs, moved, MayMove, MayVisit, MayEnd, AreWraps, AreLast, IsWrapping, AllAreUsers}

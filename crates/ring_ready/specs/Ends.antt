@@ -12,7 +12,7 @@ use Rattle.ring_token.specs.Visits.{numbered}
 use Rattle.ring_commit.specs.declared.configuration.Configuration.{Configuration}
 use Rattle.ring_recover.specs.Plans.{plan_of, low, is_reported}
 use Rattle.ring_recover.specs.Wrapping.{is_wrap_of}
-use Rattle.ring_srp.specs.State.{Core, Report}
+use Rattle.ring_core.specs.State.{Core, Report}
 use Rattle.ring_moves.specs.Facts.{IsIn}
 
 -- the messages that a core numbered in a visit

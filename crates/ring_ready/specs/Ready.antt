@@ -4,8 +4,8 @@ use Rattle.ring_base.specs.declared.state.State.TheVariants.{Recovery}
 use Rattle.ring_commit.specs.declared.configuration.Configuration.{Configuration}
 use Rattle.ring_recover.specs.Deliveries.{is_complete}
 use Rattle.ring_recover.specs.Installing.{is_ready}
-use Rattle.ring_srp.specs.State.{Core}
-use Rattle.ring_srp.specs.Views.{mark, plan}
+use Rattle.ring_core.specs.State.{Core}
+use Rattle.ring_core.specs.Views.{mark, plan}
 use Rattle.ring_moves.specs.Facts.{IsIn}
 
 -- where recovery is ready, all is held that one of those from the old ring holds

@@ -5,8 +5,8 @@ use Rattle.std.specs.declared.alloc.Global.{Global}
 use Rattle.ring_payload.specs.declared.content.Payload.TheVariants.{End}
 use Rattle.ring_wire.specs.declared.frame.Frame.TheVariants.{Message as MessageFrame}
 use Rattle.ring_base.specs.declared.kind.Kind.TheVariants.{Retransmit, Loss}
-use Rattle.ring_srp.specs.declared.out.Out.{Out}
-use Rattle.ring_srp.specs.declared.out.Out.TheVariants.{Send as SendOut, Agreed, Safe, Trans, Rest, Regular}
+use Rattle.ring_core.specs.declared.out.Out.{Out}
+use Rattle.ring_core.specs.declared.out.Out.TheVariants.{Send as SendOut, Agreed, Safe, Trans, Rest, Regular}
 use Rattle.ring_moves.specs.declared.event.RingEvent.{RingEvent}
 use Rattle.ring_moves.specs.declared.event.RingEvent.TheVariants.{Send as SendEvent, Deliver, Timeout as TimeEvent}
 use Rattle.ring_moves.specs.Worlds.{World, run, ring_formed}

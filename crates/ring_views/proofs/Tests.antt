@@ -14,8 +14,8 @@ use Rattle.ring_wire.specs.declared.message.Message.{Message}
 use Rattle.ring_window.specs.Held.{found, of_ring, is_numbered, holds, highest, front_of}
 use Rattle.ring_window.proofs.Rings.{ring_same}
 use Rattle.ring_commit.specs.declared.configuration.Configuration.{Configuration}
-use Rattle.ring_srp.specs.State.{Core}
-use Rattle.ring_srp.specs.Views.{front}
+use Rattle.ring_core.specs.State.{Core}
+use Rattle.ring_core.specs.Views.{front}
 use Rattle.ring_moves.specs.Facts.{IsIn}
 use Rattle.ring_moves.specs.Worlds.{World}
 use Rattle.ring_moves.specs.Texts.{HasOneText, held_by, text_of}

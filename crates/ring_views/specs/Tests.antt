@@ -9,8 +9,8 @@ use Rattle.ring_payload.specs.Kinds.{is_user}
 use Rattle.ring_wire.specs.declared.message.Message.{Message}
 use Rattle.ring_window.specs.Held.{found}
 use Rattle.ring_commit.specs.declared.configuration.Configuration.{Configuration}
-use Rattle.ring_srp.specs.State.{Core}
-use Rattle.ring_srp.specs.Views.{front}
+use Rattle.ring_core.specs.State.{Core}
+use Rattle.ring_core.specs.Views.{front}
 use Rattle.ring_moves.specs.Worlds.{World}
 use Rattle.ring_moves.specs.Texts.{text_of}
 use Rattle.ring_moves.specs.Lives.{Stage, InRegular, InTransitional, is_well_told, delivered_in}

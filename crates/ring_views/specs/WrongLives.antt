@@ -5,9 +5,9 @@ use Rattle.ring_base.specs.Processors.{only}
 use Rattle.ring_base.specs.declared.ring_id.RingId.{RingId}
 use Rattle.ring_payload.specs.declared.content.Payload.TheVariants.{End}
 use Rattle.ring_wire.specs.declared.message.Message.{Message}
-use Rattle.ring_srp.specs.declared.out.Out.{Out}
-use Rattle.ring_srp.specs.declared.out.Out.TheVariants.{Agreed, Safe, Trans, Rest, Regular}
-use Rattle.ring_srp.specs.State.{Core, opening}
+use Rattle.ring_core.specs.declared.out.Out.{Out}
+use Rattle.ring_core.specs.declared.out.Out.TheVariants.{Agreed, Safe, Trans, Rest, Regular}
+use Rattle.ring_core.specs.State.{Core, opening}
 use Rattle.ring_moves.specs.Worlds.{World, put}
 use Rattle.ring_moves.specs.Samples.{ring_of, first_ring, second_ring, call_at, message_of}
 

@@ -9,7 +9,7 @@ use Rattle.ring_object.specs.Operations.{Sequential}
 use Rattle.ring_payload.specs.declared.call.Call.{Call}
 use Rattle.ring_session.specs.SessionAnswer.{reply_in}
 use Rattle.ring_wire.specs.declared.frame.Frame.{Frame}
-use Rattle.ring_srp.specs.State.{Sent, Carried}
+use Rattle.ring_core.specs.State.{Sent, Carried}
 use Rattle.ring_ticket.specs.declared.answered.Answered.{Answered}
 use Rattle.ring_node.specs.declared.input.Input.{Input}
 use Rattle.ring_node.specs.declared.input.Input.TheVariants.{Frame as FrameInput, Timeout as TimeInput}

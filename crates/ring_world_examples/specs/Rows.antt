@@ -12,7 +12,7 @@ use Rattle.ring_world.specs.declared.event.Event.{Event}
 use Rattle.ring_world.specs.declared.event.Event.TheVariants.{Issue, Deliver, Timeout, Stop}
 use Rattle.ring_world.specs.declared.told.Told.{Told}
 use Rattle.ring_world.specs.declared.told.Told.TheVariants.{Answer as ToldAnswer, Refused as ToldRefused}
-use Rattle.ring_srp.specs.State.{Carried}
+use Rattle.ring_core.specs.State.{Carried}
 use Rattle.ring_world.specs.Worlds.{World, world_opening, happens, run}
 
 -- an object that counts its operations, and replies how many there were before

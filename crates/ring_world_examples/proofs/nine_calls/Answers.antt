@@ -1,6 +1,6 @@
 use Rattle.std.proofs.Common.{refl}
 use Rattle.ring_base.specs.Processors.{elements}
-use Rattle.ring_srp.specs.Stepping.{ring_step}
+use Rattle.ring_core.specs.Stepping.{ring_step}
 use Rattle.ring_world_examples.proofs.nine_calls.Goals as goal
 
 pub returns-clause-sent : goal.returns-clause-sent

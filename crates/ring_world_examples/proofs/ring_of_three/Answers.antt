@@ -1,6 +1,6 @@
 use Rattle.std.proofs.Common.{refl}
 use Rattle.ring_base.specs.Processors.{elements}
-use Rattle.ring_srp.specs.Stepping.{ring_step}
+use Rattle.ring_core.specs.Stepping.{ring_step}
 use Rattle.ring_world_examples.proofs.ring_of_three.Goals as goal
 
 pub returns-clause-shown : goal.returns-clause-shown

@@ -7,7 +7,7 @@ use Rattle.ring_join.specs.Gathering.{Gathering, entered, own_join, hearing, may
 use Rattle.ring_join.specs.declared.hearing.Hearing.{Hearing}
 use Rattle.ring_base.specs.declared.state.State.{State}
 use Rattle.ring_base.specs.declared.state.State.TheVariants.{Gather, Commit, Recovery, Operational, Stopped}
-use Rattle.ring_srp.specs.State.{Core, Sent, floor}
+use Rattle.ring_core.specs.State.{Core, Sent, floor}
 
 -- whom Gather begins with: the members of the last installed ring, or all while none was installed
 abbrev pub first_procs : {A : Type 0} → Core A → ℕ

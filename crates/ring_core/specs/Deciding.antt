@@ -15,18 +15,18 @@ use Rattle.ring_token.specs.Turns.{first_token}
 use Rattle.ring_join.specs.declared.hearing.Hearing.{Hearing}
 use Rattle.ring_join.specs.declared.hearing.Hearing.TheVariants.{Ignored, Agrees, Widens}
 use Rattle.ring_commit.specs.Outcomes.{is_at}
-use Rattle.ring_srp.specs.declared.input.Input.{Input}
-use Rattle.ring_srp.specs.declared.input.Input.TheVariants.{Frame as FrameInput, Timeout, Send}
+use Rattle.ring_core.specs.declared.input.Input.{Input}
+use Rattle.ring_core.specs.declared.input.Input.TheVariants.{Frame as FrameInput, Timeout, Send}
 use Rattle.ring_base.specs.declared.kind.Kind.{Kind}
 use Rattle.ring_base.specs.declared.kind.Kind.TheVariants.{Retransmit, Join as JoinTime, Consensus, Loss}
 use Rattle.ring_base.specs.declared.state.State.{State}
 use Rattle.ring_base.specs.declared.state.State.TheVariants.{Gather, Commit, Recovery, Operational, Stopped}
-use Rattle.ring_srp.specs.State.{Core, floor}
-use Rattle.ring_srp.specs.Naming.{is_named}
-use Rattle.ring_srp.specs.Views.{takes_number}
-use Rattle.ring_srp.specs.Visiting.{accepts}
-use Rattle.ring_srp.specs.Joining.{regathered, hears, disturbs}
-use Rattle.ring_srp.specs.Handing.{takes_first_round, takes_second_round, takes_start}
+use Rattle.ring_core.specs.State.{Core, floor}
+use Rattle.ring_core.specs.Naming.{is_named}
+use Rattle.ring_core.specs.Views.{takes_number}
+use Rattle.ring_core.specs.Visiting.{accepts}
+use Rattle.ring_core.specs.Joining.{regathered, hears, disturbs}
+use Rattle.ring_core.specs.Handing.{takes_first_round, takes_second_round, takes_start}
 
 -- what an input comes to
 pub data Act (A : Type 0) : Type 0 where

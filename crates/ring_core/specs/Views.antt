@@ -8,7 +8,7 @@ use Rattle.ring_window.specs.Held.{front_of, is_new}
 use Rattle.ring_window.specs.Bits.{held_bits}
 use Rattle.ring_token.specs.Turns.{safe_mark}
 use Rattle.ring_recover.specs.Plans.{Plan, plan_of}
-use Rattle.ring_srp.specs.State.{Core}
+use Rattle.ring_core.specs.State.{Core}
 
 -- how far the core holds the ring's messages
 abbrev pub front : {A : Type 0} → Core A → RingId → ℕ

@@ -8,9 +8,9 @@ use Rattle.ring_join.specs.Gathering.{candidates, new_number}
 use Rattle.ring_commit.specs.Reports.{reports_of, safe_of}
 use Rattle.ring_commit.specs.Rounds.{receiver, hopped, proposal, is_first_round, is_second_round, is_start}
 use Rattle.ring_base.specs.declared.state.State.TheVariants.{Commit, Recovery}
-use Rattle.ring_srp.specs.State.{Core, Sent, Did, floor}
-use Rattle.ring_srp.specs.Views.{own_entry}
-use Rattle.ring_srp.specs.Visiting.{accepts}
+use Rattle.ring_core.specs.State.{Core, Sent, Did, floor}
+use Rattle.ring_core.specs.Views.{own_entry}
+use Rattle.ring_core.specs.Visiting.{accepts}
 
 -- it goes to the member at the position of its hop
 abbrev pub passed : {A : Type 0} → CommitToken → Sent A

@@ -5,12 +5,12 @@ use Rattle.ring_join.specs.Gathering.{agreed, widened, given_up}
 use Rattle.ring_recover.specs.Wrapping.{unwrapped}
 use Rattle.ring_base.specs.declared.state.State.{State}
 use Rattle.ring_base.specs.declared.state.State.TheVariants.{Gather, Commit, Recovery, Operational, Stopped}
-use Rattle.ring_srp.specs.State.{Core, Sent, Did}
-use Rattle.ring_srp.specs.Views.{mark}
-use Rattle.ring_srp.specs.Visiting.{visited}
-use Rattle.ring_srp.specs.Joining.{regathered, with_gathering, announced, invited, proposes}
-use Rattle.ring_srp.specs.Handing.{proposed, filled, learned}
-use Rattle.ring_srp.specs.Deciding.{Act, Ignore, Enqueue, Repeat, Announce, Invite, GiveUp, Regather, Agree, Widen, RegatherAndAgree, RegatherAndWiden, Take, Visit, Fill, Learn}
+use Rattle.ring_core.specs.State.{Core, Sent, Did}
+use Rattle.ring_core.specs.Views.{mark}
+use Rattle.ring_core.specs.Visiting.{visited}
+use Rattle.ring_core.specs.Joining.{regathered, with_gathering, announced, invited, proposes}
+use Rattle.ring_core.specs.Handing.{proposed, filled, learned}
+use Rattle.ring_core.specs.Deciding.{Act, Ignore, Enqueue, Repeat, Announce, Invite, GiveUp, Regather, Agree, Widen, RegatherAndAgree, RegatherAndWiden, Take, Visit, Fill, Learn}
 
 -- nothing is sent
 abbrev pub silently : {A : Type 0} → Core A → Did A

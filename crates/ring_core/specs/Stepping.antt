@@ -1,10 +1,10 @@
 -- One step of a ring core, Rings and states, rule 13 of docs/PROTOCOL.md: the tests, what is done, and what comes out.
 use Rattle.std.specs.Prelude.{List, [], ◌∷◌}
-use Rattle.ring_srp.specs.declared.input.Input.{Input}
-use Rattle.ring_srp.specs.State.{Core, Stepped}
-use Rattle.ring_srp.specs.Deciding.{decide}
-use Rattle.ring_srp.specs.Acting.{done}
-use Rattle.ring_srp.specs.Giving.{delivered}
+use Rattle.ring_core.specs.declared.input.Input.{Input}
+use Rattle.ring_core.specs.State.{Core, Stepped}
+use Rattle.ring_core.specs.Deciding.{decide}
+use Rattle.ring_core.specs.Acting.{done}
+use Rattle.ring_core.specs.Giving.{delivered}
 
 -- the core after an input, and what it gives
 unfoldable pub ring_step : {A : Type 0} → Core A → Input A → Stepped A

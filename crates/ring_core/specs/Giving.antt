@@ -8,12 +8,12 @@ use Rattle.ring_window.specs.Held.{found}
 use Rattle.ring_payload.specs.Kinds.{is_user}
 use Rattle.ring_recover.specs.Installing.{is_ready}
 use Rattle.ring_recover.specs.Deliveries.{is_complete, rests}
-use Rattle.ring_srp.specs.declared.out.Out.{Out}
-use Rattle.ring_srp.specs.declared.out.Out.TheVariants.{Send, Agreed, Safe, Trans, Rest, Regular}
+use Rattle.ring_core.specs.declared.out.Out.{Out}
+use Rattle.ring_core.specs.declared.out.Out.TheVariants.{Send, Agreed, Safe, Trans, Rest, Regular}
 use Rattle.ring_base.specs.declared.state.State.{State}
 use Rattle.ring_base.specs.declared.state.State.TheVariants.{Gather, Commit, Recovery, Operational, Stopped}
-use Rattle.ring_srp.specs.State.{Core, Sent, Did, Stepped}
-use Rattle.ring_srp.specs.Views.{front, mark, plan}
+use Rattle.ring_core.specs.State.{Core, Sent, Did, Stepped}
+use Rattle.ring_core.specs.Views.{front, mark, plan}
 
 -- Installing
 

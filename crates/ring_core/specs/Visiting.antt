@@ -12,8 +12,8 @@ use Rattle.ring_token.specs.Visits.{left, above_mark, room, numbered, requests_a
 use Rattle.ring_recover.specs.Wrapping.{wraps_and_end}
 use Rattle.ring_base.specs.declared.state.State.{State}
 use Rattle.ring_base.specs.declared.state.State.TheVariants.{Gather, Commit, Recovery, Operational, Stopped}
-use Rattle.ring_srp.specs.State.{Core, Sent, Did}
-use Rattle.ring_srp.specs.Views.{mark, plan}
+use Rattle.ring_core.specs.State.{Core, Sent, Did}
+use Rattle.ring_core.specs.Views.{mark, plan}
 
 -- the core accepts the token
 abbrev pub accepts : {A : Type 0} → Core A → Token → Bool
