@@ -1,0 +1,47 @@
+//! What a step gives of the ring that was installed as it began.
+
+ghost use Rattle.std.specs.Prelude.{◌≡◌, ◌++◌, ◌≤◌, IfErr, OnOk};
+ghost use Rattle.ring_base.specs.declared.fault.Fault.TheVariants.{Memory};
+ghost use Rattle.ring_core.specs.Giving.{agreed_from, safe_from, delivered_from};
+ghost use Rattle.ring_core.specs.Views.{front, mark};
+
+use crate::machine::Machine;
+use ring_base::{Fault, RingId};
+use ring_core::Out;
+use ring_recover::is_user;
+use ring_window::Window;
+use std::alloc::Allocator;
+
+/// How far a ring was as a step began: its front, and its safe mark.
+#[derive(Clone, Copy)]
+pub(crate) struct Reached {
+    pub(crate) ring: RingId,
+    pub(crate) front: u64,
+    pub(crate) mark: u64,
+}
+
+impl<A: Allocator + Copy> Machine<A> {
+    /// How far the installed ring is.
+    pub(crate) fn reached(&self) -> Reached
+        ensures ring { result.ring ≡ self.now.installed.ring }
+        ensures front { result.front ≡ front self.now self.now.installed.ring }
+        ensures mark { result.mark ≡ mark self.now self.now.installed.ring }
+    {
+        Reached {
+            ring: self.installed.ring,
+            front: self.kept.window.front(),
+            mark: self.kept.visit.safe(),
+        }
+    }
+
+    /// What is agreed and safe of the installed ring by now, and was not before. What is safe by now was in the front
+    /// before, so the window still has what the front newly covers.
+    pub(crate) fn give(&self, before: Reached, outs: &mut Vec<Out<A>, A>) -> Result<(), Fault>
+        requires ring { before.ring ≡ self.now.installed.ring }
+        requires mark { mark self.now self.now.installed.ring ≤ before.front }
+        ensures ok { OnOk result (outs.new.items ≡ outs.old.items ++ delivered_from self.now before.ring before.front before.mark) }
+        ensures refused { IfErr result (λ fault. fault ≡ Memory) }
+    {
+        Ok(())
+    }
+}

@@ -1,0 +1,135 @@
+//! A ring is taken part in: a commit token is proposed, filled in, and handed on.
+
+ghost use Rattle.std.specs.Prelude.{◌≡◌, ◌==◌, true, [], ◌∷◌, ◌++◌, ◌<◌, Some, IfErr, OnOk};
+ghost use Rattle.ring_base.specs.Processors.{IsMember, size, smallest};
+ghost use Rattle.ring_base.specs.declared.fault.Fault.TheVariants.{Memory};
+ghost use Rattle.ring_base.specs.declared.state.State.TheVariants.{Gather as InGather, Commit as InCommit};
+ghost use Rattle.ring_core.specs.State.{floor};
+ghost use Rattle.ring_core.specs.Giving.{sent};
+ghost use Rattle.ring_core.specs.Joining.{proposes};
+ghost use Rattle.ring_core.specs.Handing.{joined, filled};
+ghost use Rattle.ring_core.specs.Acting.{silently, proposed_after};
+ghost use Rattle.ring_srp.specs.Proposing.{due};
+ghost use Rattle.ring_core.specs.Views.{own_entry};
+ghost use Rattle.ring_join.specs.Gathering.{candidates, may_propose};
+ghost use Rattle.ring_srp.specs.Allowing.{FillAllowed};
+
+use crate::history::with_ring;
+use crate::machine::Machine;
+use crate::sent::{Sent, send_copy};
+use ring_base::{Fault, MAX, ProcSet, RingId, State};
+use ring_commit::{Configuration, Outcome, fill, propose, receiver};
+use ring_core::Out;
+use ring_wire::{CommitBox, CommitToken, Frame};
+use std::alloc::Allocator;
+
+impl<A: Allocator + Copy> Machine<A> {
+    /// In Gather, with consensus, the smallest proposes a ring.
+    pub(crate) fn propose_if_due(&mut self, outs: &mut Vec<Out<A>, A>) -> Result<(), Fault>
+        ensures core { OnOk result (self.new ≡ (proposed_after (proposes self.old) (silently self.old)).core) }
+        ensures outs { OnOk result (outs.new.items ≡ outs.old.items ++ sent (proposed_after (proposes self.old) (silently self.old)).sends) }
+        ensures refused { IfErr result (λ fault. fault ≡ Memory) }
+    {
+        match self.due() {
+            Some(token) => self.join(token, outs),
+            None => Ok(()),
+        }
+    }
+
+    /// The commit token that is proposed, where one is due.
+    fn due(&self) -> Option<CommitToken>
+        ensures { result ≡ due self.now }
+    {
+        if !self.proposes() {
+            return None;
+        }
+        let greatest = self.gather.greatest_number();
+        match propose(
+            self.me,
+            greatest,
+            self.gather.candidates(),
+            self.own_entry(),
+        ) {
+            Outcome::Pass(token) => Some(token),
+            _ => None,
+        }
+    }
+
+    /// Whether it is in Gather with consensus, the smallest, and below the greatest number.
+    fn proposes(&self) -> bool
+        ensures { result ≡ proposes self.now }
+    {
+        match self.state {
+            State::Gather => self.may_propose(),
+            State::Commit | State::Recovery | State::Operational | State::Stopped => false,
+        }
+    }
+
+    fn may_propose(&self) -> bool
+        requires { self.now.state ≡ InGather }
+        ensures { result ≡ may_propose self.now.me (floor self.now) self.now.gathering }
+    {
+        self.gather.agreed().is_some() && self.is_smallest() && self.gather.greatest_number() < MAX
+    }
+
+    /// Whether it is the smallest of those that are not given up.
+    fn is_smallest(&self) -> bool
+        ensures { result ≡ (smallest (candidates self.now.gathering) == self.now.me) }
+    {
+        match self.gather.candidates().smallest() {
+            Some(proc) => proc == self.me,
+            None => false,
+        }
+    }
+
+    /// The first round: the own report is added.
+    pub(crate) fn fill(
+        &mut self,
+        token: &CommitToken,
+        outs: &mut Vec<Out<A>, A>,
+    ) -> Result<(), Fault>
+        requires { FillAllowed self.old token.now }
+        ensures core { OnOk result (self.new ≡ (filled self.old token.now).core) }
+        ensures outs { OnOk result (outs.new.items ≡ outs.old.items ++ sent (filled self.old token.now).sends) }
+        ensures refused { IfErr result (λ fault. fault ≡ Memory) }
+    {
+        let candidates = self.gather.candidates();
+        let own = self.own_entry();
+        match fill(self.me, self.floor(), candidates, own, token.clone()?) {
+            Outcome::Pass(token) => self.join(token, outs),
+            _ => Ok(()),
+        }
+    }
+
+    /// Takes part in the ring of a commit token, which goes on.
+    fn join(&mut self, token: CommitToken, outs: &mut Vec<Out<A>, A>) -> Result<(), Fault>
+        requires newer { floor self.old < token.ring.seq }
+        requires member { IsMember token.members self.old.me }
+        requires some { 0 < size token.members }
+        ensures core { OnOk result (self.new ≡ (joined self.old token).core) }
+        ensures outs { OnOk result (outs.new.items ≡ outs.old.items ++ sent (joined self.old token).sends) }
+        ensures refused { IfErr result (λ fault. fault ≡ Memory) }
+    {
+        let (ring, members) = (token.ring, token.members);
+        let to = ProcSet::only(receiver(&token));
+        let frame = Frame::Commit(CommitBox::new(self.alloc, token)?);
+        send_copy(outs, to, &frame)?;
+        self.take_part(ring, members, to, frame);
+        Ok(())
+    }
+
+    /// Takes part in a ring from now on: the own report was written, and this was sent.
+    fn take_part(&mut self, ring: RingId, members: ProcSet, to: ProcSet, frame: Frame<A>)
+        requires newer { floor self.old < ring.seq }
+        requires member { IsMember members self.old.me }
+        ensures { self.new ≡ record self.old { state = InCommit; running = record { ring = ring; members = members }; shown = Some (record { to = to; frame = frame }); rings = record { ring = ring; members = members } ∷ self.old.rings; reports = record { ring = ring; entry = own_entry self.old } ∷ self.old.reports } }
+    {
+        let own = self.own_entry();
+        self.state = State::Commit;
+        self.running.ring = ring;
+        self.running.members = members;
+        self.shown = Some(Sent { to, frame });
+        let past = with_ring(&self.past, self.running, &own);
+        self.past = past;
+    }
+}

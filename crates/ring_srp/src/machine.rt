@@ -1,0 +1,123 @@
+//! A ring core that runs.
+
+ghost use Rattle.std.specs.Prelude.{◌≡◌, ◌≤◌, true, [], IfOk, IfErr};
+ghost use Rattle.ring_base.specs.declared.fault.Fault.TheVariants.{Memory};
+ghost use Rattle.ring_core.specs.State.{opening};
+
+use crate::history::{Story, none, opened};
+use crate::part::Part;
+use crate::recovering::Recovering;
+use crate::sent::Sent;
+use ring_base::{Fault, Fixed, Past, Proc, ProcSet, RingId, State};
+use ring_commit::Configuration;
+use ring_join::Gather;
+use ring_payload::Payload;
+use ring_token::Visit;
+use ring_window::Window;
+use ring_wire::{CommitEntry, Message};
+use std::alloc::{Allocator, Global};
+use std::collections::VecDeque;
+use std::marker::Model;
+
+/// A ring core that has not stopped. Contracts see its `Core`.
+#[derive(Drop)]
+pub(crate) struct Machine<A: Allocator + Copy = Global> {
+    pub(crate) alloc: A,
+    pub(crate) me: Proc,
+    pub(crate) fixed: Fixed,
+    pub(crate) state: State,
+    /// The newest ring taken part in. Its number is the floor.
+    pub(crate) running: Configuration,
+    pub(crate) installed: Configuration,
+    pub(crate) gather: Gather,
+    /// The last token or commit token sent since Gather was entered.
+    pub(crate) shown: Option<Sent<A>>,
+    pub(crate) queue: VecDeque<Payload<A>, A>,
+    /// What is kept of the installed ring.
+    pub(crate) kept: Part<A>,
+    /// What is kept of the running ring until it is installed: in Recovery alone.
+    pub(crate) recovery: Option<Recovering<A>>,
+    /// The messages taken, sent and unwrapped, newest first.
+    pub(crate) held: Past<[Message<A>; 0]>,
+    pub(crate) past: Past<Story<A>>,
+}
+
+impl<A: Allocator + Copy> Model for Machine<A> {
+    ghost use Rattle.ring_core.specs.State.{Core};
+    ghost use Rattle.ring_srp.specs.Machines.{core_of, IsMachine};
+
+    ghost Value = { Core A };
+
+    ghost view = { λ m. core_of m.me m.fixed.count m.state m.running m.installed m.gather.gathering m.shown m.queue.items m.held.value m.past.value };
+
+    ghost invariant = { λ m. IsMachine (core_of m.me m.fixed.count m.state m.running m.installed m.gather.gathering m.shown m.queue.items m.held.value m.past.value) m.gather m.kept.window m.kept.visit m.recovery };
+}
+
+impl<A: Allocator + Copy> Machine<A> {
+    ghost use Rattle.ring_core.specs.State.{floor};
+    ghost use Rattle.ring_core.specs.Views.{own_entry};
+    ghost use Rattle.ring_srp.specs.Machines.{IsPart, ring_in_use, is_running};
+
+    /// Processor `me` of the run, in no ring yet, or `Memory`.
+    pub(crate) fn new(alloc: A, fixed: Fixed, me: Proc) -> Result<Machine<A>, Fault>
+        requires { me ≤ fixed.count }
+        ensures ok { IfOk result (λ machine. machine ≡ opening fixed.count me) }
+        ensures refused { IfErr result (λ fault. fault ≡ Memory) }
+    {
+        let ring = RingId { seq: 0, rep: me };
+        let alone = Configuration {
+            ring,
+            members: ProcSet::only(me),
+        };
+        let window = Window::new(alloc, ring)?;
+        Ok(Machine {
+            alloc,
+            me,
+            fixed,
+            state: State::Gather,
+            running: alone,
+            installed: alone,
+            gather: Gather::new(me, 0, fixed.everybody()),
+            shown: None,
+            queue: VecDeque::new(alloc),
+            kept: Part {
+                window,
+                visit: Visit::new(me, ring),
+            },
+            recovery: None,
+            held: none(),
+            past: opened(fixed, me),
+        })
+    }
+
+    /// The greatest ring number taken part in.
+    pub(crate) fn floor(&self) -> u64
+        ensures { result ≡ floor self.now }
+    {
+        self.running.ring.seq
+    }
+
+    /// What it would report now of its last installed ring.
+    pub(crate) fn own_entry(&self) -> CommitEntry
+        ensures { result ≡ own_entry self.now }
+    {
+        let window = &self.kept.window;
+        CommitEntry {
+            old: self.installed.ring,
+            front: window.front(),
+            mark: window.mark(),
+            held: window.held_bits(),
+        }
+    }
+
+    /// What is kept of the ring whose messages are taken: of the running one in Recovery, else of the installed one.
+    pub(crate) fn part(&self) -> &Part<A>
+        ensures taken { IsPart self.now (ring_in_use self.now.state self.now) result.now.window result.now.visit }
+        ensures running { is_running self.now.state ≡ true → IsPart self.now self.now.running.ring result.now.window result.now.visit }
+    {
+        match &self.recovery {
+            Some(recovering) if self.state == State::Recovery => &recovering.part,
+            _ => &self.kept,
+        }
+    }
+}

@@ -1,0 +1,116 @@
+//! One step: what an input comes to is done, a ring may be proposed, and what follows is given.
+
+ghost use Rattle.std.specs.Prelude.{◌≡◌, ◌++◌, ◌∷◌, [], IfOk, IfErr, OnOk, OnErr};
+ghost use Rattle.ring_base.specs.declared.fault.Fault.TheVariants.{Memory};
+ghost use Rattle.ring_core.specs.Acting.{act, may_follow};
+ghost use Rattle.ring_core.specs.Giving.{sent};
+ghost use Rattle.ring_core.specs.Stepping.{ring_step};
+ghost use Rattle.ring_core.specs.declared.input.Input.TheVariants.{Send as SendInput};
+ghost use Rattle.ring_srp.specs.Acts.{act_of};
+ghost use Rattle.ring_srp.specs.Allowing.{Allows, InputFits};
+
+use crate::act::Act;
+use crate::machine::Machine;
+use ring_base::{Fault, State};
+use ring_core::{Input, Out};
+use ring_packing::is_queued;
+use ring_payload::Payload;
+use std::alloc::Allocator;
+
+impl<A: Allocator + Copy> Machine<A> {
+    /// One step.
+    pub(crate) fn step(&mut self, input: Input<A>) -> Result<Vec<Out<A>, A>, Fault>
+        requires { InputFits input }
+        ensures outs { IfOk result (λ outs. outs.items ≡ (ring_step self.old input).outs) }
+        ensures core { OnOk result (self.new ≡ (ring_step self.old input).core) }
+        ensures refused { IfErr result (λ fault. fault ≡ Memory) }
+    {
+        let before = self.reached();
+        let what = self.decide(input);
+        let follows = may_follow(&what);
+        let mut outs = Vec::new(self.alloc);
+        self.act(what, &mut outs)?;
+        if follows {
+            self.propose_if_due(&mut outs)?;
+        }
+        self.give(before, &mut outs)?;
+        self.install_if_due(&mut outs)?;
+        Ok(outs)
+    }
+
+    /// A payload goes to the end of the queue.
+    pub(crate) fn enqueue(&mut self, payload: Payload<A>) -> Result<(), Fault>
+        ensures ok { OnOk result (self.new ≡ record self.old { queue = self.old.queue ++ payload ∷ [] }) }
+        ensures kept { OnErr result (self.new ≡ self.old) }
+        ensures refused { IfErr result (λ fault. fault ≡ Memory) }
+    {
+        self.queue.push_back(payload)?;
+        Ok(())
+    }
+
+    /// A payload is queued in Operational where it may be, and dropped elsewhere.
+    pub(crate) fn send(&mut self, payload: Payload<A>) -> Result<(), Fault>
+        ensures ok { OnOk result (self.new ≡ (ring_step self.old (SendInput payload)).core) }
+        ensures kept { OnErr result (self.new ≡ self.old) }
+        ensures refused { IfErr result (λ fault. fault ≡ Memory) }
+    {
+        if self.state == State::Operational && is_queued(&payload) {
+            self.enqueue(payload)
+        } else {
+            Ok(())
+        }
+    }
+
+    /// What an input came to is done.
+    fn act(&mut self, what: Act<A>, outs: &mut Vec<Out<A>, A>) -> Result<(), Fault>
+        requires { Allows self.old (act_of what) }
+        ensures core { OnOk result (self.new ≡ (act self.old (act_of what)).core) }
+        ensures outs { OnOk result (outs.new.items ≡ outs.old.items ++ sent (act self.old (act_of what)).sends) }
+        ensures refused { IfErr result (λ fault. fault ≡ Memory) }
+    {
+        match what {
+            Act::Ignore => Ok(()),
+            Act::Enqueue(payload) => self.enqueue(payload),
+            Act::Repeat => self.repeat(outs),
+            Act::Announce => self.announce(outs),
+            Act::Invite => self.invite(outs),
+            Act::GiveUp => {
+                self.give_up();
+                self.announce(outs)
+            }
+            Act::Regather => {
+                self.regather();
+                self.announce(outs)
+            }
+            Act::Agree(join) => {
+                self.agree(&join);
+                Ok(())
+            }
+            Act::Widen(join) => {
+                self.widen(&join);
+                self.announce(outs)
+            }
+            Act::RegatherAndAgree(join) => {
+                self.regather();
+                self.agree(&join);
+                self.announce(outs)
+            }
+            Act::RegatherAndWiden(join) => {
+                self.regather();
+                self.widen(&join);
+                self.announce(outs)
+            }
+            Act::Take(message) => self.take(message),
+            Act::Visit(token) => self.visit(token, outs),
+            Act::Fill(boxed) => self.fill(boxed.token(), outs),
+            Act::Learn(boxed) => self.learn(boxed.token(), outs),
+        }
+    }
+}
+
+/// Whether a proposal may follow.
+fn may_follow<A: Allocator + Copy>(what: &Act<A>) -> bool
+    ensures { result ≡ may_follow (act_of what.now) }
+{
+    !matches!(what, Act::Ignore | Act::Enqueue(_))
+}
