@@ -8,7 +8,7 @@ ghost use Rattle.ring_window.specs.Held.{holds, highest};
 ghost use Rattle.ring_window.specs.Windows.{kept};
 ghost use Rattle.ring_recover.specs.Chosen.{chosen};
 ghost use Rattle.ring_recover.specs.Plans.{plan_from, safe, low};
-ghost use Rattle.ring_recover.specs.Wrapping.{is_wrap_of, has_own_end};
+ghost use Rattle.ring_recover.specs.Wrapping.{is_wrap_of, is_wrapped, has_own_end};
 ghost use Rattle.ring_recover.specs.Deliveries.{is_complete, regular_part, transitional_part, past_gap_part, finish};
 ghost use Rattle.ring_recover.specs.Recovering.{begun, with_seen, next_to_wrap, old_of, is_users, is_from};
 
@@ -151,6 +151,15 @@ impl<A: Allocator + Copy> Plan<A> {
         ensures { result ≡ has_own_end self.now.me self.now.seen }
     {
         self.ended
+    }
+
+    /// Whether this number of the old ring, one of the 256 after the greatest safe mark, was seen wrapped on the new ring.
+    pub fn has_wrapped(&self, number: u64) -> bool
+        requires low { safe self.now.plan < number }
+        requires high { number ≤ safe self.now.plan + 256 }
+        ensures { result ≡ is_wrapped self.now.seen self.now.plan.old number }
+    {
+        self.wrapped.has((number - self.safe - 1) as usize)
     }
 
     /// The number of the message that is to be wrapped next: the first users' message above the least front that
