@@ -2,3 +2,8 @@ pub mod Lent
 pub mod Parts
 pub mod Standing
 pub mod Receivers
+pub mod Allowed
+pub mod Marks
+pub mod Outputs
+pub mod Proposals
+pub mod Sending
