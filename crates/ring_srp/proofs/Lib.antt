@@ -7,3 +7,4 @@ pub mod Marks
 pub mod Outputs
 pub mod Proposals
 pub mod Sending
+pub mod Starting
