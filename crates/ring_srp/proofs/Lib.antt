@@ -2,5 +2,5 @@ pub mod Lent
 pub mod Parts
 pub mod Standing
 pub mod Receivers
-pub mod Holding
+pub mod Held
 pub mod Wraps
