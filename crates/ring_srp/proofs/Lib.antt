@@ -8,3 +8,5 @@ pub mod Outputs
 pub mod Proposals
 pub mod Sending
 pub mod Starting
+pub mod Held
+pub mod Wraps
