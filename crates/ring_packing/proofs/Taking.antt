@@ -1,12 +1,12 @@
 -- A queue's first messages are taken off it one by one: the run at its front is measured, and its Calls are moved.
-use Rattle.std.proofs.Common.{◌≡◌, ℕ, zero, suc, ◌+◌, ◌-◌, ◌<◌, ◌≤◌, max, List, [], ◌∷◌, ◌++◌, length, map, take, drop, Option, Some, None, IsSome, get_or, refl, sym, ap, subst, ◌∙◌, arith, append_assoc}
+use Rattle.std.proofs.Common.{◌≡◌, ℕ, zero, suc, ◌+◌, ◌-◌, ◌<◌, ◌≤◌, max, List, [], ◌∷◌, ◌++◌, length, take, drop, Option, Some, None, IsSome, get_or, refl, sym, ap, subst, ◌∙◌, arith, append_assoc}
 use Rattle.std.specs.Prelude.{nat_le, option_to_list}
 use Rattle.std.proofs.lemmas.Bool.{cond-true, cond-false, le-leb, lt-leb}
 use Rattle.std.proofs.lemmas.List.{drop_more, at_drop_all, append-nil}
 use Rattle.ring_payload.specs.declared.call.Call.{Call as OneCall}
 use Rattle.ring_payload.specs.declared.content.Payload.{Payload}
 use Rattle.ring_payload.specs.declared.content.Payload.TheVariants.{Call, Wrapped, End, Head, Part, Pack, Snap}
-use Rattle.ring_payload.specs.Limits.{most_pack, most_pack_bytes}
+use Rattle.ring_payload.specs.Limits.{most_pack}
 use Rattle.ring_payload.specs.Calls.{call_bytes}
 use Rattle.ring_payload.specs.Packing.{run_within, front_run, made_of, behind, packed, left_behind}
 use Rattle.ring_payload.proofs.Packing.{calls_as, front_run-longest}
@@ -14,9 +14,10 @@ use Rattle.ring_packing.specs.Taking.{call_of, bytes_of}
 
 -- The length of a run
 
-run-nil : {A : Type 0} (more bytes : ℕ) → length (run_within {A = A} more bytes []) ≡ 0
-run-nil zero bytes = refl
-run-nil (suc more) bytes = refl
+run-none : {A : Type 0} (more bytes : ℕ) (queue : List (Payload A)) → queue ≡ [] → length (run_within more bytes queue) ≡ 0
+run-none zero bytes queue e = refl
+run-none (suc more) bytes [] e = refl
+run-none (suc more) bytes (x ∷ queue) e = absurd cc
 
 run-other : {A : Type 0} (more bytes : ℕ) (x : Payload A) (queue : List (Payload A)) → bytes_of x ≡ None → length (run_within more bytes (x ∷ queue)) ≡ 0
 run-other zero bytes x queue e = refl
@@ -57,12 +58,9 @@ abbrev pub IsCounted : {A : Type 0} → List (Payload A) → ℕ → ℕ → Typ
 IsCounted queue count left = count + length (run_within (most_pack - count) left (drop count queue)) ≡ length (front_run queue)
 
 module _ {A : Type 0} (queue : List (Payload A)) (count left : ℕ) where
-  pub counted-begun : IsCounted queue 0 (most_pack_bytes - 2)
-  counted-begun = refl
-
   pub counted-nil : length queue ≤ count → IsCounted queue count left → count ≡ length (front_run queue)
   counted-nil l i =
-      let e : length (run_within (most_pack - count) left (drop count queue)) ≡ 0 = at_drop_all (λ q. length (run_within (most_pack - count) left q)) queue count l ∙ run-nil (most_pack - count) left in
+      let e : length (run_within (most_pack - count) left (drop count queue)) ≡ 0 = run-none (most_pack - count) left (drop count queue) (at_drop_all (λ q. q) queue count l) in
       omega arith
 
   pub counted-other : (x : Payload A) → count < length queue → x ≡ get_or queue count x → bytes_of x ≡ None → IsCounted queue count left → count ≡ length (front_run queue)
@@ -82,9 +80,9 @@ module _ {A : Type 0} (queue : List (Payload A)) (count left : ℕ) where
       let d : drop count queue ≡ x ∷ drop (count + 1) queue = drop_more queue count x l ∙ ap (λ y. y ∷ drop (count + 1) queue) (sym at) in
       let n : most_pack - count ≡ suc (most_pack - (count + 1)) = omega arith in
       let e : length (run_within (most_pack - count) left (drop count queue)) ≡ suc (length (run_within (most_pack - (count + 1)) (left - b) (drop (count + 1) queue))) =
-          ap (λ q. length (run_within (most_pack - count) left q)) d
-          ∙ ap (λ m. length (run_within m left (x ∷ drop (count + 1) queue))) n
-          ∙ run-more (most_pack - (count + 1)) left b x (drop (count + 1) queue) s near in
+      ap (λ q. length (run_within (most_pack - count) left q)) d
+      ∙ ap (λ m. length (run_within m left (x ∷ drop (count + 1) queue))) n
+      ∙ run-more (most_pack - (count + 1)) left b x (drop (count + 1) queue) s near in
       omega arith
 
   pub counted-all : most_pack ≤ count → count ≤ most_pack → IsCounted queue count left → most_pack ≡ length (front_run queue)
@@ -111,11 +109,11 @@ call-at queue i l =
     (n.0, subst (λ q. drop i q ≡ Call n.0 ∷ drop (suc i) q) b.1 n.1, n.2)
 
 -- a Call of the run stands at the front of what is left
-pub some-left : {A : Type 0} (queue now after : List (Payload A)) (i : ℕ) → i < length (front_run queue) → now ≡ drop i queue → now ≡ option_to_list None ++ after → after ≡ [] → ⊥
-some-left queue now after i l e n z =
+pub some-left : {A : Type 0} (queue now : List (Payload A)) (i : ℕ) → i < length (front_run queue) → now ≡ drop i queue → length now ≡ 0 → ⊥
+some-left queue now i l e z =
     let c = call-at queue i l in
-    let nil : [] ≡ Call c.0 ∷ drop (suc i) queue = sym z ∙ sym n ∙ e ∙ c.1 in
-    absurd cc
+    let n : length now ≡ suc (length (drop (suc i) queue)) = ap length (e ∙ c.1) in
+    absurd (omega arith)
 
 pub call-left : {A : Type 0} (queue now after : List (Payload A)) (p : Payload A) (i : ℕ) → i < length (front_run queue) → now ≡ drop i queue → now ≡ p ∷ after → call_of p ≡ None → ⊥
 call-left queue now after p i l e n none =
@@ -154,7 +152,9 @@ made-pack first (c ∷ d ∷ run) l = refl
 pub first-alone : {A : Type 0} (queue after : List (Payload A)) (o : Option (Payload A)) → queue ≡ option_to_list o ++ after → (0 < length queue → IsSome o) → length (front_run queue) < 2 →
     (option_to_list o ≡ packed 1 queue) × (after ≡ behind queue)
 first-alone [] after None e s l = (refl, sym e)
-first-alone (x ∷ queue) after None e s l = absurd (s (omega arith))
+first-alone {A} (x ∷ queue) after None e s l =
+    let some : IsSome {T = Payload A} None = s (omega arith) in
+    absurd cc
 first-alone [] after (Some p) e s l = absurd cc
 first-alone (x ∷ queue) after (Some p) e s l =
     let first : x ≡ p = cc in

@@ -1,6 +1,6 @@
-use Rattle.std.proofs.Common.{◌≡◌, [], ap, sym, ◌∙◌}
+use Rattle.std.proofs.Common.{◌≡◌, ◌-◌, [], ap, sym, ◌∙◌}
 use Rattle.std.specs.Prelude.{option_to_list}
-use Rattle.ring_payload.specs.Packing.{packed, left_behind}
+use Rattle.ring_payload.specs.Packing.{packed}
 use Rattle.ring_packing.proofs.Taking.{taken-begun, left-begun, taken-more, left-more, taken-none, left-all, taken-all, left-end}
 use Rattle.ring_packing.proofs.packing.take_packed.Goals as goal
 
@@ -14,12 +14,12 @@ loop-init g c =
 pub returns-in_default-clause-items : goal.returns-in_default-clause-items
 returns-in_default-clause-items g c =
     let none : [] ≡ packed 1 c.loop.queue.items = ap option_to_list (sym c.in_default.is) ∙ c.in_ok-payload.ensures.message in
-    taken-none _ c.loop.payloads.items c.loop.queue.items _ none c.loop.invariant.taken
+    taken-none (c.args.most - c.loop.counter) c.loop.payloads.items c.loop.queue.items _ none c.loop.invariant.taken
 
 pub returns-in_default-clause-queue : goal.returns-in_default-clause-queue
 returns-in_default-clause-queue g c =
     let none : [] ≡ packed 1 c.loop.queue.items = ap option_to_list (sym c.in_default.is) ∙ c.in_ok-payload.ensures.message in
-    left-all _ c.loop.queue.items c.take_message.new.queue.items _ none c.in_ok-payload.ensures.queue c.loop.invariant.left
+    left-all (c.args.most - c.loop.counter) c.loop.queue.items c.take_message.new.queue.items _ none c.in_ok-payload.ensures.queue c.loop.invariant.left
 
 pub loop-preserved : goal.loop-preserved
 loop-preserved g c =
