@@ -55,10 +55,15 @@ impl<A: Allocator + Copy> Machine<A> {
         ensures running { is_stopped self.old.state ≡ false }
         ensures refused { IfErr result (λ fault. fault ≡ Memory) }
     {
-        if self.state == State::Operational && is_queued(&payload) {
-            self.enqueue(payload)
-        } else {
-            Ok(())
+        match self.state {
+            State::Operational => {
+                if is_queued(&payload) {
+                    self.enqueue(payload)
+                } else {
+                    Ok(())
+                }
+            }
+            _ => Ok(()),
         }
     }
 
