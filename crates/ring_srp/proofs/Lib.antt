@@ -2,3 +2,5 @@ pub mod Lent
 pub mod Parts
 pub mod Standing
 pub mod Receivers
+pub mod Users
+pub mod Turned

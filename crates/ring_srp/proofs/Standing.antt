@@ -14,7 +14,7 @@ use Rattle.ring_token.specs.Histories.{TokenHistory}
 use Rattle.ring_join.specs.Gatherers.{Gatherer}
 use Rattle.ring_join.specs.Gathering.{Gathering}
 use Rattle.ring_commit.specs.declared.configuration.Configuration.{Configuration}
-use Rattle.ring_srp.specs.declared.part.Recovering.{Recovering}
+use Rattle.ring_srp.specs.declared.recovering.Recovering.{Recovering}
 use Rattle.ring_wire.specs.declared.entries.CommitEntry.{CommitEntry}
 use Rattle.ring_srp.specs.Histories.{with_ring}
 use Rattle.ring_core.specs.State.{Core, Sent, floor}
