@@ -4,3 +4,4 @@ pub mod Standing
 pub mod Receivers
 pub mod Users
 pub mod Turned
+pub mod Aside

@@ -76,7 +76,7 @@ mark_unturned : {A : Type 0} (v : Turn A) (turns : List (Turn A)) (raises : List
 mark_unturned {A} v turns raises ring e = ap (λ (vs : List (Turn A)). max (mark_by (map (λ (x : Turn A). x.went.aru) vs)) (raised_to ring raises)) (unturned v turns ring e)
 
 -- so it is no further than what the visit and those before it reached
-mark_within : {A : Type 0} (v : Turn A) (turns : List (Turn A)) (raises : List Raise) (ring : RingId) (n : ℕ) → v.came.ring ≡ ring →
+pub mark_within : {A : Type 0} (v : Turn A) (turns : List (Turn A)) (raises : List Raise) (ring : RingId) (n : ℕ) → v.came.ring ≡ ring →
     last_aru (turns_of ring turns) ≤ n → safe_mark turns raises ring ≤ n → safe_mark (v ∷ turns) raises ring ≤ n
 mark_within v turns raises ring n e l m = within _ _ _ _ n (mark_turned v turns raises ring e) l m
   where
