@@ -5,3 +5,5 @@ pub mod Receivers
 pub mod Users
 pub mod Turned
 pub mod Aside
+pub mod Held
+pub mod Wraps

@@ -7,3 +7,5 @@ pub mod Passing
 pub mod Ended
 pub mod Users
 pub mod Setting
+pub mod Taking
+pub mod Wraps
