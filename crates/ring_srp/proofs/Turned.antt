@@ -26,10 +26,12 @@ use Rattle.ring_commit.specs.declared.configuration.Configuration.{Configuration
 use Rattle.ring_recover.specs.Plans.{safe}
 use Rattle.ring_core.specs.State.{Core, Sent, floor}
 use Rattle.ring_core.specs.Views.{front, mark, plan}
+use Rattle.ring_core.specs.Giving.{users}
 use Rattle.ring_srp.specs.declared.part.Part.{Part}
 use Rattle.ring_srp.specs.declared.recovering.Recovering.{Recovering}
 use Rattle.ring_srp.specs.Machines.{History, core_of, IsPart, IsBelow, bound, is_forming, is_running, window_of, visits_of, raises_of, Recovers, IsRecovering, IsMachine}
 use Rattle.ring_srp.specs.Passing.{passed_on}
+use Rattle.ring_srp.specs.Histories.{with_visit}
 use Rattle.ring_srp.specs.Setting.{turn_in, SetsAside}
 use Rattle.ring_srp.specs.Users.{users_in}
 use Rattle.ring_srp.proofs.Users.{users_of, front_by, mark_of_part}
@@ -163,6 +165,16 @@ module _ {A : Type 0} (c : Core A) (ring : RingId) (w : Windowed A) (h : TokenHi
       ∙ ap (λ n. turn_by c.me n fresh (requests_after stays (missing w.held w.ring w.mark upto)) t) f
       ∙ ap (λ ns. turn_by c.me (front_of c.held t.ring) fresh (requests_after stays ns) t) lacks
 
+  -- what a visit asks of it
+  pub part_ring : h.ring ≡ ring
+  part_ring = ap (λ (y : TokenHistory A). y.ring) p.visit_is
+
+  pub part_reached : mark_of h ≤ front_of w.held w.ring
+  part_reached = omega (arith, ap mark_of p.visit_is ∙ mark_of_visits c.me c.turns c.raises ring, front_by c ring w h p, p.reached)
+
+  pub part_led : last_aru (turns_of h.ring h.turns) ≤ front_of w.held w.ring
+  part_led = omega (arith, ap (λ (y : TokenHistory A). last_aru (turns_of y.ring y.turns)) p.visit_is ∙ ap (λ (vs : List (Turn A)). last_aru vs) (turns_twice c.turns ring), front_by c ring w h p, p.led)
+
   -- so the core that it leaves is the one that the token passed
   pub passed_is : (t : Token) (stays : List ℕ) (fresh : List (Payload A)) → t.ring ≡ ring →
       after_turn c (turn_in w h t stays fresh) (Some (record { to = only (next c.running.members c.me); frame = TokenFrame (turn_in w h t stays fresh).went })) ≡ passed_on c t stays fresh
@@ -172,7 +184,7 @@ module _ {A : Type 0} (c : Core A) (ring : RingId) (w : Windowed A) (h : TokenHi
 -- Recovery
 
 -- more stands aside
-recovers_aside : {A : Type 0} (c : Core A) (r r' : Recovering A) → Recovers c r → SetsAside r r' → Recovers c r'
+pub recovers_aside : {A : Type 0} (c : Core A) (r r' : Recovering A) → Recovers c r → SetsAside r r' → Recovers c r'
 recovers_aside {A} c r r' m s =
     let part = subst (λ (q : Part A). IsPart c c.running.ring q.window q.visit) (sym s.part) m.part in
     let window : r'.part.window ≡ window_of c c.running.ring = part.window_is in
@@ -191,6 +203,13 @@ recovers_aside {A} c r r' m s =
     farther : (now before reach front : ℕ) → now ≤ max before reach → reach ≡ front → before ≤ front → now ≤ front
     farther now before reach front a b d = omega arith
 
+-- the window still has what doesn't stand aside
+pub aside_near : {A : Type 0} (c : Core A) (r : Recovering A) → Recovers c r → r.part.window.mark ≤ r.most
+aside_near c r m = omega (arith, mark_of_part c c.running.ring r.part.window r.part.visit m.part, m.aside_safe)
+
+pub aside_there : {A : Type 0} (c : Core A) (r : Recovering A) → Recovers c r → r.aside.items ≡ users_in r.part.window 0 r.most
+aside_there {A} c r m = m.aside_is ∙ sym (ap (λ (w : Windowed A). users_in w 0 r.most) m.part.window_is ∙ users_of c c.running.ring 0 r.most)
+
 -- what it takes that a token went on in Recovery
 pub record GoesOn {A : Type 0} (r r' : Recovering A) (v : Turn A) : Type 0 where
   pub window : r'.part.window ≡ forgotten r.part.window (mark_of (with_turn r.part.visit v))
@@ -208,7 +227,7 @@ recovers_turned {A} c r r' v x m newer e l all n =
       part = rw (n.window, n.visit) (part_turned c c.running.ring r.part.window r.part.visit v x m.part e l);
       plan_is = n.plan ∙ m.plan_is;
       ends_is = n.ends ∙ m.ends_is;
-      aside_is = n.aside ∙ m.aside_is ∙ sym (ap (users_in (window_of c c.running.ring) 0) n.most);
+      aside_is = n.aside ∙ m.aside_is ∙ sym (ap (λ k. users c c.running.ring 0 k) n.most);
       aside_far = omega (arith, n.most, m.aside_far);
       aside_safe = subst (λ k. mark (after_turn c v x) c.running.ring ≤ k) (sym n.most) (mark_within v c.turns c.raises c.running.ring r.most e m.aside_led m.aside_safe);
       aside_led = led_turned v c.turns c.running.ring r'.most e (omega (arith, n.most, l, all));
@@ -241,7 +260,18 @@ module _ {A : Type 0} (me total : ℕ) (s : State) (running installed : Configur
   pub aside_on : (r r' : Recovering A) → IsMachine (core_of me total s running installed g shown queue held h) gather window visit (Some r) → s ≡ Recovery → SetsAside r r' →
       IsMachine (core_of me total s running installed g shown queue held h) gather window visit (Some r')
   aside_on r r' m e a =
-      record m { recovering = λ q. recovers_aside (core_of me total s running installed g shown queue held h) r r' (m.recovering q) a }
+      record {
+        runs = m.runs;
+        gather_me = m.gather_me;
+        gather_floor = m.gather_floor;
+        member = m.member;
+        kept = m.kept;
+        below = m.below;
+        older = m.older;
+        apart = m.apart;
+        same = m.same;
+        recovering = λ q. recovers_aside (core_of me total s running installed g shown queue held h) r r' (m.recovering q) a;
+      }
 
   -- in Recovery the token went on
   pub running_turned : (r r' : Recovering A) (v : Turn A) (shown' : Option (Sent A)) → IsMachine (core_of me total s running installed g shown queue held h) gather window visit (Some r) → s ≡ Recovery →
@@ -265,6 +295,19 @@ module _ {A : Type 0} (me total : ℕ) (s : State) (running installed : Configur
         recovering = λ q. recovers_turned c r r' v shown' (m.recovering q) newer e l all n;
       }
 
+  -- in Operational what is kept is of the running ring
+  pub running_part : (recovery : Option (Recovering A)) → IsMachine (core_of me total s running installed g shown queue held h) gather window visit recovery → s ≡ Operational →
+      IsPart (core_of me total s running installed g shown queue held h) running.ring window visit
+  running_part recovery m s_is = subst (λ (q : RingId). IsPart (core_of me total s running installed g shown queue held h) q window visit) (ap (λ (q : Configuration). q.ring) (m.same s_is)) m.kept
+
+  -- in Recovery there is what Recovery goes by
+  pub recovers : (r : Recovering A) → IsMachine (core_of me total s running installed g shown queue held h) gather window visit (Some r) → s ≡ Recovery →
+      Recovers (core_of me total s running installed g shown queue held h) r
+  recovers r m s_is = m.recovering s_is
+
+  pub recovers_none : IsMachine (core_of me total s running installed g shown queue held h) gather window visit None → s ≡ Recovery → ⊥
+  recovers_none m s_is = m.recovering s_is
+
   -- in Operational
   pub installed_turned : (recovery : Option (Recovering A)) (v : Turn A) (shown' : Option (Sent A)) → IsMachine (core_of me total s running installed g shown queue held h) gather window visit recovery → s ≡ Operational →
       v.came.ring ≡ running.ring → v.went.aru ≤ front_of held running.ring →
@@ -285,3 +328,46 @@ module _ {A : Type 0} (me total : ℕ) (s : State) (running installed : Configur
         same = m.same;
         recovering = λ q. absurd (recovery_no_operational s q s_is);
       }
+
+  -- the core that it leaves
+  pub passed_by : (w : Windowed A) (v : TokenHistory A) (t : Token) (stays : List ℕ) (fresh : List (Payload A)) (to : ℕ) (went : Token) (shown' : Option (Sent A)) (h' : History A) →
+      IsPart (core_of me total s running installed g shown queue held h) running.ring w v → t.ring ≡ running.ring →
+      h' ≡ with_visit h (with_turn v (turn_in w v t stays fresh)).turns → shown' ≡ Some (record { to = to; frame = TokenFrame went }) →
+      to ≡ only (next running.members me) → went ≡ (turn_in w v t stays fresh).went →
+      core_of me total s running installed g shown' queue held h' ≡ passed_on (core_of me total s running installed g shown queue held h) t stays fresh
+  passed_by w v t stays fresh to went shown' h' p e past is to_is went_is =
+      let sent : ℕ → Token → Option (Sent A) = λ n k. Some (record { to = n; frame = TokenFrame k }) in
+      ap (λ (y : History A). core_of me total s running installed g shown' queue held y) past
+      ∙ ap (λ (x : Option (Sent A)). core_of me total s running installed g x queue held (with_visit h (with_turn v (turn_in w v t stays fresh)).turns))
+      (is ∙ ap (λ n. sent n went) to_is ∙ ap (sent (only (next running.members me))) went_is)
+      ∙ passed_is (core_of me total s running installed g shown queue held h) running.ring w v (turn_in w v t stays fresh) shown p t stays fresh e
+
+  -- what the tie says of it, in Recovery
+  pub running_on : (r r' r'' : Recovering A) (t : Token) (stays : List ℕ) (fresh : List (Payload A)) (shown' : Option (Sent A)) (h' : History A) →
+      IsMachine (core_of me total s running installed g shown queue held h) gather window visit (Some r) → s ≡ Recovery → SetsAside r r' →
+      front_of r'.part.window.held r'.part.window.ring ≤ r'.most → t.ring ≡ running.ring →
+      h' ≡ with_visit h (with_turn r'.part.visit (turn_in r'.part.window r'.part.visit t stays fresh)).turns →
+      GoesOn r' r'' (turn_in r'.part.window r'.part.visit t stays fresh) →
+      IsMachine (core_of me total s running installed g shown' queue held h') gather window visit (Some r'')
+  running_on r r' r'' t stays fresh shown' h' m s_is a all e past n =
+      let c = core_of me total s running installed g shown queue held h in
+      let m' = aside_on r r' m s_is a in
+      let w = r'.part.window in
+      let f : front_of w.held w.ring ≡ front_of held running.ring = front_by c running.ring w r'.part.visit (m'.recovering s_is).part in
+      rw past (running_turned r' r'' (turn_in w r'.part.visit t stays fresh) shown' m' s_is e
+      (subst (λ k. (turn_in w r'.part.visit t stays fresh).went.aru ≤ k) f (aru_within w r'.part.visit t stays fresh))
+      (subst (λ k. k ≤ r'.most) f all) n)
+
+  -- and in Operational
+  pub installed_on : (recovery : Option (Recovering A)) (w : Windowed A) (v : TokenHistory A) (t : Token) (stays : List ℕ) (fresh : List (Payload A)) (shown' : Option (Sent A)) (h' : History A) →
+      IsMachine (core_of me total s running installed g shown queue held h) gather window visit recovery → s ≡ Operational → t.ring ≡ running.ring →
+      h' ≡ with_visit h (with_turn visit (turn_in window visit t stays fresh)).turns →
+      v ≡ with_turn visit (turn_in window visit t stays fresh) → w ≡ forgotten window (mark_of v) →
+      IsMachine (core_of me total s running installed g shown' queue held h') gather w v recovery
+  installed_on recovery w v t stays fresh shown' h' m s_is e past v_is w_is =
+      let c = core_of me total s running installed g shown queue held h in
+      let turn = turn_in window visit t stays fresh in
+      let p = running_part recovery m s_is in
+      let f : front_of window.held window.ring ≡ front_of held running.ring = front_by c running.ring window visit p in
+      let w_to : w ≡ forgotten window (mark_of (with_turn visit turn)) = w_is ∙ ap (λ (y : TokenHistory A). forgotten window (mark_of y)) v_is in
+      rw (past, w_to, v_is) (installed_turned recovery turn shown' m s_is e (subst (λ k. turn.went.aru ≤ k) f (aru_within window visit t stays fresh)))

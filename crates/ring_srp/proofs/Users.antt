@@ -1,5 +1,5 @@
 -- What a window has of its ring's users' messages, number by number, is what the core says of that ring.
-use Rattle.std.proofs.Common.{◌≡◌, ℕ, zero, suc, ◌+◌, ◌-◌, ◌≤◌, Bool, true, false, List, [], ◌∷◌, ◌++◌, map, filter, filter_map, Option, Some, None, refl, ap, ◌∙◌, sym, arith}
+use Rattle.std.proofs.Common.{◌≡◌, ℕ, zero, suc, ◌+◌, ◌-◌, ◌≤◌, max, Bool, true, false, List, [], ◌∷◌, ◌++◌, map, filter, filter_map, Option, Some, None, refl, ap, ◌∙◌, sym, arith}
 use mathlib.Core.Path.{fun_ext}
 use Rattle.std.specs.Prelude.{nat_lt, if◌then◌else◌}
 use Rattle.std.specs.List.{cons_option}
@@ -77,9 +77,9 @@ agreed_first {A} w below =
     let n : below - below ≡ 0 = omega arith in
     ap (λ j. map (λ (y : Message A). Agreed w.ring y.number y) (filter (λ (x : Message A). is_user x.payload) (filter_map (found w.held w.ring) (numbers_from (below + 1) j)))) n
 
-pub agreed_last : {A : Type 0} (w : Windowed A) (below k front : ℕ) → below ≤ k → front ≤ k → (below ≤ front → k ≤ front) → agreed_in w below k ≡ agreed_in w below front
-agreed_last {A} w below k front l m h =
-    let n : k - below ≡ front - below = omega arith in
+pub agreed_last : {A : Type 0} (w : Windowed A) (below k top : ℕ) → below ≤ k → top ≤ k → k ≤ max below top → agreed_in w below k ≡ agreed_in w below top
+agreed_last {A} w below k top l m h =
+    let n : k - below ≡ top - below = omega arith in
     ap (λ j. map (λ (y : Message A). Agreed w.ring y.number y) (filter (λ (x : Message A). is_user x.payload) (filter_map (found w.held w.ring) (numbers_from (below + 1) j)))) n
 
 -- What the core says

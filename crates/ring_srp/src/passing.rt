@@ -1,10 +1,12 @@
 //! The end of a visit: the token goes on, and the visit is a fact.
 
-ghost use Rattle.std.specs.Prelude.{◌≡◌, ◌≤◌, ◌<◌, ◌+◌, ◌++◌, ◌∷◌, [], true, List, length, IfErr, OnOk};
+ghost use Rattle.std.specs.Prelude.{◌≡◌, ◌≤◌, ◌<◌, ◌+◌, ◌++◌, ◌∷◌, [], true, List, length, Some, IfErr, OnOk};
 ghost use Rattle.std.specs.List.Sorted.{IsStrictlyIncreasing};
 ghost use Rattle.ring_base.specs.Numbers.{max_number};
 ghost use Rattle.ring_base.specs.declared.fault.Fault.TheVariants.{Memory};
+ghost use Rattle.ring_base.specs.declared.state.State.TheVariants.{Recovery as InRecovery, Operational as InOperational};
 ghost use Rattle.ring_payload.specs.declared.content.Payload.{Payload as OnePayload};
+ghost use Rattle.ring_wire.specs.declared.frame.Frame.TheVariants.{Token as TokenFrame};
 ghost use Rattle.ring_window.specs.Held.{front_of};
 ghost use Rattle.ring_window.specs.Windows.{forgotten};
 ghost use Rattle.ring_token.specs.Turns.{turns_of};
@@ -70,22 +72,61 @@ impl<A: Allocator + Copy> Machine<A> {
         ensures core { OnOk result (self.new ≡ passed_on self.old token stays.now fresh.now.value) }
         ensures refused { IfErr result (λ fault. fault ≡ Memory) }
     {
-        let to = ProcSet::only(self.running.members.next(self.me));
-        match &mut self.recovery {
-            Some(recovering) if self.state == State::Recovery => {
-                recovering.set_aside()?;
-                let token = recovering.part.pass(token, stays, count, fresh);
-                self.past = with_visit(&self.past, &recovering.part.visit);
-                self.shown = Some(Sent { to, frame: Frame::Token(token) });
-                Ok(())
-            }
-            _ => {
-                let token = self.kept.pass(token, stays, count, fresh);
-                self.past = with_visit(&self.past, &self.kept.visit);
-                self.shown = Some(Sent { to, frame: Frame::Token(token) });
-                Ok(())
-            }
+        if self.state == State::Recovery {
+            self.pass_running(token, stays, count, fresh)
+        } else {
+            self.pass_installed(token, stays, count, fresh);
+            Ok(())
         }
+    }
+
+    /// In Recovery what the window may forget stands aside first.
+    fn pass_running(
+        &mut self,
+        token: Token,
+        stays: &Requests,
+        count: u64,
+        fresh: &Past<[Payload<A>; 0]>,
+    ) -> Result<(), Fault>
+        requires state { self.old.state ≡ InRecovery }
+        requires ring { token.ring ≡ self.old.running.ring }
+        requires number { token.number < max_number }
+        requires seq { token.seq + count ≤ max_number }
+        requires count { length fresh.now.value ≡ count }
+        requires stays { IsStrictlyIncreasing stays.now }
+        ensures core { OnOk result (self.new ≡ passed_on self.old token stays.now fresh.now.value) }
+        ensures refused { IfErr result (λ fault. fault ≡ Memory) }
+    {
+        let to = ProcSet::only(self.running.members.next(self.me));
+        if let Some(recovering) = &mut self.recovery {
+            recovering.set_aside()?;
+            let token = recovering.part.pass(token, stays, count, fresh);
+            self.past = with_visit(&self.past, &recovering.part.visit);
+            show(&mut self.shown, to, token);
+        }
+        Ok(())
+    }
+
+    /// In Operational the running ring is the installed one.
+    fn pass_installed(
+        &mut self,
+        token: Token,
+        stays: &Requests,
+        count: u64,
+        fresh: &Past<[Payload<A>; 0]>,
+    )
+        requires state { self.old.state ≡ InOperational }
+        requires ring { token.ring ≡ self.old.running.ring }
+        requires number { token.number < max_number }
+        requires seq { token.seq + count ≤ max_number }
+        requires count { length fresh.now.value ≡ count }
+        requires stays { IsStrictlyIncreasing stays.now }
+        ensures { self.new ≡ passed_on self.old token stays.now fresh.now.value }
+    {
+        let to = ProcSet::only(self.running.members.next(self.me));
+        let token = self.kept.pass(token, stays, count, fresh);
+        self.past = with_visit(&self.past, &self.kept.visit);
+        show(&mut self.shown, to, token);
     }
 }
 
@@ -116,6 +157,16 @@ impl<A: Allocator + Copy> Part<A> {
         self.window.forget(self.visit.safe());
         token
     }
+}
+
+/// A token is the last that was sent.
+fn show<A: Allocator + Copy>(shown: &mut Option<Sent<A>>, to: ProcSet, token: Token)
+    ensures { shown.new ≡ Some (record { to = to; frame = TokenFrame token }) }
+{
+    *shown = Some(Sent {
+        to,
+        frame: Frame::Token(token),
+    });
 }
 
 /// A visit whose new messages carry these payloads: `fresh` alone tells a caller's pick of the ghost list of `Visit::visit`,
