@@ -5,3 +5,5 @@ pub mod Histories
 pub mod Proposing
 pub mod Passing
 pub mod Ended
+pub mod Taking
+pub mod Wraps
