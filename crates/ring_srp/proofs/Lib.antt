@@ -2,6 +2,6 @@ pub mod Lent
 pub mod Parts
 pub mod Standing
 pub mod Receivers
-pub mod Holding
+pub mod Helds
 pub mod Wraps
-pub mod Visiting
+pub mod Visits

@@ -38,7 +38,7 @@ use Rattle.ring_core.specs.Views.{front, mark, takes_number, plan}
 use Rattle.ring_core.specs.Visiting.{accepts, repeated, room_at, offers, new_payloads, new_messages, queue_after, to_others, to_next, forwarded, visited}
 use Rattle.ring_srp.specs.declared.recovering.Recovering.{Recovering}
 use Rattle.ring_srp.specs.Machines.{IsPart, IsMachine, IsRecovering, window_of, visits_of, raises_of, is_running, ring_in_use}
-use Rattle.ring_srp.specs.Passing.{passed_on}
+use Rattle.ring_srp.specs.Passing.{went, passed_on}
 use Rattle.ring_srp.proofs.Parts.{turns_twice, raises_twice}
 
 -- What is sent
@@ -295,25 +295,35 @@ payloads_few c t payloads e = subst (λ ps. length ps ≤ room (mark c t.ring) t
 pub seq_fits : (mark seq count : ℕ) → count ≤ room mark seq → seq ≤ max_number → seq + count ≤ max_number
 seq_fits mark seq count l s = omega arith
 
--- once the queue gave what is new, that is held, and the token went on, the core is as the visit leaves it
-pub visited_core : {A : Type 0} (c one two three : Core A) (t : Token) (stays : List ℕ) (payloads fresh : List (Payload A)) → stays ≡ left (mark c t.ring) (holds c.held t.ring) t.requests →
-    payloads ≡ new_payloads c t → fresh ≡ payloads → one ≡ record c { queue = queue_after c.state (room_at c t) c.queue } →
-    two ≡ record one { held = reverse (numbered t.ring one.me t.seq payloads) ++ one.held } → three ≡ passed_on two t stays fresh → three ≡ (visited c t).core
-visited_core {A} c one two three t stays payloads fresh s p f e g h =
-    let q : two ≡ record c { queue = queue_after c.state (room_at c t) c.queue; held = reverse (new_messages c t) ++ c.held } =
-        g ∙ ap (λ (d : Core A). record d { held = reverse (numbered t.ring d.me t.seq payloads) ++ d.held }) e
-        ∙ ap (λ ps. record c { queue = queue_after c.state (room_at c t) c.queue; held = reverse (numbered t.ring c.me t.seq ps) ++ c.held }) p in
-    h ∙ (λ i. passed_on (q i) t (s i) ((f ∙ p) i))
+module _ {A : Type 0} (c one two : Core A) (t : Token) (stays : List ℕ) (payloads : List (Payload A)) where
+  -- the queue gave what is new, and that is held
+  pub visited_held : payloads ≡ new_payloads c t → one ≡ record c { queue = queue_after c.state (room_at c t) c.queue } →
+      two ≡ record one { held = reverse (numbered t.ring one.me t.seq payloads) ++ one.held } →
+      two ≡ record c { queue = queue_after c.state (room_at c t) c.queue; held = reverse (new_messages c t) ++ c.held }
+  visited_held p e g =
+      g ∙ ap (λ (d : Core A). record d { held = reverse (numbered t.ring d.me t.seq payloads) ++ d.held }) e
+      ∙ ap (λ ps. record c { queue = queue_after c.state (room_at c t) c.queue; held = reverse (numbered t.ring c.me t.seq ps) ++ c.held }) p
 
--- and all went out
-pub visited_sends : {A : Type 0} (c one : Core A) (t : Token) (payloads : List (Payload A)) (old a b after : List (Out A)) →
-    one ≡ record c { queue = queue_after c.state (room_at c t) c.queue } → a ≡ old ++ again c t t.requests → payloads ≡ new_payloads c t →
-    b ≡ a ++ sent (to_others one (numbered t.ring one.me t.seq payloads)) → after ≡ b ++ sent (to_next c (forwarded c t) ∷ []) → after ≡ old ++ sent (visited c t).sends
-visited_sends {A} c one t payloads old a b after e f p g h =
-    let x = to_others c (repeated c t) in
-    let y = to_others c (new_messages c t) in
-    let z = to_next c (forwarded c t) ∷ [] in
-    let k : b ≡ a ++ sent y = g ∙ ap (λ (d : Core A). a ++ sent (to_others d (numbered t.ring d.me t.seq payloads))) e ∙ ap (λ ps. a ++ sent (to_others c (numbered t.ring c.me t.seq ps))) p in
-    h ∙ ap (λ o. o ++ sent z) (k ∙ ap (λ o. o ++ sent y) f ∙ sym (sent-push old x y))
-    ∙ sym (sent-push old (x ++ y) z)
-    ∙ ap (λ s. old ++ sent (s ++ z)) (sym (others-append c (repeated c t) (new_messages c t)))
+  -- then the token went on, and the core is as the visit leaves it
+  pub visited_core : (fresh : List (Payload A)) (three : Core A) → two ≡ record c { queue = queue_after c.state (room_at c t) c.queue; held = reverse (new_messages c t) ++ c.held } →
+      stays ≡ left (mark c t.ring) (holds c.held t.ring) t.requests → fresh ≡ new_payloads c t → three ≡ passed_on two t stays fresh → three ≡ (visited c t).core
+  visited_core fresh three q s f h = h ∙ (λ i. passed_on (q i) t (s i) (f i))
+
+  -- the token that went
+  pub visited_token : (count : ℕ) → two ≡ record c { queue = queue_after c.state (room_at c t) c.queue; held = reverse (new_messages c t) ++ c.held } →
+      stays ≡ left (mark c t.ring) (holds c.held t.ring) t.requests → count ≡ length (new_payloads c t) → to_next two (went two t stays count) ≡ to_next c (forwarded c t)
+  visited_token count q s n = λ i. to_next (q i) (went (q i) t (s i) (n i))
+
+  -- and all that went out
+  pub visited_sends : (last : Sent A) (old a b after : List (Out A)) → payloads ≡ new_payloads c t → one ≡ record c { queue = queue_after c.state (room_at c t) c.queue } →
+      a ≡ old ++ again c t t.requests → b ≡ a ++ sent (to_others one (numbered t.ring one.me t.seq payloads)) → last ≡ to_next c (forwarded c t) → after ≡ b ++ sent (last ∷ []) →
+      after ≡ old ++ sent (visited c t).sends
+  visited_sends last old a b after p e f g l h =
+      let x = to_others c (repeated c t) in
+      let y = to_others c (new_messages c t) in
+      let z = to_next c (forwarded c t) ∷ [] in
+      let k : b ≡ a ++ sent y = g ∙ ap (λ (d : Core A). a ++ sent (to_others d (numbered t.ring d.me t.seq payloads))) e ∙ ap (λ ps. a ++ sent (to_others c (numbered t.ring c.me t.seq ps))) p in
+      h ∙ ap (λ s. b ++ sent (s ∷ [])) l
+      ∙ ap (λ o. o ++ sent z) (k ∙ ap (λ o. o ++ sent y) f ∙ sym (sent-push old x y))
+      ∙ sym (sent-push old (x ++ y) z)
+      ∙ ap (λ s. old ++ sent (s ++ z)) (sym (others-append c (repeated c t) (new_messages c t)))
