@@ -2,6 +2,6 @@ pub mod Lent
 pub mod Parts
 pub mod Standing
 pub mod Receivers
-pub mod Helds
+pub mod Held
 pub mod Wraps
 pub mod Visits

@@ -104,7 +104,7 @@ module _ {A : Type 0} (r : Seen A) (held : List (Message A)) (most : ℕ) where
   pub made_full : (before : ℕ) (made : List (Payload A)) → length made ≡ most → IsMade r held most before made → made ≡ take most (left_and_end r held)
   made_full before made n m =
       let rest = left_from r held before ++ end_of r held in
-      sym (take_at made rest most (sym n))
+      sym (take_at made rest most n)
       ∙ ap (take most) (sym (append_assoc made (left_from r held before) (end_of r held)) ∙ ap (λ (ps : List (Payload A)). ps ++ end_of r held) (sym m.all) ∙ sym (all_left r held))
 
   made_whole : (before : ℕ) (made : List (Payload A)) → highest held r.plan.old ≤ before → IsMade r held most before made → left_and_end r held ≡ made ++ end_of r held
