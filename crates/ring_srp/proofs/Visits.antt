@@ -52,7 +52,7 @@ sent-append {A} a b =
 sent-push : {A : Type 0} (outs : List (Out A)) (a b : List (Sent A)) → outs ++ sent (a ++ b) ≡ (outs ++ sent a) ++ sent b
 sent-push outs a b = ap (λ s. outs ++ s) (sent-append a b) ∙ sym (append_assoc outs (sent a) (sent b))
 
-abbrev to_all : {A : Type 0} → Core A → Message A → Sent A
+abbrev pub to_all : {A : Type 0} → Core A → Message A → Sent A
 to_all c x = record { to = less c.running.members (only c.me); frame = MessageFrame x }
 
 others-append : {A : Type 0} (c : Core A) (xs ys : List (Message A)) → to_others c (xs ++ ys) ≡ to_others c xs ++ to_others c ys
@@ -179,10 +179,10 @@ module _ {A : Type 0} (c : Core A) (window : Windowed A) (visit : TokenHistory A
   repeated_all l r = sym (append-nil outs) ∙ ap (λ s. outs ++ s) (sym (at_drop_all (again c t) t.requests i l)) ∙ r
 
   -- nothing of this number goes out
-  pub repeated_less : (n : ℕ) → IsPart c c.running.ring window visit → accepts c t ≡ true → i < length t.requests → n ≡ get_or t.requests i n → kept window n ≡ None →
+  pub repeated_less : (n : ℕ) → IsPart c c.running.ring window visit → accepts c t ≡ true → i < length t.requests → n ≡ get_or t.requests i 0 → kept window n ≡ None →
       AreRepeated c t old outs i → AreRepeated c t old outs (i + 1)
   repeated_less n p a l at k r =
-      let d : drop i t.requests ≡ n ∷ drop (i + 1) t.requests = drop_more t.requests i n l ∙ ap (λ m. m ∷ drop (i + 1) t.requests) (sym at) in
+      let d : drop i t.requests ≡ n ∷ drop (i + 1) t.requests = drop_more t.requests i 0 l ∙ ap (λ m. m ∷ drop (i + 1) t.requests) (sym at) in
       let none : (if nat_lt (mark c t.ring) n then found c.held t.ring n else None) ≡ None = sym (kept_by c window visit t n p a) ∙ k in
       let rest = filter_map (found c.held t.ring) (above_mark (mark c t.ring) (drop (i + 1) t.requests)) in
       let e : again c t (drop i t.requests) ≡ again c t (drop (i + 1) t.requests) =
@@ -190,10 +190,10 @@ module _ {A : Type 0} (c : Core A) (window : Windowed A) (visit : TokenHistory A
       ap (λ s. outs ++ s) (sym e) ∙ r
 
   -- this message goes out
-  pub repeated_more : (n : ℕ) (x : Message A) (after : List (Out A)) → IsPart c c.running.ring window visit → accepts c t ≡ true → i < length t.requests → n ≡ get_or t.requests i n →
+  pub repeated_more : (n : ℕ) (x : Message A) (after : List (Out A)) → IsPart c c.running.ring window visit → accepts c t ≡ true → i < length t.requests → n ≡ get_or t.requests i 0 →
       kept window n ≡ Some x → after ≡ outs ++ sent (to_all c x ∷ []) → AreRepeated c t old outs i → AreRepeated c t old after (i + 1)
   repeated_more n x after p a l at k s r =
-      let d : drop i t.requests ≡ n ∷ drop (i + 1) t.requests = drop_more t.requests i n l ∙ ap (λ m. m ∷ drop (i + 1) t.requests) (sym at) in
+      let d : drop i t.requests ≡ n ∷ drop (i + 1) t.requests = drop_more t.requests i 0 l ∙ ap (λ m. m ∷ drop (i + 1) t.requests) (sym at) in
       let some : (if nat_lt (mark c t.ring) n then found c.held t.ring n else None) ≡ Some x = sym (kept_by c window visit t n p a) ∙ k in
       let rest = filter_map (found c.held t.ring) (above_mark (mark c t.ring) (drop (i + 1) t.requests)) in
       let e : again c t (drop i t.requests) ≡ sent (to_all c x ∷ []) ++ again c t (drop (i + 1) t.requests) =
