@@ -1,6 +1,6 @@
 -- A visit, part by part: what was asked for goes out again, what is new goes out and is held, and what the token then is.
-use Rattle.std.proofs.Common.{◌≡◌, ℕ, zero, suc, ◌+◌, ◌-◌, ◌<◌, ◌≤◌, min, max, Bool, true, false, List, [], ◌∷◌, ◌++◌, length, map, reverse, take, drop, get_or, Option, Some, None, refl, sym, ap, subst, ◌∙◌, arith, append_assoc, inl, inr}
-use Rattle.std.specs.Prelude.{not, ◌&&◌, ◌==◌, nat_lt, nat_le, filter, filter_map, if◌then◌else◌}
+use Rattle.std.proofs.Common.{◌≡◌, ℕ, zero, suc, ◌+◌, ◌-◌, ◌<◌, ◌≤◌, min, max, Bool, true, false, List, [], ◌∷◌, ◌++◌, length, map, reverse, take, drop, get_or, Option, Some, None, Result, Ok, Err, refl, sym, ap, subst, ◌∙◌, arith, append_assoc, inl, inr}
+use Rattle.std.specs.Prelude.{not, ◌&&◌, ◌==◌, nat_lt, nat_le, filter, filter_map, if◌then◌else◌, OnOk}
 use Rattle.std.specs.List.{cons_option}
 use Rattle.std.specs.List.Sorted.{IsStrictlyIncreasing}
 use Rattle.std.proofs.lemmas.Bool.{cases_Bool, cond-true, cond-false, and_parts, ltb-true, leb-true, true≢false}
@@ -40,6 +40,10 @@ use Rattle.ring_srp.specs.declared.recovering.Recovering.{Recovering}
 use Rattle.ring_srp.specs.Machines.{IsPart, IsMachine, IsRecovering, window_of, visits_of, raises_of, is_running, ring_in_use}
 use Rattle.ring_srp.specs.Passing.{went, passed_on}
 use Rattle.ring_srp.proofs.Parts.{turns_twice, raises_twice}
+
+pub if_ok : {T E P : Type 0} (r : Result T E) → P → OnOk r P
+if_ok (Ok x) p = p
+if_ok (Err e) p = tt
 
 -- What is sent
 

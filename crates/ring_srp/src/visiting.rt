@@ -87,10 +87,10 @@ impl<A: Allocator + Copy> Machine<A> {
         ensures refused { IfErr result (λ fault. fault ≡ Memory) }
     {
         let room = room(self.part().visit.safe(), token.seq);
-        if self.state == State::Recovery {
-            self.wraps(room)
-        } else {
-            take_packed(self.alloc, &mut self.queue, room)
+        match self.state {
+            State::Recovery => self.wraps(room),
+            State::Operational => take_packed(self.alloc, &mut self.queue, room),
+            State::Gather | State::Commit | State::Stopped => Ok(Vec::new(self.alloc)),
         }
     }
 
