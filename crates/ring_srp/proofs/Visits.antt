@@ -101,21 +101,14 @@ reached_in Gather c recovery r o f k = absurd (true≢false (sym r))
 reached_in Commit c recovery r o f k = absurd (true≢false (sym r))
 reached_in Stopped c recovery r o f k = absurd (true≢false (sym r))
 
--- an accepted token is of it, and not behind its safe mark
-pub record Visits {A : Type 0} (c : Core A) (t : Token) : Type 0 where
-  pub used : t.ring ≡ ring_in_use c.state c
-  pub behind : mark c t.ring ≤ t.seq
-
-pub visiting : {A : Type 0} (c : Core A) (gather : Gatherer) (window : Windowed A) (visit : TokenHistory A) (recovery : Option (Recovering A)) (t : Token) →
-    IsMachine c gather window visit recovery → is_running c.state ≡ true → accepts c t ≡ true → Visits c t
-visiting c gather window visit recovery t m r a =
+-- an accepted token is not behind its safe mark
+pub machine_behind : {A : Type 0} (c : Core A) (gather : Gatherer) (window : Windowed A) (visit : TokenHistory A) (recovery : Option (Recovering A)) (t : Token) →
+    IsMachine c gather window visit recovery → is_running c.state ≡ true → accepts c t ≡ true → mark c t.ring ≤ t.seq
+machine_behind c gather window visit recovery t m r a =
     let p = passing c t a in
     let reached : mark c c.running.ring ≤ front c c.running.ring = reached_in c.state c recovery r m.same m.recovering m.kept.reached in
     let here : mark c t.ring ≤ front c t.ring = subst (λ (q : RingId). mark c q ≤ front c q) (sym p.ring) reached in
-    record {
-      used = p.ring ∙ sym (in_use c.state c r m.same);
-      behind = omega (arith, here, front_short c.held t.ring, p.high);
-    }
+    omega (arith, here, front_short c.held t.ring, p.high)
 
 -- the same, where what is kept of the ring is at hand
 pub mark_behind : {A : Type 0} (c : Core A) (window : Windowed A) (visit : TokenHistory A) (t : Token) → IsPart c c.running.ring window visit → accepts c t ≡ true →
@@ -266,6 +259,11 @@ module _ {A : Type 0} (c : Core A) (t : Token) (ps : List (Payload A)) (p : Payl
 
   pub news_more : n ≡ t.seq + length ps → news c t (ps ++ p ∷ []) ≡ news c t ps ++ record { ring = t.ring; number = n + 1; sender = c.me; payload = p } ∷ []
   news_more e = numbered-push t.ring c.me t.seq ps p (n + 1) (omega arith)
+
+  -- messages of its ring are taken still
+  pub used_still : (gather : Gatherer) (window : Windowed A) (visit : TokenHistory A) (recovery : Option (Recovering A)) → IsMachine c gather window visit recovery →
+      is_running c.state ≡ true → accepts c t ≡ true → t.ring ≡ ring_in_use c.state (holding c t ps)
+  used_still gather window visit recovery m r a = (passing c t a).ring ∙ sym (in_use c.state (holding c t ps) r m.same)
 
   -- one more is held
   pub holding_more : (x : Message A) (d : Core A) → n ≡ t.seq + length ps → x ≡ record { ring = t.ring; number = n + 1; sender = c.me; payload = p } → d ≡ holding c t ps →
