@@ -13,3 +13,4 @@ pub mod Turned
 pub mod Aside
 pub mod Held
 pub mod Wraps
+pub mod Visits
