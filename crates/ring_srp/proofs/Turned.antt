@@ -115,6 +115,36 @@ aru_within w h t stays fresh = elim (aru_step h.me (front_of w.held w.ring) (t.s
 abbrev pub after_turn : {A : Type 0} → Core A → Turn A → Option (Sent A) → Core A
 after_turn c v x = record c { turns = v ∷ c.turns; shown = x }
 
+module _ {A : Type 0} (c : Core A) (ring : RingId) (w : Windowed A) (h : TokenHistory A) (p : IsPart c ring w h) where
+  -- the visit is the one that the core makes
+  pub turn_is : (t : Token) (stays : List ℕ) (fresh : List (Payload A)) → t.ring ≡ ring →
+      turn_in w h t stays fresh ≡ turn_by c.me (front_of c.held t.ring) fresh (requests_after stays (missing c.held t.ring (mark c t.ring) (t.seq + length fresh))) t
+  turn_is t stays fresh e =
+      let upto = t.seq + length fresh in
+      let me : h.me ≡ c.me = ap (λ (y : TokenHistory A). y.me) p.visit_is in
+      let f : front_of w.held w.ring ≡ front_of c.held t.ring = front_by c ring w h p ∙ sym (ap (front_of c.held) e) in
+      let lacks : missing w.held w.ring w.mark upto ≡ missing c.held t.ring (mark c t.ring) upto =
+      ap (λ (u : Windowed A). missing u.held u.ring u.mark upto) p.window_is ∙ missing_of_ring c.held ring (mark c ring) upto ∙ sym (ap (λ (q : RingId). missing c.held q (mark c q) upto) e) in
+      ap (λ n. turn_by n (front_of w.held w.ring) fresh (requests_after stays (missing w.held w.ring w.mark upto)) t) me
+      ∙ ap (λ n. turn_by c.me n fresh (requests_after stays (missing w.held w.ring w.mark upto)) t) f
+      ∙ ap (λ ns. turn_by c.me (front_of c.held t.ring) fresh (requests_after stays ns) t) lacks
+
+  -- what a visit asks of it
+  pub part_ring : h.ring ≡ ring
+  part_ring = ap (λ (y : TokenHistory A). y.ring) p.visit_is
+
+  pub part_reached : mark_of h ≤ front_of w.held w.ring
+  part_reached = omega (arith, ap mark_of p.visit_is ∙ mark_of_visits c.me c.turns c.raises ring, front_by c ring w h p, p.reached)
+
+  pub part_led : last_aru (turns_of h.ring h.turns) ≤ front_of w.held w.ring
+  part_led = omega (arith, ap (λ (y : TokenHistory A). last_aru (turns_of y.ring y.turns)) p.visit_is ∙ ap (λ (vs : List (Turn A)). last_aru vs) (turns_twice c.turns ring), front_by c ring w h p, p.led)
+
+  -- so the core that it leaves is the one that the token passed
+  pub passed_is : (t : Token) (stays : List ℕ) (fresh : List (Payload A)) → t.ring ≡ ring →
+      after_turn c (turn_in w h t stays fresh) (Some (record { to = only (next c.running.members c.me); frame = TokenFrame (turn_in w h t stays fresh).went })) ≡ passed_on c t stays fresh
+  passed_is t stays fresh e =
+      ap (λ (v : Turn A). after_turn c v (Some (record { to = only (next c.running.members c.me); frame = TokenFrame v.went }))) (turn_is t stays fresh e)
+
 module _ {A : Type 0} (c : Core A) (ring : RingId) (w : Windowed A) (h : TokenHistory A) (v : Turn A) (x : Option (Sent A)) (p : IsPart c ring w h) where
   -- of the ring that is visited
   pub part_turned : v.came.ring ≡ ring → v.went.aru ≤ front c ring → IsPart (after_turn c v x) ring (forgotten w (mark_of (with_turn h v))) (with_turn h v)
@@ -151,35 +181,6 @@ module _ {A : Type 0} (c : Core A) (ring : RingId) (w : Windowed A) (h : TokenHi
         near = subst (λ n. highest c.held ring ≤ n + 256) (sym m) p.near;
         led = led_unturned v c.turns ring (front c ring) e p.led;
       }
-
-  -- the visit is the one that the core makes
-  pub turn_is : (t : Token) (stays : List ℕ) (fresh : List (Payload A)) → t.ring ≡ ring →
-      turn_in w h t stays fresh ≡ turn_by c.me (front_of c.held t.ring) fresh (requests_after stays (missing c.held t.ring (mark c t.ring) (t.seq + length fresh))) t
-  turn_is t stays fresh e =
-      let upto = t.seq + length fresh in
-      let me : h.me ≡ c.me = ap (λ (y : TokenHistory A). y.me) p.visit_is in
-      let f : front_of w.held w.ring ≡ front_of c.held t.ring = front_by c ring w h p ∙ sym (ap (front_of c.held) e) in
-      let lacks : missing w.held w.ring w.mark upto ≡ missing c.held t.ring (mark c t.ring) upto =
-      ap (λ (u : Windowed A). missing u.held u.ring u.mark upto) p.window_is ∙ missing_of_ring c.held ring (mark c ring) upto ∙ sym (ap (λ (q : RingId). missing c.held q (mark c q) upto) e) in
-      ap (λ n. turn_by n (front_of w.held w.ring) fresh (requests_after stays (missing w.held w.ring w.mark upto)) t) me
-      ∙ ap (λ n. turn_by c.me n fresh (requests_after stays (missing w.held w.ring w.mark upto)) t) f
-      ∙ ap (λ ns. turn_by c.me (front_of c.held t.ring) fresh (requests_after stays ns) t) lacks
-
-  -- what a visit asks of it
-  pub part_ring : h.ring ≡ ring
-  part_ring = ap (λ (y : TokenHistory A). y.ring) p.visit_is
-
-  pub part_reached : mark_of h ≤ front_of w.held w.ring
-  part_reached = omega (arith, ap mark_of p.visit_is ∙ mark_of_visits c.me c.turns c.raises ring, front_by c ring w h p, p.reached)
-
-  pub part_led : last_aru (turns_of h.ring h.turns) ≤ front_of w.held w.ring
-  part_led = omega (arith, ap (λ (y : TokenHistory A). last_aru (turns_of y.ring y.turns)) p.visit_is ∙ ap (λ (vs : List (Turn A)). last_aru vs) (turns_twice c.turns ring), front_by c ring w h p, p.led)
-
-  -- so the core that it leaves is the one that the token passed
-  pub passed_is : (t : Token) (stays : List ℕ) (fresh : List (Payload A)) → t.ring ≡ ring →
-      after_turn c (turn_in w h t stays fresh) (Some (record { to = only (next c.running.members c.me); frame = TokenFrame (turn_in w h t stays fresh).went })) ≡ passed_on c t stays fresh
-  passed_is t stays fresh e =
-      ap (λ (v : Turn A). after_turn c v (Some (record { to = only (next c.running.members c.me); frame = TokenFrame v.went }))) (turn_is t stays fresh e)
 
 -- Recovery
 
@@ -340,7 +341,7 @@ module _ {A : Type 0} (me total : ℕ) (s : State) (running installed : Configur
       ap (λ (y : History A). core_of me total s running installed g shown' queue held y) past
       ∙ ap (λ (x : Option (Sent A)). core_of me total s running installed g x queue held (with_visit h (with_turn v (turn_in w v t stays fresh)).turns))
       (is ∙ ap (λ n. sent n went) to_is ∙ ap (sent (only (next running.members me))) went_is)
-      ∙ passed_is (core_of me total s running installed g shown queue held h) running.ring w v (turn_in w v t stays fresh) shown p t stays fresh e
+      ∙ passed_is (core_of me total s running installed g shown queue held h) running.ring w v p t stays fresh e
 
   -- what the tie says of it, in Recovery
   pub running_on : (r r' r'' : Recovering A) (t : Token) (stays : List ℕ) (fresh : List (Payload A)) (shown' : Option (Sent A)) (h' : History A) →

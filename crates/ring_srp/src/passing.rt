@@ -72,11 +72,12 @@ impl<A: Allocator + Copy> Machine<A> {
         ensures core { OnOk result (self.new ≡ passed_on self.old token stays.now fresh.now.value) }
         ensures refused { IfErr result (λ fault. fault ≡ Memory) }
     {
-        if self.state == State::Recovery {
-            self.pass_running(token, stays, count, fresh)
-        } else {
-            self.pass_installed(token, stays, count, fresh);
-            Ok(())
+        match self.state {
+            State::Recovery => self.pass_running(token, stays, count, fresh),
+            _ => {
+                self.pass_installed(token, stays, count, fresh);
+                Ok(())
+            }
         }
     }
 
