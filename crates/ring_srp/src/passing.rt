@@ -14,12 +14,11 @@ ghost use Rattle.ring_token.specs.Visits.{token_after};
 ghost use Rattle.ring_token.specs.Histories.{turn_by, with_turn, mark_of, last_aru};
 ghost use Rattle.ring_core.specs.Giving.{sent};
 ghost use Rattle.ring_core.specs.Visiting.{to_next};
-ghost use Rattle.ring_srp.specs.Histories.{with_visit};
 ghost use Rattle.ring_srp.specs.Machines.{is_running};
 ghost use Rattle.ring_srp.specs.Passing.{went, passed_on};
 ghost use Rattle.ring_srp.specs.Setting.{turn_in};
 
-use crate::history::{Story, with_visit};
+use crate::history::with_visit;
 use crate::machine::Machine;
 use crate::part::Part;
 use crate::sent::Sent;

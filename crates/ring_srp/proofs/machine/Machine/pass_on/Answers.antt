@@ -1,5 +1,5 @@
 -- Where a ring runs that is not in Recovery, it is installed.
-use Rattle.std.proofs.Common.{◌≡◌, true, inl, inr, ap, sym, subst, ◌∙◌, arith}
+use Rattle.std.proofs.Common.{◌≡◌, inl, inr, ap, sym, ◌∙◌, arith}
 use Rattle.ring_base.specs.declared.state.State.TheVariants.{Operational}
 use Rattle.ring_core.specs.State.{Core}
 use Rattle.ring_srp.specs.Machines.{is_running}

@@ -19,7 +19,8 @@ set_aside-requires-clause-mark g c =
     let r = c.in-Some.recovering in
     let core = core_of s.me s.fixed.count s.state s.running s.installed s.gather.gathering s.shown s.queue.items s.held.value s.past.value in
     let is : s.state ≡ Recovery = ap (λ (x : Core g.row.A.Denot). x.state) c.self.view_is ∙ c.requires.state in
-    let m : IsMachine core s.gather s.kept.window s.kept.visit (Some r) = subst (λ (q : Option (Recovering g.row.A.Denot)). IsMachine core s.gather s.kept.window s.kept.visit q) c.in-Some.is c.self.invariant in
+    let m : IsMachine core s.gather s.kept.window s.kept.visit (Some r) = subst
+    (λ (q : Option (Recovering g.row.A.Denot)). IsMachine core s.gather s.kept.window s.kept.visit q) c.in-Some.is c.self.invariant in
     aside_near core r (m.recovering is)
 
 pub set_aside-requires-clause-aside : goal.set_aside-requires-clause-aside
@@ -28,7 +29,8 @@ set_aside-requires-clause-aside g c =
     let r = c.in-Some.recovering in
     let core = core_of s.me s.fixed.count s.state s.running s.installed s.gather.gathering s.shown s.queue.items s.held.value s.past.value in
     let is : s.state ≡ Recovery = ap (λ (x : Core g.row.A.Denot). x.state) c.self.view_is ∙ c.requires.state in
-    let m : IsMachine core s.gather s.kept.window s.kept.visit (Some r) = subst (λ (q : Option (Recovering g.row.A.Denot)). IsMachine core s.gather s.kept.window s.kept.visit q) c.in-Some.is c.self.invariant in
+    let m : IsMachine core s.gather s.kept.window s.kept.visit (Some r) = subst
+    (λ (q : Option (Recovering g.row.A.Denot)). IsMachine core s.gather s.kept.window s.kept.visit q) c.in-Some.is c.self.invariant in
     aside_there core r (m.recovering is)
 
 pub invariant_of-self : goal.invariant_of-self
@@ -37,8 +39,10 @@ invariant_of-self g c =
     let r = c.in-Some.recovering in
     let core = core_of s.me s.fixed.count s.state s.running s.installed s.gather.gathering s.shown s.queue.items s.held.value s.past.value in
     let is : s.state ≡ Recovery = ap (λ (x : Core g.row.A.Denot). x.state) c.self.view_is ∙ c.requires.state in
-    let m : IsMachine core s.gather s.kept.window s.kept.visit (Some r) = subst (λ (q : Option (Recovering g.row.A.Denot)). IsMachine core s.gather s.kept.window s.kept.visit q) c.in-Some.is c.self.invariant in
-    aside_on s.me s.fixed.count s.state s.running s.installed s.gather.gathering s.shown s.queue.items s.held.value s.past.value s.gather s.kept.window s.kept.visit r c.set_aside.new.self m is c.set_aside.ensures.more
+    let m : IsMachine core s.gather s.kept.window s.kept.visit (Some r) = subst
+    (λ (q : Option (Recovering g.row.A.Denot)). IsMachine core s.gather s.kept.window s.kept.visit q) c.in-Some.is c.self.invariant in
+    aside_on s.me s.fixed.count s.state s.running s.installed s.gather.gathering s.shown s.queue.items s.held.value s.past.value s.gather s.kept.window
+    s.kept.visit r c.set_aside.new.self m is c.set_aside.ensures.more
 
 pub pass-token-requires : goal.pass-token-requires
 pass-token-requires g c =
@@ -46,17 +50,30 @@ pass-token-requires g c =
     let r = c.in-Some.recovering in
     let core = core_of s.me s.fixed.count s.state s.running s.installed s.gather.gathering s.shown s.queue.items s.held.value s.past.value in
     let is : s.state ≡ Recovery = ap (λ (x : Core g.row.A.Denot). x.state) c.self.view_is ∙ c.requires.state in
-    let m : IsMachine core s.gather s.kept.window s.kept.visit (Some r) = subst (λ (q : Option (Recovering g.row.A.Denot)). IsMachine core s.gather s.kept.window s.kept.visit q) c.in-Some.is c.self.invariant in
+    let m : IsMachine core s.gather s.kept.window s.kept.visit (Some r) = subst
+    (λ (q : Option (Recovering g.row.A.Denot)). IsMachine core s.gather s.kept.window s.kept.visit q) c.in-Some.is c.self.invariant in
     let ring : c.args.token.ring ≡ s.running.ring = c.requires.ring ∙ sym (ap (λ (x : Core g.row.A.Denot). x.running.ring) c.self.view_is) in
     let q = c.set_aside.new.self.part in
-    let p = (recovers_aside core r c.set_aside.new.self (m.recovering is) c.set_aside.ensures.more).part in
-    (
+    let p = (recovers_aside core r c.set_aside.new.self (m.recovering is) c.set_aside.ensures.more).part in (
       omega arith,
       (
         ring ∙ sym (part_ring core s.running.ring q.window q.visit p),
         (
           c.requires.number,
-          (c.requires.seq, (c.requires.count, (c.requires.stays, (part_reached core s.running.ring q.window q.visit p, part_led core s.running.ring q.window q.visit p)))),
+          (
+            c.requires.seq,
+            (
+              c.requires.count,
+              (
+                c.requires.stays,
+                (
+                  part_reached core s.running.ring q.window q.visit p,
+                  part_led core s.running.ring
+                      q.window q.visit p,
+                ),
+              ),
+            ),
+          ),
         ),
       ),
     )
@@ -67,11 +84,13 @@ invariant_of-self-in-Some g c =
     let r = c.in-Some.recovering in
     let core = core_of s.me s.fixed.count s.state s.running s.installed s.gather.gathering s.shown s.queue.items s.held.value s.past.value in
     let is : s.state ≡ Recovery = ap (λ (x : Core g.row.A.Denot). x.state) c.self.view_is ∙ c.requires.state in
-    let m : IsMachine core s.gather s.kept.window s.kept.visit (Some r) = subst (λ (q : Option (Recovering g.row.A.Denot)). IsMachine core s.gather s.kept.window s.kept.visit q) c.in-Some.is c.self.invariant in
+    let m : IsMachine core s.gather s.kept.window s.kept.visit (Some r) = subst
+    (λ (q : Option (Recovering g.row.A.Denot)). IsMachine core s.gather s.kept.window s.kept.visit q) c.in-Some.is c.self.invariant in
     let ring : c.args.token.ring ≡ s.running.ring = c.requires.ring ∙ sym (ap (λ (x : Core g.row.A.Denot). x.running.ring) c.self.view_is) in
     let r' = c.set_aside.new.self in
     let e = c.pass-token.ensures in
-    running_on s.me s.fixed.count s.state s.running s.installed s.gather.gathering s.shown s.queue.items s.held.value s.past.value s.gather s.kept.window s.kept.visit r r' _ c.args.token c.args.stays.now c.args.fresh.now.value
+    running_on s.me s.fixed.count s.state s.running s.installed s.gather.gathering s.shown s.queue.items s.held.value s.past.value s.gather s.kept.window
+    s.kept.visit r r' _ c.args.token c.args.stays.now c.args.fresh.now.value
     c.show.new.shown c.with_visit.result.value m is c.set_aside.ensures.more c.in_ok-set_aside.ensures.all ring
     (c.with_visit.ensures ∙ ap (λ (y : TokenHistory g.row.A.Denot). with_visit s.past.value y.turns) e.visit)
     (record {
@@ -89,12 +108,15 @@ returns-in_ok-set_aside-clause-core g c =
     let r = c.in-Some.recovering in
     let core = core_of s.me s.fixed.count s.state s.running s.installed s.gather.gathering s.shown s.queue.items s.held.value s.past.value in
     let is : s.state ≡ Recovery = ap (λ (x : Core g.row.A.Denot). x.state) c.self.view_is ∙ c.requires.state in
-    let m : IsMachine core s.gather s.kept.window s.kept.visit (Some r) = subst (λ (q : Option (Recovering g.row.A.Denot)). IsMachine core s.gather s.kept.window s.kept.visit q) c.in-Some.is c.self.invariant in
+    let m : IsMachine core s.gather s.kept.window s.kept.visit (Some r) = subst
+    (λ (q : Option (Recovering g.row.A.Denot)). IsMachine core s.gather s.kept.window s.kept.visit q) c.in-Some.is c.self.invariant in
     let ring : c.args.token.ring ≡ s.running.ring = c.requires.ring ∙ sym (ap (λ (x : Core g.row.A.Denot). x.running.ring) c.self.view_is) in
     let q = c.set_aside.new.self.part in
     let p = (recovers_aside core r c.set_aside.new.self (m.recovering is) c.set_aside.ensures.more).part in
-    passed_by s.me s.fixed.count s.state s.running s.installed s.gather.gathering s.shown s.queue.items s.held.value s.past.value s.gather s.kept.window s.kept.visit
-    q.window q.visit c.args.token c.args.stays.now c.args.fresh.now.value c.only-to.result c.pass-token.result c.show.new.shown c.with_visit.result.value p ring
+    passed_by s.me s.fixed.count s.state s.running s.installed s.gather.gathering s.shown s.queue.items s.held.value s.past.value s.gather s.kept.window
+    s.kept.visit
+    q.window q.visit c.args.token c.args.stays.now c.args.fresh.now.value c.only-to.result c.pass-token.result c.show.new.shown c.with_visit.result.value
+    p ring
     (c.with_visit.ensures ∙ ap (λ (y : TokenHistory g.row.A.Denot). with_visit s.past.value y.turns) c.pass-token.ensures.visit) c.show.ensures
     (c.only-to.ensures.value ∙ ap only c.next.ensures.value) c.pass-token.ensures.token
     ∙ ap (λ (x : Core g.row.A.Denot). passed_on x c.args.token c.args.stays.now c.args.fresh.now.value) c.self.view_is
@@ -104,4 +126,5 @@ returns-in_default-clause-core g c =
     let s = c.self.inside in
     let core = core_of s.me s.fixed.count s.state s.running s.installed s.gather.gathering s.shown s.queue.items s.held.value s.past.value in
     let is : s.state ≡ Recovery = ap (λ (x : Core g.row.A.Denot). x.state) c.self.view_is ∙ c.requires.state in
-    absurd (subst (λ (q : Option (Recovering g.row.A.Denot)). IsRecovering core q) (none_from s.recovery c.in_default.not-Some) (c.self.invariant.recovering is))
+    absurd (subst (λ (q : Option (Recovering g.row.A.Denot)). IsRecovering core q) (none_from s.recovery c.in_default.not-Some)
+    (c.self.invariant.recovering is))
