@@ -5,3 +5,4 @@ pub mod Histories
 pub mod Proposing
 pub mod Passing
 pub mod Ended
+pub mod Learning
