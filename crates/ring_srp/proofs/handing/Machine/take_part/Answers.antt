@@ -9,7 +9,7 @@ use Rattle.ring_core.specs.Views.{own_entry}
 use Rattle.ring_srp.specs.Histories.{with_ring}
 use Rattle.ring_srp.specs.Machines.{History, core_of}
 use Rattle.ring_srp.proofs.Standing.{into_commit}
-use Rattle.ring_srp.proofs.machine.Machine.take_part.Goals as goal
+use Rattle.ring_srp.proofs.handing.Machine.take_part.Goals as goal
 
 pub invariant_of-self : goal.invariant_of-self
 invariant_of-self g c =

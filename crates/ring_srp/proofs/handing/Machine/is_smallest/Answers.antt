@@ -6,7 +6,7 @@ use Rattle.ring_base.specs.Processors.{nobody, smallest}
 use Rattle.ring_base.specs.Elements.{elements-nobody}
 use Rattle.ring_join.specs.Gathering.{candidates}
 use Rattle.ring_core.specs.State.{Core}
-use Rattle.ring_srp.proofs.machine.Machine.is_smallest.Goals as goal
+use Rattle.ring_srp.proofs.handing.Machine.is_smallest.Goals as goal
 
 not_zero : (n : ℕ) → 1 ≤ n → false ≡ (0 == n)
 not_zero n h = grind (arith, nat_tests)

@@ -6,8 +6,8 @@ use Rattle.ring_base.specs.Processors.{has}
 use Rattle.ring_window.proofs.Rings.{ring_same}
 use Rattle.ring_core.specs.Views.{takes_number}
 use Rattle.ring_srp.proofs.Parts.{new_by}
-use Rattle.ring_srp.proofs.machine.Machine.takes_in.Goals as goal
-use Rattle.ring_srp.proofs.machine.Machine.takes_in.Goals.{then-eq, else-eq}
+use Rattle.ring_srp.proofs.deciding.Machine.takes_in.Goals as goal
+use Rattle.ring_srp.proofs.deciding.Machine.takes_in.Goals.{then-eq, else-eq}
 
 pub returns-then-contains : goal.returns-then-contains
 returns-then-contains g c = elim c.if-eq.branch [

@@ -2,7 +2,7 @@
 use Rattle.std.proofs.Common.{ap, ◌∙◌}
 use Rattle.ring_token.specs.Turns.{is_accepted}
 use Rattle.ring_srp.proofs.Parts.{accepted_by}
-use Rattle.ring_srp.proofs.machine.Machine.accepts.Goals as goal
+use Rattle.ring_srp.proofs.deciding.Machine.accepts.Goals as goal
 
 pub returns : goal.returns
 returns g c =

@@ -3,7 +3,7 @@ use Rattle.std.proofs.Common.{ap, ◌∙◌, sym}
 use Rattle.ring_join.specs.Gatherers.{Gatherer}
 use Rattle.ring_core.specs.State.{Core, floor}
 use Rattle.ring_srp.proofs.Standing.{into_gather}
-use Rattle.ring_srp.proofs.machine.Machine.regather.Goals as goal
+use Rattle.ring_srp.proofs.gathering.Machine.regather.Goals as goal
 
 pub invariant_of-self : goal.invariant_of-self
 invariant_of-self g c =

@@ -4,7 +4,7 @@ use Rattle.ring_commit.specs.Rounds.{is_second_round}
 use Rattle.ring_wire.specs.declared.entries.CommitEntry.{CommitEntry}
 use Rattle.ring_core.specs.State.{Core}
 use Rattle.ring_core.specs.Views.{own_entry}
-use Rattle.ring_srp.proofs.machine.Machine.takes_second_round.Goals as goal
+use Rattle.ring_srp.proofs.deciding.Machine.takes_second_round.Goals as goal
 
 pub returns : goal.returns
 returns g c =

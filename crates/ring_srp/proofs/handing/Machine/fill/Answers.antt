@@ -10,7 +10,7 @@ use Rattle.ring_core.specs.Giving.{sent}
 use Rattle.ring_core.specs.Handing.{joined}
 use Rattle.ring_core.specs.Views.{own_entry}
 use Rattle.ring_srp.proofs.Receivers.{filled_by, first_some, receiver_member}
-use Rattle.ring_srp.proofs.machine.Machine.fill.Goals as goal
+use Rattle.ring_srp.proofs.handing.Machine.fill.Goals as goal
 
 same_token : (a b : CommitToken) → (a.ring ≡ b.ring) × ((a.members ≡ b.members) × ((a.hop ≡ b.hop) × (a.entries ≡ b.entries))) → a ≡ b
 same_token a b e = λ i. record { ring = e.0 i; members = e.1.0 i; hop = e.1.1.0 i; entries = e.1.1.1 i }
