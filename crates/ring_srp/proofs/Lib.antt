@@ -2,3 +2,4 @@ pub mod Lent
 pub mod Parts
 pub mod Standing
 pub mod Receivers
+pub mod Learning

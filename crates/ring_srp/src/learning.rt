@@ -43,18 +43,23 @@ impl<A: Allocator + Copy> Machine<A> {
         let to = ProcSet::only(receiver(&went));
         let frame = Frame::Commit(CommitBox::new(self.alloc, went)?);
         send_copy(outs, to, &frame)?;
-        self.recover(token, plan, window);
-        self.shown = Some(Sent { to, frame });
+        self.recover(token, plan, window, Sent { to, frame });
         Ok(())
     }
 
     /// Recovers by a full commit token from now on: by its plan, with a window of the running ring. What a member from
     /// the old ring reported safe there is safe.
-    fn recover(&mut self, token: &CommitToken, plan: Plan<A>, window: Window<A>)
+    fn recover(
+        &mut self,
+        token: &CommitToken,
+        plan: Plan<A>,
+        window: Window<A>,
+        shown: Sent<A>,
+    )
         requires allowed { LearnAllowed self.old token.now }
         requires plan { plan ≡ begun self.old.me (plan_at self.old token.now) }
         requires window { window ≡ opened self.old.running.ring }
-        ensures { self.new ≡ record self.old { state = InRecovery; raises = record { ring = self.old.installed.ring; mark = safe_at self.old token.now } ∷ self.old.raises; plans = token.now ∷ self.old.plans } }
+        ensures { self.new ≡ record self.old { state = InRecovery; shown = Some shown; raises = record { ring = self.old.installed.ring; mark = safe_at self.old token.now } ∷ self.old.raises; plans = token.now ∷ self.old.plans } }
     {
         let safe = plan.safe();
         let past = with_plan(&self.past, token, self.installed.ring, safe);
@@ -62,6 +67,7 @@ impl<A: Allocator + Copy> Machine<A> {
         self.kept.visit.raise(safe);
         self.kept.window.forget(safe);
         self.state = State::Recovery;
+        self.shown = Some(shown);
         self.past = past;
         self.recovery = Some(Recovering {
             part: Part { window, visit },
