@@ -3,3 +3,4 @@ pub mod Parts
 pub mod Standing
 pub mod Receivers
 pub mod Learning
+pub mod Installing
