@@ -1,9 +1,9 @@
 -- The running ring is installed: what is kept of it is what is kept of the installed ring from now on, and what it gives comes in parts.
 use Rattle.std.proofs.Common.{◌≡◌, ℕ, zero, suc, ◌+◌, ◌-◌, ◌<◌, ◌≤◌, Bool, true, false, List, [], ◌∷◌, ◌++◌, map, filter, filter_map, Option, Some, None, refl, ap, ◌∙◌, sym, subst, arith, append_assoc}
 use Rattle.std.specs.Prelude.{nat_lt}
-use Rattle.std.specs.List.{AllByRecursion}
+use Rattle.std.specs.List.{AllByRecursion, cons_option}
 use Rattle.std.proofs.lemmas.Bool.{cond_both, true≢false}
-use Rattle.std.proofs.lemmas.List.{map-append}
+use Rattle.std.proofs.lemmas.List.{map-append, append-nil}
 use Rattle.std.proofs.lemmas.List.Elements.{filter-append, filter_map-append}
 use Rattle.ring_base.proofs.Each.{each-weaker}
 use Rattle.ring_base.specs.Numbers.{numbers_from}
@@ -153,16 +153,41 @@ rests_by {A} c w e l =
     ∙ ap (λ (xs : List (Message A)). filter_map (found c.held old) (transitional_part p) ++ xs) two
     ∙ sym (filter_map-append (found c.held old) (transitional_part p) (past_gap_part p c.held))
 
+-- what the numbers give in the transitional configuration
+abbrev pub rest_of : {A : Type 0} → Windowed A → List ℕ → List (Out A)
+rest_of w ns = map (λ (x : Message _). Rest x.ring x.number x) (filter (λ (x : Message _). is_user x.payload) (filter_map (kept w) ns))
+
+rest_parts : {A : Type 0} (w : Windowed A) (ms ns : List ℕ) → rest_of w (ms ++ ns) ≡ rest_of w ms ++ rest_of w ns
+rest_parts {A} w ms ns =
+    let out = λ (x : Message A). Rest x.ring x.number x in
+    let users_only = λ (x : Message A). is_user x.payload in
+    let a = filter_map (kept w) ms in
+    let b = filter_map (kept w) ns in
+    ap (λ (xs : List (Message A)). map out (filter users_only xs)) (filter_map-append (kept w) ms ns)
+    ∙ ap (map out) (filter-append users_only a b)
+    ∙ map-append out (filter users_only a) (filter users_only b)
+
+-- one number more
+pub rest_some : {A : Type 0} (w : Windowed A) (ns : List ℕ) (n : ℕ) (x : Message A) → kept w n ≡ Some x
+    → rest_of w (ns ++ n ∷ []) ≡ rest_of w ns ++ map (λ (y : Message A). Rest y.ring y.number y) (filter (λ (y : Message A). is_user y.payload) (x ∷ []))
+rest_some {A} w ns n x h =
+    rest_parts w ns (n ∷ [])
+    ∙ ap (λ (o : Option (Message A)). rest_of w ns ++ map (λ (y : Message A). Rest y.ring y.number y) (filter (λ (y : Message A). is_user y.payload) (cons_option o []))) h
+
+pub rest_none : {A : Type 0} (w : Windowed A) (ns : List ℕ) (n : ℕ) → kept w n ≡ None → rest_of w (ns ++ n ∷ []) ≡ rest_of w ns
+rest_none {A} w ns n h =
+    rest_parts w ns (n ∷ [])
+    ∙ ap (λ (o : Option (Message A)). rest_of w ns ++ map (λ (y : Message A). Rest y.ring y.number y) (filter (λ (y : Message A). is_user y.payload) (cons_option o []))) h
+    ∙ append-nil (rest_of w ns)
+
 -- so they make the rest of the old ring
 pub rest_given : {A : Type 0} (c : Core A) (w : Windowed A) → w ≡ window_of c c.installed.ring → mark c c.installed.ring ≤ safe (plan c)
-    → map (λ (x : Message A). Rest x.ring x.number x) (filter (λ (x : Message A). is_user x.payload) (filter_map (kept w) (transitional_part (plan c))))
-    ++ map (λ (x : Message A). Rest x.ring x.number x) (filter (λ (x : Message A). is_user x.payload) (filter_map (kept w) (past_gap_part (plan c) c.held)))
-    ≡ map (λ (x : Message A). Rest x.ring x.number x) (rests (plan c) c.held)
+    → rest_of w (transitional_part (plan c)) ++ rest_of w (past_gap_part (plan c) c.held) ≡ map (λ (x : Message A). Rest x.ring x.number x) (rests (plan c) c.held)
 rest_given {A} c w e l =
     let out = λ (x : Message A). Rest x.ring x.number x in
-    let some = filter (λ (x : Message A). is_user x.payload) in
+    let users_only = λ (x : Message A). is_user x.payload in
     let a = filter_map (kept w) (transitional_part (plan c)) in
     let b = filter_map (kept w) (past_gap_part (plan c) c.held) in
-    sym (map-append out (some a) (some b))
-    ∙ ap (map out) (sym (filter-append (λ (x : Message A). is_user x.payload) a b))
-    ∙ ap (λ (xs : List (Message A)). map out (some xs)) (rests_by c w e l)
+    sym (map-append out (filter users_only a) (filter users_only b))
+    ∙ ap (map out) (sym (filter-append users_only a b))
+    ∙ ap (λ (xs : List (Message A)). map out (filter users_only xs)) (rests_by c w e l)

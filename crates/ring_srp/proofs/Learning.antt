@@ -4,6 +4,8 @@ use Rattle.std.specs.Prelude.{◌&&◌, ◌==◌, nat_eq, nat_lt, nat_le}
 use Rattle.std.specs.List.{AllByRecursion, list_all, prefix_len}
 use Rattle.std.specs.Cmp.Lexicographic.{pointwise}
 use Rattle.std.proofs.lemmas.Bool.{cases_Bool, cond_both, cond-true, cond-false, and_parts, and_from, eqb-true, eq-eqb, ltb-true, leb-true, le-leb}
+use Rattle.std.proofs.lemmas.List.{append-nil}
+use Rattle.std.specs.Option.{option_map}
 use Rattle.std.proofs.lemmas.Nat.{mod_below}
 use Rattle.ring_base.specs.Numbers.{greatest, numbers_from}
 use Rattle.ring_base.specs.Processors.{has, size, at, position_of}
@@ -27,7 +29,7 @@ use Rattle.ring_join.specs.Gatherers.{Gatherer}
 use Rattle.ring_join.specs.Gathering.{Gathering}
 use Rattle.ring_commit.specs.declared.configuration.Configuration.{Configuration}
 use Rattle.ring_commit.specs.Reports.{same_entry, reports_of, safe_of, none_behind, is_sound}
-use Rattle.ring_commit.specs.Rounds.{position_of_hop, receiver, is_of, is_own, is_second_round}
+use Rattle.ring_commit.specs.Rounds.{position_of_hop, receiver, hopped, is_of, is_own, is_second_round}
 use Rattle.ring_commit.specs.Outcomes.{is_at}
 use Rattle.ring_recover.specs.Installing.{in_front}
 use Rattle.ring_recover.specs.Plans.{plan_of, plan_from, plan_if_sound, safe}
@@ -180,6 +182,17 @@ module _ {A : Type 0} (c : Core A) (k : CommitToken) (a : LearnAllowed c k) wher
       let w = is_second.own in
       let l = behind (safe_at c k) c.installed.ring k.entries (position_of_hop k) w.entry w.there w.same is_second.sound in
       omega (arith, l, w.front_is)
+
+-- it is the one that the code makes
+pub planned_for : {A : Type 0} (c : Core A) (k : CommitToken) → LearnAllowed c k → (me : ℕ) → me ≡ c.me → option_map (begun {A = A} me) (plan_from me k) ≡ Some (begun c.me (plan_at c k))
+planned_for {A} c k a me e = ap (λ n. option_map (begun {A = A} n) (plan_from n k)) e ∙ ap (option_map (begun {A = A} c.me)) (has_plan c k a)
+
+-- the token goes on with one hop more
+pub went_on : (k went : CommitToken) → went.ring ≡ k.ring → went.members ≡ k.members → went.hop ≡ k.hop + 1 → went.entries ≡ k.entries → went ≡ hopped k []
+went_on k went a b h e =
+    let one : went.hop ≡ suc k.hop = omega (arith, h) in
+    let same = e ∙ sym (append-nil k.entries) in
+    λ i. record { ring = a i; members = b i; hop = one i; entries = same i }
 
 -- Of a ring of a number that nothing is known of
 
