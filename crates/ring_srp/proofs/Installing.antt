@@ -80,6 +80,10 @@ module _ {A : Type 0} (me total : ℕ) (s : State) (running installed : Configur
 
 -- What the new ring gives
 
+-- messages are agreed
+abbrev pub all_agreed : {A : Type 0} → RingId → List (Message A) → List (Out A)
+all_agreed ring xs = map (λ (x : Message _). Agreed ring x.number x) xs
+
 -- a row in two parts
 row_parts : (first a b : ℕ) → numbers_from first (a + b) ≡ numbers_from first a ++ numbers_from (first + a) b
 row_parts first zero b = (let e : first ≡ first + 0 = omega arith in let n : zero + b ≡ b = omega arith in ap (numbers_from first) n ∙ ap (λ k. numbers_from k b) e)
