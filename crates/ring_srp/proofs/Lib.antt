@@ -4,3 +4,5 @@ pub mod Standing
 pub mod Receivers
 pub mod Learning
 pub mod Installing
+pub mod Held
+pub mod Wraps

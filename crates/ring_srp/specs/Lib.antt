@@ -6,3 +6,5 @@ pub mod Proposing
 pub mod Passing
 pub mod Ended
 pub mod Learning
+pub mod Taking
+pub mod Wraps
