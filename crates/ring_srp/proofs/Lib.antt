@@ -2,7 +2,13 @@ pub mod Lent
 pub mod Parts
 pub mod Standing
 pub mod Receivers
-pub mod Learning
-pub mod Installing
+pub mod Learns
+pub mod Installs
+pub mod Allowed
+pub mod Marks
+pub mod Outputs
+pub mod Proposals
+pub mod Sending
+pub mod Starting
 pub mod Held
 pub mod Wraps

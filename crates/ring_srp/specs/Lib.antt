@@ -5,6 +5,6 @@ pub mod Histories
 pub mod Proposing
 pub mod Passing
 pub mod Ended
-pub mod Learning
+pub mod Learns
 pub mod Taking
 pub mod Wraps

@@ -154,7 +154,15 @@ fn give_aside<A: Allocator + Copy>(
     ensures refused { IfErr result (λ fault. fault ≡ Memory) }
 {
     for message in messages {
-        outs.push(Out::Agreed(ring, message.number, message))?;
+        outs.push(agreed(ring, message))?;
     }
     Ok(())
+}
+
+/// A message of a ring is agreed.
+fn agreed<A: Allocator + Copy>(ring: RingId, message: Message<A>) -> Out<A>
+    ensures { result ≡ Agreed ring message.number message }
+{
+    let number = message.number;
+    Out::Agreed(ring, number, message)
 }

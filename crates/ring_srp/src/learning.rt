@@ -8,7 +8,7 @@ ghost use Rattle.ring_recover.specs.Recovering.{begun};
 ghost use Rattle.ring_core.specs.Giving.{sent};
 ghost use Rattle.ring_core.specs.Handing.{learned};
 ghost use Rattle.ring_srp.specs.Allowing.{LearnAllowed};
-ghost use Rattle.ring_srp.specs.Learning.{plan_at, safe_at};
+ghost use Rattle.ring_srp.specs.Learns.{plan_at, safe_at};
 
 use crate::history::with_plan;
 use crate::machine::Machine;

@@ -38,7 +38,7 @@ use Rattle.ring_core.specs.State.{Core, Sent}
 use Rattle.ring_core.specs.Views.{front, mark, own_entry, entries_for, plan}
 use Rattle.ring_core.specs.Giving.{users}
 use Rattle.ring_srp.specs.Allowing.{LearnAllowed}
-use Rattle.ring_srp.specs.Learning.{plan_at, safe_at}
+use Rattle.ring_srp.specs.Learns.{plan_at, safe_at}
 use Rattle.ring_srp.specs.Machines.{History, core_of, IsPart, IsBelow, bound, is_forming, Recovers, IsMachine, raises_of}
 use Rattle.ring_srp.specs.Histories.{with_plan}
 use Rattle.ring_srp.specs.declared.recovering.Recovering.{Recovering}
