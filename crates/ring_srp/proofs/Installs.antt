@@ -171,9 +171,13 @@ rest_parts {A} w ms ns =
     ∙ ap (map out) (filter-append users_only a b)
     ∙ map-append out (filter users_only a) (filter users_only b)
 
+-- and what a message gives
+abbrev pub rest_one : {A : Type 0} → Message A → List (Out A)
+rest_one x = map (λ (y : Message _). Rest y.ring y.number y) (filter (λ (y : Message _). is_user y.payload) (x ∷ []))
+
 -- one number more
 pub rest_some : {A : Type 0} (w : Windowed A) (ns : List ℕ) (n : ℕ) (x : Message A) → kept w n ≡ Some x
-    → rest_of w (ns ++ n ∷ []) ≡ rest_of w ns ++ map (λ (y : Message A). Rest y.ring y.number y) (filter (λ (y : Message A). is_user y.payload) (x ∷ []))
+    → rest_of w (ns ++ n ∷ []) ≡ rest_of w ns ++ rest_one x
 rest_some {A} w ns n x h =
     rest_parts w ns (n ∷ [])
     ∙ ap (λ (o : Option (Message A)). rest_of w ns ++ map (λ (y : Message A). Rest y.ring y.number y) (filter (λ (y : Message A). is_user y.payload) (cons_option o []))) h

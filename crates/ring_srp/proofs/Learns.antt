@@ -8,7 +8,7 @@ use Rattle.std.proofs.lemmas.List.{append-nil}
 use Rattle.std.specs.Option.{option_map}
 use Rattle.std.proofs.lemmas.Nat.{mod_below}
 use Rattle.ring_base.specs.Numbers.{greatest, numbers_from}
-use Rattle.ring_base.specs.Processors.{has, size, at, position_of}
+use Rattle.ring_base.specs.Processors.{has, size, at, position_of, only}
 use Rattle.ring_base.specs.Elements.{position_of-at}
 use Rattle.ring_base.specs.Members.{has_member}
 use Rattle.ring_base.specs.Rings.{same_ring}
@@ -19,8 +19,10 @@ use Rattle.ring_payload.specs.declared.content.Payload.{Payload}
 use Rattle.ring_wire.specs.Commits.{CommitFits}
 use Rattle.ring_wire.specs.declared.commit.CommitToken.{CommitToken}
 use Rattle.ring_wire.specs.declared.entries.CommitEntry.{CommitEntry}
+use Rattle.ring_wire.specs.declared.frame.Frame.TheVariants.{Commit as CommitFrame}
 use Rattle.ring_wire.specs.declared.message.Message.{Message}
 use Rattle.ring_window.specs.Held.{found, holds, of_ring, highest, front_of}
+use Rattle.ring_window.proofs.OfRing.{front_of_ring}
 use Rattle.ring_window.proofs.Rings.{ring_same}
 use Rattle.ring_window.specs.Windows.{Windowed, opened, forgotten}
 use Rattle.ring_token.specs.Turns.{Turn, Raise, turns_of, mark_by, forwarded_in, raised_to, safe_mark}
@@ -37,6 +39,7 @@ use Rattle.ring_recover.specs.Recovering.{begun}
 use Rattle.ring_core.specs.State.{Core, Sent}
 use Rattle.ring_core.specs.Views.{front, mark, own_entry, entries_for, plan}
 use Rattle.ring_core.specs.Giving.{users}
+use Rattle.ring_core.specs.Handing.{passed}
 use Rattle.ring_srp.specs.Allowing.{LearnAllowed}
 use Rattle.ring_srp.specs.Learns.{plan_at, safe_at}
 use Rattle.ring_srp.specs.Machines.{History, core_of, IsPart, IsBelow, bound, is_forming, Recovers, IsMachine, raises_of}
@@ -96,13 +99,13 @@ behind safe old (x ∷ es) (suc k) e h s n =
     (λ t m. (and_parts (nat_le safe x.front) (none_behind safe (reports_of old es)) m).1) (λ t m. m) n)
 
 -- the own report, where it stands in the token
-record IsOwn (own : CommitEntry) (o : Option CommitEntry) : Type 0 where
-  entry : CommitEntry
-  there : o ≡ Some entry
-  old_is : entry.old ≡ own.old
-  same : same_ring entry.old own.old ≡ true
-  front_is : entry.front ≡ own.front
-  mark_is : entry.mark ≡ own.mark
+pub record IsOwn (own : CommitEntry) (o : Option CommitEntry) : Type 0 where
+  pub entry : CommitEntry
+  pub there : o ≡ Some entry
+  pub old_is : entry.old ≡ own.old
+  pub same : same_ring entry.old own.old ≡ true
+  pub front_is : entry.front ≡ own.front
+  pub mark_is : entry.mark ≡ own.mark
 
 own_at : (own : CommitEntry) (o : Option CommitEntry) → is_own own o ≡ true → IsOwn own o
 own_at own None h = absurd cc
@@ -116,7 +119,7 @@ own_at own (Some e) h =
     record { entry = e; there = refl; old_is = ring_same e.old own.old r.0; same = r.0; front_is = eqb-true e.front own.front r.1; mark_is = eqb-true e.mark own.mark q.1 }
 
 -- what a core tested
-record IsSecond {A : Type 0} (c : Core A) (k : CommitToken) : Type 0 where
+pub record IsSecond {A : Type 0} (c : Core A) (k : CommitToken) : Type 0 where
   pub some : 0 < size k.members
   pub full : size k.members ≤ k.hop
   pub short : k.hop < 2 * size k.members
@@ -194,6 +197,14 @@ went_on k went a b h e =
     let same = e ∙ sym (append-nil k.entries) in
     λ i. record { ring = a i; members = b i; hop = one i; entries = same i }
 
+-- and goes to the member whose turn that is
+pub passes_on : {A : Type 0} (k went boxed : CommitToken) (who to : ℕ) → went ≡ hopped k [] → boxed ≡ went → who ≡ receiver went → to ≡ only who
+    → ◌≡◌ {A = Sent A} (record { to = to; frame = CommitFrame boxed }) (passed (hopped k []))
+passes_on k went boxed who to a b d e =
+    let token : boxed ≡ hopped k [] = b ∙ a in
+    let there : to ≡ only (receiver (hopped k [])) = e ∙ ap only (d ∙ ap receiver a) in
+    λ i. record { to = there i; frame = CommitFrame (token i) }
+
 -- Of a ring of a number that nothing is known of
 
 of_none : {A : Type 0} (ring : RingId) (held : List (Message A)) → AllByRecursion (λ (x : Message A). x.ring.seq < ring.seq) held → of_ring ring held ≡ []
@@ -225,7 +236,7 @@ is_new c ring b =
     let f : front c ring ≡ 0 = ap (λ n. prefix_len (holds c.held ring) (numbers_from 1 n)) top in
     let m : mark c ring ≡ 0 =
     ap (λ (vs : List (Turn _)). max (mark_by (map (λ (v : Turn _). v.went.aru) vs)) (raised_to ring c.raises)) t
-    ∙ ap (λ (xs : List Raise). greatest (map (λ (x : Raise). x.mark) xs)) r in
+    ∙ ap (λ (xs : List Raise). max 0 (greatest (map (λ (x : Raise). x.mark) xs))) r in
     let l : last_aru (turns_of ring c.turns) ≡ 0 = ap last_aru t in
     record {
       part = record {
@@ -282,6 +293,13 @@ module _ {A : Type 0} (me total : ℕ) (s : State) (running installed : Configur
   higher : mark after installed.ring ≡ max (mark before installed.ring) n
   higher = raised h.turns h.raises installed.ring n
 
+  -- what is safe is held in the old window
+  pub may_forget : n ≤ front_of window.held window.ring
+  may_forget =
+      let there : front_of window.held window.ring ≡ front before installed.ring =
+      ap (λ (w : Windowed A). front_of w.held w.ring) m.kept.window_is ∙ front_of_ring held installed.ring in
+      omega (arith, there, safe_within before k a, n_is)
+
   old_part : (window' : Windowed A) (visit' : TokenHistory A) → window' ≡ forgotten window n → visit' ≡ with_raise visit n → IsPart after installed.ring window' visit'
   old_part window' visit' w v =
       let up = higher in
@@ -294,7 +312,7 @@ module _ {A : Type 0} (me total : ℕ) (s : State) (running installed : Configur
         led = m.kept.led;
       }
 
-  recovers : (r : Recovering A) → r.part.window ≡ opened running.ring → r.part.visit ≡ unvisited me running.ring → r.plan ≡ begun me (plan_at before k) → r.ends ≡ [] → r.most ≡ 0 → r.aside.items ≡ [] → Recovers after r
+  pub recovers : (r : Recovering A) → r.part.window ≡ opened running.ring → r.part.visit ≡ unvisited me running.ring → r.plan ≡ begun me (plan_at before k) → r.ends ≡ [] → r.most ≡ 0 → r.aside.items ≡ [] → Recovers after r
   recovers r w v p e z x =
       let f = fresh in
       let up = higher in

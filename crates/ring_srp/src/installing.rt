@@ -73,7 +73,7 @@ impl<A: Allocator + Copy> Machine<A> {
             front: aside.most,
             mark: 0,
         };
-        give_aside(ring, aside.messages, outs)?;
+        give_aside(&ring, aside.messages, outs)?;
         self.give(before, outs)
     }
 
@@ -146,15 +146,15 @@ fn give_if_users<A: Allocator + Copy>(
 
 /// Messages that stood aside are agreed.
 fn give_aside<A: Allocator + Copy>(
-    ring: RingId,
+    ring: &RingId,
     messages: Vec<Message<A>, A>,
     outs: &mut Vec<Out<A>, A>,
 ) -> Result<(), Fault>
-    ensures ok { OnOk result (outs.new.items ≡ outs.old.items ++ map (λ x. Agreed ring x.number x) messages.items) }
+    ensures ok { OnOk result (outs.new.items ≡ outs.old.items ++ map (λ x. Agreed ring.now x.number x) messages.items) }
     ensures refused { IfErr result (λ fault. fault ≡ Memory) }
 {
     for message in messages {
-        outs.push(agreed(ring, message))?;
+        outs.push(agreed(*ring, message))?;
     }
     Ok(())
 }
