@@ -7,5 +7,6 @@ pub mod Passing
 pub mod Ended
 pub mod Users
 pub mod Setting
+pub mod Learns
 pub mod Taking
 pub mod Wraps
