@@ -8,3 +8,4 @@ pub mod Ended
 pub mod Learns
 pub mod Taking
 pub mod Wraps
+pub mod Installs
