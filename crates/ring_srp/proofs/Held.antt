@@ -1,5 +1,6 @@
 -- What a core keeps stands on as messages are held: one of the ring in use; and in Recovery what it wraps, of the old ring.
 use Rattle.std.proofs.Common.{◌≡◌, ℕ, ◌+◌, ◌-◌, ◌<◌, ◌≤◌, max, Bool, true, false, List, [], ◌∷◌, ◌++◌, map, filter, filter_map, length, Option, Some, None, refl, ap, ◌∙◌, sym, subst, inl, inr, arith}
+use denote.Enum.Bare.{sameb, same_false}
 use mathlib.Core.Path.{fun_ext}
 use Rattle.std.specs.Prelude.{◌&&◌, ◌==◌, if◌then◌else◌}
 use Rattle.std.proofs.lemmas.Bool.{cases_Bool, cond-true, cond-false, and_parts, and_from, eq-eqb, ne_eqb}
@@ -7,6 +8,7 @@ use Rattle.ring_base.specs.Fronts.{IsFront, front_trans, front_shorter, front_wh
 use Rattle.ring_base.specs.Numbers.{numbers_from, greatest}
 use Rattle.ring_base.specs.Rings.{same_ring}
 use Rattle.ring_base.specs.declared.ring_id.RingId.{RingId}
+use Rattle.ring_base.specs.contracts.state.State.{the_type}
 use Rattle.ring_base.specs.declared.state.State.{State}
 use Rattle.ring_base.specs.declared.state.State.TheVariants.{Gather, Commit, Recovery, Operational, Stopped}
 use Rattle.ring_payload.specs.Kinds.{is_user, payload_of}
@@ -256,19 +258,35 @@ in_use_installed Recovery c n = absurd (n refl)
 in_use_installed Operational c n = refl
 in_use_installed Stopped c n = refl
 
+-- the test whether it is Recovery
+pub is_recovery : (s : State) → sameb the_type s Recovery ≡ true → s ≡ Recovery
+is_recovery Gather h = absurd cc
+is_recovery Commit h = absurd cc
+is_recovery Recovery h = refl
+is_recovery Operational h = absurd cc
+is_recovery Stopped h = absurd cc
+
+pub no_recovery : (s : State) → sameb the_type s Recovery ≡ false → s ≡ Recovery → ⊥
+no_recovery s h e = same_false the_type s Recovery h e
+
 -- in Recovery there is what is kept of it
 recovering_some : {A : Type 0} (c : Core A) (recovery : Option (Recovering A)) (r : Recovering A) → recovery ≡ Some r → IsRecovering c recovery → Recovers c r
 recovering_some c recovery r e i = subst (λ (o : Option (Recovering _)). IsRecovering c o) e i
 
-pub recovering_there : {A : Type 0} (c : Core A) (recovery : Option (Recovering A)) → IsRecovering c recovery → recovery ≡ None → ⊥
-recovering_there c recovery i e = subst (λ (o : Option (Recovering _)). IsRecovering c o) e i
+pub recovering_there : {A : Type 0} (c : Core A) (recovery : Option (Recovering A)) → IsRecovering c recovery → ((r : Recovering A) → recovery ≡ Some r → ⊥) → ⊥
+recovering_there c None i f = i
+recovering_there c (Some r) i f = f r refl
+
+-- the ring in use is then the running one
+pub used_running : {A : Type 0} (c : Core A) (x : Message A) → x.ring ≡ ring_in_use c.state c → c.state ≡ Recovery → x.ring ≡ c.running.ring
+used_running c x e s = e ∙ ap (λ q. ring_in_use q c) s
 
 module _ {A : Type 0} (c : Core A) (gather : Gatherer) (window : Windowed A) (visit : TokenHistory A) (recovery : Option (Recovering A)) (m : IsMachine c gather window visit recovery) where
   -- a message of the installed ring is held, but in Recovery
   pub held_installed : (x : Message A) → (c.state ≡ Recovery → ⊥) → x.ring ≡ ring_in_use c.state c → takes_number c x.ring x.number ≡ true
-      → (window' : Windowed A) → window' ≡ taken window x
-      → IsMachine (with_held c (x ∷ c.held)) gather window' visit recovery
-  held_installed x n e h window' w =
+      → (window' : Windowed A) (recovery' : Option (Recovering A)) → window' ≡ taken window x
+      → IsMachine (with_held c (x ∷ c.held)) gather window' visit recovery'
+  held_installed x n e h window' recovery' w =
       let ring = c.installed.ring in
       let here : x.ring ≡ ring = e ∙ in_use_installed c.state c n in
       let t = fresh_is c ring x here h in
@@ -349,11 +367,11 @@ module _ {A : Type 0} (c : Core A) (gather : Gatherer) (window : Windowed A) (vi
       let y : Message A = record { ring = w.ring; number = w.number; sender = w.sender; payload = payload_of w.payload } in
       let test = same_ring w.ring old && is_new c.held (mark c old) old w.number in
       elim (cases_Bool test) [
-        | inr no ↦ subst (λ (ys : List (Message A)). IsMachine (with_held c (ys ++ c.held)) gather (record window { held = ys ++ window.held }) visit recovery) (sym (cond-false test (y ∷ []) [] no)) m
-        | inl yes ↦
-            let both = and_parts (same_ring w.ring old) (is_new c.held (mark c old) old w.number) yes in
+        | inr other ↦ subst (λ (ys : List (Message A)). IsMachine (with_held c (ys ++ c.held)) gather (record window { held = ys ++ window.held }) visit recovery) (sym (cond-false test (y ∷ []) [] other)) m
+        | inl same ↦
+            let both = and_parts (same_ring w.ring old) (is_new c.held (mark c old) old w.number) same in
             let e : y.ring ≡ old = ring_same w.ring old both.0 in
-            subst (λ (ys : List (Message A)). IsMachine (with_held c (ys ++ c.held)) gather (record window { held = ys ++ window.held }) visit recovery) (sym (cond-true test (y ∷ []) [] yes))
+            subst (λ (ys : List (Message A)). IsMachine (with_held c (ys ++ c.held)) gather (record window { held = ys ++ window.held }) visit recovery) (sym (cond-true test (y ∷ []) [] same))
             (held_old y s e (subst (λ (q : RingId). takes_number c q y.number ≡ true) (sym e) both.1))
       ]
 
@@ -414,7 +432,7 @@ module _ {A : Type 0} (c : Core A) (x : Message A) (h : is_taken c x ≡ true) w
   taken_used o = taken_in_use c.state c x.ring o (and_parts (takes_of c.state c x.ring) (has (members_of c.state c) x.sender) tests.0).0
 
   pub taken_running : (c.state ≡ Operational → c.installed ≡ c.running) → c.state ≡ Recovery → x.ring ≡ c.running.ring
-  taken_running o s = taken_used o ∙ ap (λ q. ring_in_use q c) s
+  taken_running o s = used_running c x (taken_used o) s
 
 -- but in Recovery nothing is unwrapped
 pub none_old : {A : Type 0} (s : State) (c : Core A) (x : Message A) → (s ≡ Recovery → ⊥) → gives_old s c x ≡ []
