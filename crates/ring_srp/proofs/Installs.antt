@@ -23,6 +23,7 @@ use Rattle.ring_token.specs.Histories.{TokenHistory, mark_of}
 use Rattle.ring_join.specs.Gatherers.{Gatherer}
 use Rattle.ring_join.specs.Gathering.{Gathering}
 use Rattle.ring_commit.specs.declared.configuration.Configuration.{Configuration}
+use Rattle.ring_recover.specs.declared.delivery.Delivery.{Delivery}
 use Rattle.ring_recover.specs.Plans.{Plan, safe, gap, known_above_safe, is_known}
 use Rattle.ring_recover.specs.Installing.{in_front, is_ready_by, is_ready}
 use Rattle.ring_recover.specs.Recovering.{Recovering as Planned}
@@ -33,7 +34,7 @@ use Rattle.ring_core.specs.declared.out.Out.{Out}
 use Rattle.ring_core.specs.declared.out.Out.TheVariants.{Agreed, Trans, Rest, Regular}
 use Rattle.ring_core.specs.State.{Core, Sent}
 use Rattle.ring_core.specs.Views.{front, mark, plan}
-use Rattle.ring_core.specs.Giving.{may_install, installs_in, ready_then_complete, install, configured, users, safe_from, delivered_from}
+use Rattle.ring_core.specs.Giving.{may_install, installs_in, ready_then_complete, install, settle, configured, users, safe_from, delivered_from}
 use Rattle.ring_srp.specs.Histories.{with_install}
 use Rattle.ring_srp.specs.Machines.{History, core_of, bound, window_of, visits_of, raises_of, Recovers, IsRecovering, IsMachine}
 use Rattle.ring_srp.specs.declared.recovering.Recovering.{Recovering}
@@ -61,7 +62,7 @@ due_not Commit c f = refl
 due_not Operational c f = refl
 due_not Stopped c f = refl
 
-pub not_due_in : {A : Type 0} (c : Core A) → (c.state ≡ Recovery → ⊥) → may_install c ≡ false
+not_due_in : {A : Type 0} (c : Core A) → (c.state ≡ Recovery → ⊥) → may_install c ≡ false
 not_due_in c f = due_not c.state c f
 
 -- what a core goes by in Recovery is there
@@ -97,6 +98,13 @@ module _ {A : Type 0} (c : Core A) (r : Recovering A) (f : Recovers c r) (e : c.
       let seen : window.held ≡ of_ring c.installed.ring c.held = ap (λ (x : Windowed A). x.held) w in
       ap (λ (p : Plan). finish p window.held) same ∙ ap (finish (plan c)) seen ∙ finish_of_ring (plan c) c.held
       ∙ ap (λ (b : Bool). if b then Some (delivery (plan c) c.held) else None) (sym (due_by ∙ ap (λ (b : Bool). ready_then_complete b c) h))
+
+-- what the code delivers of the old ring
+abbrev pub told : {A : Type 0} → Core A → Option Delivery
+told c = if may_install c then Some (delivery (plan c) c.held) else None
+
+pub told_none : {A : Type 0} (c : Core A) → (c.state ≡ Recovery → ⊥) → None ≡ told c
+told_none c f = ap (λ (b : Bool). if b then Some (delivery (plan c) c.held) else None) (sym (not_due_in c f))
 
 -- what is told of a value that is there where a test passes
 pub passed_there : {X : Type 0} (b : Bool) (x y : X) → Some y ≡ (if b then Some x else None) → (b ≡ true) × (y ≡ x)
@@ -289,7 +297,33 @@ then_given {A} c outs most aside e l =
     let flat : ((outs ++ first ∷ (rest ++ last ∷ [])) ++ a) ++ b ≡ outs ++ first ∷ (rest ++ last ∷ (a ++ b)) = simp append_assoc in
     flat ∙ ap (λ (xs : List (Out A)). outs ++ first ∷ (rest ++ last ∷ xs)) (all_given c c.running.ring most aside e l)
 
+-- the same of what the code gives, step by step
+pub first_by : {A : Type 0} (c : Core A) (outs one two three all : List (Out A)) (w : Windowed A) (mates : ℕ) (d : Delivery)
+    → one ≡ outs ++ Trans c.installed.ring c.running.ring mates ∷ [] → two ≡ one ++ rest_of w d.transitional → three ≡ two ++ rest_of w d.past_gap → all ≡ three ++ Regular c.running.ring c.running.members ∷ []
+    → d ≡ delivery (plan c) c.held → mates ≡ (plan c).mates → w ≡ window_of c c.installed.ring → mark c c.installed.ring ≤ safe (plan c) → all ≡ outs ++ given_first c
+first_by {A} c outs one two three all w mates d a b e f is m there l =
+    let last : Out A = Regular c.running.ring c.running.members in
+    let first = outs ++ Trans c.installed.ring c.running.ring mates ∷ [] in
+    f ∙ ap (λ (xs : List (Out A)). xs ++ last ∷ []) (e ∙ ap (λ (xs : List (Out A)). xs ++ rest_of w d.past_gap) (b ∙ ap (λ (xs : List (Out A)). xs ++ rest_of w d.transitional) a))
+    ∙ ap (λ (x : Delivery). ((first ++ rest_of w x.transitional) ++ rest_of w x.past_gap) ++ last ∷ []) is
+    ∙ first_given c outs w mates m there l
+
+pub then_by : {A : Type 0} (c n : Core A) (outs one two all : List (Out A)) (ring : RingId) (most : ℕ) (aside : List (Message A))
+    → one ≡ outs ++ given_first c → two ≡ one ++ all_agreed ring aside → all ≡ two ++ delivered_from n ring most 0
+    → n ≡ install c → ring ≡ n.installed.ring → aside ≡ users c c.running.ring 0 most → most ≤ front c c.running.ring → all ≡ outs ++ given_all c
+then_by {A} c n outs one two all ring most aside a b d is r e l =
+    let same : ring ≡ c.running.ring = r ∙ ap (λ (x : Core A). x.installed.ring) is in
+    d ∙ ap (λ (xs : List (Out A)). xs ++ delivered_from n ring most 0) (b ∙ ap (λ (xs : List (Out A)). xs ++ all_agreed ring aside) a)
+    ∙ ap (λ (x : Core A). ((outs ++ given_first c) ++ all_agreed ring aside) ++ delivered_from x ring most 0) is
+    ∙ ap (λ (x : RingId). ((outs ++ given_first c) ++ all_agreed x aside) ++ delivered_from c x most 0) same
+    ∙ then_given c outs most aside e l
+
 -- told of a result that may be an error
 pub on_ok : {T E : Type 0} {P : Type 0} (r : Result T E) → P → OnOk r P
 on_ok (Ok x) p = p
 on_ok (Err e) p = tt
+
+-- all that an installation gives
+pub settled_outs : {A T E : Type 0} (c : Core A) (r : Result T E) (outs all : List (Out A)) → may_install c ≡ true → OnOk r (all ≡ outs ++ given_all c) → OnOk r (all ≡ outs ++ (settle (may_install c) c []).outs)
+unfolding given_all
+settled_outs c r outs all due h = subst (λ (b : Bool). OnOk r (all ≡ outs ++ (settle b c []).outs)) (sym due) h
