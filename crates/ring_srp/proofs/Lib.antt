@@ -10,5 +10,8 @@ pub mod Outputs
 pub mod Proposals
 pub mod Sending
 pub mod Starting
+pub mod Users
+pub mod Turned
+pub mod Aside
 pub mod Held
 pub mod Wraps
