@@ -1,14 +1,13 @@
 -- The running ring is installed: what is kept of it is what is kept of the installed ring from now on, and what it gives comes in parts.
 use Rattle.std.proofs.Common.{◌≡◌, ℕ, zero, suc, ◌+◌, ◌-◌, ◌<◌, ◌≤◌, Bool, true, false, List, [], ◌∷◌, ◌++◌, map, filter, filter_map, Option, Some, None, Result, Ok, Err, refl, ap, ◌∙◌, sym, subst, arith, append_assoc}
-use Rattle.std.specs.Prelude.{nat_lt, max, if◌then◌else◌}
+use Rattle.std.specs.Prelude.{nat_lt, if◌then◌else◌}
 use Rattle.std.specs.Option.{IsSome}
 use Rattle.std.specs.Result.{OnOk}
 use Rattle.std.specs.List.{AllByRecursion, cons_option}
 use Rattle.std.proofs.lemmas.Bool.{cond_both, true≢false}
-use Rattle.std.proofs.lemmas.List.{map-append, append-nil}
+use Rattle.std.proofs.lemmas.List.{map-append}
 use Rattle.std.proofs.lemmas.List.Elements.{filter-append, filter_map-append}
-use Rattle.ring_base.proofs.Each.{each-weaker}
-use Rattle.ring_base.specs.Numbers.{numbers_from, greatest}
+use Rattle.ring_base.specs.Numbers.{numbers_from}
 use Rattle.ring_base.specs.declared.ring_id.RingId.{RingId}
 use Rattle.ring_base.specs.declared.state.State.{State}
 use Rattle.ring_base.specs.declared.state.State.TheVariants.{Gather, Commit, Recovery, Operational, Stopped}
@@ -18,8 +17,7 @@ use Rattle.ring_wire.specs.declared.message.Message.{Message}
 use Rattle.ring_window.specs.Held.{found, of_ring}
 use Rattle.ring_window.specs.Windows.{Windowed, kept}
 use Rattle.ring_window.proofs.OfRing.{found_of_ring}
-use Rattle.ring_token.specs.Turns.{Turn, Raise, mark_by, forwarded_in, raised_to}
-use Rattle.ring_token.specs.Histories.{TokenHistory, mark_of}
+use Rattle.ring_token.specs.Histories.{TokenHistory}
 use Rattle.ring_join.specs.Gatherers.{Gatherer}
 use Rattle.ring_join.specs.Gathering.{Gathering}
 use Rattle.ring_commit.specs.declared.configuration.Configuration.{Configuration}
@@ -34,13 +32,12 @@ use Rattle.ring_core.specs.declared.out.Out.{Out}
 use Rattle.ring_core.specs.declared.out.Out.TheVariants.{Agreed, Trans, Rest, Regular}
 use Rattle.ring_core.specs.State.{Core, Sent}
 use Rattle.ring_core.specs.Views.{front, mark, plan}
-use Rattle.ring_core.specs.Giving.{may_install, installs_in, ready_then_complete, install, settle, configured, users, safe_from, delivered_from}
+use Rattle.ring_core.specs.Giving.{may_install, installs_in, ready_then_complete, install, settle, users, safe_from, delivered_from}
 use Rattle.ring_srp.specs.Histories.{with_install}
-use Rattle.ring_srp.specs.Machines.{History, core_of, bound, window_of, visits_of, raises_of, Recovers, IsRecovering, IsMachine}
+use Rattle.ring_srp.specs.Machines.{History, core_of, bound, window_of, Recovers, IsRecovering, IsMachine}
 use Rattle.ring_srp.specs.declared.recovering.Recovering.{Recovering}
 use Rattle.ring_srp.specs.Installs.{given_first, given_all}
 use Rattle.ring_srp.proofs.Standing.{below_wider}
-use Rattle.ring_srp.proofs.Parts.{turns_twice, raises_twice}
 
 -- a ring is installed in Recovery alone
 
@@ -73,18 +70,12 @@ some_when c (Some r) f = refl
 pub some_in : {A : Type 0} (c : Core A) (o : Option (Recovering A)) → may_install c ≡ true → (c.state ≡ Recovery → IsRecovering c o) → IsSome o
 some_in c o due f = some_when c o (f (due_in c due))
 
--- the mark is read off the visits of the ring alone
-mark_of_visits : {A : Type 0} (c : Core A) (ring : RingId) → mark_of (visits_of c ring) ≡ mark c ring
-mark_of_visits {A} c ring =
-    ap (λ (vs : List (Turn A)). max (mark_by (map (λ (v : Turn A). v.went.aru) vs)) (raised_to ring (raises_of ring c.raises))) (turns_twice c.turns ring)
-    ∙ ap (λ (xs : List Raise). max (mark_by (forwarded_in ring c.turns)) (greatest (map (λ (x : Raise). x.mark) xs))) (raises_twice c.raises ring)
-
 -- what a core goes by in Recovery tells when it may install
-module _ {A : Type 0} (c : Core A) (r : Recovering A) (f : Recovers c r) (e : c.state ≡ Recovery) (ready : Bool) (n : ℕ) (is : ready ≡ is_ready_by r.ends c.running.members n) (n_is : n ≡ mark_of r.part.visit) where
+module _ {A : Type 0} (c : Core A) (r : Recovering A) (f : Recovers c r) (e : c.state ≡ Recovery) (ready : Bool) (n : ℕ) (is : ready ≡ is_ready_by r.ends c.running.members n) (n_is : n ≡ r.part.window.mark) where
   ready_now : ready ≡ is_ready c.held c.running.ring c.running.members (mark c c.running.ring)
   ready_now =
       is ∙ ap (λ (xs : List (Message A)). is_ready_by xs c.running.members n) f.ends_is
-      ∙ ap (is_ready_by (in_front c.held c.running.ring) c.running.members) (n_is ∙ ap mark_of f.part.visit_is ∙ mark_of_visits c c.running.ring)
+      ∙ ap (is_ready_by (in_front c.held c.running.ring) c.running.members) (n_is ∙ ap (λ (x : Windowed A). x.mark) f.part.window_is)
 
   due_by : may_install c ≡ ready_then_complete ready c
   due_by = ap (λ (s : State). installs_in s c) e ∙ ap (λ (b : Bool). ready_then_complete b c) (sym ready_now)
@@ -231,7 +222,7 @@ rests_by {A} c w e l =
 abbrev pub rest_of : {A : Type 0} → Windowed A → List ℕ → List (Out A)
 rest_of w ns = map (λ (x : Message _). Rest x.ring x.number x) (filter (λ (x : Message _). is_user x.payload) (filter_map (kept w) ns))
 
-rest_parts : {A : Type 0} (w : Windowed A) (ms ns : List ℕ) → rest_of w (ms ++ ns) ≡ rest_of w ms ++ rest_of w ns
+pub rest_parts : {A : Type 0} (w : Windowed A) (ms ns : List ℕ) → rest_of w (ms ++ ns) ≡ rest_of w ms ++ rest_of w ns
 rest_parts {A} w ms ns =
     let out = λ (x : Message A). Rest x.ring x.number x in
     let users_only = λ (x : Message A). is_user x.payload in
@@ -245,18 +236,12 @@ rest_parts {A} w ms ns =
 abbrev pub rest_one : {A : Type 0} → Message A → List (Out A)
 rest_one x = map (λ (y : Message _). Rest y.ring y.number y) (filter (λ (y : Message _). is_user y.payload) (x ∷ []))
 
--- one number more
-pub rest_some : {A : Type 0} (w : Windowed A) (ns : List ℕ) (n : ℕ) (x : Message A) → kept w n ≡ Some x
-    → rest_of w (ns ++ n ∷ []) ≡ rest_of w ns ++ rest_one x
-rest_some {A} w ns n x h =
-    rest_parts w ns (n ∷ [])
-    ∙ ap (λ (o : Option (Message A)). rest_of w ns ++ map (λ (y : Message A). Rest y.ring y.number y) (filter (λ (y : Message A). is_user y.payload) (cons_option o []))) h
+-- what one number gives
+pub rest_some : {A : Type 0} (w : Windowed A) (n : ℕ) (x : Message A) → kept w n ≡ Some x → rest_one x ≡ rest_of w (n ∷ [])
+rest_some {A} w n x h = ap (λ (o : Option (Message A)). map (λ (y : Message A). Rest y.ring y.number y) (filter (λ (y : Message A). is_user y.payload) (cons_option o []))) (sym h)
 
-pub rest_none : {A : Type 0} (w : Windowed A) (ns : List ℕ) (n : ℕ) → kept w n ≡ None → rest_of w (ns ++ n ∷ []) ≡ rest_of w ns
-rest_none {A} w ns n h =
-    rest_parts w ns (n ∷ [])
-    ∙ ap (λ (o : Option (Message A)). rest_of w ns ++ map (λ (y : Message A). Rest y.ring y.number y) (filter (λ (y : Message A). is_user y.payload) (cons_option o []))) h
-    ∙ append-nil (rest_of w ns)
+pub rest_none : {A : Type 0} (w : Windowed A) (n : ℕ) → kept w n ≡ None → [] ≡ rest_of w (n ∷ [])
+rest_none {A} w n h = ap (λ (o : Option (Message A)). map (λ (y : Message A). Rest y.ring y.number y) (filter (λ (y : Message A). is_user y.payload) (cons_option o []))) (sym h)
 
 -- so they make the rest of the old ring
 pub rest_given : {A : Type 0} (c : Core A) (w : Windowed A) → w ≡ window_of c c.installed.ring → mark c c.installed.ring ≤ safe (plan c)

@@ -47,7 +47,7 @@ impl<A: Allocator + Copy> Machine<A> {
     {
         match &self.recovery {
             Some(recovering) if self.state == State::Recovery => {
-                let mark = recovering.part.visit.safe();
+                let mark = recovering.part.window.mark();
                 if !recovering.ends.is_ready(self.running.members, mark) {
                     return None;
                 }
@@ -124,11 +124,24 @@ fn give_rest<A: Allocator + Copy>(
     ensures refused { IfErr result (λ fault. fault ≡ Memory) }
 {
     for number in numbers.iter() {
-        if let Some(message) = window.get(number) {
-            give_if_users(message, outs)?;
-        }
+        give_number(window, number, outs)?;
     }
     Ok(())
+}
+
+/// In the transitional configuration the message of a number, where the window still has it and it is a user's.
+fn give_number<A: Allocator + Copy>(
+    window: &Window<A>,
+    number: u64,
+    outs: &mut Vec<Out<A>, A>,
+) -> Result<(), Fault>
+    ensures ok { OnOk result (outs.new.items ≡ outs.old.items ++ map (λ x. Rest x.ring x.number x) (filter (λ x. is_user x.payload) (filter_map (kept window.now) (number ∷ [])))) }
+    ensures refused { IfErr result (λ fault. fault ≡ Memory) }
+{
+    match window.get(number) {
+        Some(message) => give_if_users(message, outs),
+        None => Ok(()),
+    }
 }
 
 /// In the transitional configuration a message, where it is a user's.
