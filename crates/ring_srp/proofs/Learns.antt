@@ -1,22 +1,21 @@
 -- Recovery begins: what a full commit token says of the old ring fits what is kept of it, and of the ring that runs from now on nothing is known yet.
-use Rattle.std.proofs.Common.{◌≡◌, ℕ, zero, suc, ◌+◌, ◌*◌, ◌<◌, ◌≤◌, max, Bool, true, false, List, [], ◌∷◌, map, filter, filter_map, length, Option, Some, None, slice_get, refl, ap, ◌∙◌, sym, subst, inl, inr, arith}
+use Rattle.std.proofs.Common.{◌≡◌, ℕ, zero, suc, ◌+◌, ◌*◌, ◌<◌, ◌≤◌, max, true, false, List, [], ◌∷◌, map, filter_map, length, Option, Some, None, slice_get, refl, ap, ◌∙◌, sym, subst, inl, inr, arith}
 use Rattle.std.specs.Prelude.{◌&&◌, ◌==◌, nat_eq, nat_lt, nat_le}
-use Rattle.std.specs.List.{AllByRecursion, list_all, prefix_len}
+use Rattle.std.specs.List.{AllByRecursion, prefix_len}
 use Rattle.std.specs.Cmp.Lexicographic.{pointwise}
 use Rattle.std.proofs.lemmas.Bool.{cases_Bool, cond_both, cond-true, cond-false, and_parts, and_from, eqb-true, eq-eqb, ltb-true, leb-true, le-leb}
 use Rattle.std.proofs.lemmas.List.{append-nil}
 use Rattle.std.specs.Option.{option_map}
 use Rattle.std.proofs.lemmas.Nat.{mod_below}
 use Rattle.ring_base.specs.Numbers.{greatest, numbers_from}
-use Rattle.ring_base.specs.Processors.{has, size, at, position_of, only}
+use Rattle.ring_base.specs.Processors.{has, size, position_of, only}
 use Rattle.ring_base.specs.Elements.{position_of-at}
 use Rattle.ring_base.specs.Members.{has_member}
 use Rattle.ring_base.specs.Rings.{same_ring}
 use Rattle.ring_base.specs.declared.ring_id.RingId.{RingId}
 use Rattle.ring_base.specs.declared.state.State.{State}
-use Rattle.ring_base.specs.declared.state.State.TheVariants.{Gather, Commit, Recovery, Operational}
+use Rattle.ring_base.specs.declared.state.State.TheVariants.{Gather, Recovery, Operational}
 use Rattle.ring_payload.specs.declared.content.Payload.{Payload}
-use Rattle.ring_wire.specs.Commits.{CommitFits}
 use Rattle.ring_wire.specs.declared.commit.CommitToken.{CommitToken}
 use Rattle.ring_wire.specs.declared.entries.CommitEntry.{CommitEntry}
 use Rattle.ring_wire.specs.declared.frame.Frame.TheVariants.{Commit as CommitFrame}
@@ -30,9 +29,8 @@ use Rattle.ring_token.specs.Histories.{TokenHistory, unvisited, with_raise, last
 use Rattle.ring_join.specs.Gatherers.{Gatherer}
 use Rattle.ring_join.specs.Gathering.{Gathering}
 use Rattle.ring_commit.specs.declared.configuration.Configuration.{Configuration}
-use Rattle.ring_commit.specs.Reports.{same_entry, reports_of, safe_of, none_behind, is_sound}
-use Rattle.ring_commit.specs.Rounds.{position_of_hop, receiver, hopped, is_of, is_own, is_second_round}
-use Rattle.ring_commit.specs.Outcomes.{is_at}
+use Rattle.ring_commit.specs.Reports.{reports_of, safe_of, none_behind, is_sound}
+use Rattle.ring_commit.specs.Rounds.{position_of_hop, receiver, hopped, is_of, is_own}
 use Rattle.ring_recover.specs.Installing.{in_front}
 use Rattle.ring_recover.specs.Plans.{plan_of, plan_from, plan_if_sound, safe}
 use Rattle.ring_recover.specs.Recovering.{begun}

@@ -10,3 +10,4 @@ pub mod Setting
 pub mod Learns
 pub mod Taking
 pub mod Wraps
+pub mod Installs

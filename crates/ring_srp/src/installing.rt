@@ -4,10 +4,11 @@ ghost use Rattle.std.specs.Prelude.{◌≡◌, ◌≤◌, true, if◌then◌else
 ghost use Rattle.ring_base.specs.declared.fault.Fault.TheVariants.{Memory};
 ghost use Rattle.ring_payload.specs.Kinds.{is_user};
 ghost use Rattle.ring_window.specs.Windows.{kept};
-ghost use Rattle.ring_recover.specs.Deliveries.{delivery as whole_delivery, rests};
-ghost use Rattle.ring_core.specs.declared.out.Out.TheVariants.{Agreed, Trans, Rest, Regular};
-ghost use Rattle.ring_core.specs.Giving.{may_install, install, settle, configured, users};
+ghost use Rattle.ring_recover.specs.Deliveries.{delivery as whole_delivery};
+ghost use Rattle.ring_core.specs.declared.out.Out.TheVariants.{Agreed, Rest};
+ghost use Rattle.ring_core.specs.Giving.{may_install, install, settle, users};
 ghost use Rattle.ring_core.specs.Views.{front, mark, plan};
+ghost use Rattle.ring_srp.specs.Installs.{given_first, given_all};
 
 use crate::giving::Reached;
 use crate::history::with_install;
@@ -46,7 +47,7 @@ impl<A: Allocator + Copy> Machine<A> {
     {
         match &self.recovery {
             Some(recovering) if self.state == State::Recovery => {
-                let mark = recovering.part.visit.safe();
+                let mark = recovering.part.window.mark();
                 if !recovering.ends.is_ready(self.running.members, mark) {
                     return None;
                 }
@@ -62,7 +63,7 @@ impl<A: Allocator + Copy> Machine<A> {
         requires due { may_install self.old ≡ true }
         requires delivery { delivery.now ≡ whole_delivery (plan self.old) self.old.held }
         ensures core { OnOk result (self.new ≡ install self.old) }
-        ensures outs { OnOk result (outs.new.items ≡ outs.old.items ++ configured self.old) }
+        ensures outs { OnOk result (outs.new.items ≡ outs.old.items ++ given_all self.old) }
         ensures refused { IfErr result (λ fault. fault ≡ Memory) }
     {
         self.give_change(delivery, outs)?;
@@ -81,7 +82,7 @@ impl<A: Allocator + Copy> Machine<A> {
     fn give_change(&self, delivery: &Delivery, outs: &mut Vec<Out<A>, A>) -> Result<(), Fault>
         requires due { may_install self.now ≡ true }
         requires delivery { delivery.now ≡ whole_delivery (plan self.now) self.now.held }
-        ensures ok { OnOk result (outs.new.items ≡ outs.old.items ++ Trans self.now.installed.ring self.now.running.ring (plan self.now).mates ∷ (map (λ x. Rest x.ring x.number x) (rests (plan self.now) self.now.held) ++ Regular self.now.running.ring self.now.running.members ∷ [])) }
+        ensures ok { OnOk result (outs.new.items ≡ outs.old.items ++ given_first self.now) }
         ensures refused { IfErr result (λ fault. fault ≡ Memory) }
     {
         let mates = self.recovery.as_ref().unwrap().plan.mates();
@@ -123,11 +124,24 @@ fn give_rest<A: Allocator + Copy>(
     ensures refused { IfErr result (λ fault. fault ≡ Memory) }
 {
     for number in numbers.iter() {
-        if let Some(message) = window.get(number) {
-            give_if_users(message, outs)?;
-        }
+        give_number(window, number, outs)?;
     }
     Ok(())
+}
+
+/// In the transitional configuration the message of a number, where the window still has it and it is a user's.
+fn give_number<A: Allocator + Copy>(
+    window: &Window<A>,
+    number: u64,
+    outs: &mut Vec<Out<A>, A>,
+) -> Result<(), Fault>
+    ensures ok { OnOk result (outs.new.items ≡ outs.old.items ++ map (λ x. Rest x.ring x.number x) (filter (λ x. is_user x.payload) (filter_map (kept window.now) (number ∷ [])))) }
+    ensures refused { IfErr result (λ fault. fault ≡ Memory) }
+{
+    match window.get(number) {
+        Some(message) => give_if_users(message, outs),
+        None => Ok(()),
+    }
 }
 
 /// In the transitional configuration a message, where it is a user's.

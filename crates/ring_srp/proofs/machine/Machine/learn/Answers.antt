@@ -1,9 +1,9 @@
 -- The token has a plan, and goes on with one hop more.
-use Rattle.std.proofs.Common.{◌≡◌, ◌+◌, Option, Some, [], ◌∷◌, ◌++◌, List, ap, ◌∙◌, sym, subst, arith, rules}
+use Rattle.std.proofs.Common.{◌≡◌, ◌+◌, Some, [], ◌∷◌, ◌++◌, ap, ◌∙◌, sym, arith, rules}
 use Rattle.ring_base.specs.declared.state.State.TheVariants.{Recovery}
 use Rattle.ring_wire.specs.declared.commit.CommitToken.{CommitToken}
 use Rattle.ring_commit.proofs.Hopping.{second_round_hop}
-use Rattle.ring_recover.specs.Recovering.{Recovering as Recovered, begun}
+use Rattle.ring_recover.specs.Recovering.{begun}
 use Rattle.ring_core.specs.State.{Core, Sent}
 use Rattle.ring_core.specs.Views.{own_entry}
 use Rattle.ring_core.specs.Giving.{sent}

@@ -1,12 +1,11 @@
 -- What the plan calls safe is in the old ring's front, and of the running ring nothing is known.
-use Rattle.std.proofs.Common.{◌≡◌, [], Some, refl, ap, ◌∙◌, sym, subst}
+use Rattle.std.proofs.Common.{Some, refl, ap, ◌∙◌, sym, subst}
 use Rattle.ring_window.specs.Windows.{opened}
 use Rattle.ring_recover.specs.Plans.{safe}
 use Rattle.ring_recover.specs.Recovering.{Recovering as Recovered, begun}
 use Rattle.ring_core.specs.State.{Core}
 use Rattle.ring_srp.specs.Allowing.{LearnAllowed}
 use Rattle.ring_srp.specs.Learns.{plan_at, safe_at}
-use Rattle.ring_srp.specs.Machines.{core_of}
 use Rattle.ring_srp.proofs.Learns.{may_forget, recovers, into_recovery}
 use Rattle.ring_srp.proofs.machine.Machine.recover.Goals as goal
 
