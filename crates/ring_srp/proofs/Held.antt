@@ -270,12 +270,15 @@ pub no_recovery : (s : State) → sameb the_type s Recovery ≡ false → s ≡ 
 no_recovery s h e = same_false the_type s Recovery h e
 
 -- in Recovery there is what is kept of it
-recovering_some : {A : Type 0} (c : Core A) (recovery : Option (Recovering A)) (r : Recovering A) → recovery ≡ Some r → IsRecovering c recovery → Recovers c r
+pub recovering_some : {A : Type 0} (c : Core A) (recovery : Option (Recovering A)) (r : Recovering A) → recovery ≡ Some r → IsRecovering c recovery → Recovers c r
 recovering_some c recovery r e i = subst (λ (o : Option (Recovering _)). IsRecovering c o) e i
 
 pub recovering_there : {A : Type 0} (c : Core A) (recovery : Option (Recovering A)) → IsRecovering c recovery → ((r : Recovering A) → recovery ≡ Some r → ⊥) → ⊥
 recovering_there c None i f = i
 recovering_there c (Some r) i f = f r refl
+
+pub recovering_none : {A : Type 0} (c : Core A) (recovery : Option (Recovering A)) → recovery ≡ None → IsRecovering c recovery → ⊥
+recovering_none c recovery e i = subst (λ (o : Option (Recovering _)). IsRecovering c o) e i
 
 -- the ring in use is then the running one
 pub used_running : {A : Type 0} (c : Core A) (x : Message A) → x.ring ≡ ring_in_use c.state c → c.state ≡ Recovery → x.ring ≡ c.running.ring

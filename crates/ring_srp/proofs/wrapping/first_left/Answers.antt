@@ -9,7 +9,7 @@ use Rattle.ring_srp.proofs.wrapping.first_left.Goals.{in-Some+in_ok-push, in_def
 
 pub returns-then-len-most-clause-items : goal.returns-then-len-most-clause-items
 returns-then-len-most-clause-items g c =
-    made_full c.args.plan.now c.args.window.now.held c.args.most c.loop-before.before c.loop-before.payloads.items (sym c.len.ensures ∙ c.if-len-most.true) c.loop-before.invariant
+    made_full c.args.plan.now c.args.window.now.held c.args.most c.loop-before.before c.loop-before.payloads.items (omega (arith, c.len.ensures, c.if-len-most.true, c.loop-before.payloads.ok.0)) c.loop-before.invariant
 
 pub loop-before-preserved : goal.loop-before-preserved
 loop-before-preserved g c =
