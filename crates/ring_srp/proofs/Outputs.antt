@@ -1,9 +1,10 @@
 -- What the parts of a step send and give, one after another, is what the step sends and gives.
-use Rattle.std.proofs.Common.{◌≡◌, Bool, true, false, List, [], ◌∷◌, ◌++◌, map, refl, ap, sym, ◌∙◌}
+use Rattle.std.proofs.Common.{◌≡◌, ℕ, Bool, true, false, List, [], ◌∷◌, ◌++◌, map, refl, ap, sym, ◌∙◌}
 use Rattle.std.specs.Prelude.{not, ◌==◌, ◌&&◌, OnOk, Ok, Err, Result}
 use Rattle.std.proofs.lemmas.List.{append-nil, map-append, append_assoc}
 use Rattle.std.proofs.lemmas.List.Elements.{filter-append}
 use Rattle.ring_base.specs.Processors.{nobody}
+use Rattle.ring_base.specs.declared.ring_id.RingId.{RingId}
 use Rattle.ring_core.specs.declared.input.Input.{Input}
 use Rattle.ring_core.specs.declared.out.Out.{Out}
 use Rattle.ring_core.specs.declared.out.Out.TheVariants.{Send}
@@ -11,7 +12,8 @@ use Rattle.ring_core.specs.State.{Core, Sent, Did}
 use Rattle.ring_core.specs.Joining.{proposes}
 use Rattle.ring_core.specs.Deciding.{Act, decide}
 use Rattle.ring_core.specs.Acting.{act, may_follow, silently, proposed_after, done_by, done}
-use Rattle.ring_core.specs.Giving.{addressed, sent, given, may_install, configured, settle, delivered}
+use Rattle.ring_core.specs.Views.{front, mark}
+use Rattle.ring_core.specs.Giving.{addressed, sent, delivered_from, given, may_install, configured, settle, delivered}
 use Rattle.ring_core.specs.Stepping.{ring_step}
 
 -- what holds of a result that is a value
@@ -91,6 +93,11 @@ step_outs {A} c mid a input outs d e o =
     ∙ ap (λ (m : Core A). (sent did.sends ++ given c m) ++ (settle (may_install m) m []).outs) e
     ∙ settled_outs (may_install did.core) did.core (sent did.sends ++ given c did.core)
     ∙ ap (λ (b : Act A). (delivered c (done c b)).outs) d
+
+-- what was sent and given, of what the code keeps
+pub given_outs : {A : Type 0} (c mid : Core A) (sends : List (Sent A)) (none first outs : List (Out A)) (ring : RingId) (reached safe : ℕ) → none ≡ [] → first ≡ none ++ sent sends → outs ≡ first ++ delivered_from mid ring reached safe
+    → ring ≡ c.installed.ring → reached ≡ front c c.installed.ring → safe ≡ mark c c.installed.ring → outs ≡ sent sends ++ given c mid
+given_outs c mid sends none first outs ring reached safe n f o r a b = rw (o, f, n, r, a, b) refl
 
 -- Once it was installed, no installation is due
 

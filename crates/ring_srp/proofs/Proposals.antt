@@ -1,6 +1,7 @@
 -- Who proposes a ring is one of its members, and the ring is newer than all that it took part in.
-use Rattle.std.proofs.Common.{◌≡◌, ℕ, suc, ◌<◌, ◌≤◌, Bool, true, false, List, [], ◌∷◌, length, Option, Some, None, refl, ap, ◌∙◌, sym, subst, arith}
+use Rattle.std.proofs.Common.{◌≡◌, ℕ, suc, ◌<◌, ◌≤◌, Bool, true, false, List, [], ◌∷◌, ◌++◌, length, inl, inr, Option, Some, None, refl, ap, ◌∙◌, sym, subst, arith}
 use Rattle.std.specs.Prelude.{◌&&◌, ◌==◌, nat_le, slice_index}
+use Rattle.std.proofs.lemmas.List.{append-nil}
 use Rattle.std.proofs.lemmas.Bool.{cases_Bool, and_parts, eqb-true, cond-true, cond-false}
 use Rattle.ring_base.specs.Numbers.{max_number}
 use Rattle.ring_base.specs.Processors.{IsMember, elements, size, at, smallest}
@@ -10,9 +11,13 @@ use Rattle.ring_base.specs.declared.state.State.TheVariants.{Gather, Commit, Rec
 use Rattle.ring_wire.specs.declared.commit.CommitToken.{CommitToken}
 use Rattle.ring_join.specs.Gathering.{Gathering, candidates, has_consensus, new_number, may_propose}
 use Rattle.ring_commit.specs.Rounds.{proposal}
+use Rattle.ring_core.specs.declared.out.Out.{Out}
 use Rattle.ring_core.specs.State.{Core, floor}
 use Rattle.ring_core.specs.Views.{own_entry}
 use Rattle.ring_core.specs.Joining.{proposes_in, proposes}
+use Rattle.ring_core.specs.Handing.{joined}
+use Rattle.ring_core.specs.Acting.{silently, proposed_after}
+use Rattle.ring_core.specs.Giving.{sent}
 use Rattle.ring_srp.specs.Proposing.{due}
 
 -- a list whose first number is no zero has one
@@ -63,14 +68,36 @@ abbrev or_else : CommitToken → Option CommitToken → CommitToken
 or_else k None = k
 or_else k (Some token) = token
 
-pub is_due : {A : Type 0} (c : Core A) (token : CommitToken) → 1 ≤ c.me → Some token ≡ due c → IsDue c token
+is_due : {A : Type 0} (c : Core A) (token : CommitToken) → 1 ≤ c.me → Some token ≡ due c → IsDue c token
 is_due {A} c token low e = elim (cases_Bool (proposes c)) [
   | inl h ↦ subst (λ (k : CommitToken). IsDue c k) (sym (ap (or_else token) (e ∙ cond-true (proposes c) (Some (proposed_by c)) None h))) (due_of c low h)
   | inr h ↦ (let q : Some token ≡ None = e ∙ cond-false (proposes c) (Some (proposed_by c)) None h in cc)
 ]
 
-pub not_due : {A : Type 0} (c : Core A) → None ≡ due c → proposes c ≡ false
+-- the same, of what the code keeps and answers
+pub due_here : {A : Type 0} (m c : Core A) (token : CommitToken) (answer : Option CommitToken) → m ≡ c → 1 ≤ m.me → answer ≡ Some token → answer ≡ due c → IsDue c token
+due_here {A} m c token answer v low is e = is_due c token (subst (λ (x : Core A). 1 ≤ x.me) v low) (sym is ∙ e)
+
+not_due : {A : Type 0} (c : Core A) → None ≡ due c → proposes c ≡ false
 not_due c e = elim (cases_Bool (proposes c)) [
   | inl h ↦ (let q : None ≡ Some (proposed_by c) = e ∙ cond-true (proposes c) (Some (proposed_by c)) None h in cc)
   | inr h ↦ h
 ]
+
+-- the proposal, where one is due
+
+pub due_core : {A : Type 0} (c : Core A) (token : CommitToken) → IsDue c token → (joined c token).core ≡ (proposed_after (proposes c) (silently c)).core
+due_core {A} c token d =
+    ap (λ (k : CommitToken). (joined {A = A} c k).core) d.token_is ∙ sym (ap (λ b. (proposed_after b (silently c)).core) d.proposes)
+
+pub due_sends : {A : Type 0} (c : Core A) (token : CommitToken) → IsDue c token → (joined c token).sends ≡ (proposed_after (proposes c) (silently c)).sends
+due_sends {A} c token d =
+    ap (λ (k : CommitToken). (joined {A = A} c k).sends) d.token_is ∙ sym (ap (λ b. (proposed_after b (silently c)).sends) d.proposes)
+
+-- and where none is
+
+pub none_core : {A : Type 0} (c : Core A) → None ≡ due c → c ≡ (proposed_after (proposes c) (silently c)).core
+none_core c e = sym (ap (λ b. (proposed_after b (silently c)).core) (not_due c e))
+
+pub none_outs : {A : Type 0} (c : Core A) (outs : List (Out A)) → None ≡ due c → outs ≡ outs ++ sent (proposed_after (proposes c) (silently c)).sends
+none_outs c outs e = sym (append-nil outs) ∙ sym (ap (λ b. outs ++ sent (proposed_after b (silently c)).sends) (not_due c e))

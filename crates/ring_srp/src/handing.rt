@@ -30,6 +30,7 @@ impl<A: Allocator + Copy> Machine<A> {
         ensures outs { OnOk result (outs.new.items ≡ outs.old.items ++ sent (proposed_after (proposes self.old) (silently self.old)).sends) }
         ensures refused { IfErr result (λ fault. fault ≡ Memory) }
     {
+        let _me = &self.me;
         match self.due() {
             Some(token) => self.join(token, outs),
             None => Ok(()),
