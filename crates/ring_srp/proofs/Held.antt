@@ -33,7 +33,7 @@ use Rattle.ring_recover.proofs.Following.{up_to, up_to_all, up_to_front, front_w
 use Rattle.ring_join.specs.Gatherers.{Gatherer}
 use Rattle.ring_commit.specs.declared.configuration.Configuration.{Configuration}
 use Rattle.ring_core.specs.State.{Core, floor}
-use Rattle.ring_core.specs.Acting.{gives_old}
+use Rattle.ring_core.specs.Acting.{gives_old, took}
 use Rattle.ring_core.specs.Deciding.{takes_of, members_of, is_taken}
 use Rattle.ring_core.specs.Giving.{users}
 use Rattle.ring_core.specs.Views.{front, mark, plan, takes_number}
@@ -270,12 +270,15 @@ pub no_recovery : (s : State) → sameb the_type s Recovery ≡ false → s ≡ 
 no_recovery s h e = same_false the_type s Recovery h e
 
 -- in Recovery there is what is kept of it
-recovering_some : {A : Type 0} (c : Core A) (recovery : Option (Recovering A)) (r : Recovering A) → recovery ≡ Some r → IsRecovering c recovery → Recovers c r
+pub recovering_some : {A : Type 0} (c : Core A) (recovery : Option (Recovering A)) (r : Recovering A) → recovery ≡ Some r → IsRecovering c recovery → Recovers c r
 recovering_some c recovery r e i = subst (λ (o : Option (Recovering _)). IsRecovering c o) e i
 
 pub recovering_there : {A : Type 0} (c : Core A) (recovery : Option (Recovering A)) → IsRecovering c recovery → ((r : Recovering A) → recovery ≡ Some r → ⊥) → ⊥
 recovering_there c None i f = i
 recovering_there c (Some r) i f = f r refl
+
+pub recovering_none : {A : Type 0} (c : Core A) (recovery : Option (Recovering A)) → recovery ≡ None → IsRecovering c recovery → ⊥
+recovering_none c recovery e i = subst (λ (o : Option (Recovering _)). IsRecovering c o) e i
 
 -- the ring in use is then the running one
 pub used_running : {A : Type 0} (c : Core A) (x : Message A) → x.ring ≡ ring_in_use c.state c → c.state ≡ Recovery → x.ring ≡ c.running.ring
@@ -388,19 +391,22 @@ inner_by {A} c w v payload p = ap (λ (u : Windowed A). inner_of u payload) p.wi
 
 module _ {A : Type 0} (c : Core A) (gather : Gatherer) (window : Windowed A) (visit : TokenHistory A) (recovery : Option (Recovering A)) (m : IsMachine c gather window visit recovery) where
   -- in Recovery a message of the running ring is held, and what it wraps in front of it
-  pub held_both : (x : Message A) (r : Recovering A) (window' : Windowed A) (held : List (Message A)) → c.state ≡ Recovery → recovery ≡ Some r → x.ring ≡ c.running.ring
-      → takes_number c x.ring x.number ≡ true → window' ≡ with_inner window x.payload → held ≡ inner_of window x.payload ++ x ∷ c.held
+  pub held_both : (x : Message A) (r : Recovering A) (window' : Windowed A) (top : ℕ) (held : List (Message A)) → c.state ≡ Recovery → recovery ≡ Some r → x.ring ≡ c.running.ring
+      → takes_number c x.ring x.number ≡ true → window' ≡ with_inner window x.payload → top ≡ window.mark → held ≡ unwrapped c.installed.ring top c.held x.payload ++ x ∷ c.held
       → IsMachine (with_held c held) gather window' visit (Some (with_taken r x))
-  held_both x r window' held s some e h w same =
+  held_both x r window' top held s some e h w t same =
       let old = c.installed.ring in
       let apart : old.seq < c.running.ring.seq = m.apart (forming c.state s) in
       let other : same_ring x.ring old ≡ false = subst (λ (q : RingId). same_ring q old ≡ false) (sym e) (higher_other c.running.ring old apart) in
-      let first = held_running c gather window visit recovery m x r s some e h in
-      let inner : inner_of window x.payload ≡ unwrapped old (mark c old) (x ∷ c.held) x.payload = inner_by c window visit x.payload m.kept ∙ sym (unwrapped_still old (mark c old) x c.held x.payload other) in
-      let both = held_inner (with_held c (x ∷ c.held)) gather window visit (Some (with_taken r x)) first x.payload s in
-      subst (λ (ys : List (Message A)). IsMachine (with_held c ys) gather window' visit (Some (with_taken r x))) (sym same)
-      (subst (λ (u : Windowed A). IsMachine (with_held c (inner_of window x.payload ++ x ∷ c.held)) gather u visit (Some (with_taken r x))) (sym w)
-      (subst (λ (ys : List (Message A)). IsMachine (with_held c (ys ++ x ∷ c.held)) gather (record window { held = ys ++ window.held }) visit (Some (with_taken r x))) (sym inner) both))
+      let still = unwrapped_still old (mark c old) x c.held x.payload other in
+      let inner : inner_of window x.payload ≡ unwrapped old (mark c old) (x ∷ c.held) x.payload = inner_by c window visit x.payload m.kept ∙ sym still in
+      let wide : window' ≡ record window { held = unwrapped old (mark c old) (x ∷ c.held) x.payload ++ window.held } = w ∙ ap (λ (ys : List (Message A)). record window { held = ys ++ window.held }) inner in
+      let all : held ≡ unwrapped old (mark c old) (x ∷ c.held) x.payload ++ x ∷ c.held = same
+      ∙ ap (λ n. unwrapped old n c.held x.payload ++ x ∷ c.held) (t ∙ ap (λ (u : Windowed A). u.mark) m.kept.window_is)
+      ∙ ap (λ (ys : List (Message A)). ys ++ x ∷ c.held) (sym still) in
+      subst (λ (ys : List (Message A)). IsMachine (with_held c ys) gather window' visit (Some (with_taken r x))) (sym all)
+      (subst (λ (u : Windowed A). IsMachine (with_held c (unwrapped old (mark c old) (x ∷ c.held) x.payload ++ x ∷ c.held)) gather u visit (Some (with_taken r x))) (sym wide)
+      (held_inner (with_held c (x ∷ c.held)) gather window visit (Some (with_taken r x)) (held_running c gather window visit recovery m x r s some e h) x.payload s))
 
   -- the contents of the two requirements of what is kept in Recovery
   pub front_there : (x : Message A) (r : Recovering A) → c.state ≡ Recovery → recovery ≡ Some r → x.ring ≡ c.running.ring → takes_number c x.ring x.number ≡ true
@@ -441,3 +447,13 @@ none_old Commit c x n = refl
 none_old Recovery c x n = absurd (n refl)
 none_old Operational c x n = refl
 none_old Stopped c x n = refl
+
+-- what is taken, in Recovery and else
+pub took_other : {A : Type 0} (c : Core A) (x : Message A) → (c.state ≡ Recovery → ⊥) → with_held c (x ∷ c.held) ≡ took c x
+took_other c x n = ap (λ (ys : List (Message _)). with_held c (ys ++ x ∷ c.held)) (sym (none_old c.state c x n))
+
+module _ {A : Type 0} (c : Core A) (gather : Gatherer) (window : Windowed A) (visit : TokenHistory A) (recovery : Option (Recovering A)) (m : IsMachine c gather window visit recovery) where
+  pub took_both : (x : Message A) (top : ℕ) → c.state ≡ Recovery → top ≡ window.mark → with_held c (unwrapped c.installed.ring top c.held x.payload ++ x ∷ c.held) ≡ took c x
+  took_both x top s t =
+      ap (λ n. with_held c (unwrapped c.installed.ring n c.held x.payload ++ x ∷ c.held)) (t ∙ ap (λ (u : Windowed A). u.mark) m.kept.window_is)
+      ∙ sym (ap (λ q. with_held c (gives_old q c x ++ x ∷ c.held)) s)

@@ -1,5 +1,5 @@
 -- What a visit sends in Recovery, found number by number.
-use Rattle.std.proofs.Common.{◌≡◌, ◌≢◌, ℕ, zero, suc, ◌+◌, ◌-◌, ◌<◌, ◌≤◌, Bool, true, false, List, [], ◌∷◌, ◌++◌, filter, filter_map, length, take, Option, Some, None, refl, ap, ◌∙◌, sym, subst, inl, inr, arith, append_assoc, length-append}
+use Rattle.std.proofs.Common.{◌≡◌, ℕ, zero, suc, ◌+◌, ◌-◌, ◌<◌, ◌≤◌, Bool, true, false, List, [], ◌∷◌, ◌++◌, filter, filter_map, length, take, Option, Some, None, refl, ap, ◌∙◌, sym, subst, inl, inr, arith, append_assoc, length-append}
 use Rattle.std.specs.Prelude.{not, if◌then◌else◌}
 use Rattle.std.specs.List.{cons_option}
 use Rattle.std.proofs.lemmas.Bool.{cases_Bool, cond-true, cond-false}
@@ -77,20 +77,20 @@ pub record IsMade {A : Type 0} (r : Seen A) (held : List (Message A)) (most befo
   pub on : low r.plan ≤ before
 
 module _ {A : Type 0} (r : Seen A) (held : List (Message A)) (most : ℕ) where
+  few_more : {k j : ℕ} → k ≡ j + 1 → j < most → k ≤ most
+  few_more e l = omega (arith, e, l)
+
   pub made_none : (before : ℕ) → before ≡ low r.plan → IsMade r held most before []
   made_none before e = record { all = ap (left_from r held) (sym e); few = omega arith; on = omega (arith, e) }
 
-  pub made_one : (before : ℕ) (made : List (Payload A)) (p : Payload A) → before < highest held r.plan.old → length made ≢ most → Some p ≡ wrap_left r held (before + 1)
+  pub made_one : (before : ℕ) (made : List (Payload A)) (p : Payload A) → before < highest held r.plan.old → length made < most → Some p ≡ wrap_left r held (before + 1)
       → IsMade r held most before made → IsMade r held most (before + 1) (made ++ p ∷ [])
   made_one before made p l n e m =
       record {
         all = m.all ∙ ap (λ (ps : List (Payload A)). made ++ ps) (left_on r held before (Some p) l e) ∙ sym (append_assoc made (p ∷ []) (left_from r held (before + 1)));
-        few = fewer (length-append made (p ∷ [])) n m.few;
+        few = few_more (length-append made (p ∷ [])) n;
         on = omega (arith, m.on);
       }
-    where
-      fewer : {k j : ℕ} → k ≡ j + 1 → j ≢ most → j ≤ most → k ≤ most
-      fewer e no l = omega (arith, e, no, l)
 
   pub made_next : (before : ℕ) (made : List (Payload A)) → before < highest held r.plan.old → None ≡ wrap_left r held (before + 1)
       → IsMade r held most before made → IsMade r held most (before + 1) made
@@ -116,10 +116,7 @@ module _ {A : Type 0} (r : Seen A) (held : List (Message A)) (most : ℕ) where
       → IsMade r held most before made → made ++ End ∷ [] ≡ take most (left_and_end r held)
   made_end before made l n e m =
       let whole : left_and_end r held ≡ made ++ End ∷ [] = made_whole before made l m ∙ ap (λ (ps : List (Payload A)). made ++ ps) (cond-false (has_own_end r.me r.seen) [] (End ∷ []) e) in
-      sym (ap (take most) whole ∙ take_all most (made ++ End ∷ []) (few (length-append made (End ∷ [])) n))
-    where
-      few : {k j : ℕ} → k ≡ j + 1 → j < most → k ≤ most
-      few e l = omega (arith, e, l)
+      sym (ap (take most) whole ∙ take_all most (made ++ End ∷ []) (few_more (length-append made (End ∷ [])) n))
 
   -- or none
   pub made_all : (before : ℕ) (made : List (Payload A)) → highest held r.plan.old ≤ before → has_own_end r.me r.seen ≡ true
