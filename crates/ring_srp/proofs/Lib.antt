@@ -2,6 +2,9 @@ pub mod Lent
 pub mod Parts
 pub mod Standing
 pub mod Receivers
+pub mod Users
+pub mod Turned
+pub mod Aside
 pub mod Held
 pub mod Wraps
 pub mod Visits

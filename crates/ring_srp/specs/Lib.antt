@@ -5,5 +5,7 @@ pub mod Histories
 pub mod Proposing
 pub mod Passing
 pub mod Ended
+pub mod Users
+pub mod Setting
 pub mod Taking
 pub mod Wraps
