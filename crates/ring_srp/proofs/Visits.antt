@@ -1,5 +1,5 @@
 -- A visit, part by part: what was asked for goes out again, what is new goes out and is held, and what the token then is.
-use Rattle.std.proofs.Common.{◌≡◌, ℕ, zero, suc, ◌+◌, ◌-◌, ◌<◌, ◌≤◌, min, max, Bool, true, false, List, [], ◌∷◌, ◌++◌, length, map, reverse, take, drop, get_or, Option, Some, None, Result, Ok, Err, refl, sym, ap, subst, ◌∙◌, arith, append_assoc, inl, inr}
+use Rattle.std.proofs.Common.{◌≡◌, ℕ, zero, suc, ◌+◌, ◌-◌, ◌<◌, ◌≤◌, min, max, Bool, true, false, List, [], ◌∷◌, ◌++◌, length, map, reverse, take, drop, get_or, Option, Some, None, Result, Ok, Err, refl, sym, ap, subst, ◌∙◌, arith, append_assoc, ◌⊎◌, inl, inr}
 use Rattle.std.specs.Prelude.{not, ◌&&◌, ◌==◌, nat_lt, nat_le, filter, filter_map, if◌then◌else◌, OnOk}
 use Rattle.std.specs.List.{cons_option}
 use Rattle.std.specs.List.Sorted.{IsStrictlyIncreasing}
@@ -82,6 +82,12 @@ passing c t h =
     }
 
 -- The ring that runs
+
+-- elsewhere none runs
+pub none_runs : (s : State) → (s ≡ Gather) ⊎ ((s ≡ Commit) ⊎ (s ≡ Stopped)) → is_running s ≡ true → ⊥
+none_runs s (inl e) r = true≢false (sym r ∙ ap is_running e)
+none_runs s (inr (inl e)) r = true≢false (sym r ∙ ap is_running e)
+none_runs s (inr (inr e)) r = true≢false (sym r ∙ ap is_running e)
 
 -- its messages are taken
 in_use : {A : Type 0} (s : State) (c : Core A) → is_running s ≡ true → (s ≡ Operational → c.installed ≡ c.running) → ring_in_use s c ≡ c.running.ring

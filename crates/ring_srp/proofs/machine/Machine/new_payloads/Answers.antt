@@ -7,8 +7,9 @@ use Rattle.ring_payload.specs.Packing.{packed, left_behind}
 use Rattle.ring_token.specs.Visits.{room}
 use Rattle.ring_core.specs.State.{Core}
 use Rattle.ring_core.specs.Visiting.{offers, room_at, queue_after}
+use Rattle.ring_srp.specs.Machines.{is_running}
 use Rattle.ring_srp.proofs.Standing.{with_queue}
-use Rattle.ring_srp.proofs.Visits.{if_ok, mark_behind, mark_by_visits}
+use Rattle.ring_srp.proofs.Visits.{if_ok, none_runs, mark_behind, mark_by_visits}
 use Rattle.ring_srp.proofs.machine.Machine.new_payloads.Goals as goal
 
 pub room-room-requires : goal.room-room-requires
@@ -68,3 +69,6 @@ returns-in-Operational-clause-core g c =
             e ∙ ap (λ q. left_behind c.room-room.result q) queue ∙ ap (λ n. left_behind n now.queue) r ∙ ap (λ s. queue_after s (room_at now t) now.queue) (sym state) in
         λ i. record (c.self.view_is i) { queue = k i })
     c.take_packed.ensures.queue
+
+pub returns-in-Gather : goal.returns-in-Gather
+returns-in-Gather g c = absurd (none_runs c.self.inside.state c.in-Gather.is (ap (λ (x : Core g.row.A.Denot). is_running x.state) c.self.view_is ∙ c.requires.runs))
