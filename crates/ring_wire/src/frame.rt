@@ -12,7 +12,7 @@ ghost use Rattle.ring_wire.specs.Spells.{Spells};
 use crate::commit_box::CommitBox;
 use crate::join::Join;
 use crate::message::Message;
-use crate::token::Token;
+use crate::token::{LaidToken, Token};
 use crate::wire::Wire;
 use bytes::BytesMut;
 use ring_base::Fault;
@@ -139,11 +139,14 @@ fn read_token<A: Allocator + Copy>(
 ) -> Result<(), Fault>
     ensures { Puts result place.old place.new from.new (body_at version token_kind from.old) }
 {
-    let token = read_sized(alloc, from)?;
+    let token = LaidToken::read_sized(alloc, from)?;
     if version != VERSION {
         return Err(Fault::BadFrame);
     }
-    *place = Some(Frame::Token(token));
+    match place {
+        Some(Frame::Token(kept)) => token.fill(kept),
+        _ => *place = Some(Frame::Token(token.token())),
+    }
     Ok(())
 }
 
