@@ -1,9 +1,10 @@
 //! Frames: two fixed bytes, the version, the kind, the body's length, and the body.
 
-ghost use Rattle.std.specs.Prelude.{◌≡◌, ℕ, ◌+◌, ◌^◌, ◌<◌, ◌≤◌, List, [], ◌∷◌, ◌++◌, length, IfOk, IfErr, IfSome, IsSome, OnOk, OnErr, ◌↔◌};
+ghost use Rattle.std.specs.Prelude.{◌≡◌, ℕ, ◌+◌, ◌^◌, ◌<◌, ◌≤◌, List, [], ◌∷◌, ◌++◌, length, IfOk, IfErr, IfSome, Some, IsSome, OnOk, OnErr, ◌↔◌};
 ghost use Rattle.ring_base.specs.declared.fault.Fault.TheVariants.{BadFrame};
 ghost use Rattle.ring_layout.specs.Reading.{Appends, Gives};
 ghost use Rattle.ring_wire.specs.declared.frame.Frame.{Frame as OneFrame};
+ghost use Rattle.ring_wire.specs.declared.frame.Frame.TheVariants.{Token as TokenFrame};
 ghost use Rattle.ring_payload.specs.Limits.{message_kind, token_kind, join_kind, commit_kind, most_frame};
 ghost use Rattle.ring_wire.specs.Frames.{body_at, frame_at, version_of, spelling_of, FrameFits};
 ghost use Rattle.ring_wire.specs.Fronts.{IsReadFault, IsGot, IsNoFront, Puts};
@@ -145,9 +146,20 @@ fn read_token<A: Allocator + Copy>(
     }
     match place {
         Some(Frame::Token(kept)) => token.fill(kept),
-        _ => *place = Some(Frame::Token(token.token())),
+        _ => put_token(&token, place),
     }
     Ok(())
+}
+
+/// Puts a token in the place of another kind of frame, or of none.
+#[inline(never)]
+fn put_token<A: Allocator + Copy>(token: &LaidToken<'_>, place: &mut Option<Frame<A>>)
+    ensures { place.new ≡ Some (TokenFrame token.now) }
+{
+    *place = Some(Frame::Token(Token::blank()));
+    if let Some(Frame::Token(kept)) = place {
+        token.fill(kept);
+    }
 }
 
 /// The join at the front, behind its length, into the place.

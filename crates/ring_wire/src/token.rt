@@ -23,6 +23,23 @@ pub struct Token {
     pub requests: Requests,
 }
 
+impl Token {
+    /// A token to be filled.
+    pub(crate) fn blank() -> Token {
+        Token {
+            ring: RingId {
+                seq: 0,
+                rep: Proc::new(1),
+            },
+            number: 0,
+            seq: 0,
+            aru: 0,
+            aru_id: None,
+            requests: Requests::new(),
+        }
+    }
+}
+
 /// A token whose requests stay where they lie: nothing is made before all of it is seen to be right. Contracts see the
 /// token.
 #[derive(Drop)]
@@ -119,22 +136,6 @@ impl<'a> LaidToken<'a> {
         token.aru_id = self.aru_id;
         token.requests.fill(&self.requests);
     }
-
-    /// The same token, with memory of its own.
-    pub(crate) fn token(&self) -> Token
-        ensures { result ≡ self.now }
-    {
-        let mut requests = Requests::new();
-        requests.fill(&self.requests);
-        Token {
-            ring: self.ring,
-            number: self.number,
-            seq: self.seq,
-            aru: self.aru,
-            aru_id: self.aru_id,
-            requests,
-        }
-    }
 }
 
 /// Whether each number is above the one before it, and all are from 1 to the greatest.
@@ -181,7 +182,9 @@ impl Encode for Token {
 
 impl<A: Allocator + Copy> Decode<A> for Token {
     fn read(alloc: A, from: &mut Reader<'_>) -> Result<Token, Fault> {
-        let token = LaidToken::read(alloc, from)?;
-        Ok(token.token())
+        let laid = LaidToken::read(alloc, from)?;
+        let mut token = Token::blank();
+        laid.fill(&mut token);
+        Ok(token)
     }
 }
