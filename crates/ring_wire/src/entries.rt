@@ -3,7 +3,7 @@
 ghost use Rattle.std.specs.Prelude.{◌≡◌, ℕ, ◌+◌, ◌^◌, ◌<◌, ◌≤◌, List, [], ◌∷◌, ◌++◌, length};
 ghost use Rattle.std.specs.Prelude.{◌==◌};
 ghost use Rattle.std.specs.List.{list_all};
-ghost use Rattle.ring_layout.specs.Reading.{Appends, Gives, times_at};
+ghost use Rattle.ring_layout.specs.Reading.{Appends, Gives, GivesBy, times_at};
 
 use arrayvec::ArrayVec;
 use bytes::BytesMut;
@@ -206,16 +206,17 @@ impl Clone for Entries {
 impl Entries {
     ghost use Rattle.ring_wire.specs.Entries.{entry_at};
 
-    /// The count entries at the front.
-    pub(crate) fn read<A: Allocator + Copy>(
+    /// Reads the count entries at the front into their place, where there is none yet. Refused as one entry is.
+    pub(crate) fn read_here<A: Allocator + Copy>(
+        &mut self,
         alloc: A,
         count: usize,
         from: &mut Reader<'_>,
-    ) -> Result<Entries, Fault>
-        requires { count ≤ 16 }
-        ensures { Gives result from.new (times_at count entry_at from.old) }
+    ) -> Result<(), Fault>
+        requires few { count ≤ 16 }
+        requires empty { self.old ≡ [] }
+        ensures { GivesBy (λ _. self.new) result from.new (times_at count entry_at from.old) }
     {
-        let entries = read_in_place(alloc, count, from)?;
-        Ok(Entries { entries })
+        read_in_place(alloc, count, from, &mut self.entries)
     }
 }
