@@ -1,7 +1,7 @@
 //! The entries of a commit token: what each member reports of its old ring.
 
 ghost use Rattle.std.specs.Prelude.{◌≡◌, ℕ, ◌+◌, ◌^◌, ◌<◌, ◌≤◌, List, [], ◌∷◌, ◌++◌, length};
-ghost use Rattle.std.specs.Prelude.{◌==◌};
+ghost use Rattle.std.specs.Prelude.{◌==◌, ◌*◌, true};
 ghost use Rattle.std.specs.List.{list_all};
 ghost use Rattle.ring_layout.specs.Reading.{Appends, Gives, GivesBy, times_at};
 
@@ -59,14 +59,33 @@ impl CommitEntry {
         self.is_held(j) && (j == 0 || self.front + 1 + j as u64 > self.mark + 256)
     }
 
-    /// Whether no bit is set that must not be.
+    /// Whether none of the byte's bits is set that must not be, as none of those before it is.
+    fn is_byte_right(&self, byte: usize) -> bool
+        requires index { byte < 32 }
+        requires front { self.now.front < 2 ^ 63 }
+        requires mark { self.now.mark < 2 ^ 63 }
+        requires before { held_test self.now.front self.now.mark self.now.held (8 * byte) ≡ true }
+        ensures { result ≡ held_test self.now.front self.now.mark self.now.held (8 * byte + 8) }
+    {
+        if self.held[byte] == 0 {
+            return true;
+        }
+        for bit in 0..8 {
+            if self.is_wrong(8 * byte + bit) {
+                return false;
+            }
+        }
+        true
+    }
+
+    /// Whether no bit is set that must not be. A byte 0 is passed over.
     fn is_held_right(&self) -> bool
         requires front { self.now.front < 2 ^ 63 }
         requires mark { self.now.mark < 2 ^ 63 }
         ensures { result ≡ held_test self.now.front self.now.mark self.now.held 256 }
     {
-        for j in 0..256 {
-            if self.is_wrong(j) {
+        for byte in 0..32 {
+            if !self.is_byte_right(byte) {
                 return false;
             }
         }
