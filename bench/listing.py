@@ -44,9 +44,9 @@ def token(requests):
     return frame(TOKEN, body + b"".join(number(9 + i, 8) for i in range(requests)))
 
 
-def commit(members):
-    """The commit token of ring 9.1 at its hop to the last of so many members, each of which was in ring 1.1."""
-    entry = ring(1, 1) + number(8, 8) + number(8, 8) + bytes(32)
+def commit(members, held=bytes(32)):
+    """The commit token of ring 9.1 with an entry of each of so many members, which were in ring 1.1."""
+    entry = ring(1, 1) + number(8, 8) + number(8, 8) + held
     return frame(COMMIT, ring(9, 1) + number(2**members - 1, 2) + number(members, 1) + members * entry)
 
 
@@ -70,6 +70,7 @@ FRAMES = {
     "Token with four requests": [token(4)],
     "wrapped Call": [message(b"\x02" + ring(1, 1) + number(3, 8) + number(1, 1) + b"\x01" + call(16))],
     "commit token with one entry": [commit(1)],
+    "commit token with one entry, all 255 held": [commit(1, b"\xfe" + 31 * b"\xff")],
     "commit token with four entries": [commit(4)],
     "Token without requests, and an End": [token(0), END],
     "commit token with one entry, and a Join": [commit(1), JOINED],
