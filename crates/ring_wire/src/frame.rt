@@ -203,8 +203,8 @@ fn read_commit<A: Allocator + Copy>(
     Ok(())
 }
 
-/// The frame at the front, into the place. Each kind has a function, and a message or join takes the place of another
-/// alone, so that no frame clears or moves what only a longer kind fills.
+/// The frame at the front, into the place. Each kind has a function, and a message, token or join takes the place of
+/// another alone, so that no frame clears or moves what it doesn't fill.
 #[tactic(auto, unfolding(crate::specs::Frames::frame_at, crate::specs::Frames::kind_at))]
 fn read_into<A: Allocator + Copy>(
     alloc: A,
