@@ -5,3 +5,4 @@ pub mod Processors
 pub mod Reading
 pub mod ReadingLaws
 pub mod Rings
+pub mod Words

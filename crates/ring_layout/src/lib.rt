@@ -10,8 +10,10 @@ mod processors;
 mod reader;
 mod rings;
 mod sized;
+mod words;
 
 pub use layout::{Decode, Encode};
 pub use many::{read_in_place, read_many, size_many, write_many};
 pub use reader::Reader;
 pub use sized::{read_sized, write_sized};
+pub use words::Words;

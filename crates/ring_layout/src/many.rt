@@ -1,6 +1,6 @@
 //! Several values one after the other.
 
-ghost use Rattle.std.specs.Prelude.{◌≡◌, ℕ, ◌+◌, ◌^◌, ◌<◌, ◌≤◌, List, ◌++◌, length, All};
+ghost use Rattle.std.specs.Prelude.{◌≡◌, ℕ, ◌+◌, ◌^◌, ◌<◌, ◌≤◌, List, [], ◌++◌, length, All};
 ghost use Rattle.std.specs.List.{flat_map};
 ghost use Rattle.ring_layout.specs.Reading.{GivesBy, Appends, times_at};
 
@@ -51,19 +51,21 @@ pub fn read_many<A: Allocator + Copy, T: Decode<A> + Drop>(
     Ok(items)
 }
 
-/// The count values at the front, in place: at most N. Refused as one value is.
-pub fn read_in_place<A: Allocator + Copy, T: Decode<A> + Default + Drop, const N: usize>(
+/// Reads the count values at the front into their place, which is empty and has room for them. Refused as one value is,
+/// and what then stands in the place is not told.
+pub fn read_in_place<A: Allocator + Copy, T: Decode<A> + Drop, const N: usize>(
     alloc: A,
     count: usize,
     from: &mut Reader<'_>,
-) -> Result<ArrayVec<T, N>, Fault>
-    requires { count ≤ N }
-    ensures { GivesBy (λ items. items.items) result from.new (times_at count T.at from.old) }
+    place: &mut ArrayVec<T, N>,
+) -> Result<(), Fault>
+    requires room { count ≤ N }
+    requires empty { place.old.items ≡ [] }
+    ensures { GivesBy (λ _. place.new.items) result from.new (times_at count T.at from.old) }
 {
-    let mut items = ArrayVec::new();
     for _ in 0..count {
         let item = T::read(alloc, from)?;
-        items.push(item);
+        place.push(item);
     }
-    Ok(items)
+    Ok(())
 }

@@ -1,8 +1,9 @@
 -- How the entries of a commit token are spelled.
 -- The commit entry, of docs/FORMATS.md.
-use Rattle.std.proofs.Common.{◌≡◌, ℕ, zero, suc, ◌+◌, ◌<◌, ◌≤◌, ◌/◌, ◌%◌, Bool, true, false, List, [], ◌∷◌, length, Option, refl, arith, add-one, inl, inr, eq-eqb}
+use Rattle.std.proofs.Common.{◌≡◌, ℕ, zero, suc, ◌+◌, ◌<◌, ◌≤◌, ◌*◌, ◌/◌, ◌%◌, Bool, true, false, List, [], ◌∷◌, length, Option, refl, subst, arith, add-one, inl, inr, eq-eqb}
 use Rattle.std.specs.Prelude.{nat_le, nat_lt, ◌&&◌, ◌||◌, not, ◌==◌, slice_index}
 use Rattle.std.specs.List.{AllByRecursion, list_all}
+use Rattle.std.proofs.lemmas.Nat.Bits.{bit_at-zero}
 use Rattle.std.proofs.lemmas.Bool.{cases_lt, cases_Bool, leb-true, le-leb, ltb-false, le-ltb, eqb-true, and_parts, not-true, and_cases, or_parts, both_ways, and_right}
 use Rattle.byteorder.specs.Endian.{big_bytes}
 use Rattle.ring_base.specs.Numbers.{max_number, window_size, has_bit}
@@ -48,6 +49,36 @@ held_test-wrong front mark held j (suc n) lt w =
       | inl below ↦ rw (held_test-wrong front mark held j n below w) refl
       | inr at ↦ let e : n ≡ j = omega arith in rw (e, w) (and_right (held_test front mark held j) false refl)
     ]
+
+-- a wrong bit stays wrong, however many follow
+pub held_test-longer : (front mark : ℕ) (held : List ℕ) (m n : ℕ) → m ≤ n → held_test front mark held m ≡ false → held_test front mark held n ≡ false
+unfolding held_test
+held_test-longer front mark held m zero le wrong = absurd (let e : m ≡ 0 = omega arith in both_ways _ (subst (λ (k : ℕ). held_test front mark held k ≡ false) e wrong) (held_test-zero front mark held))
+held_test-longer front mark held m (suc n) le wrong =
+    elim (cases_lt n m) [
+      | inl all ↦ subst (λ (k : ℕ). held_test front mark held k ≡ false) (let e : m ≡ suc n = omega arith in e) wrong
+      | inr less ↦ rw (held_test-longer front mark held m n less wrong) refl
+    ]
+
+-- a byte 0 has no bit
+no_bit : (held : List ℕ) (byte bit : ℕ) → bit < 8 → slice_index held byte ≡ 0 → bit_of held (8 * byte + bit) ≡ false
+no_bit held byte bit lt none =
+    let place : (8 * byte + bit) / 8 ≡ byte = omega arith in
+    rw (place, none, bit_at-zero ((8 * byte + bit) % 8)) refl
+
+no_wrong : (front mark : ℕ) (held : List ℕ) (byte bit : ℕ) → bit < 8 → slice_index held byte ≡ 0 → is_wrong front mark held (8 * byte + bit) ≡ false
+no_wrong front mark held byte bit lt none = rw (no_bit held byte bit lt none) refl
+
+skipped : (front mark : ℕ) (held : List ℕ) (byte bits : ℕ) → bits ≤ 8 → slice_index held byte ≡ 0 → held_test front mark held (8 * byte) ≡ true
+    → held_test front mark held (8 * byte + bits) ≡ true
+skipped front mark held byte zero le none before = subst (λ (k : ℕ). held_test front mark held k ≡ true) (let e : 8 * byte ≡ 8 * byte + 0 = omega arith in e) before
+skipped front mark held byte (suc bits) le none before =
+    let more = held_test-more front mark held (8 * byte + bits) (skipped front mark held byte bits (omega arith) none before) (no_wrong front mark held byte bits (omega arith) none) in
+    subst (λ (k : ℕ). held_test front mark held k ≡ true) (let e : 8 * byte + bits + 1 ≡ 8 * byte + suc bits = omega arith in e) more
+
+-- of a byte 0 no bit is wrong
+pub held_test-skip : (front mark : ℕ) (held : List ℕ) (byte : ℕ) → slice_index held byte ≡ 0 → held_test front mark held (8 * byte) ≡ true → held_test front mark held (8 * byte + 8) ≡ true
+held_test-skip front mark held byte none before = skipped front mark held byte 8 (omega arith) none before
 
 may_hold : (front mark : ℕ) (held : List ℕ) (j : ℕ) → is_wrong front mark held j ≡ false → bit_of held j ≡ true → MayHold front mark j
 may_hold front mark held j right set =

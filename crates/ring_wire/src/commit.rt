@@ -1,7 +1,7 @@
 //! Commit tokens.
 
 ghost use Rattle.std.specs.Prelude.{◌≡◌, ℕ, ◌+◌, ◌^◌, ◌<◌, ◌≤◌, Bool, ◌&&◌, ◌==◌, not, List, [], ◌∷◌, ◌++◌, length};
-ghost use Rattle.ring_layout.specs.Reading.{Appends, Gives};
+ghost use Rattle.ring_layout.specs.Reading.{Appends, Gives, GivesBy};
 ghost use Rattle.ring_base.specs.Processors.{elements, smallest, nobody};
 ghost use Rattle.ring_wire.specs.Commits.{is_report as is_report_of, are_reports as are_reports_of};
 
@@ -96,22 +96,51 @@ impl Encode for CommitToken {
     }
 }
 
-impl<A: Allocator + Copy> Decode<A> for CommitToken {
+impl CommitToken {
+    ghost use Rattle.ring_wire.specs.Commits.{commit_at};
+
+    /// A commit token to be read into.
+    pub(crate) fn blank() -> CommitToken
+        ensures { result.entries ≡ [] }
+    {
+        CommitToken {
+            ring: RingId {
+                seq: 0,
+                rep: Proc::new(1),
+            },
+            members: ProcSet::new(),
+            hop: 0,
+            entries: Entries::new(),
+        }
+    }
+
+    /// Reads the commit token at the front into the place of this one, which has no entries. Refused as any reading is,
+    /// and what then stands here is not told.
     #[tactic(auto, unfolding(crate::specs::Commits::commit_at))]
-    fn read(alloc: A, from: &mut Reader<'_>) -> Result<CommitToken, Fault> {
-        let ring = Decode::read(alloc, from)?;
-        let members: ProcSet = Decode::read(alloc, from)?;
-        let hop: u8 = Decode::read(alloc, from)?;
-        let count = (hop as usize).min(members.len() as usize);
-        let token = CommitToken {
-            ring,
-            members,
-            hop,
-            entries: Entries::read(alloc, count, from)?,
-        };
-        if !token.is_valid() {
+    pub(crate) fn read_here<A: Allocator + Copy>(
+        &mut self,
+        alloc: A,
+        from: &mut Reader<'_>,
+    ) -> Result<(), Fault>
+        requires { self.old.entries ≡ [] }
+        ensures { GivesBy (λ _. self.new) result from.new (commit_at from.old) }
+    {
+        self.ring = Decode::read(alloc, from)?;
+        self.members = Decode::read(alloc, from)?;
+        self.hop = Decode::read(alloc, from)?;
+        let count = (self.hop as usize).min(self.members.len() as usize);
+        self.entries.read_here(alloc, count, from)?;
+        if !self.is_valid() {
             return Err(Fault::BadFrame);
         }
+        Ok(())
+    }
+}
+
+impl<A: Allocator + Copy> Decode<A> for CommitToken {
+    fn read(alloc: A, from: &mut Reader<'_>) -> Result<CommitToken, Fault> {
+        let mut token = CommitToken::blank();
+        token.read_here(alloc, from)?;
         Ok(token)
     }
 }

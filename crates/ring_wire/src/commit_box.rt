@@ -79,6 +79,8 @@ impl<A: Allocator + Copy> Encode for CommitBox<A> {
 
 impl<A: Allocator + Copy> Decode<A> for CommitBox<A> {
     fn read(alloc: A, from: &mut Reader<'_>) -> Result<CommitBox<A>, Fault> {
-        CommitBox::new(alloc, CommitToken::read(alloc, from)?)
+        let mut boxed = CommitBox::new(alloc, CommitToken::blank())?;
+        boxed.token.read_here(alloc, from)?;
+        Ok(boxed)
     }
 }

@@ -1,9 +1,9 @@
 //! The entries of a commit token: what each member reports of its old ring.
 
 ghost use Rattle.std.specs.Prelude.{◌≡◌, ℕ, ◌+◌, ◌^◌, ◌<◌, ◌≤◌, List, [], ◌∷◌, ◌++◌, length};
-ghost use Rattle.std.specs.Prelude.{◌==◌};
+ghost use Rattle.std.specs.Prelude.{◌==◌, ◌*◌, true};
 ghost use Rattle.std.specs.List.{list_all};
-ghost use Rattle.ring_layout.specs.Reading.{Appends, Gives, times_at};
+ghost use Rattle.ring_layout.specs.Reading.{Appends, Gives, GivesBy, times_at};
 
 use arrayvec::ArrayVec;
 use bytes::BytesMut;
@@ -59,14 +59,33 @@ impl CommitEntry {
         self.is_held(j) && (j == 0 || self.front + 1 + j as u64 > self.mark + 256)
     }
 
-    /// Whether no bit is set that must not be.
+    /// Whether none of the byte's bits is set that must not be, as none of those before it is.
+    fn is_byte_right(&self, byte: usize) -> bool
+        requires index { byte < 32 }
+        requires front { self.now.front < 2 ^ 63 }
+        requires mark { self.now.mark < 2 ^ 63 }
+        requires before { held_test self.now.front self.now.mark self.now.held (8 * byte) ≡ true }
+        ensures { result ≡ held_test self.now.front self.now.mark self.now.held (8 * byte + 8) }
+    {
+        if self.held[byte] == 0 {
+            return true;
+        }
+        for bit in 0..8 {
+            if self.is_wrong(8 * byte + bit) {
+                return false;
+            }
+        }
+        true
+    }
+
+    /// Whether no bit is set that must not be. A byte 0 is passed over.
     fn is_held_right(&self) -> bool
         requires front { self.now.front < 2 ^ 63 }
         requires mark { self.now.mark < 2 ^ 63 }
         ensures { result ≡ held_test self.now.front self.now.mark self.now.held 256 }
     {
-        for j in 0..256 {
-            if self.is_wrong(j) {
+        for byte in 0..32 {
+            if !self.is_byte_right(byte) {
                 return false;
             }
         }
@@ -206,16 +225,17 @@ impl Clone for Entries {
 impl Entries {
     ghost use Rattle.ring_wire.specs.Entries.{entry_at};
 
-    /// The count entries at the front.
-    pub(crate) fn read<A: Allocator + Copy>(
+    /// Reads the count entries at the front into their place, where there is none yet. Refused as one entry is.
+    pub(crate) fn read_here<A: Allocator + Copy>(
+        &mut self,
         alloc: A,
         count: usize,
         from: &mut Reader<'_>,
-    ) -> Result<Entries, Fault>
-        requires { count ≤ 16 }
-        ensures { Gives result from.new (times_at count entry_at from.old) }
+    ) -> Result<(), Fault>
+        requires few { count ≤ 16 }
+        requires empty { self.old ≡ [] }
+        ensures { GivesBy (λ _. self.new) result from.new (times_at count entry_at from.old) }
     {
-        let entries = read_in_place(alloc, count, from)?;
-        Ok(Entries { entries })
+        read_in_place(alloc, count, from, &mut self.entries)
     }
 }

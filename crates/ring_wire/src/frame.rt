@@ -1,9 +1,10 @@
 //! Frames: two fixed bytes, the version, the kind, the body's length, and the body.
 
-ghost use Rattle.std.specs.Prelude.{◌≡◌, ℕ, ◌+◌, ◌^◌, ◌<◌, ◌≤◌, List, [], ◌∷◌, ◌++◌, length, IfOk, IfErr, IfSome, IsSome, OnOk, OnErr, ◌↔◌};
+ghost use Rattle.std.specs.Prelude.{◌≡◌, ℕ, ◌+◌, ◌^◌, ◌<◌, ◌≤◌, List, [], ◌∷◌, ◌++◌, length, IfOk, IfErr, IfSome, Some, IsSome, OnOk, OnErr, ◌↔◌};
 ghost use Rattle.ring_base.specs.declared.fault.Fault.TheVariants.{BadFrame};
 ghost use Rattle.ring_layout.specs.Reading.{Appends, Gives};
 ghost use Rattle.ring_wire.specs.declared.frame.Frame.{Frame as OneFrame};
+ghost use Rattle.ring_wire.specs.declared.frame.Frame.TheVariants.{Token as TokenFrame};
 ghost use Rattle.ring_payload.specs.Limits.{message_kind, token_kind, join_kind, commit_kind, most_frame};
 ghost use Rattle.ring_wire.specs.Frames.{body_at, frame_at, version_of, spelling_of, FrameFits};
 ghost use Rattle.ring_wire.specs.Fronts.{IsReadFault, IsGot, IsNoFront, Puts};
@@ -12,7 +13,7 @@ ghost use Rattle.ring_wire.specs.Spells.{Spells};
 use crate::commit_box::CommitBox;
 use crate::join::Join;
 use crate::message::Message;
-use crate::token::Token;
+use crate::token::{LaidToken, Token};
 use crate::wire::Wire;
 use bytes::BytesMut;
 use ring_base::Fault;
@@ -139,12 +140,26 @@ fn read_token<A: Allocator + Copy>(
 ) -> Result<(), Fault>
     ensures { Puts result place.old place.new from.new (body_at version token_kind from.old) }
 {
-    let token = read_sized(alloc, from)?;
+    let token = LaidToken::read_sized(alloc, from)?;
     if version != VERSION {
         return Err(Fault::BadFrame);
     }
-    *place = Some(Frame::Token(token));
+    match place {
+        Some(Frame::Token(kept)) => token.fill(kept),
+        _ => put_token(&token, place),
+    }
     Ok(())
+}
+
+/// Puts a token in the place of another kind of frame, or of none.
+#[inline(never)]
+fn put_token<A: Allocator + Copy>(token: &LaidToken<'_>, place: &mut Option<Frame<A>>)
+    ensures { place.new ≡ Some (TokenFrame token.now) }
+{
+    *place = Some(Frame::Token(Token::blank()));
+    if let Some(Frame::Token(kept)) = place {
+        token.fill(kept);
+    }
 }
 
 /// The join at the front, behind its length, into the place.
@@ -188,8 +203,8 @@ fn read_commit<A: Allocator + Copy>(
     Ok(())
 }
 
-/// The frame at the front, into the place. Each kind has a function, and a message or join takes the place of another
-/// alone, so that no frame clears or moves what only a longer kind fills.
+/// The frame at the front, into the place. Each kind has a function, and a message, token or join takes the place of
+/// another alone, so that no frame clears or moves what it doesn't fill.
 #[tactic(auto, unfolding(crate::specs::Frames::frame_at, crate::specs::Frames::kind_at))]
 fn read_into<A: Allocator + Copy>(
     alloc: A,

@@ -1,12 +1,12 @@
 //! The numbers of the messages that a token asks for.
 
-ghost use Rattle.std.specs.Prelude.{◌≡◌, ℕ, ◌+◌, ◌^◌, ◌<◌, ◌≤◌, List, [], ◌∷◌, ◌++◌, length};
+ghost use Rattle.std.specs.Prelude.{◌≡◌, ℕ, ◌+◌, ◌^◌, ◌<◌, ◌≤◌, List, [], ◌∷◌, ◌++◌, length, IfOk};
 ghost use Rattle.ring_layout.specs.Reading.{Appends, Gives};
 
 use arrayvec::ArrayVec;
 use bytes::BytesMut;
 use ring_base::Fault;
-use ring_layout::{Decode, Encode, Reader, read_in_place, write_many};
+use ring_layout::{Decode, Encode, Reader, Words, write_many};
 use std::alloc::{AllocError, Allocator};
 use std::marker::Model;
 
@@ -46,6 +46,17 @@ impl Requests {
         ensures { self.new ≡ self.old ++ number ∷ [] }
     {
         self.numbers.push(number);
+    }
+
+    /// These numbers in the place of those that were, at most 32.
+    pub(crate) fn fill(&mut self, numbers: &Words<'_>)
+        requires { length numbers.now ≤ 32 }
+        ensures { self.new ≡ numbers.now }
+    {
+        self.numbers.clear();
+        for index in 0..numbers.len() {
+            self.numbers.push(numbers.number(index));
+        }
     }
 
     /// The same numbers.
@@ -94,14 +105,31 @@ impl Encode for Requests {
     }
 }
 
-impl<A: Allocator + Copy> Decode<A> for Requests {
+impl Requests {
+    ghost use Rattle.ring_wire.specs.Tokens.{requests_at};
+
+    /// The numbers at the front, at most 32, which stay where they lie.
     #[tactic(auto, unfolding(crate::specs::Tokens::requests_at))]
-    fn read(alloc: A, from: &mut Reader<'_>) -> Result<Requests, Fault> {
+    pub(crate) fn laid<'a, A: Allocator + Copy>(
+        alloc: A,
+        from: &mut Reader<'a>,
+    ) -> Result<Words<'a>, Fault>
+        ensures read { Gives result from.new (requests_at from.old) }
+        ensures few { IfOk result (λ numbers. length numbers ≤ 32) }
+    {
         let count: u8 = Decode::read(alloc, from)?;
         if count > 32 {
             return Err(Fault::BadFrame);
         }
-        let numbers = read_in_place(alloc, count as usize, from)?;
-        Ok(Requests { numbers })
+        Words::read(count as usize, from)
+    }
+}
+
+impl<A: Allocator + Copy> Decode<A> for Requests {
+    fn read(alloc: A, from: &mut Reader<'_>) -> Result<Requests, Fault> {
+        let numbers = Requests::laid(alloc, from)?;
+        let mut requests = Requests::new();
+        requests.fill(&numbers);
+        Ok(requests)
     }
 }

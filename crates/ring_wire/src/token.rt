@@ -1,14 +1,15 @@
 //! The token.
 
 ghost use Rattle.std.specs.Prelude.{◌≡◌, ℕ, ◌+◌, ◌^◌, ◌<◌, ◌≤◌, List, [], ◌∷◌, ◌++◌, length};
-ghost use Rattle.ring_layout.specs.Reading.{Appends, Gives};
+ghost use Rattle.ring_layout.specs.Reading.{Appends, Gives, sized_at};
 ghost use Rattle.ring_wire.specs.Ascending.{ascends as ascends_to};
 
 use crate::requests::Requests;
 use bytes::BytesMut;
 use ring_base::{Fault, MAX, Proc, RingId};
-use ring_layout::{Decode, Encode, Reader};
+use ring_layout::{Decode, Encode, Reader, Words};
 use std::alloc::Allocator;
+use std::marker::Model;
 
 /// The token of a ring: its own number, the greatest number of a message, the number up to which all
 /// members hold the messages, who lowered that, and the numbers that are asked for.
@@ -23,7 +24,82 @@ pub struct Token {
 }
 
 impl Token {
-    ghost use Rattle.ring_wire.specs.Tokens.{aru_id_test, token_test};
+    /// A token to be filled.
+    pub(crate) fn blank() -> Token {
+        Token {
+            ring: RingId {
+                seq: 0,
+                rep: Proc::new(1),
+            },
+            number: 0,
+            seq: 0,
+            aru: 0,
+            aru_id: None,
+            requests: Requests::new(),
+        }
+    }
+}
+
+/// A token whose requests stay where they lie: nothing is made before all of it is seen to be right. Contracts see the
+/// token.
+#[derive(Drop)]
+pub(crate) struct LaidToken<'a> {
+    ring: RingId,
+    number: u64,
+    seq: u64,
+    aru: u64,
+    aru_id: Option<Proc>,
+    requests: Words<'a>,
+}
+
+impl<'a> Model for LaidToken<'a> {
+    ghost use Rattle.std.specs.Prelude.{◌≤◌, length};
+    ghost use Rattle.ring_wire.specs.declared.token.Token.{Token as OneToken};
+
+    ghost Value = { OneToken };
+
+    ghost view = { λ t. record { ring = t.ring; number = t.number; seq = t.seq; aru = t.aru; aru_id = t.aru_id; requests = t.requests } };
+
+    ghost invariant = { λ t. length t.requests ≤ 32 };
+}
+
+impl<'a> LaidToken<'a> {
+    ghost use Rattle.ring_wire.specs.Tokens.{aru_id_test, token_test, token_at};
+
+    /// The token at the front.
+    #[tactic(auto, unfolding(crate::specs::Tokens::token_at, crate::specs::Tokens::requests_at))]
+    fn read<A: Allocator + Copy>(alloc: A, from: &mut Reader<'a>) -> Result<LaidToken<'a>, Fault>
+        ensures { Gives result from.new (token_at from.old) }
+    {
+        let token = LaidToken {
+            ring: Decode::read(alloc, from)?,
+            number: Decode::read(alloc, from)?,
+            seq: Decode::read(alloc, from)?,
+            aru: Decode::read(alloc, from)?,
+            aru_id: Decode::read(alloc, from)?,
+            requests: Requests::laid(alloc, from)?,
+        };
+        if !token.is_valid() {
+            return Err(Fault::BadFrame);
+        }
+        Ok(token)
+    }
+
+    /// The token that takes just as many bytes as the length before it says.
+    pub(crate) fn read_sized<A: Allocator + Copy>(
+        alloc: A,
+        from: &mut Reader<'a>,
+    ) -> Result<LaidToken<'a>, Fault>
+        ensures { Gives result from.new (sized_at token_at from.old) }
+    {
+        let len: u32 = Decode::read(alloc, from)?;
+        let mut body = Reader::new(from.take(len as usize)?);
+        let token = LaidToken::read(alloc, &mut body)?;
+        if body.len() != 0 {
+            return Err(Fault::BadFrame);
+        }
+        Ok(token)
+    }
 
     /// Whether it is told who lowered `aru` exactly where it is below `seq`.
     fn is_aru_id_right(&self) -> bool
@@ -46,16 +122,29 @@ impl Token {
             && self.aru <= self.seq
             && self.seq <= MAX
             && self.is_aru_id_right()
-            && ascends(self.requests.as_slice(), self.seq)
+            && ascends(&self.requests, self.seq)
+    }
+
+    /// Makes the other token the same, in its place.
+    pub(crate) fn fill(&self, token: &mut Token)
+        ensures { token.new ≡ self.now }
+    {
+        token.ring = self.ring;
+        token.number = self.number;
+        token.seq = self.seq;
+        token.aru = self.aru;
+        token.aru_id = self.aru_id;
+        token.requests.fill(&self.requests);
     }
 }
 
 /// Whether each number is above the one before it, and all are from 1 to the greatest.
-fn ascends(numbers: &[u64], greatest: u64) -> bool
+fn ascends(numbers: &Words<'_>, greatest: u64) -> bool
     ensures { result ≡ ascends_to 0 greatest numbers.now }
 {
     let mut low = 0;
-    for &number in numbers {
+    for index in 0..numbers.len() {
+        let number = numbers.number(index);
         if number <= low || number > greatest {
             return false;
         }
@@ -92,19 +181,10 @@ impl Encode for Token {
 }
 
 impl<A: Allocator + Copy> Decode<A> for Token {
-    #[tactic(auto, unfolding(crate::specs::Tokens::token_at))]
     fn read(alloc: A, from: &mut Reader<'_>) -> Result<Token, Fault> {
-        let token = Token {
-            ring: Decode::read(alloc, from)?,
-            number: Decode::read(alloc, from)?,
-            seq: Decode::read(alloc, from)?,
-            aru: Decode::read(alloc, from)?,
-            aru_id: Decode::read(alloc, from)?,
-            requests: Decode::read(alloc, from)?,
-        };
-        if !token.is_valid() {
-            return Err(Fault::BadFrame);
-        }
+        let laid = LaidToken::read(alloc, from)?;
+        let mut token = Token::blank();
+        laid.fill(&mut token);
         Ok(token)
     }
 }
