@@ -1,6 +1,6 @@
 //! Messages are held, and what they wrap.
 
-ghost use Rattle.std.specs.Prelude.{◌≡◌, ◌≤◌, ◌∷◌, ◌++◌, true, length, IfErr, OnOk, OnErr};
+ghost use Rattle.std.specs.Prelude.{◌≡◌, ◌≤◌, ◌∷◌, true, length, IfErr, OnOk, OnErr};
 ghost use Rattle.ring_base.specs.Fronts.{IsFront};
 ghost use Rattle.ring_base.specs.declared.fault.Fault.TheVariants.{Memory};
 ghost use Rattle.ring_window.specs.Windows.{taken};

@@ -1,5 +1,4 @@
 -- What was made so far is the first of all that is left.
-use Rattle.std.proofs.Common.{◌≡◌}
 use Rattle.ring_srp.proofs.Wraps.{IsMade}
 use Rattle.ring_srp.proofs.wrapping.first_left.Given as goal
 
