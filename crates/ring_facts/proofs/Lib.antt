@@ -1,5 +1,5 @@
-pub mod Speaking
-pub mod Numbering
-pub mod Texts
 pub mod Lives
-pub mod Nodes
+pub mod Members
+pub mod Cores
+pub mod Facts
+pub mod Between

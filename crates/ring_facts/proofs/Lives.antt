@@ -1,5 +1,5 @@
 -- The life of each node, what was handed over left out, is what its core's facts tell of each ring that it installed.
-use Rattle.std.proofs.Common.{◌≡◌, ℕ, Bool, true, false, ◌&&◌, ◌⊎◌, inl, inr, List, [], ◌∷◌, ◌++◌, map, refl, ap, sym, ◌∙◌, subst}
+use Rattle.std.proofs.Common.{◌≡◌, ℕ, true, inl, inr, List, [], ◌∷◌, map, refl, ap, sym, ◌∙◌, subst}
 use Rattle.std.proofs.lemmas.Bool.{and_parts}
 use Rattle.ring_base.specs.Group.{Group}
 use Rattle.ring_commit.specs.declared.configuration.Configuration.{Configuration}
@@ -9,16 +9,17 @@ use Rattle.ring_core.specs.State.{Core}
 use Rattle.ring_core.specs.Views.{front, mark}
 use Rattle.ring_core.specs.Giving.{users}
 use Rattle.ring_moves.specs.Facts.{IsIn}
-use Rattle.ring_moves.specs.Worlds.{World as RingWorld, run, unformed}
+use Rattle.ring_moves.specs.Worlds.{World as RingWorld}
 use Rattle.ring_moves.specs.Lives.{Stage, InRegular, InTransitional, Life, lived, life_after, belongs, all_belong, outs_of, begun, life_of, is_well_told}
-use Rattle.ring_lives.specs.Tales.{tale, tale_in, regular_of, before_of}
+use Rattle.ring_lives.specs.Tales.{tale, regular_of, before_of}
 use Rattle.ring_lives.proofs.Ordered.{Ordered}
 use Rattle.ring_lives.proofs.Telling.{tale_is}
 use Rattle.ring_lives.proofs.Worlds.{lives_are, all_well_told}
-use Rattle.ring_log.specs.Stays.{Stay, born}
+use Rattle.ring_log.specs.Stays.{Stay}
 use Rattle.ring_node.specs.Lives.{lived as node_lived, lived_through}
 use Rattle.ring_order.specs.Facts.{IsStay}
 use Rattle.ring_world.specs.Worlds.{World}
+use Rattle.ring_discipline.proofs.Steps.{rings_of, installed_rings}
 use Rattle.ring_projection.specs.Projection.{ring_part, unsent, heard_life, IsRingRun}
 
 -- what a core's facts tell of a ring
@@ -46,13 +47,15 @@ lived_stays (InRegular at agreed safe) earlier (Rest ring n x) b = refl
 lived_stays (InTransitional old new members rest) earlier (Rest ring n x) b = refl
 lived_stays newest earlier (Regular ring set) b = refl
 
-through_stays : {A : Type 0} → (l : Life A) (outs : List (Out A)) → all_belong l outs ≡ true → stays_of_life (life_after l outs) ≡ lived_through (stays_of_life l) outs
+through_stays : {A : Type 0} → (l : Life A) (outs : List (Out A)) → all_belong l outs ≡ true →
+    stays_of_life (life_after l outs) ≡ lived_through (stays_of_life l) outs
 through_stays l [] b = refl
 through_stays {A} l (o ∷ outs) b =
     let p = and_parts (belongs o l.newest) (all_belong (lived l o) outs) b in
     through_stays (lived l o) outs p.1 ∙ ap (λ (life : List (Stay A)). lived_through life outs) (lived_stays l.newest l.earlier o p.0)
 
-tale_stays : {A : Type 0} → (c : Core A) (at : Configuration) (older : List Configuration) → stays_in (regular_of c at ∷ before_of c at older) ≡ map (stay_told c) (at ∷ older)
+tale_stays : {A : Type 0} → (c : Core A) (at : Configuration) (older : List Configuration) →
+    stays_in (regular_of c at ∷ before_of c at older) ≡ map (stay_told c) (at ∷ older)
 tale_stays c at [] = refl
 tale_stays {A} c at (old ∷ older) = ap (λ (life : List (Stay A)). stay_told c at ∷ life) (tale_stays c old older)
 
@@ -65,9 +68,26 @@ pub life_told : {A : Type 0} → (group : Group) (w : World A) → (r : IsRingRu
     heard_life (w.nodes i).life ≡ map (stay_told (w.nodes i).core) (w.nodes i).core.installs
 life_told {A} group w r i o =
     let part = ring_part w r.outs in
-    let lives : life_of part i ≡ tale (w.nodes i).core = subst (λ (x : RingWorld A). life_of x i ≡ tale (x.cores i)) r.part (lives_are group.count r.events i) in
+    let lives : life_of part i ≡ tale (w.nodes i).core =
+    subst (λ (x : RingWorld A). life_of x i ≡ tale (x.cores i)) r.part (lives_are group.count r.events i) in
     let told : is_well_told part i ≡ true = subst (λ (x : RingWorld A). is_well_told x i ≡ true) r.part (all_well_told group.count r.events i) in
     r.lives i ∙ sym (through_stays (begun i) (outs_of part i) told) ∙ ap stays_of_life lives ∙ installs_told (w.nodes i).core o
+
+-- the rings of a life are those installed
+rings_are : {A : Type 0} → (c : Core A) (life : List (Stay A)) (installs : List Configuration) → heard_life life ≡ map (stay_told c) installs →
+    rings_of life ≡ installed_rings installs
+rings_are c [] [] e = refl
+rings_are c [] (x ∷ installs) e = absurd (cc e)
+rings_are c (s ∷ life) [] e = absurd (cc e)
+rings_are {A} c (s ∷ life) (x ∷ installs) e =
+    let first : unsent s ≡ stay_told c x = cc e in
+    let rest : heard_life life ≡ map (stay_told c) installs = cc e in
+    let same : s.ring ≡ x.ring = ap (λ (t : Stay A). t.ring) first in
+    cc (same, rings_are c life installs rest)
+
+pub rings_told : {A : Type 0} → (group : Group) (w : World A) → IsRingRun group w → (i : ℕ) → Ordered (w.nodes i).core →
+    rings_of (w.nodes i).life ≡ installed_rings (w.nodes i).core.installs
+rings_told group w r i o = rings_are (w.nodes i).core (w.nodes i).life (w.nodes i).core.installs (life_told group w r i o)
 
 -- A stay as it is told, and the other way
 
@@ -93,8 +113,8 @@ pub record HasStayOf {A : Type 0} (c : Core A) (life : List (Stay A)) (at : Conf
   pub there : IsStay life stay older
   pub is : unsent stay ≡ stay_told c at
 
-pub stay_for : {A : Type 0} → (c : Core A) (life : List (Stay A)) (installs : List Configuration) → heard_life life ≡ map (stay_told c) installs → (at : Configuration) →
-    IsIn at installs → HasStayOf c life at
+pub stay_for : {A : Type 0} → (c : Core A) (life : List (Stay A)) (installs : List Configuration) → heard_life life ≡ map (stay_told c) installs →
+    (at : Configuration) → IsIn at installs → HasStayOf c life at
 stay_for c [] [] e at i = absurd i
 stay_for c [] (x ∷ installs) e at i = absurd (cc e)
 stay_for c (t ∷ life) [] e at i = absurd i

@@ -1,3 +1,2 @@
-pub mod Spoken
-pub mod Said
-pub mod Texts
+pub mod Facts
+pub mod Between

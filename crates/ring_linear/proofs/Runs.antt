@@ -1,5 +1,5 @@
--- Along a run of orderly lives the order explains the history, and grows.
-use Rattle.std.proofs.Common.{◌≡◌, ℕ, zero, suc, List, [], ◌∷◌, Option, None, ap, sym, subst, ◌∙◌, refl}
+-- In every run of at most 16 nodes the order explains the history, grows, and has what each node committed as a front.
+use Rattle.std.proofs.Common.{◌≡◌, ℕ, zero, suc, ◌-◌, ◌≤◌, List, [], ◌∷◌, ◌++◌, Option, None, ap, sym, subst, ◌∙◌, refl}
 use Rattle.std.specs.Prelude.{map}
 use Rattle.std.proofs.lemmas.Bool.{cond_both}
 use Rattle.ring_base.specs.Fronts.{IsFront, front_self, front_trans}
@@ -14,36 +14,57 @@ use Rattle.ring_log.specs.Lives.{Whole, exchanged, committed_by, committed_of}
 use Rattle.ring_node.specs.Nodes.{node_opening, node_committed}
 use Rattle.ring_world.specs.declared.event.Event.{Event}
 use Rattle.ring_world.specs.Histories.{IsLinearization}
-use Rattle.ring_world.specs.Orders.{longer, order_of}
+use Rattle.ring_world.specs.Orders.{longer, order_of, IsOrderStep}
 use Rattle.ring_world.specs.Worlds.{World, world_opening, happens, run, order, committed_in, moment_of}
 use Rattle.ring_world.proofs.Linear.{linear-nothing}
-use Rattle.ring_world.proofs.Orders.{order_of-grows, linear-step}
-use Rattle.ring_linear.specs.Linear.{IsOrderlyWorld, StaysOrderly}
-use Rattle.ring_linear.proofs.Worlds.{WorldKnows, event-knows, opening-knows}
-use Rattle.ring_linear.proofs.Steps.{order-step}
+use Rattle.ring_world.proofs.Orders.{order_of-grows, order_of-fronts, linear-step}
+use Rattle.ring_discipline.proofs.Worlds.{lives_on}
+use Rattle.ring_linear.proofs.Worlds.{WorldKnows, opening-knows, run-knows}
+use Rattle.ring_linear.proofs.Orderly.{run-more, orderly, orderly-after}
+use Rattle.ring_linear.proofs.Steps.{order-step, one-list, committed-at}
 
-module _ {O A : Type 0} (object : Sequential O) (group : Group) where
-  orderly-first : (w : World A) (events : List (Event A)) → StaysOrderly object group w events → IsOrderlyWorld group w
-  orderly-first w [] o = o
-  orderly-first w (e ∷ events) o = o.0
+module _ {O A : Type 0} (object : Sequential O) (group : Group) (few : group.count ≤ 16) where
+  abbrev at : List (Event A) → World A
+  at events = run object (world_opening group) events
 
-  pub run-linear : (w : World A) (events : List (Event A)) → WorldKnows group w → StaysOrderly object group w events
-      → IsLinearization object (order w) w.history
-      → IsLinearization object (order (run object w events)) (run object w events).history
-  run-linear w [] k o linear = linear
-  run-linear w (e ∷ events) k o linear =
-      let w' = happens object w e in
-      let step = order-step object group w e k o.0 (orderly-first w' events o.2) o.1 in
-      run-linear w' events (event-knows object group w e k) o.2 (linear-step object (moment_of w) (moment_of w') step linear)
+  known : (events : List (Event A)) → WorldKnows group (at events)
+  known events = run-knows object group (world_opening group) events (opening-knows group)
 
-  pub run-grows : (w : World A) (events : List (Event A)) → WorldKnows group w → StaysOrderly object group w events
-      → IsFront (order w) (order (run object w events))
-  run-grows w [] k o = front_self (order w)
-  run-grows w (e ∷ events) k o =
-      let w' = happens object w e in
-      let step = order-step object group w e k o.0 (orderly-first w' events o.2) o.1 in
-      front_trans (order w) (order w') (order (run object w' events)) (order_of-grows (committed_in w) (committed_in w') step.grows step.agrees)
-      (run-grows w' events (event-knows object group w e k) o.2)
+  -- each event of a run is a step by the rules
+  next-step : (before : List (Event A)) (e : Event A) → IsOrderStep object (moment_of (at before)) (moment_of (happens object (at before) e))
+  next-step before e =
+      order-step object group (at before) e (known before) (orderly object group few before) (orderly-after object group few before e)
+      (lives_on object group before (e ∷ []))
+
+  pub run-grows : (before later : List (Event A)) → IsFront (order (at before)) (order (run object (at before) later))
+  run-grows before [] = front_self (order (at before))
+  run-grows before (e ∷ later) =
+      let w = happens object (at before) e in
+      let step = next-step before e in
+      let rest = subst (λ (x : World A). IsFront (order x) (order (run object x later))) (run-more object (world_opening group) before e)
+      (run-grows (before ++ e ∷ []) later) in
+      front_trans (order (at before)) (order w) (order (run object w later))
+      (order_of-grows (committed_in (at before)) (committed_in w) step.grows step.agrees) rest
+
+  abbrev Explains : World A → Type 0
+  Explains w = IsLinearization object (order w) w.history
+
+  run-linear : (before later : List (Event A)) → Explains (at before) → Explains (run object (at before) later)
+  run-linear before [] linear = linear
+  run-linear before (e ∷ later) linear =
+      let w = happens object (at before) e in
+      let now : Explains w = linear-step object (moment_of (at before)) (moment_of w) (next-step before e) linear in
+      let same = run-more object (world_opening group) before e in
+      subst (λ (x : World A). Explains (run object x later)) same (run-linear (before ++ e ∷ []) later (subst Explains (sym same) now))
+
+  -- what a node committed, repeats removed, is a front of the order
+  pub node-front : (events : List (Event A)) (node : ℕ) → 1 ≤ node → node ≤ group.count
+      → IsFront (deduplicated (node_committed ((at events).nodes node))) (order (at events))
+  node-front events node low high =
+      let w = at events in
+      let k = known events in
+      order_of-fronts (committed_in w) (node - 1) (node_committed (w.nodes node)) (one-list group w k (orderly object group few events))
+      (committed-at group w k node low high)
 
 -- At the opening nothing is committed
 
@@ -68,6 +89,6 @@ opening-linear {O} {A} object group = subst (λ (calls : List (Call A)). IsLinea
 
 -- From there on
 
-pub explains : {O A : Type 0} (object : Sequential O) (group : Group) (events : List (Event A)) → StaysOrderly object group (world_opening group) events
+pub explains : {O A : Type 0} (object : Sequential O) (group : Group) → group.count ≤ 16 → (events : List (Event A))
     → IsLinearization object (order (run object (world_opening group) events)) (run object (world_opening group) events).history
-explains object group events o = run-linear object group (world_opening group) events (opening-knows group) o (opening-linear object group)
+explains object group few events = run-linear object group few [] events (opening-linear object group)

@@ -39,7 +39,8 @@ use Rattle.ring_order.specs.Discipline.{OrderlyLives}
 use Rattle.ring_order.specs.Time.{LivesOn, IsKnownCall, OnlyHandsOver}
 use Rattle.ring_order.proofs.Issued.{logs-known}
 use Rattle.ring_order.proofs.Moment.{committed-front, one-log, committed-grows}
-use Rattle.ring_linear.specs.Linear.{lives_of, IsOrderlyWorld}
+use Rattle.ring_discipline.specs.Living.{lives_of}
+use Rattle.ring_linear.proofs.Orderly.{IsOrderlyWorld}
 use Rattle.ring_linear.proofs.Told.{told-after}
 use Rattle.ring_linear.proofs.Worlds.{IssuedIn, WorldKnows, event-knows}
 
@@ -89,6 +90,14 @@ module _ {A : Type 0} (group : Group) (w : World A) (k : WorldKnows group w) whe
   lists-are =
       map-same (λ i. committed_of group (lives_of w i)) (λ i. node_committed (w.nodes i)) 1 group.count committed-is
       ∙ sym (ap (λ (g : Group). map (λ i. node_committed (w.nodes i)) (numbers_from 1 g.count)) k.here)
+
+  -- what a node committed stands in its place among what all committed
+  pub committed-at : (i : ℕ) → 1 ≤ i → i ≤ group.count → slice_get (committed_in w) (i - 1) ≡ Some (node_committed (w.nodes i))
+  committed-at i low high =
+      let count : w.group.count ≡ group.count = ap (λ (g : Group). g.count) k.here in
+      let at : 1 + (i - 1) ≡ i = omega (arith, low) in
+      get-number (λ j. node_committed (w.nodes j)) 1 w.group.count (i - 1) (omega (arith, low, high, count))
+      ∙ ap (λ j. Some (node_committed (w.nodes j))) at
 
   only-issued : OnlyHandsOver (IssuedIn w.history) (lives_of w)
   only-issued p = cond_both (is_node w p) (w.nodes p).life []

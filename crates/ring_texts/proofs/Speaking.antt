@@ -2,8 +2,7 @@
 use Rattle.std.proofs.Common.{◌≡◌, ℕ, ◌<◌, ◌≤◌, Bool, true, false, ◌&&◌, ◌⊎◌, inl, inr, List, [], ◌∷◌, ◌++◌, refl, ap, sym, ◌∙◌, subst, arith, append_assoc, append-nil}
 use Rattle.std.specs.Prelude.{filter}
 use Rattle.std.specs.List.{AllByRecursion as Each, flat_map}
-use Rattle.std.proofs.lemmas.Bool.{cond_both, cond-true, cond-false, cases_Bool, and_parts}
-use Rattle.std.proofs.lemmas.List.Elements.{filter-append}
+use Rattle.std.proofs.lemmas.Bool.{cond-true, cond-false, cases_Bool, and_parts}
 use Rattle.ring_base.specs.Fronts.{IsFront, front_trans}
 use Rattle.ring_base.specs.Rings.{same_ring}
 use Rattle.ring_base.specs.declared.ring_id.RingId.{RingId}
@@ -14,15 +13,13 @@ use Rattle.ring_payload.specs.declared.content.Payload.{Payload}
 use Rattle.ring_payload.specs.declared.content.Payload.TheVariants.{Call, Wrapped, End, Head, Part, Pack, Snap}
 use Rattle.ring_payload.specs.Kinds.{is_user, units}
 use Rattle.ring_payload.specs.Packing.{is_queued, AreQueued, packed, left_behind}
-use Rattle.ring_payload.proofs.Packing.{units-packed, packed-users, left_behind-each}
+use Rattle.ring_payload.proofs.Packing.{units-packed, packed-users}
 use Rattle.ring_wire.specs.declared.token.Token.{Token}
 use Rattle.ring_window.proofs.Rings.{ring_same}
 use Rattle.ring_commit.specs.declared.configuration.Configuration.{Configuration}
 use Rattle.ring_token.specs.Turns.{Turn, turns_of}
 use Rattle.ring_core.specs.declared.input.Input.{Input}
-use Rattle.ring_core.specs.declared.out.Out.{Out}
 use Rattle.ring_core.specs.State.{Core, Did, opening, halted}
-use Rattle.ring_core.specs.Views.{plan}
 use Rattle.ring_core.specs.Visiting.{accepts, room_at, offers, new_payloads, queue_after}
 use Rattle.ring_core.specs.Joining.{proposes, proposes_in}
 use Rattle.ring_core.specs.Giving.{install}
@@ -30,13 +27,13 @@ use Rattle.ring_core.specs.Deciding.{Act, Ignore, Enqueue, Repeat, Announce, Inv
 use Rattle.ring_core.specs.Acting.{act, may_follow, proposed_after, done}
 use Rattle.ring_moves.specs.Facts.{IsIn}
 use Rattle.ring_moves.specs.Laws.{HasPassed, IsFalling}
-use Rattle.ring_moves.specs.Moves.{IsWrapping, AreWraps, MayEnd}
+use Rattle.ring_moves.specs.Moves.{IsWrapping, AreWraps}
 use Rattle.ring_moves.proofs.Wraps.{are_wraps, same-self}
 use Rattle.ring_moves.proofs.Guards.{guarded}
 use Rattle.ring_moves.proofs.Steps.{queue_each}
 use Rattle.ring_lives.proofs.Ordered.{Ordered}
 use Rattle.ring_discipline.proofs.Steps.{installed_rings}
-use Rattle.ring_facts.specs.Spoken.{spoken_at, spoken_in, spoken}
+use Rattle.ring_texts.specs.Spoken.{spoken_at, spoken_in, spoken}
 
 -- The invariants
 

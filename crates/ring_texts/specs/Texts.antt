@@ -8,7 +8,7 @@ use Rattle.ring_core.specs.Views.{front}
 use Rattle.ring_core.specs.Giving.{users}
 use Rattle.ring_moves.specs.Worlds.{World}
 use Rattle.ring_order.specs.Facts.{said_by}
-use Rattle.ring_facts.specs.Spoken.{spoken}
+use Rattle.ring_texts.specs.Spoken.{spoken}
 
 pub record HasTexts {A : Type 0} (w : World A) : Type 0 where
   -- the users' messages of each ring, in the order of their numbers

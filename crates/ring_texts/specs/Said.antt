@@ -5,7 +5,7 @@ use Rattle.ring_base.specs.declared.ring_id.RingId.{RingId}
 use Rattle.ring_log.specs.Stays.{Stay}
 use Rattle.ring_node.specs.Nodes.{Node}
 use Rattle.ring_order.specs.Facts.{IsStay, StayIn}
-use Rattle.ring_facts.specs.Spoken.{spoken}
+use Rattle.ring_texts.specs.Spoken.{spoken}
 
 pub record SpeaksInOrder {A : Type 0} (n : Node A) : Type 0 where
   -- what was said in a ring is a front of what was handed over there

@@ -1,7 +1,7 @@
 -- Each node of every world: what its core said in a ring is a front of what the node handed to it while it stayed there.
-use Rattle.std.proofs.Common.{◌≡◌, ℕ, ◌<◌, ◌≤◌, Bool, true, false, ◌==◌, ◌⊎◌, inl, inr, List, [], ◌∷◌, ◌++◌, map, Option, Some, None, refl, ap, sym, ◌∙◌, subst, arith, append_assoc, append-nil}
+use Rattle.std.proofs.Common.{◌≡◌, ℕ, ◌<◌, Bool, true, false, ◌==◌, ◌⊎◌, inl, inr, List, [], ◌∷◌, ◌++◌, map, Option, Some, None, refl, ap, sym, ◌∙◌, subst, arith, append_assoc, append-nil}
 use Rattle.std.specs.List.{AllByRecursion as Each}
-use Rattle.std.proofs.lemmas.Bool.{cond_both, cond-true, eq-eqb, eqb-true}
+use Rattle.std.proofs.lemmas.Bool.{cond_both, cond-true, eq-eqb}
 use Rattle.ring_base.specs.Fronts.{IsFront}
 use Rattle.ring_base.specs.Group.{Group}
 use Rattle.ring_base.specs.Processors.{has}
@@ -54,9 +54,9 @@ use Rattle.ring_discipline.proofs.Worlds.{IsKept, AllKept, run_on, opened_on}
 use Rattle.ring_world.specs.declared.event.Event.{Event}
 use Rattle.ring_world.specs.declared.event.Event.TheVariants.{Issue, Deliver, Noise, Timeout, Stop}
 use Rattle.ring_world.specs.Worlds.{World, put, world_opening, is_node, issued_or, issued_if, stopped_if, frame_at, stepped_if, handed_if, handed, happens, run}
-use Rattle.ring_facts.specs.Spoken.{spoken}
-use Rattle.ring_facts.specs.Said.{SpeaksInOrder}
-use Rattle.ring_facts.proofs.Speaking.{IsSpeaker, IsSaid, IsNoSend, done_said, done_speaks, install_said, install_new, install_speaks, halt_said, halt_speaks, opening_speaks, queue_with, with_queue, hand_said, hand_other, hand_speaks}
+use Rattle.ring_texts.specs.Spoken.{spoken}
+use Rattle.ring_texts.specs.Said.{SpeaksInOrder}
+use Rattle.ring_texts.proofs.Speaking.{IsSpeaker, IsSaid, IsNoSend, done_said, done_speaks, install_said, install_new, install_speaks, halt_said, halt_speaks, opening_speaks, queue_with, with_queue, hand_said, hand_other, hand_speaks}
 
 -- A life as the rings with what was handed over there
 
@@ -148,7 +148,7 @@ no_send c input (Visit t) w n = tt
 no_send c input (Fill k) w n = tt
 no_send c input (Learn k) w n = tt
 
-core_says : {A : Type 0} → (c : Core A) (input : Input A) (life : List (Stay A)) → ((p : Payload A) → input ≡ SendInput p → ⊥) → Ordered c → IsSpeaker c →
+pub core_says : {A : Type 0} → (c : Core A) (input : Input A) (life : List (Stay A)) → ((p : Payload A) → input ≡ SendInput p → ⊥) → Ordered c → IsSpeaker c →
     rings_of life ≡ installed_rings c.installs → AllSaid c (handed_in life) →
     AllSaid (ring_step c input).core (handed_in (lived_through life (ring_step c input).outs)) × IsSpeaker (ring_step c input).core
 unfolding ring_step
@@ -208,7 +208,7 @@ handed_queue {A} c (p ∷ ps) h q =
 
 -- The rings behind the newest are others
 
-falls_from : (x : Configuration) (xs : List Configuration) → IsFalling (x ∷ xs) → Each (λ (y : Configuration). y.ring.seq < x.ring.seq) xs
+pub falls_from : (x : Configuration) (xs : List Configuration) → IsFalling (x ∷ xs) → Each (λ (y : Configuration). y.ring.seq < x.ring.seq) xs
 falls_from x [] f = tt
 falls_from x (y ∷ ys) f = (
   f.0,
@@ -216,7 +216,7 @@ falls_from x (y ∷ ys) f = (
       (λ z l. let a : z.ring.seq < y.ring.seq = l in let b : y.ring.seq < x.ring.seq = f.0 in omega (arith, a, b)) ys (falls_from y ys f.1),
 )
 
-stays_below : {A : Type 0} → (n : ℕ) (life : List (Stay A)) (xs : List Configuration) → rings_of life ≡ installed_rings xs →
+pub stays_below : {A : Type 0} → (n : ℕ) (life : List (Stay A)) (xs : List Configuration) → rings_of life ≡ installed_rings xs →
     Each (λ (y : Configuration). y.ring.seq < n) xs → Each (λ (s : Stay A). s.ring.seq < n) life
 stays_below n [] xs e h = tt
 stays_below n (s ∷ life) [] e h = absurd (cc e)
@@ -414,13 +414,8 @@ stay_of [] ring i = absurd i
 stay_of (s ∷ life) ring (inl e) = record { stay = s; older = life; there = inl (refl, refl); ring = sym e }
 stay_of (s ∷ life) ring (inr i) = let r = stay_of life ring i in record { stay = r.stay; older = r.older; there = inr r.there; ring = r.ring }
 
-pub all_in_order : {O A : Type 0} → (object : Sequential O) (group : Group) (events : List (Event A)) (i : ℕ) → SpeaksInOrder ((run object (world_opening group) events).nodes i)
-all_in_order {O} {A} object group events i =
-    let w = run object (world_opening group) events in
-    let n = w.nodes i in
-    let says = all_say object group events i in
-    let o = (((opened_on object group events).nodes i).kept).orderly in
-    let rings : rings_of n.life ≡ installed_rings n.core.installs = ap rings_of o.life ∙ o.rings in
+pub in_order : {A : Type 0} → (n : Node A) → NodeSays n → rings_of n.life ≡ installed_rings n.core.installs → SpeaksInOrder n
+in_order {A} n says rings =
     record {
       front = said_at n.core n.life says.said;
       silent = λ ring. elim ((says.speaks).silent ring) [
@@ -428,3 +423,9 @@ all_in_order {O} {A} object group events i =
         | inr i ↦ inr (stay_of n.life ring (subst (λ (rs : List RingId). IsIn ring rs) (sym rings) i))
       ];
     }
+
+pub all_in_order : {O A : Type 0} → (object : Sequential O) (group : Group) (events : List (Event A)) (i : ℕ) → SpeaksInOrder ((run object (world_opening group) events).nodes i)
+all_in_order object group events i =
+    let n = (run object (world_opening group) events).nodes i in
+    let o = (((opened_on object group events).nodes i).kept).orderly in
+    in_order n (all_say object group events i) (ap rings_of o.life ∙ o.rings)

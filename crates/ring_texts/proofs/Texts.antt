@@ -1,17 +1,14 @@
 -- In every run of ring cores each ring has one text, all that was numbered in the visits of its token.
-use Rattle.std.proofs.Common.{◌≡◌, ℕ, ◌+◌, ◌-◌, ◌<◌, ◌≤◌, ◌⊎◌, inl, inr, true, List, [], ◌∷◌, take, Option, Some, refl, ap, sym, ◌∙◌, subst, arith}
-use Rattle.std.specs.Prelude.{filter, filter_map}
+use Rattle.std.proofs.Common.{◌≡◌, ℕ, ◌-◌, ◌≤◌, inl, inr, true, List, take, ap, sym, ◌∙◌, subst, arith}
+use Rattle.std.specs.Prelude.{filter_map}
 use Rattle.ring_base.specs.Fronts.{IsFront}
 use Rattle.ring_base.specs.Numbers.{numbers_from}
 use Rattle.ring_base.specs.declared.ring_id.RingId.{RingId}
-use Rattle.ring_payload.specs.Kinds.{is_user}
 use Rattle.ring_wire.specs.declared.message.Message.{Message}
 use Rattle.ring_window.specs.Held.{found, holds}
 use Rattle.ring_window.proofs.Fronts.{front_is}
-use Rattle.ring_token.specs.Turns.{turns_of}
 use Rattle.ring_token.specs.Visits.{numbered}
 use Rattle.ring_token.specs.Rounds.{VisitBy}
-use Rattle.ring_core.specs.State.{Core}
 use Rattle.ring_core.specs.Views.{front}
 use Rattle.ring_core.specs.Giving.{users}
 use Rattle.ring_moves.specs.Facts.{IsIn, SomeIs}
@@ -23,9 +20,9 @@ use Rattle.ring_chain.proofs.Runs.{Holds}
 use Rattle.ring_lives.proofs.Keeps.{holds-found}
 use Rattle.ring_changes.proofs.Heard.{found_as}
 use Rattle.ring_changes.proofs.Recovering.{Recovered, all_recovered}
-use Rattle.ring_facts.specs.Spoken.{spoken_in}
-use Rattle.ring_facts.specs.Texts.{HasTexts}
-use Rattle.ring_facts.proofs.Numbering.{all_numbered, users_in, AreFrom, all_from, some_numbered, users_named, IsThere, found_taken, take_whole, users_front, said_visits}
+use Rattle.ring_texts.specs.Spoken.{spoken_in}
+use Rattle.ring_texts.specs.Texts.{HasTexts}
+use Rattle.ring_texts.proofs.Numbering.{all_numbered, users_in, AreFrom, all_from, some_numbered, users_named, IsThere, found_taken, take_whole, users_front, said_visits}
 
 module _ {A : Type 0} (w : World A) (r : Recovered w.cores w.frames) where
   abbrev h : Holds w.cores w.frames

@@ -1,8 +1,8 @@
 -- The text of a ring: all that was numbered in the visits of its token, oldest first. Its numbers are 1, 2, 3 and so on, so what a processor holds up to its front is a front of it; and what a processor said there is what it sent in its own visits.
-use Rattle.std.proofs.Common.{◌≡◌, ℕ, zero, suc, ◌+◌, ◌-◌, ◌<◌, ◌≤◌, ◌⊎◌, inl, inr, Bool, true, false, ◌==◌, List, [], ◌∷◌, ◌++◌, length, take, Option, Some, None, refl, ap, sym, ◌∙◌, subst, arith, append_assoc, append-nil, length-append}
+use Rattle.std.proofs.Common.{◌≡◌, ℕ, zero, suc, ◌+◌, ◌<◌, ◌≤◌, inl, inr, Bool, true, false, ◌==◌, List, [], ◌∷◌, ◌++◌, length, take, Option, Some, refl, ap, sym, ◌∙◌, subst, arith, append_assoc, append-nil, length-append}
 use Rattle.std.specs.Prelude.{filter, filter_map, nat_le, if◌then◌else◌}
 use Rattle.std.specs.List.{AllByRecursion as Each, flat_map, cons_option}
-use Rattle.std.proofs.lemmas.Bool.{cond_both, cond-true, cond-false, cases_Bool, le-leb, lt-leb}
+use Rattle.std.proofs.lemmas.Bool.{cond-true, cond-false, le-leb, lt-leb}
 use Rattle.std.proofs.lemmas.List.Elements.{filter-append}
 use Rattle.ring_base.specs.Fronts.{IsFront}
 use Rattle.ring_base.specs.Numbers.{numbers_from}
@@ -12,7 +12,6 @@ use Rattle.ring_payload.specs.declared.content.Payload.{Payload}
 use Rattle.ring_payload.specs.Kinds.{is_user, units}
 use Rattle.ring_wire.specs.declared.message.Message.{Message}
 use Rattle.ring_wire.specs.declared.token.Token.{Token}
-use Rattle.ring_token.specs.Turns.{Turn}
 use Rattle.ring_token.specs.Visits.{numbered}
 use Rattle.ring_token.specs.Rounds.{VisitBy, arrived, AreVisits}
 use Rattle.ring_moves.specs.Facts.{IsIn, SomeIs}
@@ -20,7 +19,7 @@ use Rattle.ring_moves.proofs.Lists.{in-left, in-right, each-filter}
 use Rattle.ring_log.specs.Lives.{upto}
 use Rattle.ring_chain.specs.Words.{picked}
 use Rattle.ring_order.specs.Facts.{said_by}
-use Rattle.ring_facts.specs.Spoken.{spoken_at, spoken_in}
+use Rattle.ring_texts.specs.Spoken.{spoken_at, spoken_in}
 
 -- all that was numbered in visits, which stand newest first
 abbrev pub all_numbered : {A : Type 0} → RingId → List (VisitBy A) → List (Message A)

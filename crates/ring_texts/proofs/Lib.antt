@@ -1,0 +1,4 @@
+pub mod Speaking
+pub mod Numbering
+pub mod Texts
+pub mod Nodes
