@@ -1,5 +1,6 @@
 -- Recovery begins: what a full commit token says of the old ring fits what is kept of it, and of the ring that runs from now on nothing is known yet.
-use Rattle.std.proofs.Common.{◌≡◌, ℕ, zero, suc, ◌+◌, ◌*◌, ◌<◌, ◌≤◌, max, true, false, List, [], ◌∷◌, map, filter_map, length, Option, Some, None, slice_get, refl, ap, ◌∙◌, sym, subst, inl, inr, arith}
+use Rattle.std.proofs.Common.{◌≡◌, ℕ, zero, suc, ◌+◌, ◌*◌, ◌<◌, ◌≤◌, max, true, false, List, [], ◌∷◌}
+use Rattle.std.proofs.Common.{map, filter_map, length, Option, Some, None, slice_get, refl, ap, ◌∙◌, sym, subst, inl, inr, arith}
 use Rattle.std.specs.Prelude.{◌&&◌, ◌==◌, nat_eq, nat_lt, nat_le}
 use Rattle.std.specs.List.{AllByRecursion, prefix_len}
 use Rattle.std.specs.Cmp.Lexicographic.{pointwise}

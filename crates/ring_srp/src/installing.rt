@@ -11,7 +11,6 @@ ghost use Rattle.ring_srp.specs.Installs.{given_first, given_all, rest_one, rest
 use crate::giving::Reached;
 use crate::history::with_install;
 use crate::machine::Machine;
-use crate::recovering::Recovering;
 use ring_base::{Fault, RingId, State};
 use ring_core::Out;
 use ring_recover::{Delivery, Numbers, is_user};
