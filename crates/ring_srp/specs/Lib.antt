@@ -9,3 +9,4 @@ pub mod Users
 pub mod Setting
 pub mod Taking
 pub mod Wraps
+pub mod Sending
