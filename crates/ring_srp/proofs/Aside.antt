@@ -1,8 +1,8 @@
 -- One number more stands aside.
-use Rattle.std.proofs.Common.{◌≡◌, ℕ, ◌+◌, ◌<◌, ◌≤◌, List, [], ◌++◌, Option, ap, ◌∙◌, sym, max, arith}
+use Rattle.std.proofs.Common.{◌≡◌, ℕ, ◌+◌, ◌<◌, ◌≤◌, ◌++◌, Option, ap, ◌∙◌, sym, max, arith}
 use Rattle.ring_wire.specs.declared.message.Message.{Message}
 use Rattle.ring_window.specs.Held.{found, front_of}
-use Rattle.ring_window.specs.Windows.{Windowed, kept}
+use Rattle.ring_window.specs.Windows.{kept}
 use Rattle.ring_recover.proofs.Following.{kept_found}
 use Rattle.ring_srp.specs.declared.part.Part.{Part}
 use Rattle.ring_srp.specs.declared.recovering.Recovering.{Recovering}
@@ -17,7 +17,8 @@ sets_more {A} o r r' k x s near here inside there part plan ends most aside =
     let w = r.part.window in
     let mark : w.mark ≡ o.part.window.mark = ap (λ (p : Part A). p.window.mark) s.part in
     let told : x ≡ found w.held w.ring (k + 1) = there ∙ kept_found w (k + 1) (omega (arith, mark, near, here, s.more)) in
-    let reach : front_of r'.part.window.held r'.part.window.ring ≡ front_of o.part.window.held o.part.window.ring = ap (λ (p : Part A). front_of p.window.held p.window.ring) (part ∙ s.part) in
+    let reach : front_of r'.part.window.held r'.part.window.ring ≡ front_of o.part.window.held o.part.window.ring = ap
+    (λ (p : Part A). front_of p.window.held p.window.ring) (part ∙ s.part) in
     record {
       part = part ∙ s.part;
       plan = plan ∙ s.plan;

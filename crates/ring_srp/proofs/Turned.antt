@@ -1,11 +1,10 @@
 -- A core whose token goes on: what is kept of its rings stands on.
-use Rattle.std.proofs.Common.{◌≡◌, ℕ, suc, ◌+◌, ◌<◌, ◌≤◌, min, max, Bool, true, false, List, [], ◌∷◌, map, filter, length, Option, Some, None, refl, ap, ◌∙◌, sym, subst, ◌⊎◌, inl, inr, arith}
+use Rattle.std.proofs.Common.{◌≡◌, ℕ, suc, ◌+◌, ◌<◌, ◌≤◌, min, max, true, false, List, [], ◌∷◌, map, length, Option, Some, None, refl, ap, ◌∙◌, sym, subst, ◌⊎◌, inl, inr, arith}
 use Rattle.std.specs.Prelude.{◌==◌}
-use Rattle.std.specs.List.{AllByRecursion}
 use Rattle.std.proofs.lemmas.Bool.{cond-true, cond-false, cases_Bool, true≢false, eq-eqb, eqb-true, and_parts}
 use Rattle.ring_base.specs.Rings.{same_ring}
 use Rattle.ring_base.specs.Numbers.{greatest}
-use Rattle.ring_base.specs.Processors.{IsMember, only, next}
+use Rattle.ring_base.specs.Processors.{only, next}
 use Rattle.ring_base.specs.declared.ring_id.RingId.{RingId}
 use Rattle.ring_base.specs.declared.state.State.{State}
 use Rattle.ring_base.specs.declared.state.State.TheVariants.{Gather, Commit, Recovery, Operational, Stopped}
@@ -15,21 +14,21 @@ use Rattle.ring_wire.specs.declared.message.Message.{Message}
 use Rattle.ring_wire.specs.declared.token.Token.{Token}
 use Rattle.ring_window.specs.Held.{of_ring, highest, front_of, missing}
 use Rattle.ring_window.specs.Windows.{Windowed, forgotten}
-use Rattle.ring_window.proofs.OfRing.{front_of_ring, missing_of_ring}
+use Rattle.ring_window.proofs.OfRing.{missing_of_ring}
 use Rattle.ring_token.specs.Turns.{Turn, Raise, turns_of, mark_by, forwarded_in, raised_to, safe_mark}
-use Rattle.ring_token.specs.Visits.{requests_after, token_after, aru_after}
+use Rattle.ring_token.specs.Visits.{requests_after}
 use Rattle.ring_token.specs.Histories.{TokenHistory, turn_by, with_turn, mark_of, last_aru}
 use Rattle.ring_token.proofs.Arus.{aru_step}
 use Rattle.ring_join.specs.Gatherers.{Gatherer}
 use Rattle.ring_join.specs.Gathering.{Gathering}
 use Rattle.ring_commit.specs.declared.configuration.Configuration.{Configuration}
 use Rattle.ring_recover.specs.Plans.{safe}
-use Rattle.ring_core.specs.State.{Core, Sent, floor}
+use Rattle.ring_core.specs.State.{Core, Sent}
 use Rattle.ring_core.specs.Views.{front, mark, plan}
 use Rattle.ring_core.specs.Giving.{users}
 use Rattle.ring_srp.specs.declared.part.Part.{Part}
 use Rattle.ring_srp.specs.declared.recovering.Recovering.{Recovering}
-use Rattle.ring_srp.specs.Machines.{History, core_of, IsPart, IsBelow, bound, is_forming, is_running, window_of, visits_of, raises_of, Recovers, IsRecovering, IsMachine}
+use Rattle.ring_srp.specs.Machines.{History, core_of, IsPart, bound, is_forming, is_running, window_of, visits_of, raises_of, Recovers, IsMachine}
 use Rattle.ring_srp.specs.Passing.{passed_on}
 use Rattle.ring_srp.specs.Histories.{with_visit}
 use Rattle.ring_srp.specs.Setting.{turn_in, SetsAside}
@@ -52,14 +51,16 @@ other_ring a b l = elim (cases_Bool (same_ring b a)) [
   | inr e ↦ e
 ]
 
-mark_more : {A : Type 0} (v : Turn A) (turns : List (Turn A)) → mark_by (v.went.aru ∷ map (λ (x : Turn A). x.went.aru) turns) ≡ max (min v.went.aru (last_aru turns)) (mark_by (map (λ (x : Turn A). x.went.aru) turns))
+mark_more : {A : Type 0} (v : Turn A) (turns : List (Turn A)) → mark_by (v.went.aru ∷ map (λ (x : Turn A). x.went.aru) turns) ≡ max
+    (min v.went.aru (last_aru turns)) (mark_by (map (λ (x : Turn A). x.went.aru) turns))
 mark_more v [] = omega arith
 mark_more v (w ∷ turns) = refl
 
 turned : {A : Type 0} (v : Turn A) (turns : List (Turn A)) (ring : RingId) → v.came.ring ≡ ring → turns_of ring (v ∷ turns) ≡ v ∷ turns_of ring turns
 turned v turns ring e = cond-true (same_ring v.came.ring ring) (v ∷ turns_of ring turns) (turns_of ring turns) (ring_itself v.came.ring ring e)
 
-unturned : {A : Type 0} (v : Turn A) (turns : List (Turn A)) (ring : RingId) → same_ring v.came.ring ring ≡ false → turns_of ring (v ∷ turns) ≡ turns_of ring turns
+unturned : {A : Type 0} (v : Turn A) (turns : List (Turn A)) (ring : RingId) → same_ring v.came.ring ring ≡ false →
+    turns_of ring (v ∷ turns) ≡ turns_of ring turns
 unturned v turns ring e = cond-false (same_ring v.came.ring ring) (v ∷ turns_of ring turns) (turns_of ring turns) e
 
 -- a visit more: the lesser of its aru and the last one
@@ -75,7 +76,8 @@ mark_turned {A} v turns raises ring e =
 
 mark_unturned : {A : Type 0} (v : Turn A) (turns : List (Turn A)) (raises : List Raise) (ring : RingId) → same_ring v.came.ring ring ≡ false →
     safe_mark (v ∷ turns) raises ring ≡ safe_mark turns raises ring
-mark_unturned {A} v turns raises ring e = ap (λ (vs : List (Turn A)). max (mark_by (map (λ (x : Turn A). x.went.aru) vs)) (raised_to ring raises)) (unturned v turns ring e)
+mark_unturned {A} v turns raises ring e = ap (λ (vs : List (Turn A)). max (mark_by (map (λ (x : Turn A). x.went.aru) vs)) (raised_to ring raises))
+    (unturned v turns ring e)
 
 -- so it is no further than what the visit and those before it reached
 pub mark_within : {A : Type 0} (v : Turn A) (turns : List (Turn A)) (raises : List Raise) (ring : RingId) (n : ℕ) → v.came.ring ≡ ring →
@@ -85,13 +87,16 @@ mark_within v turns raises ring n e l m = within _ _ _ _ n (mark_turned v turns 
     within : (one went last before n : ℕ) → one ≡ max (min went last) before → last ≤ n → before ≤ n → one ≤ n
     within one went last before n e l m = omega arith
 
-mark_risen : {A : Type 0} (v : Turn A) (turns : List (Turn A)) (raises : List Raise) (ring : RingId) → v.came.ring ≡ ring → safe_mark turns raises ring ≤ safe_mark (v ∷ turns) raises ring
+mark_risen : {A : Type 0} (v : Turn A) (turns : List (Turn A)) (raises : List Raise) (ring : RingId) → v.came.ring ≡ ring →
+    safe_mark turns raises ring ≤ safe_mark (v ∷ turns) raises ring
 mark_risen v turns raises ring e = omega (arith, mark_turned v turns raises ring e)
 
-led_turned : {A : Type 0} (v : Turn A) (turns : List (Turn A)) (ring : RingId) (n : ℕ) → v.came.ring ≡ ring → v.went.aru ≤ n → last_aru (turns_of ring (v ∷ turns)) ≤ n
+led_turned : {A : Type 0} (v : Turn A) (turns : List (Turn A)) (ring : RingId) (n : ℕ) → v.came.ring ≡ ring → v.went.aru ≤ n →
+    last_aru (turns_of ring (v ∷ turns)) ≤ n
 led_turned {A} v turns ring n e l = subst (λ (vs : List (Turn A)). last_aru vs ≤ n) (sym (turned v turns ring e)) l
 
-led_unturned : {A : Type 0} (v : Turn A) (turns : List (Turn A)) (ring : RingId) (n : ℕ) → same_ring v.came.ring ring ≡ false → last_aru (turns_of ring turns) ≤ n → last_aru (turns_of ring (v ∷ turns)) ≤ n
+led_unturned : {A : Type 0} (v : Turn A) (turns : List (Turn A)) (ring : RingId) (n : ℕ) → same_ring v.came.ring ring ≡ false →
+    last_aru (turns_of ring turns) ≤ n → last_aru (turns_of ring (v ∷ turns)) ≤ n
 led_unturned {A} v turns ring n e l = subst (λ (vs : List (Turn A)). last_aru vs ≤ n) (sym (unturned v turns ring e)) l
 
 -- the mark of the visits of one ring is the core's
@@ -115,13 +120,53 @@ aru_within w h t stays fresh = elim (aru_step h.me (front_of w.held w.ring) (t.s
 abbrev pub after_turn : {A : Type 0} → Core A → Turn A → Option (Sent A) → Core A
 after_turn c v x = record c { turns = v ∷ c.turns; shown = x }
 
+module _ {A : Type 0} (c : Core A) (ring : RingId) (w : Windowed A) (h : TokenHistory A) (p : IsPart c ring w h) where
+  -- the visit is the one that the core makes
+  pub turn_is : (t : Token) (stays : List ℕ) (fresh : List (Payload A)) → t.ring ≡ ring →
+      turn_in w h t stays fresh ≡ turn_by c.me (front_of c.held t.ring) fresh
+      (requests_after stays (missing c.held t.ring (mark c t.ring) (t.seq + length fresh))) t
+  turn_is t stays fresh e =
+      let upto = t.seq + length fresh in
+      let me : h.me ≡ c.me = ap (λ (y : TokenHistory A). y.me) p.visit_is in
+      let f : front_of w.held w.ring ≡ front_of c.held t.ring = front_by c ring w h p ∙ sym (ap (front_of c.held) e) in
+      let lacks : missing w.held w.ring w.mark upto ≡ missing c.held t.ring (mark c t.ring) upto =
+      ap (λ (u : Windowed A). missing u.held u.ring u.mark upto) p.window_is ∙ missing_of_ring c.held ring (mark c ring) upto
+      ∙ sym (ap (λ (q : RingId). missing c.held q (mark c q) upto) e) in
+      ap (λ n. turn_by n (front_of w.held w.ring) fresh (requests_after stays (missing w.held w.ring w.mark upto)) t) me
+      ∙ ap (λ n. turn_by c.me n fresh (requests_after stays (missing w.held w.ring w.mark upto)) t) f
+      ∙ ap (λ ns. turn_by c.me (front_of c.held t.ring) fresh (requests_after stays ns) t) lacks
+
+  -- what a visit asks of it
+  pub part_ring : h.ring ≡ ring
+  part_ring = ap (λ (y : TokenHistory A). y.ring) p.visit_is
+
+  pub part_reached : mark_of h ≤ front_of w.held w.ring
+  part_reached = omega (arith, ap mark_of p.visit_is ∙ mark_of_visits c.me c.turns c.raises ring, front_by c ring w h p, p.reached)
+
+  pub part_led : last_aru (turns_of h.ring h.turns) ≤ front_of w.held w.ring
+  part_led = omega (
+    arith,
+    ap (λ (y : TokenHistory A). last_aru (turns_of y.ring y.turns)) p.visit_is
+        ∙ ap (λ (vs : List (Turn A)). last_aru vs) (turns_twice c.turns ring),
+    front_by c ring w h p,
+    p.led,
+  )
+
+  -- so the core that it leaves is the one that the token passed
+  pub passed_is : (t : Token) (stays : List ℕ) (fresh : List (Payload A)) → t.ring ≡ ring →
+      after_turn c (turn_in w h t stays fresh) (Some (record
+      { to = only (next c.running.members c.me); frame = TokenFrame (turn_in w h t stays fresh).went })) ≡ passed_on c t stays fresh
+  passed_is t stays fresh e =
+      ap (λ (v : Turn A). after_turn c v (Some (record { to = only (next c.running.members c.me); frame = TokenFrame v.went }))) (turn_is t stays fresh e)
+
 module _ {A : Type 0} (c : Core A) (ring : RingId) (w : Windowed A) (h : TokenHistory A) (v : Turn A) (x : Option (Sent A)) (p : IsPart c ring w h) where
   -- of the ring that is visited
   pub part_turned : v.came.ring ≡ ring → v.went.aru ≤ front c ring → IsPart (after_turn c v x) ring (forgotten w (mark_of (with_turn h v))) (with_turn h v)
   part_turned e l =
       let as_window : ℕ → Windowed A = λ n. record { ring = ring; mark = n; held = of_ring ring c.held } in
       let as_visits : List (Turn A) → TokenHistory A = λ vs. record { me = c.me; ring = ring; turns = vs; raises = raises_of ring c.raises } in
-      let told : with_turn h v ≡ visits_of (after_turn c v x) ring = ap (λ (y : TokenHistory A). with_turn y v) p.visit_is ∙ ap as_visits (sym (turned v c.turns ring e)) in
+      let told : with_turn h v ≡ visits_of (after_turn c v x) ring = ap (λ (y : TokenHistory A). with_turn y v) p.visit_is
+      ∙ ap as_visits (sym (turned v c.turns ring e)) in
       let m : mark_of (with_turn h v) ≡ mark (after_turn c v x) ring = ap mark_of told ∙ mark_of_visits c.me (v ∷ c.turns) c.raises ring in
       let risen : mark c ring ≤ mark (after_turn c v x) ring = mark_risen v c.turns c.raises ring e in
       let n : max (mark c ring) (mark_of (with_turn h v)) ≡ mark (after_turn c v x) ring = greater _ _ _ m risen in
@@ -135,6 +180,7 @@ module _ {A : Type 0} (c : Core A) (ring : RingId) (w : Windowed A) (h : TokenHi
     where
       greater : (a b d : ℕ) → b ≡ d → a ≤ d → max a b ≡ d
       greater a b d e l = omega arith
+
       near_on : (a b d : ℕ) → a ≤ b → d ≤ a + 256 → d ≤ b + 256
       near_on a b d l n = omega arith
 
@@ -151,35 +197,6 @@ module _ {A : Type 0} (c : Core A) (ring : RingId) (w : Windowed A) (h : TokenHi
         near = subst (λ n. highest c.held ring ≤ n + 256) (sym m) p.near;
         led = led_unturned v c.turns ring (front c ring) e p.led;
       }
-
-  -- the visit is the one that the core makes
-  pub turn_is : (t : Token) (stays : List ℕ) (fresh : List (Payload A)) → t.ring ≡ ring →
-      turn_in w h t stays fresh ≡ turn_by c.me (front_of c.held t.ring) fresh (requests_after stays (missing c.held t.ring (mark c t.ring) (t.seq + length fresh))) t
-  turn_is t stays fresh e =
-      let upto = t.seq + length fresh in
-      let me : h.me ≡ c.me = ap (λ (y : TokenHistory A). y.me) p.visit_is in
-      let f : front_of w.held w.ring ≡ front_of c.held t.ring = front_by c ring w h p ∙ sym (ap (front_of c.held) e) in
-      let lacks : missing w.held w.ring w.mark upto ≡ missing c.held t.ring (mark c t.ring) upto =
-      ap (λ (u : Windowed A). missing u.held u.ring u.mark upto) p.window_is ∙ missing_of_ring c.held ring (mark c ring) upto ∙ sym (ap (λ (q : RingId). missing c.held q (mark c q) upto) e) in
-      ap (λ n. turn_by n (front_of w.held w.ring) fresh (requests_after stays (missing w.held w.ring w.mark upto)) t) me
-      ∙ ap (λ n. turn_by c.me n fresh (requests_after stays (missing w.held w.ring w.mark upto)) t) f
-      ∙ ap (λ ns. turn_by c.me (front_of c.held t.ring) fresh (requests_after stays ns) t) lacks
-
-  -- what a visit asks of it
-  pub part_ring : h.ring ≡ ring
-  part_ring = ap (λ (y : TokenHistory A). y.ring) p.visit_is
-
-  pub part_reached : mark_of h ≤ front_of w.held w.ring
-  part_reached = omega (arith, ap mark_of p.visit_is ∙ mark_of_visits c.me c.turns c.raises ring, front_by c ring w h p, p.reached)
-
-  pub part_led : last_aru (turns_of h.ring h.turns) ≤ front_of w.held w.ring
-  part_led = omega (arith, ap (λ (y : TokenHistory A). last_aru (turns_of y.ring y.turns)) p.visit_is ∙ ap (λ (vs : List (Turn A)). last_aru vs) (turns_twice c.turns ring), front_by c ring w h p, p.led)
-
-  -- so the core that it leaves is the one that the token passed
-  pub passed_is : (t : Token) (stays : List ℕ) (fresh : List (Payload A)) → t.ring ≡ ring →
-      after_turn c (turn_in w h t stays fresh) (Some (record { to = only (next c.running.members c.me); frame = TokenFrame (turn_in w h t stays fresh).went })) ≡ passed_on c t stays fresh
-  passed_is t stays fresh e =
-      ap (λ (v : Turn A). after_turn c v (Some (record { to = only (next c.running.members c.me); frame = TokenFrame v.went }))) (turn_is t stays fresh e)
 
 -- Recovery
 
@@ -219,17 +236,20 @@ pub record GoesOn {A : Type 0} (r r' : Recovering A) (v : Turn A) : Type 0 where
   pub most : r'.most ≡ r.most
   pub aside : r'.aside.items ≡ r.aside.items
 
-recovers_turned : {A : Type 0} (c : Core A) (r r' : Recovering A) (v : Turn A) (x : Option (Sent A)) → Recovers c r → c.installed.ring.seq < c.running.ring.seq →
+recovers_turned : {A : Type 0} (c : Core A) (r r' : Recovering A) (v : Turn A) (x : Option (Sent A)) → Recovers c r →
+    c.installed.ring.seq < c.running.ring.seq →
     v.came.ring ≡ c.running.ring → v.went.aru ≤ front c c.running.ring → front c c.running.ring ≤ r.most → GoesOn r r' v → Recovers (after_turn c v x) r'
 recovers_turned {A} c r r' v x m newer e l all n =
-    let apart : same_ring v.came.ring c.installed.ring ≡ false = ap (λ (q : RingId). same_ring q c.installed.ring) e ∙ other_ring c.installed.ring c.running.ring newer in
+    let apart : same_ring v.came.ring c.installed.ring ≡ false = ap (λ (q : RingId). same_ring q c.installed.ring) e
+    ∙ other_ring c.installed.ring c.running.ring newer in
     record {
       part = rw (n.window, n.visit) (part_turned c c.running.ring r.part.window r.part.visit v x m.part e l);
       plan_is = n.plan ∙ m.plan_is;
       ends_is = n.ends ∙ m.ends_is;
       aside_is = n.aside ∙ m.aside_is ∙ sym (ap (λ k. users c c.running.ring 0 k) n.most);
       aside_far = omega (arith, n.most, m.aside_far);
-      aside_safe = subst (λ k. mark (after_turn c v x) c.running.ring ≤ k) (sym n.most) (mark_within v c.turns c.raises c.running.ring r.most e m.aside_led m.aside_safe);
+      aside_safe = subst (λ k. mark (after_turn c v x) c.running.ring ≤ k) (sym n.most)
+          (mark_within v c.turns c.raises c.running.ring r.most e m.aside_led m.aside_safe);
       aside_led = led_turned v c.turns c.running.ring r'.most e (omega (arith, n.most, l, all));
       old_safe = subst (λ k. k ≤ safe (plan c)) (sym (mark_unturned v c.turns c.raises c.installed.ring apart)) m.old_safe;
     }
@@ -254,10 +274,12 @@ running_state Stopped h = absurd (true≢false (sym h))
 recovery_no_operational : (s : State) → s ≡ Recovery → s ≡ Operational → ⊥
 recovery_no_operational s e f = (let q : Recovery ≡ Operational = sym e ∙ f in cc)
 
-module _ {A : Type 0} (me total : ℕ) (s : State) (running installed : Configuration) (g : Gathering) (shown : Option (Sent A)) (queue : List (Payload A)) (held : List (Message A)) (h : History A)
+module _ {A : Type 0} (me total : ℕ) (s : State) (running installed : Configuration) (g : Gathering) (shown : Option (Sent A)) (queue : List (Payload A))
+    (held : List (Message A)) (h : History A)
     (gather : Gatherer) (window : Windowed A) (visit : TokenHistory A) where
   -- in Recovery more stands aside
-  pub aside_on : (r r' : Recovering A) → IsMachine (core_of me total s running installed g shown queue held h) gather window visit (Some r) → s ≡ Recovery → SetsAside r r' →
+  pub aside_on : (r r' : Recovering A) → IsMachine (core_of me total s running installed g shown queue held h) gather window visit (Some r) →
+      s ≡ Recovery → SetsAside r r' →
       IsMachine (core_of me total s running installed g shown queue held h) gather window visit (Some r')
   aside_on r r' m e a =
       record {
@@ -274,14 +296,17 @@ module _ {A : Type 0} (me total : ℕ) (s : State) (running installed : Configur
       }
 
   -- in Recovery the token went on
-  pub running_turned : (r r' : Recovering A) (v : Turn A) (shown' : Option (Sent A)) → IsMachine (core_of me total s running installed g shown queue held h) gather window visit (Some r) → s ≡ Recovery →
+  pub running_turned : (r r' : Recovering A) (v : Turn A) (shown' : Option (Sent A)) →
+      IsMachine (core_of me total s running installed g shown queue held h) gather window visit (Some r) → s ≡ Recovery →
       v.came.ring ≡ running.ring → v.went.aru ≤ front_of held running.ring → front_of held running.ring ≤ r.most → GoesOn r r' v →
       IsMachine (core_of me total s running installed g shown' queue held (record h { turns = v ∷ h.turns })) gather window visit (Some r')
   running_turned r r' v shown' m s_is e l all n =
       let c = core_of me total s running installed g shown queue held h in
       let newer : installed.ring.seq < running.ring.seq = m.apart (ap is_forming s_is) in
-      let apart : same_ring v.came.ring installed.ring ≡ false = ap (λ (q : RingId). same_ring q installed.ring) e ∙ other_ring installed.ring running.ring newer in
-      let new : v.came.ring.seq < bound s running.ring.seq = omega (arith, ap (λ (q : RingId). q.seq) e, bound_running s running.ring.seq (ap is_running s_is)) in
+      let apart : same_ring v.came.ring installed.ring ≡ false = ap (λ (q : RingId). same_ring q installed.ring) e
+      ∙ other_ring installed.ring running.ring newer in
+      let new : v.came.ring.seq < bound s running.ring.seq = omega
+      (arith, ap (λ (q : RingId). q.seq) e, bound_running s running.ring.seq (ap is_running s_is)) in
       record {
         runs = m.runs;
         gather_me = m.gather_me;
@@ -296,26 +321,23 @@ module _ {A : Type 0} (me total : ℕ) (s : State) (running installed : Configur
       }
 
   -- in Operational what is kept is of the running ring
-  pub running_part : (recovery : Option (Recovering A)) → IsMachine (core_of me total s running installed g shown queue held h) gather window visit recovery → s ≡ Operational →
+  pub running_part : (recovery : Option (Recovering A)) → IsMachine (core_of me total s running installed g shown queue held h) gather window visit
+      recovery → s ≡ Operational →
       IsPart (core_of me total s running installed g shown queue held h) running.ring window visit
-  running_part recovery m s_is = subst (λ (q : RingId). IsPart (core_of me total s running installed g shown queue held h) q window visit) (ap (λ (q : Configuration). q.ring) (m.same s_is)) m.kept
-
-  -- in Recovery there is what Recovery goes by
-  pub recovers : (r : Recovering A) → IsMachine (core_of me total s running installed g shown queue held h) gather window visit (Some r) → s ≡ Recovery →
-      Recovers (core_of me total s running installed g shown queue held h) r
-  recovers r m s_is = m.recovering s_is
-
-  pub recovers_none : IsMachine (core_of me total s running installed g shown queue held h) gather window visit None → s ≡ Recovery → ⊥
-  recovers_none m s_is = m.recovering s_is
+  running_part recovery m s_is = subst (λ (q : RingId). IsPart (core_of me total s running installed g shown queue held h) q window visit)
+      (ap (λ (q : Configuration). q.ring) (m.same s_is)) m.kept
 
   -- in Operational
-  pub installed_turned : (recovery : Option (Recovering A)) (v : Turn A) (shown' : Option (Sent A)) → IsMachine (core_of me total s running installed g shown queue held h) gather window visit recovery → s ≡ Operational →
+  pub installed_turned : (recovery : Option (Recovering A)) (v : Turn A) (shown' : Option (Sent A)) →
+      IsMachine (core_of me total s running installed g shown queue held h) gather window visit recovery → s ≡ Operational →
       v.came.ring ≡ running.ring → v.went.aru ≤ front_of held running.ring →
-      IsMachine (core_of me total s running installed g shown' queue held (record h { turns = v ∷ h.turns })) gather (forgotten window (mark_of (with_turn visit v))) (with_turn visit v) recovery
+      IsMachine (core_of me total s running installed g shown' queue held (record h { turns = v ∷ h.turns })) gather
+      (forgotten window (mark_of (with_turn visit v))) (with_turn visit v) recovery
   installed_turned recovery v shown' m s_is e l =
       let c = core_of me total s running installed g shown queue held h in
       let one : running.ring ≡ installed.ring = sym (ap (λ (q : Configuration). q.ring) (m.same s_is)) in
-      let new : v.came.ring.seq < bound s running.ring.seq = omega (arith, ap (λ (q : RingId). q.seq) e, bound_running s running.ring.seq (ap is_running s_is)) in
+      let new : v.came.ring.seq < bound s running.ring.seq = omega
+      (arith, ap (λ (q : RingId). q.seq) e, bound_running s running.ring.seq (ap is_running s_is)) in
       record {
         runs = m.runs;
         gather_me = m.gather_me;
@@ -330,7 +352,8 @@ module _ {A : Type 0} (me total : ℕ) (s : State) (running installed : Configur
       }
 
   -- the core that it leaves
-  pub passed_by : (w : Windowed A) (v : TokenHistory A) (t : Token) (stays : List ℕ) (fresh : List (Payload A)) (to : ℕ) (went : Token) (shown' : Option (Sent A)) (h' : History A) →
+  pub passed_by : (w : Windowed A) (v : TokenHistory A) (t : Token) (stays : List ℕ) (fresh : List (Payload A)) (to : ℕ) (went : Token)
+      (shown' : Option (Sent A)) (h' : History A) →
       IsPart (core_of me total s running installed g shown queue held h) running.ring w v → t.ring ≡ running.ring →
       h' ≡ with_visit h (with_turn v (turn_in w v t stays fresh)).turns → shown' ≡ Some (record { to = to; frame = TokenFrame went }) →
       to ≡ only (next running.members me) → went ≡ (turn_in w v t stays fresh).went →
@@ -340,7 +363,7 @@ module _ {A : Type 0} (me total : ℕ) (s : State) (running installed : Configur
       ap (λ (y : History A). core_of me total s running installed g shown' queue held y) past
       ∙ ap (λ (x : Option (Sent A)). core_of me total s running installed g x queue held (with_visit h (with_turn v (turn_in w v t stays fresh)).turns))
       (is ∙ ap (λ n. sent n went) to_is ∙ ap (sent (only (next running.members me))) went_is)
-      ∙ passed_is (core_of me total s running installed g shown queue held h) running.ring w v (turn_in w v t stays fresh) shown p t stays fresh e
+      ∙ passed_is (core_of me total s running installed g shown queue held h) running.ring w v p t stays fresh e
 
   -- what the tie says of it, in Recovery
   pub running_on : (r r' r'' : Recovering A) (t : Token) (stays : List ℕ) (fresh : List (Payload A)) (shown' : Option (Sent A)) (h' : History A) →
@@ -359,7 +382,8 @@ module _ {A : Type 0} (me total : ℕ) (s : State) (running installed : Configur
       (subst (λ k. k ≤ r'.most) f all) n)
 
   -- and in Operational
-  pub installed_on : (recovery : Option (Recovering A)) (w : Windowed A) (v : TokenHistory A) (t : Token) (stays : List ℕ) (fresh : List (Payload A)) (shown' : Option (Sent A)) (h' : History A) →
+  pub installed_on : (recovery : Option (Recovering A)) (w : Windowed A) (v : TokenHistory A) (t : Token) (stays : List ℕ) (fresh : List (Payload A))
+      (shown' : Option (Sent A)) (h' : History A) →
       IsMachine (core_of me total s running installed g shown queue held h) gather window visit recovery → s ≡ Operational → t.ring ≡ running.ring →
       h' ≡ with_visit h (with_turn visit (turn_in window visit t stays fresh)).turns →
       v ≡ with_turn visit (turn_in window visit t stays fresh) → w ≡ forgotten window (mark_of v) →

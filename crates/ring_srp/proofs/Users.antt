@@ -1,7 +1,7 @@
 -- What a window has of its ring's users' messages, number by number, is what the core says of that ring.
-use Rattle.std.proofs.Common.{◌≡◌, ℕ, zero, suc, ◌+◌, ◌-◌, ◌≤◌, max, Bool, true, false, List, [], ◌∷◌, ◌++◌, map, filter, filter_map, Option, Some, None, refl, ap, ◌∙◌, sym, arith}
+use Rattle.std.proofs.Common.{◌≡◌, ℕ, zero, suc, ◌+◌, ◌-◌, ◌≤◌, max, Bool, true, false, List, [], ◌∷◌, ◌++◌, map, filter, filter_map, Option, Some, None, refl, ap, ◌∙◌, arith}
 use mathlib.Core.Path.{fun_ext}
-use Rattle.std.specs.Prelude.{nat_lt, if◌then◌else◌}
+use Rattle.std.specs.Prelude.{if◌then◌else◌}
 use Rattle.std.specs.List.{cons_option}
 use Rattle.std.proofs.lemmas.List.{append-nil, map-append}
 use Rattle.std.proofs.lemmas.List.Elements.{filter-append, filter_map-append}
@@ -13,8 +13,7 @@ use Rattle.ring_window.specs.Held.{found, of_ring, front_of}
 use Rattle.ring_window.specs.Windows.{Windowed}
 use Rattle.ring_window.proofs.OfRing.{found_of_ring, front_of_ring}
 use Rattle.ring_token.specs.Histories.{TokenHistory}
-use Rattle.ring_core.specs.declared.out.Out.{Out}
-use Rattle.ring_core.specs.declared.out.Out.TheVariants.{Agreed, Safe}
+use Rattle.ring_core.specs.declared.out.Out.TheVariants.{Agreed}
 use Rattle.ring_core.specs.State.{Core}
 use Rattle.ring_core.specs.Views.{front, mark}
 use Rattle.ring_core.specs.Giving.{users, agreed_from, safe_from}
@@ -38,7 +37,8 @@ users_there (Some x) = refl
 
 -- One number more
 
-pub users_more : {A : Type 0} (w : Windowed A) (below k : ℕ) → below ≤ k → users_in w below (k + 1) ≡ users_in w below k ++ user_if_there (found w.held w.ring (k + 1))
+pub users_more : {A : Type 0} (w : Windowed A) (below k : ℕ) → below ≤ k → users_in w below (k + 1) ≡ users_in w below k ++ user_if_there
+    (found w.held w.ring (k + 1))
 users_more {A} w below k l =
     let n : k + 1 - below ≡ (k - below) + 1 = omega arith in
     let f : below + 1 + (k - below) ≡ k + 1 = omega arith in
@@ -55,10 +55,13 @@ pub users_some : {A : Type 0} (w : Windowed A) (below k : ℕ) (x : Message A) �
     users_in w below (k + 1) ≡ users_in w below k ++ user_of x
 users_some {A} w below k x l e = users_more w below k l ∙ ap (λ (o : Option (Message A)). users_in w below k ++ user_if_there o) e
 
-pub users_none : {A : Type 0} (w : Windowed A) (below k : ℕ) → below ≤ k → found w.held w.ring (k + 1) ≡ None → users_in w below (k + 1) ≡ users_in w below k
-users_none {A} w below k l e = users_more w below k l ∙ ap (λ (o : Option (Message A)). users_in w below k ++ user_if_there o) e ∙ append-nil (users_in w below k)
+pub users_none : {A : Type 0} (w : Windowed A) (below k : ℕ) → below ≤ k → found w.held w.ring (k + 1) ≡ None →
+    users_in w below (k + 1) ≡ users_in w below k
+users_none {A} w below k l e = users_more w below k l ∙ ap (λ (o : Option (Message A)). users_in w below k ++ user_if_there o) e
+    ∙ append-nil (users_in w below k)
 
-agreed_there : {A : Type 0} (ring : RingId) (x : Message A) (b : Bool) → map (λ (y : Message A). Agreed ring y.number y) (if b then x ∷ [] else []) ≡ (if b then Agreed ring x.number x ∷ [] else [])
+agreed_there : {A : Type 0} (ring : RingId) (x : Message A) (b : Bool) →
+    map (λ (y : Message A). Agreed ring y.number y) (if b then x ∷ [] else []) ≡ (if b then Agreed ring x.number x ∷ [] else [])
 agreed_there ring x true = refl
 agreed_there ring x false = refl
 
@@ -66,21 +69,25 @@ pub agreed_some : {A : Type 0} (w : Windowed A) (below k : ℕ) (x : Message A) 
     agreed_in w below (k + 1) ≡ agreed_in w below k ++ agreed_of w.ring x
 agreed_some {A} w below k x l e =
     let f = λ (y : Message A). Agreed w.ring y.number y in
-    ap (map f) (users_some w below k x l e) ∙ map-append f (users_in w below k) (user_of x) ∙ ap (λ ys. agreed_in w below k ++ ys) (agreed_there w.ring x (is_user x.payload))
+    ap (map f) (users_some w below k x l e) ∙ map-append f (users_in w below k) (user_of x)
+    ∙ ap (λ ys. agreed_in w below k ++ ys) (agreed_there w.ring x (is_user x.payload))
 
-pub agreed_none : {A : Type 0} (w : Windowed A) (below k : ℕ) → below ≤ k → found w.held w.ring (k + 1) ≡ None → agreed_in w below (k + 1) ≡ agreed_in w below k
+pub agreed_none : {A : Type 0} (w : Windowed A) (below k : ℕ) → below ≤ k → found w.held w.ring (k + 1) ≡ None →
+    agreed_in w below (k + 1) ≡ agreed_in w below k
 agreed_none {A} w below k l e = ap (map (λ (y : Message A). Agreed w.ring y.number y)) (users_none w below k l e)
 
 -- no number more
 pub agreed_first : {A : Type 0} (w : Windowed A) (below : ℕ) → agreed_in w below below ≡ []
 agreed_first {A} w below =
     let n : below - below ≡ 0 = omega arith in
-    ap (λ j. map (λ (y : Message A). Agreed w.ring y.number y) (filter (λ (x : Message A). is_user x.payload) (filter_map (found w.held w.ring) (numbers_from (below + 1) j)))) n
+    ap (λ j. map (λ (y : Message A). Agreed w.ring y.number y)
+    (filter (λ (x : Message A). is_user x.payload) (filter_map (found w.held w.ring) (numbers_from (below + 1) j)))) n
 
 pub agreed_last : {A : Type 0} (w : Windowed A) (below k top : ℕ) → below ≤ k → top ≤ k → k ≤ max below top → agreed_in w below k ≡ agreed_in w below top
 agreed_last {A} w below k top l m h =
     let n : k - below ≡ top - below = omega arith in
-    ap (λ j. map (λ (y : Message A). Agreed w.ring y.number y) (filter (λ (x : Message A). is_user x.payload) (filter_map (found w.held w.ring) (numbers_from (below + 1) j)))) n
+    ap (λ j. map (λ (y : Message A). Agreed w.ring y.number y)
+    (filter (λ (x : Message A). is_user x.payload) (filter_map (found w.held w.ring) (numbers_from (below + 1) j)))) n
 
 -- What the core says
 
@@ -88,9 +95,11 @@ found_of : {A : Type 0} (held : List (Message A)) (ring : RingId) → found (of_
 found_of held ring = fun_ext (λ n. found_of_ring held ring n)
 
 pub users_of : {A : Type 0} (c : Core A) (ring : RingId) (below upto : ℕ) → users_in (window_of c ring) below upto ≡ users c ring below upto
-users_of {A} c ring below upto = ap (λ (h : ℕ → Option (Message A)). filter (λ (x : Message A). is_user x.payload) (filter_map h (numbers_from (below + 1) (upto - below)))) (found_of c.held ring)
+users_of {A} c ring below upto = ap (λ (h : ℕ → Option (Message A)). filter (λ (x : Message A). is_user x.payload)
+    (filter_map h (numbers_from (below + 1) (upto - below)))) (found_of c.held ring)
 
-agreed_of_ring : {A : Type 0} (c : Core A) (ring : RingId) (below : ℕ) → agreed_in (window_of c ring) below (front_of (of_ring ring c.held) ring) ≡ agreed_from c ring below
+agreed_of_ring : {A : Type 0} (c : Core A) (ring : RingId) (below : ℕ) →
+    agreed_in (window_of c ring) below (front_of (of_ring ring c.held) ring) ≡ agreed_from c ring below
 agreed_of_ring {A} c ring below =
     ap (λ n. agreed_in (window_of c ring) below n) (front_of_ring c.held ring)
     ∙ ap (map (λ (y : Message A). Agreed ring y.number y)) (users_of c ring below (front c ring))
@@ -103,7 +112,8 @@ pub safe_by : {A : Type 0} (c : Core A) (ring : RingId) (w : Windowed A) (visit 
     safe_to w.ring before w.mark ≡ safe_from c ring before
 safe_by {A} c ring w visit before p = ap (λ (v : Windowed A). safe_to v.ring before v.mark) p.window_is
 
-pub front_by : {A : Type 0} (c : Core A) (ring : RingId) (w : Windowed A) (visit : TokenHistory A) → IsPart c ring w visit → front_of w.held w.ring ≡ front c ring
+pub front_by : {A : Type 0} (c : Core A) (ring : RingId) (w : Windowed A) (visit : TokenHistory A) → IsPart c ring w visit →
+    front_of w.held w.ring ≡ front c ring
 front_by {A} c ring w visit p = ap (λ (v : Windowed A). front_of v.held v.ring) p.window_is ∙ front_of_ring c.held ring
 
 pub mark_of_part : {A : Type 0} (c : Core A) (ring : RingId) (w : Windowed A) (visit : TokenHistory A) → IsPart c ring w visit → w.mark ≡ mark c ring

@@ -7,7 +7,6 @@ use Rattle.ring_window.specs.Windows.{Windowed}
 use Rattle.ring_token.specs.Turns.{Turn}
 use Rattle.ring_token.specs.Visits.{requests_after}
 use Rattle.ring_token.specs.Histories.{TokenHistory, turn_by}
-use Rattle.ring_srp.specs.declared.part.Part.{Part}
 use Rattle.ring_srp.specs.declared.recovering.Recovering.{Recovering}
 use Rattle.ring_srp.specs.Users.{users_in}
 

@@ -14,12 +14,11 @@ ghost use Rattle.ring_token.specs.Visits.{token_after};
 ghost use Rattle.ring_token.specs.Histories.{turn_by, with_turn, mark_of, last_aru};
 ghost use Rattle.ring_core.specs.Giving.{sent};
 ghost use Rattle.ring_core.specs.Visiting.{to_next};
-ghost use Rattle.ring_srp.specs.Histories.{with_visit};
 ghost use Rattle.ring_srp.specs.Machines.{is_running};
 ghost use Rattle.ring_srp.specs.Passing.{went, passed_on};
 ghost use Rattle.ring_srp.specs.Setting.{turn_in};
 
-use crate::history::{Story, with_visit};
+use crate::history::with_visit;
 use crate::machine::Machine;
 use crate::part::Part;
 use crate::sent::Sent;
@@ -72,11 +71,12 @@ impl<A: Allocator + Copy> Machine<A> {
         ensures core { OnOk result (self.new ≡ passed_on self.old token stays.now fresh.now.value) }
         ensures refused { IfErr result (λ fault. fault ≡ Memory) }
     {
-        if self.state == State::Recovery {
-            self.pass_running(token, stays, count, fresh)
-        } else {
-            self.pass_installed(token, stays, count, fresh);
-            Ok(())
+        match self.state {
+            State::Recovery => self.pass_running(token, stays, count, fresh),
+            _ => {
+                self.pass_installed(token, stays, count, fresh);
+                Ok(())
+            }
         }
     }
 

@@ -1,8 +1,8 @@
 -- The users' messages so far, and one more at each turn.
-use Rattle.std.proofs.Common.{◌≡◌, ◌+◌, ◌≤◌, max, ◌++◌, ap, sym, ◌∙◌, append_assoc, arith}
+use Rattle.std.proofs.Common.{◌+◌, ◌≤◌, max, ◌++◌, ap, sym, ◌∙◌, append_assoc, arith}
 use Rattle.std.proofs.lemmas.List.{append-nil}
 use Rattle.std.specs.Option.{option_copied}
-use Rattle.ring_window.specs.Held.{found, front_of}
+use Rattle.ring_window.specs.Held.{front_of}
 use Rattle.ring_recover.proofs.Following.{kept_found, none_from}
 use Rattle.ring_srp.specs.Users.{agreed_in, agreed_of}
 use Rattle.ring_srp.proofs.Users.{agreed_first, agreed_some, agreed_none, agreed_last}
@@ -28,12 +28,15 @@ loop-before-preserved g c =
             ∙ ap (λ q. c.loop-before.outs.items ++ agreed_of q v.in-Some.message.now) v.ring.ensures
             ∙ ap (λ ys. ys ++ agreed_of w.ring v.in-Some.message.now) c.loop-before.invariant.0
             ∙ append_assoc outs (agreed_in w below k) (agreed_of w.ring v.in-Some.message.now)
-            ∙ ap (λ ys. outs ++ ys) (sym (agreed_some w below k v.in-Some.message.now c.loop-before.invariant.1 (sym there ∙ sym c.get.ensures ∙ ap option_copied v.in-Some.is))),
+            ∙ ap (λ ys. outs ++ ys) (sym (agreed_some w below k v.in-Some.message.now c.loop-before.invariant.1 (sym there ∙ sym c.get.ensures
+            ∙ ap option_copied v.in-Some.is))),
         omega (arith, c.loop-before.invariant.1),
         top,
       )
       | in_default v ↦ rw v.outs-is (
-        c.loop-before.invariant.0 ∙ ap (λ ys. outs ++ ys) (sym (agreed_none w below k c.loop-before.invariant.1 (sym there ∙ sym c.get.ensures ∙ ap option_copied (none_from c.get.result v.in_default.not-Some)))),
+        c.loop-before.invariant.0 ∙ ap (λ ys. outs ++ ys) (sym
+            (agreed_none w below k c.loop-before.invariant.1 (sym there ∙ sym c.get.ensures
+            ∙ ap option_copied (none_from c.get.result v.in_default.not-Some)))),
         omega (arith, c.loop-before.invariant.1),
         top,
       )
@@ -44,4 +47,5 @@ returns-clause-ok g c =
     let w = c.args.window.now in
     let e = c.front-before-end.ensures in
     c.loop-before.invariant.0
-    ∙ ap (λ ys. c.args.outs.now.items ++ ys) (agreed_last w c.args.below c.loop-before.before (front_of w.held w.ring) c.loop-before.invariant.1 (omega (arith, c.loop-before-test.false, e)) c.loop-before.invariant.2)
+    ∙ ap (λ ys. c.args.outs.now.items ++ ys) (agreed_last w c.args.below c.loop-before.before (front_of w.held w.ring) c.loop-before.invariant.1
+    (omega (arith, c.loop-before-test.false, e)) c.loop-before.invariant.2)
