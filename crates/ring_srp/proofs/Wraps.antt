@@ -1,8 +1,8 @@
 -- What a visit sends in Recovery, found number by number.
-use Rattle.std.proofs.Common.{◌≡◌, ◌≢◌, ℕ, zero, suc, ◌+◌, ◌-◌, ◌<◌, ◌≤◌, Bool, true, false, List, [], ◌∷◌, ◌++◌, filter, filter_map, length, take, Option, Some, None, refl, ap, ◌∙◌, sym, subst, inl, inr, arith, append_assoc, length-append}
+use Rattle.std.proofs.Common.{◌≡◌, ℕ, suc, ◌+◌, ◌-◌, ◌<◌, ◌≤◌, Bool, true, false, List, [], ◌∷◌, ◌++◌, filter, filter_map, length, take, Option, Some, None, refl, ap, ◌∙◌, sym, subst, arith, append_assoc, length-append}
 use Rattle.std.specs.Prelude.{not, if◌then◌else◌}
 use Rattle.std.specs.List.{cons_option}
-use Rattle.std.proofs.lemmas.Bool.{cases_Bool, cond-true, cond-false}
+use Rattle.std.proofs.lemmas.Bool.{cond-true, cond-false}
 use Rattle.std.proofs.lemmas.List.{append-nil, take_all, take_at}
 use Rattle.ring_base.specs.Numbers.{numbers_from}
 use Rattle.ring_payload.specs.declared.content.Payload.{Payload}
@@ -12,19 +12,20 @@ use Rattle.ring_window.specs.Held.{found, of_ring, highest}
 use Rattle.ring_window.specs.Windows.{Windowed}
 use Rattle.ring_window.proofs.OfRing.{highest_of_ring}
 use Rattle.ring_token.specs.Histories.{TokenHistory}
-use Rattle.ring_recover.specs.Plans.{Plan, low, safe}
+use Rattle.ring_recover.specs.Plans.{low, safe}
 use Rattle.ring_recover.specs.Recovering.{Recovering as Seen}
-use Rattle.ring_recover.specs.Wrapping.{is_wrapped, wrap, above_low, left_to_wrap, has_own_end, wraps_and_end}
+use Rattle.ring_recover.specs.Wrapping.{is_wrapped, wrap, has_own_end, wraps_and_end}
 use Rattle.ring_recover.proofs.AllRings.{left_of_ring}
 use Rattle.ring_recover.proofs.Handing.{found_number}
 use Rattle.ring_core.specs.State.{Core}
 use Rattle.ring_core.specs.Views.{plan}
 use Rattle.ring_srp.specs.Machines.{IsPart, Recovers, window_of}
 use Rattle.ring_srp.specs.declared.recovering.Recovering.{Recovering}
-use Rattle.ring_srp.specs.Wraps.{wrap_found, wrap_unless, wrap_left, left_and_end}
+use Rattle.ring_srp.specs.Wraps.{wrap_unless, wrap_left, left_and_end}
 
 module _ {A : Type 0} (r : Seen A) (held : List (Message A)) where
-  one_by : (o : Option (Message A)) (n : ℕ) (b : Bool) (xs : List (Message A)) (ps : List (Payload A)) → found held r.plan.old n ≡ o → is_wrapped r.seen r.plan.old n ≡ b
+  one_by : (o : Option (Message A)) (n : ℕ) (b : Bool) (xs : List (Message A)) (ps : List (Payload A)) → found held r.plan.old n ≡ o
+      → is_wrapped r.seen r.plan.old n ≡ b
       → filter_map wrap (filter (λ (x : Message A). not (is_wrapped r.seen r.plan.old x.number)) xs) ≡ ps
       → filter_map wrap (filter (λ (x : Message A). not (is_wrapped r.seen r.plan.old x.number)) (cons_option o xs)) ≡ cons_option (wrap_unless b o) ps
   one_by None n true xs ps e w h = h
@@ -45,7 +46,8 @@ module _ {A : Type 0} (r : Seen A) (held : List (Message A)) where
   by_number : (ns : List ℕ) → filter_map wrap (filter (λ (x : Message A). not (is_wrapped r.seen r.plan.old x.number)) (filter_map (found held r.plan.old) ns))
       ≡ filter_map (wrap_left r held) ns
   by_number [] = refl
-  by_number (n ∷ ns) = one_by (found held r.plan.old n) n (is_wrapped r.seen r.plan.old n) (filter_map (found held r.plan.old) ns) (filter_map (wrap_left r held) ns) refl refl (by_number ns)
+  by_number (n ∷ ns) = one_by (found held r.plan.old n) n (is_wrapped r.seen r.plan.old n) (filter_map (found held r.plan.old) ns)
+      (filter_map (wrap_left r held) ns) refl refl (by_number ns)
 
   -- what is left from a number on
   abbrev pub left_from : ℕ → List (Payload A)
@@ -58,7 +60,8 @@ module _ {A : Type 0} (r : Seen A) (held : List (Message A)) where
   all_left = ap (λ (ps : List (Payload A)). ps ++ end_of) (by_number (numbers_from (low r.plan + 1) (highest held r.plan.old - low r.plan)))
 
   -- one number on
-  left_on : (before : ℕ) (o : Option (Payload A)) → before < highest held r.plan.old → o ≡ wrap_left r held (before + 1) → left_from before ≡ cons_option o (left_from (before + 1))
+  left_on : (before : ℕ) (o : Option (Payload A)) → before < highest held r.plan.old → o ≡ wrap_left r held (before + 1)
+      → left_from before ≡ cons_option o (left_from (before + 1))
   left_on before o l e =
       let top = highest held r.plan.old in
       let n : top - before ≡ suc (top - (before + 1)) = omega arith in
@@ -77,20 +80,22 @@ pub record IsMade {A : Type 0} (r : Seen A) (held : List (Message A)) (most befo
   pub on : low r.plan ≤ before
 
 module _ {A : Type 0} (r : Seen A) (held : List (Message A)) (most : ℕ) where
+  few_more : {k j : ℕ} → k ≡ j + 1 → j < most → k ≤ most
+  few_more e l = omega (arith, e, l)
+
   pub made_none : (before : ℕ) → before ≡ low r.plan → IsMade r held most before []
   made_none before e = record { all = ap (left_from r held) (sym e); few = omega arith; on = omega (arith, e) }
 
-  pub made_one : (before : ℕ) (made : List (Payload A)) (p : Payload A) → before < highest held r.plan.old → length made ≢ most → Some p ≡ wrap_left r held (before + 1)
+  pub made_one : (before : ℕ) (made : List (Payload A)) (p : Payload A) → before < highest held r.plan.old → length made < most
+      → Some p ≡ wrap_left r held (before + 1)
       → IsMade r held most before made → IsMade r held most (before + 1) (made ++ p ∷ [])
   made_one before made p l n e m =
       record {
-        all = m.all ∙ ap (λ (ps : List (Payload A)). made ++ ps) (left_on r held before (Some p) l e) ∙ sym (append_assoc made (p ∷ []) (left_from r held (before + 1)));
-        few = fewer (length-append made (p ∷ [])) n m.few;
+        all = m.all ∙ ap (λ (ps : List (Payload A)). made ++ ps) (left_on r held before (Some p) l e)
+            ∙ sym (append_assoc made (p ∷ []) (left_from r held (before + 1)));
+        few = few_more (length-append made (p ∷ [])) n;
         on = omega (arith, m.on);
       }
-    where
-      fewer : {k j : ℕ} → k ≡ j + 1 → j ≢ most → j ≤ most → k ≤ most
-      fewer e no l = omega (arith, e, no, l)
 
   pub made_next : (before : ℕ) (made : List (Payload A)) → before < highest held r.plan.old → None ≡ wrap_left r held (before + 1)
       → IsMade r held most before made → IsMade r held most (before + 1) made
@@ -105,27 +110,29 @@ module _ {A : Type 0} (r : Seen A) (held : List (Message A)) (most : ℕ) where
   made_full before made n m =
       let rest = left_from r held before ++ end_of r held in
       sym (take_at made rest most n)
-      ∙ ap (take most) (sym (append_assoc made (left_from r held before) (end_of r held)) ∙ ap (λ (ps : List (Payload A)). ps ++ end_of r held) (sym m.all) ∙ sym (all_left r held))
+      ∙ ap (take most) (sym (append_assoc made (left_from r held before) (end_of r held)) ∙ ap (λ (ps : List (Payload A)). ps ++ end_of r held) (sym m.all)
+      ∙ sym (all_left r held))
 
-  made_whole : (before : ℕ) (made : List (Payload A)) → highest held r.plan.old ≤ before → IsMade r held most before made → left_and_end r held ≡ made ++ end_of r held
+  made_whole : (before : ℕ) (made : List (Payload A)) → highest held r.plan.old ≤ before → IsMade r held most before made
+      → left_and_end r held ≡ made ++ end_of r held
   made_whole before made l m =
-      all_left r held ∙ ap (λ (ps : List (Payload A)). ps ++ end_of r held) (m.all ∙ ap (λ (ps : List (Payload A)). made ++ ps) (left_over r held before l) ∙ append-nil made)
+      all_left r held ∙ ap (λ (ps : List (Payload A)). ps ++ end_of r held)
+      (m.all ∙ ap (λ (ps : List (Payload A)). made ++ ps) (left_over r held before l) ∙ append-nil made)
 
   -- and the End behind them
   pub made_end : (before : ℕ) (made : List (Payload A)) → highest held r.plan.old ≤ before → length made < most → has_own_end r.me r.seen ≡ false
       → IsMade r held most before made → made ++ End ∷ [] ≡ take most (left_and_end r held)
   made_end before made l n e m =
-      let whole : left_and_end r held ≡ made ++ End ∷ [] = made_whole before made l m ∙ ap (λ (ps : List (Payload A)). made ++ ps) (cond-false (has_own_end r.me r.seen) [] (End ∷ []) e) in
-      sym (ap (take most) whole ∙ take_all most (made ++ End ∷ []) (few (length-append made (End ∷ [])) n))
-    where
-      few : {k j : ℕ} → k ≡ j + 1 → j < most → k ≤ most
-      few e l = omega (arith, e, l)
+      let whole : left_and_end r held ≡ made ++ End ∷ [] = made_whole before made l m
+      ∙ ap (λ (ps : List (Payload A)). made ++ ps) (cond-false (has_own_end r.me r.seen) [] (End ∷ []) e) in
+      sym (ap (take most) whole ∙ take_all most (made ++ End ∷ []) (few_more (length-append made (End ∷ [])) n))
 
   -- or none
   pub made_all : (before : ℕ) (made : List (Payload A)) → highest held r.plan.old ≤ before → has_own_end r.me r.seen ≡ true
       → IsMade r held most before made → made ≡ take most (left_and_end r held)
   made_all before made l e m =
-      let whole : left_and_end r held ≡ made = made_whole before made l m ∙ ap (λ (ps : List (Payload A)). made ++ ps) (cond-true (has_own_end r.me r.seen) [] (End ∷ []) e) ∙ append-nil made in
+      let whole : left_and_end r held ≡ made = made_whole before made l m
+      ∙ ap (λ (ps : List (Payload A)). made ++ ps) (cond-true (has_own_end r.me r.seen) [] (End ∷ []) e) ∙ append-nil made in
       sym (ap (take most) whole ∙ take_all most made m.few)
 
 -- ---- what is kept tells it
@@ -138,11 +145,13 @@ module _ {A : Type 0} (c : Core A) (w : Windowed A) (v : TokenHistory A) (r : Re
   wrap_ring = ap (λ (u : Windowed A). u.ring) p.window_is ∙ sym (ap (λ (s : Seen A). s.plan.old) m.plan_is)
 
   pub wrap_mark : w.mark ≤ safe r.plan.plan
-  wrap_mark = subst (λ (u : Windowed A). u.mark ≤ safe r.plan.plan) (sym p.window_is) (subst (λ (s : Seen A). (window_of c c.installed.ring).mark ≤ safe s.plan) (sym m.plan_is) m.old_safe)
+  wrap_mark = subst (λ (u : Windowed A). u.mark ≤ safe r.plan.plan) (sym p.window_is)
+      (subst (λ (s : Seen A). (window_of c c.installed.ring).mark ≤ safe s.plan) (sym m.plan_is) m.old_safe)
 
   pub wrap_near : highest w.held w.ring ≤ safe r.plan.plan + 256
   wrap_near =
-      let h : highest w.held w.ring ≡ highest c.held c.installed.ring = ap (λ (u : Windowed A). highest u.held u.ring) p.window_is ∙ highest_of_ring c.held c.installed.ring in
+      let h : highest w.held w.ring ≡ highest c.held c.installed.ring = ap (λ (u : Windowed A). highest u.held u.ring) p.window_is
+      ∙ highest_of_ring c.held c.installed.ring in
       let s : safe r.plan.plan ≡ safe (plan c) = ap (λ (s : Seen A). safe s.plan) m.plan_is in
       within _ _ _ _ _ h s p.near m.old_safe
     where

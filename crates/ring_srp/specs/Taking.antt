@@ -1,4 +1,5 @@
--- What is kept in Recovery, once a message of the running ring is held. And what a window gets of what a message wraps. Recovery, rules 5 and 7 of docs/PROTOCOL.md.
+-- What is kept in Recovery, once a message of the running ring is held, and what a window gets of what a message wraps: Recovery, rules 5 to 7 of
+-- docs/PROTOCOL.md.
 use Rattle.std.specs.Prelude.{List, ◌++◌}
 use Rattle.ring_payload.specs.declared.content.Payload.{Payload}
 use Rattle.ring_wire.specs.declared.message.Message.{Message}

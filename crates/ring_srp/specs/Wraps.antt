@@ -1,4 +1,4 @@
--- What a visit sends in Recovery, number by number of the old ring: Recovery, rules 4 and 6 of docs/PROTOCOL.md.
+-- What a visit sends in Recovery, number by number of the old ring: Recovery, rules 4 and 5 of docs/PROTOCOL.md.
 use Rattle.std.specs.Prelude.{ℕ, Bool, true, false, if◌then◌else◌, List, [], ◌∷◌, ◌++◌, filter_map, Option, Some, None}
 use Rattle.ring_payload.specs.declared.content.Payload.{Payload}
 use Rattle.ring_payload.specs.declared.content.Payload.TheVariants.{End}

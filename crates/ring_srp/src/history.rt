@@ -4,13 +4,11 @@ ghost use Rattle.std.specs.Prelude.{◌≡◌, [], ◌∷◌, ◌++◌};
 ghost use Rattle.ring_core.specs.State.{opening};
 ghost use Rattle.ring_srp.specs.Histories.{with_ring, with_visit, with_plan, with_install};
 ghost use Rattle.ring_srp.specs.Machines.{history_of};
-ghost use Rattle.ring_srp.specs.Taking.{inner_of};
 
 use ring_base::{Fixed, Past, Proc, RingId, past_of};
 use ring_commit::Configuration;
 use ring_token::Visit;
-use ring_window::Window;
-use ring_wire::{CommitEntry, CommitToken, Message};
+use ring_wire::{CommitEntry, CommitToken};
 use std::alloc::{Allocator, Global};
 use std::marker::{Model, PhantomData};
 
@@ -34,6 +32,14 @@ fn told<T, F>(past: &Past<T>, from: &F) -> Past<T>
     ensures { result.value ≡ step past.now.value from.now }
 {
     past_of(&(past, from))
+}
+
+/// A value made of another, and of two that are lent, by a step that the caller names.
+pub(crate) fn told_both<T, F, G>(past: &Past<T>, first: &F, second: &G) -> Past<T>
+    ghost step: { T → F → G → T }
+    ensures { result.value ≡ step past.now.value first.now second.now }
+{
+    past_of(&(past, first, second))
 }
 
 /// The lists of facts that a processor opens with.
@@ -105,15 +111,4 @@ pub(crate) fn one_last<M>(items: &Past<[M; 0]>, item: &M) -> Past<[M; 0]>
     ensures { result.value ≡ items.now.value ++ item.now ∷ [] }
 {
     past_of(&(items, item))
-}
-
-/// A message more, and in front of it what it wraps of an old ring and is new there.
-pub(crate) fn unwrapped_first<A: Allocator + Copy>(
-    held: &Past<[Message<A>; 0]>,
-    message: &Message<A>,
-    old: &Window<A>,
-) -> Past<[Message<A>; 0]>
-    ensures { result.value ≡ inner_of old.now message.now.payload ++ message.now ∷ held.now.value }
-{
-    told(held, &(message, old))
 }

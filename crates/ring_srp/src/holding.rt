@@ -1,18 +1,16 @@
 //! Messages are held, and what they wrap.
 
-ghost use Rattle.std.specs.Prelude.{◌≡◌, ◌≤◌, ◌∷◌, ◌++◌, true, length, IfErr, OnOk, OnErr};
+ghost use Rattle.std.specs.Prelude.{◌≡◌, ◌≤◌, ◌∷◌, true, length, IfErr, OnOk, OnErr};
 ghost use Rattle.ring_base.specs.Fronts.{IsFront};
 ghost use Rattle.ring_base.specs.declared.fault.Fault.TheVariants.{Memory};
-ghost use Rattle.ring_base.specs.declared.state.State.TheVariants.{Recovery as InRecovery};
 ghost use Rattle.ring_window.specs.Windows.{taken};
-ghost use Rattle.ring_recover.specs.Wrapping.{unwrapped};
 ghost use Rattle.ring_core.specs.Acting.{took};
 ghost use Rattle.ring_core.specs.Deciding.{is_taken};
-ghost use Rattle.ring_core.specs.Views.{mark, takes_number};
+ghost use Rattle.ring_core.specs.Views.{takes_number};
 ghost use Rattle.ring_srp.specs.Machines.{ring_in_use};
 ghost use Rattle.ring_srp.specs.Taking.{window_front, with_taken, with_inner};
 
-use crate::history::{one_first, unwrapped_first};
+use crate::history::{one_first, told_both};
 use crate::machine::Machine;
 use crate::recovering::Recovering;
 use ring_base::{Fault, State};
@@ -29,30 +27,19 @@ impl<A: Allocator + Copy> Machine<A> {
         ensures ok { OnOk result (self.new ≡ took self.old message) }
         ensures refused { IfErr result (λ fault. fault ≡ Memory) }
     {
-        if self.state == State::Recovery {
-            return self.take_in_recovery(message);
-        }
-        self.hold(message);
-        Ok(())
-    }
-
-    /// Takes a message of the running ring in Recovery, with what it wraps of the old ring.
-    fn take_in_recovery(&mut self, message: Message<A>) -> Result<(), Fault>
-        requires state { self.old.state ≡ InRecovery }
-        requires ring { message.ring ≡ self.old.running.ring }
-        requires new { takes_number self.old message.ring message.number ≡ true }
-        ensures ok { OnOk result (self.new ≡ record self.old { held = unwrapped self.old.installed.ring (mark self.old self.old.installed.ring) self.old.held message.payload ++ message ∷ self.old.held }) }
-        ensures refused { IfErr result (λ fault. fault ≡ Memory) }
-    {
-        let held = unwrapped_first(&self.held, &message, &self.kept.window);
-        unwrap_into(&message.payload, &mut self.kept.window)?;
-        self.held = held;
         match &mut self.recovery {
-            Some(recovering) => {
+            Some(recovering) if self.state == State::Recovery => {
+                let old = (self.installed.ring, self.kept.window.mark());
+                let held = told_both(&self.held, &message, &old);
+                unwrap_into(&message.payload, &mut self.kept.window)?;
+                self.held = held;
                 recovering.take(message);
                 Ok(())
             }
-            None => Ok(()),
+            _ => {
+                self.hold(message);
+                Ok(())
+            }
         }
     }
 
