@@ -14,3 +14,4 @@ pub mod Turned
 pub mod Aside
 pub mod Held
 pub mod Wraps
+pub mod Visits
