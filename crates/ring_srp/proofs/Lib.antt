@@ -2,6 +2,8 @@ pub mod Lent
 pub mod Parts
 pub mod Standing
 pub mod Receivers
+pub mod Learns
+pub mod Installs
 pub mod Allowed
 pub mod Marks
 pub mod Outputs

@@ -5,7 +5,9 @@ pub mod Histories
 pub mod Proposing
 pub mod Passing
 pub mod Ended
+pub mod Learns
 pub mod Users
 pub mod Setting
 pub mod Taking
 pub mod Wraps
+pub mod Installs
