@@ -10,6 +10,7 @@ pub mod Outputs
 pub mod Proposals
 pub mod Sending
 pub mod Starting
+pub mod Stopping
 pub mod Users
 pub mod Turned
 pub mod Aside

@@ -14,20 +14,7 @@ use ring_commit::Configuration;
 use ring_core::{Input, Out};
 use ring_payload::Payload;
 use std::alloc::{Allocator, Global};
-use std::marker::{Model, PhantomData};
-
-/// A core as contracts see it. No value of it is made.
-pub struct Cores<A: Allocator + Copy = Global> {
-    allocator: PhantomData<A>,
-}
-
-impl<A: Allocator + Copy> Model for Cores<A> {
-    ghost use Rattle.ring_core.specs.State.{Core, opening as opened};
-
-    ghost Value = { Core A };
-
-    ghost view = { λ _. opened 1 1 };
-}
+use std::marker::Model;
 
 /// A processor's ring core. Contracts see a `Core`, with all its history.
 #[derive(Drop)]
@@ -36,8 +23,8 @@ pub struct Srp<A: Allocator + Copy = Global> {
     machine: Option<Machine<A>>,
     /// The last installed ring, as it stopped.
     last: Configuration,
-    /// What it was as it stopped, its state Stopped.
-    ended: Past<Cores<A>>,
+    /// What it was before it stopped.
+    before: Past<Machine<A>>,
 }
 
 impl<A: Allocator + Copy> Model for Srp<A> {
@@ -46,9 +33,9 @@ impl<A: Allocator + Copy> Model for Srp<A> {
 
     ghost Value = { OneCore A };
 
-    ghost view = { λ s. running_or s.machine s.ended.value };
+    ghost view = { λ s. running_or s.machine s.before.value };
 
-    ghost invariant = { λ s. IsEnded s.machine s.ended.value s.last };
+    ghost invariant = { λ s. IsEnded s.machine s.before.value s.last };
 }
 
 impl<A: Allocator + Copy> Srp<A> {
@@ -60,11 +47,11 @@ impl<A: Allocator + Copy> Srp<A> {
     {
         let machine = Machine::new(alloc, fixed, me)?;
         let last = machine.installed;
-        let ended = core_of(&machine);
+        let before = seen(&machine);
         Ok(Srp {
             machine: Some(machine),
             last,
-            ended,
+            before,
         })
     }
 
@@ -82,13 +69,13 @@ impl<A: Allocator + Copy> Srp<A> {
             return Err(Fault::Stopped);
         };
         let last = machine.installed;
-        let ended = halted_of(machine);
+        let before = seen(machine);
         match machine.step(input) {
             Ok(outs) => Ok(outs),
             Err(refused) => {
                 self.machine = None;
                 self.last = last;
-                self.ended = ended;
+                self.before = before;
                 Err(refused)
             }
         }
@@ -104,10 +91,10 @@ impl<A: Allocator + Copy> Srp<A> {
         ensures kept { OnErr result (self.new ≡ self.old) }
         ensures refused { IfErr result (λ fault. fault ≡ (if is_stopped self.old.state then StoppedFault else Memory)) }
     {
-        match &mut self.machine {
-            Some(machine) => machine.send(payload),
-            None => Err(Fault::Stopped),
-        }
+        let Some(machine) = &mut self.machine else {
+            return Err(Fault::Stopped);
+        };
+        machine.send(payload)
     }
 
     /// Stops it for good. All that it kept is given back.
@@ -116,10 +103,10 @@ impl<A: Allocator + Copy> Srp<A> {
     {
         if let Some(machine) = &self.machine {
             let last = machine.installed;
-            let ended = halted_of(machine);
+            let before = seen(machine);
             self.machine = None;
             self.last = last;
-            self.ended = ended;
+            self.before = before;
         }
     }
 
@@ -144,16 +131,9 @@ impl<A: Allocator + Copy> Srp<A> {
     }
 }
 
-/// A machine as contracts see it.
-fn core_of<A: Allocator + Copy>(machine: &Machine<A>) -> Past<Cores<A>>
-    ensures { result.value ≡ machine.now }
+/// A value as it is now, as contracts see it.
+fn seen<T>(value: &T) -> Past<T>
+    ensures { result.value ≡ value.now }
 {
-    past_of(&machine)
-}
-
-/// What a machine is once it stopped.
-fn halted_of<A: Allocator + Copy>(machine: &Machine<A>) -> Past<Cores<A>>
-    ensures { result.value ≡ halted machine.now }
-{
-    past_of(&machine)
+    past_of(&value)
 }
