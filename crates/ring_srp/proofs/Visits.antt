@@ -1,6 +1,6 @@
 -- A visit, part by part: what was asked for goes out again, what is new goes out and is held, and what the token then is.
-use Rattle.std.proofs.Common.{◌≡◌, ℕ, zero, suc, ◌+◌, ◌-◌, ◌<◌, ◌≤◌, min, max, Bool, true, false, List, [], ◌∷◌, ◌++◌, length, map, reverse, take, drop, get_or, Option, Some, None, Result, Ok, Err, refl, sym, ap, subst, ◌∙◌, arith, append_assoc, ◌⊎◌, inl, inr}
-use Rattle.std.specs.Prelude.{not, ◌&&◌, ◌==◌, nat_lt, nat_le, filter, filter_map, if◌then◌else◌, OnOk}
+use Rattle.std.proofs.Common.{◌≡◌, ℕ, suc, ◌+◌, ◌<◌, ◌≤◌, max, true, List, [], ◌∷◌, ◌++◌, length, map, reverse, drop, get_or, Option, Some, None, Result, Ok, Err, refl, sym, ap, subst, ◌∙◌, arith, append_assoc, ◌⊎◌, inl, inr}
+use Rattle.std.specs.Prelude.{not, ◌&&◌, ◌==◌, nat_lt, nat_le, filter_map, if◌then◌else◌, OnOk}
 use Rattle.std.specs.List.{cons_option}
 use Rattle.std.specs.List.Sorted.{IsStrictlyIncreasing}
 use Rattle.std.proofs.lemmas.Bool.{cases_Bool, cond-true, cond-false, and_parts, ltb-true, leb-true, true≢false}
@@ -19,7 +19,7 @@ use Rattle.ring_payload.proofs.Packing.{length-packed}
 use Rattle.ring_wire.specs.declared.frame.Frame.TheVariants.{Message as MessageFrame}
 use Rattle.ring_wire.specs.declared.message.Message.{Message}
 use Rattle.ring_wire.specs.declared.token.Token.{Token}
-use Rattle.ring_window.specs.Held.{found, holds, of_ring, highest, front_of, is_new, missing}
+use Rattle.ring_window.specs.Held.{found, holds, of_ring, highest, is_new}
 use Rattle.ring_window.specs.Windows.{Windowed, kept}
 use Rattle.ring_window.proofs.Fronts.{front_short, highest_covers}
 use Rattle.ring_window.proofs.OfRing.{found_of_ring, holds_of_ring}
@@ -37,8 +37,9 @@ use Rattle.ring_core.specs.State.{Core, Sent}
 use Rattle.ring_core.specs.Views.{front, mark, takes_number, plan}
 use Rattle.ring_core.specs.Visiting.{accepts, repeated, room_at, offers, new_payloads, new_messages, queue_after, to_others, to_next, forwarded, visited}
 use Rattle.ring_srp.specs.declared.recovering.Recovering.{Recovering}
-use Rattle.ring_srp.specs.Machines.{IsPart, IsMachine, IsRecovering, window_of, visits_of, raises_of, is_running, ring_in_use}
+use Rattle.ring_srp.specs.Machines.{IsPart, IsMachine, IsRecovering, visits_of, raises_of, is_running, ring_in_use}
 use Rattle.ring_srp.specs.Passing.{went, passed_on}
+use Rattle.ring_srp.specs.Sending.{news, holding}
 use Rattle.ring_srp.proofs.Parts.{turns_twice, raises_twice}
 
 pub if_ok : {T E P : Type 0} (r : Result T E) → P → OnOk r P
@@ -189,7 +190,7 @@ module _ {A : Type 0} (c : Core A) (window : Windowed A) (visit : TokenHistory A
       let none : (if nat_lt (mark c t.ring) n then found c.held t.ring n else None) ≡ None = sym (kept_by c window visit t n p a) ∙ k in
       let rest = filter_map (found c.held t.ring) (above_mark (mark c t.ring) (drop (i + 1) t.requests)) in
       let e : again c t (drop i t.requests) ≡ again c t (drop (i + 1) t.requests) =
-          ap (again c t) d ∙ ap (λ xs. sent (to_others c xs)) (found_first c t n (drop (i + 1) t.requests) ∙ ap (λ o. cons_option o rest) none) in
+      ap (again c t) d ∙ ap (λ xs. sent (to_others c xs)) (found_first c t n (drop (i + 1) t.requests) ∙ ap (λ o. cons_option o rest) none) in
       ap (λ s. outs ++ s) (sym e) ∙ r
 
   -- this message goes out
@@ -200,9 +201,9 @@ module _ {A : Type 0} (c : Core A) (window : Windowed A) (visit : TokenHistory A
       let some : (if nat_lt (mark c t.ring) n then found c.held t.ring n else None) ≡ Some x = sym (kept_by c window visit t n p a) ∙ k in
       let rest = filter_map (found c.held t.ring) (above_mark (mark c t.ring) (drop (i + 1) t.requests)) in
       let e : again c t (drop i t.requests) ≡ sent (to_all c x ∷ []) ++ again c t (drop (i + 1) t.requests) =
-          ap (again c t) d
-          ∙ ap (λ xs. sent (to_others c xs)) (found_first c t n (drop (i + 1) t.requests) ∙ ap (λ o. cons_option o rest) some)
-          ∙ sent-append (to_all c x ∷ []) (to_others c rest) in
+      ap (again c t) d
+      ∙ ap (λ xs. sent (to_others c xs)) (found_first c t n (drop (i + 1) t.requests) ∙ ap (λ o. cons_option o rest) some)
+      ∙ sent-append (to_all c x ∷ []) (to_others c rest) in
       ap (λ o. o ++ again c t (drop (i + 1) t.requests)) s
       ∙ append_assoc outs (sent (to_all c x ∷ [])) (again c t (drop (i + 1) t.requests))
       ∙ ap (λ s. outs ++ s) (sym e)
@@ -246,13 +247,6 @@ above_new held mark ring n h a b =
       | inr e ↦ rw (e, inside) refl
     ]
 
--- the messages that these payloads make, as the visit of a token numbers them
-abbrev pub news : {A : Type 0} → Core A → Token → List (Payload A) → List (Message A)
-news c t ps = numbered t.ring c.me t.seq ps
-
-abbrev pub holding : {A : Type 0} → Core A → Token → List (Payload A) → Core A
-holding c t ps = record c { held = reverse (news c t ps) ++ c.held }
-
 module _ {A : Type 0} (c : Core A) (t : Token) (ps : List (Payload A)) (p : Payload A) (n count : ℕ) where
   pub number_next : n ≡ t.seq + length ps → length ps < count → count ≤ room (mark c t.ring) t.seq → n + 1 ≤ max_number
   number_next e l r = omega arith
@@ -276,7 +270,7 @@ module _ {A : Type 0} (c : Core A) (t : Token) (ps : List (Payload A)) (p : Payl
       record d { held = x ∷ d.held } ≡ holding c t (ps ++ p ∷ [])
   holding_more x d e same f =
       let turned : reverse (news c t (ps ++ p ∷ [])) ≡ x ∷ reverse (news c t ps) =
-          ap reverse (news_more e ∙ ap (λ y. news c t ps ++ y ∷ []) (sym same)) ∙ reverse-append (news c t ps) (x ∷ []) in
+      ap reverse (news_more e ∙ ap (λ y. news c t ps ++ y ∷ []) (sym same)) ∙ reverse-append (news c t ps) (x ∷ []) in
       ap (λ (d : Core A). record d { held = x ∷ d.held }) f ∙ ap (λ xs. record c { held = xs ++ c.held }) (sym turned)
 
   -- one more goes out

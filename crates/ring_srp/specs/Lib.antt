@@ -11,3 +11,4 @@ pub mod Setting
 pub mod Taking
 pub mod Wraps
 pub mod Installs
+pub mod Sending

@@ -1,25 +1,26 @@
 //! A token is visited.
 
-ghost use Rattle.std.specs.Prelude.{◌≡◌, ◌≤◌, ◌<◌, ◌+◌, ◌++◌, ◌∷◌, [], true, length, reverse, IfOk, IfErr, OnOk};
+ghost use Rattle.std.specs.Prelude.{◌≡◌, ◌≤◌, ◌++◌, true, length, IfOk, IfErr, OnOk};
 ghost use Rattle.ring_base.specs.declared.fault.Fault.TheVariants.{Memory};
 ghost use Rattle.ring_base.specs.Processors.{only, less};
-ghost use Rattle.ring_token.specs.Visits.{room, numbered, left};
+ghost use Rattle.ring_token.specs.Visits.{room, left};
 ghost use Rattle.ring_window.specs.Held.{holds};
-ghost use Rattle.ring_srp.specs.Allowing.{VisitAllowed, TokenGoes};
+ghost use Rattle.ring_srp.specs.Allowing.{VisitAllowed};
 ghost use Rattle.ring_core.specs.Giving.{sent};
 ghost use Rattle.ring_srp.specs.Machines.{is_running};
+ghost use Rattle.ring_srp.specs.Sending.{news, holding};
 ghost use Rattle.ring_core.specs.Views.{mark};
 ghost use Rattle.ring_core.specs.Visiting.{accepts, repeated, room_at, new_payloads, queue_after, to_others, visited};
 
 use crate::history::{none, one_last};
 use crate::machine::Machine;
-use crate::sent::{send, send_message};
+use crate::sent::send_message;
 use ring_base::{Fault, MAX, MAX_NEW, Past, ProcSet, State, WINDOW};
 use ring_core::Out;
 use ring_packing::take_packed;
 use ring_payload::Payload;
 use ring_token::left;
-use ring_wire::{Frame, Message, Requests, Token};
+use ring_wire::{Message, Requests, Token};
 use std::alloc::Allocator;
 
 impl<A: Allocator + Copy> Machine<A> {
@@ -105,8 +106,8 @@ impl<A: Allocator + Copy> Machine<A> {
         requires runs { is_running self.old.state ≡ true }
         requires count { length payloads.items ≤ room (mark self.old token.now.ring) token.now.seq }
         ensures fresh { IfOk result (λ fresh. fresh.value ≡ payloads.items) }
-        ensures core { OnOk result (self.new ≡ record self.old { held = reverse (numbered token.now.ring self.old.me token.now.seq payloads.items) ++ self.old.held }) }
-        ensures outs { OnOk result (outs.new.items ≡ outs.old.items ++ sent (to_others self.old (numbered token.now.ring self.old.me token.now.seq payloads.items))) }
+        ensures core { OnOk result (self.new ≡ holding self.old token.now payloads.items) }
+        ensures outs { OnOk result (outs.new.items ≡ outs.old.items ++ sent (to_others self.old (news self.old token.now payloads.items))) }
         ensures refused { IfErr result (λ fault. fault ≡ Memory) }
     {
         let others = self.others();

@@ -1,5 +1,5 @@
 -- Payload by payload, a message goes out and is held.
-use Rattle.std.proofs.Common.{◌≡◌, ◌≤◌, ◌+◌, ◌++◌, ◌∷◌, [], Option, List, length, subst, ap, sym, ◌∙◌, arith}
+use Rattle.std.proofs.Common.{◌≡◌, ◌+◌, ◌++◌, ◌∷◌, [], List, length, subst, ap, sym, ◌∙◌, arith}
 use Rattle.std.proofs.lemmas.Iterator.Adapters.{YieldsList-from_vec}
 use Rattle.std.proofs.lemmas.Iterator.Consumers.{YieldsList-end, YieldsList-turn}
 use Rattle.std.proofs.lemmas.List.{length_push, map-id}
@@ -11,7 +11,8 @@ use Rattle.ring_core.specs.State.{Core}
 use Rattle.ring_core.specs.Views.{takes_number}
 use Rattle.ring_core.specs.Visiting.{to_others}
 use Rattle.ring_srp.specs.Machines.{IsMachine, ring_in_use}
-use Rattle.ring_srp.proofs.Visits.{news, holding, machine_behind, number_next, next_new, used_still, holding_more, sends_more}
+use Rattle.ring_srp.specs.Sending.{news, holding}
+use Rattle.ring_srp.proofs.Visits.{machine_behind, number_next, next_new, used_still, holding_more, sends_more}
 use Rattle.ring_srp.proofs.machine.Machine.send_new.Goals as goal
 
 pub overflow_add-number : goal.overflow_add-number

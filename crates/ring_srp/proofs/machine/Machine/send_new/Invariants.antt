@@ -2,7 +2,7 @@
 use Rattle.std.proofs.Common.{◌≡◌, ◌+◌, ◌++◌, length}
 use Rattle.ring_core.specs.Giving.{sent}
 use Rattle.ring_core.specs.Visiting.{to_others}
-use Rattle.ring_srp.proofs.Visits.{news, holding}
+use Rattle.ring_srp.specs.Sending.{news, holding}
 use Rattle.ring_srp.proofs.machine.Machine.send_new.Given as goal
 
 abbrev pub invariant-loop-payload : goal.invariant-loop-payload

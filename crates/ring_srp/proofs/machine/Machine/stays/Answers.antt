@@ -1,5 +1,5 @@
 -- The window and the visits of the ring that runs tell which requests stay.
-use Rattle.std.proofs.Common.{◌≡◌, ℕ, Bool, ap, sym, ◌∙◌, rules}
+use Rattle.std.proofs.Common.{ℕ, Bool, ap, ◌∙◌, rules}
 use mathlib.Core.Path.{fun_ext}
 use Rattle.ring_window.specs.Held.{holds}
 use Rattle.ring_token.specs.Visits.{left}

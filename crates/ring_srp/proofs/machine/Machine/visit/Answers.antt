@@ -3,7 +3,6 @@ use Rattle.std.proofs.Common.{◌≡◌, ◌≤◌, ◌+◌, length, subst, ap, 
 use Rattle.std.specs.List.Sorted.{IsStrictlyIncreasing}
 use Rattle.std.proofs.lemmas.Result.{on_ok_weaker}
 use Rattle.ring_base.specs.Numbers.{max_number}
-use Rattle.ring_base.specs.declared.ring_id.RingId.{RingId}
 use Rattle.ring_token.specs.Visits.{room}
 use Rattle.ring_core.specs.State.{Core}
 use Rattle.ring_core.specs.Views.{mark}
@@ -52,6 +51,6 @@ returns-clause-outs g c =
     let n : c.len-count.result ≡ length items = c.len-count.ensures ∙ c.in_ok-payloads.payloads.ok.0 in
     on_ok_weaker c.pass_token.result
     (λ h. visited_sends now one two t stays items (to_next two (went two t stays c.len-count.result)) c.args.outs.now.items c.repeat_requested.new.outs.items c.send_new.new.outs.items
-        c.pass_token.new.outs.items p e c.in_ok-repeat_requested.ensures.ok c.in_ok-fresh.ensures.outs
-        (visited_token now one two t stays items c.len-count.result q c.stays-stays.ensures (n ∙ ap length p)) h)
+    c.pass_token.new.outs.items p e c.in_ok-repeat_requested.ensures.ok c.in_ok-fresh.ensures.outs
+    (visited_token now one two t stays items c.len-count.result q c.stays-stays.ensures (n ∙ ap length p)) h)
     c.pass_token.ensures.outs
