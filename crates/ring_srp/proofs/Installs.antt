@@ -1,5 +1,6 @@
 -- The running ring is installed: what is kept of it is what is kept of the installed ring from now on, and what it gives comes in parts.
-use Rattle.std.proofs.Common.{◌≡◌, ℕ, zero, suc, ◌+◌, ◌-◌, ◌<◌, ◌≤◌, Bool, true, false, List, [], ◌∷◌, ◌++◌, map, filter, filter_map, Option, Some, None, Result, Ok, Err, refl, ap, ◌∙◌, sym, subst, arith, append_assoc}
+use Rattle.std.proofs.Common.{◌≡◌, ℕ, zero, suc, ◌+◌, ◌-◌, ◌<◌, ◌≤◌, Bool, true, false, List, [], ◌∷◌, ◌++◌}
+use Rattle.std.proofs.Common.{map, filter, filter_map, Option, Some, None, Result, Ok, Err, refl, ap, ◌∙◌, sym, subst, arith, append_assoc}
 use Rattle.std.specs.Prelude.{nat_lt, if◌then◌else◌}
 use Rattle.std.specs.Option.{IsSome}
 use Rattle.std.specs.Result.{OnOk}
@@ -36,7 +37,7 @@ use Rattle.ring_core.specs.Giving.{may_install, installs_in, ready_then_complete
 use Rattle.ring_srp.specs.Histories.{with_install}
 use Rattle.ring_srp.specs.Machines.{History, core_of, bound, window_of, Recovers, IsRecovering, IsMachine}
 use Rattle.ring_srp.specs.declared.recovering.Recovering.{Recovering}
-use Rattle.ring_srp.specs.Installs.{given_first, given_all}
+use Rattle.ring_srp.specs.Installs.{given_first, given_all, rest_one, rest_of, all_agreed}
 use Rattle.ring_srp.proofs.Standing.{below_wider}
 
 -- a ring is installed in Recovery alone
@@ -71,7 +72,8 @@ pub some_in : {A : Type 0} (c : Core A) (o : Option (Recovering A)) → may_inst
 some_in c o due f = some_when c o (f (due_in c due))
 
 -- what a core goes by in Recovery tells when it may install
-module _ {A : Type 0} (c : Core A) (r : Recovering A) (f : Recovers c r) (e : c.state ≡ Recovery) (ready : Bool) (n : ℕ) (is : ready ≡ is_ready_by r.ends c.running.members n) (n_is : n ≡ r.part.window.mark) where
+module _ {A : Type 0} (c : Core A) (r : Recovering A) (f : Recovers c r) (e : c.state ≡ Recovery) (ready : Bool) (n : ℕ)
+    (is : ready ≡ is_ready_by r.ends c.running.members n) (n_is : n ≡ r.part.window.mark) where
   ready_now : ready ≡ is_ready c.held c.running.ring c.running.members (mark c c.running.ring)
   ready_now =
       is ∙ ap (λ (xs : List (Message A)). is_ready_by xs c.running.members n) f.ends_is
@@ -83,7 +85,8 @@ module _ {A : Type 0} (c : Core A) (r : Recovering A) (f : Recovers c r) (e : c.
   pub not_ready : ready ≡ false → None ≡ (if may_install c then Some (delivery (plan c) c.held) else None)
   not_ready h = ap (λ (b : Bool). if b then Some (delivery (plan c) c.held) else None) (sym (due_by ∙ ap (λ (b : Bool). ready_then_complete b c) h))
 
-  pub all_ready : ready ≡ true → (window : Windowed A) → window ≡ window_of c c.installed.ring → finish r.plan.plan window.held ≡ (if may_install c then Some (delivery (plan c) c.held) else None)
+  pub all_ready : ready ≡ true → (window : Windowed A) → window ≡ window_of c c.installed.ring
+      → finish r.plan.plan window.held ≡ (if may_install c then Some (delivery (plan c) c.held) else None)
   all_ready h window w =
       let same : r.plan.plan ≡ plan c = ap (λ (x : Planned A). x.plan) f.plan_is in
       let seen : window.held ≡ of_ring c.installed.ring c.held = ap (λ (x : Windowed A). x.held) w in
@@ -114,16 +117,21 @@ operational_not_gather e = (let q : Operational ≡ Gather = e in cc)
 operational_not_recovery : Operational ≡ Recovery → ⊥
 operational_not_recovery e = (let q : Operational ≡ Recovery = e in cc)
 
-module _ {A : Type 0} (me total : ℕ) (s : State) (running installed : Configuration) (g : Gathering) (shown : Option (Sent A)) (queue : List (Payload A)) (held : List (Message A)) (h : History A)
+module _ {A : Type 0} (me total : ℕ) (s : State) (running installed : Configuration) (g : Gathering) (shown : Option (Sent A)) (queue : List (Payload A))
+    (held : List (Message A)) (h : History A)
     (gather : Gatherer) (window : Windowed A) (visit : TokenHistory A) (r : Recovering A) where
   -- what was kept of the running ring is kept of the installed one
-  pub into_operational : (o : Option (Recovering A)) → o ≡ Some r → IsMachine (core_of me total s running installed g shown queue held h) gather window visit o → s ≡ Recovery → (h' : History A) → h' ≡ with_install h running → (recovery : Option (Recovering A))
+  pub into_operational : (o : Option (Recovering A)) → o ≡ Some r
+      → IsMachine (core_of me total s running installed g shown queue held h) gather window visit o → s ≡ Recovery → (h' : History A)
+      → h' ≡ with_install h running → (recovery : Option (Recovering A))
       → IsMachine (core_of me total Operational running running g shown queue held h') gather r.part.window r.part.visit recovery
   into_operational o there m e h' is recovery =
       let now = core_of me total Operational running running g shown queue held (with_install h running) in
-      let f : Recovers (core_of me total s running installed g shown queue held h) r = subst (λ (x : Option (Recovering A)). IsRecovering (core_of me total s running installed g shown queue held h) x) there (m.recovering e) in
+      let f : Recovers (core_of me total s running installed g shown queue held h) r = subst (λ (x : Option (Recovering A)). IsRecovering
+      (core_of me total s running installed g shown queue held h) x) there (m.recovering e) in
       let b : bound s running.ring.seq ≡ suc running.ring.seq = ap (λ (x : State). bound x running.ring.seq) e in
-      let wide = below_wider (core_of me total s running installed g shown queue held h) (bound s running.ring.seq) (suc running.ring.seq) (omega (arith, b)) m.below in
+      let wide = below_wider (core_of me total s running installed g shown queue held h) (bound s running.ring.seq) (suc running.ring.seq) (omega
+      (arith, b)) m.below in
       let all : IsMachine now gather r.part.window r.part.visit recovery =
       record {
         runs = refl;
@@ -137,17 +145,15 @@ module _ {A : Type 0} (me total : ℕ) (s : State) (running installed : Configur
         same = λ q. refl;
         recovering = λ q. absurd (operational_not_recovery q);
       } in
-      subst (λ (x : History A). IsMachine (core_of me total Operational running running g shown queue held x) gather r.part.window r.part.visit recovery) (sym is) all
+      subst (λ (x : History A). IsMachine (core_of me total Operational running running g shown queue held x) gather r.part.window r.part.visit recovery)
+      (sym is) all
 
 -- What the new ring gives
 
--- messages are agreed
-abbrev pub all_agreed : {A : Type 0} → RingId → List (Message A) → List (Out A)
-all_agreed ring xs = map (λ (x : Message _). Agreed ring x.number x) xs
-
 -- a row in two parts
 row_parts : (first a b : ℕ) → numbers_from first (a + b) ≡ numbers_from first a ++ numbers_from (first + a) b
-row_parts first zero b = (let e : first ≡ first + 0 = omega arith in let n : zero + b ≡ b = omega arith in ap (numbers_from first) n ∙ ap (λ k. numbers_from k b) e)
+row_parts first zero b = (let e : first ≡ first + 0 = omega arith in let n : zero + b ≡ b = omega arith in ap (numbers_from first) n
+    ∙ ap (λ k. numbers_from k b) e)
 row_parts first (suc a) b =
     let n : suc a + b ≡ suc (a + b) = omega arith in
     let e : suc first + a ≡ first + suc a = omega arith in
@@ -191,9 +197,11 @@ row_above b first (suc count) l = (l, row_above b (suc first) count (omega arith
 
 each-filter : {X : Type 0} (P : X → Type 0) (t : X → Bool) (xs : List X) → AllByRecursion P xs → AllByRecursion P (filter t xs)
 each-filter P t [] h = tt
-each-filter P t (x ∷ xs) h = cond_both (t x) (x ∷ filter t xs) (filter t xs) (λ (ys : List _). AllByRecursion P ys) (λ e. (h.0, each-filter P t xs h.1)) (λ e. each-filter P t xs h.1)
+each-filter P t (x ∷ xs) h = cond_both (t x) (x ∷ filter t xs) (filter t xs) (λ (ys : List _). AllByRecursion P ys) (λ e. (h.0, each-filter P t xs h.1))
+    (λ e. each-filter P t xs h.1)
 
-found_all : {A : Type 0} (held : List (Message A)) (ring : RingId) (ns : List ℕ) → filter_map (found (of_ring ring held) ring) ns ≡ filter_map (found held ring) ns
+found_all : {A : Type 0} (held : List (Message A)) (ring : RingId) (ns : List ℕ)
+    → filter_map (found (of_ring ring held) ring) ns ≡ filter_map (found held ring) ns
 found_all held ring [] = refl
 found_all held ring (n ∷ ns) = rw (found_of_ring held ring n, found_all held ring ns) refl
 
@@ -203,24 +211,22 @@ known_above p b l = each-filter (λ n. b < n) (is_known p) (numbers_from (safe p
 
 -- the two parts are read off the window of the installed ring
 pub rests_by : {A : Type 0} (c : Core A) (w : Windowed A) → w ≡ window_of c c.installed.ring → mark c c.installed.ring ≤ safe (plan c)
-    → filter_map (kept w) (transitional_part (plan c)) ++ filter_map (kept w) (past_gap_part (plan c) c.held) ≡ filter_map (found c.held c.installed.ring) (transitional_part (plan c) ++ past_gap_part (plan c) c.held)
+    → filter_map (kept w) (transitional_part (plan c)) ++ filter_map (kept w) (past_gap_part (plan c) c.held) ≡ filter_map (found c.held c.installed.ring)
+    (transitional_part (plan c) ++ past_gap_part (plan c) c.held)
 rests_by {A} c w e l =
     let p = plan c in
     let old = c.installed.ring in
     let v = window_of c old in
     let all = known_above p (mark c old) l in
     let a = each-filter (λ n. mark c old < n) (λ n. nat_lt n (gap p)) (known_above_safe p) all in
-    let b = each-filter (λ n. mark c old < n) (is_from_mate p c.held) (filter (nat_lt (gap p)) (known_above_safe p)) (each-filter (λ n. mark c old < n) (nat_lt (gap p)) (known_above_safe p) all) in
+    let b = each-filter (λ n. mark c old < n) (is_from_mate p c.held) (filter (nat_lt (gap p)) (known_above_safe p)) (each-filter (λ n. mark c old < n)
+    (nat_lt (gap p)) (known_above_safe p) all) in
     let one = kept_all v (transitional_part p) a ∙ found_all c.held old (transitional_part p) in
     let two = kept_all v (past_gap_part p c.held) b ∙ found_all c.held old (past_gap_part p c.held) in
     ap (λ (x : Windowed A). filter_map (kept x) (transitional_part p) ++ filter_map (kept x) (past_gap_part p c.held)) e
     ∙ ap (λ (xs : List (Message A)). xs ++ filter_map (kept v) (past_gap_part p c.held)) one
     ∙ ap (λ (xs : List (Message A)). filter_map (found c.held old) (transitional_part p) ++ xs) two
     ∙ sym (filter_map-append (found c.held old) (transitional_part p) (past_gap_part p c.held))
-
--- what the numbers give in the transitional configuration
-abbrev pub rest_of : {A : Type 0} → Windowed A → List ℕ → List (Out A)
-rest_of w ns = map (λ (x : Message _). Rest x.ring x.number x) (filter (λ (x : Message _). is_user x.payload) (filter_map (kept w) ns))
 
 pub rest_parts : {A : Type 0} (w : Windowed A) (ms ns : List ℕ) → rest_of w (ms ++ ns) ≡ rest_of w ms ++ rest_of w ns
 rest_parts {A} w ms ns =
@@ -232,20 +238,19 @@ rest_parts {A} w ms ns =
     ∙ ap (map out) (filter-append users_only a b)
     ∙ map-append out (filter users_only a) (filter users_only b)
 
--- and what a message gives
-abbrev pub rest_one : {A : Type 0} → Message A → List (Out A)
-rest_one x = map (λ (y : Message _). Rest y.ring y.number y) (filter (λ (y : Message _). is_user y.payload) (x ∷ []))
-
 -- what one number gives
 pub rest_some : {A : Type 0} (w : Windowed A) (n : ℕ) (x : Message A) → kept w n ≡ Some x → rest_one x ≡ rest_of w (n ∷ [])
-rest_some {A} w n x h = ap (λ (o : Option (Message A)). map (λ (y : Message A). Rest y.ring y.number y) (filter (λ (y : Message A). is_user y.payload) (cons_option o []))) (sym h)
+rest_some {A} w n x h = ap (λ (o : Option (Message A)). map (λ (y : Message A). Rest y.ring y.number y) (filter (λ (y : Message A). is_user y.payload)
+    (cons_option o []))) (sym h)
 
 pub rest_none : {A : Type 0} (w : Windowed A) (n : ℕ) → kept w n ≡ None → [] ≡ rest_of w (n ∷ [])
-rest_none {A} w n h = ap (λ (o : Option (Message A)). map (λ (y : Message A). Rest y.ring y.number y) (filter (λ (y : Message A). is_user y.payload) (cons_option o []))) (sym h)
+rest_none {A} w n h = ap (λ (o : Option (Message A)). map (λ (y : Message A). Rest y.ring y.number y) (filter (λ (y : Message A). is_user y.payload)
+    (cons_option o []))) (sym h)
 
 -- so they make the rest of the old ring
 pub rest_given : {A : Type 0} (c : Core A) (w : Windowed A) → w ≡ window_of c c.installed.ring → mark c c.installed.ring ≤ safe (plan c)
-    → rest_of w (transitional_part (plan c)) ++ rest_of w (past_gap_part (plan c) c.held) ≡ map (λ (x : Message A). Rest x.ring x.number x) (rests (plan c) c.held)
+    → rest_of w (transitional_part (plan c)) ++ rest_of w (past_gap_part (plan c) c.held) ≡ map (λ (x : Message A). Rest x.ring x.number x) (rests
+    (plan c) c.held)
 rest_given {A} c w e l =
     let out = λ (x : Message A). Rest x.ring x.number x in
     let users_only = λ (x : Message A). is_user x.payload in
@@ -256,8 +261,10 @@ rest_given {A} c w e l =
     ∙ ap (λ (xs : List (Message A)). map out (filter users_only xs)) (rests_by c w e l)
 
 -- the two configurations with what comes between
-pub first_given : {A : Type 0} (c : Core A) (outs : List (Out A)) (w : Windowed A) (mates : ℕ) → mates ≡ (plan c).mates → w ≡ window_of c c.installed.ring → mark c c.installed.ring ≤ safe (plan c)
-    → (((outs ++ Trans c.installed.ring c.running.ring mates ∷ []) ++ rest_of w (transitional_part (plan c))) ++ rest_of w (past_gap_part (plan c) c.held)) ++ Regular c.running.ring c.running.members ∷ [] ≡ outs ++ given_first c
+pub first_given : {A : Type 0} (c : Core A) (outs : List (Out A)) (w : Windowed A) (mates : ℕ) → mates ≡ (plan c).mates → w ≡ window_of c c.installed.ring
+    → mark c c.installed.ring ≤ safe (plan c)
+    → (((outs ++ Trans c.installed.ring c.running.ring mates ∷ []) ++ rest_of w (transitional_part (plan c)))
+    ++ rest_of w (past_gap_part (plan c) c.held)) ++ Regular c.running.ring c.running.members ∷ [] ≡ outs ++ given_first c
 unfolding given_first
 first_given {A} c outs w mates m e l =
     let first : Out A = Trans c.installed.ring c.running.ring mates in
@@ -270,7 +277,8 @@ first_given {A} c outs w mates m e l =
     ∙ ap (λ n. outs ++ Trans c.installed.ring c.running.ring n ∷ (rest ++ last ∷ [])) m
 
 -- and what the new ring gives behind them
-pub then_given : {A : Type 0} (c : Core A) (outs : List (Out A)) (most : ℕ) (aside : List (Message A)) → aside ≡ users c c.running.ring 0 most → most ≤ front c c.running.ring
+pub then_given : {A : Type 0} (c : Core A) (outs : List (Out A)) (most : ℕ) (aside : List (Message A)) → aside ≡ users c c.running.ring 0 most
+    → most ≤ front c c.running.ring
     → ((outs ++ given_first c) ++ all_agreed c.running.ring aside) ++ delivered_from c c.running.ring most 0 ≡ outs ++ given_all c
 unfolding given_first given_all
 then_given {A} c outs most aside e l =
@@ -284,12 +292,15 @@ then_given {A} c outs most aside e l =
 
 -- the same of what the code gives, step by step
 pub first_by : {A : Type 0} (c : Core A) (outs one two three all : List (Out A)) (w : Windowed A) (mates : ℕ) (d : Delivery)
-    → one ≡ outs ++ Trans c.installed.ring c.running.ring mates ∷ [] → two ≡ one ++ rest_of w d.transitional → three ≡ two ++ rest_of w d.past_gap → all ≡ three ++ Regular c.running.ring c.running.members ∷ []
-    → d ≡ delivery (plan c) c.held → mates ≡ (plan c).mates → w ≡ window_of c c.installed.ring → mark c c.installed.ring ≤ safe (plan c) → all ≡ outs ++ given_first c
+    → one ≡ outs ++ Trans c.installed.ring c.running.ring mates ∷ [] → two ≡ one ++ rest_of w d.transitional → three ≡ two ++ rest_of w d.past_gap
+    → all ≡ three ++ Regular c.running.ring c.running.members ∷ []
+    → d ≡ delivery (plan c) c.held → mates ≡ (plan c).mates → w ≡ window_of c c.installed.ring → mark c c.installed.ring ≤ safe (plan c) → all ≡ outs
+    ++ given_first c
 first_by {A} c outs one two three all w mates d a b e f is m there l =
     let last : Out A = Regular c.running.ring c.running.members in
     let first = outs ++ Trans c.installed.ring c.running.ring mates ∷ [] in
-    f ∙ ap (λ (xs : List (Out A)). xs ++ last ∷ []) (e ∙ ap (λ (xs : List (Out A)). xs ++ rest_of w d.past_gap) (b ∙ ap (λ (xs : List (Out A)). xs ++ rest_of w d.transitional) a))
+    f ∙ ap (λ (xs : List (Out A)). xs ++ last ∷ []) (e ∙ ap (λ (xs : List (Out A)). xs ++ rest_of w d.past_gap) (b ∙ ap (λ (xs : List (Out A)). xs
+    ++ rest_of w d.transitional) a))
     ∙ ap (λ (x : Delivery). ((first ++ rest_of w x.transitional) ++ rest_of w x.past_gap) ++ last ∷ []) is
     ∙ first_given c outs w mates m there l
 
@@ -309,6 +320,7 @@ on_ok (Ok x) p = p
 on_ok (Err e) p = tt
 
 -- all that an installation gives
-pub settled_outs : {A T E : Type 0} (c : Core A) (r : Result T E) (outs all : List (Out A)) → may_install c ≡ true → OnOk r (all ≡ outs ++ given_all c) → OnOk r (all ≡ outs ++ (settle (may_install c) c []).outs)
+pub settled_outs : {A T E : Type 0} (c : Core A) (r : Result T E) (outs all : List (Out A)) → may_install c ≡ true → OnOk r (all ≡ outs ++ given_all c)
+    → OnOk r (all ≡ outs ++ (settle (may_install c) c []).outs)
 unfolding given_all
 settled_outs c r outs all due h = subst (λ (b : Bool). OnOk r (all ≡ outs ++ (settle b c []).outs)) (sym due) h

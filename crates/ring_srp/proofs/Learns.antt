@@ -1,5 +1,6 @@
 -- Recovery begins: what a full commit token says of the old ring fits what is kept of it, and of the ring that runs from now on nothing is known yet.
-use Rattle.std.proofs.Common.{◌≡◌, ℕ, zero, suc, ◌+◌, ◌*◌, ◌<◌, ◌≤◌, max, true, false, List, [], ◌∷◌, map, filter_map, length, Option, Some, None, slice_get, refl, ap, ◌∙◌, sym, subst, inl, inr, arith}
+use Rattle.std.proofs.Common.{◌≡◌, ℕ, zero, suc, ◌+◌, ◌*◌, ◌<◌, ◌≤◌, max, true, false, List, [], ◌∷◌}
+use Rattle.std.proofs.Common.{map, filter_map, length, Option, Some, None, slice_get, refl, ap, ◌∙◌, sym, subst, inl, inr, arith}
 use Rattle.std.specs.Prelude.{◌&&◌, ◌==◌, nat_eq, nat_lt, nat_le}
 use Rattle.std.specs.List.{AllByRecursion, prefix_len}
 use Rattle.std.specs.Cmp.Lexicographic.{pointwise}
@@ -70,16 +71,19 @@ other_ring a b l =
 -- Reports
 
 -- the greatest mark that was reported of an old ring is no less than each
-marked : (old : RingId) (es : List CommitEntry) (k : ℕ) (e : CommitEntry) → slice_get es k ≡ Some e → same_ring e.old old ≡ true → e.mark ≤ safe_of (reports_of old es)
+marked : (old : RingId) (es : List CommitEntry) (k : ℕ) (e : CommitEntry) → slice_get es k ≡ Some e → same_ring e.old old ≡ true
+    → e.mark ≤ safe_of (reports_of old es)
 marked old [] k e h s = absurd cc
 marked old (x ∷ es) zero e h s =
     let same : x ≡ e = cc in
     let there : same_ring x.old old ≡ true = subst (λ (y : CommitEntry). same_ring y.old old ≡ true) (sym same) s in
     subst (λ (y : CommitEntry). y.mark ≤ safe_of (reports_of old (x ∷ es))) same
-    (subst (λ (ys : List CommitEntry). x.mark ≤ safe_of ys) (sym (cond-true (same_ring x.old old) (x ∷ reports_of old es) (reports_of old es) there)) (omega arith))
+    (subst (λ (ys : List CommitEntry). x.mark ≤ safe_of ys) (sym (cond-true (same_ring x.old old) (x ∷ reports_of old es) (reports_of old es) there))
+    (omega arith))
 marked old (x ∷ es) (suc k) e h s =
     let l = marked old es k e h s in
-    cond_both (same_ring x.old old) (x ∷ reports_of old es) (reports_of old es) (λ (ys : List CommitEntry). e.mark ≤ safe_of ys) (λ t. omega (arith, l)) (λ t. l)
+    cond_both (same_ring x.old old) (x ∷ reports_of old es) (reports_of old es) (λ (ys : List CommitEntry). e.mark ≤ safe_of ys) (λ t. omega (arith, l))
+    (λ t. l)
 
 -- and no front of those that come from it is behind
 behind : (safe : ℕ) (old : RingId) (es : List CommitEntry) (k : ℕ) (e : CommitEntry) → slice_get es k ≡ Some e → same_ring e.old old ≡ true
@@ -93,7 +97,8 @@ behind safe old (x ∷ es) zero e h s n =
     subst (λ (y : CommitEntry). safe ≤ y.front) same (leb-true safe x.front (and_parts (nat_le safe x.front) (none_behind safe (reports_of old es)) all).0)
 behind safe old (x ∷ es) (suc k) e h s n =
     behind safe old es k e h s
-    (cond_both (same_ring x.old old) (x ∷ reports_of old es) (reports_of old es) (λ (ys : List CommitEntry). none_behind safe ys ≡ true → none_behind safe (reports_of old es) ≡ true)
+    (cond_both (same_ring x.old old) (x ∷ reports_of old es) (reports_of old es) (λ (ys : List CommitEntry). none_behind safe ys ≡ true
+    → none_behind safe (reports_of old es) ≡ true)
     (λ t m. (and_parts (nat_le safe x.front) (none_behind safe (reports_of old es)) m).1) (λ t m. m) n)
 
 -- the own report, where it stands in the token
@@ -114,7 +119,15 @@ own_at own (Some e) h =
     let p = and_parts (a && b && d) (pointwise nat_eq e.held own.held) h in
     let q = and_parts (a && b) d p.0 in
     let r = and_parts a b q.0 in
-    record { entry = e; there = refl; old_is = ring_same e.old own.old r.0; same = r.0; front_is = eqb-true e.front own.front r.1; mark_is = eqb-true e.mark own.mark q.1 }
+    record {
+      entry = e;
+      there = refl;
+      old_is = ring_same e.old own.old r.0;
+      same = r.0;
+      front_is = eqb-true e.front own.front r.1;
+      mark_is = eqb-true e.mark
+          own.mark q.1;
+    }
 
 -- what a core tested
 pub record IsSecond {A : Type 0} (c : Core A) (k : CommitToken) : Type 0 where
@@ -139,7 +152,16 @@ second c k a =
     let t = and_parts (same_ring k.ring c.running.ring) (k.members == c.running.members) r.1 in
     let l : size k.members ≤ k.hop = leb-true (size k.members) k.hop s.0 in
     let m : k.hop < 2 * size k.members = ltb-true k.hop (2 * size k.members) s.1 in
-    record { some = omega (arith, l, m); full = l; short = m; ring = t.0; members = eqb-true k.members c.running.members t.1; own = own_at (own_entry c) (slice_get k.entries (position_of_hop k)) q.1; sound = p.1 }
+    record {
+      some = omega (arith, l, m);
+      full = l;
+      short = m;
+      ring = t.0;
+      members = eqb-true k.members c.running.members t.1;
+      own = own_at (own_entry c)
+          (slice_get k.entries (position_of_hop k)) q.1;
+      sound = p.1;
+    }
 
 -- The plan
 
@@ -157,7 +179,8 @@ module _ {A : Type 0} (c : Core A) (k : CommitToken) (a : LearnAllowed c k) wher
   planned_by : (o : Option CommitEntry) → IsOwn (own_entry c) o → plan_if_sound k o ≡ Some (plan_at c k)
   planned_by o w =
       ap (plan_if_sound k) w.there
-      ∙ cond-true (is_sound w.entry.old k.entries) (Some (plan_of w.entry.old k.members k.entries)) None (ap (λ (r : RingId). is_sound r k.entries) w.old_is ∙ is_second.sound)
+      ∙ cond-true (is_sound w.entry.old k.entries) (Some (plan_of w.entry.old k.members k.entries)) None (ap (λ
+      (r : RingId). is_sound r k.entries) w.old_is ∙ is_second.sound)
       ∙ ap (λ (r : RingId). Some (plan_of r k.members k.entries)) w.old_is
       ∙ ap (λ n. Some (plan_of c.installed.ring n k.entries)) is_second.members
 
@@ -165,8 +188,10 @@ module _ {A : Type 0} (c : Core A) (k : CommitToken) (a : LearnAllowed c k) wher
   pub has_plan : plan_from c.me k ≡ Some (plan_at c k)
   has_plan =
       let member : has k.members c.me ≡ true = has_member k.members c.me (receiver_member c.me k is_second.some a.here) in
-      let count : nat_le (size k.members) (length k.entries) ≡ true = le-leb (size k.members) (length k.entries) (omega (arith, a.fits.count, is_second.full)) in
-      cond-true (has k.members c.me && nat_le (size k.members) (length k.entries)) (plan_if_sound k (slice_get k.entries (position_of k.members c.me))) None (and_from _ _ member count)
+      let count : nat_le (size k.members) (length k.entries) ≡ true = le-leb (size k.members) (length k.entries) (omega
+      (arith, a.fits.count, is_second.full)) in
+      cond-true (has k.members c.me && nat_le (size k.members) (length k.entries)) (plan_if_sound k (slice_get k.entries (position_of k.members c.me))) None
+      (and_from _ _ member count)
       ∙ ap (λ n. plan_if_sound k (slice_get k.entries n)) stands
       ∙ planned_by (slice_get k.entries (position_of_hop k)) is_second.own
 
@@ -185,7 +210,8 @@ module _ {A : Type 0} (c : Core A) (k : CommitToken) (a : LearnAllowed c k) wher
       omega (arith, l, w.front_is)
 
 -- it is the one that the code makes
-pub planned_for : {A : Type 0} (c : Core A) (k : CommitToken) → LearnAllowed c k → (me : ℕ) → me ≡ c.me → option_map (begun {A = A} me) (plan_from me k) ≡ Some (begun c.me (plan_at c k))
+pub planned_for : {A : Type 0} (c : Core A) (k : CommitToken) → LearnAllowed c k → (me : ℕ) → me ≡ c.me
+    → option_map (begun {A = A} me) (plan_from me k) ≡ Some (begun c.me (plan_at c k))
 planned_for {A} c k a me e = ap (λ n. option_map (begun {A = A} n) (plan_from n k)) e ∙ ap (option_map (begun {A = A} c.me)) (has_plan c k a)
 
 -- the token goes on with one hop more
@@ -211,11 +237,13 @@ of_none ring (x ∷ held) h = cond-false (same_ring x.ring ring) (x ∷ of_ring 
 
 turns_none : {A : Type 0} (ring : RingId) (turns : List (Turn A)) → AllByRecursion (λ (v : Turn A). v.came.ring.seq < ring.seq) turns → turns_of ring turns ≡ []
 turns_none ring [] h = refl
-turns_none ring (v ∷ turns) h = cond-false (same_ring v.came.ring ring) (v ∷ turns_of ring turns) (turns_of ring turns) (other_ring v.came.ring ring h.0) ∙ turns_none ring turns h.1
+turns_none ring (v ∷ turns) h = cond-false (same_ring v.came.ring ring) (v ∷ turns_of ring turns) (turns_of ring turns) (other_ring v.came.ring ring h.0)
+    ∙ turns_none ring turns h.1
 
 raises_none : (ring : RingId) (raises : List Raise) → AllByRecursion (λ (x : Raise). x.ring.seq < ring.seq) raises → raises_of ring raises ≡ []
 raises_none ring [] h = refl
-raises_none ring (x ∷ raises) h = cond-false (same_ring x.ring ring) (x ∷ raises_of ring raises) (raises_of ring raises) (other_ring x.ring ring h.0) ∙ raises_none ring raises h.1
+raises_none ring (x ∷ raises) h = cond-false (same_ring x.ring ring) (x ∷ raises_of ring raises) (raises_of ring raises) (other_ring x.ring ring h.0)
+    ∙ raises_none ring raises h.1
 
 -- what is kept of a ring of which nothing is known
 record IsNew {A : Type 0} (c : Core A) (ring : RingId) : Type 0 where
@@ -258,13 +286,15 @@ raise_to ring n = record { ring = ring; mark = n }
 raises_more : (ring : RingId) (raises : List Raise) (n : ℕ) → raises_of ring (raise_to ring n ∷ raises) ≡ raise_to ring n ∷ raises_of ring raises
 raises_more ring raises n = cond-true (same_ring ring ring) (raise_to ring n ∷ raises_of ring raises) (raises_of ring raises) (ring_self ring)
 
-raised : {A : Type 0} (turns : List (Turn A)) (raises : List Raise) (ring : RingId) (n : ℕ) → safe_mark turns (raise_to ring n ∷ raises) ring ≡ max (safe_mark turns raises ring) n
+raised : {A : Type 0} (turns : List (Turn A)) (raises : List Raise) (ring : RingId) (n : ℕ)
+    → safe_mark turns (raise_to ring n ∷ raises) ring ≡ max (safe_mark turns raises ring) n
 raised turns raises ring n =
     ap (λ (xs : List Raise). max (mark_by (forwarded_in ring turns)) (greatest (map (λ (x : Raise). x.mark) xs))) (raises_more ring raises n) ∙ omega arith
 
 -- In Recovery
 
-module _ {A : Type 0} (me total : ℕ) (s : State) (running installed : Configuration) (g : Gathering) (shown shown' : Option (Sent A)) (queue : List (Payload A)) (held : List (Message A)) (h : History A)
+module _ {A : Type 0} (me total : ℕ) (s : State) (running installed : Configuration) (g : Gathering) (shown shown' : Option (Sent A)) (queue : List
+    (Payload A)) (held : List (Message A)) (h : History A)
     (gather : Gatherer) (window : Windowed A) (visit : TokenHistory A) (recovery : Option (Recovering A)) (k : CommitToken)
     (m : IsMachine (core_of me total s running installed g shown queue held h) gather window visit recovery)
     (a : LearnAllowed (core_of me total s running installed g shown queue held h) k)
@@ -286,7 +316,8 @@ module _ {A : Type 0} (me total : ℕ) (s : State) (running installed : Configur
   fresh = is_new after running.ring below
 
   planned : plan after ≡ plan_at before k
-  planned = ap (plan_of installed.ring running.members) (cond-true (same_ring k.ring running.ring) k.entries (entries_for running.ring h.plans) (second before k a).ring)
+  planned = ap (plan_of installed.ring running.members) (cond-true (same_ring k.ring running.ring) k.entries (entries_for running.ring h.plans)
+      (second before k a).ring)
 
   higher : mark after installed.ring ≡ max (mark before installed.ring) n
   higher = raised h.turns h.raises installed.ring n
@@ -298,19 +329,23 @@ module _ {A : Type 0} (me total : ℕ) (s : State) (running installed : Configur
       ap (λ (w : Windowed A). front_of w.held w.ring) m.kept.window_is ∙ front_of_ring held installed.ring in
       omega (arith, there, safe_within before k a, n_is)
 
-  old_part : (window' : Windowed A) (visit' : TokenHistory A) → window' ≡ forgotten window n → visit' ≡ with_raise visit n → IsPart after installed.ring window' visit'
+  old_part : (window' : Windowed A) (visit' : TokenHistory A) → window' ≡ forgotten window n → visit' ≡ with_raise visit n
+      → IsPart after installed.ring window' visit'
   old_part window' visit' w v =
       let up = higher in
       let l = safe_within before k a in
       record {
-        window_is = w ∙ ap (λ (x : Windowed A). forgotten x n) m.kept.window_is ∙ (λ i. record { ring = installed.ring; mark = sym higher i; held = of_ring installed.ring held });
-        visit_is = v ∙ ap (λ (x : TokenHistory A). with_raise x n) m.kept.visit_is ∙ (λ i. record { me = me; ring = installed.ring; turns = turns_of installed.ring h.turns; raises = sym (raises_more installed.ring h.raises n) i });
+        window_is = w ∙ ap (λ (x : Windowed A). forgotten x n) m.kept.window_is
+            ∙ (λ i. record { ring = installed.ring; mark = sym higher i; held = of_ring installed.ring held });
+        visit_is = v ∙ ap (λ (x : TokenHistory A). with_raise x n) m.kept.visit_is
+            ∙ (λ i. record { me = me; ring = installed.ring; turns = turns_of installed.ring h.turns; raises = sym (raises_more installed.ring h.raises n) i });
         reached = omega (arith, m.kept.reached, up, l, n_is);
         near = omega (arith, m.kept.near, up);
         led = m.kept.led;
       }
 
-  pub recovers : (r : Recovering A) → r.part.window ≡ opened running.ring → r.part.visit ≡ unvisited me running.ring → r.plan ≡ begun me (plan_at before k) → r.ends ≡ [] → r.most ≡ 0 → r.aside.items ≡ [] → Recovers after r
+  pub recovers : (r : Recovering A) → r.part.window ≡ opened running.ring → r.part.visit ≡ unvisited me running.ring → r.plan ≡ begun me (plan_at before k)
+      → r.ends ≡ [] → r.most ≡ 0 → r.aside.items ≡ [] → Recovers after r
   recovers r w v p e z x =
       let f = fresh in
       let up = higher in
@@ -327,7 +362,8 @@ module _ {A : Type 0} (me total : ℕ) (s : State) (running installed : Configur
         old_safe = omega (arith, up, same, l, n_is);
       }
 
-  pub into_recovery : (h' : History A) → h' ≡ with_plan h k installed.ring n → (window' : Windowed A) (visit' : TokenHistory A) (r : Recovering A) → window' ≡ forgotten window n → visit' ≡ with_raise visit n → Recovers after r
+  pub into_recovery : (h' : History A) → h' ≡ with_plan h k installed.ring n → (window' : Windowed A) (visit' : TokenHistory A) (r : Recovering A)
+      → window' ≡ forgotten window n → visit' ≡ with_raise visit n → Recovers after r
       → IsMachine (core_of me total Recovery running installed g shown' queue held h') gather window' visit' (Some r)
   into_recovery h' is window' visit' r w v f =
       let old = old_part window' visit' w v in

@@ -1,19 +1,16 @@
 //! The running ring is installed.
 
-ghost use Rattle.std.specs.Prelude.{◌≡◌, ◌≤◌, true, if◌then◌else◌, [], ◌∷◌, ◌++◌, map, filter, filter_map, Some, None, IfErr, OnOk};
+ghost use Rattle.std.specs.Prelude.{◌≡◌, ◌≤◌, true, if◌then◌else◌, [], ◌∷◌, ◌++◌, Some, None, IfErr, OnOk};
 ghost use Rattle.ring_base.specs.declared.fault.Fault.TheVariants.{Memory};
-ghost use Rattle.ring_payload.specs.Kinds.{is_user};
-ghost use Rattle.ring_window.specs.Windows.{kept};
 ghost use Rattle.ring_recover.specs.Deliveries.{delivery as whole_delivery};
-ghost use Rattle.ring_core.specs.declared.out.Out.TheVariants.{Agreed, Rest};
+ghost use Rattle.ring_core.specs.declared.out.Out.TheVariants.{Agreed};
 ghost use Rattle.ring_core.specs.Giving.{may_install, install, settle, users};
 ghost use Rattle.ring_core.specs.Views.{front, mark, plan};
-ghost use Rattle.ring_srp.specs.Installs.{given_first, given_all};
+ghost use Rattle.ring_srp.specs.Installs.{given_first, given_all, rest_one, rest_of, all_agreed};
 
 use crate::giving::Reached;
 use crate::history::with_install;
 use crate::machine::Machine;
-use crate::recovering::Recovering;
 use ring_base::{Fault, RingId, State};
 use ring_core::Out;
 use ring_recover::{Delivery, Numbers, is_user};
@@ -120,7 +117,7 @@ fn give_rest<A: Allocator + Copy>(
     numbers: &Numbers,
     outs: &mut Vec<Out<A>, A>,
 ) -> Result<(), Fault>
-    ensures ok { OnOk result (outs.new.items ≡ outs.old.items ++ map (λ x. Rest x.ring x.number x) (filter (λ x. is_user x.payload) (filter_map (kept window.now) numbers.now))) }
+    ensures ok { OnOk result (outs.new.items ≡ outs.old.items ++ rest_of window.now numbers.now) }
     ensures refused { IfErr result (λ fault. fault ≡ Memory) }
 {
     for number in numbers.iter() {
@@ -135,7 +132,7 @@ fn give_number<A: Allocator + Copy>(
     number: u64,
     outs: &mut Vec<Out<A>, A>,
 ) -> Result<(), Fault>
-    ensures ok { OnOk result (outs.new.items ≡ outs.old.items ++ map (λ x. Rest x.ring x.number x) (filter (λ x. is_user x.payload) (filter_map (kept window.now) (number ∷ [])))) }
+    ensures ok { OnOk result (outs.new.items ≡ outs.old.items ++ rest_of window.now (number ∷ [])) }
     ensures refused { IfErr result (λ fault. fault ≡ Memory) }
 {
     match window.get(number) {
@@ -149,7 +146,7 @@ fn give_if_users<A: Allocator + Copy>(
     message: &Message<A>,
     outs: &mut Vec<Out<A>, A>,
 ) -> Result<(), Fault>
-    ensures ok { OnOk result (outs.new.items ≡ outs.old.items ++ map (λ x. Rest x.ring x.number x) (filter (λ x. is_user x.payload) (message.now ∷ []))) }
+    ensures ok { OnOk result (outs.new.items ≡ outs.old.items ++ rest_one message.now) }
     ensures refused { IfErr result (λ fault. fault ≡ Memory) }
 {
     if is_user(&message.payload) {
@@ -164,7 +161,7 @@ fn give_aside<A: Allocator + Copy>(
     messages: Vec<Message<A>, A>,
     outs: &mut Vec<Out<A>, A>,
 ) -> Result<(), Fault>
-    ensures ok { OnOk result (outs.new.items ≡ outs.old.items ++ map (λ x. Agreed ring.now x.number x) messages.items) }
+    ensures ok { OnOk result (outs.new.items ≡ outs.old.items ++ all_agreed ring.now messages.items) }
     ensures refused { IfErr result (λ fault. fault ≡ Memory) }
 {
     for message in messages {

@@ -1,14 +1,13 @@
 //! The second round of a commit token: recovery begins.
 
-ghost use Rattle.std.specs.Prelude.{◌≡◌, ◌∷◌, ◌++◌, Some, IfErr, OnOk};
+ghost use Rattle.std.specs.Prelude.{◌≡◌, ◌++◌, IfErr, OnOk};
 ghost use Rattle.ring_base.specs.declared.fault.Fault.TheVariants.{Memory};
-ghost use Rattle.ring_base.specs.declared.state.State.TheVariants.{Recovery as InRecovery};
 ghost use Rattle.ring_window.specs.Windows.{opened};
 ghost use Rattle.ring_recover.specs.Recovering.{begun};
 ghost use Rattle.ring_core.specs.Giving.{sent};
 ghost use Rattle.ring_core.specs.Handing.{learned};
 ghost use Rattle.ring_srp.specs.Allowing.{LearnAllowed};
-ghost use Rattle.ring_srp.specs.Learns.{plan_at, safe_at};
+ghost use Rattle.ring_srp.specs.Learns.{plan_at, recovering_by};
 
 use crate::history::with_plan;
 use crate::machine::Machine;
@@ -49,17 +48,11 @@ impl<A: Allocator + Copy> Machine<A> {
 
     /// Recovers by a full commit token from now on: by its plan, with a window of the running ring. What a member from
     /// the old ring reported safe there is safe.
-    fn recover(
-        &mut self,
-        token: &CommitToken,
-        plan: Plan<A>,
-        window: Window<A>,
-        shown: Sent<A>,
-    )
+    fn recover(&mut self, token: &CommitToken, plan: Plan<A>, window: Window<A>, shown: Sent<A>)
         requires allowed { LearnAllowed self.old token.now }
         requires plan { plan ≡ begun self.old.me (plan_at self.old token.now) }
         requires window { window ≡ opened self.old.running.ring }
-        ensures { self.new ≡ record self.old { state = InRecovery; shown = Some shown; raises = record { ring = self.old.installed.ring; mark = safe_at self.old token.now } ∷ self.old.raises; plans = token.now ∷ self.old.plans } }
+        ensures { self.new ≡ recovering_by self.old token.now shown }
     {
         let safe = plan.safe();
         let past = with_plan(&self.past, token, self.installed.ring, safe);

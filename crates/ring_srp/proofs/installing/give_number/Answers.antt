@@ -12,7 +12,8 @@ pub returns-in-Some-clause-ok : goal.returns-in-Some-clause-ok
 returns-in-Some-clause-ok g c =
     let w = c.args.window.now in
     let some : kept w c.args.number ≡ Some c.in-Some.message.now = sym c.get.ensures ∙ ap option_copied c.in-Some.is in
-    on_ok_weaker c.give_if_users.result (λ h. h ∙ ap (λ (xs : List (Out g.row.A.Denot)). c.args.outs.now.items ++ xs) (rest_some w c.args.number c.in-Some.message.now some)) c.give_if_users.ensures.ok
+    on_ok_weaker c.give_if_users.result (λ h. h ∙ ap (λ (xs : List (Out g.row.A.Denot)). c.args.outs.now.items
+    ++ xs) (rest_some w c.args.number c.in-Some.message.now some)) c.give_if_users.ensures.ok
 
 pub returns-in-None-clause-ok : goal.returns-in-None-clause-ok
 returns-in-None-clause-ok g c =

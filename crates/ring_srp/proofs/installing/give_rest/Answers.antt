@@ -3,7 +3,8 @@ use Rattle.std.proofs.Common.{◌≡◌, ◌++◌, ◌∷◌, [], ℕ, List, ap,
 use Rattle.std.proofs.lemmas.List.{map-id}
 use Rattle.std.proofs.lemmas.Iterator.Consumers.{YieldsList-from_first, YieldsList-end}
 use Rattle.ring_core.specs.declared.out.Out.{Out}
-use Rattle.ring_srp.proofs.Installs.{rest_of, rest_parts}
+use Rattle.ring_srp.specs.Installs.{rest_of}
+use Rattle.ring_srp.proofs.Installs.{rest_parts}
 use Rattle.ring_srp.proofs.installing.give_rest.Goals as goal
 
 pub loop-number-preserved : goal.loop-number-preserved
@@ -20,7 +21,8 @@ loop-number-preserved g c =
 pub returns-clause-ok : goal.returns-clause-ok
 returns-clause-ok g c =
     let begun = c.into_iter-number-iterator in
-    let road = YieldsList-from_first (λ (n : ℕ). n) (λ (ns : List ℕ). ns) {s = begun.result} c.args.numbers.now (begun.ensures.into_iter_gives ∙ c.iter-number-items.ensures) in
+    let road = YieldsList-from_first (λ (n : ℕ). n) (λ (ns : List ℕ). ns) {s = begun.result} c.args.numbers.now (begun.ensures.into_iter_gives
+    ∙ c.iter-number-items.ensures) in
     let came = (YieldsList-end road c.loop-number.yielded _ c.loop-number.yielded_by _ _ c.in-None.is c.next.ensures.steps).0 in
     let same : c.loop-number.yielded ≡ c.args.numbers.now = sym (map-id c.loop-number.yielded) ∙ came in
     c.loop-number.invariant ∙ ap (λ (ns : List ℕ). c.args.outs.now.items ++ rest_of c.args.window.now ns) same

@@ -1,6 +1,6 @@
 -- What the numbers so far give.
 use Rattle.std.proofs.Common.{◌≡◌, ◌++◌}
-use Rattle.ring_srp.proofs.Installs.{rest_of}
+use Rattle.ring_srp.specs.Installs.{rest_of}
 use Rattle.ring_srp.proofs.installing.give_rest.Given as goal
 
 abbrev pub invariant-loop-number : goal.invariant-loop-number

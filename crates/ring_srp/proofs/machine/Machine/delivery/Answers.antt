@@ -24,7 +24,8 @@ returns-else-not-is_ready g c =
     let state : s.state ≡ Recovery = is_recovery s.state (sym c.eq.ensures ∙ c.if-eq.true) in
     let here = subst (λ (o : Option (Recovering g.row.A.Denot)). IsRecovering now o) c.in-Some.is (c.self.invariant.recovering state) in
     c.finish.ensures
-    ∙ all_ready now c.in-Some.recovering here state c.is_ready.result c.mark-mark.result c.is_ready.ensures c.mark-mark.ensures c.if-not-is_ready.false s.kept.window c.self.invariant.kept.window_is
+    ∙ all_ready now c.in-Some.recovering here state c.is_ready.result c.mark-mark.result c.is_ready.ensures c.mark-mark.ensures c.if-not-is_ready.false
+    s.kept.window c.self.invariant.kept.window_is
     ∙ ap told c.self.view_is
 
 pub returns-in_default : goal.returns-in_default

@@ -27,6 +27,8 @@ returns-clause-ok g c =
     let here : Recovers now r = subst (λ (o : Option (Recovering g.row.A.Denot)). IsRecovering now o) is (c.self.invariant.recovering (due_in now due)) in
     let mates = c.mates-mates.ensures ∙ ap (λ (x : Planned g.row.A.Denot). x.plan.mates) here.plan_is in
     let parts = c.requires.delivery ∙ ap (λ (x : Core g.row.A.Denot). delivery (plan x) x.held) (sym c.self.view_is) in
-    first_by now c.args.outs.now.items c.push.new.self.items c.give_rest.new.outs.items c.give_rest-2.new.outs.items c.push-2.new.self.items s.kept.window c.mates-mates.result c.args.delivery.now
-    c.in_ok-push.ensures.items c.in_ok-give_rest.ensures.ok c.in_ok-give_rest-2.ensures.ok c.in_ok-push-2.ensures.items parts mates c.self.invariant.kept.window_is here.old_safe
+    first_by now c.args.outs.now.items c.push.new.self.items c.give_rest.new.outs.items c.give_rest-2.new.outs.items c.push-2.new.self.items s.kept.window
+    c.mates-mates.result c.args.delivery.now
+    c.in_ok-push.ensures.items c.in_ok-give_rest.ensures.ok c.in_ok-give_rest-2.ensures.ok c.in_ok-push-2.ensures.items parts mates
+    c.self.invariant.kept.window_is here.old_safe
     ∙ ap (λ (x : Core g.row.A.Denot). c.args.outs.now.items ++ given_first x) c.self.view_is

@@ -10,7 +10,8 @@ pub give-requires-clause-ring : goal.give-requires-clause-ring
 give-requires-clause-ring g c = ap (λ (x : Core g.row.A.Denot). x.installed.ring) c.self.view_is
 
 pub give-requires-clause-mark : goal.give-requires-clause-mark
-give-requires-clause-mark g c = subst (λ (x : Core g.row.A.Denot). mark x x.installed.ring ≤ c.settle-aside.result.most) (sym c.settle-aside.ensures.core) c.settle-aside.ensures.safe
+give-requires-clause-mark g c = subst (λ (x : Core g.row.A.Denot). mark x x.installed.ring ≤ c.settle-aside.result.most)
+    (sym c.settle-aside.ensures.core) c.settle-aside.ensures.safe
 
 pub returns-clause-core : goal.returns-clause-core
 returns-clause-core g c = on_ok c.give.result c.settle-aside.ensures.core
@@ -18,6 +19,8 @@ returns-clause-core g c = on_ok c.give.result c.settle-aside.ensures.core
 pub returns-clause-outs : goal.returns-clause-outs
 returns-clause-outs g c =
     on_ok_weaker c.give.result
-    (λ h. then_by c.args.self.now c.settle-aside.new.self c.args.outs.now.items c.give_change.new.outs.items c.give_aside.new.outs.items c.give.new.outs.items c.self.inside.installed.ring c.settle-aside.result.most c.settle-aside.result.messages.items
-    c.in_ok-give_change.ensures.ok c.in_ok-give_aside.ensures.ok h c.settle-aside.ensures.core (ap (λ (x : Core g.row.A.Denot). x.installed.ring) c.self.view_is) c.settle-aside.ensures.aside c.settle-aside.ensures.far)
+    (λ h. then_by c.args.self.now c.settle-aside.new.self c.args.outs.now.items c.give_change.new.outs.items c.give_aside.new.outs.items
+    c.give.new.outs.items c.self.inside.installed.ring c.settle-aside.result.most c.settle-aside.result.messages.items
+    c.in_ok-give_change.ensures.ok c.in_ok-give_aside.ensures.ok h c.settle-aside.ensures.core (ap (λ
+    (x : Core g.row.A.Denot). x.installed.ring) c.self.view_is) c.settle-aside.ensures.aside c.settle-aside.ensures.far)
     c.give.ensures.ok
