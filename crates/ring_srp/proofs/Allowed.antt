@@ -89,7 +89,8 @@ in_join Operational c j h = in_overhear c j
 
 in_round : {A : Type 0} (s : State) (c : Core A) (k : CommitToken) → c.state ≡ s → is_at c.me k ≡ true → CommitFits k → Allows c (decide_round s c k)
 in_round Gather c k h at f = cond_both (takes_first_round c k) (Fill k) Ignore (Allows c) (λ e. record { state = h; here = at; passes = e; fits = f }) (λ e. tt)
-in_round Commit c k h at f = cond_both (takes_second_round c k) (Learn k) Ignore (Allows c) (λ e. record { state = h; here = at; passes = e; fits = f }) (λ e. tt)
+in_round Commit c k h at f = cond_both (takes_second_round c k) (Learn k) Ignore (Allows c) (λ e. record { state = h; here = at; passes = e; fits = f })
+    (λ e. tt)
 in_round Recovery c k h at f =
     cond_both (takes_start c k) (Visit (first_token k.ring)) Ignore (Allows c)
     (λ e. record { runs = ap is_running h; passes = (and_parts _ (accepts c (first_token k.ring)) e).1; goes = first_goes k.ring })

@@ -26,36 +26,45 @@ use Rattle.ring_srp.specs.Machines.{IsPart}
 
 -- A visit: its mark is the lesser of two numbers, of which the earlier was in the front
 
-newest_mark : {A : Type 0} (a : ℕ) (turns : List (Turn A)) (raised f : ℕ) → max (mark_by (map (λ (v : Turn A). v.went.aru) turns)) raised ≤ f → last_aru turns ≤ f → max (mark_by (a ∷ map (λ (v : Turn A). v.went.aru) turns)) raised ≤ f
+newest_mark : {A : Type 0} (a : ℕ) (turns : List (Turn A)) (raised f : ℕ) → max (mark_by (map (λ (v : Turn A). v.went.aru) turns)) raised ≤ f
+    → last_aru turns ≤ f → max (mark_by (a ∷ map (λ (v : Turn A). v.went.aru) turns)) raised ≤ f
 newest_mark a [] raised f h l = omega arith
 newest_mark a (v ∷ turns) raised f h l = omega arith
 
-turn_mark : {A : Type 0} (v : Turn A) (turns : List (Turn A)) (raises : List Raise) (ring : RingId) (f : ℕ) → safe_mark turns raises ring ≤ f → last_aru (turns_of ring turns) ≤ f → safe_mark (v ∷ turns) raises ring ≤ f
+turn_mark : {A : Type 0} (v : Turn A) (turns : List (Turn A)) (raises : List Raise) (ring : RingId) (f : ℕ) → safe_mark turns raises ring ≤ f
+    → last_aru (turns_of ring turns) ≤ f → safe_mark (v ∷ turns) raises ring ≤ f
 turn_mark {A} v turns raises ring f h l =
-    cond_both (same_ring v.came.ring ring) (v ∷ turns_of ring turns) (turns_of ring turns) (λ (vs : List (Turn A)). max (mark_by (map (λ (v : Turn A). v.went.aru) vs)) (raised_to ring raises) ≤ f)
+    cond_both (same_ring v.came.ring ring) (v ∷ turns_of ring turns) (turns_of ring turns)
+    (λ (vs : List (Turn A)). max (mark_by (map (λ (v : Turn A). v.went.aru) vs)) (raised_to ring raises) ≤ f)
     (λ e. newest_mark v.went.aru (turns_of ring turns) (raised_to ring raises) f h l)
     (λ e. h)
 
 -- A raise: it is to a mark that the own front has reached
 
-raise_mark : {A : Type 0} (x : Raise) (turns : List (Turn A)) (raises : List Raise) (ring : RingId) (f : ℕ) → safe_mark turns raises ring ≤ f → x.mark ≤ f → safe_mark turns (x ∷ raises) ring ≤ f
+raise_mark : {A : Type 0} (x : Raise) (turns : List (Turn A)) (raises : List Raise) (ring : RingId) (f : ℕ) → safe_mark turns raises ring ≤ f → x.mark ≤ f
+    → safe_mark turns (x ∷ raises) ring ≤ f
 raise_mark {A} x turns raises ring f h l =
-    cond_both (same_ring x.ring ring) (x ∷ filter (λ (x : Raise). same_ring x.ring ring) raises) (filter (λ (x : Raise). same_ring x.ring ring) raises) (λ (xs : List Raise). max (mark_by (map (λ (v : Turn A). v.went.aru) (turns_of ring turns))) (greatest (map (λ (x : Raise). x.mark) xs)) ≤ f)
+    cond_both (same_ring x.ring ring) (x ∷ filter (λ (x : Raise). same_ring x.ring ring) raises) (filter (λ (x : Raise). same_ring x.ring ring) raises)
+    (λ (xs : List Raise). max (mark_by (map (λ (v : Turn A). v.went.aru) (turns_of ring turns))) (greatest (map (λ (x : Raise). x.mark) xs)) ≤ f)
     (λ e. omega arith)
     (λ e. h)
 
 -- among reports of one ring, those after the first are none behind either
-rest_ahead : (old : RingId) (safe : ℕ) (x : CommitEntry) (ys : List CommitEntry) → none_behind safe (if same_ring x.old old then x ∷ ys else ys) ≡ true → none_behind safe ys ≡ true
+rest_ahead : (old : RingId) (safe : ℕ) (x : CommitEntry) (ys : List CommitEntry) → none_behind safe (if same_ring x.old old then x ∷ ys else ys) ≡ true
+    → none_behind safe ys ≡ true
 rest_ahead old safe x ys h =
-    cond_both (same_ring x.old old) (x ∷ ys) ys (λ (zs : List CommitEntry). none_behind safe zs ≡ true → none_behind safe ys ≡ true) (λ e k. (and_parts (nat_le safe x.front) (none_behind safe ys) k).1) (λ e k. k) h
+    cond_both (same_ring x.old old) (x ∷ ys) ys (λ (zs : List CommitEntry). none_behind safe zs ≡ true → none_behind safe ys ≡ true)
+    (λ e k. (and_parts (nat_le safe x.front) (none_behind safe ys) k).1) (λ e k. k) h
 
 -- who comes from the old ring is not behind
-ahead : (old : RingId) (safe : ℕ) (entries : List CommitEntry) (i : ℕ) (e : CommitEntry) → none_behind safe (reports_of old entries) ≡ true → slice_get entries i ≡ Some e → same_ring e.old old ≡ true → safe ≤ e.front
+ahead : (old : RingId) (safe : ℕ) (entries : List CommitEntry) (i : ℕ) (e : CommitEntry) → none_behind safe (reports_of old entries) ≡ true
+    → slice_get entries i ≡ Some e → same_ring e.old old ≡ true → safe ≤ e.front
 ahead old safe [] i e h g s = absurd (let q : ⊥ = cc in q)
 ahead old safe (x ∷ entries) zero e h g s =
     let q : x ≡ e = cc in
     let same : same_ring x.old old ≡ true = subst (λ (y : CommitEntry). same_ring y.old old ≡ true) (sym q) s in
-    let first : none_behind safe (x ∷ reports_of old entries) ≡ true = subst (λ (zs : List CommitEntry). none_behind safe zs ≡ true) (cond-true (same_ring x.old old) (x ∷ reports_of old entries) (reports_of old entries) same) h in
+    let first : none_behind safe (x ∷ reports_of old entries) ≡ true = subst (λ (zs : List CommitEntry). none_behind safe zs ≡ true)
+    (cond-true (same_ring x.old old) (x ∷ reports_of old entries) (reports_of old entries) same) h in
     subst (λ (y : CommitEntry). safe ≤ y.front) q (leb-true safe x.front (and_parts (nat_le safe x.front) (none_behind safe (reports_of old entries)) first).0)
 ahead old safe (x ∷ entries) (suc i) e h g s = ahead old safe entries i e (rest_ahead old safe x (reports_of old entries) h) g s
 
@@ -65,18 +74,23 @@ stands own None h = absurd (let q : ⊥ = cc in q)
 stands own (Some e) h = (e, refl, h)
 
 -- what those from the old ring report safe, the own front has reached
-pub learned_front : {A : Type 0} (c : Core A) (k : CommitToken) → takes_second_round c k ≡ true → safe_of (reports_of c.installed.ring k.entries) ≤ front c c.installed.ring
+pub learned_front : {A : Type 0} (c : Core A) (k : CommitToken) → takes_second_round c k ≡ true
+    → safe_of (reports_of c.installed.ring k.entries) ≤ front c c.installed.ring
 learned_front c k h =
-    let own : is_own (own_entry c) (slice_get k.entries (position_of_hop k)) ≡ true = (and_parts _ _ (and_parts _ (is_sound c.installed.ring k.entries) h).0).1 in
+    let own : is_own (own_entry c) (slice_get k.entries (position_of_hop k)) ≡ true =
+    (and_parts _ _ (and_parts _ (is_sound c.installed.ring k.entries) h).0).1 in
     let sound : is_sound c.installed.ring k.entries ≡ true = (and_parts _ (is_sound c.installed.ring k.entries) h).1 in
     let (e, at, same) = stands (own_entry c) (slice_get k.entries (position_of_hop k)) own in
-    let two : (same_ring e.old c.installed.ring && (e.front == front c c.installed.ring)) ≡ true = (and_parts _ (e.mark == mark c c.installed.ring) (and_parts _ (pointwise nat_eq e.held (own_entry c).held) same).0).0 in
-    let i : safe_of (reports_of c.installed.ring k.entries) ≤ e.front = ahead c.installed.ring (safe_of (reports_of c.installed.ring k.entries)) k.entries (position_of_hop k) e sound at (and_parts _ (e.front == front c c.installed.ring) two).0 in
+    let two : (same_ring e.old c.installed.ring && (e.front == front c c.installed.ring)) ≡ true =
+    (and_parts _ (e.mark == mark c c.installed.ring) (and_parts _ (pointwise nat_eq e.held (own_entry c).held) same).0).0 in
+    let i : safe_of (reports_of c.installed.ring k.entries) ≤ e.front = ahead c.installed.ring (safe_of (reports_of c.installed.ring k.entries)) k.entries
+    (position_of_hop k) e sound at (and_parts _ (e.front == front c c.installed.ring) two).0 in
     subst (λ n. safe_of (reports_of c.installed.ring k.entries) ≤ n) (eqb-true _ _ (and_parts (same_ring e.old c.installed.ring) _ two).1) i
 
 -- Each act
 
-acted_mark : {A : Type 0} (c : Core A) (a : Act A) → Allows c a → mark c c.installed.ring ≤ front c c.installed.ring → last_aru (turns_of c.installed.ring c.turns) ≤ front c c.installed.ring → mark (act c a).core c.installed.ring ≤ front c c.installed.ring
+acted_mark : {A : Type 0} (c : Core A) (a : Act A) → Allows c a → mark c c.installed.ring ≤ front c c.installed.ring
+    → last_aru (turns_of c.installed.ring c.turns) ≤ front c c.installed.ring → mark (act c a).core c.installed.ring ≤ front c c.installed.ring
 acted_mark c Ignore m h l = h
 acted_mark c (Enqueue payload) m h l = h
 acted_mark c Repeat m h l = h
@@ -91,7 +105,9 @@ acted_mark c (RegatherAndWiden j) m h l = h
 acted_mark c (Take x) m h l = h
 acted_mark c (Visit t) m h l = turn_mark (turn_of c t) c.turns c.raises c.installed.ring (front c c.installed.ring) h l
 acted_mark c (Fill k) m h l = h
-acted_mark c (Learn k) m h l = raise_mark (record { ring = c.installed.ring; mark = safe_of (reports_of c.installed.ring k.entries) }) c.turns c.raises c.installed.ring (front c c.installed.ring) h (learned_front c k m.passes)
+acted_mark c (Learn k) m h l = raise_mark
+    (record { ring = c.installed.ring; mark = safe_of (reports_of c.installed.ring k.entries) }) c.turns c.raises c.installed.ring
+    (front c c.installed.ring) h (learned_front c k m.passes)
 
 -- no act installs a ring
 acted_installed : {A : Type 0} (c : Core A) (a : Act A) → (act c a).core.installed ≡ c.installed
@@ -124,14 +140,17 @@ after_installed false did = refl
 pub done_installed : {A : Type 0} (c : Core A) (a : Act A) → (done c a).core.installed ≡ c.installed
 done_installed c a = after_installed (may_follow a && proposes (act c a).core) (act c a) ∙ acted_installed c a
 
-done_mark : {A : Type 0} (c : Core A) (a : Act A) → Allows c a → mark c c.installed.ring ≤ front c c.installed.ring → last_aru (turns_of c.installed.ring c.turns) ≤ front c c.installed.ring → mark (done c a).core (done c a).core.installed.ring ≤ front c c.installed.ring
+done_mark : {A : Type 0} (c : Core A) (a : Act A) → Allows c a → mark c c.installed.ring ≤ front c c.installed.ring
+    → last_aru (turns_of c.installed.ring c.turns) ≤ front c c.installed.ring → mark (done c a).core (done c a).core.installed.ring ≤ front c c.installed.ring
 done_mark c a m h l =
     let e : mark (done c a).core (done c a).core.installed.ring ≡ mark (act c a).core c.installed.ring =
-    ap (λ (x : Configuration). mark (done c a).core x.ring) (done_installed c a) ∙ after_mark (may_follow a && proposes (act c a).core) (act c a) c.installed.ring in
+    ap (λ (x : Configuration). mark (done c a).core x.ring) (done_installed c a)
+    ∙ after_mark (may_follow a && proposes (act c a).core) (act c a) c.installed.ring in
     subst (λ n. n ≤ front c c.installed.ring) (sym e) (acted_mark c a m h l)
 
 -- the same, of what the code keeps and answers
-pub may_give : {A : Type 0} (m c new : Core A) (a : Act A) (window : Windowed A) (visit : TokenHistory A) (reached : ℕ) → m ≡ c → IsPart m m.installed.ring window visit → Allows c a → new ≡ (done c a).core → reached ≡ front c c.installed.ring → mark new new.installed.ring ≤ reached
+pub may_give : {A : Type 0} (m c new : Core A) (a : Act A) (window : Windowed A) (visit : TokenHistory A) (reached : ℕ) → m ≡ c
+    → IsPart m m.installed.ring window visit → Allows c a → new ≡ (done c a).core → reached ≡ front c c.installed.ring → mark new new.installed.ring ≤ reached
 may_give {A} m c new a window visit reached v part allows e r =
     let kept : IsPart c c.installed.ring window visit = subst (λ (x : Core A). IsPart x x.installed.ring window visit) v part in
     let bound : mark (done c a).core (done c a).core.installed.ring ≤ front c c.installed.ring = done_mark c a allows kept.reached kept.led in

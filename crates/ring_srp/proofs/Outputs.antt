@@ -46,13 +46,16 @@ after_sends : {A : Type 0} (b : Bool) (did : Did A) → did.sends ++ (proposed_a
 after_sends true did = refl
 after_sends false did = append-nil did.sends
 
-pub done_core : {A : Type 0} (c mid : Core A) (a : Act A) → may_follow a ≡ true → mid ≡ (act c a).core → (proposed_after (proposes mid) (silently mid)).core ≡ (done c a).core
+pub done_core : {A : Type 0} (c mid : Core A) (a : Act A) → may_follow a ≡ true → mid ≡ (act c a).core
+    → (proposed_after (proposes mid) (silently mid)).core ≡ (done c a).core
 done_core {A} c mid a f e =
     ap (λ (m : Core A). (proposed_after (proposes m) (silently m)).core) e
     ∙ after_core (proposes (act c a).core) (act c a)
     ∙ sym (ap (λ b. (proposed_after (b && proposes (act c a).core) (act c a)).core) f)
 
-pub done_sends : {A : Type 0} (c mid : Core A) (a : Act A) (outs outs' outs'' : List (Out A)) → may_follow a ≡ true → mid ≡ (act c a).core → outs' ≡ outs ++ sent (act c a).sends → outs'' ≡ outs' ++ sent (proposed_after (proposes mid) (silently mid)).sends → outs'' ≡ outs ++ sent (done c a).sends
+pub done_sends : {A : Type 0} (c mid : Core A) (a : Act A) (outs outs' outs'' : List (Out A)) → may_follow a ≡ true → mid ≡ (act c a).core
+    → outs' ≡ outs ++ sent (act c a).sends → outs'' ≡ outs' ++ sent (proposed_after (proposes mid) (silently mid)).sends
+    → outs'' ≡ outs ++ sent (done c a).sends
 done_sends {A} c mid a outs outs' outs'' f e p q =
     let did = act c a in
     let s : sent did.sends ++ sent (proposed_after (proposes mid) (silently mid)).sends ≡ sent (done c a).sends =
@@ -82,7 +85,8 @@ settled_outs : {A : Type 0} (b : Bool) (c : Core A) (outs : List (Out A)) → ou
 settled_outs true c outs = refl
 settled_outs false c outs = append-nil outs
 
-pub step_core : {A : Type 0} (c mid : Core A) (a : Act A) (input : Input A) → a ≡ decide c input → mid ≡ (done c a).core → (settle (may_install mid) mid []).core ≡ (ring_step c input).core
+pub step_core : {A : Type 0} (c mid : Core A) (a : Act A) (input : Input A) → a ≡ decide c input → mid ≡ (done c a).core
+    → (settle (may_install mid) mid []).core ≡ (ring_step c input).core
 unfolding ring_step
 step_core {A} c mid a input d e =
     let did = done c a in
@@ -90,7 +94,8 @@ step_core {A} c mid a input d e =
     ∙ settled_core (may_install did.core) did.core (sent did.sends ++ given c did.core)
     ∙ ap (λ (b : Act A). (delivered c (done c b)).core) d
 
-pub step_outs : {A : Type 0} (c mid : Core A) (a : Act A) (input : Input A) (outs : List (Out A)) → a ≡ decide c input → mid ≡ (done c a).core → outs ≡ sent (done c a).sends ++ given c mid → outs ++ (settle (may_install mid) mid []).outs ≡ (ring_step c input).outs
+pub step_outs : {A : Type 0} (c mid : Core A) (a : Act A) (input : Input A) (outs : List (Out A)) → a ≡ decide c input → mid ≡ (done c a).core
+    → outs ≡ sent (done c a).sends ++ given c mid → outs ++ (settle (may_install mid) mid []).outs ≡ (ring_step c input).outs
 unfolding ring_step
 step_outs {A} c mid a input outs d e o =
     let did = done c a in
@@ -100,7 +105,8 @@ step_outs {A} c mid a input outs d e o =
     ∙ ap (λ (b : Act A). (delivered c (done c b)).outs) d
 
 -- what was sent and given, of what the code keeps
-pub given_outs : {A : Type 0} (c mid : Core A) (sends : List (Sent A)) (none first outs : List (Out A)) (ring : RingId) (reached safe : ℕ) → none ≡ [] → first ≡ none ++ sent sends → outs ≡ first ++ delivered_from mid ring reached safe
+pub given_outs : {A : Type 0} (c mid : Core A) (sends : List (Sent A)) (none first outs : List (Out A)) (ring : RingId) (reached safe : ℕ) → none ≡ []
+    → first ≡ none ++ sent sends → outs ≡ first ++ delivered_from mid ring reached safe
     → ring ≡ c.installed.ring → reached ≡ front c c.installed.ring → safe ≡ mark c c.installed.ring → outs ≡ sent sends ++ given c mid
 given_outs c mid sends none first outs ring reached safe n f o r a b = rw (o, f, n, r, a, b) refl
 

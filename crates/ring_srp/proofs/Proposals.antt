@@ -33,7 +33,8 @@ smallest_member set me low e = subst (λ i. IsMember set i) e (at_member set 0 (
 
 is_smallest : (me floor : ℕ) (g : Gathering) → may_propose me floor g ≡ true → smallest (candidates g) ≡ me
 is_smallest me floor g h =
-    eqb-true (smallest (candidates g)) me (and_parts (has_consensus me g) (smallest (candidates g) == me) (and_parts _ (nat_le (new_number floor g) max_number) h).0).1
+    eqb-true (smallest (candidates g)) me
+    (and_parts (has_consensus me g) (smallest (candidates g) == me) (and_parts _ (nat_le (new_number floor g) max_number) h).0).1
 
 may : {A : Type 0} (s : State) (c : Core A) → proposes_in s c ≡ true → may_propose c.me (floor c) c.gathering ≡ true
 may Gather c h = h
@@ -75,7 +76,8 @@ is_due {A} c token low e = elim (cases_Bool (proposes c)) [
 ]
 
 -- the same, of what the code keeps and answers
-pub due_here : {A : Type 0} (m c : Core A) (token : CommitToken) (answer : Option CommitToken) → m ≡ c → 1 ≤ m.me → answer ≡ Some token → answer ≡ due c → IsDue c token
+pub due_here : {A : Type 0} (m c : Core A) (token : CommitToken) (answer : Option CommitToken) → m ≡ c → 1 ≤ m.me → answer ≡ Some token → answer ≡ due c
+    → IsDue c token
 due_here {A} m c token answer v low is e = is_due c token (subst (λ (x : Core A). 1 ≤ x.me) v low) (sym is ∙ e)
 
 not_due : {A : Type 0} (c : Core A) → None ≡ due c → proposes c ≡ false

@@ -31,14 +31,16 @@ not_below n = le-ltb n n (omega arith)
 
 agreed_nothing : {A : Type 0} (c : Core A) (ring : RingId) → agreed_from c ring (front c ring) ≡ []
 agreed_nothing {A} c ring =
-    ap (λ n. map (λ (x : Message A). Agreed ring x.number x) (filter (λ (x : Message A). is_user x.payload) (filter_map (found c.held ring) (numbers_from (front c ring + 1) n)))) (none_left (front c ring))
+    ap (λ n. map (λ (x : Message A). Agreed ring x.number x)
+    (filter (λ (x : Message A). is_user x.payload) (filter_map (found c.held ring) (numbers_from (front c ring + 1) n)))) (none_left (front c ring))
 
 safe_nothing : {A : Type 0} (c : Core A) (ring : RingId) → safe_from c ring (mark c ring) ≡ []
 safe_nothing c ring = cond-false (nat_lt (mark c ring) (mark c ring)) (Safe ring (mark c ring) ∷ []) [] (not_below (mark c ring))
 
 given_nothing : {A : Type 0} (c : Core A) → given c c ≡ []
 given_nothing {A} c =
-    ap (λ (outs : List (Out A)). outs ++ safe_from c c.installed.ring (mark c c.installed.ring)) (agreed_nothing c c.installed.ring) ∙ safe_nothing c c.installed.ring
+    ap (λ (outs : List (Out A)). outs ++ safe_from c c.installed.ring (mark c c.installed.ring)) (agreed_nothing c c.installed.ring)
+    ∙ safe_nothing c c.installed.ring
 
 -- a step that ended in this core, and gave nothing
 pub record GaveNothing {A : Type 0} (s : Stepped A) (c : Core A) : Type 0 where
@@ -61,19 +63,23 @@ drops Commit payload h = refl
 drops Recovery payload h = refl
 drops Stopped payload h = refl
 
-pub dropped : {A : Type 0} (c : Core A) (payload : Payload A) → (c.state ≡ Operational → is_queued payload ≡ false) → may_install c ≡ false → GaveNothing (ring_step c (SendInput payload)) c
+pub dropped : {A : Type 0} (c : Core A) (payload : Payload A) → (c.state ≡ Operational → is_queued payload ≡ false) → may_install c ≡ false
+    → GaveNothing (ring_step c (SendInput payload)) c
 unfolding ring_step
 dropped {A} c payload h i = subst (λ (a : Act A). GaveNothing (delivered c (done c a)) c) (sym (drops c.state payload h)) (ignored c i)
 
 -- A payload is queued
 
-enqueued : {A : Type 0} (c : Core A) (payload : Payload A) → c.state ≡ Operational → GaveNothing (delivered c (done c (Enqueue payload))) (record c { queue = c.queue ++ payload ∷ [] })
+enqueued : {A : Type 0} (c : Core A) (payload : Payload A) → c.state ≡ Operational
+    → GaveNothing (delivered c (done c (Enqueue payload))) (record c { queue = c.queue ++ payload ∷ [] })
 enqueued c payload h =
     let new = record c { queue = c.queue ++ payload ∷ [] } in
     settled_nothing (may_install new) new (given c new) (ap (λ s. installs_in s new) h) (given_nothing new)
 
-pub queued : {A : Type 0} (c : Core A) (payload : Payload A) → c.state ≡ Operational → is_queued payload ≡ true → GaveNothing (ring_step c (SendInput payload)) (record c { queue = c.queue ++ payload ∷ [] })
+pub queued : {A : Type 0} (c : Core A) (payload : Payload A) → c.state ≡ Operational → is_queued payload ≡ true
+    → GaveNothing (ring_step c (SendInput payload)) (record c { queue = c.queue ++ payload ∷ [] })
 unfolding ring_step
 queued {A} c payload h q =
-    let e : decide_payload c.state payload ≡ Enqueue payload = ap (λ s. decide_payload s payload) h ∙ cond-true (is_queued payload) (Enqueue payload) Ignore q in
+    let e : decide_payload c.state payload ≡ Enqueue payload = ap (λ s. decide_payload s payload) h
+    ∙ cond-true (is_queued payload) (Enqueue payload) Ignore q in
     subst (λ (a : Act A). GaveNothing (delivered c (done c a)) (record c { queue = c.queue ++ payload ∷ [] })) (sym e) (enqueued c payload h)

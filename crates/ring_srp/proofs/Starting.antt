@@ -14,7 +14,8 @@ use Rattle.ring_core.specs.State.{alone, opening}
 use Rattle.ring_srp.specs.Machines.{History, history_of, core_of, IsMachine}
 
 starts_at : {A : Type 0} (total me : ℕ) (queue : List (Payload A)) → 1 ≤ me →
-    IsMachine (core_of me total Gather (alone me) (alone me) (entered (everybody total)) None queue [] (history_of (opening total me))) (record { me = me; floor = 0; gathering = entered (everybody total) }) (opened (alone me).ring) (unvisited me (alone me).ring) None
+    IsMachine (core_of me total Gather (alone me) (alone me) (entered (everybody total)) None queue [] (history_of (opening total me)))
+    (record { me = me; floor = 0; gathering = entered (everybody total) }) (opened (alone me).ring) (unvisited me (alone me).ring) None
 starts_at total me queue low =
     record {
       runs = refl;
@@ -29,7 +30,9 @@ starts_at total me queue low =
       recovering = λ e. absurd (let q : Gather ≡ Recovery = e in cc);
     }
 
-pub starts : {A : Type 0} (total me : ℕ) (gather : Gatherer) (window : Windowed A) (visit : TokenHistory A) (queue : List (Payload A)) (held : List (Message A)) (h : History A) → 1 ≤ me →
-    gather ≡ record { me = me; floor = 0; gathering = entered (everybody total) } → window ≡ opened (alone me).ring → visit ≡ unvisited me (alone me).ring → held ≡ [] → h ≡ history_of (opening total me) →
+pub starts : {A : Type 0} (total me : ℕ) (gather : Gatherer) (window : Windowed A) (visit : TokenHistory A) (queue : List (Payload A))
+    (held : List (Message A)) (h : History A) → 1 ≤ me →
+    gather ≡ record { me = me; floor = 0; gathering = entered (everybody total) } → window ≡ opened (alone me).ring → visit ≡ unvisited me (alone me).ring
+    → held ≡ [] → h ≡ history_of (opening total me) →
     IsMachine (core_of me total Gather (alone me) (alone me) gather.gathering None queue held h) gather window visit None
 starts total me gather window visit queue held h low a b d e f = rw (a, b, d, e, f) (starts_at total me queue low)

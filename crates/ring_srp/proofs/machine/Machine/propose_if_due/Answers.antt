@@ -17,12 +17,14 @@ join-requires-clause-some g c = (due_here _ _ _ _ c.self.view_is c.self.invarian
 
 pub returns-in-Some-clause-core : goal.returns-in-Some-clause-core
 returns-in-Some-clause-core g c =
-    ok_to c.join.result _ _ _ (due_core c.args.self.now c.in-Some.token (due_here _ _ _ _ c.self.view_is c.self.invariant.member.0 c.in-Some.is c.due.ensures)) c.join.ensures.core
+    ok_to c.join.result _ _ _ (due_core c.args.self.now c.in-Some.token
+    (due_here _ _ _ _ c.self.view_is c.self.invariant.member.0 c.in-Some.is c.due.ensures)) c.join.ensures.core
 
 pub returns-in-Some-clause-outs : goal.returns-in-Some-clause-outs
 returns-in-Some-clause-outs g c =
     ok_to c.join.result _ _ _
-    (ap (λ (sends : List (Sent g.row.A.Denot)). c.args.outs.now.items ++ sent sends) (due_sends c.args.self.now c.in-Some.token (due_here _ _ _ _ c.self.view_is c.self.invariant.member.0 c.in-Some.is c.due.ensures)))
+    (ap (λ (sends : List (Sent g.row.A.Denot)). c.args.outs.now.items ++ sent sends)
+    (due_sends c.args.self.now c.in-Some.token (due_here _ _ _ _ c.self.view_is c.self.invariant.member.0 c.in-Some.is c.due.ensures)))
     c.join.ensures.outs
 
 pub returns-in-None-clause-core : goal.returns-in-None-clause-core

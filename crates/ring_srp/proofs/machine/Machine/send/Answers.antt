@@ -27,8 +27,10 @@ returns-else-is_queued-clause-silent g c = (dropped c.args.self.now c.args.paylo
 
 pub returns-in_default-clause-ok : goal.returns-in_default-clause-ok
 returns-in_default-clause-ok g c =
-    sym (dropped c.args.self.now c.args.payload (λ s. absurd (c.in_default.not-Operational (ap (λ (x : Core g.row.A.Denot). x.state) c.self.view_is ∙ s))) c.requires).core
+    sym (dropped c.args.self.now c.args.payload
+    (λ s. absurd (c.in_default.not-Operational (ap (λ (x : Core g.row.A.Denot). x.state) c.self.view_is ∙ s))) c.requires).core
 
 pub returns-in_default-clause-silent : goal.returns-in_default-clause-silent
 returns-in_default-clause-silent g c =
-    (dropped c.args.self.now c.args.payload (λ s. absurd (c.in_default.not-Operational (ap (λ (x : Core g.row.A.Denot). x.state) c.self.view_is ∙ s))) c.requires).outs
+    (dropped c.args.self.now c.args.payload
+    (λ s. absurd (c.in_default.not-Operational (ap (λ (x : Core g.row.A.Denot). x.state) c.self.view_is ∙ s))) c.requires).outs

@@ -13,22 +13,29 @@ use Rattle.ring_srp.proofs.Outputs.{step_core, step_outs, given_outs}
 use Rattle.ring_srp.proofs.machine.Machine.step.Goals as goal
 
 pub carry_out-requires : goal.carry_out-requires
-carry_out-requires g c = subst (λ (a : Act g.row.A.Denot). Allows c.args.self.now a) (sym c.decide-what.ensures) (allowed c.args.self.now c.args.input c.requires)
+carry_out-requires g c = subst (λ (a : Act g.row.A.Denot). Allows c.args.self.now a) (sym c.decide-what.ensures)
+    (allowed c.args.self.now c.args.input c.requires)
 
 pub give-requires-clause-ring : goal.give-requires-clause-ring
 give-requires-clause-ring g c =
     c.reached-before.ensures.ring
-    ∙ sym (ap (λ (x : Core g.row.A.Denot). x.installed.ring) c.in_ok-carry_out.ensures.core ∙ ap (λ (x : Configuration). x.ring) (done_installed c.args.self.now (act_of c.decide-what.result)))
+    ∙ sym (ap (λ (x : Core g.row.A.Denot). x.installed.ring) c.in_ok-carry_out.ensures.core
+    ∙ ap (λ (x : Configuration). x.ring) (done_installed c.args.self.now (act_of c.decide-what.result)))
 
 pub give-requires-clause-mark : goal.give-requires-clause-mark
 give-requires-clause-mark g c =
-    may_give _ _ _ (act_of c.decide-what.result) _ _ _ c.self.view_is c.self.invariant.kept (subst (λ (a : Act g.row.A.Denot). Allows c.args.self.now a) (sym c.decide-what.ensures) (allowed c.args.self.now c.args.input c.requires)) c.in_ok-carry_out.ensures.core c.reached-before.ensures.front
+    may_give _ _ _ (act_of c.decide-what.result) _ _ _ c.self.view_is c.self.invariant.kept
+    (subst (λ (a : Act g.row.A.Denot). Allows c.args.self.now a) (sym c.decide-what.ensures)
+    (allowed c.args.self.now c.args.input c.requires)) c.in_ok-carry_out.ensures.core c.reached-before.ensures.front
 
 pub returns-clause-outs : goal.returns-clause-outs
 returns-clause-outs g c =
     c.in_ok-install_if_due.ensures.outs
-    ∙ step_outs c.args.self.now c.carry_out.new.self (act_of c.decide-what.result) c.args.input c.give.new.outs.items c.decide-what.ensures c.in_ok-carry_out.ensures.core
-    (given_outs c.args.self.now c.carry_out.new.self (done c.args.self.now (act_of c.decide-what.result)).sends _ _ _ _ _ _ c.new-outs.ensures.items c.in_ok-carry_out.ensures.outs c.in_ok-give.ensures.ok c.reached-before.ensures.ring c.reached-before.ensures.front c.reached-before.ensures.mark)
+    ∙ step_outs c.args.self.now c.carry_out.new.self (act_of c.decide-what.result) c.args.input c.give.new.outs.items
+    c.decide-what.ensures c.in_ok-carry_out.ensures.core
+    (given_outs c.args.self.now c.carry_out.new.self (done c.args.self.now (act_of c.decide-what.result)).sends _ _ _ _ _ _
+    c.new-outs.ensures.items c.in_ok-carry_out.ensures.outs c.in_ok-give.ensures.ok
+    c.reached-before.ensures.ring c.reached-before.ensures.front c.reached-before.ensures.mark)
 
 pub returns-clause-core : goal.returns-clause-core
 returns-clause-core g c =

@@ -10,6 +10,7 @@ use Rattle.ring_srp.proofs.srp.Srp.send.Goals as goal
 
 pub invariant_of-self-2 : goal.invariant_of-self-2
 invariant_of-self-2 g c =
-    ok_or_err (λ (x : Core g.row.A.Denot). may_install x ≡ false) c.send.result c.send.new.self (ring_step c.in-Some.machine (SendInput c.args.payload)).core c.in-Some.machine c.send.ensures.ok c.send.ensures.kept
+    ok_or_err (λ (x : Core g.row.A.Denot). may_install x ≡ false) c.send.result c.send.new.self
+    (ring_step c.in-Some.machine (SendInput c.args.payload)).core c.in-Some.machine c.send.ensures.ok c.send.ensures.kept
     (step_settles c.in-Some.machine (SendInput c.args.payload))
     (subst (λ (o : Option (Core g.row.A.Denot)). IsEnded o c.self.inside.before.value c.self.inside.last) c.in-Some.is c.self.invariant)
