@@ -1,5 +1,5 @@
 -- What the parts of a step send and give, one after another, is what the step sends and gives.
-use Rattle.std.proofs.Common.{◌≡◌, ℕ, Bool, true, false, List, [], ◌∷◌, ◌++◌, map, refl, ap, sym, subst, ◌∙◌}
+use Rattle.std.proofs.Common.{◌≡◌, ℕ, Bool, true, false, List, [], ◌++◌, map, refl, ap, sym, subst, ◌∙◌}
 use Rattle.std.specs.Prelude.{not, ◌==◌, ◌&&◌, OnOk, OnErr, Ok, Err, Result}
 use Rattle.std.proofs.lemmas.List.{append-nil, map-append, append_assoc}
 use Rattle.std.proofs.lemmas.List.Elements.{filter-append}
@@ -11,9 +11,9 @@ use Rattle.ring_core.specs.declared.out.Out.TheVariants.{Send}
 use Rattle.ring_core.specs.State.{Core, Sent, Did}
 use Rattle.ring_core.specs.Joining.{proposes}
 use Rattle.ring_core.specs.Deciding.{Act, decide}
-use Rattle.ring_core.specs.Acting.{act, may_follow, silently, proposed_after, done_by, done}
+use Rattle.ring_core.specs.Acting.{act, may_follow, silently, proposed_after, done}
 use Rattle.ring_core.specs.Views.{front, mark}
-use Rattle.ring_core.specs.Giving.{addressed, sent, delivered_from, given, may_install, configured, settle, delivered}
+use Rattle.ring_core.specs.Giving.{addressed, sent, delivered_from, given, may_install, settle, delivered}
 use Rattle.ring_core.specs.Stepping.{ring_step}
 
 -- what holds of a result that is a value

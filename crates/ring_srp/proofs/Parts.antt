@@ -1,12 +1,11 @@
 -- What the window and the visits of one ring say is what the core says of that ring.
-use Rattle.std.proofs.Common.{◌≡◌, ℕ, Bool, true, false, List, [], ◌∷◌, map, filter, refl, ap, ◌∙◌, sym, inl, inr}
+use Rattle.std.proofs.Common.{◌≡◌, ℕ, Bool, true, false, List, [], ◌∷◌, refl, ap, ◌∙◌, sym, inl, inr}
 use Rattle.std.specs.Prelude.{◌&&◌, nat_lt, nat_le}
 use Rattle.std.specs.List.{list_all}
 use Rattle.std.proofs.lemmas.Bool.{cases_Bool, cond-true, cond-false, true≢false}
 use Rattle.ring_base.specs.Rings.{same_ring}
-use Rattle.ring_base.specs.Numbers.{max_number, greatest}
+use Rattle.ring_base.specs.Numbers.{max_number}
 use Rattle.ring_base.specs.declared.ring_id.RingId.{RingId}
-use Rattle.ring_wire.specs.declared.entries.CommitEntry.{CommitEntry}
 use Rattle.ring_wire.specs.declared.message.Message.{Message}
 use Rattle.ring_wire.specs.declared.token.Token.{Token}
 use Rattle.ring_window.specs.Held.{of_ring, highest, front_of, is_new}
@@ -19,7 +18,7 @@ use Rattle.ring_token.specs.Histories.{TokenHistory}
 use Rattle.ring_core.specs.State.{Core}
 use Rattle.ring_core.specs.Views.{mark, front, own_entry, takes_number}
 use Rattle.ring_core.specs.Visiting.{accepts}
-use Rattle.ring_srp.specs.Machines.{IsPart, window_of, visits_of, raises_of}
+use Rattle.ring_srp.specs.Machines.{IsPart, window_of, raises_of}
 
 pub turns_twice : {A : Type 0} (turns : List (Turn A)) (ring : RingId) → turns_of ring (turns_of ring turns) ≡ turns_of ring turns
 turns_twice [] ring = refl

@@ -1,10 +1,10 @@
 -- Who proposes a ring is one of its members, and the ring is newer than all that it took part in.
-use Rattle.std.proofs.Common.{◌≡◌, ℕ, suc, ◌<◌, ◌≤◌, Bool, true, false, List, [], ◌∷◌, ◌++◌, length, inl, inr, Option, Some, None, refl, ap, ◌∙◌, sym, subst, arith}
-use Rattle.std.specs.Prelude.{◌&&◌, ◌==◌, nat_le, slice_index}
+use Rattle.std.proofs.Common.{◌≡◌, ℕ, ◌<◌, ◌≤◌, true, false, List, [], ◌∷◌, ◌++◌, length, inl, inr, Option, Some, None, refl, ap, ◌∙◌, sym, subst, arith}
+use Rattle.std.specs.Prelude.{◌==◌, nat_le, slice_index}
 use Rattle.std.proofs.lemmas.List.{append-nil}
 use Rattle.std.proofs.lemmas.Bool.{cases_Bool, and_parts, eqb-true, cond-true, cond-false}
 use Rattle.ring_base.specs.Numbers.{max_number}
-use Rattle.ring_base.specs.Processors.{IsMember, elements, size, at, smallest}
+use Rattle.ring_base.specs.Processors.{IsMember, elements, size, smallest}
 use Rattle.ring_base.specs.Elements.{at_member}
 use Rattle.ring_base.specs.declared.state.State.{State}
 use Rattle.ring_base.specs.declared.state.State.TheVariants.{Gather, Commit, Recovery, Operational, Stopped}

@@ -1,9 +1,9 @@
 -- A commit token that is filled in goes to a member, and comes from one.
-use Rattle.std.proofs.Common.{◌≡◌, ℕ, suc, ◌+◌, ◌*◌, ◌%◌, ◌<◌, ◌≤◌, Bool, true, false, [], ◌∷◌, refl, ap, ◌∙◌, sym, arith, eqb}
+use Rattle.std.proofs.Common.{◌≡◌, ℕ, ◌<◌, true, [], ◌∷◌, refl, ap, ◌∙◌, arith}
 use Rattle.std.specs.Prelude.{◌&&◌, ◌==◌, nat_lt}
 use Rattle.std.proofs.lemmas.Bool.{and_parts, cond-true, eqb-true, ltb-true}
 use Rattle.std.proofs.lemmas.Nat.{mod_below}
-use Rattle.ring_base.specs.Processors.{IsMember, size, at}
+use Rattle.ring_base.specs.Processors.{IsMember, size}
 use Rattle.ring_base.specs.Elements.{at_member}
 use Rattle.ring_wire.specs.declared.commit.CommitToken.{CommitToken}
 use Rattle.ring_wire.specs.declared.entries.CommitEntry.{CommitEntry}

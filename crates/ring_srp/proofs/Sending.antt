@@ -16,7 +16,7 @@ use Rattle.ring_core.specs.declared.out.Out.{Out}
 use Rattle.ring_core.specs.declared.out.Out.TheVariants.{Agreed, Safe}
 use Rattle.ring_core.specs.State.{Core, Stepped}
 use Rattle.ring_core.specs.Views.{front, mark}
-use Rattle.ring_core.specs.Deciding.{Act, Ignore, Enqueue, decide_payload, decide_user}
+use Rattle.ring_core.specs.Deciding.{Act, Ignore, Enqueue, decide_payload}
 use Rattle.ring_core.specs.Acting.{done}
 use Rattle.ring_core.specs.Giving.{agreed_from, safe_from, given, installs_in, may_install, settle, delivered}
 use Rattle.ring_core.specs.Stepping.{ring_step}

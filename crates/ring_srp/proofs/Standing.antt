@@ -1,9 +1,8 @@
 -- What a core keeps stands on, act by act.
-use Rattle.std.proofs.Common.{◌≡◌, ℕ, suc, ◌<◌, ◌≤◌, Bool, true, false, List, [], ◌∷◌, Option, Some, None, refl, ap, ◌∙◌, sym, arith}
+use Rattle.std.proofs.Common.{◌≡◌, ℕ, suc, ◌<◌, ◌≤◌, List, [], ◌∷◌, Option, Some, None, refl, ◌∙◌, sym, arith}
 use Rattle.std.specs.List.{AllByRecursion}
 use Rattle.std.proofs.lemmas.Bool.{true≢false}
 use Rattle.ring_base.specs.Processors.{IsMember}
-use Rattle.ring_base.specs.declared.ring_id.RingId.{RingId}
 use Rattle.ring_base.specs.declared.state.State.{State}
 use Rattle.ring_base.specs.declared.state.State.TheVariants.{Gather, Commit, Recovery, Operational, Stopped}
 use Rattle.ring_payload.specs.declared.content.Payload.{Payload}
@@ -17,8 +16,8 @@ use Rattle.ring_commit.specs.declared.configuration.Configuration.{Configuration
 use Rattle.ring_srp.specs.declared.recovering.Recovering.{Recovering}
 use Rattle.ring_wire.specs.declared.entries.CommitEntry.{CommitEntry}
 use Rattle.ring_srp.specs.Histories.{with_ring}
-use Rattle.ring_core.specs.State.{Core, Sent, floor}
-use Rattle.ring_srp.specs.Machines.{History, core_of, IsPart, IsBelow, bound, is_forming, is_stopped, IsRecovering, IsMachine}
+use Rattle.ring_core.specs.State.{Core, Sent}
+use Rattle.ring_srp.specs.Machines.{History, core_of, IsBelow, bound, IsRecovering, IsMachine}
 
 -- Numbers below a bound are below a higher one
 

@@ -1,5 +1,5 @@
 -- A core that opens holds nothing, and has visited and raised nothing.
-use Rattle.std.proofs.Common.{◌≡◌, ℕ, ◌≤◌, true, List, [], None, refl, sym, arith}
+use Rattle.std.proofs.Common.{◌≡◌, ℕ, ◌≤◌, List, [], None, refl, sym, arith}
 use Rattle.std.proofs.lemmas.Bool.{true≢false}
 use Rattle.ring_base.specs.Processors.{everybody}
 use Rattle.ring_base.specs.Members.{only_members}

@@ -1,12 +1,11 @@
 -- What each act may rest on: the tests that led to it. An act makes none of them again.
-use Rattle.std.specs.Prelude.{◌≡◌, ◌≤◌, true, List}
+use Rattle.std.specs.Prelude.{◌≡◌, ◌≤◌, true}
 use Rattle.std.specs.List.Sorted.{IsStrictlyIncreasing}
 use Rattle.ring_base.specs.Numbers.{max_number}
 use Rattle.ring_base.specs.declared.state.State.TheVariants.{Gather, Commit}
 use Rattle.ring_wire.specs.Commits.{CommitFits}
 use Rattle.ring_wire.specs.Frames.{FrameFits}
 use Rattle.ring_wire.specs.declared.commit.CommitToken.{CommitToken}
-use Rattle.ring_wire.specs.declared.message.Message.{Message}
 use Rattle.ring_wire.specs.declared.token.Token.{Token}
 use Rattle.ring_join.specs.Gathering.{has_same_sets}
 use Rattle.ring_commit.specs.Outcomes.{is_at}
@@ -17,7 +16,7 @@ use Rattle.ring_core.specs.Visiting.{accepts}
 use Rattle.ring_core.specs.Joining.{regathered}
 use Rattle.ring_core.specs.Handing.{takes_first_round, takes_second_round}
 use Rattle.ring_core.specs.Deciding.{Act, Ignore, Enqueue, Repeat, Announce, Invite, GiveUp, Regather, Agree, Widen, RegatherAndAgree, RegatherAndWiden, Take, Visit, Fill, Learn, is_taken}
-use Rattle.ring_srp.specs.Machines.{is_running, is_stopped}
+use Rattle.ring_srp.specs.Machines.{is_running}
 
 -- a frame as decoding gives it
 abbrev pub InputFits : {A : Type 0} → Input A → Type 0

@@ -1,12 +1,9 @@
 -- How the lists of facts grow.
 use Rattle.std.specs.Prelude.{ℕ, List, [], ◌∷◌}
-use Rattle.ring_payload.specs.declared.content.Payload.{Payload}
 use Rattle.ring_wire.specs.declared.commit.CommitToken.{CommitToken}
 use Rattle.ring_wire.specs.declared.entries.CommitEntry.{CommitEntry}
-use Rattle.ring_wire.specs.declared.message.Message.{Message}
-use Rattle.ring_wire.specs.declared.token.Token.{Token}
 use Rattle.ring_base.specs.declared.ring_id.RingId.{RingId}
-use Rattle.ring_token.specs.Turns.{Turn, Raise}
+use Rattle.ring_token.specs.Turns.{Turn}
 use Rattle.ring_commit.specs.declared.configuration.Configuration.{Configuration}
 use Rattle.ring_srp.specs.Machines.{History}
 

@@ -1,5 +1,5 @@
 -- What the code of a ring core keeps, and how that tells the core with all its history. The lists of a core are over all rings; of a ring in use the code keeps a window and the token's visits, whose lists are those of that ring alone.
-use Rattle.std.specs.Prelude.{◌≡◌, ℕ, suc, ◌+◌, ◌<◌, ◌≤◌, Bool, true, false, List, [], ◌∷◌, filter, Option, Some, None}
+use Rattle.std.specs.Prelude.{◌≡◌, ℕ, suc, ◌+◌, ◌<◌, ◌≤◌, Bool, true, false, List, filter, Option, Some, None}
 use Rattle.std.specs.List.{AllByRecursion}
 use Rattle.ring_base.specs.Rings.{same_ring}
 use Rattle.ring_base.specs.Processors.{IsMember}

@@ -7,7 +7,6 @@ use Rattle.ring_window.specs.Windows.{Windowed, taken}
 use Rattle.ring_recover.specs.Installing.{in_front}
 use Rattle.ring_recover.specs.Recovering.{with_seen}
 use Rattle.ring_recover.specs.Wrapping.{unwrapped}
-use Rattle.ring_srp.specs.declared.part.Part.{Part}
 use Rattle.ring_srp.specs.declared.recovering.Recovering.{Recovering}
 
 -- the messages of its window in the front

@@ -1,5 +1,5 @@
 -- A proposal stands after what the act sent.
-use Rattle.std.proofs.Common.{◌≡◌, true, false, List, ◌++◌, refl, sym, ◌∙◌, ap}
+use Rattle.std.proofs.Common.{◌≡◌, true, List, ◌++◌, refl, sym, ◌∙◌, ap}
 use Rattle.ring_core.specs.State.{Sent}
 use Rattle.ring_core.specs.Acting.{may_follow}
 use Rattle.ring_core.specs.Giving.{sent}

@@ -1,5 +1,5 @@
 -- The token that passes is the one that came, with the own report added.
-use Rattle.std.proofs.Common.{◌≡◌, ◌<◌, ◌++◌, List, true, [], ◌∷◌, ap, ◌∙◌, sym, subst}
+use Rattle.std.proofs.Common.{◌≡◌, ◌++◌, [], ◌∷◌, ap, ◌∙◌, sym, subst}
 use Rattle.std.specs.Prelude.{OnOk}
 use Rattle.ring_base.specs.Processors.{IsMember}
 use Rattle.ring_wire.specs.declared.commit.CommitToken.{CommitToken}

@@ -1,5 +1,5 @@
 -- A payload is queued or dropped.
-use Rattle.std.proofs.Common.{◌≡◌, true, false, sym, ◌∙◌, ap}
+use Rattle.std.proofs.Common.{◌≡◌, true, sym, ◌∙◌, ap}
 use Rattle.ring_base.specs.declared.state.State.TheVariants.{Operational}
 use Rattle.ring_payload.specs.Packing.{is_queued}
 use Rattle.ring_core.specs.State.{Core}

@@ -1,10 +1,10 @@
 -- The ring is newer than all that is known, and the own report was written.
-use Rattle.std.proofs.Common.{◌≡◌, ◌<◌, List, [], ◌∷◌, ◌++◌, Some, ap, ◌∙◌, sym, subst}
+use Rattle.std.proofs.Common.{◌<◌, ◌∷◌, Some, ap, ◌∙◌, sym, subst}
 use Rattle.ring_base.specs.Processors.{IsMember}
 use Rattle.ring_base.specs.declared.state.State.TheVariants.{Commit}
 use Rattle.ring_wire.specs.declared.entries.CommitEntry.{CommitEntry}
 use Rattle.ring_commit.specs.declared.configuration.Configuration.{Configuration}
-use Rattle.ring_core.specs.State.{Core, Sent, floor}
+use Rattle.ring_core.specs.State.{Core, floor}
 use Rattle.ring_core.specs.Views.{own_entry}
 use Rattle.ring_srp.specs.Histories.{with_ring}
 use Rattle.ring_srp.specs.Machines.{History, core_of}

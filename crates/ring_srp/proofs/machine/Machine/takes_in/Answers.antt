@@ -1,5 +1,5 @@
 -- The window of the ring whose messages are taken tells which numbers are new.
-use Rattle.std.proofs.Common.{◌≡◌, true, false, ap, sym, ◌∙◌}
+use Rattle.std.proofs.Common.{◌≡◌, true, ap, sym, ◌∙◌}
 use Rattle.std.proofs.lemmas.Bool.{true≢false}
 use Rattle.ring_base.specs.Rings.{same_ring}
 use Rattle.ring_base.specs.Processors.{has}

@@ -1,5 +1,5 @@
 -- The machine's step is the core's.
-use Rattle.std.proofs.Common.{◌≡◌, false, ap, sym, ◌∙◌, subst}
+use Rattle.std.proofs.Common.{◌≡◌, false, ap, ◌∙◌, subst}
 use Rattle.ring_core.specs.State.{Core}
 use Rattle.ring_core.specs.Giving.{may_install}
 use Rattle.ring_core.specs.Stepping.{ring_step}
