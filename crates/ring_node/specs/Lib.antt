@@ -2,3 +2,5 @@ pub mod Lives
 pub mod Nodes
 pub mod Dues
 pub mod Stepping
+pub mod Courses
+pub mod Replicas
