@@ -1,27 +1,22 @@
 -- What a message, a safe mark and a new ring make of what a node keeps, by the life that they make.
-use Rattle.std.proofs.Common.{◌≡◌, ℕ, zero, suc, ◌+◌, ◌-◌, ◌<◌, ◌≤◌, ◌==◌, ◌&&◌, nat_le, min, max, Bool, true, false, not, List, [], ◌∷◌, ◌++◌, length, take, drop, map, Option, Some, None, ◌⊎◌, inl, inr, refl, ap, sym, ◌∙◌, subst, arith, append_assoc, length-append, if◌then◌else◌}
+use Rattle.std.proofs.Common.{◌≡◌, ℕ, zero, suc, ◌≤◌, ◌&&◌, nat_le, min, max, Bool, true, false, List, [], ◌∷◌, ◌++◌, length, take, drop, Option, Some, None, ◌⊎◌, inl, inr, refl, ap, sym, ◌∙◌, subst, arith, append_assoc, if◌then◌else◌}
 use Rattle.std.specs.Prelude.{nat_lt}
-use Rattle.std.proofs.lemmas.Bool.{cond_both, cond-true, cond-false, cases_Bool, and_parts, and_from, leb-true, le-leb, ltb-true, ltb-false}
+use Rattle.std.proofs.lemmas.Bool.{cond_both, cond-true, and_parts, leb-true, le-leb, ltb-true, ltb-false}
 use Rattle.std.proofs.lemmas.List.{append-nil}
-use Rattle.ring_base.specs.Fronts.{IsFront, front_self, front_trans, front_length, front_append}
+use Rattle.ring_base.specs.Fronts.{IsFront, front_trans, front_length, front_append}
 use Rattle.ring_base.specs.Group.{Group, is_primary}
 use Rattle.ring_base.specs.declared.ring_id.RingId.{RingId}
-use Rattle.ring_payload.specs.Kinds.{calls_of}
 use Rattle.ring_payload.specs.declared.call.Call.{Call as OneCall}
 use Rattle.ring_wire.specs.declared.message.Message.{Message}
-use Rattle.ring_log.specs.declared.base.Base.{Base}
-use Rattle.ring_log.specs.Exchanges.{Exchange, opened, is_whole, handed_out, base_at, relieved, based}
-use Rattle.ring_log.specs.Logs.{Log, begins, is_log_length, is_adoptable, adopted, committed_upto, committed_calls}
-use Rattle.ring_log.specs.Stays.{Stay, hears, marks, stay_in}
-use Rattle.ring_log.specs.Lives.{Whole, heard_by, whole_from, after_all, exchanged, calls_in, own_base, log_by, log_of, last_of, upto, longer, committed_by, committed_of, kept_of, keeps_committed, is_sound}
+use Rattle.ring_log.specs.Exchanges.{opened}
+use Rattle.ring_log.specs.Logs.{Log, begins, is_log_length, committed_upto}
+use Rattle.ring_log.specs.Stays.{Stay}
+use Rattle.ring_log.specs.Lives.{Whole, whole_from, exchanged, calls_in, own_base, log_by, log_of, last_of, upto, longer, committed_by, committed_of, kept_of, keeps_committed, is_sound}
 use Rattle.ring_log.proofs.Calls.{begins-Decides}
-use Rattle.ring_log.proofs.Hearing.{relieved-open, opened-open, push-none, push-some, none-open, some-whole, handed-based}
 use Rattle.ring_order.proofs.Wholes.{grown, exchanged-front, log_on, log-front, base-front}
 use Rattle.ring_order.proofs.Committed.{upto-front}
 use Rattle.ring_node.specs.declared.reach.Reach.{Reach}
-use Rattle.ring_node.specs.declared.stage.Stage.{Stage}
-use Rattle.ring_node.specs.declared.stage.Stage.TheVariants.{Apart, Exchanging, Adopted}
-use Rattle.ring_node.specs.Courses.{staged, stage_in, reached, reach_of, reaches_from, behind, left, covered, IsKept}
+use Rattle.ring_node.specs.Courses.{reached, reach_of, reaches_from, behind, left, covered}
 
 -- ---- what is committed is a front of the log, in a sound life
 

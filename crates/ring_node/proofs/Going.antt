@@ -1,24 +1,22 @@
 -- A course goes on: what is kept of a life by a message, by a safe mark, by a new ring and by what is handed over; and a life that is not sound stays so.
-use Rattle.std.proofs.Common.{◌≡◌, ℕ, zero, suc, ◌+◌, ◌≤◌, ◌&&◌, nat_le, max, Bool, true, false, List, [], ◌∷◌, ◌++◌, length, take, map, Option, Some, None, refl, ap, sym, ◌∙◌, subst, arith, append_assoc, if◌then◌else◌}
+use Rattle.std.proofs.Common.{◌≡◌, ℕ, zero, suc, ◌≤◌, ◌&&◌, max, Bool, true, false, List, [], ◌∷◌, ◌++◌, length, take, Option, Some, None, refl, ap, sym, ◌∙◌, subst, arith, append_assoc}
 use Rattle.std.specs.Prelude.{filter_map, slice_get}
 use Rattle.std.specs.List.{cons_option}
-use Rattle.std.proofs.lemmas.Bool.{cond_both, cond-true, cond-false, and_parts, and_from, leb-true, le-leb}
+use Rattle.std.proofs.lemmas.Bool.{and_parts, and_from, leb-true, le-leb}
 use Rattle.std.proofs.lemmas.List.{append-nil}
-use Rattle.ring_base.specs.Fronts.{IsFront, front_length}
-use Rattle.ring_base.specs.Group.{Group, is_primary}
+use Rattle.ring_base.specs.Fronts.{front_length}
+use Rattle.ring_base.specs.Group.{Group}
 use Rattle.ring_base.specs.Numbers.{max_number}
 use Rattle.ring_base.specs.Processors.{only}
 use Rattle.ring_base.specs.declared.ring_id.RingId.{RingId}
-use Rattle.ring_payload.specs.declared.call.Call.{Call as OneCall}
 use Rattle.ring_payload.specs.declared.content.Payload.{Payload}
 use Rattle.ring_wire.specs.declared.message.Message.{Message}
 use Rattle.ring_core.specs.State.{Sent}
 use Rattle.ring_core.specs.declared.out.Out.{Out}
 use Rattle.ring_core.specs.declared.out.Out.TheVariants.{Send, Agreed, Safe, Trans, Rest, Regular}
-use Rattle.ring_log.specs.Exchanges.{opened}
 use Rattle.ring_log.specs.Logs.{Log, empty, is_log_length, committed_upto}
 use Rattle.ring_log.specs.Stays.{Stay, born, stay_in, hears, marks, hands}
-use Rattle.ring_log.specs.Lives.{Whole, whole_from, after_all, exchanged, own_base, calls_in, log_by, log_of, last_by, last_of, upto, committed_by, committed_of, kept_of, keeps_committed, is_sound}
+use Rattle.ring_log.specs.Lives.{Whole, exchanged, own_base, log_by, log_of, last_by, last_of, upto, committed_by, committed_of, kept_of, keeps_committed, is_sound}
 use Rattle.ring_order.proofs.Wholes.{grown, exchanged-front, log_on, log-front}
 use Rattle.ring_ticket.specs.declared.pending.Pending.{Pending}
 use Rattle.ring_node.specs.Lives.{lived, lived_through}

@@ -1,11 +1,10 @@
 -- What a message makes of the log, its exchange and what is due is what the definitions make of the longer life.
-use Rattle.std.proofs.Common.{◌≡◌, ℕ, zero, suc, ◌+◌, ◌≤◌, ◌==◌, ◌&&◌, nat_le, min, max, Bool, true, false, not, List, [], ◌∷◌, ◌++◌, length, take, drop, map, Option, Some, None, refl, ap, sym, ◌∙◌, subst, arith, append_assoc, length-append, if◌then◌else◌, is_some}
-use Rattle.std.proofs.lemmas.Bool.{cond_both, cond-true, cond-false, and_parts, and_from, eqb-true, eq-eqb}
+use Rattle.std.proofs.Common.{◌≡◌, ℕ, ◌+◌, ◌==◌, ◌&&◌, Bool, true, false, not, List, [], ◌∷◌, ◌++◌, length, take, drop, Option, Some, None, refl, ap, sym, ◌∙◌, subst, append_assoc, length-append, if◌then◌else◌}
+use Rattle.std.proofs.lemmas.Bool.{cond_both, cond-true, cond-false, and_parts, eqb-true, eq-eqb}
 use Rattle.std.proofs.lemmas.List.{append-nil}
-use Rattle.ring_base.specs.Fronts.{IsFront, front_length}
+use Rattle.ring_base.specs.Fronts.{IsFront}
 use Rattle.ring_base.specs.Group.{Group, is_primary}
 use Rattle.ring_base.specs.Processors.{has, nobody}
-use Rattle.ring_base.specs.declared.ring_id.RingId.{RingId}
 use Rattle.ring_payload.specs.Kinds.{calls_of}
 use Rattle.ring_payload.specs.declared.call.Call.{Call as OneCall}
 use Rattle.ring_payload.specs.declared.calls.Part.{Part as OnePart}
@@ -14,22 +13,20 @@ use Rattle.ring_payload.specs.declared.content.Payload.{Payload}
 use Rattle.ring_payload.specs.declared.content.Payload.TheVariants.{Call, Wrapped, End, Head, Part, Pack, Snap}
 use Rattle.ring_wire.specs.declared.message.Message.{Message}
 use Rattle.ring_log.specs.declared.base.Base.{Base}
-use Rattle.ring_log.specs.declared.stated.Stated.{Stated}
 use Rattle.ring_log.specs.declared.wanted.Wanted.{Wanted}
 use Rattle.ring_log.specs.Exchanges.{Exchange, opened, wanted_by, wanted, hear_head, is_wanted, hear_part, heard, is_brought, is_whole, base_from, handed_out, base_at, relieved, based}
-use Rattle.ring_log.specs.Logs.{Log, begins, is_log_length, is_adoptable, adopted, committed_calls}
-use Rattle.ring_log.specs.Stays.{Stay, hears}
+use Rattle.ring_log.specs.Logs.{Log, begins, is_log_length, is_adoptable, committed_calls}
+use Rattle.ring_log.specs.Stays.{Stay}
 use Rattle.ring_log.specs.Lives.{Whole, heard_by, whole_from, after_all, exchanged, calls_in, own_base, log_by, log_of, last_by, last_of, upto, committed_by, committed_of, kept_of, keeps_committed, is_sound}
 use Rattle.ring_log.proofs.Hearing.{stated, has-nobody, relieved-open, opened-open, push-none, push-some, none-open, some-whole, handed-based}
 use Rattle.ring_order.proofs.Wholes.{calls_in-append}
 use Rattle.ring_order.proofs.Committed.{upto-front}
 use Rattle.ring_ticket.specs.declared.pending.Pending.{Pending}
 use Rattle.ring_node.specs.declared.setting.Setting.{Setting}
-use Rattle.ring_node.specs.declared.reach.Reach.{Reach}
 use Rattle.ring_node.specs.declared.stage.Stage.{Stage}
 use Rattle.ring_node.specs.declared.stage.Stage.TheVariants.{Apart, Exchanging, Adopted}
 use Rattle.ring_node.specs.Dues.{is_stated, parts_due, due_when_stated}
-use Rattle.ring_node.specs.Courses.{staged, stage_in, reached, reach_of, reach_at, calls_left, parts_asked, if_runs, Took, took_base, took_exchanging, took, Moment, dues_when_whole, dues_between, dues_in_stay, dues_heard, IsKept}
+use Rattle.ring_node.specs.Courses.{staged, stage_in, reached, reach_of, reach_at, calls_left, parts_asked, if_runs, Took, took_base, took, Moment, dues_heard}
 use Rattle.ring_node.proofs.Courses.{none-front, sound-front}
 
 -- ---- an exchange that isn't whole

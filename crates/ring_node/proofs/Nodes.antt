@@ -2,11 +2,10 @@
 use Rattle.std.proofs.Common.{◌≡◌, ℕ, ◌+◌, Bool, true, false, not, ◌&&◌, List, [], ◌∷◌, ◌++◌, length, drop, map, Option, Some, None, is_none, refl, ap, sym, ◌∙◌, if◌then◌else◌}
 use Rattle.std.specs.List.{filter}
 use Rattle.std.specs.Prelude.{nat_le, filter_map}
-use Rattle.std.proofs.lemmas.Bool.{cond_both, cond-false}
+use Rattle.std.proofs.lemmas.Bool.{cond-false}
 use Rattle.ring_base.specs.Group.{is_primary}
 use Rattle.ring_base.specs.Numbers.{max_number}
 use Rattle.ring_base.specs.Rings.{same_ring}
-use Rattle.ring_base.specs.declared.fault.Fault.{Fault}
 use Rattle.ring_base.specs.declared.fault.Fault.TheVariants.{PendingFull, Stopped as StoppedFault}
 use Rattle.ring_base.specs.declared.ring_id.RingId.{RingId}
 use Rattle.ring_object.specs.Operations.{Sequential}
@@ -25,11 +24,11 @@ use Rattle.ring_ticket.specs.Tickets.{Asked, place_of, unanswered, answers_after
 use Rattle.ring_ticket.specs.declared.pending.Pending.{Pending}
 use Rattle.ring_ticket.specs.Pendings.{pending_from, stands_in}
 use Rattle.ring_node.specs.Lives.{lived, lived_through}
-use Rattle.ring_node.specs.Nodes.{Node, node_committed, node_pending, is_stopped, runs, runs_some, runs_adopted}
-use Rattle.ring_node.specs.Dues.{calls_due, due_when_stated, due_when_whole, due_between, due_in_stay, due_at_agreed, due_at, due_by}
-use Rattle.ring_node.specs.Stepping.{handed_over, walked, settled, moved, after_core, due_by_submit, submitted, submit_fault, send_of}
-use Rattle.ring_node.specs.Courses.{Moment, is_running, calls_left, dues_when_whole, dues_between, dues_in_stay, dues_heard, dues_at, dues_by, handed_if}
-use Rattle.ring_node.specs.Replicas.{Replica, replica_of, running_of, moment_of, is_running_some, has_adopted_running, submit_refusal, replica_given, replica_settled, replica_step, node_by, node_given}
+use Rattle.ring_node.specs.Nodes.{Node, node_committed, node_pending, is_stopped, runs, runs_some}
+use Rattle.ring_node.specs.Dues.{calls_due, due_when_stated, due_when_whole, due_in_stay, due_at_agreed, due_at, due_by}
+use Rattle.ring_node.specs.Stepping.{handed_over, walked, settled, after_core, submitted, submit_fault, send_of}
+use Rattle.ring_node.specs.Courses.{Moment, is_running, calls_left, dues_when_whole, dues_in_stay, dues_heard, dues_at, dues_by, handed_if}
+use Rattle.ring_node.specs.Replicas.{replica_of, running_of, moment_of, is_running_some, submit_refusal, replica_given, replica_settled, replica_step, node_by, node_given}
 
 -- the same ring runs
 runs-is : {A : Type 0} (c : Core A) (ring : RingId) → runs c ring ≡ is_running (running_of c) ring

@@ -1,34 +1,30 @@
 -- What the code keeps of a replica, as it opens, gives a ticket, takes a step and ends it.
-use Rattle.std.proofs.Common.{◌≡◌, ℕ, zero, suc, ◌+◌, ◌≤◌, ◌||◌, nat_le, Bool, true, false, List, [], ◌∷◌, ◌++◌, length, take, drop, Option, Some, None, refl, ap, sym, ◌∙◌, subst, arith, if◌then◌else◌}
-use Rattle.std.specs.Prelude.{Result, Ok, Err, OnOk, IfErr, fold, filter_map}
+use Rattle.std.proofs.Common.{◌≡◌, ℕ, zero, suc, ◌≤◌, ◌||◌, nat_le, Bool, true, false, List, [], ◌∷◌, ◌++◌, length, take, drop, Option, Some, None, refl, ap, sym, ◌∙◌, subst, arith, if◌then◌else◌}
+use Rattle.std.specs.Prelude.{fold}
 use Rattle.std.proofs.Math.Seq.{drop-append_seam}
-use Rattle.std.proofs.lemmas.Bool.{cases_Bool}
 use Rattle.std.proofs.lemmas.List.Sums.{fold-append}
 use Rattle.ring_base.specs.Fronts.{IsFront, front_trans, front_length}
 use Rattle.ring_base.specs.Group.{Group}
 use Rattle.ring_base.specs.Numbers.{max_number}
-use Rattle.ring_base.specs.declared.fault.Fault.{Fault}
 use Rattle.ring_base.specs.declared.fault.Fault.TheVariants.{PendingFull, Stopped}
 use Rattle.ring_base.specs.declared.ring_id.RingId.{RingId}
 use Rattle.ring_object.specs.Operations.{Sequential}
 use Rattle.ring_payload.specs.declared.call.Call.{Call as OneCall}
 use Rattle.ring_payload.specs.declared.content.Payload.{Payload}
 use Rattle.ring_session.specs.Table.{Table, opening, table_next, table_after}
-use Rattle.ring_session.specs.declared.answer.Answer.{Answer}
 use Rattle.ring_core.specs.declared.out.Out.{Out}
-use Rattle.ring_log.specs.Logs.{Log, empty, committed_calls}
+use Rattle.ring_log.specs.Logs.{Log, committed_calls}
 use Rattle.ring_log.specs.Stays.{Stay, born, hands}
 use Rattle.ring_log.specs.Lives.{log_of, committed_of, kept_of, is_sound}
 use Rattle.ring_ticket.specs.declared.answered.Answered.{Answered}
 use Rattle.ring_ticket.specs.Recent.{kept_answer}
 use Rattle.ring_ticket.specs.declared.pending.Pending.{Pending}
 use Rattle.ring_ticket.specs.Pendings.{Tickets, none_given, is_full, with_ticket, with_answers, answers_behind, pending_from, AreTickets}
-use Rattle.ring_ticket.specs.Tickets.{Asked, unanswered, answers_after}
+use Rattle.ring_ticket.specs.Tickets.{unanswered, answers_after}
 use Rattle.ring_ticket.proofs.Pendings.{are-answers, are-kept, are-given, are-full, are-replies}
 use Rattle.ring_node.specs.Courses.{Course, course_opening, Moment, handed_if, dues_by}
 use Rattle.ring_node.specs.Lives.{lived_through}
-use Rattle.ring_node.specs.Replicas.{Replica, Tale, tale_opening, tale_done, tale_given, IsDone, replica_committed, replica_stopped, replica_reply, submit_refusal, moment_of, replica_moved, replica_settled, replica_step, ReplicaStepped, ahead_of, told_replica, Runs, IsReplica}
-use Rattle.ring_node.specs.Stepping.{send_of}
+use Rattle.ring_node.specs.Replicas.{Replica, Tale, tale_opening, tale_done, tale_given, IsDone, replica_stopped, replica_reply, submit_refusal, moment_of, replica_moved, replica_settled, replica_step, told_replica, IsReplica}
 use Rattle.ring_node.proofs.Courses.{sound-front}
 use Rattle.ring_node.proofs.Going.{kept-born, hands-log, hands-committed}
 

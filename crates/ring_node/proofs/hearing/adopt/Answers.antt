@@ -1,11 +1,10 @@
 -- The log keeps its committed places, adopted or not; the calls are those behind them.
-use Rattle.std.proofs.Common.{◌≡◌, ◌-◌, ◌++◌, min, Bool, true, false, not, [], take, drop, length, ap, sym, ◌∙◌, refl}
-use Rattle.std.specs.Prelude.{if◌then◌else◌}
+use Rattle.std.proofs.Common.{◌≡◌, ◌-◌, ◌++◌, [], take, drop, length, ap, sym, ◌∙◌}
 use Rattle.std.proofs.lemmas.Bool.{cond-true}
 use Rattle.std.proofs.lemmas.List.{take_rest}
-use Rattle.ring_log.specs.Logs.{is_adoptable, adopted, Log}
+use Rattle.ring_log.specs.Logs.{adopted, Log}
 use Rattle.ring_log.proofs.Calls.{drop-min}
-use Rattle.ring_node.specs.Courses.{calls_left, if_runs}
+use Rattle.ring_node.specs.Courses.{calls_left}
 use Rattle.ring_node.proofs.Lists.{committed-same, committed-adopted}
 use Rattle.ring_node.proofs.hearing.adopt.Goals as goal
 

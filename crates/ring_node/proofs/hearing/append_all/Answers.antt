@@ -1,5 +1,5 @@
 -- The committed places stay, however many calls were appended.
-use Rattle.std.proofs.Common.{◌++◌, sym, ◌∙◌}
+use Rattle.std.proofs.Common.{◌∙◌}
 use Rattle.ring_node.proofs.Lists.{committed-appended}
 use Rattle.ring_node.proofs.hearing.append_all.Goals as goal
 

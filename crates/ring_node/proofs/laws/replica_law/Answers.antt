@@ -1,8 +1,4 @@
 use Rattle.std.proofs.Common.{refl}
-use Rattle.ring_node.proofs.Messages.{hears-is}
-use Rattle.ring_node.proofs.Courses.{settled}
-use Rattle.ring_node.proofs.Going.{kept-born}
-use Rattle.ring_node.proofs.Lists.{calls_left-push}
 use Rattle.ring_node.proofs.Nodes.{step-is, refused-is, given-is}
 use Rattle.ring_node.proofs.laws.replica_law.Goals as goal
 

@@ -1,10 +1,10 @@
 -- What is kept as a message is heard, by what it makes of the log and of its exchange.
-use Rattle.std.proofs.Common.{◌≡◌, ◌++◌, ◌∷◌, [], true, length, refl, ap, sym, ◌∙◌, subst, None}
+use Rattle.std.proofs.Common.{◌++◌, length, refl, ap, sym, ◌∙◌, subst, None}
 use Rattle.ring_base.specs.Fronts.{IsFront, front_trans}
 use Rattle.ring_log.specs.Logs.{Log, is_log_length, committed_upto, committed_calls}
 use Rattle.ring_log.specs.Stays.{hears}
 use Rattle.ring_log.specs.Lives.{is_sound}
-use Rattle.ring_node.specs.Courses.{Course, IsKept, took, covered, left, dues_heard}
+use Rattle.ring_node.specs.Courses.{Course, covered, left, dues_heard}
 use Rattle.ring_node.proofs.Going.{kept-as, kept-hears, sound-hears, due-hears, sound-short}
 use Rattle.ring_node.proofs.course.Course.hear.Goals as goal
 

@@ -1,15 +1,13 @@
 -- The outputs so far made what they make of the course; no mark falls at the next one.
-use Rattle.std.proofs.Common.{◌≡◌, ◌++◌, ◌&&◌, ◌∷◌, [], List, true, length, take, refl, ap, sym, ◌∙◌}
+use Rattle.std.proofs.Common.{◌≡◌, ◌++◌, ◌&&◌, length, take, refl, ap, sym, ◌∙◌}
 use Rattle.std.specs.Prelude.{filter_map}
 use Rattle.std.proofs.lemmas.List.{map-id}
 use Rattle.std.proofs.lemmas.Iterator.Adapters.{YieldsList-from_vec}
 use Rattle.std.proofs.lemmas.Iterator.Consumers.{YieldsList-end, YieldsList-so_far, YieldsList-turn}
 use Rattle.std.proofs.lemmas.Option.{slice_get_read}
-use Rattle.ring_base.specs.Fronts.{IsFront, front_self, front_trans}
+use Rattle.ring_base.specs.Fronts.{front_self, front_trans}
 use Rattle.ring_base.specs.Group.{Group}
-use Rattle.ring_core.specs.declared.out.Out.{Out}
 use Rattle.ring_log.specs.Logs.{committed_calls}
-use Rattle.ring_log.specs.Stays.{Stay}
 use Rattle.ring_log.specs.Lives.{is_sound}
 use Rattle.ring_node.specs.Courses.{Moment, dues_at, dues_by, rises_at}
 use Rattle.ring_node.specs.Lives.{lived, lived_through}

@@ -1,5 +1,5 @@
 -- What the outputs so far made of it.
-use Rattle.std.proofs.Common.{◌≡◌, true}
+use Rattle.std.proofs.Common.{◌≡◌}
 use Rattle.ring_base.specs.Fronts.{IsFront}
 use Rattle.ring_log.specs.Logs.{committed_calls}
 use Rattle.ring_node.proofs.Going.{IsWalked}

@@ -1,5 +1,4 @@
 -- The tickets tell whether one may be given.
-use Rattle.std.proofs.Common.{◌∙◌}
 use Rattle.ring_node.proofs.Lists.{on-ok, if-err}
 use Rattle.ring_node.proofs.Replicas.{may-give, may-not}
 use Rattle.ring_node.proofs.replica.Replica.check.Goals as goal

@@ -1,5 +1,4 @@
 -- A ticket more.
-use Rattle.std.proofs.Common.{refl, ◌∙◌}
 use Rattle.ring_node.proofs.Replicas.{is-open, given-replica}
 use Rattle.ring_node.proofs.replica.Replica.give.Goals as goal
 
