@@ -23,10 +23,10 @@ stated-by true o places whole = refl
 stated-by false o places whole = absurd (cc whole)
 
 -- every member's Head was heard
-stated : {A : Type 0} (e : Exchange A) → is_whole e ≡ true → e.unheard ≡ nobody
+pub stated : {A : Type 0} (e : Exchange A) → is_whole e ≡ true → e.unheard ≡ nobody
 stated e whole = eqb-true e.unheard nobody (stated-by (e.unheard == nobody) (wanted_by e.heads) e.places whole)
 
-has-nobody : (i : ℕ) → has nobody i ≡ false
+pub has-nobody : (i : ℕ) → has nobody i ≡ false
 has-nobody i = ap (λ k. k == 1) (bit_at-zero (i - 1))
 
 whole-head : {A : Type 0} (e : Exchange A) (sender : ℕ) (head : OneHead) → is_whole e ≡ true → hear_head e sender head ≡ e
@@ -91,7 +91,7 @@ whole-relieved e = whole-by (is_whole e) e
 relieved-whole : {A : Type 0} (e : Exchange A) → is_whole e ≡ true → relieved e ≡ emptied e
 relieved-whole e whole = cond-true (is_whole e) (emptied e) e whole
 
-relieved-open : {A : Type 0} (e : Exchange A) → is_whole e ≡ false → relieved e ≡ e
+pub relieved-open : {A : Type 0} (e : Exchange A) → is_whole e ≡ false → relieved e ≡ e
 relieved-open e whole = cond-false (is_whole e) (emptied e) e whole
 
 relieved-by : {A : Type 0} (b : Bool) (e : Exchange A) (x : Message A) → is_whole e ≡ b
@@ -118,7 +118,7 @@ opened-by : (b : Bool) (places : ℕ) → is_brought (if b then None else None) 
 opened-by true places = refl
 opened-by false places = refl
 
-opened-open : (A : Type 0) (members : ℕ) → is_whole (opened {A = A} members) ≡ false
+pub opened-open : (A : Type 0) (members : ℕ) → is_whole (opened {A = A} members) ≡ false
 opened-open A members = opened-by (members == nobody) 0
 
 -- ---- one message more
@@ -129,7 +129,7 @@ none-step : {A : Type 0} (b : Bool) (first second : Whole A) (rest more goal : O
 none-step true first second rest more goal none later = absurd (cc none)
 none-step false first second rest more goal none later = later none
 
-push-none : {A : Type 0} (e : Exchange A) (xs : List (Message A)) (x : Message A) → whole_from e xs ≡ None
+pub push-none : {A : Type 0} (e : Exchange A) (xs : List (Message A)) (x : Message A) → whole_from e xs ≡ None
     → whole_from e (xs ++ x ∷ []) ≡ whole_from (after_all e xs) (x ∷ [])
 push-none e [] x none = refl
 push-none e (y ∷ ys) x none =
@@ -147,7 +147,7 @@ some-step {A} true e n ys x rest more w some later =
     ap (λ (v : Whole A). Some (record v { rest = v.rest ++ x ∷ [] })) same
 some-step false e n ys x rest more w some later = later some
 
-push-some : {A : Type 0} (e : Exchange A) (xs : List (Message A)) (x : Message A) (w : Whole A) → whole_from e xs ≡ Some w
+pub push-some : {A : Type 0} (e : Exchange A) (xs : List (Message A)) (x : Message A) (w : Whole A) → whole_from e xs ≡ Some w
     → whole_from e (xs ++ x ∷ []) ≡ Some (record w { rest = w.rest ++ x ∷ [] })
 push-some e [] x w some = absurd (cc some)
 push-some e (y ∷ ys) x w some =
@@ -160,7 +160,7 @@ open-step true first rest G none later = absurd (cc none)
 open-step false first rest G none later = later refl none
 
 -- an exchange that has no end yet isn't whole
-none-open : {A : Type 0} (e : Exchange A) (xs : List (Message A)) → is_whole e ≡ false → whole_from e xs ≡ None → is_whole (after_all e xs) ≡ false
+pub none-open : {A : Type 0} (e : Exchange A) (xs : List (Message A)) → is_whole e ≡ false → whole_from e xs ≡ None → is_whole (after_all e xs) ≡ false
 none-open e [] open_yet none = open_yet
 none-open e (x ∷ xs) open_yet none =
     open-step (is_whole (heard_by e x)) (record { exchange = heard_by e x; end = x.number; rest = xs }) (whole_from (heard_by e x) xs)
@@ -172,7 +172,7 @@ whole-step : {A : Type 0} (b : Bool) (first w : Whole A) (rest : Option (Whole A
 whole-step true first w rest G some now later = now refl
 whole-step false first w rest G some now later = later some
 
-some-whole : {A : Type 0} (e : Exchange A) (xs : List (Message A)) (w : Whole A) → whole_from e xs ≡ Some w → is_whole (after_all e xs) ≡ true
+pub some-whole : {A : Type 0} (e : Exchange A) (xs : List (Message A)) (w : Whole A) → whole_from e xs ≡ Some w → is_whole (after_all e xs) ≡ true
 some-whole e [] w some = absurd (cc some)
 some-whole e (x ∷ xs) w some =
     whole-step (is_whole (heard_by e x)) (record { exchange = heard_by e x; end = x.number; rest = xs }) w (whole_from (heard_by e x) xs)

@@ -217,10 +217,10 @@ module _ {O A : Type 0} (object : Sequential O) where
       (length-pending committed (i + 1) ts)
 
   pub are-full : (asked : List (Asked A)) (committed : List (Call A)) (t : Tickets A) → AreTickets object asked committed t
-      → is_full t ≡ (length (unanswered committed asked) == 64) || nat_le max_number (length asked)
+      → is_full t ≡ nat_le 64 (length (unanswered committed asked)) || nat_le max_number (length asked)
   are-full asked committed t are =
       let many : length t.pending ≡ length (unanswered committed asked) = ap length are.pending ∙ length-pending committed 0 asked in
-      ap (λ n. (n == 64) || nat_le max_number t.given) many ∙ ap (λ n. (length (unanswered committed asked) == 64) || nat_le max_number n) are.given
+      ap (λ n. nat_le 64 n || nat_le max_number t.given) many ∙ ap (λ n. nat_le 64 (length (unanswered committed asked)) || nat_le max_number n) are.given
 
   pub are-replies : (asked : List (Asked A)) (committed : List (Call A)) (t : Tickets A) (ticket : ℕ) → AreTickets object asked committed t
       → kept_answer ticket t.kept ≡ answer_to ticket (kept_answers (all_answers object asked committed))

@@ -1,5 +1,5 @@
 -- What a node keeps of its tickets, and how a ticket more and committed calls change it: The replicated log, rules 13 to 15 of docs/PROTOCOL.md. No more is kept than 64 calls without an answer, and 64 answers.
-use Rattle.std.specs.Prelude.{◌≡◌, ℕ, ◌+◌, ◌≤◌, ◌==◌, ◌&&◌, ◌||◌, nat_le, Bool, not, List, [], ◌∷◌, ◌++◌, length, map, is_none, if◌then◌else◌}
+use Rattle.std.specs.Prelude.{◌≡◌, ℕ, ◌+◌, ◌≤◌, ◌&&◌, ◌||◌, nat_le, Bool, not, List, [], ◌∷◌, ◌++◌, length, map, is_none, if◌then◌else◌}
 use Rattle.std.specs.List.{AllByRecursion, filter, list_any}
 use Rattle.ring_base.specs.Numbers.{max_number}
 use Rattle.ring_object.specs.Operations.{Sequential}
@@ -22,9 +22,9 @@ pub record Tickets (A : Type 0) : Type 0 where
 abbrev pub none_given : {A : Type 0} → Tickets A
 none_given = record { given = 0; pending = []; kept = [] }
 
--- no ticket may be given: 64 have no answer, or 2^62 were given
+-- no ticket may be given: 64 have no answer (more never have), or 2^62 were given
 abbrev pub is_full : {A : Type 0} → Tickets A → Bool
-is_full t = (length t.pending == 64) || nat_le max_number t.given
+is_full t = nat_le 64 (length t.pending) || nat_le max_number t.given
 
 -- the next ticket is the call's
 abbrev pub with_ticket : {A : Type 0} → Tickets A → Call A → Tickets A

@@ -1,6 +1,6 @@
 //! Laws of tickets.
 
-ghost use Rattle.std.specs.Prelude.{◌≡◌, ◌==◌, ◌||◌, nat_le, ℕ, List, [], ◌∷◌, ◌++◌, length};
+ghost use Rattle.std.specs.Prelude.{◌≡◌, ◌||◌, nat_le, ℕ, List, [], ◌∷◌, ◌++◌, length};
 ghost use Rattle.ring_base.specs.Numbers.{max_number};
 ghost use Rattle.ring_payload.specs.declared.call.Call.{Call as OneCall};
 ghost use Rattle.ring_session.specs.Table.{table_after};
@@ -26,7 +26,7 @@ pub fn tickets_law<O: Object>()
         AreTickets O.sequential asked (committed ++ more) (with_answers t more (answers_after O.sequential asked committed more)) }
     ensures full { (asked : List (Asked O.Alloc)) (committed : List (OneCall O.Alloc)) (t : Tickets O.Alloc) →
         AreTickets O.sequential asked committed t →
-        is_full t ≡ (length (unanswered committed asked) == 64) || nat_le max_number (length asked) }
+        is_full t ≡ nat_le 64 (length (unanswered committed asked)) || nat_le max_number (length asked) }
     ensures reply { (asked : List (Asked O.Alloc)) (committed : List (OneCall O.Alloc)) (t : Tickets O.Alloc) (ticket : ℕ) →
         AreTickets O.sequential asked committed t →
         kept_answer ticket t.kept ≡ answer_to ticket (kept_answers (all_answers O.sequential asked committed)) }

@@ -16,7 +16,7 @@ pub use laws::tickets_law;
 pub use pending::Pending;
 pub use recent::Recent;
 pub use ticket::Ticket;
-pub use tickets::{Tickets, answers_of};
+pub use tickets::{Tickets, answers_of, stands_in};
 pub use waiting::{Waiting, answer_calls, copied, copy_of};
 
 /// At most so many tickets of a node are unanswered.

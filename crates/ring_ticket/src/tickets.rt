@@ -57,14 +57,14 @@ impl<A: Allocator + Copy + Drop> Tickets<A> {
         })
     }
 
-    /// Whether a ticket may be given: refused with `PendingFull` where exactly 64 tickets have no answer, or 2^62 were
-    /// given.
+    /// Whether a ticket may be given: refused with `PendingFull` where 64 tickets have no answer, which is the most, or
+    /// 2^62 were given.
     pub fn check(&self) -> Result<(), Fault>
         ensures ok { OnOk result (is_full self.now ≡ false) }
         ensures full { IfErr result (λ fault. is_full self.now ≡ true) }
         ensures refused { IfErr result (λ fault. fault ≡ PendingFull) }
     {
-        if self.pending.len() == MAX_UNANSWERED || MAX <= self.given {
+        if MAX_UNANSWERED <= self.pending.len() || MAX <= self.given {
             return Err(Fault::PendingFull);
         }
         Ok(())
@@ -116,7 +116,7 @@ fn leave<A: Allocator + Copy + Drop>(pending: &mut Vec<Pending<A>, A>, committed
 }
 
 /// Whether the call stands among these.
-fn stands_in<A: Allocator + Copy>(calls: &[Call<A>], call: &Call<A>) -> bool
+pub fn stands_in<A: Allocator + Copy>(calls: &[Call<A>], call: &Call<A>) -> bool
     ensures { result ≡ stands_in calls.now call.now }
 {
     calls.iter().any(|other| is_same(call, other))

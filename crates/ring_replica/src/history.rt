@@ -1,0 +1,132 @@
+//! The life of a node and its tickets, as contracts see them.
+
+ghost use Rattle.std.specs.Prelude.{◌≡◌, List, [], ◌∷◌, ◌++◌};
+ghost use Rattle.ring_log.specs.Stays.{born, hears, marks, hands, stay_in};
+ghost use Rattle.ring_replica.specs.Replicas.{tale_opening, tale_done, tale_given};
+ghost use Rattle.ring_replica.specs.Courses.{handed_if};
+
+use ring_base::{Past, Proc, ProcSet, RingId, past_of};
+use ring_payload::{Call, Payload};
+use ring_wire::Message;
+use std::alloc::{Allocator, Global};
+use std::marker::{Model, PhantomData};
+
+/// The life of a node. No value of it is made.
+pub struct Life<A: Allocator + Copy = Global> {
+    allocator: PhantomData<A>,
+}
+
+impl<A: Allocator + Copy> Model for Life<A> {
+    ghost use Rattle.std.specs.Prelude.{List, []};
+    ghost use Rattle.ring_log.specs.Stays.{Stay};
+
+    ghost Value = { List (Stay A) };
+
+    ghost view = { λ _. [] };
+}
+
+/// The life of a node up to its last step, and its tickets. No value of it is made.
+pub struct Story<A: Allocator + Copy = Global> {
+    allocator: PhantomData<A>,
+}
+
+impl<A: Allocator + Copy> Model for Story<A> {
+    ghost use Rattle.ring_replica.specs.Replicas.{Tale, tale_opening};
+
+    ghost Value = { Tale A };
+
+    ghost view = { λ _. tale_opening 1 };
+}
+
+/// A value made of another, and of what is lent, by a step that the caller names.
+fn told<T, F>(past: &Past<T>, from: &F) -> Past<T>
+    ghost step: { T → F → T }
+    ensures { result.value ≡ step past.now.value from.now }
+{
+    past_of(&(past, from))
+}
+
+/// The life of a processor at the opening.
+pub(crate) fn born<A: Allocator + Copy>(me: Proc) -> Past<Life<A>>
+    ensures { result.value ≡ born me }
+{
+    past_of(&me)
+}
+
+/// A message was heard.
+pub(crate) fn heard<A: Allocator + Copy>(
+    life: &Past<Life<A>>,
+    message: &Message<A>,
+) -> Past<Life<A>>
+    ensures { result.value ≡ hears message.now life.now.value }
+{
+    told(life, &message)
+}
+
+/// All up to a number is safe.
+pub(crate) fn marked<A: Allocator + Copy>(life: &Past<Life<A>>, upto: u64) -> Past<Life<A>>
+    ensures { result.value ≡ marks upto life.now.value }
+{
+    told(life, &upto)
+}
+
+/// A ring of these members was installed.
+pub(crate) fn entered<A: Allocator + Copy>(
+    life: &Past<Life<A>>,
+    ring: RingId,
+    members: ProcSet,
+) -> Past<Life<A>>
+    ensures { result.value ≡ stay_in ring members ∷ life.now.value }
+{
+    told(life, &(ring, members))
+}
+
+/// Payloads were handed to the core.
+pub(crate) fn handed<A: Allocator + Copy>(
+    life: &Past<Life<A>>,
+    due: &Vec<Payload<A>, A>,
+) -> Past<Life<A>>
+    ensures { result.value ≡ hands due.now.items life.now.value }
+{
+    told(life, &due)
+}
+
+/// A call was handed to the core, or wasn't.
+pub(crate) fn handed_call<A: Allocator + Copy>(
+    life: &Past<Life<A>>,
+    call: &Call<A>,
+    runs: bool,
+) -> Past<Life<A>>
+    ensures { result.value ≡ hands (handed_if runs call.now) life.now.value }
+{
+    told(life, &(call, runs))
+}
+
+/// The story of a processor at the opening.
+pub(crate) fn opened<A: Allocator + Copy>(me: Proc) -> Past<Story<A>>
+    ensures { result.value ≡ tale_opening me }
+{
+    past_of(&me)
+}
+
+/// A step is done.
+pub(crate) fn done<A: Allocator + Copy>(
+    story: &Past<Story<A>>,
+    life: &Past<Life<A>>,
+) -> Past<Story<A>>
+    ensures { result.value ≡ tale_done story.now.value life.now.value }
+{
+    told(story, life)
+}
+
+/// The call was given a ticket when so many places were committed, and handed to the core, or wasn't.
+pub(crate) fn given<A: Allocator + Copy>(
+    story: &Past<Story<A>>,
+    call: &Call<A>,
+    runs: bool,
+    committed: u64,
+) -> Past<Story<A>>
+    ensures { result.value ≡ tale_given story.now.value call.now runs committed }
+{
+    told(story, &(call, runs, committed))
+}

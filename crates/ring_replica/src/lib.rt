@@ -1,0 +1,21 @@
+//! The replica of a node: all of it but its ring core. It goes through what the core gave in a step, keeps the replicated
+//! log, the exchange and the calls of clients that wait for their answers, and says what the core is handed next.
+#![tactic(auto)]
+
+mod course;
+mod dues;
+mod given;
+mod hearing;
+mod history;
+mod laws;
+mod reach;
+mod replica;
+mod sent;
+mod setting;
+mod stage;
+
+pub use course::Course;
+pub use given::Given;
+pub use laws::replica_law;
+pub use replica::Replica;
+pub use sent::Sent;
