@@ -26,10 +26,9 @@ abbrev pub places_with : {A : Type 0} → ℕ → Option (Carried A) → List �
 places_with at None places = places
 places_with at (Some f) places = at ∷ places
 
-pub record IsWorld {A : Type 0} (w : World A) (count : ℕ) (cores : List (Core A)) (first : Option (Sent A)) (outs : List (ℕ × Out A)) (places : List ℕ) : Type 0 where
-  pub total_is : w.total ≡ count
-  pub cores_are : (i : ℕ) → i < count → slice_get cores i ≡ Some (w.cores (suc i))
-  pub many : length cores ≡ count
+pub record IsWorld {A : Type 0} (w : World A) (cores : List (Core A)) (first : Option (Sent A)) (outs : List (ℕ × Out A)) (places : List ℕ) : Type 0 where
+  pub cores_are : (i : ℕ) → i < w.total → slice_get cores i ≡ Some (w.cores (suc i))
+  pub many : length cores ≡ w.total
   pub outs_are : w.outs ≡ outs
   pub frames_are : w.frames ≡ opening_frames first ++ frames_of outs
   pub places_are : places ≡ places_from 0 outs

@@ -1,10 +1,11 @@
 //! The ring cores of all processors, and what happens to them.
 
-ghost use Rattle.std.specs.Prelude.{◌≡◌, List, IfOk, IfErr, OnOk};
+ghost use Rattle.std.specs.Prelude.{◌≡◌, ◌++◌, map, IfOk, IfErr, OnOk};
 ghost use Rattle.ring_base.specs.declared.fault.Fault.TheVariants.{Memory};
 ghost use Rattle.ring_core.specs.declared.input.Input.{Input as OneInput};
 ghost use Rattle.ring_limits.specs.Limits.{EventFits, InputFits};
-ghost use Rattle.ring_moves.specs.Worlds.{unformed, ring_formed, stepped, handed, frame_at, happens};
+ghost use Rattle.ring_moves.specs.Worlds.{unformed, ring_formed, stepped, stopped_if, is_node, handed, frame_at, happens};
+ghost use Rattle.ring_runs.specs.Running.{places_from};
 
 use ring_base::{Fault, Fixed, Past, Proc, ProcSet, RingId, past_of};
 use ring_core::{Input, Out};
@@ -45,7 +46,6 @@ impl<A: Allocator + Copy> Model for Sent<A> {
 /// The ring cores of all processors, and all that they gave. Contracts see a `World`.
 #[derive(Drop)]
 pub struct Cores<A: Allocator + Copy = Global> {
-    fixed: Fixed,
     /// That of processor i stands at i - 1.
     cores: Vec<Srp<A>, A>,
     /// What the representative sent as the ring was formed, where it is formed from the start: frame 1.
@@ -65,7 +65,7 @@ impl<A: Allocator + Copy> Model for Cores<A> {
 
     ghost view = { λ w. w.past.value };
 
-    ghost invariant = { λ w. IsWorld w.past.value w.fixed.count w.cores.items w.first w.outs.items w.places.items };
+    ghost invariant = { λ w. IsWorld w.past.value w.cores.items w.first w.outs.items w.places.items };
 }
 
 impl<A: Allocator + Copy> Cores<A> {
@@ -80,7 +80,6 @@ impl<A: Allocator + Copy> Cores<A> {
         }
         let past = past_of(&fixed);
         Ok(Cores {
-            fixed,
             cores,
             first: None,
             outs: Vec::new(alloc),
@@ -89,82 +88,78 @@ impl<A: Allocator + Copy> Cores<A> {
         })
     }
 
-    /// An event happens. One that names an unknown processor, a frame not sent or not sent to it changes nothing.
-    /// `Memory` where a growth was refused; what the world is then is not told.
-    pub fn happens(&mut self, event: &RingEvent<A>) -> Result<(), Fault>
+    /// An event happens. One that names an unknown processor, or a frame not sent or not sent to it, changes
+    /// nothing. `Memory` where a growth was refused: then the world is gone.
+    pub fn happens(self, event: &RingEvent<A>) -> Result<Cores<A>, Fault>
         requires { EventFits event.now }
-        ensures ok { OnOk result (self.new ≡ happens self.old event.now) }
+        ensures ok { IfOk result (λ world. world ≡ happens self.now event.now) }
         ensures refused { IfErr result (λ fault. fault ≡ Memory) }
     {
         match event {
             RingEvent::Send(node, payload) => self.step(*node, Input::Send(payload.clone()?)),
             RingEvent::Deliver(node, number) => self.deliver(*node, *number),
             RingEvent::Timeout(node, kind) => self.step(*node, Input::Timeout(*kind)),
-            RingEvent::Stop(node) => {
-                self.stop(*node);
-                Ok(())
-            }
+            RingEvent::Stop(node) => Ok(self.stop(*node)),
         }
     }
 
     /// A frame is handed to a processor, if it was sent to it.
-    fn deliver(&mut self, node: Proc, number: u64) -> Result<(), Fault>
-        ensures ok { OnOk result (self.new ≡ handed self.old node (frame_at self.old.frames number)) }
+    fn deliver(self, node: Proc, number: u64) -> Result<Cores<A>, Fault>
+        ensures ok { IfOk result (λ world. world ≡ handed self.now node (frame_at self.now.frames number)) }
         ensures refused { IfErr result (λ fault. fault ≡ Memory) }
     {
-        match self.frame(number) {
-            Some(sent) if sent.0.contains(node) => {
-                let frame = sent.1.clone()?;
-                self.step(node, Input::Frame(frame))
-            }
-            _ => Ok(()),
-        }
+        let frame = match self.frame_to(node, number) {
+            Some(frame) => frame.clone()?,
+            None => return Ok(self),
+        };
+        self.step(node, Input::Frame(frame))
     }
 
-    /// The frame of a number, counted from 1 in the order sent, with its receivers.
-    fn frame(&self, number: u64) -> Option<(ProcSet, &Frame<A>)> {
+    /// The frame of a number, counted from 1 in the order sent, where it was sent to this processor.
+    fn frame_to(&self, node: Proc, number: u64) -> Option<&Frame<A>> {
         let before = match &self.first {
-            Some(sent) if number == 1 => return Some((sent.to, &sent.frame)),
+            Some(sent) if number == 1 => return if sent.to.contains(node) {
+                Some(&sent.frame)
+            } else {
+                None
+            },
             Some(_) => 2,
             None => 1,
         };
         let place = self.places.get(number.checked_sub(before)? as usize)?;
         match self.outs.get(*place) {
-            Some((_, Out::Send(to, frame))) => Some((*to, frame)),
+            Some((_, Out::Send(to, frame))) if to.contains(node) => Some(frame),
             _ => None,
         }
     }
 
     /// One processor's core steps; an unknown processor changes nothing.
-    fn step(&mut self, node: Proc, input: Input<A>) -> Result<(), Fault>
+    fn step(mut self, node: Proc, input: Input<A>) -> Result<Cores<A>, Fault>
         requires { InputFits input }
-        ensures ok { OnOk result (self.new ≡ stepped self.old node input) }
+        ensures ok { IfOk result (λ world. world ≡ stepped self.now node input) }
         ensures refused { IfErr result (λ fault. fault ≡ Memory) }
     {
         let place = usize::from(node.number()) - 1;
-        let Some(core) = self.cores.get_mut(place) else {
-            return Ok(());
-        };
-        let outs = match core.step(input) {
-            Ok(outs) => outs,
-            Err(Fault::Stopped) => return Ok(()),
-            Err(refused) => return Err(refused),
-        };
-        for out in outs {
-            if let Out::Send(_, _) = &out {
-                self.places.push(self.outs.len())?;
-            }
-            self.outs.push((node, out))?;
+        if place >= self.cores.len() {
+            return Ok(self);
         }
-        Ok(())
+        match self.cores[place].step(input) {
+            Ok(outs) => note(&mut self.outs, &mut self.places, node, outs)?,
+            Err(Fault::Stopped) => {}
+            Err(refused) => return Err(refused),
+        }
+        Ok(self)
     }
 
     /// One processor's core stops; an unknown processor changes nothing.
-    fn stop(&mut self, node: Proc) {
+    fn stop(mut self, node: Proc) -> Cores<A>
+        ensures { result ≡ stopped_if (is_node self.now node) self.now node }
+    {
         let place = usize::from(node.number()) - 1;
-        if let Some(core) = self.cores.get_mut(place) {
-            core.stop();
+        if place < self.cores.len() {
+            self.cores[place].stop();
         }
+        self
     }
 
     /// All that was given.
@@ -173,4 +168,24 @@ impl<A: Allocator + Copy> Cores<A> {
     {
         self.outs
     }
+}
+
+/// Notes what a processor gave, and where the frames stand among it.
+fn note<A: Allocator + Copy>(
+    outs: &mut Vec<(Proc, Out<A>), A>,
+    places: &mut Vec<usize, A>,
+    node: Proc,
+    given: Vec<Out<A>, A>,
+) -> Result<(), Fault>
+    ensures outs { OnOk result (outs.new.items ≡ outs.old.items ++ map (λ o. (node, o)) given.items) }
+    ensures places { places.old.items ≡ places_from 0 outs.old.items → OnOk result (places.new.items ≡ places_from 0 outs.new.items) }
+    ensures refused { IfErr result (λ fault. fault ≡ Memory) }
+{
+    for out in given {
+        if let Out::Send(_, _) = &out {
+            places.push(outs.len())?;
+        }
+        outs.push((node, out))?;
+    }
+    Ok(())
 }
