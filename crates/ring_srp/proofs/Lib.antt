@@ -2,3 +2,17 @@ pub mod Lent
 pub mod Parts
 pub mod Standing
 pub mod Receivers
+pub mod Learns
+pub mod Installs
+pub mod Allowed
+pub mod Marks
+pub mod Outputs
+pub mod Proposals
+pub mod Sending
+pub mod Starting
+pub mod Users
+pub mod Turned
+pub mod Aside
+pub mod Held
+pub mod Wraps
+pub mod Visits

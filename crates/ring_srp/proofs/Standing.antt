@@ -14,7 +14,7 @@ use Rattle.ring_token.specs.Histories.{TokenHistory}
 use Rattle.ring_join.specs.Gatherers.{Gatherer}
 use Rattle.ring_join.specs.Gathering.{Gathering}
 use Rattle.ring_commit.specs.declared.configuration.Configuration.{Configuration}
-use Rattle.ring_srp.specs.declared.part.Recovering.{Recovering}
+use Rattle.ring_srp.specs.declared.recovering.Recovering.{Recovering}
 use Rattle.ring_wire.specs.declared.entries.CommitEntry.{CommitEntry}
 use Rattle.ring_srp.specs.Histories.{with_ring}
 use Rattle.ring_core.specs.State.{Core, Sent, floor}
@@ -66,7 +66,18 @@ recovering_on : {A : Type 0} (me total : ℕ) (s : State) (running installed : C
     (recovery : Option (Recovering A)) → (s ≡ Recovery → IsRecovering (core_of me total s running installed g shown queue held h) recovery)
     → s ≡ Recovery → IsRecovering (core_of me total s running installed g' shown' queue' held h) recovery
 recovering_on me total s running installed g g' shown shown' queue queue' held h None f e = f e
-recovering_on me total s running installed g g' shown shown' queue queue' held h (Some r) f e = record { window_is = (f e).window_is; visit_is = (f e).visit_is }
+recovering_on me total s running installed g g' shown shown' queue queue' held h (Some r) f e =
+    let m = f e in
+    record {
+      part = record { window_is = m.part.window_is; visit_is = m.part.visit_is; reached = m.part.reached; near = m.part.near; led = m.part.led };
+      plan_is = m.plan_is;
+      ends_is = m.ends_is;
+      aside_is = m.aside_is;
+      aside_far = m.aside_far;
+      aside_safe = m.aside_safe;
+      aside_led = m.aside_led;
+      old_safe = m.old_safe;
+    }
 
 module _ {A : Type 0} (me total : ℕ) (s : State) (running installed : Configuration) (g : Gathering) (shown : Option (Sent A)) (queue : List (Payload A)) (held : List (Message A)) (h : History A)
     (gather : Gatherer) (window : Windowed A) (visit : TokenHistory A) (recovery : Option (Recovering A)) where
@@ -82,7 +93,7 @@ module _ {A : Type 0} (me total : ℕ) (s : State) (running installed : Configur
         gather_me = a;
         gather_floor = λ e. b;
         member = m.member;
-        kept = record { window_is = m.kept.window_is; visit_is = m.kept.visit_is };
+        kept = record { window_is = m.kept.window_is; visit_is = m.kept.visit_is; reached = m.kept.reached; near = m.kept.near; led = m.kept.led };
         below = record { held = wide.held; turns = wide.turns; raises = wide.raises };
         older = m.older;
         apart = λ e. absurd (true≢false (sym e));
@@ -102,7 +113,7 @@ module _ {A : Type 0} (me total : ℕ) (s : State) (running installed : Configur
         gather_me = m.gather_me;
         gather_floor = λ e. absurd (commit_not_gather e);
         member = member;
-        kept = record { window_is = m.kept.window_is; visit_is = m.kept.visit_is };
+        kept = record { window_is = m.kept.window_is; visit_is = m.kept.visit_is; reached = m.kept.reached; near = m.kept.near; led = m.kept.led };
         below = record { held = wide.held; turns = wide.turns; raises = wide.raises };
         older = omega (arith, m.older, newer);
         apart = λ e. omega (arith, m.older, newer);
@@ -120,7 +131,7 @@ module _ {A : Type 0} (me total : ℕ) (s : State) (running installed : Configur
         gather_me = m.gather_me;
         gather_floor = m.gather_floor;
         member = m.member;
-        kept = record { window_is = m.kept.window_is; visit_is = m.kept.visit_is };
+        kept = record { window_is = m.kept.window_is; visit_is = m.kept.visit_is; reached = m.kept.reached; near = m.kept.near; led = m.kept.led };
         below = record { held = m.below.held; turns = m.below.turns; raises = m.below.raises };
         older = m.older;
         apart = m.apart;
@@ -139,7 +150,7 @@ module _ {A : Type 0} (me total : ℕ) (s : State) (running installed : Configur
         gather_me = a ∙ m.gather_me;
         gather_floor = λ e. b ∙ m.gather_floor e;
         member = m.member;
-        kept = record { window_is = m.kept.window_is; visit_is = m.kept.visit_is };
+        kept = record { window_is = m.kept.window_is; visit_is = m.kept.visit_is; reached = m.kept.reached; near = m.kept.near; led = m.kept.led };
         below = record { held = m.below.held; turns = m.below.turns; raises = m.below.raises };
         older = m.older;
         apart = m.apart;

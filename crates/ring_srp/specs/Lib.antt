@@ -5,3 +5,8 @@ pub mod Histories
 pub mod Proposing
 pub mod Passing
 pub mod Ended
+pub mod Users
+pub mod Setting
+pub mod Learns
+pub mod Taking
+pub mod Wraps

@@ -18,7 +18,7 @@ use Rattle.ring_recover.specs.Plans.{safe}
 use Rattle.ring_join.specs.Gatherers.{Gatherer}
 use Rattle.ring_join.specs.Gathering.{Gathering}
 use Rattle.ring_commit.specs.declared.configuration.Configuration.{Configuration}
-use Rattle.ring_srp.specs.declared.part.Recovering.{Recovering}
+use Rattle.ring_srp.specs.declared.recovering.Recovering.{Recovering}
 use Rattle.ring_core.specs.State.{Core, Sent, Report, floor}
 use Rattle.ring_core.specs.Views.{front, mark, plan}
 use Rattle.ring_core.specs.Giving.{users}

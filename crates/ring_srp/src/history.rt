@@ -4,11 +4,13 @@ ghost use Rattle.std.specs.Prelude.{◌≡◌, [], ◌∷◌, ◌++◌};
 ghost use Rattle.ring_core.specs.State.{opening};
 ghost use Rattle.ring_srp.specs.Histories.{with_ring, with_visit, with_plan, with_install};
 ghost use Rattle.ring_srp.specs.Machines.{history_of};
+ghost use Rattle.ring_srp.specs.Taking.{inner_of};
 
 use ring_base::{Fixed, Past, Proc, RingId, past_of};
 use ring_commit::Configuration;
 use ring_token::Visit;
-use ring_wire::{CommitEntry, CommitToken};
+use ring_window::Window;
+use ring_wire::{CommitEntry, CommitToken, Message};
 use std::alloc::{Allocator, Global};
 use std::marker::{Model, PhantomData};
 
@@ -103,4 +105,15 @@ pub(crate) fn one_last<M>(items: &Past<[M; 0]>, item: &M) -> Past<[M; 0]>
     ensures { result.value ≡ items.now.value ++ item.now ∷ [] }
 {
     past_of(&(items, item))
+}
+
+/// A message more, and in front of it what it wraps of an old ring and is new there.
+pub(crate) fn unwrapped_first<A: Allocator + Copy>(
+    held: &Past<[Message<A>; 0]>,
+    message: &Message<A>,
+    old: &Window<A>,
+) -> Past<[Message<A>; 0]>
+    ensures { result.value ≡ inner_of old.now message.now.payload ++ message.now ∷ held.now.value }
+{
+    told(held, &(message, old))
 }

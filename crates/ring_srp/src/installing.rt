@@ -1,14 +1,31 @@
 //! The running ring is installed.
 
-ghost use Rattle.std.specs.Prelude.{◌≡◌, ◌++◌, [], IfErr, OnOk};
+ghost use Rattle.std.specs.Prelude.{◌≡◌, ◌≤◌, true, if◌then◌else◌, [], ◌∷◌, ◌++◌, map, filter, filter_map, Some, None, IfErr, OnOk};
 ghost use Rattle.ring_base.specs.declared.fault.Fault.TheVariants.{Memory};
-ghost use Rattle.ring_core.specs.Giving.{may_install, settle};
+ghost use Rattle.ring_payload.specs.Kinds.{is_user};
+ghost use Rattle.ring_window.specs.Windows.{kept};
+ghost use Rattle.ring_recover.specs.Deliveries.{delivery as whole_delivery, rests};
+ghost use Rattle.ring_core.specs.declared.out.Out.TheVariants.{Agreed, Trans, Rest, Regular};
+ghost use Rattle.ring_core.specs.Giving.{may_install, install, settle, configured, users};
+ghost use Rattle.ring_core.specs.Views.{front, mark, plan};
 
+use crate::giving::Reached;
 use crate::history::with_install;
 use crate::machine::Machine;
-use ring_base::{Fault, State};
+use crate::recovering::Recovering;
+use ring_base::{Fault, RingId, State};
 use ring_core::Out;
-use std::alloc::Allocator;
+use ring_recover::{Delivery, Numbers, is_user};
+use ring_window::Window;
+use ring_wire::Message;
+use std::alloc::{Allocator, Global};
+
+/// The users' messages of a ring up to a number.
+#[derive(Drop)]
+struct Aside<A: Allocator + Copy = Global> {
+    most: u64,
+    messages: Vec<Message<A>, A>,
+}
 
 impl<A: Allocator + Copy> Machine<A> {
     /// Installs the running ring once recovery is over, and gives what that gives.
@@ -17,6 +34,135 @@ impl<A: Allocator + Copy> Machine<A> {
         ensures outs { OnOk result (outs.new.items ≡ outs.old.items ++ (settle (may_install self.old) self.old []).outs) }
         ensures refused { IfErr result (λ fault. fault ≡ Memory) }
     {
+        match self.delivery() {
+            Some(delivery) => self.install(&delivery, outs),
+            None => Ok(()),
+        }
+    }
+
+    /// What the old ring still delivers, where recovery is over and all that one of those from it holds is held.
+    fn delivery(&self) -> Option<Delivery>
+        ensures { result ≡ (if may_install self.now then Some (whole_delivery (plan self.now) self.now.held) else None) }
+    {
+        match &self.recovery {
+            Some(recovering) if self.state == State::Recovery => {
+                let mark = recovering.part.visit.safe();
+                if !recovering.ends.is_ready(self.running.members, mark) {
+                    return None;
+                }
+                recovering.plan.finish(&self.kept.window)
+            }
+            _ => None,
+        }
+    }
+
+    /// Installs the running ring: the transitional configuration with the rest of the old ring, the regular one, and
+    /// what is agreed and safe of the new ring by now.
+    fn install(&mut self, delivery: &Delivery, outs: &mut Vec<Out<A>, A>) -> Result<(), Fault>
+        requires due { may_install self.old ≡ true }
+        requires delivery { delivery.now ≡ whole_delivery (plan self.old) self.old.held }
+        ensures core { OnOk result (self.new ≡ install self.old) }
+        ensures outs { OnOk result (outs.new.items ≡ outs.old.items ++ configured self.old) }
+        ensures refused { IfErr result (λ fault. fault ≡ Memory) }
+    {
+        self.give_change(delivery, outs)?;
+        let aside = self.settle();
+        let ring = self.installed.ring;
+        let before = Reached {
+            ring,
+            front: aside.most,
+            mark: 0,
+        };
+        give_aside(&ring, aside.messages, outs)?;
+        self.give(before, outs)
+    }
+
+    /// The transitional configuration with the rest of the old ring, and the regular one.
+    fn give_change(&self, delivery: &Delivery, outs: &mut Vec<Out<A>, A>) -> Result<(), Fault>
+        requires due { may_install self.now ≡ true }
+        requires delivery { delivery.now ≡ whole_delivery (plan self.now) self.now.held }
+        ensures ok { OnOk result (outs.new.items ≡ outs.old.items ++ Trans self.now.installed.ring self.now.running.ring (plan self.now).mates ∷ (map (λ x. Rest x.ring x.number x) (rests (plan self.now) self.now.held) ++ Regular self.now.running.ring self.now.running.members ∷ [])) }
+        ensures refused { IfErr result (λ fault. fault ≡ Memory) }
+    {
+        let mates = self.recovery.as_ref().unwrap().plan.mates();
+        outs.push(Out::Trans(self.installed.ring, self.running.ring, mates))?;
+        give_rest(&self.kept.window, &delivery.transitional, outs)?;
+        give_rest(&self.kept.window, &delivery.past_gap, outs)?;
+        outs.push(Out::Regular(self.running.ring, self.running.members))?;
         Ok(())
     }
+
+    /// The running ring is the installed one from now on. Answers what stood aside of its messages.
+    fn settle(&mut self) -> Aside<A>
+        requires { may_install self.old ≡ true }
+        ensures core { self.new ≡ install self.old }
+        ensures aside { result.messages.items ≡ users self.old self.old.running.ring 0 result.most }
+        ensures far { result.most ≤ front self.old self.old.running.ring }
+        ensures safe { mark self.old self.old.running.ring ≤ result.most }
+    {
+        let recovering = self.recovery.take().unwrap();
+        let past = with_install(&self.past, self.running);
+        self.kept = recovering.part;
+        self.installed = self.running;
+        self.state = State::Operational;
+        self.past = past;
+        Aside {
+            most: recovering.most,
+            messages: recovering.aside,
+        }
+    }
+}
+
+/// In the transitional configuration the users' messages of these numbers, which the window still has.
+fn give_rest<A: Allocator + Copy>(
+    window: &Window<A>,
+    numbers: &Numbers,
+    outs: &mut Vec<Out<A>, A>,
+) -> Result<(), Fault>
+    ensures ok { OnOk result (outs.new.items ≡ outs.old.items ++ map (λ x. Rest x.ring x.number x) (filter (λ x. is_user x.payload) (filter_map (kept window.now) numbers.now))) }
+    ensures refused { IfErr result (λ fault. fault ≡ Memory) }
+{
+    for number in numbers.iter() {
+        if let Some(message) = window.get(number) {
+            give_if_users(message, outs)?;
+        }
+    }
+    Ok(())
+}
+
+/// In the transitional configuration a message, where it is a user's.
+fn give_if_users<A: Allocator + Copy>(
+    message: &Message<A>,
+    outs: &mut Vec<Out<A>, A>,
+) -> Result<(), Fault>
+    ensures ok { OnOk result (outs.new.items ≡ outs.old.items ++ map (λ x. Rest x.ring x.number x) (filter (λ x. is_user x.payload) (message.now ∷ []))) }
+    ensures refused { IfErr result (λ fault. fault ≡ Memory) }
+{
+    if is_user(&message.payload) {
+        outs.push(Out::Rest(message.ring, message.number, message.clone()?))?;
+    }
+    Ok(())
+}
+
+/// Messages that stood aside are agreed.
+fn give_aside<A: Allocator + Copy>(
+    ring: &RingId,
+    messages: Vec<Message<A>, A>,
+    outs: &mut Vec<Out<A>, A>,
+) -> Result<(), Fault>
+    ensures ok { OnOk result (outs.new.items ≡ outs.old.items ++ map (λ x. Agreed ring.now x.number x) messages.items) }
+    ensures refused { IfErr result (λ fault. fault ≡ Memory) }
+{
+    for message in messages {
+        outs.push(agreed(*ring, message))?;
+    }
+    Ok(())
+}
+
+/// A message of a ring is agreed.
+fn agreed<A: Allocator + Copy>(ring: RingId, message: Message<A>) -> Out<A>
+    ensures { result ≡ Agreed ring message.number message }
+{
+    let number = message.number;
+    Out::Agreed(ring, number, message)
 }

@@ -1,8 +1,9 @@
 //! A ring core that runs.
 
 ghost use Rattle.std.specs.Prelude.{◌≡◌, ◌≤◌, true, [], IfOk, IfErr};
+ghost use Rattle.ring_base.specs.Processors.{IsMember};
 ghost use Rattle.ring_base.specs.declared.fault.Fault.TheVariants.{Memory};
-ghost use Rattle.ring_core.specs.State.{opening};
+ghost use Rattle.ring_core.specs.State.{alone, opening};
 
 use crate::history::{Story, none, opened};
 use crate::part::Part;
@@ -12,8 +13,6 @@ use ring_base::{Fault, Fixed, Past, Proc, ProcSet, RingId, State};
 use ring_commit::Configuration;
 use ring_join::Gather;
 use ring_payload::Payload;
-use ring_token::Visit;
-use ring_window::Window;
 use ring_wire::{CommitEntry, Message};
 use std::alloc::{Allocator, Global};
 use std::collections::VecDeque;
@@ -64,26 +63,18 @@ impl<A: Allocator + Copy> Machine<A> {
         ensures ok { IfOk result (λ machine. machine ≡ opening fixed.count me) }
         ensures refused { IfErr result (λ fault. fault ≡ Memory) }
     {
-        let ring = RingId { seq: 0, rep: me };
-        let alone = Configuration {
-            ring,
-            members: ProcSet::only(me),
-        };
-        let window = Window::new(alloc, ring)?;
+        let kept = Part::new(alloc, me, RingId { seq: 0, rep: me })?;
         Ok(Machine {
             alloc,
             me,
             fixed,
             state: State::Gather,
-            running: alone,
-            installed: alone,
+            running: alone(me),
+            installed: alone(me),
             gather: Gather::new(me, 0, fixed.everybody()),
             shown: None,
             queue: VecDeque::new(alloc),
-            kept: Part {
-                window,
-                visit: Visit::new(me, ring),
-            },
+            kept,
             recovery: None,
             held: none(),
             past: opened(fixed, me),
@@ -119,5 +110,16 @@ impl<A: Allocator + Copy> Machine<A> {
             Some(recovering) if self.state == State::Recovery => &recovering.part,
             _ => &self.kept,
         }
+    }
+}
+
+/// The ring of a processor alone, of number 0, which it opens in.
+fn alone(me: Proc) -> Configuration
+    ensures value { result ≡ alone me }
+    ensures member { IsMember result.members me }
+{
+    Configuration {
+        ring: RingId { seq: 0, rep: me },
+        members: ProcSet::only(me),
     }
 }

@@ -1,20 +1,27 @@
 //! The end of a visit: the token goes on, and the visit is a fact.
 
-ghost use Rattle.std.specs.Prelude.{◌≡◌, ◌≤◌, ◌<◌, ◌+◌, ◌++◌, ◌∷◌, [], true, List, length, IfErr, OnOk};
+ghost use Rattle.std.specs.Prelude.{◌≡◌, ◌≤◌, ◌<◌, ◌+◌, ◌++◌, ◌∷◌, [], true, List, length, Some, IfErr, OnOk};
 ghost use Rattle.std.specs.List.Sorted.{IsStrictlyIncreasing};
 ghost use Rattle.ring_base.specs.Numbers.{max_number};
 ghost use Rattle.ring_base.specs.declared.fault.Fault.TheVariants.{Memory};
+ghost use Rattle.ring_base.specs.declared.state.State.TheVariants.{Recovery as InRecovery, Operational as InOperational};
 ghost use Rattle.ring_payload.specs.declared.content.Payload.{Payload as OnePayload};
+ghost use Rattle.ring_wire.specs.declared.frame.Frame.TheVariants.{Token as TokenFrame};
+ghost use Rattle.ring_window.specs.Held.{front_of};
+ghost use Rattle.ring_window.specs.Windows.{forgotten};
+ghost use Rattle.ring_token.specs.Turns.{turns_of};
 ghost use Rattle.ring_token.specs.Visits.{token_after};
-ghost use Rattle.ring_token.specs.Histories.{turn_by, with_turn};
+ghost use Rattle.ring_token.specs.Histories.{turn_by, with_turn, mark_of, last_aru};
 ghost use Rattle.ring_core.specs.Giving.{sent};
 ghost use Rattle.ring_core.specs.Visiting.{to_next};
 ghost use Rattle.ring_srp.specs.Machines.{is_running};
 ghost use Rattle.ring_srp.specs.Passing.{went, passed_on};
+ghost use Rattle.ring_srp.specs.Setting.{turn_in};
 
 use crate::history::with_visit;
 use crate::machine::Machine;
-use crate::sent::{Sent, send_copy};
+use crate::part::Part;
+use crate::sent::Sent;
 use ring_base::{Fault, Past, ProcSet, State};
 use ring_core::Out;
 use ring_payload::Payload;
@@ -43,8 +50,123 @@ impl<A: Allocator + Copy> Machine<A> {
         ensures outs { OnOk result (outs.new.items ≡ outs.old.items ++ sent (to_next self.old (went self.old token stays.now count) ∷ [])) }
         ensures refused { IfErr result (λ fault. fault ≡ Memory) }
     {
+        self.pass_on(token, stays, count, fresh)?;
+        self.repeat(outs)
+    }
+
+    /// The token as it goes to the next member is shown, and the visit is a fact.
+    fn pass_on(
+        &mut self,
+        token: Token,
+        stays: &Requests,
+        count: u64,
+        fresh: &Past<[Payload<A>; 0]>,
+    ) -> Result<(), Fault>
+        requires runs { is_running self.old.state ≡ true }
+        requires ring { token.ring ≡ self.old.running.ring }
+        requires number { token.number < max_number }
+        requires seq { token.seq + count ≤ max_number }
+        requires count { length fresh.now.value ≡ count }
+        requires stays { IsStrictlyIncreasing stays.now }
+        ensures core { OnOk result (self.new ≡ passed_on self.old token stays.now fresh.now.value) }
+        ensures refused { IfErr result (λ fault. fault ≡ Memory) }
+    {
+        match self.state {
+            State::Recovery => self.pass_running(token, stays, count, fresh),
+            _ => {
+                self.pass_installed(token, stays, count, fresh);
+                Ok(())
+            }
+        }
+    }
+
+    /// In Recovery what the window may forget stands aside first.
+    fn pass_running(
+        &mut self,
+        token: Token,
+        stays: &Requests,
+        count: u64,
+        fresh: &Past<[Payload<A>; 0]>,
+    ) -> Result<(), Fault>
+        requires state { self.old.state ≡ InRecovery }
+        requires ring { token.ring ≡ self.old.running.ring }
+        requires number { token.number < max_number }
+        requires seq { token.seq + count ≤ max_number }
+        requires count { length fresh.now.value ≡ count }
+        requires stays { IsStrictlyIncreasing stays.now }
+        ensures core { OnOk result (self.new ≡ passed_on self.old token stays.now fresh.now.value) }
+        ensures refused { IfErr result (λ fault. fault ≡ Memory) }
+    {
+        let to = ProcSet::only(self.running.members.next(self.me));
+        if let Some(recovering) = &mut self.recovery {
+            recovering.set_aside()?;
+            let token = recovering.part.pass(token, stays, count, fresh);
+            self.past = with_visit(&self.past, &recovering.part.visit);
+            show(&mut self.shown, to, token);
+        }
         Ok(())
     }
+
+    /// In Operational the running ring is the installed one.
+    fn pass_installed(
+        &mut self,
+        token: Token,
+        stays: &Requests,
+        count: u64,
+        fresh: &Past<[Payload<A>; 0]>,
+    )
+        requires state { self.old.state ≡ InOperational }
+        requires ring { token.ring ≡ self.old.running.ring }
+        requires number { token.number < max_number }
+        requires seq { token.seq + count ≤ max_number }
+        requires count { length fresh.now.value ≡ count }
+        requires stays { IsStrictlyIncreasing stays.now }
+        ensures { self.new ≡ passed_on self.old token stays.now fresh.now.value }
+    {
+        let to = ProcSet::only(self.running.members.next(self.me));
+        let token = self.kept.pass(token, stays, count, fresh);
+        self.past = with_visit(&self.past, &self.kept.visit);
+        show(&mut self.shown, to, token);
+    }
+}
+
+impl<A: Allocator + Copy> Part<A> {
+    /// The token is visited, and the window may forget what is safe by now. Answers the token as it goes on.
+    fn pass(
+        &mut self,
+        token: Token,
+        stays: &Requests,
+        count: u64,
+        fresh: &Past<[Payload<A>; 0]>,
+    ) -> Token
+        requires ring { token.ring ≡ self.old.visit.ring }
+        requires number { token.number < max_number }
+        requires seq { token.seq + count ≤ max_number }
+        requires count { length fresh.now.value ≡ count }
+        requires stays { IsStrictlyIncreasing stays.now }
+        requires reached { mark_of self.old.visit ≤ front_of self.old.window.held self.old.window.ring }
+        requires led { last_aru (turns_of self.old.visit.ring self.old.visit.turns) ≤ front_of self.old.window.held self.old.window.ring }
+        ensures token { result ≡ (turn_in self.old.window self.old.visit token stays.now fresh.now.value).went }
+        ensures visit { self.new.visit ≡ with_turn self.old.visit (turn_in self.old.window self.old.visit token stays.now fresh.now.value) }
+        ensures window { self.new.window ≡ forgotten self.old.window (mark_of self.new.visit) }
+    {
+        let missing = self.window.missing(token.seq + count);
+        let requests = requests_after(stays, &missing);
+        let front = self.window.front();
+        let token = visit_as(&mut self.visit, token, front, count, requests, fresh);
+        self.window.forget(self.visit.safe());
+        token
+    }
+}
+
+/// A token is the last that was sent.
+fn show<A: Allocator + Copy>(shown: &mut Option<Sent<A>>, to: ProcSet, token: Token)
+    ensures { shown.new ≡ Some (record { to = to; frame = TokenFrame token }) }
+{
+    *shown = Some(Sent {
+        to,
+        frame: Frame::Token(token),
+    });
 }
 
 /// A visit whose new messages carry these payloads: `fresh` alone tells a caller's pick of the ghost list of `Visit::visit`,

@@ -1,6 +1,6 @@
 //! The ring core of one processor.
 
-ghost use Rattle.std.specs.Prelude.{◌≡◌, ◌≤◌, false, if◌then◌else◌, IfOk, IfErr, OnOk, OnErr};
+ghost use Rattle.std.specs.Prelude.{◌≡◌, ◌≤◌, false, [], if◌then◌else◌, IfOk, IfErr, OnOk, OnErr};
 ghost use Rattle.ring_base.specs.declared.fault.Fault.TheVariants.{Memory, Stopped as StoppedFault};
 ghost use Rattle.ring_core.specs.State.{opening, halted};
 ghost use Rattle.ring_core.specs.Stepping.{ring_step};
@@ -94,10 +94,12 @@ impl<A: Allocator + Copy> Srp<A> {
         }
     }
 
-    /// A payload is queued in Operational, and dropped elsewhere, as is an End, a Wrapped or a Pack everywhere.
+    /// A payload is queued in Operational, and dropped elsewhere, as is an End, a Wrapped or a Pack everywhere. Nothing
+    /// comes out.
     /// `Stopped` once stopped; `Memory` where a growth was refused: then nothing changes, and the core goes on.
     pub fn send(&mut self, payload: Payload<A>) -> Result<(), Fault>
         ensures ok { OnOk result (self.new ≡ (ring_step self.old (SendInput payload)).core) }
+        ensures silent { OnOk result ((ring_step self.old (SendInput payload)).outs ≡ []) }
         ensures running { OnOk result (is_stopped self.old.state ≡ false) }
         ensures kept { OnErr result (self.new ≡ self.old) }
         ensures refused { IfErr result (λ fault. fault ≡ (if is_stopped self.old.state then StoppedFault else Memory)) }

@@ -1,13 +1,14 @@
 //! One step: what an input comes to is done, a ring may be proposed, and what follows is given.
 
-ghost use Rattle.std.specs.Prelude.{◌≡◌, ◌++◌, ◌∷◌, [], IfOk, IfErr, OnOk, OnErr};
+ghost use Rattle.std.specs.Prelude.{◌≡◌, ◌++◌, ◌∷◌, [], false, IfOk, IfErr, OnOk, OnErr};
 ghost use Rattle.ring_base.specs.declared.fault.Fault.TheVariants.{Memory};
-ghost use Rattle.ring_core.specs.Acting.{act, may_follow};
-ghost use Rattle.ring_core.specs.Giving.{sent};
+ghost use Rattle.ring_core.specs.Acting.{act, may_follow, done};
+ghost use Rattle.ring_core.specs.Giving.{sent, may_install};
 ghost use Rattle.ring_core.specs.Stepping.{ring_step};
 ghost use Rattle.ring_core.specs.declared.input.Input.TheVariants.{Send as SendInput};
 ghost use Rattle.ring_srp.specs.Acts.{act_of};
 ghost use Rattle.ring_srp.specs.Allowing.{Allows, InputFits};
+ghost use Rattle.ring_srp.specs.Machines.{is_stopped};
 
 use crate::act::Act;
 use crate::machine::Machine;
@@ -23,16 +24,13 @@ impl<A: Allocator + Copy> Machine<A> {
         requires { InputFits input }
         ensures outs { IfOk result (λ outs. outs.items ≡ (ring_step self.old input).outs) }
         ensures core { OnOk result (self.new ≡ (ring_step self.old input).core) }
+        ensures running { is_stopped self.old.state ≡ false }
         ensures refused { IfErr result (λ fault. fault ≡ Memory) }
     {
         let before = self.reached();
         let what = self.decide(input);
-        let follows = may_follow(&what);
         let mut outs = Vec::new(self.alloc);
-        self.act(what, &mut outs)?;
-        if follows {
-            self.propose_if_due(&mut outs)?;
-        }
+        self.carry_out(what, &mut outs)?;
         self.give(before, &mut outs)?;
         self.install_if_due(&mut outs)?;
         Ok(outs)
@@ -48,14 +46,38 @@ impl<A: Allocator + Copy> Machine<A> {
         Ok(())
     }
 
-    /// A payload is queued in Operational where it may be, and dropped elsewhere.
+    /// A payload is queued in Operational where it may be, and dropped elsewhere. Nothing comes out.
     pub(crate) fn send(&mut self, payload: Payload<A>) -> Result<(), Fault>
+        requires { may_install self.old ≡ false }
         ensures ok { OnOk result (self.new ≡ (ring_step self.old (SendInput payload)).core) }
+        ensures silent { OnOk result ((ring_step self.old (SendInput payload)).outs ≡ []) }
         ensures kept { OnErr result (self.new ≡ self.old) }
+        ensures running { is_stopped self.old.state ≡ false }
         ensures refused { IfErr result (λ fault. fault ≡ Memory) }
     {
-        if self.state == State::Operational && is_queued(&payload) {
-            self.enqueue(payload)
+        match self.state {
+            State::Operational => {
+                if is_queued(&payload) {
+                    self.enqueue(payload)
+                } else {
+                    Ok(())
+                }
+            }
+            _ => Ok(()),
+        }
+    }
+
+    /// What an input came to is done, and then a ring may be proposed.
+    fn carry_out(&mut self, what: Act<A>, outs: &mut Vec<Out<A>, A>) -> Result<(), Fault>
+        requires { Allows self.old (act_of what) }
+        ensures core { OnOk result (self.new ≡ (done self.old (act_of what)).core) }
+        ensures outs { OnOk result (outs.new.items ≡ outs.old.items ++ sent (done self.old (act_of what)).sends) }
+        ensures refused { IfErr result (λ fault. fault ≡ Memory) }
+    {
+        let follows = may_follow(&what);
+        self.act(what, outs)?;
+        if follows {
+            self.propose_if_due(outs)
         } else {
             Ok(())
         }

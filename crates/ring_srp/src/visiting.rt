@@ -2,6 +2,7 @@
 
 ghost use Rattle.std.specs.Prelude.{◌≡◌, ◌≤◌, ◌<◌, ◌+◌, ◌++◌, ◌∷◌, [], true, length, reverse, IfOk, IfErr, OnOk};
 ghost use Rattle.ring_base.specs.declared.fault.Fault.TheVariants.{Memory};
+ghost use Rattle.ring_base.specs.Processors.{only, less};
 ghost use Rattle.ring_token.specs.Visits.{room, numbered, left};
 ghost use Rattle.ring_window.specs.Held.{holds};
 ghost use Rattle.ring_srp.specs.Allowing.{VisitAllowed, TokenGoes};
@@ -53,7 +54,9 @@ impl<A: Allocator + Copy> Machine<A> {
     }
 
     /// The other members of the running ring.
-    fn others(&self) -> ProcSet {
+    fn others(&self) -> ProcSet
+        ensures { result ≡ less self.now.running.members (only self.now.me) }
+    {
         self.running.members.less(ProcSet::only(self.me))
     }
 
@@ -84,10 +87,10 @@ impl<A: Allocator + Copy> Machine<A> {
         ensures refused { IfErr result (λ fault. fault ≡ Memory) }
     {
         let room = room(self.part().visit.safe(), token.seq);
-        if self.state == State::Recovery {
-            self.wraps(room)
-        } else {
-            take_packed(self.alloc, &mut self.queue, room)
+        match self.state {
+            State::Recovery => self.wraps(room),
+            State::Operational => take_packed(self.alloc, &mut self.queue, room),
+            State::Gather | State::Commit | State::Stopped => Ok(Vec::new(self.alloc)),
         }
     }
 
@@ -107,6 +110,7 @@ impl<A: Allocator + Copy> Machine<A> {
         ensures refused { IfErr result (λ fault. fault ≡ Memory) }
     {
         let others = self.others();
+        let me = self.me;
         let mut fresh = none();
         let mut number = token.seq;
         for payload in payloads {
@@ -115,7 +119,7 @@ impl<A: Allocator + Copy> Machine<A> {
             let message = Message {
                 ring: token.ring,
                 number,
-                sender: self.me,
+                sender: me,
                 payload,
             };
             send_message(outs, others, &message)?;

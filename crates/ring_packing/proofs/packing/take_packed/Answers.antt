@@ -1,0 +1,36 @@
+use Rattle.std.proofs.Common.{◌≡◌, ◌-◌, [], ap, sym, ◌∙◌}
+use Rattle.std.specs.Prelude.{option_to_list}
+use Rattle.ring_payload.specs.Packing.{packed}
+use Rattle.ring_packing.proofs.Taking.{taken-begun, left-begun, taken-more, left-more, taken-none, left-all, taken-all, left-end}
+use Rattle.ring_packing.proofs.packing.take_packed.Goals as goal
+
+pub loop-init : goal.loop-init
+loop-init g c =
+    record {
+      taken = taken-begun c.args.most c.in_ok-payloads.payloads.items c.args.queue.now.items c.in_ok-payloads.ensures.items;
+      left = left-begun c.args.most c.args.queue.now.items;
+    }
+
+pub returns-in_default-clause-items : goal.returns-in_default-clause-items
+returns-in_default-clause-items g c =
+    let none : [] ≡ packed 1 c.loop.queue.items = ap option_to_list (sym c.in_default.is) ∙ c.in_ok-payload.ensures.message in
+    taken-none (c.args.most - c.loop.counter) c.loop.payloads.items c.loop.queue.items _ none c.loop.invariant.taken
+
+pub returns-in_default-clause-queue : goal.returns-in_default-clause-queue
+returns-in_default-clause-queue g c =
+    let none : [] ≡ packed 1 c.loop.queue.items = ap option_to_list (sym c.in_default.is) ∙ c.in_ok-payload.ensures.message in
+    left-all (c.args.most - c.loop.counter) c.loop.queue.items c.take_message.new.queue.items _ none c.in_ok-payload.ensures.queue c.loop.invariant.left
+
+pub loop-preserved : goal.loop-preserved
+loop-preserved g c =
+    let first = ap option_to_list (sym c.in-Some.is) ∙ c.in_ok-payload.ensures.message in
+    rw c.in_ok-push.ensures.items (record {
+      taken = taken-more c.args.most c.loop.counter c.loop.payloads.items c.loop.queue.items c.take_message.new.queue.items _ c.in-Some.payload c.loop-test.true first c.in_ok-payload.ensures.queue c.loop.invariant.taken;
+      left = left-more c.args.most c.loop.counter c.loop.queue.items c.take_message.new.queue.items _ c.loop-test.true c.in_ok-payload.ensures.queue c.loop.invariant.left;
+    })
+
+pub returns-clause-items : goal.returns-clause-items
+returns-clause-items g c = taken-all c.args.most c.loop.counter c.loop.payloads.items c.loop.queue.items _ c.loop-test.false c.loop.invariant.taken
+
+pub returns-clause-queue : goal.returns-clause-queue
+returns-clause-queue g c = left-end c.args.most c.loop.counter c.loop.queue.items _ c.loop-test.false c.loop.invariant.left

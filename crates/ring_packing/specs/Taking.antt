@@ -1,0 +1,24 @@
+-- What a payload at the front of a queue is to a Pack: a Call of so many bytes, or no part of it.
+use Rattle.std.specs.Prelude.{ℕ, Option, Some, None}
+use Rattle.ring_payload.specs.declared.call.Call.{Call as OneCall}
+use Rattle.ring_payload.specs.declared.content.Payload.{Payload}
+use Rattle.ring_payload.specs.declared.content.Payload.TheVariants.{Call, Wrapped, End, Head, Part, Pack, Snap}
+use Rattle.ring_payload.specs.Calls.{call_bytes}
+
+abbrev pub call_of : {A : Type 0} → Payload A → Option (OneCall A)
+call_of (Call call) = Some call
+call_of (Wrapped old) = None
+call_of End = None
+call_of (Head head) = None
+call_of (Part part) = None
+call_of (Pack pack) = None
+call_of (Snap snap) = None
+
+abbrev pub bytes_of : {A : Type 0} → Payload A → Option ℕ
+bytes_of (Call call) = Some (call_bytes call)
+bytes_of (Wrapped old) = None
+bytes_of End = None
+bytes_of (Head head) = None
+bytes_of (Part part) = None
+bytes_of (Pack pack) = None
+bytes_of (Snap snap) = None

@@ -1,0 +1,105 @@
+-- What the parts of a step send and give, one after another, is what the step sends and gives.
+use Rattle.std.proofs.Common.{◌≡◌, Bool, true, false, List, [], ◌∷◌, ◌++◌, map, refl, ap, sym, ◌∙◌}
+use Rattle.std.specs.Prelude.{not, ◌==◌, ◌&&◌, OnOk, Ok, Err, Result}
+use Rattle.std.proofs.lemmas.List.{append-nil, map-append, append_assoc}
+use Rattle.std.proofs.lemmas.List.Elements.{filter-append}
+use Rattle.ring_base.specs.Processors.{nobody}
+use Rattle.ring_core.specs.declared.input.Input.{Input}
+use Rattle.ring_core.specs.declared.out.Out.{Out}
+use Rattle.ring_core.specs.declared.out.Out.TheVariants.{Send}
+use Rattle.ring_core.specs.State.{Core, Sent, Did}
+use Rattle.ring_core.specs.Joining.{proposes}
+use Rattle.ring_core.specs.Deciding.{Act, decide}
+use Rattle.ring_core.specs.Acting.{act, may_follow, silently, proposed_after, done_by, done}
+use Rattle.ring_core.specs.Giving.{addressed, sent, given, may_install, configured, settle, delivered}
+use Rattle.ring_core.specs.Stepping.{ring_step}
+
+-- what holds of a result that is a value
+
+pub ok_to : {T E X : Type 0} (r : Result T E) (a b d : X) → b ≡ d → OnOk r (a ≡ b) → OnOk r (a ≡ d)
+ok_to (Ok x) a b d e h = h ∙ e
+ok_to (Err x) a b d e h = tt
+
+pub ok_always : {T E P : Type 0} (r : Result T E) → P → OnOk r P
+ok_always (Ok x) p = p
+ok_always (Err x) p = tt
+
+pub sent-append : {A : Type 0} (a b : List (Sent A)) → sent (a ++ b) ≡ sent a ++ sent b
+sent-append {A} a b =
+    ap (map (λ (s : Sent A). Send s.to s.frame)) (filter-append (λ (s : Sent A). not (s.to == nobody)) a b)
+    ∙ map-append (λ (s : Sent A). Send s.to s.frame) (addressed a) (addressed b)
+
+-- A proposal stands after what was sent before
+
+after_core : {A : Type 0} (b : Bool) (did : Did A) → (proposed_after b (silently did.core)).core ≡ (proposed_after b did).core
+after_core true did = refl
+after_core false did = refl
+
+after_sends : {A : Type 0} (b : Bool) (did : Did A) → did.sends ++ (proposed_after b (silently did.core)).sends ≡ (proposed_after b did).sends
+after_sends true did = refl
+after_sends false did = append-nil did.sends
+
+pub done_core : {A : Type 0} (c mid : Core A) (a : Act A) → may_follow a ≡ true → mid ≡ (act c a).core → (proposed_after (proposes mid) (silently mid)).core ≡ (done c a).core
+done_core {A} c mid a f e =
+    ap (λ (m : Core A). (proposed_after (proposes m) (silently m)).core) e
+    ∙ after_core (proposes (act c a).core) (act c a)
+    ∙ sym (ap (λ b. (proposed_after (b && proposes (act c a).core) (act c a)).core) f)
+
+pub done_sends : {A : Type 0} (c mid : Core A) (a : Act A) (outs outs' outs'' : List (Out A)) → may_follow a ≡ true → mid ≡ (act c a).core → outs' ≡ outs ++ sent (act c a).sends → outs'' ≡ outs' ++ sent (proposed_after (proposes mid) (silently mid)).sends → outs'' ≡ outs ++ sent (done c a).sends
+done_sends {A} c mid a outs outs' outs'' f e p q =
+    let did = act c a in
+    let s : sent did.sends ++ sent (proposed_after (proposes mid) (silently mid)).sends ≡ sent (done c a).sends =
+    ap (λ (m : Core A). sent did.sends ++ sent (proposed_after (proposes m) (silently m)).sends) e
+    ∙ sym (sent-append did.sends (proposed_after (proposes did.core) (silently did.core)).sends)
+    ∙ ap sent (after_sends (proposes did.core) did)
+    ∙ sym (ap (λ b. sent (proposed_after (b && proposes did.core) did).sends) f) in
+    q
+    ∙ ap (λ (xs : List (Out A)). xs ++ sent (proposed_after (proposes mid) (silently mid)).sends) p
+    ∙ append_assoc outs (sent did.sends) (sent (proposed_after (proposes mid) (silently mid)).sends)
+    ∙ ap (λ (xs : List (Out A)). outs ++ xs) s
+
+-- and where none may follow there is none
+pub alone_core : {A : Type 0} (c : Core A) (a : Act A) → may_follow a ≡ false → (act c a).core ≡ (done c a).core
+alone_core c a f = sym (ap (λ b. (proposed_after (b && proposes (act c a).core) (act c a)).core) f)
+
+pub alone_sends : {A : Type 0} (c : Core A) (a : Act A) → may_follow a ≡ false → (act c a).sends ≡ (done c a).sends
+alone_sends c a f = sym (ap (λ b. (proposed_after (b && proposes (act c a).core) (act c a)).sends) f)
+
+-- What an installation gives stands after what was given before
+
+settled_core : {A : Type 0} (b : Bool) (c : Core A) (outs : List (Out A)) → (settle b c []).core ≡ (settle b c outs).core
+settled_core true c outs = refl
+settled_core false c outs = refl
+
+settled_outs : {A : Type 0} (b : Bool) (c : Core A) (outs : List (Out A)) → outs ++ (settle b c []).outs ≡ (settle b c outs).outs
+settled_outs true c outs = refl
+settled_outs false c outs = append-nil outs
+
+pub step_core : {A : Type 0} (c mid : Core A) (a : Act A) (input : Input A) → a ≡ decide c input → mid ≡ (done c a).core → (settle (may_install mid) mid []).core ≡ (ring_step c input).core
+unfolding ring_step
+step_core {A} c mid a input d e =
+    let did = done c a in
+    ap (λ (m : Core A). (settle (may_install m) m []).core) e
+    ∙ settled_core (may_install did.core) did.core (sent did.sends ++ given c did.core)
+    ∙ ap (λ (b : Act A). (delivered c (done c b)).core) d
+
+pub step_outs : {A : Type 0} (c mid : Core A) (a : Act A) (input : Input A) (outs : List (Out A)) → a ≡ decide c input → mid ≡ (done c a).core → outs ≡ sent (done c a).sends ++ given c mid → outs ++ (settle (may_install mid) mid []).outs ≡ (ring_step c input).outs
+unfolding ring_step
+step_outs {A} c mid a input outs d e o =
+    let did = done c a in
+    ap (λ (xs : List (Out A)). xs ++ (settle (may_install mid) mid []).outs) o
+    ∙ ap (λ (m : Core A). (sent did.sends ++ given c m) ++ (settle (may_install m) m []).outs) e
+    ∙ settled_outs (may_install did.core) did.core (sent did.sends ++ given c did.core)
+    ∙ ap (λ (b : Act A). (delivered c (done c b)).outs) d
+
+-- Once it was installed, no installation is due
+
+settled_by : {A : Type 0} (b : Bool) (c : Core A) (outs : List (Out A)) → may_install c ≡ b → may_install (settle b c outs).core ≡ false
+settled_by true c outs h = refl
+settled_by false c outs h = h
+
+pub step_settles : {A : Type 0} (c : Core A) (input : Input A) → may_install (ring_step c input).core ≡ false
+unfolding ring_step
+step_settles c input =
+    let did = done c (decide c input) in
+    settled_by (may_install did.core) did.core (sent did.sends ++ given c did.core) refl

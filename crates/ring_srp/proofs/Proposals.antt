@@ -1,0 +1,76 @@
+-- Who proposes a ring is one of its members, and the ring is newer than all that it took part in.
+use Rattle.std.proofs.Common.{◌≡◌, ℕ, suc, ◌<◌, ◌≤◌, Bool, true, false, List, [], ◌∷◌, length, Option, Some, None, refl, ap, ◌∙◌, sym, subst, arith}
+use Rattle.std.specs.Prelude.{◌&&◌, ◌==◌, nat_le, slice_index}
+use Rattle.std.proofs.lemmas.Bool.{cases_Bool, and_parts, eqb-true, cond-true, cond-false}
+use Rattle.ring_base.specs.Numbers.{max_number}
+use Rattle.ring_base.specs.Processors.{IsMember, elements, size, at, smallest}
+use Rattle.ring_base.specs.Elements.{at_member}
+use Rattle.ring_base.specs.declared.state.State.{State}
+use Rattle.ring_base.specs.declared.state.State.TheVariants.{Gather, Commit, Recovery, Operational, Stopped}
+use Rattle.ring_wire.specs.declared.commit.CommitToken.{CommitToken}
+use Rattle.ring_join.specs.Gathering.{Gathering, candidates, has_consensus, new_number, may_propose}
+use Rattle.ring_commit.specs.Rounds.{proposal}
+use Rattle.ring_core.specs.State.{Core, floor}
+use Rattle.ring_core.specs.Views.{own_entry}
+use Rattle.ring_core.specs.Joining.{proposes_in, proposes}
+use Rattle.ring_srp.specs.Proposing.{due}
+
+-- a list whose first number is no zero has one
+some_first : (xs : List ℕ) (n : ℕ) → 1 ≤ n → slice_index xs 0 ≡ n → 0 < length xs
+some_first [] n low e = absurd (omega arith)
+some_first (x ∷ xs) n low e = omega arith
+
+smallest_some : (set me : ℕ) → 1 ≤ me → smallest set ≡ me → 0 < size set
+smallest_some set me low e = some_first (elements set) me low e
+
+smallest_member : (set me : ℕ) → 1 ≤ me → smallest set ≡ me → IsMember set me
+smallest_member set me low e = subst (λ i. IsMember set i) e (at_member set 0 (smallest_some set me low e)).1
+
+is_smallest : (me floor : ℕ) (g : Gathering) → may_propose me floor g ≡ true → smallest (candidates g) ≡ me
+is_smallest me floor g h =
+    eqb-true (smallest (candidates g)) me (and_parts (has_consensus me g) (smallest (candidates g) == me) (and_parts _ (nat_le (new_number floor g) max_number) h).0).1
+
+may : {A : Type 0} (s : State) (c : Core A) → proposes_in s c ≡ true → may_propose c.me (floor c) c.gathering ≡ true
+may Gather c h = h
+may Commit c h = (let q : false ≡ true = h in cc)
+may Recovery c h = (let q : false ≡ true = h in cc)
+may Operational c h = (let q : false ≡ true = h in cc)
+may Stopped c h = (let q : false ≡ true = h in cc)
+
+abbrev proposed_by : {A : Type 0} → Core A → CommitToken
+proposed_by c = proposal c.me (new_number (floor c) c.gathering) (candidates c.gathering) (own_entry c)
+
+-- the token that is due
+pub record IsDue {A : Type 0} (c : Core A) (token : CommitToken) : Type 0 where
+  pub proposes : proposes c ≡ true
+  pub token_is : token ≡ proposal c.me (new_number (floor c) c.gathering) (candidates c.gathering) (own_entry c)
+  pub newer : floor c < token.ring.seq
+  pub member : IsMember token.members c.me
+  pub some : 0 < size token.members
+
+due_of : {A : Type 0} (c : Core A) → 1 ≤ c.me → proposes c ≡ true → IsDue c (proposed_by c)
+due_of c low h =
+    let e : smallest (candidates c.gathering) ≡ c.me = is_smallest c.me (floor c) c.gathering (may c.state c h) in
+    record {
+      proposes = h;
+      token_is = refl;
+      newer = omega arith;
+      member = smallest_member (candidates c.gathering) c.me low e;
+      some = smallest_some (candidates c.gathering) c.me low e;
+    }
+
+abbrev or_else : CommitToken → Option CommitToken → CommitToken
+or_else k None = k
+or_else k (Some token) = token
+
+pub is_due : {A : Type 0} (c : Core A) (token : CommitToken) → 1 ≤ c.me → Some token ≡ due c → IsDue c token
+is_due {A} c token low e = elim (cases_Bool (proposes c)) [
+  | inl h ↦ subst (λ (k : CommitToken). IsDue c k) (sym (ap (or_else token) (e ∙ cond-true (proposes c) (Some (proposed_by c)) None h))) (due_of c low h)
+  | inr h ↦ (let q : Some token ≡ None = e ∙ cond-false (proposes c) (Some (proposed_by c)) None h in cc)
+]
+
+pub not_due : {A : Type 0} (c : Core A) → None ≡ due c → proposes c ≡ false
+not_due c e = elim (cases_Bool (proposes c)) [
+  | inl h ↦ (let q : None ≡ Some (proposed_by c) = e ∙ cond-true (proposes c) (Some (proposed_by c)) None h in cc)
+  | inr h ↦ h
+]

@@ -1,0 +1,11 @@
+-- What a full commit token tells a core: the plan of those that come from its old ring, and how far that ring is safe.
+use Rattle.std.specs.Prelude.{ℕ}
+use Rattle.ring_wire.specs.declared.commit.CommitToken.{CommitToken}
+use Rattle.ring_recover.specs.Plans.{Plan, plan_of, safe}
+use Rattle.ring_core.specs.State.{Core}
+
+abbrev pub plan_at : {A : Type 0} → Core A → CommitToken → Plan
+plan_at c k = plan_of c.installed.ring c.running.members k.entries
+
+abbrev pub safe_at : {A : Type 0} → Core A → CommitToken → ℕ
+safe_at c k = safe (plan_at c k)
