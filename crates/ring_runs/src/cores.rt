@@ -88,6 +88,27 @@ impl<A: Allocator + Copy> Cores<A> {
         })
     }
 
+    /// All processors in the ring (1, 1), where the representative has visited the first token: what it sent is frame 1.
+    /// `Memory` where a growth was refused.
+    pub fn formed(alloc: A, fixed: Fixed) -> Result<Cores<A>, Fault>
+        ensures ok { IfOk result (λ world. world ≡ ring_formed fixed.count) }
+        ensures refused { IfErr result (λ fault. fault ≡ Memory) }
+    {
+        let mut cores = Vec::new(alloc);
+        for me in fixed.everybody().iter() {
+            cores.push(Srp::formed(alloc, fixed, me)?)?;
+        }
+        let first = start(&mut cores[0])?;
+        let past = past_of(&fixed);
+        Ok(Cores {
+            cores,
+            first,
+            outs: Vec::new(alloc),
+            places: Vec::new(alloc),
+            past,
+        })
+    }
+
     /// An event happens. One that names an unknown processor, or a frame not sent or not sent to it, changes
     /// nothing. `Memory` where a growth was refused: then the world is gone.
     pub fn happens(self, event: &RingEvent<A>) -> Result<Cores<A>, Fault>
@@ -162,6 +183,11 @@ impl<A: Allocator + Copy> Cores<A> {
         self
     }
 
+    /// All that was given, in order, each with the processor that gave it.
+    pub fn outs(&self) -> &[(Proc, Out<A>)] {
+        &self.outs
+    }
+
     /// All that was given.
     pub fn into_outs(self) -> Vec<(Proc, Out<A>), A>
         ensures { result.items ≡ self.now.outs }
@@ -188,4 +214,24 @@ fn note<A: Allocator + Copy>(
         outs.push((node, out))?;
     }
     Ok(())
+}
+
+/// The representative visits the first token of the ring that is formed from the start. Answers what it sent.
+fn start<A: Allocator + Copy>(core: &mut Srp<A>) -> Result<Option<Sent<A>>, Fault> {
+    let token = Token {
+        ring: RingId {
+            seq: 1,
+            rep: Proc::new(1),
+        },
+        number: 0,
+        seq: 0,
+        aru: 0,
+        aru_id: None,
+        requests: Requests::new(),
+    };
+    let mut outs = core.step(Input::Frame(Frame::Token(token)))?;
+    match outs.pop() {
+        Some(Out::Send(to, frame)) => Ok(Some(Sent { to, frame })),
+        _ => Ok(None),
+    }
 }

@@ -9,7 +9,8 @@ use std::alloc::{Allocator, Global};
 /// Ring cores from the opening of all in Gather, each alone.
 #[derive(Drop)]
 pub struct Rings<A: Allocator + Copy = Global> {
-    cores: Cores<A>,
+    /// None once it was run.
+    cores: Option<Cores<A>>,
     done: u64,
 }
 
@@ -17,6 +18,6 @@ pub struct Rings<A: Allocator + Copy = Global> {
 /// frame 1. Of the timeouts retransmit alone acts.
 #[derive(Drop)]
 pub struct FixedRing<A: Allocator + Copy = Global> {
-    cores: Cores<A>,
+    cores: Option<Cores<A>>,
     done: u64,
 }

@@ -355,7 +355,7 @@ module _ {A : Type 0} (c : Core A) (gather : Gatherer) (window : Windowed A) (vi
   -- what a payload wraps
   held_inner : (payload : Payload A) → c.state ≡ Recovery
       → IsMachine (with_held c (unwrapped c.installed.ring (mark c c.installed.ring) c.held payload ++ c.held)) gather
-        (record window { held = unwrapped c.installed.ring (mark c c.installed.ring) c.held payload ++ window.held }) visit recovery
+      (record window { held = unwrapped c.installed.ring (mark c c.installed.ring) c.held payload ++ window.held }) visit recovery
   held_inner (Call call) s = m
   held_inner End s = m
   held_inner (Head head) s = m

@@ -183,7 +183,7 @@ module _ {A : Type 0} (c : Core A) (window : Windowed A) (visit : TokenHistory A
       let none : (if nat_lt (mark c t.ring) n then found c.held t.ring n else None) ≡ None = sym (kept_by c window visit t n p a) ∙ k in
       let rest = filter_map (found c.held t.ring) (above_mark (mark c t.ring) (drop (i + 1) t.requests)) in
       let e : again c t (drop i t.requests) ≡ again c t (drop (i + 1) t.requests) =
-          ap (again c t) d ∙ ap (λ xs. sent (to_others c xs)) (found_first c t n (drop (i + 1) t.requests) ∙ ap (λ o. cons_option o rest) none) in
+      ap (again c t) d ∙ ap (λ xs. sent (to_others c xs)) (found_first c t n (drop (i + 1) t.requests) ∙ ap (λ o. cons_option o rest) none) in
       ap (λ s. outs ++ s) (sym e) ∙ r
 
   -- this message goes out
@@ -194,9 +194,9 @@ module _ {A : Type 0} (c : Core A) (window : Windowed A) (visit : TokenHistory A
       let some : (if nat_lt (mark c t.ring) n then found c.held t.ring n else None) ≡ Some x = sym (kept_by c window visit t n p a) ∙ k in
       let rest = filter_map (found c.held t.ring) (above_mark (mark c t.ring) (drop (i + 1) t.requests)) in
       let e : again c t (drop i t.requests) ≡ sent (to_all c x ∷ []) ++ again c t (drop (i + 1) t.requests) =
-          ap (again c t) d
-          ∙ ap (λ xs. sent (to_others c xs)) (found_first c t n (drop (i + 1) t.requests) ∙ ap (λ o. cons_option o rest) some)
-          ∙ sent-append (to_all c x ∷ []) (to_others c rest) in
+      ap (again c t) d
+      ∙ ap (λ xs. sent (to_others c xs)) (found_first c t n (drop (i + 1) t.requests) ∙ ap (λ o. cons_option o rest) some)
+      ∙ sent-append (to_all c x ∷ []) (to_others c rest) in
       ap (λ o. o ++ again c t (drop (i + 1) t.requests)) s
       ∙ append_assoc outs (sent (to_all c x ∷ [])) (again c t (drop (i + 1) t.requests))
       ∙ ap (λ s. outs ++ s) (sym e)
@@ -270,7 +270,7 @@ module _ {A : Type 0} (c : Core A) (t : Token) (ps : List (Payload A)) (p : Payl
       record d { held = x ∷ d.held } ≡ holding c t (ps ++ p ∷ [])
   holding_more x d e same f =
       let turned : reverse (news c t (ps ++ p ∷ [])) ≡ x ∷ reverse (news c t ps) =
-          ap reverse (news_more e ∙ ap (λ y. news c t ps ++ y ∷ []) (sym same)) ∙ reverse-append (news c t ps) (x ∷ []) in
+      ap reverse (news_more e ∙ ap (λ y. news c t ps ++ y ∷ []) (sym same)) ∙ reverse-append (news c t ps) (x ∷ []) in
       ap (λ (d : Core A). record d { held = x ∷ d.held }) f ∙ ap (λ xs. record c { held = xs ++ c.held }) (sym turned)
 
   -- one more goes out

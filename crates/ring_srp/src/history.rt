@@ -1,7 +1,7 @@
 //! The lists of facts of a core, as contracts see them, and how they grow.
 
 ghost use Rattle.std.specs.Prelude.{◌≡◌, [], ◌∷◌, ◌++◌};
-ghost use Rattle.ring_core.specs.State.{opening};
+ghost use Rattle.ring_core.specs.State.{formed, opening};
 ghost use Rattle.ring_srp.specs.Histories.{with_ring, with_visit, with_plan, with_install};
 ghost use Rattle.ring_srp.specs.Machines.{history_of};
 ghost use Rattle.ring_srp.specs.Taking.{inner_of};
@@ -39,6 +39,13 @@ fn told<T, F>(past: &Past<T>, from: &F) -> Past<T>
 /// The lists of facts that a processor opens with.
 pub(crate) fn opened<A: Allocator + Copy>(fixed: Fixed, me: Proc) -> Past<Story<A>>
     ensures { result.value ≡ history_of (opening fixed.count me) }
+{
+    past_of(&(&fixed, &me))
+}
+
+/// The lists of facts of a processor in the ring of all that is formed from the start.
+pub(crate) fn formed_of<A: Allocator + Copy>(fixed: Fixed, me: Proc) -> Past<Story<A>>
+    ensures { result.value ≡ history_of (formed fixed.count me) }
 {
     past_of(&(&fixed, &me))
 }

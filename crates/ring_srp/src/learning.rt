@@ -49,13 +49,7 @@ impl<A: Allocator + Copy> Machine<A> {
 
     /// Recovers by a full commit token from now on: by its plan, with a window of the running ring. What a member from
     /// the old ring reported safe there is safe.
-    fn recover(
-        &mut self,
-        token: &CommitToken,
-        plan: Plan<A>,
-        window: Window<A>,
-        shown: Sent<A>,
-    )
+    fn recover(&mut self, token: &CommitToken, plan: Plan<A>, window: Window<A>, shown: Sent<A>)
         requires allowed { LearnAllowed self.old token.now }
         requires plan { plan ≡ begun self.old.me (plan_at self.old token.now) }
         requires window { window ≡ opened self.old.running.ring }

@@ -3,9 +3,9 @@
 ghost use Rattle.std.specs.Prelude.{◌≡◌, ◌≤◌, true, [], IfOk, IfErr};
 ghost use Rattle.ring_base.specs.Processors.{IsMember};
 ghost use Rattle.ring_base.specs.declared.fault.Fault.TheVariants.{Memory};
-ghost use Rattle.ring_core.specs.State.{alone, opening};
+ghost use Rattle.ring_core.specs.State.{all_of, alone, formed, opening};
 
-use crate::history::{Story, none, opened};
+use crate::history::{Story, formed_of, none, opened};
 use crate::part::Part;
 use crate::recovering::Recovering;
 use crate::sent::Sent;
@@ -81,6 +81,31 @@ impl<A: Allocator + Copy> Machine<A> {
         })
     }
 
+    /// Processor `me` of the run, in the ring (1, 1) of all, with nothing held, or `Memory`.
+    pub(crate) fn formed(alloc: A, fixed: Fixed, me: Proc) -> Result<Machine<A>, Fault>
+        requires { me ≤ fixed.count }
+        ensures ok { IfOk result (λ machine. machine ≡ formed fixed.count me) }
+        ensures refused { IfErr result (λ fault. fault ≡ Memory) }
+    {
+        let all = all_of(fixed);
+        let kept = Part::new(alloc, me, all.ring)?;
+        Ok(Machine {
+            alloc,
+            me,
+            fixed,
+            state: State::Operational,
+            running: all,
+            installed: all,
+            gather: Gather::new(me, 0, fixed.everybody()),
+            shown: None,
+            queue: VecDeque::new(alloc),
+            kept,
+            recovery: None,
+            held: none(),
+            past: formed_of(fixed, me),
+        })
+    }
+
     /// The greatest ring number taken part in.
     pub(crate) fn floor(&self) -> u64
         ensures { result ≡ floor self.now }
@@ -121,5 +146,18 @@ fn alone(me: Proc) -> Configuration
     Configuration {
         ring: RingId { seq: 0, rep: me },
         members: ProcSet::only(me),
+    }
+}
+
+/// The ring (1, 1) of all processors of the run.
+fn all_of(fixed: Fixed) -> Configuration
+    ensures { result ≡ all_of fixed.count }
+{
+    Configuration {
+        ring: RingId {
+            seq: 1,
+            rep: Proc::new(1),
+        },
+        members: fixed.everybody(),
     }
 }

@@ -2,7 +2,7 @@
 
 ghost use Rattle.std.specs.Prelude.{◌≡◌, ◌≤◌, false, [], if◌then◌else◌, IfOk, IfErr, OnOk, OnErr};
 ghost use Rattle.ring_base.specs.declared.fault.Fault.TheVariants.{Memory, Stopped as StoppedFault};
-ghost use Rattle.ring_core.specs.State.{opening, halted};
+ghost use Rattle.ring_core.specs.State.{opening, formed, halted};
 ghost use Rattle.ring_core.specs.Stepping.{ring_step};
 ghost use Rattle.ring_core.specs.declared.input.Input.TheVariants.{Send as SendInput};
 ghost use Rattle.ring_srp.specs.Allowing.{InputFits};
@@ -59,6 +59,23 @@ impl<A: Allocator + Copy> Srp<A> {
         ensures refused { IfErr result (λ fault. fault ≡ Memory) }
     {
         let machine = Machine::new(alloc, fixed, me)?;
+        let last = machine.installed;
+        let ended = core_of(&machine);
+        Ok(Srp {
+            machine: Some(machine),
+            last,
+            ended,
+        })
+    }
+
+    /// Processor `me` of the run, in the ring (1, 1) of all processors, whose token it has not visited. `Memory` where a
+    /// growth was refused.
+    pub fn formed(alloc: A, fixed: Fixed, me: Proc) -> Result<Srp<A>, Fault>
+        requires { me ≤ fixed.count }
+        ensures ok { IfOk result (λ srp. srp ≡ formed fixed.count me) }
+        ensures refused { IfErr result (λ fault. fault ≡ Memory) }
+    {
+        let machine = Machine::formed(alloc, fixed, me)?;
         let last = machine.installed;
         let ended = core_of(&machine);
         Ok(Srp {

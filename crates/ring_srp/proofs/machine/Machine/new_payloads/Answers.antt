@@ -64,7 +64,7 @@ returns-in-Operational-clause-core g c =
     let queue = ap (λ (x : Core g.row.A.Denot). x.queue) c.self.view_is in
     on_ok_weaker c.take_packed.result
     (λ e.
-        let k : c.take_packed.new.queue.items ≡ queue_after now.state (room_at now t) now.queue =
-            e ∙ ap (λ q. left_behind c.room-room.result q) queue ∙ ap (λ n. left_behind n now.queue) r ∙ ap (λ s. queue_after s (room_at now t) now.queue) (sym state) in
-        λ i. record (c.self.view_is i) { queue = k i })
+    let k : c.take_packed.new.queue.items ≡ queue_after now.state (room_at now t) now.queue =
+    e ∙ ap (λ q. left_behind c.room-room.result q) queue ∙ ap (λ n. left_behind n now.queue) r ∙ ap (λ s. queue_after s (room_at now t) now.queue) (sym state) in
+    λ i. record (c.self.view_is i) { queue = k i })
     c.take_packed.ensures.queue

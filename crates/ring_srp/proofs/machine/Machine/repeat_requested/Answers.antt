@@ -26,7 +26,7 @@ loop-number-preserved g c =
           (let x = w.in-Some.message.now in
           let went = w.in_ok-send_message.ensures.ok ∙ ap (λ o. c.loop-number.outs.items ++ sent (record { to = o; frame = MessageFrame x } ∷ [])) c.others-others.ensures in
           rw w.outs-is (repeated_more now p.window p.visit t c.args.outs.now.items c.loop-number.outs.items i n x w.send_message.new.outs.items is c.requires.passes inside at
-              (sym c.get.ensures ∙ ap option_copied w.in-Some.is) went c.loop-number.invariant))
+          (sym c.get.ensures ∙ ap option_copied w.in-Some.is) went c.loop-number.invariant))
       | in_default w ↦ rw w.outs-is (repeated_less now p.window p.visit t c.args.outs.now.items c.loop-number.outs.items i n is c.requires.passes inside at
           (sym c.get.ensures ∙ ap option_copied w.in_default.is) c.loop-number.invariant)
     ]
