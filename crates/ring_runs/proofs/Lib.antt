@@ -1,0 +1,3 @@
+pub mod Silent
+pub mod Places
+pub mod Ties

@@ -2,8 +2,8 @@
 #![tactic(auto)]
 
 mod cores;
-mod rings;
+mod history;
+mod sent;
 
 pub use cores::Cores;
 pub use ring_moves::RingEvent;
-pub use rings::{FixedRing, Rings};
