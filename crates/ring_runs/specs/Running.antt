@@ -24,8 +24,15 @@ ran_from true count events = run (ring_formed count) events
 abbrev pub world_of : {A : Type 0} → Ran A → World A
 world_of r = ran_from r.formed r.count r.events
 
+-- nothing yet
+abbrev pub none_ran : {A : Type 0} → ℕ → Ran A
+none_ran n = record { count = n; formed = false; events = [] }
+
 abbrev pub more : {A : Type 0} → Ran A → RingEvent A → Ran A
 more r event = record r { events = r.events ++ event ∷ [] }
+
+abbrev pub all_ran : {A : Type 0} → Ran A → List (RingEvent A) → Ran A
+all_ran r events = record r { events = r.events ++ events }
 
 -- What the code keeps
 
@@ -85,3 +92,20 @@ pub record IsWorld {A : Type 0} (w : World A) (cores : List (Core A)) (first : O
   pub frames_are : w.frames ≡ opening_frames first ++ frames_of outs
   pub places_are : places ≡ places_from 0 outs
   pub fits : WorldFits w
+
+-- A run of all from Gather, before and after
+
+pub record Prepared : Type 0 where
+  pub count : ℕ
+  -- nothing was run yet
+  pub is_fresh : Bool
+  -- how many events of the run were done
+  pub done : ℕ
+
+abbrev pub is_there : {A : Type 0} → Option (Ran A) → Bool
+is_there None = false
+is_there (Some r) = true
+
+abbrev pub IsPrepared : {A : Type 0} → ℕ → Option (Ran A) → Type 0
+IsPrepared n None = Unit {0}
+IsPrepared n (Some r) = r ≡ none_ran n

@@ -2,14 +2,16 @@
 
 ghost use Rattle.std.specs.Prelude.{◌≡◌, [], ◌∷◌, ◌++◌, ◌≤◌, map, IfOk, IfErr, OnOk, option_copied};
 ghost use Rattle.ring_base.specs.declared.fault.Fault.TheVariants.{Memory};
+ghost use Rattle.ring_base.specs.Numbers.{numbers_from};
+ghost use Rattle.ring_core.specs.State.{opening};
 ghost use Rattle.ring_limits.specs.Limits.{EventFits, InputFits};
 ghost use Rattle.ring_moves.specs.declared.event.RingEvent.TheVariants.{Deliver, Stop};
 ghost use Rattle.ring_moves.specs.Worlds.{stepped, frame_at, happens};
-ghost use Rattle.ring_runs.specs.Running.{places_from, places_of, frame_for, world_of, more};
+ghost use Rattle.ring_runs.specs.Running.{places_from, places_of, frame_for, world_of, more, none_ran};
 
-use crate::history::{Story, more};
+use crate::history::{Story, more, unformed};
 use crate::sent::{Sent, copied, copied_payload, later_frame, numbered_frame};
-use ring_base::{Fault, Past, Proc};
+use ring_base::{Fault, Fixed, Past, Proc};
 use ring_core::{Input, Out};
 use ring_moves::RingEvent;
 use ring_srp::Srp;
@@ -42,6 +44,25 @@ impl<A: Allocator + Copy> Model for Cores<A> {
 }
 
 impl<A: Allocator + Copy> Cores<A> {
+    /// All processors in Gather, each alone. `Memory` where a growth was refused.
+    pub fn unformed(alloc: A, fixed: Fixed) -> Result<Cores<A>, Fault>
+        ensures ok { IfOk result (λ world. world ≡ none_ran fixed.count) }
+        ensures refused { IfErr result (λ fault. fault ≡ Memory) }
+    {
+        let count = fixed.count();
+        let cores = opened(alloc, fixed, count)?;
+        let outs = Vec::new(alloc);
+        let places = Vec::new(alloc);
+        let past = unformed(fixed);
+        Ok(Cores {
+            cores,
+            first: None,
+            outs,
+            places,
+            past,
+        })
+    }
+
     /// An event happens. One that names an unknown processor, or a frame not sent or not sent to it, changes
     /// nothing. `Memory` where a growth was refused: then the world is gone.
     pub fn happens(self, event: &RingEvent<A>) -> Result<Cores<A>, Fault>
@@ -146,6 +167,22 @@ impl<A: Allocator + Copy> Cores<A> {
     {
         self.outs
     }
+}
+
+/// The cores of all processors, in Gather, each alone.
+fn opened<A: Allocator + Copy>(alloc: A, fixed: Fixed, count: u8) -> Result<Vec<Srp<A>, A>, Fault>
+    requires count { count ≡ fixed.count }
+    requires few { count ≤ 16 }
+    ensures ok { IfOk result (λ cores. cores.items ≡ map (opening fixed.count) (numbers_from 1 count)) }
+    ensures refused { IfErr result (λ fault. fault ≡ Memory) }
+{
+    let mut cores = Vec::new(alloc);
+    for before in 0..count {
+        let me = Proc::new(before + 1);
+        let core = Srp::new(alloc, fixed, me)?;
+        cores.push(core)?;
+    }
+    Ok(cores)
 }
 
 /// Notes what a processor gave, and where the frames stand among it.

@@ -1,7 +1,7 @@
 //! What happened to a world, as contracts see it.
 
 ghost use Rattle.std.specs.Prelude.{◌≡◌, true, false, []};
-ghost use Rattle.ring_runs.specs.Running.{more};
+ghost use Rattle.ring_runs.specs.Running.{more, none_ran};
 
 use ring_base::{Fixed, Past, past_of};
 use ring_moves::RingEvent;
@@ -32,7 +32,7 @@ fn told<T, F>(past: &Past<T>, from: &F) -> Past<T>
 
 /// All in Gather, each alone.
 pub(crate) fn unformed<A: Allocator + Copy>(fixed: Fixed) -> Past<Story<A>>
-    ensures { result.value ≡ record { count = fixed.count; formed = false; events = [] } }
+    ensures { result.value ≡ none_ran fixed.count }
 {
     past_of(&fixed)
 }

@@ -3,7 +3,9 @@
 
 mod cores;
 mod history;
+mod rings;
 mod sent;
 
 pub use cores::Cores;
 pub use ring_moves::RingEvent;
+pub use rings::Rings;

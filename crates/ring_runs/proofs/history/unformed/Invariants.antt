@@ -1,6 +1,6 @@
 -- What the value is now.
-use Rattle.std.proofs.Common.{false, []}
+use Rattle.ring_runs.specs.Running.{none_ran}
 use Rattle.ring_runs.proofs.history.unformed.Given as goal
 
 abbrev pub ghost-past_of : goal.ghost-past_of
-ghost-past_of g a = record { count = a.from.now.count; formed = false; events = [] }
+ghost-past_of g a = none_ran a.from.now.count
