@@ -6,7 +6,7 @@ use ring_base::{Fixed, Kind, Proc, ProcSet};
 use ring_core::Out;
 use ring_payload::Payload;
 use ring_runs::{Cores, RingEvent};
-use ring_wire::Wire;
+use ring_wire::{Frame, Wire};
 use std::alloc::Global;
 use std::io;
 
@@ -79,14 +79,14 @@ fn print(rt: &HostRuntime, node: Proc, out: &Out<Global>) -> io::Result<()> {
             members(rt, *to)?;
             println!(rt; " {}", hexed(frame, rt))
         }
-        Out::Agreed(ring, number, message) => println!(rt; "> {node} agreed {}.{} {number} {}", ring.seq, ring.rep.number(), hexed(message, rt)),
+        Out::Agreed(ring, number, message) => println!(rt; "> {node} agreed {}.{} {number} {}", ring.seq, ring.rep.number(), hexed(&Frame::Message(message.clone().unwrap_or_else(|_| unreachable!())), rt)),
         Out::Safe(ring, upto) => println!(rt; "> {node} safe {}.{} {upto}", ring.seq, ring.rep.number()),
         Out::Trans(old, new, set) => {
             print!(rt; "> {node} trans {}.{} {}.{} ", old.seq, old.rep.number(), new.seq, new.rep.number())?;
             members(rt, *set)?;
             println!(rt; "")
         }
-        Out::Rest(ring, number, message) => println!(rt; "> {node} rest {}.{} {number} {}", ring.seq, ring.rep.number(), hexed(message, rt)),
+        Out::Rest(ring, number, message) => println!(rt; "> {node} rest {}.{} {number} {}", ring.seq, ring.rep.number(), hexed(&Frame::Message(message.clone().unwrap_or_else(|_| unreachable!())), rt)),
         Out::Regular(ring, set) => {
             print!(rt; "> {node} regular {}.{} ", ring.seq, ring.rep.number())?;
             members(rt, *set)?;
