@@ -117,7 +117,7 @@ module _ {A : Type 0} (w : World A) (f : WorldFits w) where
   put_fits : (i : ℕ) (c : Core A) → CoreFits c → (j : ℕ) → 1 ≤ j → j ≤ w.total → CoreFits (put w.cores i c j)
   put_fits i c h j low high = cond_both (j == i) c (w.cores j) CoreFits (λ e. h) (λ e. f.cores j low high)
 
-  stepped_fits : (b : Bool) (i : ℕ) (input : Input A) → (b ≡ true → is_node w i ≡ true) → InputFits input → WorldFits (stepped_if b w i input)
+  pub stepped_fits : (b : Bool) (i : ℕ) (input : Input A) → (b ≡ true → is_node w i ≡ true) → InputFits input → WorldFits (stepped_if b w i input)
   stepped_fits false i input n h = f
   stepped_fits true i input n h =
       let p = and_parts (nat_le 1 i) (nat_le i w.total) (n refl) in
@@ -128,7 +128,7 @@ module _ {A : Type 0} (w : World A) (f : WorldFits w) where
         frames = each-append (λ (g : Carried A). FrameFits g.frame) w.frames (filter_map (carried_by i) outs) f.frames (all_carried i outs s.outs);
       }
 
-  stopped_fits : (b : Bool) (i : ℕ) → (b ≡ true → is_node w i ≡ true) → WorldFits (stopped_if b w i)
+  pub stopped_fits : (b : Bool) (i : ℕ) → (b ≡ true → is_node w i ≡ true) → WorldFits (stopped_if b w i)
   stopped_fits false i n = f
   stopped_fits true i n =
       let p = and_parts (nat_le 1 i) (nat_le i w.total) (n refl) in
@@ -138,18 +138,18 @@ module _ {A : Type 0} (w : World A) (f : WorldFits w) where
   frame_fits false i frame h = f
   frame_fits true i frame h = stepped_fits (is_node w i) i (FrameInput frame) (λ e. e) h
 
-  handed_fits : (i m : ℕ) (o : Option (Carried A)) → frame_at w.frames m ≡ o → WorldFits (handed w i o)
+  pub handed_fits : (i m : ℕ) (o : Option (Carried A)) → frame_at w.frames m ≡ o → WorldFits (handed w i o)
   handed_fits i m None e = f
   handed_fits i zero (Some g) e = absurd (let x : ⊥ = cc in x)
   handed_fits i (suc m) (Some g) e = frame_fits (has g.to i) i g.frame (each-get (λ (g : Carried A). FrameFits g.frame) w.frames m g f.frames e)
 
-  event_fits : (e : RingEvent A) → EventFits e → WorldFits (happens w e)
+  pub event_fits : (e : RingEvent A) → EventFits e → WorldFits (happens w e)
   event_fits (Send i payload) h = stepped_fits (is_node w i) i (SendInput payload) (λ e. e) h
   event_fits (Deliver i m) h = handed_fits i m (frame_at w.frames m) refl
   event_fits (Timeout i kind) h = stepped_fits (is_node w i) i (TimeInput kind) (λ e. e) tt
   event_fits (Stop i) h = stopped_fits (is_node w i) i (λ e. e)
 
-run_fits : {A : Type 0} → (w : World A) (events : List (RingEvent A)) → Each EventFits events → WorldFits w → WorldFits (run w events)
+pub run_fits : {A : Type 0} → (w : World A) (events : List (RingEvent A)) → Each EventFits events → WorldFits w → WorldFits (run w events)
 run_fits w [] h f = f
 run_fits w (e ∷ events) h f = run_fits (happens w e) events h.1 (event_fits w f e h.0)
 
@@ -180,7 +180,7 @@ start_visits {A} n =
 start_goes : (n : ℕ) → MayGo (first_of n)
 start_goes n = first_goes (all_of n).ring (record { seq = omega arith; rep = (omega arith, omega arith) }) (omega arith)
 
-start_fits : {A : Type 0} → (n : ℕ) → 1 ≤ n → n ≤ 16 → WorldFits {A = A} (ring_formed n)
+pub start_fits : {A : Type 0} → (n : ℕ) → 1 ≤ n → n ≤ 16 → WorldFits {A = A} (ring_formed n)
 start_fits {A} n low most =
     let c : Core A = formed n 1 in
     let d = act c (Visit (first_of n)) in

@@ -53,7 +53,7 @@ settled_nothing false c outs h e = record { core = refl; outs = e }
 
 -- A payload is dropped
 
-ignored : {A : Type 0} (c : Core A) → may_install c ≡ false → GaveNothing (delivered c (done c Ignore)) c
+pub ignored : {A : Type 0} (c : Core A) → may_install c ≡ false → GaveNothing (delivered c (done c Ignore)) c
 ignored c h = settled_nothing (may_install c) c (given c c) h (given_nothing c)
 
 drops : {A : Type 0} (s : State) (payload : Payload A) → (s ≡ Operational → is_queued payload ≡ false) → decide_payload s payload ≡ Ignore

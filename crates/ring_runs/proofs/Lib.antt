@@ -1,0 +1,4 @@
+pub mod Silent
+pub mod Places
+pub mod Ties
+pub mod Openings

@@ -1,0 +1,26 @@
+-- A frame that was sent to the processor fits, and is what happens.
+use Rattle.std.proofs.Common.{◌≡◌, Some, None, option_copied, ap, sym, subst, ◌∙◌}
+use Rattle.ring_wire.specs.Frames.{FrameFits}
+use Rattle.ring_core.specs.declared.input.Input.TheVariants.{Frame as FrameInput}
+use Rattle.ring_limits.specs.Limits.{WorldFits}
+use Rattle.ring_moves.specs.Worlds.{happens, stepped, frame_at}
+use Rattle.ring_runs.specs.Running.{Ran, world_of}
+use Rattle.ring_runs.proofs.Ties.{hands, handed_is, frame_fits}
+use Rattle.ring_runs.proofs.cores.Cores.deliver.Goals as goal
+
+pub idle-requires : goal.idle-requires
+idle-requires g c =
+    let w = world_of c.args.self in
+    ap (happens w) c.requires ∙ handed_is w c.args.node (frame_at w.frames c.args.number) ∙ ap (hands w c.args.node) (sym c.frame_to.ensures ∙ ap option_copied c.in-None.is)
+
+pub step-requires-clause-fits : goal.step-requires-clause-fits
+step-requires-clause-fits g c =
+    let w = world_of c.args.self in
+    let fits = subst (λ (r : Ran g.row.A.Denot). WorldFits (world_of r)) c.self.view_is c.self.invariant.fits in
+    subst FrameFits (sym c.in_ok-frame-in-Some.ensures.ok) (frame_fits w c.args.node c.args.number c.in-Some.frame.now fits (sym c.frame_to.ensures ∙ ap option_copied c.in-Some.is))
+
+pub step-requires-clause-same : goal.step-requires-clause-same
+step-requires-clause-same g c =
+    let w = world_of c.args.self in
+    ap (happens w) c.requires ∙ handed_is w c.args.node (frame_at w.frames c.args.number) ∙ ap (hands w c.args.node) (sym c.frame_to.ensures ∙ ap option_copied c.in-Some.is)
+    ∙ ap (λ frame. stepped w c.args.node (FrameInput frame)) (sym c.in_ok-frame-in-Some.ensures.ok)

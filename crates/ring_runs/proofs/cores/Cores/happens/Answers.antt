@@ -1,0 +1,16 @@
+-- What is handed over is a copy of what the event has.
+use Rattle.std.proofs.Common.{◌≡◌, ap, sym, subst, ◌∙◌}
+use Rattle.ring_payload.specs.Payloads.{PayloadFits}
+use Rattle.ring_core.specs.declared.input.Input.TheVariants.{Send as SendInput}
+use Rattle.ring_limits.specs.Limits.{EventFits}
+use Rattle.ring_moves.specs.Worlds.{happens, stepped}
+use Rattle.ring_runs.specs.Running.{world_of}
+use Rattle.ring_runs.proofs.cores.Cores.happens.Goals as goal
+
+pub step-requires-clause-fits : goal.step-requires-clause-fits
+step-requires-clause-fits g c = subst PayloadFits (sym c.in_ok-payload-in-Send.ensures.ok) (subst EventFits c.in-Send.is c.requires)
+
+pub step-requires-clause-same : goal.step-requires-clause-same
+step-requires-clause-same g c =
+    let w = world_of c.args.self in
+    ap (happens w) c.in-Send.is ∙ ap (λ p. stepped w c.in-Send.node (SendInput p)) (sym c.in_ok-payload-in-Send.ensures.ok)

@@ -1,0 +1,13 @@
+-- What is kept tells the same world.
+use Rattle.std.proofs.Common.{◌≡◌, sym, subst}
+use Rattle.ring_moves.specs.Worlds.{happens}
+use Rattle.ring_runs.specs.Running.{Ran, world_of}
+use Rattle.ring_runs.proofs.Ties.{tells}
+use Rattle.ring_runs.proofs.cores.Cores.idle.Goals as goal
+
+pub invariant_of-self : goal.invariant_of-self
+invariant_of-self g c =
+    let k = c.self.inside in
+    let e = c.args.event.now in
+    let same = subst (λ (r : Ran g.row.A.Denot). happens (world_of r) e ≡ world_of r) (sym c.self.view_is) c.requires in
+    tells k.past.value c.more.result.value e (world_of k.past.value) k.cores.items k.first k.outs.items k.places.items c.more.ensures same c.self.invariant

@@ -1,0 +1,52 @@
+//! What happened to a world, as contracts see it.
+
+ghost use Rattle.std.specs.Prelude.{◌≡◌, true, false, []};
+ghost use Rattle.ring_runs.specs.Running.{more, none_ran};
+
+use ring_base::{Fixed, Past, past_of};
+use ring_moves::RingEvent;
+use std::alloc::{Allocator, Global};
+use std::marker::{Model, PhantomData};
+
+/// What happened to a world of ring cores. No value of it is made.
+pub(crate) struct Story<A: Allocator + Copy = Global> {
+    allocator: PhantomData<A>,
+}
+
+impl<A: Allocator + Copy> Model for Story<A> {
+    ghost use Rattle.std.specs.Prelude.{false, []};
+    ghost use Rattle.ring_runs.specs.Running.{Ran};
+
+    ghost Value = { Ran A };
+
+    ghost view = { λ _. record { count = 1; formed = false; events = [] } };
+}
+
+/// A value made of another, and of what is lent, by a step that the caller names.
+fn told<T, F>(past: &Past<T>, from: &F) -> Past<T>
+    ghost step: { T → F → T }
+    ensures { result.value ≡ step past.now.value from.now }
+{
+    past_of(&(past, from))
+}
+
+/// All in Gather, each alone.
+pub(crate) fn unformed<A: Allocator + Copy>(fixed: Fixed) -> Past<Story<A>>
+    ensures { result.value ≡ none_ran fixed.count }
+{
+    past_of(&fixed)
+}
+
+/// All in one ring, whose representative has visited the first token.
+pub(crate) fn ring_formed<A: Allocator + Copy>(fixed: Fixed) -> Past<Story<A>>
+    ensures { result.value ≡ record { count = fixed.count; formed = true; events = [] } }
+{
+    past_of(&fixed)
+}
+
+/// An event happened.
+pub(crate) fn more<A: Allocator + Copy>(past: &Past<Story<A>>, event: &RingEvent<A>) -> Past<Story<A>>
+    ensures { result.value ≡ more past.now.value event.now }
+{
+    told(past, event)
+}

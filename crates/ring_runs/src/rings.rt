@@ -1,0 +1,100 @@
+//! Ring cores that are run from the opening of all in Gather.
+
+ghost use Rattle.std.specs.Prelude.{◌≡◌, ℕ, ◌<◌, true, length, IfOk, IfErr, OnOk, OnErr};
+ghost use Rattle.std.specs.List.{AllByRecursion};
+ghost use Rattle.ring_base.specs.declared.fault.Fault.TheVariants.{Memory};
+ghost use Rattle.ring_chain.specs.Told.{NameSameMembers};
+ghost use Rattle.ring_limits.specs.Limits.{EventFits};
+ghost use Rattle.ring_moves.specs.Worlds.{run, unformed};
+ghost use Rattle.ring_moves.specs.CommitRounds.{CommitRounds};
+ghost use Rattle.ring_runs.specs.Running.{world_of, all_ran};
+ghost use Rattle.ring_views.specs.Synchrony.{IsVirtuallySynchronous};
+
+use crate::cores::Cores;
+use ring_base::{Fault, Fixed, Proc};
+use ring_core::Out;
+use ring_moves::RingEvent;
+use std::alloc::{Allocator, Global};
+use std::marker::Model;
+
+/// Ring cores of all processors, in Gather, each alone: to be run once.
+#[derive(Drop)]
+pub struct Rings<A: Allocator + Copy = Global> {
+    fixed: Fixed,
+    /// None once it was run.
+    cores: Option<Cores<A>>,
+    done: u64,
+}
+
+impl<A: Allocator + Copy> Model for Rings<A> {
+    ghost use Rattle.ring_runs.specs.Running.{Prepared, IsPrepared, is_there};
+
+    ghost Value = { Prepared };
+
+    ghost view = { λ r. record { count = r.fixed.count; is_fresh = is_there r.cores; done = r.done } };
+
+    ghost invariant = { λ r. IsPrepared r.fixed.count r.cores };
+}
+
+impl<A: Allocator + Copy> Rings<A> {
+    /// All processors in Gather, each alone. `Memory` where a growth was refused.
+    pub fn new(alloc: A, fixed: Fixed) -> Result<Rings<A>, Fault>
+        ensures ok { IfOk result (λ rings. rings ≡ record { count = fixed.count; is_fresh = true; done = 0 }) }
+        ensures refused { IfErr result (λ fault. fault ≡ Memory) }
+    {
+        let cores = Cores::unformed(alloc, fixed)?;
+        Ok(Rings {
+            fixed,
+            cores: Some(cores),
+            done: 0,
+        })
+    }
+
+    /// Runs the events, once. Answers all that was given, in order, each with the processor that gave it. `Memory` where a
+    /// growth was refused: then `done` tells how many events were done.
+    pub fn run(&mut self, events: &[RingEvent<A>]) -> Result<Vec<(Proc, Out<A>), A>, Fault>
+        requires fresh { self.old.is_fresh ≡ true }
+        requires fit { AllByRecursion EventFits events.now }
+        ensures outs { IfOk result (λ outs. outs.items ≡ (run (unformed self.old.count) events.now).outs) }
+        ensures synchronous { IsVirtuallySynchronous (run (unformed self.old.count) events.now) }
+        ensures members { NameSameMembers (run (unformed self.old.count) events.now).cores }
+        ensures rounds { CommitRounds (unformed self.old.count) events.now }
+        ensures refused { IfErr result (λ fault. fault ≡ Memory) }
+    {
+        match self.cores.take() {
+            Some(cores) => {
+                self.done = 0;
+                run_all(cores, events, &mut self.done)
+            }
+            None => Err(Fault::Memory),
+        }
+    }
+
+    /// How many events of the run were done.
+    pub fn done(&self) -> u64
+        ensures { result ≡ self.now.done }
+    {
+        self.done
+    }
+}
+
+/// Runs the events.
+fn run_all<A: Allocator + Copy>(
+    cores: Cores<A>,
+    events: &[RingEvent<A>],
+    done: &mut u64,
+) -> Result<Vec<(Proc, Out<A>), A>, Fault>
+    requires fit { AllByRecursion EventFits events.now }
+    requires fresh { done.old ≡ 0 }
+    ensures outs { IfOk result (λ outs. outs.items ≡ (world_of (all_ran cores events.now)).outs) }
+    ensures all { OnOk result (done.new ≡ length events.now) }
+    ensures some { OnErr result (done.new < length events.now) }
+    ensures refused { IfErr result (λ fault. fault ≡ Memory) }
+{
+    let mut world = cores;
+    for event in events {
+        world = world.happens(event)?;
+        *done += 1;
+    }
+    Ok(world.into_outs())
+}
