@@ -91,7 +91,7 @@ module _ {A : Type 0} (w : World A) (cores : List (Core A)) (first : Option (Sen
             ap (λ fs. fs ++ filter_map (carried_by i) s.outs) h.frames_are
             ∙ append_assoc (opening_frames first) (frames_of outs) (filter_map (carried_by i) s.outs)
             ∙ ap (λ fs. opening_frames first ++ fs)
-              (ap (λ fs. frames_of outs ++ fs) (sym (frames_by i s.outs)) ∙ sym (filter_map-append carried_of outs (map (λ o. (i, o)) s.outs)) ∙ ap frames_of (sym o));
+            (ap (λ fs. frames_of outs ++ fs) (sym (frames_by i s.outs)) ∙ sym (filter_map-append carried_of outs (map (λ o. (i, o)) s.outs)) ∙ ap frames_of (sym o));
         places_are = p;
         fits = stepped_fits w h.fits true i input (λ e. node) fits;
       }

@@ -221,7 +221,11 @@ fn note_one<A: Allocator + Copy>(
 }
 
 /// Notes the place of a frame that is sent.
-fn note_place<A: Allocator + Copy>(places: &mut Vec<usize, A>, at: usize, out: &Out<A>) -> Result<(), Fault>
+fn note_place<A: Allocator + Copy>(
+    places: &mut Vec<usize, A>,
+    at: usize,
+    out: &Out<A>,
+) -> Result<(), Fault>
     ensures ok { OnOk result (places.new.items ≡ places.old.items ++ places_of at out.now) }
     ensures refused { IfErr result (λ fault. fault ≡ Memory) }
 {

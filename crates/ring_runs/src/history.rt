@@ -45,7 +45,10 @@ pub(crate) fn ring_formed<A: Allocator + Copy>(fixed: Fixed) -> Past<Story<A>>
 }
 
 /// An event happened.
-pub(crate) fn more<A: Allocator + Copy>(past: &Past<Story<A>>, event: &RingEvent<A>) -> Past<Story<A>>
+pub(crate) fn more<A: Allocator + Copy>(
+    past: &Past<Story<A>>,
+    event: &RingEvent<A>,
+) -> Past<Story<A>>
     ensures { result.value ≡ more past.now.value event.now }
 {
     told(past, event)

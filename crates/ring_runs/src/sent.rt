@@ -41,11 +41,7 @@ impl<A: Allocator + Copy> Sent<A> {
 fn addressed<A: Allocator + Copy>(node: Proc, to: ProcSet, frame: &Frame<A>) -> Option<&Frame<A>>
     ensures { option_copied result ≡ (if has to node then Some frame.now else None) }
 {
-    if to.contains(node) {
-        Some(frame)
-    } else {
-        None
-    }
+    if to.contains(node) { Some(frame) } else { None }
 }
 
 /// The frame that is sent, if to this processor.
@@ -59,7 +55,11 @@ fn frame_in<A: Allocator + Copy>(node: Proc, out: &Out<A>) -> Option<&Frame<A>>
 }
 
 /// The frame at this place among what was given, if it is sent to this processor.
-fn standing_frame<A: Allocator + Copy>(outs: &[(Proc, Out<A>)], place: usize, node: Proc) -> Option<&Frame<A>>
+fn standing_frame<A: Allocator + Copy>(
+    outs: &[(Proc, Out<A>)],
+    place: usize,
+    node: Proc,
+) -> Option<&Frame<A>>
     ensures { option_copied result ≡ standing_in node (slice_get outs.now place) }
 {
     match outs.get(place) {

@@ -9,11 +9,10 @@ use Rattle.ring_runs.proofs.cores.note.Goals as goal
 pub loop-out-preserved : goal.loop-out-preserved
 loop-out-preserved g c =
     let before = c.loop-out.yielded in
-    let done = map-append (λ (o : Out g.row.A.Denot). (c.args.node, o)) before (c.in-Some.out ∷ []) in
-    (
+    let done = map-append (λ (o : Out g.row.A.Denot). (c.args.node, o)) before (c.in-Some.out ∷ []) in (
       c.in_ok-note_one.ensures.outs ∙ ap (λ os. os ++ (c.args.node, c.in-Some.out) ∷ []) c.loop-out.invariant.0
-      ∙ append_assoc c.args.outs.now.items (map (λ (o : Out g.row.A.Denot). (c.args.node, o)) before) ((c.args.node, c.in-Some.out) ∷ [])
-      ∙ ap (λ os. c.args.outs.now.items ++ os) (sym done),
+          ∙ append_assoc c.args.outs.now.items (map (λ (o : Out g.row.A.Denot). (c.args.node, o)) before) ((c.args.node, c.in-Some.out) ∷ [])
+          ∙ ap (λ os. c.args.outs.now.items ++ os) (sym done),
       c.in_ok-note_one.ensures.places,
     )
 

@@ -1,5 +1,6 @@
 -- One processor more is opened.
-use Rattle.std.proofs.Common.{◌∙◌}
+use Rattle.std.proofs.Common.{◌≡◌, map, ap, ◌∙◌, arith}
+use Rattle.ring_base.specs.Numbers.{numbers_from}
 use Rattle.ring_core.specs.State.{opening}
 use Rattle.ring_runs.proofs.Openings.{opened_more}
 use Rattle.ring_runs.proofs.cores.opened.Goals as goal
@@ -8,3 +9,8 @@ pub loop-before-preserved : goal.loop-before-preserved
 loop-before-preserved g c =
     opened_more (opening c.args.fixed.count) c.loop-before.cores.items c.push.new.self.items c.loop-before.before c.in_ok-core.core c.new-me.result
     c.loop-before.invariant c.in_ok-push.ensures.items c.in_ok-core.ensures.ok c.new-me.ensures
+
+pub returns-clause-ok : goal.returns-clause-ok
+returns-clause-ok g c =
+    let e : c.loop-before.before ≡ c.args.count = omega (arith, c.loop-before-test.false, c.loop-before.auto.before-end) in
+    c.loop-before.invariant ∙ ap (λ n. map (opening {A = g.row.A.Denot} c.args.fixed.count) (numbers_from 1 n)) e

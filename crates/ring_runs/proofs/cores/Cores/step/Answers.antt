@@ -11,8 +11,8 @@ idle-requires g c =
     let t : length c.self.inside.cores.items ≡ (world_of c.args.self).total = c.self.invariant.many ∙ ap (λ (r : Ran g.row.A.Denot). (world_of r).total) c.self.view_is in
     let k = c.self.inside.cores.ok.0 in
     c.requires.same ∙ stepped_not (world_of c.args.self) c.args.node c.args.input
-      (omega (arith, c.number.ensures.value, c.number.ensures.in_range.0))
-      (omega (arith, t, k, c.len.ensures, c.from-place.ensures, c.number.ensures.value, c.if-place-len.true))
+    (omega (arith, c.number.ensures.value, c.number.ensures.in_range.0))
+    (omega (arith, t, k, c.len.ensures, c.from-place.ensures, c.number.ensures.value, c.if-place-len.true))
 
 pub step-requires : goal.step-requires
 step-requires g c = record { fits = input_fits c.args.input c.requires.fits }

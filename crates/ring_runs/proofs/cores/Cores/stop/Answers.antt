@@ -11,8 +11,8 @@ idle-requires g c =
     let t : length c.self.inside.cores.items ≡ w.total = c.self.invariant.many ∙ ap (λ (r : Ran g.row.A.Denot). (world_of r).total) c.self.view_is in
     let k = c.self.inside.cores.ok.0 in
     ap (happens w) c.requires ∙ stopped_not w c.args.node
-      (omega (arith, c.number.ensures.value, c.number.ensures.in_range.0))
-      (omega (arith, t, k, c.len.ensures, c.from-place.ensures, c.number.ensures.value, c.if-place-len.true))
+    (omega (arith, c.number.ensures.value, c.number.ensures.in_range.0))
+    (omega (arith, t, k, c.len.ensures, c.from-place.ensures, c.number.ensures.value, c.if-place-len.true))
 
 pub invariant_of-self : goal.invariant_of-self
 invariant_of-self g c =
