@@ -16,7 +16,7 @@ use Rattle.ring_token.specs.Turns.{Turn}
 use Rattle.ring_token.specs.Visits.{numbered}
 use Rattle.ring_token.specs.Rounds.{VisitBy, arrived, AreVisits}
 use Rattle.ring_moves.specs.Facts.{IsIn, SomeIs}
-use Rattle.ring_moves.proofs.Lists.{in-left, in-right, in-parts, in-filtered, each-in, each-filter}
+use Rattle.ring_moves.proofs.Lists.{in-left, in-right, in-parts, in-filtered, each-in, each-filter, each-take}
 use Rattle.ring_log.specs.Lives.{upto}
 use Rattle.ring_chain.specs.Words.{picked}
 use Rattle.ring_order.specs.Facts.{said_by}
@@ -125,7 +125,8 @@ all_above : {A : Type 0} → (k : ℕ) (xs : List (Message A)) → AreFrom k xs 
 all_above k [] h = tt
 all_above {A} k (x ∷ xs) h =
     let e : x.number ≡ suc k = h.0 in
-    (omega (arith, e), each-weaker (λ (y : Message A). suc k < y.number) (λ (y : Message A). k < y.number) (λ y l. omega (arith, l)) xs (all_above (suc k) xs h.1))
+    let rest = each-weaker (λ (y : Message A). suc k < y.number) (λ (y : Message A). k < y.number) (λ y l. omega (arith, l)) xs (all_above (suc k) xs h.1) in
+    (omega (arith, e), rest)
 
 pub users_ascend : {A : Type 0} → (k : ℕ) (xs : List (Message A)) → AreFrom k xs → Ascends (users_in xs)
 users_ascend k [] h = tt
@@ -192,17 +193,13 @@ upto_none : {A : Type 0} → (k : ℕ) (xs : List (Message A)) → Each (λ (x :
 upto_none k [] h = refl
 upto_none k (x ∷ xs) h = cond-false (nat_le x.number k) (x ∷ upto k xs) [] (lt-leb x.number k h.0)
 
-take_above : {A : Type 0} → (k n : ℕ) (xs : List (Message A)) → AreFrom k xs → Each (λ (x : Message A). k < x.number) (take n xs)
-take_above k zero xs h = tt
-take_above k (suc n) [] h = tt
-take_above {A} k (suc n) (x ∷ xs) h =
-    (let e : x.number ≡ suc k = h.0 in (omega (arith, e), each-weaker (λ (y : Message A). suc k < y.number) (λ (y : Message A). k < y.number) (λ y l. omega (arith, l)) (take n xs) (take_above (suc k) n xs h.1)))
-
 pub upto_taken : {A : Type 0} → (k m f : ℕ) (xs : List (Message A)) → AreFrom k xs → m ≤ f → upto (k + m) (users_in (take f xs)) ≡ users_in (take m xs)
 upto_taken {A} k zero f xs h l =
     let e : k + 0 ≡ k = omega arith in
     ap (λ (n : ℕ). upto n (users_in (take f xs))) e
-    ∙ upto_none k (users_in (take f xs)) (each-filter (λ (x : Message A). k < x.number) (λ (x : Message A). is_user x.payload) (take f xs) (take_above k f xs h))
+    ∙ upto_none k (users_in (take f xs))
+        (each-filter (λ (x : Message A). k < x.number) (λ (x : Message A). is_user x.payload) (take f xs)
+        (each-take (λ (x : Message A). k < x.number) f xs (all_above k xs h)))
 upto_taken k (suc m) zero xs h l = absurd (omega arith)
 upto_taken k (suc m) (suc f) [] h l = refl
 upto_taken {A} k (suc m) (suc f) (x ∷ xs) h l =
