@@ -168,19 +168,19 @@ module _ {A : Type 0} (w : World A) (k : IsWhole w) where
           let c = w.cores q in
           let reached = safe q proc member in
           elim (first_user (found c.held ring) (numbers_from (0 + 1) (n - 0))) [
-          | inl none ↦
-              let nothing : x ∷ xs ≡ [] = sym e ∙ sym (heard_is w k.recovered q ring n reached) ∙ none in
-              absurd (cc nothing)
-          | inr some ↦
-              let known_as = found_as c.held ring some.number some.message some.found_there in
-              let last = (numbers_in some.number (0 + 1) (n - 0) some.among).1 in
-              let number = known_as.number_is in
-              let within : (some.message).number ≤ front c ring = omega (arith, reached, last, number) in
-              let covered : (some.message).number ≤ front c (some.message).ring =
-              subst (λ (r : RingId). (some.message).number ≤ front c r) (sym known_as.ring_is) within in
-              let has = k.installed q q some.message known_as.there some.user covered in
-              (record { at = has.at; there = has.there; ring_is = has.ring_is ∙ known_as.ring_is }, reached)
-        ])
+            | inl none ↦
+                let nothing : x ∷ xs ≡ [] = sym e ∙ sym (heard_is w k.recovered q ring n reached) ∙ none in
+                absurd (cc nothing)
+            | inr some ↦
+                let known_as = found_as c.held ring some.number some.message some.found_there in
+                let last = (numbers_in some.number (0 + 1) (n - 0) some.among).1 in
+                let number = known_as.number_is in
+                let within : (some.message).number ≤ front c ring = omega (arith, reached, last, number) in
+                let covered : (some.message).number ≤ front c (some.message).ring =
+                subst (λ (r : RingId). (some.message).number ≤ front c r) (sym known_as.ring_is) within in
+                let has = k.installed q q some.message known_as.there some.user covered in
+                (record { at = has.at; there = has.there; ring_is = has.ring_is ∙ known_as.ring_is }, reached)
+          ])
 
   -- the members of a ring in which something was numbered are processors of the group
   pub members_within : (ring : RingId) (x : Message A) → IsIn x (whole w k.recovered ring) → members_of w.cores ring < 2 ^ w.total

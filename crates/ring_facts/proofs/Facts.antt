@@ -187,7 +187,7 @@ module _ {A : Type 0} (group : Group) (w : World A) (k : AreNodes group w) where
         | inr all ↦
             let heard = all_heard ring (t.at).members (member_node i node t.at t.there) (mark (part.cores i) ring) all in
             inr (subst (λ (xs : List (Message A)). AllHeard (lives_of w) s.ring s.members xs) (sym is)
-                (subst (λ (x : Stay A). AllHeard (lives_of w) x.ring x.members (numbered_upto part k.cores ring (mark (part.cores i) ring))) (sym t.is) heard))
+            (subst (λ (x : Stay A). AllHeard (lives_of w) x.ring x.members (numbered_upto part k.cores ring (mark (part.cores i) ring))) (sym t.is) heard))
       ]
 
   -- and where every member's front has reached a number, what of the text lies up to it

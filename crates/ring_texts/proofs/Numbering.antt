@@ -198,8 +198,8 @@ upto_taken {A} k zero f xs h l =
     let e : k + 0 ≡ k = omega arith in
     ap (λ (n : ℕ). upto n (users_in (take f xs))) e
     ∙ upto_none k (users_in (take f xs))
-        (each-filter (λ (x : Message A). k < x.number) (λ (x : Message A). is_user x.payload) (take f xs)
-        (each-take (λ (x : Message A). k < x.number) f xs (all_above k xs h)))
+    (each-filter (λ (x : Message A). k < x.number) (λ (x : Message A). is_user x.payload) (take f xs)
+    (each-take (λ (x : Message A). k < x.number) f xs (all_above k xs h)))
 upto_taken k (suc m) zero xs h l = absurd (omega arith)
 upto_taken k (suc m) (suc f) [] h l = refl
 upto_taken {A} k (suc m) (suc f) (x ∷ xs) h l =
