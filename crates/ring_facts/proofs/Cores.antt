@@ -1,8 +1,8 @@
 -- What every run of ring cores has of a ring: its members, what each processor heard up to its front, and that what one of them knows as safe there all of them
 -- heard, who then have installed the ring.
-use Rattle.std.proofs.Common.{◌≡◌, ℕ, ◌+◌, ◌-◌, ◌≤◌, true, ◌⊎◌, inl, inr, List, [], ◌∷◌, take, Option, Some, None, refl, ap, sym, ◌∙◌, subst, arith}
+use Rattle.std.proofs.Common.{◌≡◌, ℕ, ◌+◌, ◌-◌, ◌^◌, ◌<◌, ◌≤◌, true, ◌⊎◌, inl, inr, List, [], ◌∷◌, take, Option, Some, None, refl, ap, sym, ◌∙◌, subst, arith}
 use Rattle.std.specs.Prelude.{filter, filter_map, if◌then◌else◌}
-use Rattle.std.specs.List.{cons_option}
+use Rattle.std.specs.List.{AllByRecursion as Each, cons_option}
 use Rattle.std.proofs.lemmas.Bool.{cond_both, cond-false, cases_Bool, both_ways}
 use Rattle.ring_base.specs.Numbers.{numbers_from}
 use Rattle.ring_base.specs.Processors.{IsProc, IsMember}
@@ -12,14 +12,17 @@ use Rattle.ring_payload.specs.Kinds.{is_user}
 use Rattle.ring_wire.specs.declared.message.Message.{Message}
 use Rattle.ring_window.specs.Held.{found}
 use Rattle.ring_window.proofs.Rings.{ring_same}
+use Rattle.ring_token.specs.Turns.{Turn}
+use Rattle.ring_token.specs.Rounds.{IsSafeIn}
 use Rattle.ring_commit.specs.declared.configuration.Configuration.{Configuration}
 use Rattle.ring_core.specs.State.{Core}
 use Rattle.ring_core.specs.Views.{front, mark}
 use Rattle.ring_core.specs.Giving.{users}
 use Rattle.ring_moves.specs.Facts.{IsIn}
 use Rattle.ring_moves.specs.declared.event.RingEvent.{RingEvent}
-use Rattle.ring_moves.specs.Worlds.{World, run, unformed}
+use Rattle.ring_moves.specs.Worlds.{World, is_node, run, unformed}
 use Rattle.ring_moves.proofs.Fits.{mark_below}
+use Rattle.ring_moves.proofs.Lists.{in-each}
 use Rattle.ring_moves.proofs.Wraps.{same-self}
 use Rattle.ring_chain.specs.Words.{IsRingOf}
 use Rattle.ring_chain.specs.Told.{MarksAreSafe}
@@ -31,13 +34,17 @@ use Rattle.ring_changes.proofs.Recovering.{Recovered, all_recovered}
 use Rattle.ring_ready.proofs.Installed.{all_orderly, all_ready, heard_installed}
 use Rattle.ring_log.specs.Lives.{upto}
 use Rattle.ring_texts.proofs.Numbering.{users_in, upto_taken}
-use Rattle.ring_texts.proofs.Texts.{whole, whole_from, heard_is}
-use Rattle.ring_facts.proofs.Members.{AllStand, all_stand}
+use Rattle.ring_texts.proofs.Texts.{whole, whole_from, heard_is, numbered_by_sender}
+use Rattle.ring_facts.proofs.Members.{StandsAs, AllStand, IsWithin, all_stand}
 
 pub record HasInstalled {A : Type 0} (c : Core A) (ring : RingId) : Type 0 where
   pub at : Configuration
   pub there : IsIn at c.installs
   pub ring_is : at.ring ≡ ring
+
+-- the ring is one of these
+abbrev pub IsAmong : RingId → List Configuration → Type 0
+IsAmong ring rings = (members : ℕ) × IsIn (record { ring = ring; members = members }) rings
 
 pub record IsWhole {A : Type 0} (w : World A) : Type 0 where
   pub recovered : Recovered w.cores w.frames
@@ -46,6 +53,8 @@ pub record IsWhole {A : Type 0} (w : World A) : Type 0 where
   pub installed : (p q : ℕ) (x : Message A) → IsIn x (w.cores p).held → is_user x.payload ≡ true → x.number ≤ front (w.cores q) x.ring →
       HasInstalled (w.cores q) x.ring
   pub stand : AllStand w
+  -- who visits a ring's token takes part in the ring
+  pub took : (p : ℕ) → Each (λ (v : Turn A). IsAmong v.came.ring (w.cores p).rings) (w.cores p).turns
 
 pub all_whole : {A : Type 0} → (n : ℕ) (events : List (RingEvent A)) → IsWhole (run (unformed n) events)
 all_whole {A} n events =
@@ -57,6 +66,7 @@ all_whole {A} n events =
           let r = heard_installed w.cores w.frames (all_orderly n events) (all_ready n events) p q x held user within in
           record { at = r.0; there = r.1; ring_is = r.2 };
       stand = all_stand n events;
+      took = λ p. ((((all_orderly n events).orderly p).local).facts).turns;
     }
 
 -- The members of a ring: those that its representative took part in it with
@@ -147,6 +157,48 @@ module _ {A : Type 0} (w : World A) (k : IsWhole w) where
   abbrev pub AllReached : RingId → ℕ → ℕ → Type 0
   AllReached ring members n = (q : ℕ) → IsProc q → IsMember members q → HasInstalled (w.cores q) ring × (n ≤ front (w.cores q) ring)
 
+  -- what every member's front has reached, if there is any such, all of them have installed the ring for
+  pub reached_installed : (ring : RingId) (members n : ℕ) → IsSafeIn members (λ q. front (w.cores q) ring) n →
+      (numbered_upto ring n ≡ []) ⊎ AllReached ring members n
+  reached_installed ring members n safe = by (numbered_upto ring n) refl
+    where
+      by : (xs : List (Message A)) → numbered_upto ring n ≡ xs → (numbered_upto ring n ≡ []) ⊎ AllReached ring members n
+      by [] e = inl e
+      by (x ∷ xs) e = inr (λ q proc member.
+          let c = w.cores q in
+          let reached = safe q proc member in
+          elim (first_user (found c.held ring) (numbers_from (0 + 1) (n - 0))) [
+            | inl none ↦
+                let nothing : x ∷ xs ≡ [] = sym e ∙ sym (heard_is w k.recovered q ring n reached) ∙ none in
+                absurd (cc nothing)
+            | inr some ↦
+                let known_as = found_as c.held ring some.number some.message some.found_there in
+                let last = (numbers_in some.number (0 + 1) (n - 0) some.among).1 in
+                let number = known_as.number_is in
+                let within : (some.message).number ≤ front c ring = omega (arith, reached, last, number) in
+                let covered : (some.message).number ≤ front c (some.message).ring =
+                subst (λ (r : RingId). (some.message).number ≤ front c r) (sym known_as.ring_is) within in
+                let has = k.installed q q some.message known_as.there some.user covered in
+                (record { at = has.at; there = has.there; ring_is = has.ring_is ∙ known_as.ring_is }, reached)
+          ])
+
+  -- the members of a ring in which something was numbered are processors of the group
+  pub members_within : (ring : RingId) (x : Message A) → IsIn x (whole w k.recovered ring) → members_of w.cores ring < 2 ^ w.total
+  members_within ring x i =
+      let n = numbered_by_sender w k.recovered ring x i in
+      let c = w.cores x.sender in
+      let node : is_node w x.sender ≡ true = elim (cases_Bool (is_node w x.sender)) [
+        | inl here ↦ here
+        | inr stranger ↦
+            let none : c.turns ≡ [] = subst (λ b. StandsAs b w.total c) stranger (k.stand x.sender) in
+            absurd (subst (λ (ts : List (Turn A)). IsIn n.turn ts) none n.taken)
+      ] in
+      let all : IsWithin w.total c = subst (λ b. StandsAs b w.total c) node (k.stand x.sender) in
+      let taken = in-each (λ (v : Turn A). IsAmong v.came.ring c.rings) n.turn c.turns (k.took x.sender) n.taken in
+      let among : IsAmong ring c.rings = subst (λ (r : RingId). IsAmong r c.rings) n.ring_is taken in
+      let small = in-each (λ (y : Configuration). y.members < 2 ^ w.total) (record { ring = ring; members = among.0 }) c.rings all.rings among.1 in
+      subst (λ set. set < 2 ^ w.total) (members_are w.cores are_rings ring among.0 (are_rings.shared x.sender ring among.0 among.1)) small
+
   pub safe_reached : (p : ℕ) (ring : RingId) (members : ℕ) → IsRingOf w.cores ring members →
       (numbered_upto ring (mark (w.cores p) ring) ≡ []) ⊎ AllReached ring members (mark (w.cores p) ring)
   safe_reached p ring members known =
@@ -154,18 +206,7 @@ module _ {A : Type 0} (w : World A) (k : IsWhole w) where
       let m = mark c ring in
       elim (k.marks p ring) [
         | inl zero ↦ inl (ap (numbered_upto ring) zero)
-        | inr safe ↦ elim (first_user (found c.held ring) (numbers_from (0 + 1) (m - 0))) [
-          | inl none ↦ inl (sym (heard_is w k.recovered p ring m (mark_within p ring)) ∙ none)
-          | inr some ↦ inr (λ q proc member.
-              let known_as = found_as c.held ring some.number some.message some.found_there in
-              let same : safe.0 ≡ members = one_members w.cores are_rings ring safe.0 members safe.1 known in
-              let reached : m ≤ front (w.cores q) ring = safe.2 q proc (subst (λ set. IsMember set q) (sym same) member) in
-              let last = (numbers_in some.number (0 + 1) (m - 0) some.among).1 in
-              let number = known_as.number_is in
-              let within : (some.message).number ≤ front (w.cores q) ring = omega (arith, reached, last, number) in
-              let covered : (some.message).number ≤ front (w.cores q) (some.message).ring =
-              subst (λ (r : RingId). (some.message).number ≤ front (w.cores q) r) (sym known_as.ring_is) within in
-              let has = k.installed p q some.message known_as.there some.user covered in
-              (record { at = has.at; there = has.there; ring_is = has.ring_is ∙ known_as.ring_is }, reached))
-        ]
+        | inr safe ↦
+            let same : safe.0 ≡ members = one_members w.cores are_rings ring safe.0 members safe.1 known in
+            reached_installed ring members m (subst (λ set. IsSafeIn set (λ q. front (w.cores q) ring) m) same safe.2)
       ]

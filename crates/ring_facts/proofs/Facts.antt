@@ -1,5 +1,5 @@
 -- The facts of every run of nodes, one by one: each node's life is what its core tells of the rings that it installed, and what a core said was handed to it.
-use Rattle.std.proofs.Common.{◌≡◌, ℕ, ◌^◌, ◌<◌, ◌≤◌, true, false, ◌&&◌, ◌⊎◌, inl, inr, List, [], ◌∷◌, take, ap, sym, ◌∙◌, subst, arith}
+use Rattle.std.proofs.Common.{◌≡◌, ℕ, zero, suc, ◌^◌, ◌<◌, ◌≤◌, true, false, ◌&&◌, ◌⊎◌, inl, inr, List, [], ◌∷◌, take, refl, ap, sym, ◌∙◌, subst, arith}
 use Rattle.std.specs.Prelude.{nat_le}
 use Rattle.std.specs.List.{AllByRecursion as Each}
 use Rattle.std.proofs.lemmas.Bool.{cond_both, cond-true, and_parts, and_from, leb-true, le-leb}
@@ -24,6 +24,7 @@ use Rattle.ring_log.specs.Stays.{Stay}
 use Rattle.ring_log.specs.Lives.{upto}
 use Rattle.ring_order.specs.Facts.{IsStay, StayIn, Rises, said_by, safe_part, AllHeard}
 use Rattle.ring_token.specs.Turns.{Turn, turns_of}
+use Rattle.ring_token.specs.Rounds.{IsSafeIn}
 use Rattle.ring_world.specs.declared.event.Event.{Event}
 use Rattle.ring_world.specs.Worlds.{World, world_opening, is_node, run}
 use Rattle.ring_projection.specs.Projection.{ring_part, IsRingRun}
@@ -33,13 +34,14 @@ use Rattle.ring_discipline.proofs.Steps.{rings_of, installed_rings}
 use Rattle.ring_discipline.proofs.Worlds.{opened_on}
 use Rattle.ring_texts.specs.Spoken.{spoken, spoken_in}
 use Rattle.ring_texts.specs.Said.{SpeaksInOrder}
-use Rattle.ring_texts.proofs.Numbering.{users_front, take_front}
-use Rattle.ring_texts.proofs.Texts.{whole, heard_is, texts}
+use Rattle.ring_texts.proofs.Numbering.{users_in, users_front, take_front, upto_all}
+use Rattle.ring_texts.proofs.Texts.{whole, whole_from, heard_is, texts, text_is}
 use Rattle.ring_texts.proofs.Nodes.{stays_below, falls_from, all_in_order}
 use Rattle.ring_facts.specs.Facts.{HasFacts}
 use Rattle.ring_facts.proofs.Lives.{IsToldOf, told_of, stay_for, life_told, rings_told}
 use Rattle.ring_facts.proofs.Members.{StandsAs, IsWithin, member_below}
-use Rattle.ring_facts.proofs.Cores.{HasInstalled, IsWhole, all_whole, members_of, members_are, numbered_upto, safe_is, AllReached, safe_reached}
+use Rattle.ring_facts.proofs.Cores.{HasInstalled, IsWhole, all_whole, members_of, members_are, numbered_upto, safe_is}
+use Rattle.ring_facts.proofs.Cores.{AllReached, reached_installed, members_within, safe_reached}
 
 -- A life whose rings fall
 
@@ -56,6 +58,12 @@ rises (s ∷ life) (x ∷ xs) e f =
       stays_below s.ring.seq life xs rest (subst (λ (r : RingId). Each (λ (y : Configuration). y.ring.seq < r.seq) xs) (sym same) (falls_from x xs f)),
       rises life xs rest (falls_on x xs f),
     )
+
+-- nothing is there, or some of it
+some_taken : {A : Type 0} → (n : ℕ) (xs : List (Message A)) → (users_in (take n xs) ≡ []) ⊎ ((x : Message A) × IsIn x xs)
+some_taken zero [] = inl refl
+some_taken (suc n) [] = inl refl
+some_taken n (x ∷ xs) = inr (x, inl refl)
 
 -- What is known of the nodes of a world
 pub record AreNodes {A : Type 0} (group : Group) (w : World A) : Type 0 where
@@ -107,14 +115,19 @@ module _ {A : Type 0} (group : Group) (w : World A) (k : AreNodes group w) where
   abbrev node_low : (i : ℕ) → is_node w i ≡ true → 1 ≤ i
   node_low i node = leb-true 1 i (and_parts (nat_le 1 i) (nat_le i w.group.count) node).0
 
-  -- the members of a ring that a node installed are nodes
+  -- the members of a set of the group's processors are nodes
+  within_node : (set : ℕ) → set < 2 ^ w.group.count → (q : ℕ) → IsMember set q → is_node w q ≡ true
+  within_node set small q m =
+      let high = member_below w.group.count set q small m in
+      and_from (nat_le 1 q) (nat_le q w.group.count) (le-leb 1 q m.0) (le-leb q w.group.count high)
+
+  -- the members of a ring that a node installed are
   member_node : (i : ℕ) → is_node w i ≡ true → (x : Configuration) → IsIn x (w.nodes i).core.installs → (q : ℕ) → IsMember x.members q →
       is_node w q ≡ true
-  member_node i node x there q m =
+  member_node i node x there =
       let all : IsWithin w.group.count (part.cores i) = subst (λ b. StandsAs b w.group.count (part.cores i)) node (k.cores.stand i) in
       let small = in-each (λ (y : Configuration). y.members < 2 ^ w.group.count) x (part.cores i).rings all.rings ((k.cores.recovered.local i).among x there) in
-      let high = member_below w.group.count x.members q small m in
-      and_from (nat_le 1 q) (nat_le q w.group.count) (le-leb 1 q m.0) (le-leb q w.group.count high)
+      within_node x.members small
 
   record IsThere (q : ℕ) (ring : RingId) : Type 0 where
     pub stay : Stay A
@@ -141,25 +154,25 @@ module _ {A : Type 0} (group : Group) (w : World A) (k : AreNodes group w) where
   abbrev lives_at : (q : ℕ) → is_node w q ≡ true → lives_of w q ≡ (w.nodes q).life
   lives_at q node = cond-true (is_node w q) (w.nodes q).life [] node
 
-  all_heard : (i : ℕ) → is_node w i ≡ true → (s : Stay A) (x : Configuration) → IsIn x (w.nodes i).core.installs → s.ring ≡ x.ring → s.members ≡ x.members →
-      (n : ℕ) → AllReached part k.cores x.ring x.members n → AllHeard (lives_of w) s.ring s.members (numbered_upto part k.cores x.ring n)
-  all_heard i node s x there ring members n all q m =
-      let mine : IsMember x.members q = subst (λ set. IsMember set q) members m in
-      let other = member_node i node x there q mine in
+  -- what is numbered up to where all of these members' fronts are, each of them heard
+  all_heard : (ring : RingId) (set : ℕ) → ((q : ℕ) → IsMember set q → is_node w q ≡ true) → (n : ℕ) → AllReached part k.cores ring set n →
+      AllHeard (lives_of w) ring set (numbered_upto part k.cores ring n)
+  all_heard ring set nodes n all q m =
+      let other = nodes q m in
       let high = leb-true q w.group.count (and_parts (nat_le 1 q) (nat_le q w.group.count) other).1 in
       let few = k.few in
-      let reached = all q (m.0, omega (arith, high, few)) mine in
-      let t = stay_there q x.ring reached.0 in
-      let numbered = whole part k.cores.recovered x.ring in
-      let f = front (part.cores q) x.ring in
+      let reached = all q (m.0, omega (arith, high, few)) m in
+      let t = stay_there q ring reached.0 in
+      let numbered = whole part k.cores.recovered ring in
+      let f = front (part.cores q) ring in
       let first = users_front (take n numbered) (take f numbered) (take_front n f numbered reached.1) in (
         record {
           stay = t.stay;
           older = t.older;
           there = subst (λ (life : List (Stay A)). IsStay life t.stay t.older) (sym (lives_at q other)) t.there;
-          ring = t.ring_is ∙ sym ring;
+          ring = t.ring_is;
         },
-        subst (λ (xs : List (Message A)). IsFront (numbered_upto part k.cores x.ring n) xs) (sym t.heard_is) first,
+        subst (λ (xs : List (Message A)). IsFront (numbered_upto part k.cores ring n) xs) (sym t.heard_is) first,
       )
 
   safe_of : (i : ℕ) → is_node w i ≡ true → (s : Stay A) (older : List (Stay A)) → IsStay (w.nodes i).life s older →
@@ -171,8 +184,28 @@ module _ {A : Type 0} (group : Group) (w : World A) (k : AreNodes group w) where
       ap (λ (x : Stay A). upto x.mark x.heard) t.is ∙ safe_is part k.cores i ring in
       elim (safe_reached part k.cores i ring (t.at).members (ring_told i s older j)) [
         | inl none ↦ inl (is ∙ none)
-        | inr all ↦ inr (subst (λ (xs : List (Message A)). AllHeard (lives_of w) s.ring s.members xs) (sym is)
-            (all_heard i node s t.at t.there (ap (λ (x : Stay A). x.ring) t.is) (ap (λ (x : Stay A). x.members) t.is) (mark (part.cores i) ring) all))
+        | inr all ↦
+            let heard = all_heard ring (t.at).members (member_node i node t.at t.there) (mark (part.cores i) ring) all in
+            inr (subst (λ (xs : List (Message A)). AllHeard (lives_of w) s.ring s.members xs) (sym is)
+            (subst (λ (x : Stay A). AllHeard (lives_of w) x.ring x.members (numbered_upto part k.cores ring (mark (part.cores i) ring))) (sym t.is) heard))
+      ]
+
+  -- and where every member's front has reached a number, what of the text lies up to it
+  reached_of : (ring : RingId) (n : ℕ) → IsSafeIn (members_of part.cores ring) (λ q. front (part.cores q) ring) n →
+      (upto n (text ring) ≡ []) ⊎ AllHeard (lives_of w) ring (members_of part.cores ring) (upto n (text ring))
+  reached_of ring n safe =
+      let set = members_of part.cores ring in
+      let numbered = whole part k.cores.recovered ring in
+      let is : upto n (text ring) ≡ numbered_upto part k.cores ring n =
+      ap (λ (xs : List (Message A)). upto n xs) (text_is part k.cores.recovered ring) ∙ upto_all n numbered (whole_from part k.cores.recovered ring) in
+      elim (some_taken n numbered) [
+        | inl none ↦ inl (is ∙ none)
+        | inr x ↦ elim (reached_installed part k.cores ring set n safe) [
+          | inl none ↦ inl (is ∙ none)
+          | inr all ↦
+              let nodes = within_node set (members_within part k.cores ring x.0 x.1) in
+              inr (subst (λ (xs : List (Message A)). AllHeard (lives_of w) ring set xs) (sym is) (all_heard ring set nodes n all))
+        ]
       ]
 
   -- What was said
@@ -208,6 +241,7 @@ module _ {A : Type 0} (group : Group) (w : World A) (k : AreNodes group w) where
       record {
         members = members_of part.cores;
         text = text;
+        is = (texts part k.cores.recovered).is;
         facts = record {
           rises = λ i. cond_both (is_node w i) (w.nodes i).life [] (λ (life : List (Stay A)). Rises life)
               (λ e. rises (w.nodes i).life (w.nodes i).core.installs (rings_told group w k.ring i (k.ordered i))
@@ -224,6 +258,7 @@ module _ {A : Type 0} (group : Group) (w : World A) (k : AreNodes group w) where
           safe = of_lives (λ i s older. (safe_part s ≡ []) ⊎ AllHeard (lives_of w) s.ring s.members (safe_part s)) safe_of;
         };
         speech = (texts part k.cores.recovered).said;
+        reached = reached_of;
       }
 
 -- Every run

@@ -12,10 +12,11 @@ use ring_object::Object;
 
 /// For every object, every group of at most 16 processors and every list of events, the lives of the nodes meet what the
 /// one order asks of ring cores: ring numbers rise; a ring's name fixes its members, of whom each who installs it is one;
-/// what a node heard in a ring is a front of the ring's text; what a processor said there is what its core sent in its own
-/// visits of the ring's token, and a front of what the node handed to it while it stayed there; and what is safe in a
-/// ring, each of its members heard there, first of all. So it is too whenever a core has taken a step of which nothing is
-/// handed over yet.
+/// what a node heard in a ring is a front of the ring's text, which is the users' messages numbered there, in the order of
+/// their numbers; what a processor said there is what its core sent in its own visits of the ring's token, and a front of
+/// what the node handed to it while it stayed there; and what is safe in a ring, by a node's safe mark or since every
+/// member's front has reached it, each of its members heard there, first of all. So it is too whenever a core has taken a
+/// step of which nothing is handed over yet.
 pub fn facts_law<O: Object>()
     ensures runs { (group : Group) (events : List (Event O.Alloc)) → group.count ≤ 16 → HasFacts (run O.sequential (world_opening group) events) }
     ensures steps { (group : Group) (events : List (Event O.Alloc)) (node : ℕ) (input : Input O.Alloc) → group.count ≤ 16 → 1 ≤ node → node ≤ group.count →

@@ -1,13 +1,16 @@
 -- No base lacks committed places: it is so of the lives between a step of a core and what its node hands over, which are orderly too.
-use Rattle.std.proofs.Common.{◌≡◌, ℕ, ◌≤◌, ◌==◌, true, List, [], ◌∷◌, ◌++◌, ◌⊎◌, inl, inr, refl, ap, sym, ◌∙◌, subst}
+use Rattle.std.proofs.Common.{◌≡◌, ℕ, ◌≤◌, ◌==◌, true, List, [], ◌∷◌, ◌++◌, Option, Some, None, ◌⊎◌, inl, inr, refl, ap, sym, ◌∙◌, subst}
 use Rattle.std.proofs.lemmas.Bool.{cond_both, cond-true, eq-eqb}
-use Rattle.ring_base.specs.Group.{Group, IsPrimary}
+use Rattle.ring_base.specs.Group.{Group, IsPrimary, is_primary}
+use Rattle.ring_base.specs.declared.ring_id.RingId.{RingId}
 use Rattle.ring_object.specs.Operations.{Sequential}
+use Rattle.ring_wire.specs.declared.message.Message.{Message}
 use Rattle.ring_core.specs.declared.input.Input.{Input}
 use Rattle.ring_core.specs.declared.out.Out.{Out}
 use Rattle.ring_core.specs.declared.out.Out.TheVariants.{Send, Agreed, Safe, Trans, Rest, Regular}
 use Rattle.ring_core.specs.Stepping.{ring_step}
 use Rattle.ring_log.specs.Stays.{Stay, stay_in}
+use Rattle.ring_log.specs.Lives.{Whole, upto, exchanged, ring_log_by, ring_log}
 use Rattle.ring_node.specs.Lives.{lived, lived_through}
 use Rattle.ring_node.specs.Nodes.{Node}
 use Rattle.ring_world.specs.declared.event.Event.{Event}
@@ -22,7 +25,7 @@ use Rattle.ring_facts.specs.Facts.{HasFacts}
 use Rattle.ring_facts.specs.Between.{MayCome, stepped_node, between}
 use Rattle.ring_facts.proofs.Facts.{all_facts}
 use Rattle.ring_facts.proofs.Between.{between_facts}
-use Rattle.ring_linear.specs.Linear.{SafeStays, KeepsCommitted}
+use Rattle.ring_linear.specs.Linear.{SafeStays, ReachedStays, KeepsCommitted}
 
 -- What a core gives keeps the discipline: by it nothing is handed over
 
@@ -58,16 +61,35 @@ through-keeps : {A : Type 0} (group : Group) (life : List (Stay A)) (outs : List
 through-keeps group life [] k = k
 through-keeps group life (o ∷ outs) k = through-keeps group (lived life o) outs (lived-keeps group life o k)
 
+-- a ring of which nothing was heard has no log
+empty-log : {A : Type 0} (group : Group) (lives : ℕ → List (Stay A)) (ring : RingId) (members : ℕ) → ring_log group lives ring members [] ≡ None
+empty-log {A} group lives ring members =
+    let none : exchanged group members [] ≡ None = cond_both (is_primary group members) None None (λ (o : Option (Whole A)). o ≡ None) (λ t. refl)
+    (λ f. refl) in
+    ap (ring_log_by group lives ring) none
+
 module _ {O A : Type 0} (object : Sequential O) (group : Group) (few : group.count ≤ 16) (events : List (Event A)) where
   abbrev w : World A
   w = run object (world_opening group) events
 
-  pub stays : (f : HasFacts w) × SafeStays group (lives_of w) f.members f.text
+  pub stays : (f : HasFacts w) × SafeStays group (lives_of w) f.members f.text × ReachedStays group w f.members f.text
   stays =
       let f = all_facts object group events few in
       let disc = lives_keep object group events in
       let hard = safe-stays group (lives_of w) f.members f.text f.facts disc in
-      (f, λ c e xs ys log whole below safe is front exch. hard c e xs ys log whole below safe is front exch)
+      let all : SafeStays group (lives_of w) f.members f.text =
+      λ c e xs ys log whole below safe is front exch. hard c e xs ys log whole below safe is front exch in (
+        f,
+        all,
+        λ c e n ys log whole below safe is front exch. elim (f.reached c n safe) [
+          | inl none ↦
+              let nothing : None ≡ Some log =
+              sym (empty-log group (lives_of w) c (f.members c))
+              ∙ ap (λ (xs : List (Message A)). ring_log group (lives_of w) c (f.members c) xs) (sym none) ∙ is in
+              absurd (cc nothing)
+          | inr heard ↦ all c e (upto n (f.text c)) ys log whole below heard is front exch
+        ],
+      )
 
   module _ (i : ℕ) (input : Input A) (node : is_node w i ≡ true) (may : MayCome w i input) where
     abbrev after : World A

@@ -19,6 +19,7 @@ use Rattle.ring_world.specs.Worlds.{World, world_opening, happens, run, order, c
 use Rattle.ring_world.proofs.Linear.{linear-nothing}
 use Rattle.ring_world.proofs.Orders.{order_of-grows, order_of-fronts, linear-step}
 use Rattle.ring_discipline.proofs.Worlds.{lives_on}
+use Rattle.ring_linear.specs.Linear.{OnlyIssued}
 use Rattle.ring_linear.proofs.Worlds.{WorldKnows, opening-knows, run-knows}
 use Rattle.ring_linear.proofs.Orderly.{run-more, orderly, orderly-after}
 use Rattle.ring_linear.proofs.Steps.{order-step, one-list, committed-at}
@@ -65,6 +66,12 @@ module _ {O A : Type 0} (object : Sequential O) (group : Group) (few : group.cou
       let k = known events in
       order_of-fronts (committed_in w) (node - 1) (node_committed (w.nodes node)) (one-list group w k (orderly object group few events))
       (committed-at group w k node low high)
+
+  -- each ticket's call was issued, and so was each call that a node handed over
+  pub only-issued : (events : List (Event A)) → OnlyIssued (at events)
+  only-issued events =
+      let k = known events in
+      record { tickets = λ i. (k.knows i).tickets; handed = λ i s older there. (k.knows i).sent s older there }
 
 -- At the opening nothing is committed
 

@@ -12,15 +12,17 @@ ghost use Rattle.ring_session.specs.Deduplicated.{deduplicated};
 ghost use Rattle.ring_world.specs.declared.event.Event.{Event};
 ghost use Rattle.ring_world.specs.Histories.{IsLinearization};
 ghost use Rattle.ring_world.specs.Worlds.{world_opening, run, order};
-ghost use Rattle.ring_linear.specs.Linear.{SafeStays, KeepsCommitted};
+ghost use Rattle.ring_linear.specs.Linear.{SafeStays, ReachedStays, KeepsCommitted, OnlyIssued};
 
 use ring_object::Object;
 
 /// Law, for every object, every group of at most 16 processors and every list of events, whatever is issued, delivered,
 /// lost, repeated, reordered or delayed, whatever times out or stops. There is one order of the calls that take effect: it
 /// explains the history, it grows as events go on, and what each node committed, repeats removed, is a front of it. What
-/// is safe in a primary ring begins the base of every later one. And whatever may come to a node's core next, each base
-/// that its life adopts by that begins with the places that the node has committed: so none ever stops a node.
+/// is safe in a primary ring, each member heard it or every member's front has reached it, begins the base of every later
+/// one. Whatever may come to a node's core next, each base that its life adopts by that begins with the places that the
+/// node has committed: so none stops a node for lack of these places. And each ticket's call was issued, as was each call
+/// that a node hands over.
 pub fn linear_law<O: Object>()
     ensures explains { (group : Group) (events : List (Event O.Alloc)) → group.count ≤ 16 →
         let w = run O.sequential (world_opening group) events in
@@ -33,8 +35,11 @@ pub fn linear_law<O: Object>()
         IsFront (deduplicated (node_committed (w.nodes node))) (order w) }
     ensures stays { (group : Group) (events : List (Event O.Alloc)) → group.count ≤ 16 →
         let w = run O.sequential (world_opening group) events in
-        (facts : HasFacts w) × SafeStays group (lives_of w) facts.members facts.text }
+        (facts : HasFacts w) × SafeStays group (lives_of w) facts.members facts.text × ReachedStays group w facts.members facts.text }
     ensures never { (group : Group) (events : List (Event O.Alloc)) (node : ℕ) (input : Input O.Alloc) → group.count ≤ 16 → 1 ≤ node → node ≤ group.count →
         let w = run O.sequential (world_opening group) events in
         MayCome w node input → KeepsCommitted group (stepped_node (w.nodes node) input).life }
+    ensures issued { (group : Group) (events : List (Event O.Alloc)) → group.count ≤ 16 →
+        let w = run O.sequential (world_opening group) events in
+        OnlyIssued w }
 {}

@@ -2,7 +2,7 @@
 use Rattle.std.proofs.Common.{◌≡◌, ℕ, zero, suc, ◌+◌, ◌<◌, ◌≤◌, inl, inr, Bool, true, false, ◌==◌, List, [], ◌∷◌, ◌++◌, length, take, Option, Some, refl, ap, sym, ◌∙◌, subst, arith, append_assoc, append-nil, length-append}
 use Rattle.std.specs.Prelude.{filter, filter_map, nat_le, if◌then◌else◌}
 use Rattle.std.specs.List.{AllByRecursion as Each, flat_map, cons_option}
-use Rattle.std.proofs.lemmas.Bool.{cond-true, cond-false, le-leb, lt-leb}
+use Rattle.std.proofs.lemmas.Bool.{cond_both, cond-true, cond-false, cases_Bool, eqb-true, le-leb, lt-leb}
 use Rattle.std.proofs.lemmas.List.Elements.{filter-append}
 use Rattle.ring_base.specs.Fronts.{IsFront}
 use Rattle.ring_base.specs.Numbers.{numbers_from}
@@ -12,14 +12,16 @@ use Rattle.ring_payload.specs.declared.content.Payload.{Payload}
 use Rattle.ring_payload.specs.Kinds.{is_user, units}
 use Rattle.ring_wire.specs.declared.message.Message.{Message}
 use Rattle.ring_wire.specs.declared.token.Token.{Token}
+use Rattle.ring_token.specs.Turns.{Turn}
 use Rattle.ring_token.specs.Visits.{numbered}
 use Rattle.ring_token.specs.Rounds.{VisitBy, arrived, AreVisits}
 use Rattle.ring_moves.specs.Facts.{IsIn, SomeIs}
-use Rattle.ring_moves.proofs.Lists.{in-left, in-right, each-filter}
+use Rattle.ring_moves.proofs.Lists.{in-left, in-right, in-parts, in-filtered, each-in, each-filter, each-take}
 use Rattle.ring_log.specs.Lives.{upto}
 use Rattle.ring_chain.specs.Words.{picked}
 use Rattle.ring_order.specs.Facts.{said_by}
 use Rattle.ring_texts.specs.Spoken.{spoken_at, spoken_in}
+use Rattle.ring_texts.specs.Texts.{Ascends}
 
 -- all that was numbered in visits, which stand newest first
 abbrev pub all_numbered : {A : Type 0} → RingId → List (VisitBy A) → List (Message A)
@@ -76,17 +78,68 @@ some_numbered ring [] x h = absurd h
 some_numbered ring (v ∷ vs) x (inl i) = in-right x (all_numbered ring vs) (numbered ring v.who v.turn.came.seq v.turn.fresh) i
 some_numbered ring (v ∷ vs) x (inr i) = in-left x (all_numbered ring vs) (numbered ring v.who v.turn.came.seq v.turn.fresh) (some_numbered ring vs x i)
 
+-- and the other way
+pub numbered_some : {A : Type 0} → (ring : RingId) (vs : List (VisitBy A)) (x : Message A) → IsIn x (all_numbered ring vs) →
+    SomeIs (λ (v : VisitBy A). IsIn x (numbered ring v.who v.turn.came.seq v.turn.fresh)) vs
+numbered_some ring [] x i = absurd i
+numbered_some ring (v ∷ vs) x i =
+    elim (in-parts x (all_numbered ring vs) (numbered ring v.who v.turn.came.seq v.turn.fresh) i) [
+      | inl old ↦ inr (numbered_some ring vs x old)
+      | inr new ↦ inl new
+    ]
+
+-- so is what its sender numbered at a visit that is one of these
+pub picked_numbered : {A : Type 0} → (ring : RingId) (vs : List (VisitBy A)) (x : Message A) (t : Turn A) → IsIn t (picked x.sender vs) →
+    IsIn x (numbered ring x.sender t.came.seq t.fresh) → IsIn x (all_numbered ring vs)
+picked_numbered ring [] x t i n = absurd i
+picked_numbered {A} ring (v ∷ vs) x t i n =
+    let old = all_numbered ring vs in
+    let new = numbered ring v.who v.turn.came.seq v.turn.fresh in
+    let rest = picked x.sender vs in
+    elim (cases_Bool (v.who == x.sender)) [
+      | inl own ↦ elim (subst (λ (ts : List (Turn A)). IsIn t ts) (cond-true (v.who == x.sender) (v.turn ∷ rest) rest own) i) [
+        | inl e ↦ in-right x old new
+            (subst (λ (q : ℕ). IsIn x (numbered ring q v.turn.came.seq v.turn.fresh)) (sym (eqb-true v.who x.sender own))
+            (subst (λ (u : Turn A). IsIn x (numbered ring x.sender u.came.seq u.fresh)) e n))
+        | inr j ↦ in-left x old new (picked_numbered ring vs x t j n)
+      ]
+      | inr other ↦ in-left x old new
+          (picked_numbered ring vs x t (subst (λ (ts : List (Turn A)). IsIn t ts) (cond-false (v.who == x.sender) (v.turn ∷ rest) rest other) i) n)
+    ]
+
 -- each is of the ring
 numbered_named : {A : Type 0} → (ring : RingId) (me seq : ℕ) (ps : List (Payload A)) → Each (λ (x : Message A). x.ring ≡ ring) (numbered ring me seq ps)
 numbered_named ring me seq [] = tt
 numbered_named ring me seq (p ∷ ps) = (refl, numbered_named ring me (suc seq) ps)
 
-all_named : {A : Type 0} → (ring : RingId) (vs : List (VisitBy A)) → Each (λ (x : Message A). x.ring ≡ ring) (all_numbered ring vs)
+pub all_named : {A : Type 0} → (ring : RingId) (vs : List (VisitBy A)) → Each (λ (x : Message A). x.ring ≡ ring) (all_numbered ring vs)
 all_named ring [] = tt
 all_named {A} ring (v ∷ vs) = each-append (λ (x : Message A). x.ring ≡ ring) (all_numbered ring vs) _ (all_named ring vs) (numbered_named ring v.who v.turn.came.seq v.turn.fresh)
 
 pub users_named : {A : Type 0} → (ring : RingId) (vs : List (VisitBy A)) → Each (λ (x : Message A). x.ring ≡ ring) (users_in (all_numbered ring vs))
 users_named {A} ring vs = each-filter (λ (x : Message A). x.ring ≡ ring) (λ (x : Message A). is_user x.payload) (all_numbered ring vs) (all_named ring vs)
+
+-- Users' messages alone ascend too
+
+all_above : {A : Type 0} → (k : ℕ) (xs : List (Message A)) → AreFrom k xs → Each (λ (x : Message A). k < x.number) xs
+all_above k [] h = tt
+all_above {A} k (x ∷ xs) h =
+    let e : x.number ≡ suc k = h.0 in
+    let rest = each-weaker (λ (y : Message A). suc k < y.number) (λ (y : Message A). k < y.number) (λ y l. omega (arith, l)) xs (all_above (suc k) xs h.1) in
+    (omega (arith, e), rest)
+
+pub users_ascend : {A : Type 0} → (k : ℕ) (xs : List (Message A)) → AreFrom k xs → Ascends (users_in xs)
+users_ascend k [] h = tt
+users_ascend {A} k (x ∷ xs) h =
+    let user = λ (y : Message A). is_user y.payload in
+    let above = subst (λ (n : ℕ). Each (λ (y : Message A). n < y.number) xs) (sym h.0) (all_above (suc k) xs h.1) in
+    let rest = users_ascend (suc k) xs h.1 in
+    cond_both (is_user x.payload) (x ∷ users_in xs) (users_in xs) (λ (ys : List (Message A)). Ascends ys)
+    (λ e. (each-filter (λ (y : Message A). x.number < y.number) user xs above, rest)) (λ e. rest)
+
+pub users_each : {A : Type 0} → (xs : List (Message A)) → Each (λ (x : Message A). is_user x.payload ≡ true) (users_in xs)
+users_each {A} xs =
+    each-in (λ (x : Message A). is_user x.payload ≡ true) (users_in xs) (λ x i. (in-filtered (λ (y : Message A). is_user y.payload) x xs i).1)
 
 -- What is found number by number is the first of them
 
@@ -140,17 +193,13 @@ upto_none : {A : Type 0} → (k : ℕ) (xs : List (Message A)) → Each (λ (x :
 upto_none k [] h = refl
 upto_none k (x ∷ xs) h = cond-false (nat_le x.number k) (x ∷ upto k xs) [] (lt-leb x.number k h.0)
 
-take_above : {A : Type 0} → (k n : ℕ) (xs : List (Message A)) → AreFrom k xs → Each (λ (x : Message A). k < x.number) (take n xs)
-take_above k zero xs h = tt
-take_above k (suc n) [] h = tt
-take_above {A} k (suc n) (x ∷ xs) h =
-    (let e : x.number ≡ suc k = h.0 in (omega (arith, e), each-weaker (λ (y : Message A). suc k < y.number) (λ (y : Message A). k < y.number) (λ y l. omega (arith, l)) (take n xs) (take_above (suc k) n xs h.1)))
-
 pub upto_taken : {A : Type 0} → (k m f : ℕ) (xs : List (Message A)) → AreFrom k xs → m ≤ f → upto (k + m) (users_in (take f xs)) ≡ users_in (take m xs)
 upto_taken {A} k zero f xs h l =
     let e : k + 0 ≡ k = omega arith in
     ap (λ (n : ℕ). upto n (users_in (take f xs))) e
-    ∙ upto_none k (users_in (take f xs)) (each-filter (λ (x : Message A). k < x.number) (λ (x : Message A). is_user x.payload) (take f xs) (take_above k f xs h))
+    ∙ upto_none k (users_in (take f xs))
+    (each-filter (λ (x : Message A). k < x.number) (λ (x : Message A). is_user x.payload) (take f xs)
+    (each-take (λ (x : Message A). k < x.number) f xs (all_above k xs h)))
 upto_taken k (suc m) zero xs h l = absurd (omega arith)
 upto_taken k (suc m) (suc f) [] h l = refl
 upto_taken {A} k (suc m) (suc f) (x ∷ xs) h l =
@@ -164,6 +213,19 @@ upto_taken {A} k (suc m) (suc f) (x ∷ xs) h l =
         cond-true (nat_le x.number (k + suc m)) (x ∷ upto (k + suc m) (users_in (take f xs))) [] (le-leb x.number (k + suc m) (omega (arith, n)))
         ∙ ap (λ (ys : List (Message A)). x ∷ ys) (ap (λ (n : ℕ). upto n (users_in (take f xs))) e ∙ r)
     by false r = (let e : k + suc m ≡ suc k + m = omega arith in ap (λ (n : ℕ). upto n (users_in (take f xs))) e ∙ r)
+
+take_all : {X : Type 0} (n : ℕ) (xs : List X) → length xs ≤ n → take n xs ≡ xs
+take_all zero [] l = refl
+take_all zero (x ∷ xs) l = absurd (omega (arith, l))
+take_all (suc n) [] l = refl
+take_all {X} (suc n) (x ∷ xs) l = ap (λ (ys : List X). x ∷ ys) (take_all n xs (omega (arith, l)))
+
+pub upto_all : {A : Type 0} → (m : ℕ) (xs : List (Message A)) → AreFrom 0 xs → upto m (users_in xs) ≡ users_in (take m xs)
+upto_all {A} m xs h =
+    let same : 0 + m ≡ m = omega arith in
+    let all : take (length xs + m) xs ≡ xs = take_all (length xs + m) xs (omega arith) in
+    subst (λ (ys : List (Message A)). upto m (users_in ys) ≡ users_in (take m xs)) all
+    (subst (λ (n : ℕ). upto n (users_in (take (length xs + m) xs)) ≡ users_in (take m xs)) same (upto_taken 0 m (length xs + m) xs h (omega arith)))
 
 -- What one processor said
 

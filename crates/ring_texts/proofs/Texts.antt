@@ -1,12 +1,15 @@
 -- In every run of ring cores each ring has one text, all that was numbered in the visits of its token.
-use Rattle.std.proofs.Common.{◌≡◌, ℕ, ◌-◌, ◌≤◌, inl, inr, true, List, take, ap, sym, ◌∙◌, subst, arith}
+use Rattle.std.proofs.Common.{◌≡◌, ℕ, ◌-◌, ◌≤◌, inl, inr, true, List, take, refl, ap, sym, ◌∙◌, subst, arith}
 use Rattle.std.specs.Prelude.{filter_map}
 use Rattle.ring_base.specs.Fronts.{IsFront}
 use Rattle.ring_base.specs.Numbers.{numbers_from}
+use Rattle.ring_base.specs.Rings.{same_ring}
 use Rattle.ring_base.specs.declared.ring_id.RingId.{RingId}
+use Rattle.ring_payload.specs.Kinds.{is_user}
 use Rattle.ring_wire.specs.declared.message.Message.{Message}
 use Rattle.ring_window.specs.Held.{found, holds}
 use Rattle.ring_window.proofs.Fronts.{front_is}
+use Rattle.ring_token.specs.Turns.{Turn}
 use Rattle.ring_token.specs.Visits.{numbered}
 use Rattle.ring_token.specs.Rounds.{VisitBy}
 use Rattle.ring_core.specs.Views.{front}
@@ -14,15 +17,17 @@ use Rattle.ring_core.specs.Giving.{users}
 use Rattle.ring_moves.specs.Facts.{IsIn, SomeIs}
 use Rattle.ring_moves.specs.declared.event.RingEvent.{RingEvent}
 use Rattle.ring_moves.specs.Worlds.{World, run, unformed}
-use Rattle.ring_moves.proofs.Lists.{in-each}
-use Rattle.ring_chain.specs.Words.{IsGenuine}
+use Rattle.ring_moves.proofs.Lists.{in-each, in-filter, in-filtered}
+use Rattle.ring_moves.proofs.Wraps.{same-self}
+use Rattle.ring_chain.specs.Words.{picked, IsGenuine}
 use Rattle.ring_chain.proofs.Runs.{Holds}
 use Rattle.ring_lives.proofs.Keeps.{holds-found}
 use Rattle.ring_changes.proofs.Heard.{found_as}
-use Rattle.ring_changes.proofs.Recovering.{Recovered, all_recovered}
+use Rattle.ring_changes.proofs.Recovering.{Recovered, numbered_by, all_recovered}
 use Rattle.ring_texts.specs.Spoken.{spoken_in}
-use Rattle.ring_texts.specs.Texts.{HasTexts}
-use Rattle.ring_texts.proofs.Numbering.{all_numbered, users_in, AreFrom, all_from, some_numbered, users_named, IsThere, found_taken, take_whole, users_front, said_visits}
+use Rattle.ring_texts.specs.Texts.{IsNumberedIn, IsText, HasTexts}
+use Rattle.ring_texts.proofs.Numbering.{all_numbered, some_numbered, numbered_some, picked_numbered, all_named, users_named}
+use Rattle.ring_texts.proofs.Numbering.{users_in, AreFrom, all_from, users_ascend, users_each, IsThere, found_taken, take_whole, users_front, said_visits}
 
 module _ {A : Type 0} (w : World A) (r : Recovered w.cores w.frames) where
   abbrev h : Holds w.cores w.frames
@@ -56,10 +61,46 @@ module _ {A : Type 0} (w : World A) (r : Recovered w.cores w.frames) where
       ap (λ (k : ℕ). users_in (filter_map get (numbers_from 1 k))) same
       ∙ ap (λ (xs : List (Message A)). users_in xs) (found_taken get 0 n (whole ring) (whole_from ring) (λ j low up. is_there q ring j (omega (arith, low)) (omega (arith, l, up))))
 
+  -- what is there is of the ring, and its sender numbered it at a visit
+  pub numbered_by_sender : (ring : RingId) (x : Message A) → IsIn x (whole ring) → IsNumberedIn w.cores ring x
+  numbered_by_sender ring x i =
+      let named : x.ring ≡ ring = in-each (λ (y : Message A). y.ring ≡ ring) x (whole ring) (all_named ring (h.visits ring)) i in
+      let genuine : IsGenuine h.visits x =
+      subst (λ (s : RingId). SomeIs (λ (v : VisitBy A). IsIn x (numbered s v.who v.turn.came.seq v.turn.fresh)) (h.visits s)) (sym named)
+      (numbered_some ring (h.visits ring) x i) in
+      let n = numbered_by w.cores w.frames h x genuine in
+      let same : n.turn.came.ring ≡ ring = n.ring_is ∙ named in
+      record {
+        turn = n.turn;
+        taken = n.there;
+        ring_is = same;
+        there = subst (λ (s : RingId). IsIn x (numbered s x.sender n.turn.came.seq n.turn.fresh)) same n.numbered_there;
+      }
+
+  -- and all that was numbered so is there
+  numbered_there : (ring : RingId) (x : Message A) → IsNumberedIn w.cores ring x → IsIn x (whole ring)
+  numbered_there ring x n =
+      let t = n.turn in
+      let of_ring : same_ring t.came.ring ring ≡ true = subst (λ (s : RingId). same_ring s ring ≡ true) (sym n.ring_is) (same-self ring) in
+      let own = in-filter (λ (u : Turn A). same_ring u.came.ring ring) t (w.cores x.sender).turns n.taken of_ring in
+      let taken : IsIn t (picked x.sender (h.visits ring)) = subst (λ (ts : List (Turn A)). IsIn t ts) ((h.chains).turns x.sender ring) own in
+      picked_numbered ring (h.visits ring) x t taken n.there
+
+  is_text : (ring : RingId) → IsText w.cores ring (users_in (whole ring))
+  is_text ring =
+      let user = λ (y : Message A). is_user y.payload in
+      record {
+        ascending = users_ascend 0 (whole ring) (whole_from ring);
+        users = users_each (whole ring);
+        numbered = λ x i. numbered_by_sender ring x (in-filtered user x (whole ring) i).0;
+        whole = λ x n u. in-filter user x (whole ring) (numbered_there ring x n) u;
+      }
+
   pub texts : HasTexts w
   texts =
       record {
         text = λ ring. users_in (whole ring);
+        is = is_text;
         named = λ ring. users_named ring (h.visits ring);
         heard = λ q ring.
             let n = front (w.cores q) ring in
@@ -67,6 +108,10 @@ module _ {A : Type 0} (w : World A) (r : Recovered w.cores w.frames) where
             (users_front (take n (whole ring)) (whole ring) (take_whole n (whole ring)));
         said = λ q ring. said_visits q ring (h.visits ring) ∙ ap spoken_in (sym ((h.chains).turns q ring));
       }
+
+pub text_is : {A : Type 0} → (w : World A) (r : Recovered w.cores w.frames) (ring : RingId) → (texts w r).text ring ≡ users_in (whole w r ring)
+unfolding texts
+text_is w r ring = refl
 
 pub all_texts : {A : Type 0} → (n : ℕ) (events : List (RingEvent A)) → HasTexts (run (unformed n) events)
 all_texts {A} n events = texts (run (unformed n) events) (all_recovered n events)

@@ -13,9 +13,9 @@ ghost use Rattle.ring_texts.specs.Texts.{HasTexts};
 use ring_object::Object;
 use std::alloc::{Allocator, Global};
 
-/// Each ring has one text, the users' messages that were numbered there, in the order of their numbers. What each
-/// processor heard of the ring up to its front is a front of it; and what each said there, packed calls one by one, is
-/// what it sent in its own visits of the ring's token, in the order in which it did.
+/// Each ring has one text, the users' messages that their senders numbered there at their visits of the ring's token, all
+/// of them, in the order of their numbers. What each processor heard of the ring up to its front is a front of it; and
+/// what each said there, packed calls one by one, is what it sent in its own visits, in the order in which it did.
 pub fn texts_law<A: Allocator + Copy>()
     ensures { (n : ℕ) (events : List (RingEvent A)) → HasTexts (run (unformed n) events) }
 {}

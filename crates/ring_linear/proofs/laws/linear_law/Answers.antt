@@ -1,5 +1,5 @@
 use Rattle.ring_facts.proofs.Facts.{node_is}
-use Rattle.ring_linear.proofs.Runs.{explains, run-grows, node-front}
+use Rattle.ring_linear.proofs.Runs.{explains, run-grows, node-front, only-issued}
 use Rattle.ring_linear.proofs.Bases.{stays, never}
 use Rattle.ring_linear.proofs.laws.linear_law.Goals as goal
 
@@ -19,3 +19,6 @@ pub returns-clause-never : goal.returns-clause-never
 returns-clause-never g c = λ group events node input few low high may.
     let object = g.O.Object.sequential in
     never object group few events node input (node_is object group events node low high) may
+
+pub returns-clause-issued : goal.returns-clause-issued
+returns-clause-issued g c = λ group events few. only-issued g.O.Object.sequential group few events
