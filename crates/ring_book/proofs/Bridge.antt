@@ -10,7 +10,7 @@ use Rattle.ring_payload.specs.declared.call.Call.{Call}
 use Rattle.ring_session.specs.Deduplicated.{deduplicated}
 use Rattle.ring_session.specs.declared.answer.Answer.{Answer}
 use Rattle.ring_wire.specs.declared.frame.Frame.{Frame}
-use Rattle.ring_world.specs.declared.item.Item.TheVariants.{Issue as Issued}
+use Rattle.ring_history.specs.declared.item.Item.TheVariants.{Issue as Issued}
 use Rattle.ring_one.specs.declared.input.Input.{Input}
 use Rattle.ring_one.specs.declared.input.Input.TheVariants.{Frame as Comes, Noise, Timeout, Stop}
 use Rattle.ring_one.proofs.Moves.{goes-on}

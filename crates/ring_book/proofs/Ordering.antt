@@ -11,7 +11,7 @@ use Rattle.ring_session.specs.Deduplicated.{deduplicated, takes_effect}
 use Rattle.ring_session.specs.DeduplicatedLaws.{deduplicated-push}
 use Rattle.ring_session.specs.SessionAnswer.{is_done}
 use Rattle.ring_session.specs.Table.{Table, table_after, table_answer, table_next, opening}
-use Rattle.ring_world.specs.Orders.{longer, order_of}
+use Rattle.ring_history.specs.Orders.{longer, order_of}
 use Rattle.ring_book.specs.declared.input.LineInput.{LineInput}
 use Rattle.ring_book.specs.declared.input.LineInput.TheVariants.{Called, Came}
 use Rattle.ring_book.specs.declared.line.Line.{Line}

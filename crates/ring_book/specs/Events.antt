@@ -3,8 +3,8 @@
 use Rattle.std.specs.Prelude.{ℕ, suc, ◌≡◌, ◌+◌, false, List, [], ◌∷◌, ◌++◌, length, take, Option, None, Some}
 use Rattle.ring_wire.specs.declared.frame.Frame.{Frame}
 use Rattle.ring_object.specs.Operations.{Sequential}
-use Rattle.ring_world.specs.declared.item.Item.{Item}
-use Rattle.ring_world.specs.declared.item.Item.TheVariants.{Issue as Issued}
+use Rattle.ring_history.specs.declared.item.Item.{Item}
+use Rattle.ring_history.specs.declared.item.Item.TheVariants.{Issue as Issued}
 use Rattle.ring_one.specs.declared.event.Event.{Event}
 use Rattle.ring_one.specs.declared.event.Event.TheVariants as events
 use Rattle.ring_one.specs.declared.input.Input.{Input}

@@ -21,7 +21,7 @@ use ring_one::{Ticket, linear_law};
 use ring_payload::Call;
 use ring_session::Answer;
 use ring_wire::Wire;
-use ring_world::Item;
+use ring_history::Item;
 use rtrb::Consumer;
 use std::alloc::Allocator;
 use std::marker::{Model, PhantomData};

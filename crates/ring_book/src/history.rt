@@ -12,7 +12,7 @@ use crate::step::Step;
 use ring_base::Fault;
 use ring_one::Answered;
 use ring_session::Answer;
-use ring_world::Item;
+use ring_history::Item;
 use std::alloc::Allocator;
 
 /// What clients see of the lines, in order, or `Memory`.

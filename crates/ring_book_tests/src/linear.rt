@@ -4,7 +4,7 @@ ghost use Rattle.std.specs.Prelude.{◌≡◌, IfOk, IfErr};
 ghost use Rattle.ring_base.specs.Fronts.{IsFront};
 ghost use Rattle.ring_base.specs.declared.fault.Fault.TheVariants.{Memory};
 ghost use Rattle.ring_session.specs.Deduplicated.{deduplicated};
-ghost use Rattle.ring_world.specs.Histories.{IsLinearization};
+ghost use Rattle.ring_history.specs.Histories.{IsLinearization};
 ghost use Rattle.ring_one.specs.Machine.{committed_of};
 ghost use Rattle.ring_one.specs.Runs.{run, order_in};
 ghost use Rattle.ring_book.specs.Answers.{told_at};
@@ -17,7 +17,7 @@ use ring_object::Object;
 use ring_one::{Ticket, linear_law};
 use ring_payload::Call;
 use ring_session::Answer;
-use ring_world::Item;
+use ring_history::Item;
 use std::alloc::{Allocator, Global};
 
 /// What a book shows: its history, and an order of calls that explains it.

@@ -7,7 +7,7 @@ use ring_base::{Fault, Fixed};
 use ring_book::{BookName, Opening};
 use ring_console::{Rings, Run, Script, ScriptFault, Things};
 use ring_object::Object;
-use ring_world::is_linearization;
+use ring_history::is_linearization;
 use std::alloc::{AllocError, Allocator, Global};
 use std::marker::Brand;
 

@@ -19,8 +19,8 @@ use Rattle.ring_log.specs.Parts.{nth_part, parts_between}
 use Rattle.ring_log.specs.Stays.{Stay}
 use Rattle.ring_log.specs.Lives.{after_all, log_of}
 use Rattle.ring_ticket.specs.Tickets.{Asked}
-use Rattle.ring_node.specs.Nodes.{Node, node_committed, runs}
-use Rattle.ring_node.specs.Dues.{parts_due, due_when_stated, calls_due, due_when_whole, due_between, due_in_stay, due_at_agreed}
+use Rattle.ring_machine.specs.Nodes.{Node, node_committed, runs}
+use Rattle.ring_machine.specs.Dues.{parts_due, due_when_stated, calls_due, due_when_whole, due_between, due_in_stay, due_at_agreed}
 use Rattle.ring_order.specs.Discipline.{FollowsHead}
 
 -- Parts

@@ -27,12 +27,12 @@ use Rattle.ring_core.specs.Stepping.{ring_step}
 use Rattle.ring_log.specs.Stays.{Stay, hands}
 use Rattle.ring_log.specs.Exchanges.{opened}
 use Rattle.ring_log.specs.Lives.{Whole, whole_from, exchanged, log_of, last_by, last_of, is_sound}
-use Rattle.ring_node.specs.declared.input.Input.{Input as NodeInput}
-use Rattle.ring_node.specs.declared.input.Input.TheVariants.{Frame as NodeFrame, Noise as NodeNoise, Timeout as NodeTime, Stop as NodeStop}
-use Rattle.ring_node.specs.Lives.{lived_through}
-use Rattle.ring_node.specs.Nodes.{Node, node_stopped, runs_some, runs_adopted}
-use Rattle.ring_node.specs.Dues.{due_by}
-use Rattle.ring_node.specs.Stepping.{handed_over, walked, settled, after_core, node_step, due_by_submit, submitted}
+use Rattle.ring_machine.specs.declared.input.Input.{Input as NodeInput}
+use Rattle.ring_machine.specs.declared.input.Input.TheVariants.{Frame as NodeFrame, Noise as NodeNoise, Timeout as NodeTime, Stop as NodeStop}
+use Rattle.ring_machine.specs.Lives.{lived_through}
+use Rattle.ring_machine.specs.Nodes.{Node, node_stopped, runs_some, runs_adopted}
+use Rattle.ring_machine.specs.Dues.{due_by}
+use Rattle.ring_machine.specs.Stepping.{handed_over, walked, settled, after_core, node_step, due_by_submit, submitted}
 use Rattle.ring_order.specs.Time.{LifeEvent, Handed, MayHandAfter, MayHand, AllMayHappen, all_lived}
 use Rattle.ring_lives.proofs.Ordered.{Ordered, ordering}
 use Rattle.ring_lives.proofs.Telling.{keeps_done}

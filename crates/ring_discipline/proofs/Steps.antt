@@ -24,9 +24,9 @@ use Rattle.ring_core.specs.Acting.{act, may_follow, proposed_after, done}
 use Rattle.ring_core.specs.Giving.{installs_in, install, addressed, sent, given, delivered_from, configured}
 use Rattle.ring_log.specs.Stays.{Stay, stay_in}
 use Rattle.ring_log.specs.Lives.{log_of, head_of_life}
-use Rattle.ring_node.specs.Lives.{lived, lived_through}
-use Rattle.ring_node.specs.Nodes.{Node, runs}
-use Rattle.ring_node.specs.Dues.{due_at, due_by, due_at_regular}
+use Rattle.ring_machine.specs.Lives.{lived, lived_through}
+use Rattle.ring_machine.specs.Nodes.{Node, runs}
+use Rattle.ring_machine.specs.Dues.{due_at, due_by, due_at_regular}
 use Rattle.ring_order.specs.Time.{LifeEvent, Regular, MayHandFirst, MayHandAfter, AllMayHappen, all_lived}
 use Rattle.ring_discipline.proofs.Dues.{IsDue, RunsPrimary, none_due}
 use Rattle.ring_discipline.proofs.Telling.{IsTold, through-append, due-append, events-append, may-append, silent_through, silent_due, delivered_told, told_then}

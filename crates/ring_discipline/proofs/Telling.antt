@@ -13,9 +13,9 @@ use Rattle.ring_core.specs.Views.{front, mark}
 use Rattle.ring_core.specs.Giving.{users, agreed_from, safe_from, delivered_from}
 use Rattle.ring_log.specs.Stays.{Stay}
 use Rattle.ring_log.specs.Lives.{log_of}
-use Rattle.ring_node.specs.Lives.{lived, lived_through}
-use Rattle.ring_node.specs.Nodes.{Node}
-use Rattle.ring_node.specs.Dues.{due_at, due_by}
+use Rattle.ring_machine.specs.Lives.{lived, lived_through}
+use Rattle.ring_machine.specs.Nodes.{Node}
+use Rattle.ring_machine.specs.Dues.{due_at, due_by}
 use Rattle.ring_order.specs.Time.{LifeEvent, Agreed, Safe, AllMayHappen, all_lived}
 use Rattle.ring_order.specs.Time.{lived as life_lived}
 use Rattle.ring_discipline.proofs.Dues.{IsDue, RunsPrimary, none_due, both_due, agreed_due}

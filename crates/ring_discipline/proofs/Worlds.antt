@@ -10,13 +10,13 @@ use Rattle.ring_payload.specs.declared.call.Call.{Call as OneCall}
 use Rattle.ring_wire.specs.declared.frame.Frame.{Frame}
 use Rattle.ring_core.specs.State.{Carried}
 use Rattle.ring_log.specs.Stays.{Stay, stay_in}
-use Rattle.ring_node.specs.declared.input.Input.{Input as NodeInput}
-use Rattle.ring_node.specs.declared.input.Input.TheVariants.{Frame as NodeFrame, Timeout as NodeTime}
-use Rattle.ring_node.specs.Nodes.{Node, node_opening}
-use Rattle.ring_node.specs.Stepping.{submit_fault}
-use Rattle.ring_world.specs.declared.event.Event.{Event}
-use Rattle.ring_world.specs.declared.event.Event.TheVariants.{Issue, Deliver, Noise, Timeout, Stop}
-use Rattle.ring_world.specs.Worlds.{World, put, world_opening, is_node, issued_or, issued_if, stopped_if, frame_at, stepped_if, handed_if, handed, happens, run}
+use Rattle.ring_machine.specs.declared.input.Input.{Input as NodeInput}
+use Rattle.ring_machine.specs.declared.input.Input.TheVariants.{Frame as NodeFrame, Timeout as NodeTime}
+use Rattle.ring_machine.specs.Nodes.{Node, node_opening}
+use Rattle.ring_machine.specs.Stepping.{submit_fault}
+use Rattle.ring_history.specs.declared.event.Event.{Event}
+use Rattle.ring_history.specs.declared.event.Event.TheVariants.{Issue, Deliver, Noise, Timeout, Stop}
+use Rattle.ring_history.specs.Worlds.{World, put, world_opening, is_node, issued_or, issued_if, stopped_if, frame_at, stepped_if, handed_if, handed, happens, run}
 use Rattle.ring_order.specs.Discipline.{KeepsDiscipline}
 use Rattle.ring_order.specs.Time.{AllMayHappen, LivesOn}
 use Rattle.ring_order.proofs.Living.{on-self, on-trans, events-on, events-orderly}

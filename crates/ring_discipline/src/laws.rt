@@ -2,8 +2,8 @@
 
 ghost use Rattle.std.specs.Prelude.{ℕ, List};
 ghost use Rattle.ring_base.specs.Group.{Group};
-ghost use Rattle.ring_world.specs.declared.event.Event.{Event};
-ghost use Rattle.ring_world.specs.Worlds.{world_opening, run};
+ghost use Rattle.ring_history.specs.declared.event.Event.{Event};
+ghost use Rattle.ring_history.specs.Worlds.{world_opening, run};
 ghost use Rattle.ring_order.specs.Discipline.{KeepsDiscipline};
 ghost use Rattle.ring_order.specs.Time.{LivesOn};
 ghost use Rattle.ring_discipline.specs.Living.{lives_of};

@@ -15,9 +15,9 @@ use Rattle.ring_moves.specs.declared.event.RingEvent.TheVariants.{Deliver, Timeo
 use Rattle.ring_moves.specs.Worlds.{World as RingWorld, after_step, stepped_if, handed_if, handed, frame_at as ring_frame_at, happens, unformed}
 use Rattle.ring_moves.proofs.Everywhere.{kept_step}
 use Rattle.ring_lives.proofs.Ordered.{Ordered, ordering}
-use Rattle.ring_node.specs.Nodes.{Node}
-use Rattle.ring_world.specs.declared.event.Event.{Event}
-use Rattle.ring_world.specs.Worlds.{World, world_opening, put, is_node, frame_at, run}
+use Rattle.ring_machine.specs.Nodes.{Node}
+use Rattle.ring_history.specs.declared.event.Event.{Event}
+use Rattle.ring_history.specs.Worlds.{World, world_opening, put, is_node, frame_at, run}
 use Rattle.ring_projection.specs.Projection.{ring_part, IsRingRun}
 use Rattle.ring_projection.proofs.Events.{ring_run}
 use Rattle.ring_projection.proofs.Quiet.{stepped_is}

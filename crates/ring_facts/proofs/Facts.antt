@@ -25,8 +25,8 @@ use Rattle.ring_log.specs.Lives.{upto}
 use Rattle.ring_order.specs.Facts.{IsStay, StayIn, Rises, said_by, safe_part, AllHeard}
 use Rattle.ring_token.specs.Turns.{Turn, turns_of}
 use Rattle.ring_token.specs.Rounds.{IsSafeIn}
-use Rattle.ring_world.specs.declared.event.Event.{Event}
-use Rattle.ring_world.specs.Worlds.{World, world_opening, is_node, run}
+use Rattle.ring_history.specs.declared.event.Event.{Event}
+use Rattle.ring_history.specs.Worlds.{World, world_opening, is_node, run}
 use Rattle.ring_projection.specs.Projection.{ring_part, IsRingRun}
 use Rattle.ring_projection.proofs.Events.{ring_run}
 use Rattle.ring_discipline.specs.Living.{lives_of}

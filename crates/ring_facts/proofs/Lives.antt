@@ -16,9 +16,9 @@ use Rattle.ring_lives.proofs.Ordered.{Ordered}
 use Rattle.ring_lives.proofs.Telling.{tale_is}
 use Rattle.ring_lives.proofs.Worlds.{lives_are, all_well_told}
 use Rattle.ring_log.specs.Stays.{Stay}
-use Rattle.ring_node.specs.Lives.{lived as node_lived, lived_through}
+use Rattle.ring_machine.specs.Lives.{lived as node_lived, lived_through}
 use Rattle.ring_order.specs.Facts.{IsStay}
-use Rattle.ring_world.specs.Worlds.{World}
+use Rattle.ring_history.specs.Worlds.{World}
 use Rattle.ring_discipline.proofs.Steps.{rings_of, installed_rings}
 use Rattle.ring_projection.specs.Projection.{ring_part, unsent, heard_life, IsRingRun}
 

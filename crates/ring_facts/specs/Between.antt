@@ -7,9 +7,9 @@ use Rattle.ring_core.specs.declared.input.Input.TheVariants.{Frame as FrameInput
 use Rattle.ring_core.specs.State.{Carried}
 use Rattle.ring_core.specs.Stepping.{ring_step}
 use Rattle.ring_moves.specs.Worlds.{carried_by}
-use Rattle.ring_node.specs.Lives.{lived_through}
-use Rattle.ring_node.specs.Nodes.{Node}
-use Rattle.ring_world.specs.Worlds.{World, put, frame_at}
+use Rattle.ring_machine.specs.Lives.{lived_through}
+use Rattle.ring_machine.specs.Nodes.{Node}
+use Rattle.ring_history.specs.Worlds.{World, put, frame_at}
 
 -- what may come to a node's core: a timeout, or a frame that was sent to the node
 abbrev pub MayCome : {A : Type 0} → World A → ℕ → Input A → Type 0

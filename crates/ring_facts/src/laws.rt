@@ -3,8 +3,8 @@
 ghost use Rattle.std.specs.Prelude.{ℕ, ◌≤◌, List};
 ghost use Rattle.ring_base.specs.Group.{Group};
 ghost use Rattle.ring_core.specs.declared.input.Input.{Input};
-ghost use Rattle.ring_world.specs.declared.event.Event.{Event};
-ghost use Rattle.ring_world.specs.Worlds.{world_opening, run};
+ghost use Rattle.ring_history.specs.declared.event.Event.{Event};
+ghost use Rattle.ring_history.specs.Worlds.{world_opening, run};
 ghost use Rattle.ring_facts.specs.Facts.{HasFacts};
 ghost use Rattle.ring_facts.specs.Between.{MayCome, between};
 

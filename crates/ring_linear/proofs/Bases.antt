@@ -11,10 +11,10 @@ use Rattle.ring_core.specs.declared.out.Out.TheVariants.{Send, Agreed, Safe, Tra
 use Rattle.ring_core.specs.Stepping.{ring_step}
 use Rattle.ring_log.specs.Stays.{Stay, stay_in}
 use Rattle.ring_log.specs.Lives.{Whole, upto, exchanged, ring_log_by, ring_log}
-use Rattle.ring_node.specs.Lives.{lived, lived_through}
-use Rattle.ring_node.specs.Nodes.{Node}
-use Rattle.ring_world.specs.declared.event.Event.{Event}
-use Rattle.ring_world.specs.Worlds.{World, world_opening, is_node, run}
+use Rattle.ring_machine.specs.Lives.{lived, lived_through}
+use Rattle.ring_machine.specs.Nodes.{Node}
+use Rattle.ring_history.specs.declared.event.Event.{Event}
+use Rattle.ring_history.specs.Worlds.{World, world_opening, is_node, run}
 use Rattle.ring_order.specs.Discipline.{OpensWithHead, KeepsDiscipline}
 use Rattle.ring_order.proofs.Living.{IsOrderly}
 use Rattle.ring_order.proofs.Moment.{safe-stays}

@@ -23,12 +23,12 @@ use Rattle.ring_log.specs.Parts.{parts_between}
 use Rattle.ring_log.specs.Stays.{Stay}
 use Rattle.ring_log.specs.Lives.{after_all, log_of, head_of_life, is_sound}
 use Rattle.ring_ticket.specs.Tickets.{Asked, unanswered}
-use Rattle.ring_node.specs.Lives.{lived, lived_through}
-use Rattle.ring_node.specs.Nodes.{Node, node_committed, node_stopped, runs, runs_adopted}
-use Rattle.ring_node.specs.Dues.{is_stated, parts_due, due_when_stated, calls_due, due_when_whole, due_between, due_in_stay, due_at_agreed, due_at, due_by}
-use Rattle.ring_node.specs.declared.input.Input.{Input}
-use Rattle.ring_node.specs.declared.input.Input.TheVariants.{Frame, Noise, Timeout, Stop}
-use Rattle.ring_node.specs.Stepping.{settled, walked, after_core, node_step, due_by_submit, submitted}
+use Rattle.ring_machine.specs.Lives.{lived, lived_through}
+use Rattle.ring_machine.specs.Nodes.{Node, node_committed, node_stopped, runs, runs_adopted}
+use Rattle.ring_machine.specs.Dues.{is_stated, parts_due, due_when_stated, calls_due, due_when_whole, due_between, due_in_stay, due_at_agreed, due_at, due_by}
+use Rattle.ring_machine.specs.declared.input.Input.{Input}
+use Rattle.ring_machine.specs.declared.input.Input.TheVariants.{Frame, Noise, Timeout, Stop}
+use Rattle.ring_machine.specs.Stepping.{settled, walked, after_core, node_step, due_by_submit, submitted}
 use Rattle.ring_order.specs.Time.{IsKnownCall, Handed as HandedEvent, Agreed as AgreedEvent, Safe as SafeEvent, Regular as RegularEvent}
 use Rattle.ring_order.proofs.Living.{LifeHands, event-known}
 

@@ -4,8 +4,8 @@ use Rattle.ring_base.specs.Group.{Group}
 use Rattle.ring_base.specs.declared.ring_id.RingId.{RingId}
 use Rattle.ring_object.specs.Operations.{Sequential}
 use Rattle.ring_wire.specs.declared.message.Message.{Message}
-use Rattle.ring_world.specs.declared.event.Event.{Event}
-use Rattle.ring_world.specs.Worlds.{World, world_opening, happens, run}
+use Rattle.ring_history.specs.declared.event.Event.{Event}
+use Rattle.ring_history.specs.Worlds.{World, world_opening, happens, run}
 use Rattle.ring_order.specs.Facts.{RingFacts}
 use Rattle.ring_order.specs.Discipline.{KeepsDiscipline}
 use Rattle.ring_discipline.specs.Living.{lives_of}

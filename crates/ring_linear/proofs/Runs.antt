@@ -11,13 +11,13 @@ use Rattle.ring_payload.specs.declared.call.Call.{Call}
 use Rattle.ring_session.specs.Deduplicated.{deduplicated}
 use Rattle.ring_log.specs.Stays.{born}
 use Rattle.ring_log.specs.Lives.{Whole, exchanged, committed_by, committed_of}
-use Rattle.ring_node.specs.Nodes.{node_opening, node_committed}
-use Rattle.ring_world.specs.declared.event.Event.{Event}
-use Rattle.ring_world.specs.Histories.{IsLinearization}
-use Rattle.ring_world.specs.Orders.{longer, order_of, IsOrderStep}
-use Rattle.ring_world.specs.Worlds.{World, world_opening, happens, run, order, committed_in, moment_of}
-use Rattle.ring_world.proofs.Linear.{linear-nothing}
-use Rattle.ring_world.proofs.Orders.{order_of-grows, order_of-fronts, linear-step}
+use Rattle.ring_machine.specs.Nodes.{node_opening, node_committed}
+use Rattle.ring_history.specs.declared.event.Event.{Event}
+use Rattle.ring_history.specs.Histories.{IsLinearization}
+use Rattle.ring_history.specs.Orders.{longer, order_of, IsOrderStep}
+use Rattle.ring_history.specs.Worlds.{World, world_opening, happens, run, order, committed_in, moment_of}
+use Rattle.ring_history.proofs.Linear.{linear-nothing}
+use Rattle.ring_history.proofs.Orders.{order_of-grows, order_of-fronts, linear-step}
 use Rattle.ring_discipline.proofs.Worlds.{lives_on}
 use Rattle.ring_linear.specs.Linear.{OnlyIssued}
 use Rattle.ring_linear.proofs.Worlds.{WorldKnows, opening-knows, run-knows}

@@ -13,9 +13,9 @@ use Rattle.ring_session.specs.SessionAnswer.{is_same, session_answer, reply_in}
 use Rattle.ring_session.specs.SessionAnswerLaws.{is_same-true, session_answer-front}
 use Rattle.ring_ticket.specs.declared.answered.Answered.{Answered}
 use Rattle.ring_ticket.specs.Tickets.{Asked, first_place, place_of, is_place, answered, answers_at, answers_after}
-use Rattle.ring_world.specs.declared.item.Item.{Item}
-use Rattle.ring_world.specs.Orders.{IsGiven}
-use Rattle.ring_world.specs.Worlds.{replied, items_of}
+use Rattle.ring_history.specs.declared.item.Item.{Item}
+use Rattle.ring_history.specs.Orders.{IsGiven}
+use Rattle.ring_history.specs.Worlds.{replied, items_of}
 
 first_at : {A : Type 0} (c d : Call A) (since at : ℕ) (ds : List (Call A)) (p : ℕ)
     → ((q : ℕ) → first_place c since (at + 1) ds ≡ Some q → (at + 1 ≤ q) × (slice_get ds (q - (at + 1)) ≡ Some c)) → (b : Bool)

@@ -13,19 +13,19 @@ use Rattle.ring_core.specs.declared.input.Input.TheVariants.{Frame as CoreFrame,
 use Rattle.ring_core.specs.declared.out.Out.{Out}
 use Rattle.ring_log.specs.Stays.{Stay, born}
 use Rattle.ring_log.specs.Lives.{is_sound}
-use Rattle.ring_node.specs.Lives.{lived_through}
-use Rattle.ring_node.specs.Nodes.{Node, node_stopped}
-use Rattle.ring_node.specs.Dues.{due_by}
-use Rattle.ring_node.specs.declared.input.Input.{Input}
-use Rattle.ring_node.specs.declared.input.Input.TheVariants.{Frame as FrameInput, Noise as NoiseInput, Timeout as TimeInput, Stop as StopInput}
-use Rattle.ring_node.specs.Stepping.{settled, walked, after_core, node_step, submit_fault, submitted}
-use Rattle.ring_world.specs.declared.event.Event.{Event}
-use Rattle.ring_world.specs.declared.event.Event.TheVariants.{Issue, Deliver, Noise, Timeout, Stop}
-use Rattle.ring_world.specs.declared.item.Item.{Item}
-use Rattle.ring_world.specs.declared.item.Item.TheVariants.{Issue as IssuedItem}
-use Rattle.ring_world.specs.declared.told.Told.{Told}
-use Rattle.ring_world.specs.Histories.{IsIssuedAt}
-use Rattle.ring_world.specs.Worlds.{World, world_opening, put, is_node, items_of, after_step, issued_or, issued_if, stopped_if, frame_at, stepped_if, handed_if, handed, happens, run}
+use Rattle.ring_machine.specs.Lives.{lived_through}
+use Rattle.ring_machine.specs.Nodes.{Node, node_stopped}
+use Rattle.ring_machine.specs.Dues.{due_by}
+use Rattle.ring_machine.specs.declared.input.Input.{Input}
+use Rattle.ring_machine.specs.declared.input.Input.TheVariants.{Frame as FrameInput, Noise as NoiseInput, Timeout as TimeInput, Stop as StopInput}
+use Rattle.ring_machine.specs.Stepping.{settled, walked, after_core, node_step, submit_fault, submitted}
+use Rattle.ring_history.specs.declared.event.Event.{Event}
+use Rattle.ring_history.specs.declared.event.Event.TheVariants.{Issue, Deliver, Noise, Timeout, Stop}
+use Rattle.ring_history.specs.declared.item.Item.{Item}
+use Rattle.ring_history.specs.declared.item.Item.TheVariants.{Issue as IssuedItem}
+use Rattle.ring_history.specs.declared.told.Told.{Told}
+use Rattle.ring_history.specs.Histories.{IsIssuedAt}
+use Rattle.ring_history.specs.Worlds.{World, world_opening, put, is_node, items_of, after_step, issued_or, issued_if, stopped_if, frame_at, stepped_if, handed_if, handed, happens, run}
 use Rattle.ring_order.specs.Facts.{IsStay}
 use Rattle.ring_order.specs.Time.{IsKnownCall}
 use Rattle.std.specs.List.{AllByRecursion as Each}

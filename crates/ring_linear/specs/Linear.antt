@@ -13,8 +13,8 @@ use Rattle.ring_core.specs.Views.{front}
 use Rattle.ring_log.specs.Stays.{Stay}
 use Rattle.ring_log.specs.Lives.{Whole, upto, exchanged, log_of, committed_of, base_of, ring_log, keeps_committed}
 use Rattle.ring_ticket.specs.Tickets.{Asked}
-use Rattle.ring_world.specs.Histories.{IsIssuedAt}
-use Rattle.ring_world.specs.Worlds.{World}
+use Rattle.ring_history.specs.Histories.{IsIssuedAt}
+use Rattle.ring_history.specs.Worlds.{World}
 use Rattle.ring_order.specs.Facts.{IsStay, AllHeard}
 use Rattle.ring_order.specs.Time.{IsKnownCall}
 use Rattle.ring_discipline.specs.Living.{lives_of}

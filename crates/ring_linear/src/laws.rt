@@ -7,11 +7,11 @@ ghost use Rattle.ring_core.specs.declared.input.Input.{Input};
 ghost use Rattle.ring_discipline.specs.Living.{lives_of};
 ghost use Rattle.ring_facts.specs.Between.{MayCome, stepped_node};
 ghost use Rattle.ring_facts.specs.Facts.{HasFacts};
-ghost use Rattle.ring_node.specs.Nodes.{node_committed};
+ghost use Rattle.ring_machine.specs.Nodes.{node_committed};
 ghost use Rattle.ring_session.specs.Deduplicated.{deduplicated};
-ghost use Rattle.ring_world.specs.declared.event.Event.{Event};
-ghost use Rattle.ring_world.specs.Histories.{IsLinearization};
-ghost use Rattle.ring_world.specs.Worlds.{world_opening, run, order};
+ghost use Rattle.ring_history.specs.declared.event.Event.{Event};
+ghost use Rattle.ring_history.specs.Histories.{IsLinearization};
+ghost use Rattle.ring_history.specs.Worlds.{world_opening, run, order};
 ghost use Rattle.ring_linear.specs.Linear.{SafeStays, ReachedStays, KeepsCommitted, OnlyIssued};
 
 use ring_object::Object;

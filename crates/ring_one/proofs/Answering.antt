@@ -10,8 +10,8 @@ use Rattle.ring_session.specs.declared.answer.Answer.TheVariants.{Done, Kept, Re
 use Rattle.ring_session.specs.Deduplicated.{StandsAt}
 use Rattle.ring_session.specs.SessionAnswer.{is_same, session_answer, reply_in}
 use Rattle.ring_session.specs.SessionAnswerLaws.{is_same-true, session_answer-front}
-use Rattle.ring_world.specs.declared.item.Item.{Item}
-use Rattle.ring_world.specs.Orders.{IsGiven}
+use Rattle.ring_history.specs.declared.item.Item.{Item}
+use Rattle.ring_history.specs.Orders.{IsGiven}
 use Rattle.ring_ticket.specs.declared.answered.Answered.{Answered}
 use Rattle.ring_ticket.specs.Tickets.{Asked, first_place, place_of, is_place, answered, answers_at, answers_after}
 use Rattle.ring_one.specs.Runs.{replied, replies}

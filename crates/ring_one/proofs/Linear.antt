@@ -13,12 +13,12 @@ use Rattle.ring_payload.specs.declared.content.Payload.TheVariants.{Call as OneC
 use Rattle.ring_session.specs.DeduplicatedLaws.{get-push_last}
 use Rattle.ring_wire.specs.declared.frame.Frame.{Frame}
 use Rattle.ring_session.specs.Deduplicated.{StandsAt}
-use Rattle.ring_world.specs.declared.item.Item.{Item}
-use Rattle.ring_world.specs.declared.item.Item.TheVariants.{Issue as Issued}
-use Rattle.ring_world.specs.Histories.{IsIssuedAt, AreIssued, IsLinearization}
-use Rattle.ring_world.specs.Orders.{IsOrderStep, IsAdded}
-use Rattle.ring_world.proofs.Orders.{linear-step, order_of-grows}
-use Rattle.ring_world.proofs.Linear.{linear-nothing}
+use Rattle.ring_history.specs.declared.item.Item.{Item}
+use Rattle.ring_history.specs.declared.item.Item.TheVariants.{Issue as Issued}
+use Rattle.ring_history.specs.Histories.{IsIssuedAt, AreIssued, IsLinearization}
+use Rattle.ring_history.specs.Orders.{IsOrderStep, IsAdded}
+use Rattle.ring_history.proofs.Orders.{linear-step, order_of-grows}
+use Rattle.ring_history.proofs.Linear.{linear-nothing}
 use Rattle.ring_one.specs.declared.event.Event.{Event}
 use Rattle.ring_one.specs.declared.event.Event.TheVariants.{Issue, Deliver, Noise, Timeout, Stop}
 use Rattle.ring_one.specs.declared.input.Input.{Input}

@@ -6,9 +6,9 @@ use Rattle.ring_object.specs.Operations.{Sequential}
 use Rattle.ring_payload.specs.declared.call.Call.{Call}
 use Rattle.ring_wire.specs.declared.frame.Frame.{Frame}
 use Rattle.ring_session.specs.SessionAnswer.{reply_in}
-use Rattle.ring_world.specs.declared.item.Item.{Item}
-use Rattle.ring_world.specs.declared.item.Item.TheVariants.{Issue as Issued, Reply as Replied}
-use Rattle.ring_world.specs.Orders.{Moment, order_of}
+use Rattle.ring_history.specs.declared.item.Item.{Item}
+use Rattle.ring_history.specs.declared.item.Item.TheVariants.{Issue as Issued, Reply as Replied}
+use Rattle.ring_history.specs.Orders.{Moment, order_of}
 use Rattle.ring_one.specs.declared.event.Event.{Event}
 use Rattle.ring_one.specs.declared.event.Event.TheVariants.{Issue, Deliver, Noise, Timeout, Stop}
 use Rattle.ring_one.specs.declared.input.Input.{Input}

@@ -3,9 +3,9 @@
 ghost use Rattle.std.specs.Prelude.{◌≡◌, ℕ, List, [], ◌∷◌, ◌++◌, ◌⊎◌, true, false};
 ghost use Rattle.ring_base.specs.Fronts.{IsFront};
 ghost use Rattle.ring_session.specs.Deduplicated.{deduplicated};
-ghost use Rattle.ring_world.specs.Histories.{IsLinearization};
+ghost use Rattle.ring_history.specs.Histories.{IsLinearization};
 ghost use Rattle.ring_one.specs.declared.event.Event.{Event};
-ghost use Rattle.ring_world.specs.declared.item.Item.TheVariants.{Issue, Reply as Replied};
+ghost use Rattle.ring_history.specs.declared.item.Item.TheVariants.{Issue, Reply as Replied};
 ghost use Rattle.ring_base.specs.declared.state.State.TheVariants.{Operational};
 ghost use Rattle.ring_one.specs.Examples.{first_operation, first_call, call_sent, call_answered, first_frames};
 ghost use Rattle.ring_one.specs.Machine.{committed_of, ring_before, ring_of_one};

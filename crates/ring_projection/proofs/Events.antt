@@ -8,11 +8,11 @@ use Rattle.ring_payload.specs.declared.call.Call.{Call as OneCall}
 use Rattle.ring_core.specs.declared.input.Input.TheVariants.{Frame as FrameInput, Timeout as TimeInput}
 use Rattle.ring_core.specs.declared.out.Out.{Out}
 use Rattle.ring_core.specs.State.{Carried}
-use Rattle.ring_node.specs.declared.input.Input.TheVariants.{Frame as NodeFrame, Timeout as NodeTime}
-use Rattle.ring_node.specs.Stepping.{due_by_submit, submit_fault, submitted}
-use Rattle.ring_world.specs.declared.event.Event.{Event}
-use Rattle.ring_world.specs.declared.event.Event.TheVariants.{Issue, Deliver, Noise, Timeout, Stop}
-use Rattle.ring_world.specs.Worlds.{World, world_opening, is_node as is_world_node, issued_or, issued_if, stopped_if as node_stopped_if, frame_at as world_frame_at, stepped_if as node_stepped_if, handed_if as node_handed_if, handed as node_handed, happens as node_happens, run as node_run}
+use Rattle.ring_machine.specs.declared.input.Input.TheVariants.{Frame as NodeFrame, Timeout as NodeTime}
+use Rattle.ring_machine.specs.Stepping.{due_by_submit, submit_fault, submitted}
+use Rattle.ring_history.specs.declared.event.Event.{Event}
+use Rattle.ring_history.specs.declared.event.Event.TheVariants.{Issue, Deliver, Noise, Timeout, Stop}
+use Rattle.ring_history.specs.Worlds.{World, world_opening, is_node as is_world_node, issued_or, issued_if, stopped_if as node_stopped_if, frame_at as world_frame_at, stepped_if as node_stepped_if, handed_if as node_handed_if, handed as node_handed, happens as node_happens, run as node_run}
 use Rattle.ring_moves.specs.declared.event.RingEvent.TheVariants.{Deliver as RingDeliver, Timeout as RingTimeout}
 use Rattle.ring_moves.specs.Worlds.{put, stepped_if, handed_if, handed, frame_at, run}
 use Rattle.ring_projection.specs.Projection.{ring_part, IsRingRun}

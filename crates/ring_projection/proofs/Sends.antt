@@ -5,7 +5,7 @@ use Rattle.ring_core.specs.declared.input.Input.TheVariants.{Send as SendInput}
 use Rattle.ring_core.specs.State.{Core}
 use Rattle.ring_core.specs.Giving.{may_install}
 use Rattle.ring_core.specs.Stepping.{ring_step}
-use Rattle.ring_node.specs.Stepping.{handed_over}
+use Rattle.ring_machine.specs.Stepping.{handed_over}
 use Rattle.ring_moves.specs.declared.event.RingEvent.{RingEvent}
 use Rattle.ring_moves.specs.declared.event.RingEvent.TheVariants.{Send}
 use Rattle.ring_moves.specs.Worlds.{World as RingWorld, put, after_step, is_node, stepped_if, happens, run}

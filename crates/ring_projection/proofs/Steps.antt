@@ -17,12 +17,12 @@ use Rattle.ring_core.specs.Giving.{may_install}
 use Rattle.ring_core.specs.Stepping.{ring_step}
 use Rattle.ring_log.specs.Stays.{Stay, born, hands}
 use Rattle.ring_log.specs.Lives.{is_sound}
-use Rattle.ring_node.specs.declared.input.Input.{Input as NodeInput}
-use Rattle.ring_node.specs.Lives.{lived, lived_through}
-use Rattle.ring_node.specs.Nodes.{Node, node_stopped}
-use Rattle.ring_node.specs.Dues.{due_by}
-use Rattle.ring_node.specs.Stepping.{handed_over, walked, send_of, settled, after_core, node_step}
-use Rattle.ring_world.specs.Worlds.{World, put as put_node, is_node as is_world_node, carried, after_step as after_node}
+use Rattle.ring_machine.specs.declared.input.Input.{Input as NodeInput}
+use Rattle.ring_machine.specs.Lives.{lived, lived_through}
+use Rattle.ring_machine.specs.Nodes.{Node, node_stopped}
+use Rattle.ring_machine.specs.Dues.{due_by}
+use Rattle.ring_machine.specs.Stepping.{handed_over, walked, send_of, settled, after_core, node_step}
+use Rattle.ring_history.specs.Worlds.{World, put as put_node, is_node as is_world_node, carried, after_step as after_node}
 use Rattle.ring_moves.specs.declared.event.RingEvent.{RingEvent}
 use Rattle.ring_moves.specs.declared.event.RingEvent.TheVariants.{Stop as RingStop}
 use Rattle.ring_moves.specs.Worlds.{put, carried_by, after_step, stopped_if, happens, run}

@@ -3,8 +3,8 @@ use Rattle.std.specs.Prelude.{◌≡◌, ℕ, List, [], map}
 use Rattle.ring_base.specs.Group.{Group}
 use Rattle.ring_core.specs.declared.out.Out.{Out}
 use Rattle.ring_log.specs.Stays.{Stay, born}
-use Rattle.ring_node.specs.Lives.{lived_through}
-use Rattle.ring_world.specs.Worlds.{World}
+use Rattle.ring_machine.specs.Lives.{lived_through}
+use Rattle.ring_history.specs.Worlds.{World}
 use Rattle.ring_moves.specs.declared.event.RingEvent.{RingEvent}
 use Rattle.ring_moves.specs.Worlds.{World as RingWorld, run, unformed}
 use Rattle.ring_moves.specs.Lives.{outs_of}

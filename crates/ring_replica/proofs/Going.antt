@@ -19,12 +19,12 @@ use Rattle.ring_log.specs.Stays.{Stay, born, stay_in, hears, marks, hands}
 use Rattle.ring_log.specs.Lives.{Whole, exchanged, own_base, log_by, log_of, last_by, last_of, upto, committed_by, committed_of, kept_of, keeps_committed, is_sound}
 use Rattle.ring_order.proofs.Wholes.{grown, exchanged-front, log_on, log-front}
 use Rattle.ring_ticket.specs.declared.pending.Pending.{Pending}
-use Rattle.ring_node.specs.Lives.{lived, lived_through}
+use Rattle.ring_machine.specs.Lives.{lived, lived_through}
 use Rattle.ring_replica.specs.declared.reach.Reach.{Reach}
 use Rattle.ring_replica.specs.declared.setting.Setting.{Setting}
 use Rattle.ring_replica.specs.declared.stage.Stage.{Stage}
 use Rattle.ring_replica.specs.Courses.{stage_in, reach_of, reach_at, reaches_from, behind, left, covered, took, Moment, dues_heard, dues_at, dues_by, is_risen, rises_at, rises, IsKept}
-use Rattle.ring_node.specs.Stepping.{send_of}
+use Rattle.ring_machine.specs.Stepping.{send_of}
 use Rattle.ring_replica.proofs.Courses.{exchanged-nothing, covers-upto, upto-behind, reaches-push, committed-reach, settled, left-settled}
 use Rattle.ring_replica.proofs.Messages.{with_message, Hears, hears-is}
 

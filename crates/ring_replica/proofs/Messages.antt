@@ -25,7 +25,7 @@ use Rattle.ring_ticket.specs.declared.pending.Pending.{Pending}
 use Rattle.ring_replica.specs.declared.setting.Setting.{Setting}
 use Rattle.ring_replica.specs.declared.stage.Stage.{Stage}
 use Rattle.ring_replica.specs.declared.stage.Stage.TheVariants.{Apart, Exchanging, Adopted}
-use Rattle.ring_node.specs.Dues.{is_stated, parts_due, due_when_stated}
+use Rattle.ring_machine.specs.Dues.{is_stated, parts_due, due_when_stated}
 use Rattle.ring_replica.specs.Courses.{staged, stage_in, reached, reach_of, reach_at, calls_left, parts_asked, if_runs, Took, took_base, took, Moment, dues_heard}
 use Rattle.ring_replica.proofs.Courses.{none-front, sound-front}
 

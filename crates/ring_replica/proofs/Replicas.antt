@@ -23,7 +23,7 @@ use Rattle.ring_ticket.specs.Pendings.{Tickets, none_given, is_full, with_ticket
 use Rattle.ring_ticket.specs.Tickets.{unanswered, answers_after}
 use Rattle.ring_ticket.proofs.Pendings.{are-answers, are-kept, are-given, are-full, are-replies}
 use Rattle.ring_replica.specs.Courses.{Course, course_opening, Moment, handed_if, dues_by}
-use Rattle.ring_node.specs.Lives.{lived_through}
+use Rattle.ring_machine.specs.Lives.{lived_through}
 use Rattle.ring_replica.specs.Replicas.{Replica, Tale, tale_opening, tale_done, tale_given, IsDone, replica_stopped, replica_reply, submit_refusal, moment_of, replica_moved, replica_settled, replica_step, told_replica, IsReplica}
 use Rattle.ring_replica.proofs.Courses.{sound-front}
 use Rattle.ring_replica.proofs.Going.{kept-born, hands-log, hands-committed}

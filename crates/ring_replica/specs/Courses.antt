@@ -18,8 +18,8 @@ use Rattle.ring_log.specs.Stays.{Stay, born}
 use Rattle.ring_log.specs.Lives.{Whole, whole_from, after_all, exchanged, own_base, calls_in, log_of, upto, kept_of, is_sound}
 use Rattle.ring_ticket.specs.declared.pending.Pending.{Pending}
 use Rattle.ring_ticket.specs.Pendings.{stands_in}
-use Rattle.ring_node.specs.Dues.{parts_due, due_at_regular, due_when_stated}
-use Rattle.ring_node.specs.Lives.{lived}
+use Rattle.ring_machine.specs.Dues.{parts_due, due_at_regular, due_when_stated}
+use Rattle.ring_machine.specs.Lives.{lived}
 use Rattle.ring_replica.specs.declared.setting.Setting.{Setting}
 use Rattle.ring_replica.specs.declared.reach.Reach.{Reach}
 use Rattle.ring_replica.specs.declared.stage.Stage.{Stage}

@@ -7,9 +7,9 @@ ghost use Rattle.ring_log.specs.Logs.{committed_calls, committed_upto};
 ghost use Rattle.ring_log.specs.Stays.{hears, marks, hands, stay_in};
 ghost use Rattle.ring_log.specs.Lives.{is_sound, kept_of};
 ghost use Rattle.ring_replica.specs.Courses.{course_opening, Moment as OneMoment, dues_heard, dues_at, dues_by, is_running, is_risen, rises_at, rises, handed_if, covered, left};
-ghost use Rattle.ring_node.specs.Dues.{due_at_regular};
-ghost use Rattle.ring_node.specs.Lives.{lived, lived_through};
-ghost use Rattle.ring_node.specs.Stepping.{send_of};
+ghost use Rattle.ring_machine.specs.Dues.{due_at_regular};
+ghost use Rattle.ring_machine.specs.Lives.{lived, lived_through};
+ghost use Rattle.ring_machine.specs.Stepping.{send_of};
 
 use crate::hearing::{hear, reach_at};
 use crate::history::{Life, born, entered, handed, handed_call, heard, marked};

@@ -4,8 +4,8 @@ ghost use Rattle.std.specs.Prelude.{◌≡◌, ℕ, false};
 ghost use Rattle.ring_base.specs.Group.{Group};
 ghost use Rattle.ring_payload.specs.declared.call.Call.{Call as OneCall};
 ghost use Rattle.ring_core.specs.State.{Stepped};
-ghost use Rattle.ring_node.specs.Nodes.{Node, node_opening, node_committed, node_log, node_reply, is_stopped};
-ghost use Rattle.ring_node.specs.Stepping.{after_core, submit_fault, submitted};
+ghost use Rattle.ring_machine.specs.Nodes.{Node, node_opening, node_committed, node_log, node_reply, is_stopped};
+ghost use Rattle.ring_machine.specs.Stepping.{after_core, submit_fault, submitted};
 ghost use Rattle.ring_replica.specs.Replicas.{replica_opening, replica_of, replica_committed, replica_log, replica_reply, submit_refusal, replica_given, replica_step, running_of, node_by, node_given};
 
 use ring_object::Object;

@@ -37,12 +37,12 @@ use Rattle.ring_lives.proofs.Ordered.{Ordered}
 use Rattle.ring_lives.proofs.Telling.{keeps_done}
 use Rattle.ring_log.specs.Stays.{Stay, hands}
 use Rattle.ring_log.specs.Lives.{is_sound, log_of}
-use Rattle.ring_node.specs.declared.input.Input.{Input as NodeInput}
-use Rattle.ring_node.specs.declared.input.Input.TheVariants.{Frame as NodeFrame, Noise as NodeNoise, Timeout as NodeTime, Stop as NodeStop}
-use Rattle.ring_node.specs.Lives.{lived, lived_through}
-use Rattle.ring_node.specs.Nodes.{Node, node_opening, node_stopped}
-use Rattle.ring_node.specs.Dues.{due_by}
-use Rattle.ring_node.specs.Stepping.{handed_over, walked, settled, after_core, node_step, due_by_submit, submit_fault, submitted}
+use Rattle.ring_machine.specs.declared.input.Input.{Input as NodeInput}
+use Rattle.ring_machine.specs.declared.input.Input.TheVariants.{Frame as NodeFrame, Noise as NodeNoise, Timeout as NodeTime, Stop as NodeStop}
+use Rattle.ring_machine.specs.Lives.{lived, lived_through}
+use Rattle.ring_machine.specs.Nodes.{Node, node_opening, node_stopped}
+use Rattle.ring_machine.specs.Dues.{due_by}
+use Rattle.ring_machine.specs.Stepping.{handed_over, walked, settled, after_core, node_step, due_by_submit, submit_fault, submitted}
 use Rattle.ring_order.specs.Facts.{IsStay, StayIn}
 use Rattle.ring_order.specs.Discipline.{FollowsHead, OpensWithHead}
 use Rattle.ring_order.proofs.Living.{IsOrderly}
@@ -51,9 +51,9 @@ use Rattle.ring_discipline.proofs.Telling.{through-append}
 use Rattle.ring_discipline.proofs.Steps.{installs_recovering, rings_of, installed_rings}
 use Rattle.ring_discipline.proofs.Nodes.{IsOrderlyNode, handed_queues}
 use Rattle.ring_discipline.proofs.Worlds.{IsKept, AllKept, run_on, opened_on}
-use Rattle.ring_world.specs.declared.event.Event.{Event}
-use Rattle.ring_world.specs.declared.event.Event.TheVariants.{Issue, Deliver, Noise, Timeout, Stop}
-use Rattle.ring_world.specs.Worlds.{World, put, world_opening, is_node, issued_or, issued_if, stopped_if, frame_at, stepped_if, handed_if, handed, happens, run}
+use Rattle.ring_history.specs.declared.event.Event.{Event}
+use Rattle.ring_history.specs.declared.event.Event.TheVariants.{Issue, Deliver, Noise, Timeout, Stop}
+use Rattle.ring_history.specs.Worlds.{World, put, world_opening, is_node, issued_or, issued_if, stopped_if, frame_at, stepped_if, handed_if, handed, happens, run}
 use Rattle.ring_texts.specs.Spoken.{spoken}
 use Rattle.ring_texts.specs.Said.{SpeaksInOrder}
 use Rattle.ring_texts.proofs.Speaking.{IsSpeaker, IsSaid, IsNoSend, done_said, done_speaks, install_said, install_new, install_speaks, halt_said, halt_speaks, opening_speaks, queue_with, with_queue, hand_said, hand_other, hand_speaks}

@@ -3,7 +3,7 @@ use Rattle.std.specs.Prelude.{◌≡◌, ◌⊎◌, List, []}
 use Rattle.ring_base.specs.Fronts.{IsFront}
 use Rattle.ring_base.specs.declared.ring_id.RingId.{RingId}
 use Rattle.ring_log.specs.Stays.{Stay}
-use Rattle.ring_node.specs.Nodes.{Node}
+use Rattle.ring_machine.specs.Nodes.{Node}
 use Rattle.ring_order.specs.Facts.{IsStay, StayIn}
 use Rattle.ring_texts.specs.Spoken.{spoken}
 

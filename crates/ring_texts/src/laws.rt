@@ -3,8 +3,8 @@
 ghost use Rattle.std.specs.Prelude.{ℕ, List};
 ghost use Rattle.std.specs.declared.alloc.Global.{Global as Heap};
 ghost use Rattle.ring_base.specs.Group.{Group};
-ghost use Rattle.ring_world.specs.declared.event.Event.{Event};
-ghost use Rattle.ring_world.specs.Worlds.{world_opening, run as run_nodes};
+ghost use Rattle.ring_history.specs.declared.event.Event.{Event};
+ghost use Rattle.ring_history.specs.Worlds.{world_opening, run as run_nodes};
 ghost use Rattle.ring_moves.specs.declared.event.RingEvent.{RingEvent};
 ghost use Rattle.ring_moves.specs.Worlds.{run, unformed};
 ghost use Rattle.ring_texts.specs.Said.{SpeaksInOrder};

@@ -9,7 +9,7 @@ use ring_book::{BookName, FrameRef, Opening};
 use ring_object::Object;
 use ring_session::Answer;
 use ring_things::Counters;
-use ring_world::Item;
+use ring_history::Item;
 use std::alloc::Allocator;
 use std::marker::Brand;
 use std::process::Abort;

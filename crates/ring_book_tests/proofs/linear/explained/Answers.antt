@@ -1,5 +1,5 @@
 use Rattle.std.proofs.Common.{subst, sym}
-use Rattle.ring_world.specs.Histories.{IsLinearization}
+use Rattle.ring_history.specs.Histories.{IsLinearization}
 use Rattle.ring_one.specs.Runs.{run, order_in}
 use Rattle.ring_book.specs.Events.{events_of, history_of}
 use Rattle.ring_book_tests.proofs.linear.explained.Goals as goal

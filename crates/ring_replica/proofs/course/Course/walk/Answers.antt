@@ -10,8 +10,8 @@ use Rattle.ring_base.specs.Group.{Group}
 use Rattle.ring_log.specs.Logs.{committed_calls}
 use Rattle.ring_log.specs.Lives.{is_sound}
 use Rattle.ring_replica.specs.Courses.{Moment, dues_at, dues_by, rises_at}
-use Rattle.ring_node.specs.Lives.{lived, lived_through}
-use Rattle.ring_node.specs.Stepping.{send_of}
+use Rattle.ring_machine.specs.Lives.{lived, lived_through}
+use Rattle.ring_machine.specs.Stepping.{send_of}
 use Rattle.ring_replica.proofs.Going.{walked-none, walked-more, rises-at, moment-same}
 use Rattle.ring_replica.proofs.course.Course.walk.Goals as goal
 

@@ -6,9 +6,9 @@ use Rattle.ring_log.specs.Lives.{committed_of, is_sound}
 use Rattle.ring_session.specs.Table.{table_next}
 use Rattle.ring_ticket.specs.Pendings.{answers_behind}
 use Rattle.ring_ticket.specs.Tickets.{answers_after}
-use Rattle.ring_node.specs.Lives.{lived_through}
+use Rattle.ring_machine.specs.Lives.{lived_through}
 use Rattle.ring_replica.specs.Replicas.{ReplicaStepped, told_replica, replica_stopped}
-use Rattle.ring_node.specs.Stepping.{send_of}
+use Rattle.ring_machine.specs.Stepping.{send_of}
 use Rattle.ring_replica.proofs.Lists.{on-err}
 use Rattle.ring_replica.proofs.Replicas.{done-life, halted-replica, stopped-same, step-halted, step-moved, moved-told, first-within, committed-is, stepped-replica, due-is, answers-are}
 use Rattle.ring_replica.proofs.replica.Replica.step.Goals as goal
