@@ -10,9 +10,9 @@ use crate::input::LineInput;
 use crate::line::Line;
 use crate::step::Step;
 use ring_base::Fault;
+use ring_history::Item;
 use ring_one::Answered;
 use ring_session::Answer;
-use ring_history::Item;
 use std::alloc::Allocator;
 
 /// What clients see of the lines, in order, or `Memory`.

@@ -13,11 +13,11 @@ ghost use Rattle.ring_book.specs.Lines.{steps_of};
 
 use ring_base::{Fault, Proc};
 use ring_book::{Book, BookName, Cell};
+use ring_history::Item;
 use ring_object::Object;
 use ring_one::{Ticket, linear_law};
 use ring_payload::Call;
 use ring_session::Answer;
-use ring_history::Item;
 use std::alloc::{Allocator, Global};
 
 /// What a book shows: its history, and an order of calls that explains it.

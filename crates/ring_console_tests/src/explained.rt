@@ -6,8 +6,8 @@ use refusing_alloc::{Refusing, refuse_in_turn};
 use ring_base::{Fault, Fixed};
 use ring_book::{BookName, Opening};
 use ring_console::{Rings, Run, Script, ScriptFault, Things};
-use ring_object::Object;
 use ring_history::is_linearization;
+use ring_object::Object;
 use std::alloc::{AllocError, Allocator, Global};
 use std::marker::Brand;
 

@@ -1,4 +1,5 @@
 pub mod Checks
 pub mod Histories
+pub mod Limits
 pub mod Orders
 pub mod Worlds

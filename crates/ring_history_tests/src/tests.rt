@@ -3,9 +3,9 @@
 use crate::Last;
 use refusing_alloc::{Refusing, refuse_in_turn};
 use ring_base::Fault;
+use ring_history::{Item, is_linearization, linearization_law, order_law};
 use ring_object::Reply;
 use ring_payload::Call;
-use ring_history::{Item, is_linearization, linearization_law, order_law};
 use std::alloc::{AllocError, Allocator, Global};
 
 /// An event of a history: a client's call by its number, with its operation's byte, and the byte that was replied.
