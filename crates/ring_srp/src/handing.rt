@@ -29,6 +29,7 @@ impl<A: Allocator + Copy> Machine<A> {
         ensures outs { OnOk result (outs.new.items ≡ outs.old.items ++ sent (proposed_after (proposes self.old) (silently self.old)).sends) }
         ensures refused { IfErr result (λ fault. fault ≡ Memory) }
     {
+        // Read, so that what always holds of a machine is known here: `me` is a processor of the run.
         let _me = &self.me;
         match self.due() {
             Some(token) => self.join(token, outs),
