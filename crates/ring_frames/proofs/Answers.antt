@@ -1,5 +1,5 @@
 -- How many answers come as places are committed: each ticket has one at most, and none that had one before.
-use Rattle.std.proofs.Common.{◌≡◌, ℕ, suc, ◌+◌, ◌≤◌, ◌<◌, Bool, true, false, ◌==◌, List, [], ◌∷◌, ◌++◌, length, drop, Option, Some, None, is_none, refl, ap, sym, ◌∙◌, subst, arith, append_assoc, append-nil, if◌then◌else◌}
+use Rattle.std.proofs.Common.{◌≡◌, ℕ, suc, ◌+◌, ◌≤◌, ◌<◌, Bool, true, false, ◌==◌, List, [], ◌∷◌, ◌++◌, length, drop, Option, Some, None, is_none, refl, ap, sym, subst, arith, append_assoc, append-nil, if◌then◌else◌}
 use Rattle.std.specs.Prelude.{nat_le, ◌&&◌}
 use Rattle.std.proofs.lemmas.Bool.{ne_eqb}
 use Rattle.std.proofs.lemmas.List.{length-append}
@@ -7,20 +7,19 @@ use Rattle.ring_object.specs.Operations.{Sequential}
 use Rattle.ring_payload.specs.declared.call.Call.{Call}
 use Rattle.ring_session.specs.declared.answer.Answer.{Answer}
 use Rattle.ring_session.specs.SessionAnswer.{is_same, session_answer}
-use Rattle.ring_core.specs.declared.input.Input.{Input}
 use Rattle.ring_core.specs.declared.input.Input.TheVariants.{Frame as FrameInput, Timeout as TimeInput}
 use Rattle.ring_core.specs.declared.out.Out.{Out}
 use Rattle.ring_core.specs.Stepping.{ring_step}
 use Rattle.ring_log.specs.Stays.{Stay}
 use Rattle.ring_log.specs.Lives.{is_sound, committed_of}
 use Rattle.ring_ticket.specs.declared.answered.Answered.{Answered}
-use Rattle.ring_ticket.specs.Tickets.{Asked, first_place, place_of, unanswered, is_place, answered, answers_at, answers_after}
+use Rattle.ring_ticket.specs.Tickets.{Asked, place_of, unanswered, is_place, answered, answers_at, answers_after}
 use Rattle.ring_ticket.proofs.Places.{first_place-below, or_else, last_place, first_place-push}
 use Rattle.ring_machine.specs.declared.input.Input.{Input as NodeInput}
 use Rattle.ring_machine.specs.declared.input.Input.TheVariants.{Frame as NodeFrame, Noise as NodeNoise, Timeout as NodeTime, Stop as NodeStop}
 use Rattle.ring_machine.specs.Lives.{lived_through}
 use Rattle.ring_machine.specs.Nodes.{Node, node_committed, node_pending}
-use Rattle.ring_machine.specs.Stepping.{settled, after_core, node_step}
+use Rattle.ring_machine.specs.Stepping.{settled, node_step}
 
 -- One place more, one ticket
 
@@ -85,7 +84,7 @@ module _ {O A : Type 0} (object : Sequential O) where
 
   -- More places
 
-  few_more : (tickets : List (Asked A)) (committed more : List (Call A)) →
+  pub few_more : (tickets : List (Asked A)) (committed more : List (Call A)) →
       length (answers_after object tickets committed more) + length (unanswered (committed ++ more) tickets) ≤ length (unanswered committed tickets)
   few_more tickets committed [] = (let e = ap (λ calls. length (unanswered calls tickets)) (append-nil committed) in omega (arith, e))
   few_more tickets committed (c ∷ more) =

@@ -1,2 +1,4 @@
 pub mod Sends
 pub mod Answers
+pub mod Committed
+pub mod Pending
