@@ -1,5 +1,5 @@
 -- What a node hands to its core keeps the limits: its Head, the Parts of its log, and the calls of its tickets.
-use Rattle.std.proofs.Common.{◌≡◌, ℕ, true, ◌==◌, not, List, [], ◌∷◌, ◌++◌, Option, Some, None, refl, sym, subst}
+use Rattle.std.proofs.Common.{◌≡◌, ℕ, true, ◌==◌, not, inl, inr, List, [], ◌∷◌, ◌++◌, Option, Some, None, refl, sym, subst}
 use Rattle.std.specs.Prelude.{map, filter, drop, length}
 use Rattle.std.specs.List.{AllByRecursion as Each}
 use Rattle.std.proofs.lemmas.Bool.{cond_both}
@@ -22,6 +22,7 @@ use Rattle.ring_log.specs.Exchanges.{Exchange, opened, wanted}
 use Rattle.ring_log.specs.Lives.{after_all, log_of, head_of_life, is_sound}
 use Rattle.ring_log.specs.Parts.{parts_between}
 use Rattle.ring_log.specs.Stays.{Stay, stay_in, hears, marks, hands}
+use Rattle.ring_order.specs.Facts.{IsStay}
 use Rattle.ring_ticket.specs.Tickets.{Asked, unanswered}
 use Rattle.ring_machine.specs.Lives.{lived_through}
 use Rattle.ring_machine.specs.Nodes.{Node, node_committed, runs}
@@ -41,27 +42,28 @@ pub all_stays : {A : Type 0} → (n : ℕ) (life : List (Stay A)) → LifeFits n
 all_stays n [] h = tt
 all_stays n (s ∷ older) h = (h.0, h.2)
 
-pub hands_fit : {A : Type 0} → (n : ℕ) (ps : List (Payload A)) (life : List (Stay A)) → LifeFits n life → LifeFits n (hands ps life)
-hands_fit n ps [] h = tt
-hands_fit n ps (s ∷ older) h = (record { ring = (h.0).ring; heard = (h.0).heard }, h.1, h.2)
+pub hands_fit : {A : Type 0} → (n : ℕ) (ps : List (Payload A)) (life : List (Stay A)) → Each PayloadFits ps → LifeFits n life → LifeFits n (hands ps life)
+hands_fit n ps [] f h = tt
+hands_fit n ps (s ∷ older) f h =
+    (record { ring = (h.0).ring; heard = (h.0).heard; sent = each-append PayloadFits s.sent ps (h.0).sent f }, h.1, h.2)
 
 hears_fits : {A : Type 0} → (n : ℕ) (x : Message A) (life : List (Stay A)) → HeardFits n x → LifeFits n life → LifeFits n (hears x life)
 hears_fits n x [] f h = tt
 hears_fits n x (s ∷ older) f h = (
-  record { ring = (h.0).ring; heard = each-push (HeardFits s.ring.seq) s.heard x (h.0).heard (subst (λ k. HeardFits k x) (sym h.1) f) },
+  record { ring = (h.0).ring; heard = each-push (HeardFits s.ring.seq) s.heard x (h.0).heard (subst (λ k. HeardFits k x) (sym h.1) f); sent = (h.0).sent },
   h.1,
   h.2,
 )
 
 marks_fits : {A : Type 0} → (n m : ℕ) (life : List (Stay A)) → LifeFits n life → LifeFits n (marks m life)
 marks_fits n m [] h = tt
-marks_fits n m (s ∷ older) h = (record { ring = (h.0).ring; heard = (h.0).heard }, h.1, h.2)
+marks_fits n m (s ∷ older) h = (record { ring = (h.0).ring; heard = (h.0).heard; sent = (h.0).sent }, h.1, h.2)
 
 pub through_fits : {A : Type 0} → (n m : ℕ) (life : List (Stay A)) (outs : List (Out A)) → Tells n m outs → LifeFits n life → LifeFits m (lived_through life outs)
 through_fits n m life [] t h = subst (λ k. LifeFits k life) t h
 through_fits n m life (Agreed ring k x ∷ outs) t h = through_fits n m (hears x life) outs t.1 (hears_fits n x life t.0 h)
 through_fits n m life (Regular ring set ∷ outs) t h =
-    through_fits ring.seq m (stay_in ring set ∷ life) outs t.1 (record { ring = t.0; heard = tt }, refl, all_stays n life h)
+    through_fits ring.seq m (stay_in ring set ∷ life) outs t.1 (record { ring = t.0; heard = tt; sent = tt }, refl, all_stays n life h)
 through_fits n m life (Safe ring upto ∷ outs) t h = through_fits n m (marks upto life) outs t (marks_fits n upto life h)
 through_fits n m life (Send to frame ∷ outs) t h = through_fits n m life outs t h
 through_fits n m life (Trans old new set ∷ outs) t h = through_fits n m life outs t h
@@ -163,8 +165,15 @@ module _ {A : Type 0} (n : Node A) (tickets : TicketsFit n.tickets) (core : Core
   due_fit k m life (Regular ring set ∷ outs) t h sound =
       each-append PayloadFits (due_at_regular n.group set life) (due_by n core (stay_in ring set ∷ life) outs)
       (regular_due_fit set life (all_stays k life h) (sound_before n.group ring set life outs sound))
-      (due_fit ring.seq m (stay_in ring set ∷ life) outs t.1 (record { ring = t.0; heard = tt }, refl, all_stays k life h) sound)
+      (due_fit ring.seq m (stay_in ring set ∷ life) outs t.1 (record { ring = t.0; heard = tt; sent = tt }, refl, all_stays k life h) sound)
   due_fit k m life (Safe ring upto ∷ outs) t h sound = due_fit k m (marks upto life) outs t (marks_fits k upto life h) sound
   due_fit k m life (Send to frame ∷ outs) t h sound = due_fit k m life outs t h sound
   due_fit k m life (Trans old new set ∷ outs) t h sound = due_fit k m life outs t h sound
   due_fit k m life (Rest ring q x ∷ outs) t h sound = due_fit k m life outs t h sound
+
+-- Each stay of such a life
+
+pub stay_fits : {A : Type 0} → (life : List (Stay A)) (s : Stay A) (older : List (Stay A)) → Each StayFits life → IsStay life s older → StayFits s
+stay_fits [] s older h i = absurd i
+stay_fits (t ∷ before) s older h (inl e) = subst StayFits e.0 h.0
+stay_fits (t ∷ before) s older h (inr i) = stay_fits before s older h.1 i

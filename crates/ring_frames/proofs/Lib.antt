@@ -7,3 +7,4 @@ pub mod Outputs
 pub mod Dues
 pub mod Nodes
 pub mod Worlds
+pub mod Growth

@@ -11,7 +11,6 @@ use Rattle.ring_payload.specs.Payloads.{PayloadFits}
 use Rattle.ring_payload.specs.declared.call.Call.{Call as OneCall}
 use Rattle.ring_payload.specs.declared.content.Payload.{Payload}
 use Rattle.ring_payload.specs.declared.content.Payload.TheVariants.{Call}
-use Rattle.ring_wire.specs.Frames.{FrameFits}
 use Rattle.ring_commit.specs.declared.configuration.Configuration.{Configuration}
 use Rattle.ring_core.specs.declared.input.Input.{Input}
 use Rattle.ring_core.specs.declared.input.Input.TheVariants.{Frame as FrameInput, Timeout as TimeInput, Send as SendInput}
@@ -22,20 +21,22 @@ use Rattle.ring_core.specs.Giving.{may_install}
 use Rattle.ring_core.specs.Stepping.{ring_step}
 use Rattle.ring_log.specs.Stays.{Stay, hands}
 use Rattle.ring_log.specs.Lives.{is_sound}
+use Rattle.ring_order.specs.Facts.{IsStay}
 use Rattle.ring_ticket.specs.Tickets.{Asked}
 use Rattle.ring_machine.specs.declared.input.Input.{Input as NodeInput}
 use Rattle.ring_machine.specs.declared.input.Input.TheVariants.{Frame as NodeFrame, Noise as NodeNoise, Timeout as NodeTime, Stop as NodeStop}
 use Rattle.ring_machine.specs.Limits.{InputFits as NodeInputFits}
 use Rattle.ring_machine.specs.Lives.{lived_through}
-use Rattle.ring_machine.specs.Nodes.{Node, node_opening, node_committed, node_stopped, runs_adopted}
+use Rattle.ring_machine.specs.Nodes.{Node, node_opening, node_log, node_committed, node_stopped, runs_adopted}
 use Rattle.ring_machine.specs.Dues.{due_by}
 use Rattle.ring_machine.specs.Stepping.{handed_over, walked, send_of, settled, node_step, due_by_submit, submitted}
 use Rattle.ring_limits.specs.Limits.{InputFits, OutFits, CoreFits}
-use Rattle.ring_limits.proofs.Acts.{step_fits}
+use Rattle.ring_limits.proofs.Acts.{SentFits, step_fits}
 use Rattle.ring_limits.proofs.Runs.{opening_fits, halted_fits}
 use Rattle.ring_discipline.proofs.Quiet.{quiet_send, stepped_is}
+use Rattle.ring_frames.proofs.Logs.{log_fits}
 use Rattle.ring_frames.proofs.Outputs.{step_tells}
-use Rattle.ring_frames.proofs.Dues.{LifeFits, hands_fit, through_fits, TicketsFit, due_fit}
+use Rattle.ring_frames.proofs.Dues.{LifeFits, all_stays, stay_fits, hands_fit, through_fits, TicketsFit, due_fit}
 
 -- A node of a group
 pub record NodeFits {A : Type 0} (n : Node A) : Type 0 where
@@ -45,12 +46,19 @@ pub record NodeFits {A : Type 0} (n : Node A) : Type 0 where
   pub life : LifeFits n.core.installed.ring.seq n.life
   pub tickets : TicketsFit n.tickets
 
+-- each call of its log, and each payload that it handed over
+pub node_log_fits : {A : Type 0} → (n : Node A) → NodeFits n → Each CallFits (node_log n)
+node_log_fits n f = log_fits n.group n.life (all_stays n.core.installed.ring.seq n.life f.life)
+
+pub node_sent_fits : {A : Type 0} → (n : Node A) (s : Stay A) (older : List (Stay A)) → NodeFits n → IsStay n.life s older → Each PayloadFits s.sent
+node_sent_fits n s older f there = (stay_fits n.life s older (all_stays n.core.installed.ring.seq n.life f.life) there).sent
+
 pub node_opens : {A : Type 0} → (group : Group) (me : ℕ) → 1 ≤ me → me ≤ group.count → group.count ≤ 16 → NodeFits (node_opening {A = A} group me)
 node_opens group me low high most =
     record {
       core = opening_fits group.count me low high most;
       ready = refl;
-      life = (record { ring = record { seq = omega arith; rep = (low, omega arith) }; heard = tt }, refl, tt);
+      life = (record { ring = record { seq = omega arith; rep = (low, omega arith) }; heard = tt; sent = tt }, refl, tt);
       tickets = tt;
     }
 
@@ -81,14 +89,11 @@ walks {A} n core life due tickets f r l d t =
     record {
       core = h.core;
       ready = h.ready;
-      life = subst (λ (x : Configuration). LifeFits x.ring.seq (hands due life)) (sym h.installed) (hands_fit core.installed.ring.seq due life l);
+      life = subst (λ (x : Configuration). LifeFits x.ring.seq (hands due life)) (sym h.installed) (hands_fit core.installed.ring.seq due life d l);
       tickets = t;
     }
 
 -- Frames
-
-abbrev pub SentFits : {A : Type 0} → Sent A → Type 0
-SentFits s = FrameFits s.frame
 
 sends_fit : {A : Type 0} → (outs : List (Out A)) → Each OutFits outs → Each SentFits (filter_map send_of outs)
 sends_fit [] h = tt

@@ -59,7 +59,7 @@ few_filter_map : {X Y : Type 0} → (f : X → Option Y) (xs : List X) → lengt
 few_filter_map f [] = omega arith
 few_filter_map f (x ∷ xs) = omega (arith, few_filter_map f xs, few_option (f x) (filter_map f xs))
 
-same_length : {X Y : Type 0} → (f : X → Y) (xs : List X) → length (map f xs) ≡ length xs
+pub same_length : {X Y : Type 0} → (f : X → Y) (xs : List X) → length (map f xs) ≡ length xs
 same_length f [] = refl
 same_length f (x ∷ xs) = ap suc (same_length f xs)
 

@@ -24,13 +24,20 @@ use Rattle.ring_history.specs.Limits.{EventFits}
 use Rattle.ring_history.specs.Worlds.{World, put, world_opening, carried, is_node, issued_or, issued_if, stopped_if, frame_at, stepped_if, handed_if, handed, happens, run}
 use Rattle.ring_frames.proofs.Nodes.{NodeFits, node_opens, node_halts, stepped_fits, submitted_fits}
 
-abbrev CarriedFits : {A : Type 0} → Carried A → Type 0
+-- the frame that was sent
+abbrev pub CarriedFits : {A : Type 0} → Carried A → Type 0
 CarriedFits f = FrameFits f.frame
 
+-- each node of the group, and each frame ever sent
 pub record WorldFits {A : Type 0} (group : Group) (w : World A) : Type 0 where
   pub group_is : w.group ≡ group
   pub nodes : (i : ℕ) → 1 ≤ i → i ≤ group.count → NodeFits (w.nodes i)
   pub frames : Each CarriedFits w.frames
+
+-- so does each by its number
+pub sent_fits : {A : Type 0} → (group : Group) (w : World A) (number : ℕ) (f : Carried A) → WorldFits group w → frame_at w.frames number ≡ Some f → FrameFits f.frame
+sent_fits group w zero f fits e = absurd (let x : ⊥ = cc in x)
+sent_fits group w (suc k) f fits e = each-get CarriedFits w.frames k f fits.frames e
 
 module _ {O A : Type 0} (object : Sequential O) (group : Group) (w : World A) (f : WorldFits group w) where
   put_fits : (i : ℕ) (n : Node A) → NodeFits n → (j : ℕ) → 1 ≤ j → j ≤ group.count → NodeFits (put w.nodes i n j)
@@ -72,8 +79,7 @@ module _ {O A : Type 0} (object : Sequential O) (group : Group) (w : World A) (f
 
   hands : (i k : ℕ) (o : Option (Carried A)) → frame_at w.frames k ≡ o → WorldFits group (handed object w i o)
   hands i k None e = f
-  hands i zero (Some g) e = absurd (let x : ⊥ = cc in x)
-  hands i (suc k) (Some g) e = frame_comes i g.frame (has g.to i) (each-get CarriedFits w.frames k g f.frames e)
+  hands i k (Some g) e = frame_comes i g.frame (has g.to i) (sent_fits group w k g f e)
 
   event_fits : (e : Event A) → EventFits e → WorldFits group (happens object w e)
   event_fits (Issue i c) h = issues i c (is_node w i) refl h
