@@ -149,7 +149,7 @@ fn alone(me: Proc) -> Configuration
 }
 
 /// The ring (1, 1) of all processors of the run.
-fn all_of(fixed: Fixed) -> Configuration
+pub(crate) fn all_of(fixed: Fixed) -> Configuration
     ensures { result ≡ all_of fixed.count }
 {
     Configuration {
