@@ -60,7 +60,8 @@ module _ {O A : Type 0} (object : Sequential O) where
   -- One place more
 
   few_at : (committed : List (Call A)) (c : Call A) (ticket : ℕ) (ts : List (Asked A)) →
-      length (answers_at object (committed ++ c ∷ []) (length committed) ticket ts) + length (unanswered (committed ++ c ∷ []) ts) ≤ length (unanswered committed ts)
+      length (answers_at object (committed ++ c ∷ []) (length committed) ticket ts) + length (unanswered (committed ++ c ∷ []) ts)
+      ≤ length (unanswered committed ts)
   few_at committed c ticket [] = omega arith
   few_at committed c ticket (t ∷ ts) =
       let n = length committed in
@@ -75,7 +76,8 @@ module _ {O A : Type 0} (object : Sequential O) where
       (λ p h. (let l = last_is t.call t.since (0 + n) c p h in omega (arith, l)))
       (one_answered ticket t.call (session_answer object (committed ++ c ∷ []) n))
       (few_at committed c (ticket + 1) ts) in
-      let now : length ((if is_place n (place_of (committed ++ c ∷ []) t) then told else []) ++ behind) + counted (place_of (committed ++ c ∷ []) t) waits ≤ counted o waited =
+      let place = place_of (committed ++ c ∷ []) t in
+      let now : length ((if is_place n place then told else []) ++ behind) + counted place waits ≤ counted o waited =
       subst (λ (p : Option ℕ). length ((if is_place n p then told else []) ++ behind) + counted p waits ≤ counted o waited)
       (sym (first_place-push t.call t.since 0 committed c)) here in
       let a = length_if (place_of (committed ++ c ∷ []) t) t (unanswered (committed ++ c ∷ []) ts) in

@@ -46,7 +46,8 @@ module _ {A : Type 0} (group : Group) (m : ℕ) (own old : List (Call A)) (heard
   stay_keeps k xs f None e = front_self old
   stay_keeps k xs f (Some w) e = front_longer old (log_on (own_base own) w) (kept_base k xs w f e)
 
-  stay_within : Keeps → IsFront old own → (xs : List (Message A)) → IsFront xs heard → (o p : Option (Whole A)) → exchanged group m xs ≡ o → exchanged group m heard ≡ p →
+  stay_within : Keeps → IsFront old own → (xs : List (Message A)) → IsFront xs heard → (o p : Option (Whole A)) →
+      exchanged group m xs ≡ o → exchanged group m heard ≡ p →
       IsFront (committed_by own old o) (log_by own p)
   stay_within k h xs f None None e d = h
   stay_within k h xs f None (Some w) e d = kept_base k heard w (front_self heard) d
@@ -103,7 +104,8 @@ module _ {A : Type 0} (group : Group) (s t : Stay A) (older : List (Stay A)) (g 
   before_within =
       let p = sound_stay group t older h in
       let safe = front_trans (upto s.mark s.heard) s.heard t.heard (upto-front s.mark s.heard) g.heard in
-      let now : IsFront (committed_by (log_of group older) (committed_of group older) (exchanged group t.members (upto s.mark s.heard))) (log_of group (t ∷ older)) =
+      let whole = exchanged group t.members (upto s.mark s.heard) in
+      let now : IsFront (committed_by (log_of group older) (committed_of group older) whole) (log_of group (t ∷ older)) =
       stay_within group t.members (log_of group older) (committed_of group older) t.heard p.keeps (committed_front group older p.older_sound)
       (upto s.mark s.heard) safe _ _ refl refl in
       subst (λ m. IsFront (committed_by (log_of group older) (committed_of group older) (exchanged group m (upto s.mark s.heard))) (log_of group (t ∷ older)))

@@ -59,7 +59,8 @@ marks_fits : {A : Type 0} → (n m : ℕ) (life : List (Stay A)) → LifeFits n 
 marks_fits n m [] h = tt
 marks_fits n m (s ∷ older) h = (record { ring = (h.0).ring; heard = (h.0).heard; sent = (h.0).sent }, h.1, h.2)
 
-pub through_fits : {A : Type 0} → (n m : ℕ) (life : List (Stay A)) (outs : List (Out A)) → Tells n m outs → LifeFits n life → LifeFits m (lived_through life outs)
+pub through_fits : {A : Type 0} → (n m : ℕ) (life : List (Stay A)) (outs : List (Out A)) → Tells n m outs → LifeFits n life →
+    LifeFits m (lived_through life outs)
 through_fits n m life [] t h = subst (λ k. LifeFits k life) t h
 through_fits n m life (Agreed ring k x ∷ outs) t h = through_fits n m (hears x life) outs t.1 (hears_fits n x life t.0 h)
 through_fits n m life (Regular ring set ∷ outs) t h =
@@ -95,7 +96,8 @@ sound_through : {A : Type 0} → (group : Group) (life : List (Stay A)) (outs : 
 unfolding behind
 sound_through group life [] h = sound_older group life h
 sound_through group life (Agreed ring k x ∷ outs) h = subst (λ l. is_sound group l ≡ true) (behind_hears x life) (sound_through group (hears x life) outs h)
-sound_through group life (Safe ring upto ∷ outs) h = subst (λ l. is_sound group l ≡ true) (behind_marks upto life) (sound_through group (marks upto life) outs h)
+sound_through group life (Safe ring upto ∷ outs) h =
+    subst (λ l. is_sound group l ≡ true) (behind_marks upto life) (sound_through group (marks upto life) outs h)
 sound_through group life (Regular ring set ∷ outs) h = sound_older group life (sound_through group (stay_in ring set ∷ life) outs h)
 sound_through group life (Send to frame ∷ outs) h = sound_through group life outs h
 sound_through group life (Trans old new set ∷ outs) h = sound_through group life outs h
@@ -123,7 +125,8 @@ parts_due_fit {A} me own (Some v) h w =
 abbrev pub TicketsFit : {A : Type 0} → List (Asked A) → Type 0
 TicketsFit {A} tickets = Each (λ (t : Asked A). CallFits t.call) tickets
 
-calls_due_fit : {A : Type 0} → (tickets : List (Asked A)) (committed base : List (OneCall A)) → TicketsFit tickets → Each PayloadFits (calls_due tickets committed base)
+calls_due_fit : {A : Type 0} → (tickets : List (Asked A)) (committed base : List (OneCall A)) → TicketsFit tickets →
+    Each PayloadFits (calls_due tickets committed base)
 calls_due_fit {A} tickets committed base h =
     let waiting = filter (λ (t : Asked A). not (stands_in (drop (length committed) base) t)) (unanswered committed tickets) in
     any_each PayloadFits (λ (t : Asked A). CallFits t.call) (λ (t : Asked A). Call t.call) waiting (λ t f. f)
@@ -131,7 +134,8 @@ calls_due_fit {A} tickets committed base h =
     (each-filter (λ (t : Asked A). CallFits t.call) _ tickets h))
 
 module _ {A : Type 0} (n : Node A) (tickets : TicketsFit n.tickets) (core : Core A) where
-  due_between_fit : (older life : List (Stay A)) (old new : Exchange A) → Each StayFits older → ExchangeFits new → Each PayloadFits (due_between n older life old new)
+  due_between_fit : (older life : List (Stay A)) (old new : Exchange A) → Each StayFits older → ExchangeFits new →
+      Each PayloadFits (due_between n older life old new)
   due_between_fit older life old new h x =
       each-append PayloadFits (due_when_stated n.core.me (log_of n.group older) old new) (due_when_whole n life old new)
       (cond_both _ (parts_due n.core.me (log_of n.group older) (wanted new)) [] (Each PayloadFits)
@@ -154,7 +158,8 @@ module _ {A : Type 0} (n : Node A) (tickets : TicketsFit n.tickets) (core : Core
 
   regular_due_fit : (set : ℕ) (life : List (Stay A)) → Each StayFits life → is_sound n.group life ≡ true → Each PayloadFits (due_at_regular n.group set life)
   regular_due_fit set life h sound =
-      cond_both (is_primary n.group set) (Head (head_of_life n.group life) ∷ []) [] (Each (PayloadFits {A = A})) (λ e. (head_fits n.group life h sound, tt)) (λ e. tt)
+      cond_both (is_primary n.group set) (Head (head_of_life n.group life) ∷ []) [] (Each (PayloadFits {A = A}))
+      (λ e. (head_fits n.group life h sound, tt)) (λ e. tt)
 
   pub due_fit : (k m : ℕ) (life : List (Stay A)) (outs : List (Out A)) → Tells k m outs → LifeFits k life → is_sound n.group (lived_through life outs) ≡ true →
       Each PayloadFits (due_by n core life outs)

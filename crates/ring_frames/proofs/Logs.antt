@@ -121,7 +121,8 @@ log_by_fits {A} group m n own xs h k (Some w) e =
     let first = each-left (λ (x : Message A). PayloadFits x.payload) b.front w.rest all in
     let later = each-right (λ (x : Message A). PayloadFits x.payload) b.front w.rest all in
     let x : ExchangeFits w.exchange = subst ExchangeFits (sym b.after) (after_fits (opened m) b.front first (record { heads = tt; brought = tt })) in
-    each-append CallFits (own_base own w.exchange) (calls_in w.rest) (base_fits own (wanted w.exchange) w.exchange.brought h x.brought) (calls_in_fit w.rest later)
+    each-append CallFits (own_base own w.exchange) (calls_in w.rest) (base_fits own (wanted w.exchange) w.exchange.brought h x.brought)
+    (calls_in_fit w.rest later)
 
 pub log_fits : {A : Type 0} → (group : Group) (life : List (Stay A)) → Each StayFits life → Each CallFits (log_of group life)
 log_fits group [] h = tt

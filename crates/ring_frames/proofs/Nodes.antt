@@ -81,7 +81,8 @@ handed_fit {A} c (p ∷ ps) f r h =
     record { core = rest.core; ready = rest.ready; installed = rest.installed ∙ ap (λ (s : Stepped A). s.core.installed) q.is }
 
 -- a node whose core keeps the limits, and whose life goes on in the core's ring, hands over payloads that keep them
-walks : {A : Type 0} → (n : Node A) (core : Core A) (life : List (Stay A)) (due : List (Payload A)) (tickets : List (Asked A)) → CoreFits core → may_install core ≡ false →
+walks : {A : Type 0} → (n : Node A) (core : Core A) (life : List (Stay A)) (due : List (Payload A)) (tickets : List (Asked A)) →
+    CoreFits core → may_install core ≡ false →
     LifeFits core.installed.ring.seq life → Each PayloadFits due → TicketsFit tickets →
     NodeFits (record n { core = handed_over core due; life = hands due life; tickets = tickets })
 walks {A} n core life due tickets f r l d t =

@@ -51,7 +51,8 @@ tells_sent : {A : Type 0} → (n : ℕ) (sends : List (Sent A)) → Tells {A = A
 tells_sent n [] = refl
 tells_sent n (s ∷ sends) = tells_sent n sends
 
-tells_agreed : {A : Type 0} → (n : ℕ) (ring : RingId) (xs : List (Message A)) → Each (HeardFits n) xs → Tells n n (map (λ (x : Message A). Agreed ring x.number x) xs)
+tells_agreed : {A : Type 0} → (n : ℕ) (ring : RingId) (xs : List (Message A)) → Each (HeardFits n) xs →
+    Tells n n (map (λ (x : Message A). Agreed ring x.number x) xs)
 tells_agreed n ring [] h = refl
 tells_agreed n ring (x ∷ xs) h = (h.0, tells_agreed n ring xs h.1)
 

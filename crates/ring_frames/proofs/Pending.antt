@@ -53,7 +53,8 @@ waiting_if false t xs ys l = l
 -- a ticket more
 waiting_push : {A : Type 0} → (committed : List (Call A)) (ts : List (Asked A)) (t : Asked A) →
     length (unanswered committed (ts ++ t ∷ [])) ≤ suc (length (unanswered committed ts))
-waiting_push {A} committed [] t = cond_both (is_none (place_of committed t)) (t ∷ []) [] (λ (xs : List (Asked A)). length xs ≤ 1) (λ e. omega arith) (λ e. omega arith)
+waiting_push {A} committed [] t =
+    cond_both (is_none (place_of committed t)) (t ∷ []) [] (λ (xs : List (Asked A)). length xs ≤ 1) (λ e. omega arith) (λ e. omega arith)
 waiting_push committed (u ∷ ts) t =
     waiting_if (is_none (place_of committed u)) u (unanswered committed (ts ++ t ∷ [])) (unanswered committed ts) (waiting_push committed ts t)
 
@@ -95,7 +96,8 @@ submitted_few {A} n c e =
 
 module _ {O A : Type 0} (object : Sequential O) where
   settled_few : (b : Bool) (n : Node A) (core : Core A) (life : List (Stay A)) (due : List (Payload A)) (outs : List (Out A)) → is_sound n.group life ≡ b →
-      LivesOn n.life (settled object b n (walked n core life due) outs life).node.life → HasFew n → HasFew (settled object b n (walked n core life due) outs life).node
+      LivesOn n.life (settled object b n (walked n core life due) outs life).node.life → HasFew n →
+      HasFew (settled object b n (walked n core life due) outs life).node
   settled_few false n core life due outs e on f = f
   settled_few true n core life due outs e on f =
       let sound : is_sound n.group (hands due life) ≡ true = sound_hands n.group due life ∙ e in
@@ -161,7 +163,8 @@ module _ {O A : Type 0} (object : Sequential O) (w : World A) (f : AllFew w) whe
   event_few (Timeout i kind) on = steps_few i (NodeTime kind) (is_node w i) on
   event_few (Stop i) on = stops_if i (is_node w i) on
 
-run_few : {O A : Type 0} → (object : Sequential O) (group : Group) (w : World A) → AllKept group w → AllFew w → (events : List (Event A)) → AllFew (run object w events)
+run_few : {O A : Type 0} → (object : Sequential O) (group : Group) (w : World A) → AllKept group w → AllFew w →
+    (events : List (Event A)) → AllFew (run object w events)
 run_few object group w k f [] = f
 run_few object group w k f (e ∷ events) =
     let g = run_on object group w k (e ∷ []) in

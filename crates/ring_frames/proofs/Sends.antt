@@ -151,7 +151,8 @@ few_sent {A} sends told h =
     let d = few_filter (λ (s : Sent A). not (s.to == nobody)) sends in
     omega (arith, a, b, d)
 
-few_settled : {A : Type 0} → (old c : Core A) (sends : List (Sent A)) (b : Bool) → length (filter_map send_of (settle b c (sent sends ++ given old c)).outs) ≤ length sends
+few_settled : {A : Type 0} → (old c : Core A) (sends : List (Sent A)) (b : Bool) →
+    length (filter_map send_of (settle b c (sent sends ++ given old c)).outs) ≤ length sends
 few_settled old c sends false = few_sent sends (given old c) (told_from c old.installed.ring _ _)
 few_settled {A} old c sends true =
     let told : Each IsTold (given old c ++ configured c) =

@@ -35,7 +35,8 @@ pub record WorldFits {A : Type 0} (group : Group) (w : World A) : Type 0 where
   pub frames : Each CarriedFits w.frames
 
 -- so does each by its number
-pub sent_fits : {A : Type 0} → (group : Group) (w : World A) (number : ℕ) (f : Carried A) → WorldFits group w → frame_at w.frames number ≡ Some f → FrameFits f.frame
+pub sent_fits : {A : Type 0} → (group : Group) (w : World A) (number : ℕ) (f : Carried A) → WorldFits group w →
+    frame_at w.frames number ≡ Some f → FrameFits f.frame
 sent_fits group w zero f fits e = absurd (let x : ⊥ = cc in x)
 sent_fits group w (suc k) f fits e = each-get CarriedFits w.frames k f fits.frames e
 
