@@ -6,7 +6,7 @@ use Rattle.ring_core.specs.State.{Core}
 use Rattle.ring_core.specs.declared.out.Out.{Out}
 use Rattle.ring_core.specs.Giving.{agreed_from, delivered_from}
 use Rattle.ring_srp.specs.Machines.{core_of}
-use Rattle.ring_srp.specs.Users.{agreed_in, safe_to}
+use Rattle.ring_parts.specs.Users.{agreed_in, safe_to}
 use Rattle.ring_srp.proofs.Users.{agreed_by, safe_by}
 use Rattle.ring_srp.proofs.machine.Machine.give.Goals as goal
 
