@@ -18,10 +18,11 @@ use Rattle.ring_core.specs.Joining.{proposes}
 use Rattle.ring_core.specs.Views.{front, mark, plan}
 use Rattle.ring_core.specs.Deciding.{Act, Ignore, Enqueue, Repeat, Announce, Invite, GiveUp, Regather, Agree, Widen, RegatherAndAgree, RegatherAndWiden, Take, Visit, Fill, Learn, decide}
 use Rattle.ring_core.specs.Acting.{act, may_follow, proposed_after, done}
-use Rattle.ring_core.specs.Giving.{may_install, install, addressed, sent, users, agreed_from, safe_from, delivered_from, given, configured, settle}
+use Rattle.ring_core.specs.Giving.{may_install, addressed, sent, users, agreed_from, safe_from, delivered_from, given, configured, settle}
 use Rattle.ring_core.specs.Stepping.{ring_step}
 use Rattle.ring_log.specs.Stays.{Stay, stay_in, hands}
 use Rattle.ring_machine.specs.Lives.{lived, lived_through}
+use Rattle.ring_machine.specs.Nodes.{is_stopped}
 use Rattle.ring_machine.specs.Stepping.{handed_over}
 use Rattle.ring_replica.specs.Courses.{rises_at, rises}
 use Rattle.ring_marks.specs.Marks.{IsMarked}
@@ -33,27 +34,28 @@ pub record IsKept {A : Type 0} (c d : Core A) : Type 0 where
   pub installed : d.installed ≡ c.installed
   pub me : d.me ≡ c.me
   pub marks : (ring : RingId) → mark c ring ≤ mark d ring
+  pub going : is_stopped c.state ≡ false → is_stopped d.state ≡ false
 
 act_kept : {A : Type 0} → (c : Core A) (a : Act A) → IsKept c (act c a).core
-act_kept c Ignore = record { installed = refl; me = refl; marks = λ r. le_refl (mark c r) }
-act_kept c (Enqueue payload) = record { installed = refl; me = refl; marks = λ r. le_refl (mark c r) }
-act_kept c Repeat = record { installed = refl; me = refl; marks = λ r. le_refl (mark c r) }
-act_kept c Announce = record { installed = refl; me = refl; marks = λ r. le_refl (mark c r) }
-act_kept c Invite = record { installed = refl; me = refl; marks = λ r. le_refl (mark c r) }
-act_kept c GiveUp = record { installed = refl; me = refl; marks = λ r. le_refl (mark c r) }
-act_kept c Regather = record { installed = refl; me = refl; marks = λ r. le_refl (mark c r) }
-act_kept c (Agree j) = record { installed = refl; me = refl; marks = λ r. le_refl (mark c r) }
-act_kept c (Widen j) = record { installed = refl; me = refl; marks = λ r. le_refl (mark c r) }
-act_kept c (RegatherAndAgree j) = record { installed = refl; me = refl; marks = λ r. le_refl (mark c r) }
-act_kept c (RegatherAndWiden j) = record { installed = refl; me = refl; marks = λ r. le_refl (mark c r) }
-act_kept c (Take x) = record { installed = refl; me = refl; marks = λ r. le_refl (mark c r) }
-act_kept c (Visit t) = record { installed = refl; me = refl; marks = λ r. safe_mark-turn _ c.turns c.raises r }
-act_kept c (Fill k) = record { installed = refl; me = refl; marks = λ r. le_refl (mark c r) }
-act_kept c (Learn k) = record { installed = refl; me = refl; marks = λ r. safe_mark-raise _ c.turns c.raises r }
+act_kept c Ignore = record { installed = refl; me = refl; marks = λ r. le_refl (mark c r); going = λ h. h }
+act_kept c (Enqueue payload) = record { installed = refl; me = refl; marks = λ r. le_refl (mark c r); going = λ h. h }
+act_kept c Repeat = record { installed = refl; me = refl; marks = λ r. le_refl (mark c r); going = λ h. h }
+act_kept c Announce = record { installed = refl; me = refl; marks = λ r. le_refl (mark c r); going = λ h. h }
+act_kept c Invite = record { installed = refl; me = refl; marks = λ r. le_refl (mark c r); going = λ h. h }
+act_kept c GiveUp = record { installed = refl; me = refl; marks = λ r. le_refl (mark c r); going = λ h. h }
+act_kept c Regather = record { installed = refl; me = refl; marks = λ r. le_refl (mark c r); going = λ h. refl }
+act_kept c (Agree j) = record { installed = refl; me = refl; marks = λ r. le_refl (mark c r); going = λ h. h }
+act_kept c (Widen j) = record { installed = refl; me = refl; marks = λ r. le_refl (mark c r); going = λ h. h }
+act_kept c (RegatherAndAgree j) = record { installed = refl; me = refl; marks = λ r. le_refl (mark c r); going = λ h. refl }
+act_kept c (RegatherAndWiden j) = record { installed = refl; me = refl; marks = λ r. le_refl (mark c r); going = λ h. refl }
+act_kept c (Take x) = record { installed = refl; me = refl; marks = λ r. le_refl (mark c r); going = λ h. h }
+act_kept c (Visit t) = record { installed = refl; me = refl; marks = λ r. safe_mark-turn _ c.turns c.raises r; going = λ h. h }
+act_kept c (Fill k) = record { installed = refl; me = refl; marks = λ r. le_refl (mark c r); going = λ h. refl }
+act_kept c (Learn k) = record { installed = refl; me = refl; marks = λ r. safe_mark-raise _ c.turns c.raises r; going = λ h. refl }
 
 proposed_kept : {A : Type 0} → (b : Bool) (c : Core A) (d : Did A) → IsKept c d.core → IsKept c (proposed_after b d).core
 proposed_kept false c d k = k
-proposed_kept true c d k = record { installed = k.installed; me = k.me; marks = k.marks }
+proposed_kept true c d k = record { installed = k.installed; me = k.me; marks = k.marks; going = λ h. refl }
 
 pub done_kept : {A : Type 0} → (c : Core A) (a : Act A) → IsKept c (done c a).core
 done_kept c a = proposed_kept (may_follow a && proposes (act c a).core) c (act c a) (act_kept c a)
@@ -136,12 +138,15 @@ goes_given c d sends s older low high =
     record { stay = g.stay; leads = leads_then _ _ _ (sent sends) (given c d) (leads_sends (s ∷ older) (addressed sends)) g.leads; ring = g.ring; marked = g.marked }
 
 -- a ring is installed
+
+least : (m : ℕ) → 0 ≤ m
+least m = omega arith
+
 pub goes_configured : {A : Type 0} → (d : Core A) (life : List (Stay A)) →
     (t : Stay A) × (t.ring ≡ d.running.ring) × (t.mark ≤ mark d d.running.ring) × Leads life (configured d) (t ∷ life)
 goes_configured {A} d life =
     let new = stay_in d.running.ring d.running.members in
-    let least : 0 ≤ mark d d.running.ring = omega arith in
-    let g = goes_delivered d d.running.ring new life 0 0 (le_refl 0) least in
+    let g = goes_delivered d d.running.ring new life 0 0 (le_refl 0) (least (mark d d.running.ring)) in
     let xs = rests (plan d) d.held in (
       g.stay,
       g.ring,
@@ -209,7 +214,21 @@ me_step c input =
     let d = done c (decide c input) in
     settle_me (may_install d.core) d.core (sent d.sends ++ given c d.core) ∙ (done_kept c (decide c input)).me
 
+settle_going : {A : Type 0} → (b : Bool) (c : Core A) (outs : List (Out A)) → is_stopped c.state ≡ false → is_stopped (settle b c outs).core.state ≡ false
+settle_going false c outs h = h
+settle_going true c outs h = refl
+
+pub going_step : {A : Type 0} → (c : Core A) (input : Input A) → is_stopped c.state ≡ false → is_stopped (ring_step c input).core.state ≡ false
+unfolding ring_step
+going_step c input h =
+    let d = done c (decide c input) in
+    settle_going (may_install d.core) d.core (sent d.sends ++ given c d.core) ((done_kept c (decide c input)).going h)
+
 -- What is handed over
+
+pub going_handed : {A : Type 0} → (c : Core A) (ps : List (Payload A)) → is_stopped c.state ≡ false → is_stopped (handed_over c ps).state ≡ false
+going_handed c [] h = h
+going_handed c (p ∷ ps) h = going_handed (ring_step c (SendInput p)).core ps (going_step c (SendInput p) h)
 
 pub me_handed : {A : Type 0} → (c : Core A) (ps : List (Payload A)) → (handed_over c ps).me ≡ c.me
 me_handed c [] = refl

@@ -9,11 +9,11 @@ use Rattle.ring_recover.specs.Installing.{is_ready}
 use Rattle.ring_core.specs.declared.input.Input.{Input}
 use Rattle.ring_core.specs.declared.input.Input.TheVariants.{Send as SendInput}
 use Rattle.ring_core.specs.declared.out.Out.{Out}
-use Rattle.ring_core.specs.State.{Core, Did, Stepped}
+use Rattle.ring_core.specs.State.{Core, Did}
 use Rattle.ring_core.specs.Views.{mark}
 use Rattle.ring_core.specs.Deciding.{Ignore, Enqueue, decide, decide_payload}
 use Rattle.ring_core.specs.Acting.{silently, done}
-use Rattle.ring_core.specs.Giving.{ready_then_complete, installs_in, may_install, install, sent, given, settle, delivered}
+use Rattle.ring_core.specs.Giving.{ready_then_complete, installs_in, may_install, sent, given, settle, delivered}
 use Rattle.ring_core.specs.Stepping.{ring_step}
 use Rattle.ring_machine.specs.Stepping.{handed_over}
 

@@ -1,6 +1,6 @@
 use Rattle.std.proofs.Common.{refl}
 use Rattle.std.proofs.Math.Nat.{le_refl}
-use Rattle.ring_marks.proofs.Marks.{rises_step, marked_step, marked_handed, me_step, me_handed, state_handed, installed_handed}
+use Rattle.ring_marks.proofs.Marks.{rises_step, marked_step, marked_handed, going_step, me_step, me_handed, state_handed, installed_handed}
 use Rattle.ring_marks.proofs.laws.marks_law.Goals as goal
 
 pub returns-clause-opening : goal.returns-clause-opening
@@ -26,3 +26,6 @@ returns-clause-state g c = state_handed
 
 pub returns-clause-installed : goal.returns-clause-installed
 returns-clause-installed g c = installed_handed
+
+pub returns-clause-going : goal.returns-clause-going
+returns-clause-going g c = going_step
