@@ -10,9 +10,9 @@ use Rattle.ring_payload.specs.declared.content.Payload.{Payload}
 use Rattle.ring_core.specs.declared.input.Input.{Input}
 use Rattle.ring_core.specs.declared.input.Input.TheVariants.{Send as SendInput}
 use Rattle.ring_core.specs.declared.out.Out.{Out}
-use Rattle.ring_core.specs.State.{Core, Stepped, halted}
+use Rattle.ring_core.specs.State.{Core, halted}
 use Rattle.ring_core.specs.Stepping.{ring_step}
-use Rattle.ring_log.specs.Stays.{Stay, hands}
+use Rattle.ring_log.specs.Stays.{Stay}
 use Rattle.ring_log.specs.Lives.{committed_of, is_sound}
 use Rattle.ring_ticket.specs.declared.answered.Answered.{Answered}
 use Rattle.ring_ticket.specs.Tickets.{unanswered, answers_after}
@@ -20,7 +20,7 @@ use Rattle.ring_machine.specs.Lives.{lived_through}
 use Rattle.ring_machine.specs.Nodes.{Node, node_pending, node_stopped, is_stopped}
 use Rattle.ring_machine.specs.Stepping.{NodeStepped, handed_over, after_core, submit_fault}
 use Rattle.ring_replica.specs.Courses.{handed_if, dues_by}
-use Rattle.ring_replica.specs.Replicas.{Replica, ReplicaStepped, IsDone, replica_committed, replica_stopped, replica_done, replica_settled, replica_step, replica_of, running_of, moment_of, node_unless, submit_refusal, has_adopted_running, replica_given}
+use Rattle.ring_replica.specs.Replicas.{Replica, ReplicaStepped, replica_committed, replica_stopped, replica_done, replica_settled, replica_step, replica_of, running_of, moment_of, node_unless, submit_refusal, has_adopted_running, replica_given}
 use Rattle.ring_replica.proofs.Going.{hands-committed}
 use Rattle.ring_replica.proofs.Nodes.{step-is, refused-is}
 use Rattle.ring_marks.specs.Marks.{IsMarked}

@@ -1,5 +1,5 @@
 -- No mark falls, the core runs on, and the replica ends the step that it took.
-use Rattle.std.proofs.Common.{◌≡◌, false, ap, sym, ◌∙◌}
+use Rattle.std.proofs.Common.{ap, sym, ◌∙◌}
 use Rattle.ring_core.specs.State.{Core}
 use Rattle.ring_machine.specs.Nodes.{is_stopped}
 use Rattle.ring_replica.specs.Courses.{rises}

@@ -1,5 +1,5 @@
 -- The node is what the step of its core and its replica makes of it.
-use Rattle.std.proofs.Common.{◌≡◌, ap, sym, ◌∙◌, subst}
+use Rattle.std.proofs.Common.{ap, sym, ◌∙◌}
 use Rattle.ring_core.specs.State.{Core}
 use Rattle.ring_core.specs.Stepping.{ring_step}
 use Rattle.ring_machine.specs.Nodes.{Node, is_stopped}

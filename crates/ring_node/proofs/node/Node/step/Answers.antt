@@ -1,5 +1,5 @@
 -- A node that isn't stopped runs.
-use Rattle.std.proofs.Common.{◌≡◌, ap, sym, ◌∙◌}
+use Rattle.std.proofs.Common.{ap, sym, ◌∙◌}
 use Rattle.ring_machine.specs.Nodes.{Node, is_stopped}
 use Rattle.ring_node.proofs.Steps.{going-told}
 use Rattle.ring_node.proofs.node.Node.step.Goals as goal

@@ -1,5 +1,5 @@
 -- A call goes to the core at once where an adopted ring runs.
-use Rattle.std.proofs.Common.{◌≡◌, true, false, sym, ap, ◌∙◌}
+use Rattle.std.proofs.Common.{true, false, sym, ap, ◌∙◌}
 use Rattle.ring_payload.specs.declared.content.Payload.TheVariants.{Call}
 use Rattle.ring_core.specs.Stepping.{ring_step}
 use Rattle.ring_core.specs.declared.input.Input.TheVariants.{Send as SendInput}

@@ -175,8 +175,8 @@ invariant_of-self-2 g c =
     let all = committed-is c.walk.new.self.group c.walk.new.self.life c.walk.new.self.log (c.is_fine.ensures.sound fine) (c.log.ensures.kept fine) in
     record {
       kept = stepped-replica object s.course s.sessions s.tickets s.places s.committed s.stopped tale c.self.invariant.kept c.walk.new.self c.new_answers.new.sessions c.walk.new.due.items d.1 d.0 fine c.walk.ensures.group c.walk.ensures.front all
-    (c.in_ok-answers.ensures.table ∙ ap (λ (l : Log _). fold (table_next object) s.sessions (drop s.committed (committed_calls l))) c.log-2.ensures.log)
-    c.hand.new.self c.hand.ensures;
+          (c.in_ok-answers.ensures.table ∙ ap (λ (l : Log _). fold (table_next object) s.sessions (drop s.committed (committed_calls l))) c.log-2.ensures.log)
+          c.hand.new.self c.hand.ensures;
       order = c.self.invariant.order ∙ ap (λ gr. length (deduplicated (committed_of gr tale.life))) (sym (ap (λ (x : Course _). x.group) c.hand.ensures ∙ c.walk.ensures.group));
       ahead = λ _. reached-is object s.course s.sessions s.tickets s.places s.committed s.stopped tale c.self.invariant.kept c.walk.new.self c.walk.new.due.items s.effects c.in_ok-answers.reached d.1 d.0
           c.walk.ensures.group c.walk.ensures.front all c.self.invariant.order
