@@ -37,9 +37,9 @@ use Rattle.ring_core.specs.Deciding.{takes_of, members_of, is_taken}
 use Rattle.ring_core.specs.Giving.{users}
 use Rattle.ring_core.specs.Views.{front, mark, plan, takes_number}
 use Rattle.ring_base.specs.Processors.{has}
-use Rattle.ring_srp.specs.declared.recovering.Recovering.{Recovering}
+use Rattle.ring_parts.specs.declared.recovering.Recovering.{Recovering}
 use Rattle.ring_srp.specs.Machines.{IsPart, IsBelow, bound, is_forming, ring_in_use, window_of, Recovers, IsRecovering, IsMachine}
-use Rattle.ring_srp.specs.Taking.{window_front, with_taken, inner_of, with_inner}
+use Rattle.ring_parts.specs.Taking.{window_front, with_taken, inner_of, with_inner}
 
 -- the core with other messages held
 abbrev pub with_held : {A : Type 0} → Core A → List (Message A) → Core A

@@ -41,9 +41,10 @@ use Rattle.ring_core.specs.Giving.{users}
 use Rattle.ring_core.specs.Handing.{passed}
 use Rattle.ring_srp.specs.Allowing.{LearnAllowed}
 use Rattle.ring_srp.specs.Learns.{plan_at, safe_at}
-use Rattle.ring_srp.specs.Machines.{History, core_of, IsPart, IsBelow, bound, is_forming, Recovers, IsMachine, raises_of}
-use Rattle.ring_srp.specs.Histories.{with_plan}
-use Rattle.ring_srp.specs.declared.recovering.Recovering.{Recovering}
+use Rattle.ring_parts.specs.Histories.{History}
+use Rattle.ring_srp.specs.Machines.{core_of, IsPart, IsBelow, bound, is_forming, Recovers, IsMachine, raises_of}
+use Rattle.ring_parts.specs.Histories.{with_plan}
+use Rattle.ring_parts.specs.declared.recovering.Recovering.{Recovering}
 use Rattle.ring_srp.proofs.Standing.{below_wider}
 use Rattle.ring_srp.proofs.Receivers.{receiver_member}
 

@@ -13,11 +13,12 @@ use Rattle.ring_token.specs.Histories.{TokenHistory}
 use Rattle.ring_join.specs.Gatherers.{Gatherer}
 use Rattle.ring_join.specs.Gathering.{Gathering}
 use Rattle.ring_commit.specs.declared.configuration.Configuration.{Configuration}
-use Rattle.ring_srp.specs.declared.recovering.Recovering.{Recovering}
+use Rattle.ring_parts.specs.declared.recovering.Recovering.{Recovering}
 use Rattle.ring_wire.specs.declared.entries.CommitEntry.{CommitEntry}
-use Rattle.ring_srp.specs.Histories.{with_ring}
+use Rattle.ring_parts.specs.Histories.{with_ring}
 use Rattle.ring_core.specs.State.{Core, Sent}
-use Rattle.ring_srp.specs.Machines.{History, core_of, IsBelow, bound, IsRecovering, IsMachine}
+use Rattle.ring_parts.specs.Histories.{History}
+use Rattle.ring_srp.specs.Machines.{core_of, IsBelow, bound, IsRecovering, IsMachine}
 
 -- Numbers below a bound are below a higher one
 

@@ -13,7 +13,8 @@ use Rattle.ring_join.specs.Gatherers.{Gatherer}
 use Rattle.ring_join.specs.Gathering.{entered}
 use Rattle.ring_commit.specs.declared.configuration.Configuration.{Configuration}
 use Rattle.ring_core.specs.State.{alone, all_of, opening, formed}
-use Rattle.ring_srp.specs.Machines.{History, history_of, core_of, IsMachine, is_forming, is_stopped}
+use Rattle.ring_parts.specs.Histories.{History, history_of}
+use Rattle.ring_srp.specs.Machines.{core_of, IsMachine, is_forming, is_stopped}
 
 -- the lists of facts of a core that opens in this ring
 abbrev first_in : {A : Type 0} → Configuration → History A

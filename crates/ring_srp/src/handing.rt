@@ -1,6 +1,6 @@
 //! A ring is taken part in: a commit token is proposed, filled in, and handed on.
 
-ghost use Rattle.std.specs.Prelude.{◌≡◌, ◌==◌, true, [], ◌∷◌, ◌++◌, ◌<◌, Some, IfErr, OnOk};
+ghost use Rattle.std.specs.Prelude.{◌≡◌, ◌==◌, ◌∷◌, ◌++◌, ◌<◌, Some, IfErr, OnOk};
 ghost use Rattle.ring_base.specs.Processors.{IsMember, size, smallest};
 ghost use Rattle.ring_base.specs.declared.fault.Fault.TheVariants.{Memory};
 ghost use Rattle.ring_base.specs.declared.state.State.TheVariants.{Gather as InGather, Commit as InCommit};
@@ -14,12 +14,11 @@ ghost use Rattle.ring_core.specs.Views.{own_entry};
 ghost use Rattle.ring_join.specs.Gathering.{candidates, may_propose};
 ghost use Rattle.ring_srp.specs.Allowing.{FillAllowed};
 
-use crate::history::with_ring;
 use crate::machine::Machine;
-use crate::sent::{Sent, send_copy};
 use ring_base::{Fault, MAX, ProcSet, RingId, State};
-use ring_commit::{Configuration, Outcome, fill, propose, receiver};
+use ring_commit::{Outcome, fill, propose, receiver};
 use ring_core::Out;
+use ring_parts::{Sent, send_copy, with_ring};
 use ring_wire::{CommitBox, CommitToken, Frame};
 use std::alloc::Allocator;
 
@@ -30,6 +29,7 @@ impl<A: Allocator + Copy> Machine<A> {
         ensures outs { OnOk result (outs.new.items ≡ outs.old.items ++ sent (proposed_after (proposes self.old) (silently self.old)).sends) }
         ensures refused { IfErr result (λ fault. fault ≡ Memory) }
     {
+        // Read, so that what always holds of a machine is known here: `me` is a processor of the run.
         let _me = &self.me;
         match self.due() {
             Some(token) => self.join(token, outs),

@@ -6,8 +6,9 @@ use Rattle.ring_wire.specs.declared.entries.CommitEntry.{CommitEntry}
 use Rattle.ring_commit.specs.declared.configuration.Configuration.{Configuration}
 use Rattle.ring_core.specs.State.{Core, floor}
 use Rattle.ring_core.specs.Views.{own_entry}
-use Rattle.ring_srp.specs.Histories.{with_ring}
-use Rattle.ring_srp.specs.Machines.{History, core_of}
+use Rattle.ring_parts.specs.Histories.{with_ring}
+use Rattle.ring_parts.specs.Histories.{History}
+use Rattle.ring_srp.specs.Machines.{core_of}
 use Rattle.ring_srp.proofs.Standing.{into_commit}
 use Rattle.ring_srp.proofs.machine.Machine.take_part.Goals as goal
 
