@@ -125,9 +125,9 @@ module _ {A : Type 0} (me total : ℕ) (s : State) (running installed : Configur
   -- what was kept of the running ring is kept of the installed one
   pub into_operational : (o : Option (Recovering A)) → o ≡ Some r
       → IsMachine (core_of me total s running installed g shown queue held h) gather window visit o → s ≡ Recovery → (h' : History A)
-      → h' ≡ with_install h running → (recovery : Option (Recovering A))
+      → h' ≡ with_install h running → (recovery : Option (Recovering A)) → recovery ≡ None
       → IsMachine (core_of me total Operational running running g shown queue held h') gather r.part.window r.part.visit recovery
-  into_operational o there m e h' is recovery =
+  into_operational o there m e h' is recovery none =
       let now = core_of me total Operational running running g shown queue held (with_install h running) in
       let f : Recovers (core_of me total s running installed g shown queue held h) r = subst (λ (x : Option (Recovering A)). IsRecovering
       (core_of me total s running installed g shown queue held h) x) there (m.recovering e) in
@@ -146,6 +146,7 @@ module _ {A : Type 0} (me total : ℕ) (s : State) (running installed : Configur
         apart = λ q. absurd (true≢false (sym q));
         same = λ q. refl;
         recovering = λ q. absurd (operational_not_recovery q);
+        over = λ q. none;
       } in
       subst (λ (x : History A). IsMachine (core_of me total Operational running running g shown queue held x) gather r.part.window r.part.visit recovery)
       (sym is) all

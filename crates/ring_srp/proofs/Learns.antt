@@ -381,5 +381,6 @@ module _ {A : Type 0} (me total : ℕ) (s : State) (running installed : Configur
         apart = λ e. m.apart (ap is_forming a.state);
         same = λ e. absurd (recovery_not_operational e);
         recovering = λ e. f;
+        over = λ n. absurd (n refl);
       } in
       subst (λ (x : History A). IsMachine (core_of me total Recovery running installed g shown' queue held x) gather window' visit' (Some r)) (sym is) all

@@ -42,6 +42,7 @@ starts_at total me state ring queue opens =
       apart = λ e. absurd (true≢false (sym e ∙ opens.idle));
       same = λ e. refl;
       recovering = λ e. absurd (true≢false (sym (ap is_forming e) ∙ opens.idle));
+      over = λ e. refl;
     }
 
 starts : {A : Type 0} (total me : ℕ) (state : State) (ring : Configuration) (gather : Gatherer) (window : Windowed A) (visit : TokenHistory A)

@@ -222,6 +222,7 @@ module _ {A : Type 0} (me total : ℕ) (s : State) (running installed : Configur
         apart = m.apart;
         same = m.same;
         recovering = λ q. recovers_aside (core_of me total s running installed g shown queue held h) r r' (m.recovering q) a;
+        over = λ n. absurd (n e);
       }
 
   -- in Recovery the token went on
@@ -247,6 +248,7 @@ module _ {A : Type 0} (me total : ℕ) (s : State) (running installed : Configur
         apart = m.apart;
         same = m.same;
         recovering = λ q. recovers_turned c r r' v shown' (m.recovering q) newer e l all n;
+        over = λ n. absurd (n s_is);
       }
 
   -- in Operational what is kept is of the running ring
@@ -278,6 +280,7 @@ module _ {A : Type 0} (me total : ℕ) (s : State) (running installed : Configur
         apart = m.apart;
         same = m.same;
         recovering = λ q. absurd (recovery_no_operational s q s_is);
+        over = m.over;
       }
 
   -- the core that it leaves

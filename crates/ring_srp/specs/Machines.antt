@@ -140,4 +140,6 @@ pub record IsMachine {A : Type 0} (c : Core A) (gather : Gatherer) (window : Win
   pub older : c.installed.ring.seq ≤ floor c
   pub apart : is_forming c.state ≡ true → c.installed.ring.seq < floor c
   pub same : c.state ≡ Operational → c.installed ≡ c.running
+  -- in Recovery there is what it goes by then, and in no other state
   pub recovering : c.state ≡ Recovery → IsRecovering c recovery
+  pub over : (c.state ≡ Recovery → ⊥) → recovery ≡ None

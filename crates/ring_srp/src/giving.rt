@@ -42,8 +42,21 @@ impl<A: Allocator + Copy> Machine<A> {
         ensures ok { OnOk result (outs.new.items ≡ outs.old.items ++ delivered_from self.now before.ring before.front before.mark) }
         ensures refused { IfErr result (λ fault. fault ≡ Memory) }
     {
+        self.make_room(before.front, before.mark, outs)?;
         let window = &self.kept.window;
         give_agreed(window, before.front, outs)?;
         give_safe(window.ring(), before.mark, window.mark(), outs)
+    }
+
+    /// Room for all that may be given past a front and a mark: what the front newly covers, and the safe mark if it rose.
+    fn make_room(&self, front: u64, mark: u64, outs: &mut Vec<Out<A>, A>) -> Result<(), Fault>
+        ensures kept { outs.new.items ≡ outs.old.items }
+        ensures refused { IfErr result (λ fault. fault ≡ Memory) }
+    {
+        let window = &self.kept.window;
+        let covered = window.front().saturating_sub(front) as usize;
+        let marks = usize::from(mark < window.mark());
+        outs.reserve(covered.saturating_add(marks))?;
+        Ok(())
     }
 }

@@ -61,6 +61,7 @@ impl<A: Allocator + Copy> Machine<A> {
         ensures outs { OnOk result (outs.new.items ≡ outs.old.items ++ given_all self.old) }
         ensures refused { IfErr result (λ fault. fault ≡ Memory) }
     {
+        self.make_room_to_install(outs)?;
         self.give_change(delivery, outs)?;
         let aside = self.settle();
         let ring = self.installed.ring;
@@ -71,6 +72,26 @@ impl<A: Allocator + Copy> Machine<A> {
         };
         give_aside(&ring, aside.messages, outs)?;
         self.give(before, outs)
+    }
+
+    /// Room for all that an installation may give: the two configurations, what the old ring's window holds, what stands
+    /// aside of the running ring, what its front covers behind that, and its safe mark.
+    fn make_room_to_install(&self, outs: &mut Vec<Out<A>, A>) -> Result<(), Fault>
+        ensures kept { outs.new.items ≡ outs.old.items }
+        ensures refused { IfErr result (λ fault. fault ≡ Memory) }
+    {
+        if let Some(recovering) = &self.recovery {
+            let window = &self.kept.window;
+            let rest = window.highest().saturating_sub(window.mark()) as usize;
+            let behind = recovering
+                .part
+                .window
+                .front()
+                .saturating_sub(recovering.most) as usize;
+            let room = rest.saturating_add(recovering.aside.len());
+            outs.reserve(room.saturating_add(behind).saturating_add(3))?;
+        }
+        Ok(())
     }
 
     /// The transitional configuration with the rest of the old ring, and the regular one.
