@@ -1,6 +1,4 @@
-pub mod Delivering
-pub mod Entered
-pub mod Kept
-pub mod Opened
-pub mod Printing
-pub mod Sending
+pub mod Going
+pub mod Growing
+pub mod Opening
+pub mod Texts

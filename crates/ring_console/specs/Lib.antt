@@ -1,3 +1,3 @@
-pub mod Network
+pub mod Pairs
 pub mod Printed
 pub mod Running

@@ -1,11 +1,13 @@
 -- The lines that a script prints.
 -- What a script prints, of docs/FORMATS.md.
-use Rattle.std.specs.Prelude.{ℕ, List, ◌++◌, flat_map, codes}
+use Rattle.std.specs.Prelude.{ℕ, Bool, true, false, List, ◌++◌, flat_map, codes}
 use Rattle.std.specs.Fmt.{decimal}
 use Rattle.hex.specs.Hex.{encode_lower}
 use Rattle.ring_base.specs.Rings.{ring_text}
 use Rattle.ring_base.specs.declared.ring_id.RingId.{RingId}
-use Rattle.ring_ticket.specs.declared.answered.Answered.{Answered}
+use Rattle.ring_history.specs.declared.told.Told.{Told}
+use Rattle.ring_history.specs.declared.told.Told.TheVariants.{Answer as ToldAnswer, Refused as ToldRefused}
+use Rattle.ring_payload.specs.declared.call.Call.{Call}
 use Rattle.ring_report.specs.Texts.{line_of}
 use Rattle.ring_session.specs.declared.answer.Answer.{Answer}
 use Rattle.ring_session.specs.declared.answer.Answer.TheVariants.{Done, Kept, Refused}
@@ -18,19 +20,29 @@ outcome_text (Done reply) = codes " done " ++ encode_lower reply
 outcome_text (Kept reply) = codes " kept " ++ encode_lower reply
 outcome_text (Refused reason) = codes " refused " ++ decimal reason
 
--- the answer that a node gives to a ticket
-abbrev pub answer_text : {A : Type 0} → ℕ → Answered A → List ℕ
-answer_text node answered =
-    codes "reply " ++ decimal node ++ codes " " ++ decimal answered.call.client ++ codes "." ++ decimal answered.call.number ++ outcome_text answered.answer
+-- the answer that a node gives to a call
+abbrev pub answer_text : {A : Type 0} → ℕ → Call A → Answer → List ℕ
+answer_text node call answer =
+    codes "reply " ++ decimal node ++ codes " " ++ decimal call.client ++ codes "." ++ decimal call.number ++ outcome_text answer
 
--- the answers that a node gives, a line each
-abbrev pub answers_text : {A : Type 0} → ℕ → List (Answered A) → List ℕ
-answers_text node answers = flat_map (λ (answered : Answered _). line_of (answer_text node answered)) answers
+-- a node does not take a call, for the reason of this number
+abbrev pub refused_text : {A : Type 0} → ℕ → Call A → ℕ → List ℕ
+refused_text node call reason =
+    codes "refused " ++ decimal node ++ codes " " ++ decimal call.client ++ codes "." ++ decimal call.number ++ codes " " ++ decimal reason
 
--- a node does not take a client's call, for the reason of this number
-abbrev pub refused_text : ℕ → ℕ → ℕ → ℕ → List ℕ
-refused_text node client number reason =
-    codes "refused " ++ decimal node ++ codes " " ++ decimal client ++ codes "." ++ decimal number ++ codes " " ++ decimal reason
+-- what a node told
+abbrev pub one_text : {A : Type 0} → Told A → List ℕ
+one_text (ToldAnswer node call answer) = answer_text node call answer
+one_text (ToldRefused node call reason) = refused_text node call reason
+
+-- what nodes told, a line each
+abbrev pub told_text : {A : Type 0} → List (Told A) → List ℕ
+told_text told = flat_map (λ (t : Told _). line_of (one_text t)) told
+
+-- whether a run is legal
+abbrev pub legal_text : Bool → List ℕ
+legal_text true = codes "legal yes"
+legal_text false = codes "legal no"
 
 -- how long the one order is
 abbrev pub order_text : ℕ → List ℕ

@@ -1,64 +1,37 @@
--- What the lines of a script do to the book and to the network, and what they print.
+-- What the lines of a script do to a run, and what they print.
 -- Scripts, and What a script prints, of docs/FORMATS.md.
-use Rattle.std.specs.Prelude.{◌≡◌, ℕ, zero, suc, ◌+◌, ◌-◌, ◌^◌, ◌<◌, ◌≤◌, ◌⊎◌, Bool, true, false, min, List, [], ◌∷◌, ◌++◌, length, drop, Option, None, Some, MatchOption, IsSome, IsSomeAnd, slice_get, if◌then◌else◌, ⊤}
-use Rattle.std.specs.List.{AllByRecursion}
-use Rattle.std.specs.Option.{option_and_then}
+use Rattle.std.specs.Prelude.{◌≡◌, ℕ, zero, suc, ◌<◌, ◌≤◌, ◌⊎◌, Bool, true, false, List, [], ◌∷◌, ◌++◌, length, drop, Option, Some, None, unwrap_or, Result, Ok, Err, ⊤}
 use Rattle.std.specs.Io.KnownBytes.{Appends}
-use Rattle.ring_base.specs.declared.fault.Fault.{Fault}
-use Rattle.ring_base.specs.declared.fault.Fault.TheVariants as fault
-use Rattle.ring_base.specs.Fault.{fault_number}
-use Rattle.ring_base.specs.Fronts.{IsFront}
-use Rattle.ring_base.specs.Numbers.{max_number}
-use Rattle.ring_base.specs.Processors.{only}
+use Rattle.ring_base.specs.Group.{Group}
 use Rattle.ring_object.specs.Operations.{Sequential}
-use Rattle.ring_payload.specs.declared.call.Call.{Call}
-use Rattle.ring_one.specs.declared.input.Input.{Input}
-use Rattle.ring_one.specs.declared.input.Input.TheVariants as inputs
-use Rattle.ring_one.specs.Machine.{One, committed_of, is_stopped, submit_fault}
-use Rattle.ring_one.specs.Runs.{order_in, run}
-use Rattle.ring_one.specs.Texts.{log_of}
-use Rattle.ring_book.specs.declared.frame_ref.FrameRef.{FrameRef}
-use Rattle.ring_book.specs.declared.input.LineInput.{LineInput}
-use Rattle.ring_book.specs.declared.input.LineInput.TheVariants.{Called, Came}
-use Rattle.ring_book.specs.declared.line.Line.{Line}
-use Rattle.ring_book.specs.Cells.{IsRefusal, Journals}
-use Rattle.ring_book.specs.Events.{events_of}
-use Rattle.ring_book.specs.Books.{most_places}
-use Rattle.ring_book.specs.Lines.{frame_at, frame_to, steps_of, AreKept}
-use Rattle.ring_book.specs.Machines.{one_machine}
-use Rattle.ring_book.specs.Runs.{IsStep}
-use Rattle.ring_book.specs.Seen.{BookView, CellView}
-use Rattle.ring_book.specs.Steps.{StepView}
-use Rattle.ring_script.specs.declared.line.Line.{Line as Request}
-use Rattle.ring_script.specs.declared.line.Line.TheVariants as requests
+use Rattle.ring_machine.specs.Nodes.{Node, node_committed, node_log}
+use Rattle.ring_history.specs.declared.event.Event.{Event}
+use Rattle.ring_history.specs.declared.event.Event.TheVariants as events
+use Rattle.ring_history.specs.Histories.{IsLinearization}
+use Rattle.ring_history.specs.Worlds.{World, order}
+use Rattle.ring_script.specs.declared.line.Line.{Line}
+use Rattle.ring_script.specs.declared.line.Line.TheVariants.{Call, Deliver, Timeout, Noise, Stop, Cut, Heal, Pump, Show}
 use Rattle.ring_script.specs.declared.scripts.Numbered.{Numbered}
 use Rattle.ring_report.specs.declared.failure.Failure.{Failure}
-use Rattle.ring_report.specs.declared.failure.Failure.TheVariants as failures
+use Rattle.ring_report.specs.declared.failure.Failure.TheVariants.{Output}
 use Rattle.ring_report.specs.Texts.{line_of}
-use Rattle.ring_console.specs.declared.network.Parcel.{Parcel}
-use Rattle.ring_console.specs.declared.network.Turn.{Turn}
-use Rattle.ring_console.specs.declared.network.Turn.TheVariants.{Arrives, Lost}
-use Rattle.ring_console.specs.Network.{places_of, all_copies_of, place_of, next_turn}
-use Rattle.ring_console.specs.Printed.{answers_text, refused_text, node_text, order_text}
+use Rattle.ring_console.specs.declared.pairs.Pair.{Pair}
+use Rattle.ring_console.specs.Pairs.{frames_of, opened_since, hears}
+use Rattle.ring_world.specs.Played.{Played, played_opening, world_of, Goes}
+use Rattle.ring_console.specs.Printed.{told_text, node_text, order_text, legal_text}
 
 -- What contracts see of a run.
 pub record RunView (A : Type 0) : Type 0 where
-  -- the lines of the book
-  pub lines : List (Line A)
-  -- where the frames stand, in the order of sending
-  pub sent : List FrameRef
-  -- the copies of them that are under way
-  pub under_way : List Parcel
+  -- what its world has done, and told
+  pub played : Played A
+  -- the copies of frames that are under way, by the frame's number, then by receiver
+  pub open_pairs : List Pair
   -- the groups of the cut, if there is one
   pub groups : Option (List ℕ)
 
 -- the run before its first line
-abbrev pub run_opening : {A : Type 0} → RunView A
-run_opening = record { lines = []; sent = []; under_way = []; groups = None }
-
--- the place that stands for none
-abbrev pub nowhere : FrameRef
-nowhere = record { line = 0; place = 0 }
+abbrev pub run_opening : {A : Type 0} → Group → RunView A
+run_opening group = record { played = played_opening group; open_pairs = []; groups = None }
 
 -- Some text for which this holds was appended.
 pub record Prints (old new : Option (List ℕ)) (Holds : List ℕ → Type 0) : Type 0 where
@@ -66,232 +39,159 @@ pub record Prints (old new : Option (List ℕ)) (Holds : List ℕ → Type 0) : 
   pub appended : Appends old new text
   pub holds : Holds text
 
--- the book keeps its lines: new ones stand behind them
-abbrev pub Grows : {A : Type 0} → List (Line A) → List (Line A) → Type 0
-Grows {A} old new = (more : List (Line A)) × (new ≡ old ++ more)
-
--- Why a run ends before its script does: its output fails, memory is refused, the book has its greatest length, or the nodes named are not all among its own.
-abbrev pub EndsRun : {A : Type 0} → List (Line A) → Type 0 → Failure → Type 0
-EndsRun lines AreAmong failure =
-    (failure ≡ failures.Output) ⊎ (failure ≡ failures.Refused fault.Memory) ⊎ ((failure ≡ failures.Refused fault.BookFull) × (length lines ≡ most_places))
-    ⊎ ((failure ≡ failures.Refused fault.NotMember) × (AreAmong → ⊥))
-
--- why the run of a script ends before it, whatever its book came to: its nodes are among the run's
-abbrev pub EndsScript : Type 0 → Failure → Type 0
-EndsScript A failure = (lines : List (Line A)) × EndsRun lines ⊤ failure
-
--- ---- what one thing does to a run, and what it prints
-
--- nothing is changed, and nothing is printed
-abbrev pub Rests : {A : Type 0} → RunView A → RunView A → List ℕ → Type 0
-Rests old new text = (new ≡ old) × (text ≡ [])
-
--- One thing is done, then the other.
-pub record Then {A : Type 0} (P Q : RunView A → RunView A → List ℕ → Type 0) (old new : RunView A) (text : List ℕ) : Type 0 where
-  pub between : RunView A
-  pub before : List ℕ
-  pub after : List ℕ
-  pub first : P old between before
-  pub second : Q between new after
-  pub text_is : text ≡ before ++ after
-
--- All was done but for the sending of some of the frames, or their copies.
-pub record IsCutShort {A : Type 0} (whole new : RunView A) : Type 0 where
-  pub lines : new.lines ≡ whole.lines
-  pub groups : new.groups ≡ whole.groups
-  pub sent : IsFront new.sent whole.sent
-  pub under_way : IsFront new.under_way whole.under_way
-
--- one thing breaks off: it changes and prints nothing, or all is done and printed but for the sending of some frames
-abbrev pub Breaks : {A : Type 0} → (RunView A → RunView A → List ℕ → Type 0) → RunView A → RunView A → List ℕ → Type 0
-Breaks {A} Does old new text = Rests old new text ⊎ ((whole : RunView A) × (Does old whole text × IsCutShort whole new))
-
 -- where it is not the output that failed
-abbrev pub UnlessOutput : Failure → Type 0 → Type 0
-UnlessOutput failure P = (failure ≡ failures.Output → ⊥) → P
+abbrev pub UnlessOutput : {T : Type 0} → Result T Failure → Type 0 → Type 0
+UnlessOutput (Ok x) P = P
+UnlessOutput (Err Output) P = ⊤
+UnlessOutput (Err _) P = P
 
--- how many frames of a step are sent: no line has more than 65,535
-abbrev pub sent_of : {A : Type 0} → StepView A → ℕ
-sent_of step = min (length step.frames) (2 ^ 16 - 1)
+-- a line that says so, where it is asked for
+abbrev pub legal_line : Bool → List ℕ
+legal_line true = line_of (legal_text true)
+legal_line false = []
 
--- the run with the next line of the book: its frames are sent to the node itself
-abbrev pub after_step : {A : Type 0} → RunView A → StepView A → RunView A
-after_step old step = record {
-  lines = old.lines ++ record { number = length old.lines; step = step } ∷ [];
-  sent = old.sent ++ places_of (length old.lines) (sent_of step);
-  under_way = old.under_way ++ all_copies_of (length old.lines) (sent_of step) step.node (only step.node);
-  groups = old.groups;
-}
+-- ---- what one thing does to a run
 
--- a line for each of the first nodes: all have the state of this one
-abbrev pub nodes_text : {A : Type 0} → ℕ → One A → List ℕ
-nodes_text zero node = []
-nodes_text (suc n) node = nodes_text n node ++ line_of (node_text (suc n) node.state node.ring (length (committed_of node)) (length (log_of node.text)))
+-- The world did nothing, and told nothing; all else stays too.
+pub record Rests {A : Type 0} (old new : RunView A) : Type 0 where
+  pub group : new.played.group ≡ old.played.group
+  pub events : new.played.events ≡ old.played.events
+  pub told : new.played.told ≡ old.played.told
+  pub open_pairs : new.open_pairs ≡ old.open_pairs
+  pub groups : new.groups ≡ old.groups
 
-module _ {O A : Type 0} (object : Sequential O) where
-  -- the node after these lines of the book
-  unfoldable pub node_after : List (Line A) → One A
-  node_after lines = (run object (events_of lines)).node
+-- the event that a line asks for, if it asks for one: a frame whose number no u64 holds was never sent, nor was frame 0
+abbrev pub event_of : {A : Type 0} → Line A → Option (Event A)
+event_of (Call node call) = Some (events.Issue node call)
+event_of (Deliver node frame) = Some (events.Deliver node (unwrap_or frame 0))
+event_of (Timeout node kind) = Some (events.Timeout node kind)
+event_of (Noise node bytes) = Some (events.Noise node bytes)
+event_of (Stop node) = Some (events.Stop node)
+event_of (Cut groups) = None
+event_of Heal = None
+event_of (Pump turns) = None
+event_of Show = None
 
-  -- how long the one order is after these lines
-  abbrev pub order_length : List (Line A) → ℕ
-  order_length lines = length (order_in (run object (events_of lines)))
+-- a node's line
+abbrev pub shown_text : {A : Type 0} → ℕ → Node A → List ℕ
+shown_text number node = line_of (node_text number node.core.state node.core.installed.ring (length (node_committed node)) (length (node_log node)))
 
-  -- The next line of the book is of this node and this input: just what the input makes of the node.
-  pub record Enters (old : List (Line A)) (node : ℕ) (input : LineInput A) (step : StepView A) (new : List (Line A)) : Type 0 where
-    pub node_is : step.node ≡ node
-    pub input_is : step.input ≡ input
-    pub made : IsStep (one_machine object) (node_after old) step (node_after new)
-    pub lines : new ≡ old ++ record { number = length old; step = step } ∷ []
+module _ {O : Type 0} (object : Sequential O) where
+  -- The world runs an event, and each frame that it sends opens its copies.
+  pub record Happens {A : Type 0} (e : Event A) (old new : RunView A) : Type 0 where
+    pub goes : Goes object e old.played new.played
+    pub open_pairs : new.open_pairs ≡ old.open_pairs ++ opened_since (frames_of object old.played) (frames_of object new.played)
+    pub groups : new.groups ≡ old.groups
 
-  -- The node takes the call: that is the next line of the book, and nothing is printed.
-  pub record Takes (old : RunView A) (node : ℕ) (call : Call A) (new : RunView A) (text : List ℕ) : Type 0 where
-    pub step : StepView A
-    pub enters : Enters old.lines node (Called call) step new.lines
-    pub new_is : new ≡ record old { lines = new.lines }
-    pub text_is : text ≡ []
+  -- a copy comes to its receiver, or is lost
+  abbrev pub Comes : {A : Type 0} → Bool → Pair → RunView A → RunView A → Type 0
+  Comes true pair old new = Happens (events.Deliver pair.receiver pair.frame) old new
+  Comes false pair old new = new ≡ old
 
-  -- The node refuses the call: nothing is changed, and the reason is printed. Memory is a reason only where there is no other.
-  pub record Refuses (old : RunView A) (node : ℕ) (call : Call A) (new : RunView A) (text : List ℕ) : Type 0 where
-    pub reason : Fault
-    pub is_reason : IsRefusal false (submit_fault (node_after old.lines)) reason
-    pub same : new ≡ old
-    pub text_is : text ≡ line_of (refused_text node call.client call.number (fault_number reason))
+  -- A turn closes the first open copy: it comes to its receiver, or is lost at the cut.
+  pub record Turns {A : Type 0} (old new : RunView A) : Type 0 where
+    pub pair : Pair
+    pub others : List Pair
+    pub first : old.open_pairs ≡ pair ∷ others
+    pub comes : Comes (hears old.groups pair.sender pair.receiver) pair (record old { open_pairs = others }) new
 
-  -- a client's call is submitted at a node
-  abbrev pub Submits : ℕ → Call A → RunView A → RunView A → List ℕ → Type 0
-  Submits node call old new text = Takes old node call new text ⊎ Refuses old node call new text
+  -- a turn breaks off: the first open copy is closed, and comes to nobody
+  pub record BreaksTurn {A : Type 0} (old new : RunView A) : Type 0 where
+    pub pair : Pair
+    pub others : List Pair
+    pub first : old.open_pairs ≡ pair ∷ others
+    pub rests : Rests (record old { open_pairs = others }) new
 
-  -- The node does a step: that is the next line of the book, and its answers are printed. Where memory is refused, the step is a stop.
-  pub record Acts (old : RunView A) (node : ℕ) (input : Input A) (at : FrameRef) (new : RunView A) (text : List ℕ) : Type 0 where
-    pub step : StepView A
-    pub done : Input A
-    pub done_is : (done ≡ input) ⊎ (done ≡ inputs.Stop)
-    pub enters : Enters old.lines node (Came done at) step new.lines
-    pub new_is : new ≡ after_step old step
-    pub text_is : text ≡ answers_text node step.answers
+  -- so many turns are taken
+  abbrev pub TurnsTimes : {A : Type 0} → ℕ → RunView A → RunView A → Type 0
+  TurnsTimes zero old new = new ≡ old
+  TurnsTimes {A} (suc n) old new = (mid : RunView A) × (TurnsTimes n old mid × Turns mid new)
 
-  -- What a cell does on an input: the step of the input or a stop, or else nothing, since it is ahead or has stopped.
-  abbrev pub Acted : CellView (One A) A → CellView (One A) A → Input A → FrameRef → Bool → Type 0
-  Acted old new input at true = (done : Input A) × (((done ≡ input) ⊎ (done ≡ inputs.Stop)) × Journals (one_machine object) old new (Came done at))
-  Acted old new input at false = (new ≡ old) × ((old.ahead ≡ true) ⊎ (is_stopped old.node.state ≡ true))
-
-  -- an input comes to a node: where it has stopped, that changes nothing
-  abbrev pub Steps : ℕ → Input A → FrameRef → RunView A → RunView A → List ℕ → Type 0
-  Steps node input at old new text = Acts old node input at new text ⊎ ((is_stopped (node_after old.lines).state ≡ true) × Rests old new text)
-
-  -- the frame that stands there comes to a node: where none was sent to it, that changes nothing
-  abbrev pub Delivers : ℕ → FrameRef → RunView A → RunView A → List ℕ → Type 0
-  Delivers node at old new text = MatchOption (frame_to old.lines at node) (Rests old new text) (λ frame. Steps node (inputs.Frame frame) at old new text)
-
-  -- the frame of this number comes to a node: where it was not sent, that changes nothing
-  abbrev pub DeliversNumber : ℕ → Option ℕ → RunView A → RunView A → List ℕ → Type 0
-  DeliversNumber node number old new text = MatchOption (option_and_then (place_of old.sent) number) (Rests old new text) (λ at. Delivers node at old new text)
-
-  -- a copy comes to its receiver or is lost
-  abbrev pub Comes : Turn → RunView A → RunView A → List ℕ → Type 0
-  Comes Lost old new text = Rests old new text
-  Comes (Arrives parcel) old new text = Delivers parcel.receiver parcel.frame old new text
-
-  -- the network takes a turn: the first copy under way comes to its receiver or is lost
-  abbrev pub Turns : RunView A → RunView A → List ℕ → Type 0
-  Turns old new text = IsSomeAnd (next_turn old.groups old.under_way) (λ turn. Comes turn (record old { under_way = drop 1 old.under_way }) new text)
-
-  -- it takes so many turns
-  abbrev pub TurnsTimes : ℕ → RunView A → RunView A → List ℕ → Type 0
-  TurnsTimes zero = Rests
-  TurnsTimes (suc n) = Then (TurnsTimes n) Turns
-
-  -- It takes this many turns, or fewer, where no copy is under way after them.
-  pub record Pumps (turns : ℕ) (old new : RunView A) (text : List ℕ) : Type 0 where
+  -- This many turns are taken, or fewer, where no copy is open after them.
+  pub record Pumps {A : Type 0} (turns : ℕ) (old new : RunView A) : Type 0 where
     pub taken : ℕ
     pub most : taken ≤ turns
-    pub turn : TurnsTimes taken old new text
-    pub rest : taken < turns → new.under_way ≡ []
+    pub turn : TurnsTimes taken old new
+    pub rest : taken < turns → new.open_pairs ≡ []
 
-  -- the state is printed, of so many nodes
-  abbrev pub Shows : ℕ → RunView A → RunView A → List ℕ → Type 0
-  Shows count old new text = (new ≡ old) × (text ≡ nodes_text count (node_after old.lines) ++ line_of (order_text (order_length old.lines)))
+  -- Some turns are taken, and the next breaks off.
+  pub record BreaksPump {A : Type 0} (turns : ℕ) (old new : RunView A) : Type 0 where
+    pub taken : ℕ
+    pub less : taken < turns
+    pub mid : RunView A
+    pub turn : TurnsTimes taken old mid
+    pub next : BreaksTurn mid new
 
-  -- what a line of a script asks for is done, among so many nodes
-  abbrev pub Does : ℕ → Request A → RunView A → RunView A → List ℕ → Type 0
-  Does count (requests.Call node call) old new text = Submits node call old new text
-  Does count (requests.Deliver node number) old new text = DeliversNumber node number old new text
-  Does count (requests.Timeout node kind) old new text = Steps node (inputs.Timeout kind) nowhere old new text
-  Does count (requests.Noise node bytes) old new text = Steps node inputs.Noise nowhere old new text
-  Does count (requests.Stop node) old new text = Steps node inputs.Stop nowhere old new text
-  Does count (requests.Cut groups) old new text = (new ≡ record old { groups = Some groups }) × (text ≡ [])
-  Does count requests.Heal old new text = (new ≡ record old { groups = None }) × (text ≡ [])
-  Does count (requests.Pump turns) old new text = Pumps turns old new text
-  Does count requests.Show old new text = Shows count old new text
+  -- what a line of a script asks for is done
+  abbrev pub Does : {A : Type 0} → Line A → RunView A → RunView A → Type 0
+  Does (Call node call) old new = Happens (events.Issue node call) old new
+  Does (Deliver node frame) old new = Happens (events.Deliver node (unwrap_or frame 0)) old new
+  Does (Timeout node kind) old new = Happens (events.Timeout node kind) old new
+  Does (Noise node bytes) old new = Happens (events.Noise node bytes) old new
+  Does (Stop node) old new = Happens (events.Stop node) old new
+  Does (Cut groups) old new = new ≡ record old { groups = Some groups }
+  Does Heal old new = new ≡ record old { groups = None }
+  Does (Pump turns) old new = Pumps turns old new
+  Does Show old new = new ≡ old
 
-  -- what the lines of a script ask for is done, one after another
-  abbrev pub Runs : ℕ → List (Numbered A) → RunView A → RunView A → List ℕ → Type 0
-  Runs count [] = Rests
-  Runs count (l ∷ ls) = Then (Does count l.line) (Runs count ls)
+  -- what a line asks for breaks off: memory was refused to the world
+  abbrev pub Breaks : {A : Type 0} → Line A → RunView A → RunView A → Type 0
+  Breaks (Call node call) old new = Rests old new
+  Breaks (Deliver node frame) old new = Rests old new
+  Breaks (Timeout node kind) old new = Rests old new
+  Breaks (Noise node bytes) old new = Rests old new
+  Breaks (Stop node) old new = Rests old new
+  Breaks (Cut groups) old new = ⊥
+  Breaks Heal old new = ⊥
+  Breaks (Pump turns) old new = BreaksPump turns old new
+  Breaks Show old new = ⊥
 
-  -- a turn breaks off: the first copy under way is taken, and what its coming does breaks off
-  abbrev pub BreaksTurn : RunView A → RunView A → List ℕ → Type 0
-  BreaksTurn old new text = IsSomeAnd (next_turn old.groups old.under_way) (λ turn. Breaks (Comes turn) (record old { under_way = drop 1 old.under_way }) new text)
+  -- the one or the other
+  abbrev pub Ends : {A T E : Type 0} → Result T E → Line A → RunView A → RunView A → Type 0
+  Ends (Ok x) line old new = Does line old new
+  Ends (Err e) line old new = Breaks line old new
 
-  -- some turns are taken, and the next breaks off
-  abbrev pub BreaksPump : ℕ → RunView A → RunView A → List ℕ → Type 0
-  BreaksPump turns old new text = (taken : ℕ) × ((taken < turns) × Then (TurnsTimes taken) BreaksTurn old new text)
+  -- ---- what is printed
 
-  -- what a line of a script asks for breaks off: the others can't, while the output holds
-  abbrev pub BreaksLine : Request A → RunView A → RunView A → List ℕ → Type 0
-  BreaksLine (requests.Call node call) old new text = Breaks (Submits node call) old new text
-  BreaksLine (requests.Deliver node number) old new text = Breaks (DeliversNumber node number) old new text
-  BreaksLine (requests.Timeout node kind) old new text = Breaks (Steps node (inputs.Timeout kind) nowhere) old new text
-  BreaksLine (requests.Noise node bytes) old new text = Breaks (Steps node inputs.Noise nowhere) old new text
-  BreaksLine (requests.Stop node) old new text = Breaks (Steps node inputs.Stop nowhere) old new text
-  BreaksLine (requests.Pump turns) old new text = BreaksPump turns old new text
-  BreaksLine _ old new text = ⊥
+  -- a line for each of the first nodes
+  abbrev pub nodes_text : {A : Type 0} → ℕ → World A → List ℕ
+  nodes_text zero w = []
+  nodes_text (suc n) w = nodes_text n w ++ shown_text (suc n) (w.nodes (suc n))
 
-  -- A run of these lines breaks off: some are done, and the next breaks off.
-  pub record BreaksRun (count : ℕ) (lines : List (Numbered A)) (old new : RunView A) (text : List ℕ) : Type 0 where
-    pub done : List (Numbered A)
-    pub line : Numbered A
-    pub rest : List (Numbered A)
-    pub lines_are : lines ≡ done ++ line ∷ rest
-    pub broken : Then (Runs count done) (BreaksLine line.line) old new text
+  -- the states of all nodes, and the length of the order
+  abbrev pub show_text : {A : Type 0} → Played A → List ℕ
+  show_text p = nodes_text p.group.count (world_of object p) ++ line_of (order_text (length (order (world_of object p))))
 
-  -- the text is what a run of these lines prints, from its opening
-  abbrev pub IsTextOf : ℕ → List (Numbered A) → List ℕ → Type 0
-  IsTextOf count lines text = (new : RunView A) × Runs count lines run_opening new text
+  -- what a line prints: what was told since, and the state where it asks for it
+  abbrev pub text_of : {A : Type 0} → Line A → Played A → Played A → List ℕ
+  text_of Show old new = show_text new
+  text_of _ old new = told_text (drop (length old.told) new.told)
 
--- ---- what a run keeps
+  -- what the lines of a script ask for is done, one after another, and printed
+  abbrev pub Runs : {A : Type 0} → List (Numbered A) → RunView A → RunView A → List ℕ → Type 0
+  Runs [] old new text = (new ≡ old) × (text ≡ [])
+  Runs {A} (l ∷ ls) old new text = (mid : RunView A) × (others : List ℕ) × (Does l.line old mid × Runs ls mid new others × (text ≡ text_of l.line old.played mid.played ++ others))
 
--- All steps of the cell at this place are entered, and its numbers keep their limits.
-pub record IsEntered {A : Type 0} (lines : List (Line A)) (place : ℕ) (cell : CellView (One A) A) : Type 0 where
-  pub me : cell.me ≡ suc place
-  pub not_ahead : cell.ahead ≡ false
-  pub journal : cell.journal ≡ steps_of (suc place) lines
-  pub sound : length cell.node.text ≤ max_number
+  -- some of the lines are done and printed, and the next breaks off
+  abbrev pub BreaksRun : {A : Type 0} → List (Numbered A) → RunView A → RunView A → List ℕ → Type 0
+  BreaksRun [] old new text = ⊥
+  BreaksRun {A} (l ∷ ls) old new text =
+      (Breaks l.line old new × (text ≡ text_of l.line old.played new.played))
+      ⊎ ((mid : RunView A) × (others : List ℕ) × (Does l.line old mid × BreaksRun ls mid new others × (text ≡ text_of l.line old.played mid.played ++ others)))
 
--- There are so many cells, all entered, and the frames of the lines keep the limits of their spelling.
-pub record IsOfBook {A : Type 0} (count : ℕ) (lines : List (Line A)) (cells : List (CellView (One A) A)) : Type 0 where
-  pub counted : length cells ≡ count
-  pub each : (place : ℕ) (cell : CellView (One A) A) → slice_get cells place ≡ Some cell → IsEntered lines place cell
-  pub kept : AreKept lines
+  -- the one or the other
+  abbrev pub EndsRun : {A T E : Type 0} → Result T E → List (Numbered A) → RunView A → RunView A → List ℕ → Type 0
+  EndsRun (Ok x) lines old new text = Runs lines old new text
+  EndsRun (Err e) lines old new text = BreaksRun lines old new text
 
--- a frame stands there
-abbrev pub IsSent : {A : Type 0} → List (Line A) → FrameRef → Type 0
-IsSent lines at = IsSome (frame_at lines at)
+  -- the order of the run's world explains its history
+  abbrev pub IsLegal : {A : Type 0} → Played A → Type 0
+  IsLegal p = IsLinearization object (order (world_of object p)) (world_of object p).history
 
--- the copy's frame stands in the book, and its receiver is one of so many nodes
-abbrev pub IsOnItsWay : {A : Type 0} → ℕ → List (Line A) → Parcel → Type 0
-IsOnItsWay count lines parcel = IsSent lines parcel.frame × (parcel.receiver ≤ count)
-
--- the same of the copy that a turn brings
-abbrev pub IsBrought : {A : Type 0} → ℕ → List (Line A) → Turn → Type 0
-IsBrought count lines Lost = ⊤
-IsBrought count lines (Arrives parcel) = IsOnItsWay count lines parcel
-
--- What a run keeps: there are nodes, no place of the book is reserved, and what was sent stands in the book and is under way to its nodes.
-pub record IsOfRun {A : Type 0} (count : ℕ) (book : BookView A) (cells : List (CellView (One A) A)) (sent : List FrameRef) (under_way : List Parcel) : Type 0 where
-  pub some : 1 ≤ count
-  pub entered : IsOfBook count book.lines cells
-  pub none_reserved : book.reserved ≡ 0
-  pub all_sent : AllByRecursion (IsSent book.lines) sent
-  pub on_their_way : AllByRecursion (IsOnItsWay count book.lines) under_way
+  -- The text is what a run of these lines prints, from its opening, and then whether it is legal, where that is asked for.
+  pub record IsTextOf {A : Type 0} (group : Group) (is_checked : Bool) (lines : List (Numbered A)) (text : List ℕ) : Type 0 where
+    pub ran : RunView A
+    pub told : List ℕ
+    pub runs : Runs lines (run_opening group) ran told
+    pub legal : is_checked ≡ true → IsLegal ran.played
+    pub whole : text ≡ told ++ legal_line is_checked

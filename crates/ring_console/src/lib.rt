@@ -3,13 +3,15 @@
 //! the exit status.
 #![tactic(auto)]
 
-mod network;
+mod pairs;
 mod printed;
 mod run;
 mod running;
 
+pub use pairs::Pair;
 pub use ring_listing::frames;
 pub use ring_report::{Failure, report};
 pub use ring_script::{Groups, Line, Numbered, Rings, Script, ScriptFault};
 pub use run::Run;
-pub use running::{Things, script};
+pub use running::{Things, script, script_check};
+pub use ring_world::World;

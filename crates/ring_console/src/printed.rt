@@ -2,14 +2,14 @@
 
 ghost use Rattle.std.specs.Prelude.{◌≡◌, IfErr, OnOk};
 ghost use Rattle.std.specs.Io.KnownBytes.{Appends};
-ghost use Rattle.ring_base.specs.Fault.{fault_number};
 ghost use Rattle.ring_report.specs.declared.failure.Failure.TheVariants.{Output};
 ghost use Rattle.ring_report.specs.Texts.{line_of};
-ghost use Rattle.ring_console.specs.Printed.{answer_text, answers_text, refused_text, node_text, order_text, state_text};
+ghost use Rattle.ring_console.specs.Printed.{one_text, told_text, answer_text, refused_text, node_text, order_text, legal_text, state_text};
 
-use ring_base::{Fault, Proc, RingId, State};
+use ring_base::{Proc, RingId, State};
+use ring_history::Told;
 use ring_object::Reply;
-use ring_one::Answered;
+use ring_payload::Call;
 use ring_report::Failure;
 use ring_session::Answer;
 use std::alloc::Allocator;
@@ -42,32 +42,46 @@ impl fmt::Display for Hex<'_> {
     }
 }
 
-/// Prints the answers that a node gives, in their order. Otherwise `Output`.
-pub fn print_answers<A: Allocator + Copy + Drop, W: Write>(
+/// Prints what nodes told, a line each. Otherwise `Output`.
+pub(crate) fn print_told<A: Allocator + Copy + Drop, W: Write>(
     out: &mut W,
-    node: Proc,
-    answers: &[Answered<A>],
+    told: &[Told<A>],
 ) -> Result<(), Failure>
-    ensures lines { OnOk result (Appends (W.contents out.old) (W.contents out.new) (answers_text node answers.now)) }
+    ensures lines { OnOk result (Appends (W.contents out.old) (W.contents out.new) (told_text told.now)) }
     ensures failed { IfErr result (λ failure. failure ≡ Output) }
 {
-    for answered in answers {
-        print_answer(out, node, answered)?;
+    for one in told {
+        print_one(out, one)?;
     }
     Ok(())
 }
 
-/// Prints the answer that a node gives to a ticket. Otherwise `Output`.
+/// Prints what a node told. Otherwise `Output`.
+fn print_one<A: Allocator + Copy + Drop, W: Write>(
+    out: &mut W,
+    told: &Told<A>,
+) -> Result<(), Failure>
+    ensures line { OnOk result (Appends (W.contents out.old) (W.contents out.new) (line_of (one_text told.now))) }
+    ensures failed { IfErr result (λ failure. failure ≡ Output) }
+{
+    match told {
+        Told::Answer(node, call, answer) => print_answer(out, *node, call, answer),
+        Told::Refused(node, call, reason) => print_refused(out, *node, call, *reason),
+    }
+}
+
+/// Prints the answer that a node gives to a call. Otherwise `Output`.
 fn print_answer<A: Allocator + Copy + Drop, W: Write>(
     out: &mut W,
     node: Proc,
-    answered: &Answered<A>,
+    call: &Call<A>,
+    answer: &Answer,
 ) -> Result<(), Failure>
-    ensures line { OnOk result (Appends (W.contents out.old) (W.contents out.new) (line_of (answer_text node answered.now))) }
+    ensures line { OnOk result (Appends (W.contents out.old) (W.contents out.new) (line_of (answer_text node call.now answer.now))) }
     ensures failed { IfErr result (λ failure. failure ≡ Output) }
 {
-    let (node, client, number) = (node.number(), answered.call.client, answered.call.number);
-    let printed = match &answered.answer {
+    let (node, client, number) = (node.number(), call.client, call.number);
+    let printed = match answer {
         Answer::Done(reply) => {
             let reply = Hex(reply);
             writeln!(out, "reply {node} {client}.{number} done {reply}")
@@ -83,47 +97,55 @@ fn print_answer<A: Allocator + Copy + Drop, W: Write>(
     printed.map_err(|_| Failure::Output)
 }
 
-/// Prints that a node does not take a client's call. Otherwise `Output`.
-pub fn print_refused<W: Write>(
+/// Prints that a node does not take a call, for the reason of this number. Otherwise `Output`.
+fn print_refused<A: Allocator + Copy + Drop, W: Write>(
     out: &mut W,
     node: Proc,
-    client: u32,
-    number: u64,
-    fault: Fault,
+    call: &Call<A>,
+    reason: u8,
 ) -> Result<(), Failure>
-    ensures line { OnOk result (Appends (W.contents out.old) (W.contents out.new) (line_of (refused_text node client number (fault_number fault)))) }
+    ensures line { OnOk result (Appends (W.contents out.old) (W.contents out.new) (line_of (refused_text node call.now reason))) }
     ensures failed { IfErr result (λ failure. failure ≡ Output) }
 {
-    let (node, reason) = (node.number(), fault.number());
+    let (node, client, number) = (node.number(), call.client, call.number);
     writeln!(out, "refused {node} {client}.{number} {reason}").map_err(|_| Failure::Output)
 }
 
 /// Prints a node's state, its last installed ring, and how much of its log is committed. Otherwise `Output`.
-pub fn print_node<W: Write>(
+pub(crate) fn print_node<W: Write>(
     out: &mut W,
-    number: u64,
+    node: Proc,
     state: State,
     ring: RingId,
     committed: usize,
     log: u64,
 ) -> Result<(), Failure>
-    ensures line { OnOk result (Appends (W.contents out.old) (W.contents out.new) (line_of (node_text number state ring committed log))) }
+    ensures line { OnOk result (Appends (W.contents out.old) (W.contents out.new) (line_of (node_text node state ring committed log))) }
     ensures failed { IfErr result (λ failure. failure ≡ Output) }
 {
-    let state = name_of(state);
+    let (node, state) = (node.number(), name_of(state));
     writeln!(
         out,
-        "node {number} {state} {ring} committed {committed} log {log}"
+        "node {node} {state} {ring} committed {committed} log {log}"
     )
     .map_err(|_| Failure::Output)
 }
 
 /// Prints the length of the one order. Otherwise `Output`.
-pub fn print_order<W: Write>(out: &mut W, length: u64) -> Result<(), Failure>
+pub(crate) fn print_order<W: Write>(out: &mut W, length: u64) -> Result<(), Failure>
     ensures line { OnOk result (Appends (W.contents out.old) (W.contents out.new) (line_of (order_text length))) }
     ensures failed { IfErr result (λ failure. failure ≡ Output) }
 {
     writeln!(out, "order {length}").map_err(|_| Failure::Output)
+}
+
+/// Prints whether a run is legal. Otherwise `Output`.
+pub(crate) fn print_legal<W: Write>(out: &mut W, is_legal: bool) -> Result<(), Failure>
+    ensures line { OnOk result (Appends (W.contents out.old) (W.contents out.new) (line_of (legal_text is_legal))) }
+    ensures failed { IfErr result (λ failure. failure ≡ Output) }
+{
+    let word = if is_legal { "yes" } else { "no" };
+    writeln!(out, "legal {word}").map_err(|_| Failure::Output)
 }
 
 /// The word for a state.

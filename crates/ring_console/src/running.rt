@@ -1,31 +1,37 @@
 //! What the program prints of a script.
 
-ghost use Rattle.std.specs.Prelude.{◌≡◌, ℕ, ◌≤◌, List, Ok, OnOk, IfErr};
+ghost use Rattle.std.specs.Prelude.{◌≡◌, ℕ, ◌≤◌, List, [], Ok, OnOk, IfOk, IfErr, true, false, IsTrue};
+ghost use Rattle.std.specs.Io.Buffered.{writer_buffer, writer_contents};
 ghost use Rattle.std.specs.Io.KnownBytes.{Keeps};
-ghost use Rattle.ring_script.specs.Scripts.{AreAmong, IsAllOf, AnswersInput};
-ghost use Rattle.ring_script.specs.declared.scripts.Rings.TheVariants.{OfOne};
+ghost use Rattle.ring_base.specs.declared.fault.Fault.TheVariants.{Memory};
+ghost use Rattle.ring_script.specs.Fits.{AreFit};
+ghost use Rattle.ring_script.specs.Scripts.{IsAllOf, AnswersInput};
+ghost use Rattle.ring_script.specs.declared.scripts.Rings.TheVariants.{OfMany};
 ghost use Rattle.ring_script.specs.declared.scripts.Script.{Script};
-ghost use Rattle.ring_console.specs.Running.{EndsScript, Prints, IsTextOf};
+ghost use Rattle.ring_console.specs.Running.{Prints, IsTextOf, IsLegal};
 
+use crate::printed::print_legal;
 use crate::run::Run;
 use ring_base::Fault;
-use ring_book::{BookName, Opening};
+use ring_history::is_linearization;
 use ring_object::Object;
 use ring_report::{Failure, Lent, exit_status, report};
 use ring_script::{Rings, Script};
 use ring_things::{Counters, Names, Queue, Registers, Shelf};
 use std::alloc::Allocator;
 use std::io::{BufWriter, Read, Write};
-use std::marker::Brand;
 
 /// The program's object.
 pub type Things<A> = Shelf<Registers<A>, Counters<A>, Queue<A>, Names<A>>;
 
+/// The exit status where a run is not legal.
+const NOT_LEGAL: u8 = 1;
+
 /// Reads a script, checks the whole of it, and runs it: what comes of its events is printed on `out`. The exit
 /// status is 0, or else 1:
 ///
-/// - where the input is no script, or one of more than one node, `err` is told so, and nothing is printed;
-/// - where the book is full, or memory is refused to the run itself, `err` is told so;
+/// - where the input is no script, `err` is told so, and nothing is printed;
+/// - where memory is refused to the run itself, `err` is told so;
 /// - where `out` fails, nothing is told.
 ///
 /// The lines of the events that were done before that stand on `out`. Where the status is 0, the whole input was a
@@ -39,17 +45,51 @@ pub fn script<A: Allocator + Copy + Drop, R: Read, O: Write, E: Write>(
     ensures status { result ≤ 1 }
     ensures quiet { result ≡ 0 → Keeps (E.contents err.old) (E.contents err.new) }
     ensures printed { let object = ⟦<Things<A> as Object>⟧ in
-        result ≡ 0 → (script : Script A) × (bytes : List ℕ) × IsAllOf (R.remaining input.old) bytes × AnswersInput OfOne (Ok script) bytes
-        × Prints (O.contents out.old) (O.contents out.new) (λ text. IsTextOf object.sequential 1 script.lines.items text) }
+        result ≡ 0 → (script : Script A) × (bytes : List ℕ) × IsAllOf (R.remaining input.old) bytes × AnswersInput OfMany (Ok script) bytes
+        × Prints (O.contents out.old) (O.contents out.new) (IsTextOf object.sequential script.nodes false script.lines.items) }
 {
-    let script = match Script::read(alloc, input, Rings::OfOne) {
+    print_script(alloc, input, false, out, err)
+}
+
+/// As [`script`], and behind all that prints `legal yes` or `legal no`: whether the order of the run's world explains its
+/// history, by a checker that knows nothing of how they came about. The exit status is 1 after `legal no` too.
+pub fn script_check<A: Allocator + Copy + Drop, R: Read, O: Write, E: Write>(
+    alloc: A,
+    input: &mut R,
+    out: &mut O,
+    err: &mut E,
+) -> u8
+    ensures status { result ≤ 1 }
+    ensures quiet { result ≡ 0 → Keeps (E.contents err.old) (E.contents err.new) }
+    ensures printed { let object = ⟦<Things<A> as Object>⟧ in
+        result ≡ 0 → (script : Script A) × (bytes : List ℕ) × IsAllOf (R.remaining input.old) bytes × AnswersInput OfMany (Ok script) bytes
+        × Prints (O.contents out.old) (O.contents out.new) (IsTextOf object.sequential script.nodes true script.lines.items) }
+{
+    print_script(alloc, input, true, out, err)
+}
+
+/// Reads a script and runs it, with whether its run is legal behind what it prints, where that is asked for.
+fn print_script<A: Allocator + Copy + Drop, R: Read, O: Write, E: Write>(
+    alloc: A,
+    input: &mut R,
+    is_checked: bool,
+    out: &mut O,
+    err: &mut E,
+) -> u8
+    ensures status { result ≤ 1 }
+    ensures quiet { result ≡ 0 → Keeps (E.contents err.old) (E.contents err.new) }
+    ensures printed { let object = ⟦<Things<A> as Object>⟧ in
+        result ≡ 0 → (script : Script A) × (bytes : List ℕ) × IsAllOf (R.remaining input.old) bytes × AnswersInput OfMany (Ok script) bytes
+        × Prints (O.contents out.old) (O.contents out.new) (IsTextOf object.sequential script.nodes is_checked script.lines.items) }
+{
+    let script = match Script::read(alloc, input, Rings::OfMany) {
         Ok(script) => script,
         Err(fault) => return report(err, Failure::from(fault)),
     };
     match BufWriter::new(alloc, Lent { writer: out }) {
         Ok(mut buffer) => {
-            let done = run_script(alloc, script, &mut buffer);
-            let status = exit_status(&mut buffer, err, done);
+            let done = run_script(alloc, script, is_checked, &mut buffer);
+            let status = verdict_status(&mut buffer, err, done);
             let (Lent { writer }, _) = buffer.into_parts();
             // No effect at run time. The proof reads what `out` holds from this use.
             let _ = &*writer;
@@ -59,35 +99,55 @@ pub fn script<A: Allocator + Copy + Drop, R: Read, O: Write, E: Write>(
     }
 }
 
-/// Opens a book for the script's one node, and runs the script over it. It ends before the script for one of three
-/// reasons alone: `Output`, or refused with `Memory` or `BookFull`.
+/// Runs the script, and prints whether its run is legal, where that is asked for. It ends before the script for one of two
+/// reasons alone: `Output`, or refused with `Memory`.
 fn run_script<A: Allocator + Copy + Drop, W: Write>(
     alloc: A,
     script: Script<A>,
+    is_checked: bool,
     out: &mut W,
-) -> Result<(), Failure>
-    requires one { script.nodes.count ≡ 1 }
-    requires among { AreAmong script.nodes.count script.lines.items }
-    ensures printed { let object = ⟦<Things<A> as Object>⟧ in
-        OnOk result (Prints (W.contents out.old) (W.contents out.new) (λ text. IsTextOf object.sequential 1 script.lines.items text)) }
-    ensures ended { IfErr result (EndsScript A) }
+) -> Result<bool, Failure>
+    requires { AreFit script.lines.items }
+    ensures { let object = ⟦<Things<A> as Object>⟧ in
+        IfOk result (λ is_legal. is_legal ≡ true → Prints (W.contents out.old) (W.contents out.new) (IsTextOf object.sequential script.nodes is_checked script.lines.items)) }
 {
-    let opening = Opening::<Things<A>>::new(alloc, script.nodes)?;
-    run_over::<Things<A>, Brand, W>(alloc, opening, script, out)
+    let mut run = Run::<Things<A>>::new(alloc, script.nodes)?;
+    run.take(script, out)?;
+    if !is_checked {
+        return Ok(true);
+    }
+    let is_legal = is_legal(alloc, &run)?;
+    print_legal(out, is_legal)?;
+    Ok(is_legal)
 }
 
-/// Runs the script over the book that K names.
-fn run_over<O: Object, K: BookName<O::Alloc>, W: Write>(
-    alloc: O::Alloc,
-    opening: Opening<O>,
-    script: Script<O::Alloc>,
-    out: &mut W,
-) -> Result<(), Failure>
-    requires named { opening ≡ K.name }
-    requires among { AreAmong K.name.count script.lines.items }
-    ensures printed { OnOk result (Prints (W.contents out.old) (W.contents out.new) (λ text. IsTextOf O.sequential K.name.count script.lines.items text)) }
-    ensures ended { IfErr result (EndsScript O.Alloc) }
+/// Whether the order of a run's world explains its history. Or `Memory`.
+fn is_legal<O: Object>(alloc: O::Alloc, run: &Run<O>) -> Result<bool, Fault>
+    ensures ok { IfOk result (λ is_legal. is_legal ≡ true → IsLegal O.sequential run.now.played) }
+    ensures refused { IfErr result (λ fault. fault ≡ Memory) }
 {
-    let mut run = Run::<O, K>::new(alloc, opening)?;
-    run.take(script, out)
+    let order = run.world().order()?;
+    is_linearization::<O>(alloc, order.as_slice(), run.world().history())
+}
+
+/// Ends what writes on standard output as [`exit_status`] does, and answers the exit status: 1 also where a run is not legal.
+fn verdict_status<O: Write + Drop, A: Allocator, E: Write>(
+    out: &mut BufWriter<O, A>,
+    err: &mut E,
+    done: Result<bool, Failure>,
+) -> u8
+    ensures status { result ≤ 1 }
+    ensures ok { result ≡ 0 → done ≡ Ok true }
+    ensures quiet { result ≡ 0 → err.new ≡ err.old }
+    ensures kept { Keeps (writer_contents O.contents out.old) (writer_contents O.contents out.new) }
+    ensures flushed { result ≡ 0 → writer_buffer out.new ≡ [] }
+{
+    match done {
+        Ok(true) => exit_status(out, err, Ok(())),
+        Ok(false) => {
+            let _ = exit_status(out, err, Ok(()));
+            NOT_LEGAL
+        }
+        Err(failure) => exit_status(out, err, Err(failure)),
+    }
 }

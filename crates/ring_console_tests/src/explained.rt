@@ -1,15 +1,10 @@
-//! What clients see of a script is explained by the order of its book, also where memory was refused on the way.
-
-ghost use Rattle.std.specs.Prelude.{◌≡◌};
+//! What clients see of a script is explained by the order of its world, also where memory was refused on the way.
 
 use refusing_alloc::{Refusing, refuse_in_turn};
-use ring_base::{Fault, Fixed};
-use ring_book::{BookName, Opening};
+use ring_base::Fault;
 use ring_console::{Rings, Run, Script, ScriptFault, Things};
 use ring_history::is_linearization;
-use ring_object::Object;
 use std::alloc::{AllocError, Allocator, Global};
-use std::marker::Brand;
 
 /// Two clients; the first of them tries its call twice.
 const TWO_CLIENTS: &str =
@@ -24,27 +19,14 @@ fn fault_of(fault: ScriptFault) -> Fault {
     }
 }
 
-/// Whether the order of the script's book explains its history, as far as the script came.
+/// Whether the order of the script's world explains its history, as far as the script came.
 fn is_explained<A: Allocator + Copy + Drop>(heap: A, alloc: Global) -> Result<bool, Fault> {
-    let script = Script::read(heap, &mut TWO_CLIENTS.as_bytes(), Rings::OfOne).map_err(fault_of)?;
-    let opening = Opening::<Things<A>>::new(heap, Fixed::new(1)?)?;
-    is_explained_over::<Things<A>, Brand>(heap, alloc, opening, script)
-}
-
-fn is_explained_over<O: Object, K: BookName<O::Alloc>>(
-    heap: O::Alloc,
-    alloc: Global,
-    opening: Opening<O>,
-    script: Script<O::Alloc>,
-) -> Result<bool, Fault>
-    requires { opening ≡ K.name }
-{
-    let mut run = Run::<O, K>::new(heap, opening)?;
+    let script = Script::read(heap, &mut TWO_CLIENTS.as_bytes(), Rings::OfMany).map_err(fault_of)?;
+    let mut run = Run::<Things<A>>::new(heap, script.nodes)?;
     let mut out = Vec::<u8>::new(alloc);
     let _ = run.take(script, &mut out);
-    let order = run.book().order()?;
-    let history = run.book().history()?;
-    is_linearization::<O>(heap, order.as_slice(), history.as_slice())
+    let order = run.world().order()?;
+    is_linearization::<Things<A>>(heap, order.as_slice(), run.world().history())
 }
 
 /// Answers an error exactly where memory was refused and all is explained; where it isn't, the other answer.

@@ -1,13 +1,9 @@
-//! The line `order K` of `show` tells the length of the book's order, after each line of a script.
-
-ghost use Rattle.std.specs.Prelude.{◌≡◌};
+//! The line `order K` of `show` tells the length of the world's order, after each line of a script.
 
 use ring_base::Fixed;
-use ring_book::{BookName, Opening};
 use ring_console::{Rings, Run, Script, Things};
 use ring_object::Object;
 use std::alloc::Global;
-use std::marker::Brand;
 use std::test::Fail;
 
 /// A call is tried again while it waits, and once more after it took effect. How long the order is after each line.
@@ -65,37 +61,26 @@ const GAP: [(&str, usize); 8] = [
 ];
 
 /// Does what a line asks for and shows the state. Answers the line shown last, without its word, and how long
-/// the book's order is then.
-fn shown_after<O: Object<Alloc = Global>, K: BookName<Global>>(
-    run: &mut Run<O, K>,
+/// the world's order is then.
+fn shown_after<O: Object<Alloc = Global>>(
+    run: &mut Run<O>,
     alloc: Global,
     line: &str,
 ) -> Result<(String, usize), Fail> {
     let text = format!(in alloc; "nodes 1\n{line}\nshow\n")?;
-    let script = Script::parse(alloc, text.as_bytes(), Rings::OfOne).map_err(|_| "no script")?;
+    let script = Script::parse(alloc, text.as_bytes(), Rings::OfMany).map_err(|_| "no script")?;
     let mut out = Vec::<u8>::new(alloc);
     run.take(script, &mut out).map_err(|_| "it did not run")?;
     let printed = str::from_utf8(out.as_slice()).map_err(|_| "it is no text")?;
     let last = printed.lines().last().ok_or("nothing is printed")?;
-    let order = run.book().order().map_err(|_| "no order")?;
+    let order = run.world().order().map_err(|_| "no order")?;
     Ok((String::from_str(alloc, last)?, order.len()))
 }
 
 /// Whether the order is as long as told after each line, and the line shown says so.
 fn tells_its_order(alloc: Global, script: &[(&str, usize)]) -> Result<bool, Fail> {
-    let group = Fixed::new(1).map_err(|_| "no group")?;
-    let opening = Opening::<Things<Global>>::new(alloc, group).map_err(|_| "no opening")?;
-    tells_its_order_over::<Things<Global>, Brand>(alloc, opening, script)
-}
-
-fn tells_its_order_over<O: Object<Alloc = Global>, K: BookName<Global>>(
-    alloc: Global,
-    opening: Opening<O>,
-    script: &[(&str, usize)],
-) -> Result<bool, Fail>
-    requires { opening ≡ K.name }
-{
-    let mut run = Run::<O, K>::new(alloc, opening).map_err(|_| "no run")?;
+    let nodes = Fixed::new(1).map_err(|_| "no nodes")?;
+    let mut run = Run::<Things<Global>>::new(alloc, nodes).map_err(|_| "no run")?;
     let mut is_told = true;
     for (line, length) in script {
         let (last, order) = shown_after(&mut run, alloc, line)?;

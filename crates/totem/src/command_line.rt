@@ -10,8 +10,10 @@ use std::io;
 pub enum Task<'a> {
     /// To list the frames of a file.
     Frames { file: &'a str },
-    /// To run the script in a file.
-    Script { file: &'a str },
+    /// To run the script in a file, and to tell whether its run is legal where that is asked for.
+    Script { file: &'a str, is_checked: bool },
+    /// To run the script in a file with a stop and a cut of each node before each event.
+    Sweep { file: &'a str },
 }
 
 /// What `totem --help` ends with.
@@ -26,11 +28,24 @@ Example:
 
 /// What `totem script --help` ends with.
 const SCRIPT_HELP: &str = "\
-Today a script has one node, and `join` is its one timeout. A script at fault is refused before
-anything runs, by its line; line 0 is a file that can't be read or is too long.
+A script is refused as a whole before anything runs, by its first line at fault; line 0 is a file
+that can't be read or is too long. With --check a last line says `legal yes` or `legal no`: whether
+one order of the calls explains all replies. The exit status is 1 after `legal no`.
+
+Examples:
+  totem script first_reply.script
+  totem script --check first_reply.script";
+
+/// What `totem sweep --help` ends with.
+const SWEEP_HELP: &str = "\
+For each event of the script, each delivery of a pump counted, and for its end, each node is once
+stopped and once cut off from all others just before it, and the rest of the script runs. Prints
+how many events there are, how many variants were run, and `legal yes` or `legal no`: whether in
+each of them one order of the calls explains all replies, and each node's committed calls are a
+front of it. The exit status is 1 after `legal no`. It takes as many runs as it prints variants.
 
 Example:
-  totem script first_reply.script";
+  totem sweep first_reply.script";
 
 /// What `totem frames --help` ends with.
 const FRAMES_HELP: &str = "\
@@ -52,7 +67,11 @@ pub fn task_of<'a>(alloc: Global, words: &'a io::Result<Vec<String>>) -> Result<
             {
                 match name {
                     "frames" => return Ok(Task::Frames { file }),
-                    "script" => return Ok(Task::Script { file }),
+                    "script" => {
+                        let is_checked = of.get_flag("check");
+                        return Ok(Task::Script { file, is_checked });
+                    }
+                    "sweep" => return Ok(Task::Sweep { file }),
                     _ => {}
                 }
             }
@@ -67,6 +86,16 @@ fn command_of<'a>(alloc: Global) -> Result<Command<'a>, AllocError> {
     let script = Command::new(alloc, "script")
         .about("Runs a script, and prints what comes of its events")
         .after_help(SCRIPT_HELP)
+        .arg(
+            Arg::new(alloc, "check")
+                .long("check")
+                .help("Tells behind all else whether the run is legal")
+                .action(ArgAction::SetTrue),
+        )?
+        .arg(file_of(alloc, "The script"))?;
+    let sweep = Command::new(alloc, "sweep")
+        .about("Runs a script with a stop and a cut of each node before each event")
+        .after_help(SWEEP_HELP)
         .arg(file_of(alloc, "The script"))?;
     let frames = Command::new(alloc, "frames")
         .about("Lists the frames of a file, a line each")
@@ -79,6 +108,7 @@ fn command_of<'a>(alloc: Global) -> Result<Command<'a>, AllocError> {
         .after_help(TOTEM_HELP)
         .subcommand_required(true)
         .subcommand(script)?
+        .subcommand(sweep)?
         .subcommand(frames)
 }
 

@@ -18,8 +18,9 @@ pub returns-clause-line : goal.returns-clause-line
 returns-clause-line g c =
     let a = c.args in
     let Told : List ℕ → Type 0 = λ text. OnOk c.writeln.result (Appends (g.W.Write.contents a.out.now) (g.W.Write.contents c.writeln.new.self) text) in
-    let written : Told _ = c.writeln.ensures.bytes in
+    let named = c.number-node.ensures.value in
+    let written : Told _ = rw named at c.writeln.ensures.bytes in
     let word = c.name_of-state.ensures in
-    let told : Told (line_of (node_text a.number a.state a.ring a.committed a.log)) =
-    subst Told (joined (codes "node ") (decimal a.number) (codes " ") (state_text a.state) (codes " ") (ring_text a.ring) (codes " committed ") (decimal a.committed) (codes " log ") (decimal a.log)) (rw word at written) in
+    let told : Told (line_of (node_text a.node a.state a.ring a.committed a.log)) =
+    subst Told (joined (codes "node ") (decimal a.node) (codes " ") (state_text a.state) (codes " ") (ring_text a.ring) (codes " committed ") (decimal a.committed) (codes " log ") (decimal a.log)) (rw word at written) in
     search (rules, told)

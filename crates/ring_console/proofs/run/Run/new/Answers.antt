@@ -1,12 +1,12 @@
-use Rattle.std.proofs.Common.{ap, arith}
-use Rattle.ring_book.specs.Seen.{BookView}
-use Rattle.ring_console.proofs.Kept.{keeps_opening}
-use Rattle.ring_console.proofs.Opened.{new_run}
+use Rattle.std.proofs.Common.{◌≡◌, ◌∙◌, refl, sym, ap}
+use Rattle.ring_console.specs.Pairs.{frames_of}
+use Rattle.ring_console.proofs.Opening.{none_open, none_reached}
 use Rattle.ring_console.proofs.run.Run.new.Goals as goal
 
 pub invariant_of-result : goal.invariant_of-result
-invariant_of-result g c =
-    keeps_opening g.K.BookName.name.count c.in_ok-book.book c.in_ok-book.cells.items _ _ (omega (arith, c.in_ok-book.ensures.alone))
-    (new_run g.O.Object.sequential g.K.BookName.name.count c.in_ok-book.book.lines c.in_ok-book.cells.items
-    (ap (λ (b : BookView g.row.O-Alloc.Denot). b.lines) c.in_ok-book.ensures.ok.0) c.in_ok-book.ensures.ok.1)
-    c.in_ok-book.ensures.ok.0 c.new.ensures.sent c.new.ensures.under_way
+invariant_of-result g c = none_reached _ _ c.new-pairs.ensures
+
+pub returns-clause-ok : goal.returns-clause-ok
+returns-clause-ok g c =
+    let open_pairs = none_open c.new-pairs.result (frames_of g.O.Object.sequential c.in_ok-world.world) c.new-pairs.ensures (ap (frames_of g.O.Object.sequential) c.in_ok-world.ensures.ok) in
+    rw (open_pairs, c.in_ok-world.ensures.ok) refl

@@ -1,9 +1,12 @@
-use Rattle.std.proofs.Common.{[], refl}
-use Rattle.std.proofs.KnownBytes.{Appends-nil}
+use Rattle.std.proofs.Common.{◌≡◌, ◌≤◌, length, ◌∙◌, ap, arith}
+use Rattle.ring_base.specs.Fronts.{front_length}
+use Rattle.ring_console.specs.Running.{RunView}
+use Rattle.ring_console.proofs.Going.{ends_told}
 use Rattle.ring_console.proofs.run.Run.take_line.Goals as goal
 
-pub returns-in-Cut-clause-done : goal.returns-in-Cut-clause-done
-returns-in-Cut-clause-done g c = rw (← c.self.view_is, c.in-Cut.is) record { text = []; appended = Appends-nil _; holds = (refl, refl) }
-
-pub returns-in-Heal-clause-done : goal.returns-in-Heal-clause-done
-returns-in-Heal-clause-done g c = rw (← c.self-in-Heal.view_is, c.in-Heal.is) record { text = []; appended = Appends-nil _; holds = (refl, refl) }
+pub print_since-requires : goal.print_since-requires
+print_since-requires g c =
+    let grew : length c.args.self.now.played.told ≤ length c.perform-done.new.self.played.told =
+    front_length _ _ (ends_told g.O.Object.sequential c.perform-done.result c.args.line c.args.self.now c.perform-done.new.self c.perform-done.ensures.ends) in
+    let was : c.told-before.result.now ≡ c.args.self.now.played.told = c.told-before.ensures ∙ ap (λ (r : RunView g.row.O-Alloc.Denot). r.played.told) c.self.view_is in
+    omega (arith, grew, ap length was)
