@@ -38,7 +38,7 @@ each-at {A} (x ∷ xs) (y ∷ ys) zero a b h e f =
     subst (λ (l : List (Call A)). IsFront a l) two (subst (λ (l : List (Call A)). IsFront l y) one h.0)
 each-at (x ∷ xs) (y ∷ ys) (suc k) a b h e f = each-at xs ys k a b h.1 e f
 
-hands-committed : {A : Type 0} (group : Group) (payloads : List (Payload A)) (life : List (Stay A)) → committed_of group (hands payloads life) ≡ committed_of group life
+pub hands-committed : {A : Type 0} (group : Group) (payloads : List (Payload A)) (life : List (Stay A)) → committed_of group (hands payloads life) ≡ committed_of group life
 hands-committed group payloads [] = refl
 hands-committed group payloads (s ∷ older) = refl
 

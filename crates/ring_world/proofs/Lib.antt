@@ -6,3 +6,8 @@ pub mod Silent
 pub mod Growing
 pub mod Ties
 pub mod Refusals
+pub mod Handing
+pub mod Playing
+pub mod Synchrony
+pub mod Ordered
+pub mod Longer

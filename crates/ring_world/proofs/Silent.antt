@@ -1,6 +1,6 @@
 -- The step of a node that has stopped gives nothing and changes nothing.
-use Rattle.std.proofs.Common.{◌≡◌, Bool, true, false, ◌&&◌, List, [], ◌∷◌, ◌++◌, length, drop, refl, ap, ◌∙◌, sym, subst, append-nil, if◌then◌else◌}
-use Rattle.std.proofs.lemmas.Bool.{cond_both}
+use Rattle.std.proofs.Common.{◌≡◌, ℕ, ◌+◌, map, filter, arith, Bool, true, false, ◌&&◌, List, [], ◌∷◌, ◌++◌, length, drop, refl, ap, ◌∙◌, sym, subst, append-nil, if◌then◌else◌}
+use Rattle.std.proofs.lemmas.Bool.{cond_both, cond-true, cond-false, le-ltb}
 use Rattle.ring_base.specs.Processors.{has}
 use Rattle.ring_base.specs.declared.state.State.{State}
 use Rattle.ring_base.specs.declared.state.State.TheVariants.{Gather, Commit, Recovery, Operational, Stopped}
@@ -8,13 +8,13 @@ use Rattle.ring_wire.specs.declared.frame.Frame.{Frame}
 use Rattle.ring_wire.specs.declared.frame.Frame.TheVariants.{Message as MessageFrame, Token as TokenFrame, Join as JoinFrame, Commit as CommitFrame}
 use Rattle.ring_commit.specs.Outcomes.{is_at}
 use Rattle.ring_core.specs.declared.input.Input.{Input}
-use Rattle.ring_core.specs.declared.input.Input.TheVariants.{Frame as FrameInput, Timeout, Send}
+use Rattle.ring_core.specs.declared.input.Input.TheVariants.{Frame as FrameInput, Timeout, Send, Send as SendInput}
 use Rattle.ring_core.specs.State.{Core, Stepped, halted}
 use Rattle.ring_core.specs.Naming.{is_named}
-use Rattle.ring_core.specs.Views.{takes_number}
-use Rattle.ring_core.specs.Deciding.{Act, Ignore, Take, takes_of, members_of, decide_token, decide_join, decide_round, decide_if_named, decide_time, decide_payload, decide}
+use Rattle.ring_core.specs.Views.{takes_number, front, mark}
+use Rattle.ring_core.specs.Deciding.{Act, Ignore, Take, takes_of, members_of, decide_token, decide_join, decide_round, decide_if_named, decide_time, decide_payload, decide, Enqueue}
 use Rattle.ring_core.specs.Acting.{done}
-use Rattle.ring_core.specs.Giving.{installs_in, delivered}
+use Rattle.ring_core.specs.Giving.{installs_in, delivered, agreed_from, safe_from, given, may_install, settle}
 use Rattle.ring_core.specs.Stepping.{ring_step}
 use Rattle.ring_object.specs.Operations.{Sequential}
 use Rattle.ring_payload.specs.declared.call.Call.{Call}
@@ -27,7 +27,51 @@ use Rattle.ring_machine.specs.declared.input.Input.{Input as NodeInput}
 use Rattle.ring_machine.specs.declared.input.Input.TheVariants.{Frame as NodeFrame, Noise as NodeNoise, Timeout as NodeTime, Stop as NodeStop}
 use Rattle.ring_machine.specs.Nodes.{Node, node_committed, node_stopped, is_stopped}
 use Rattle.ring_machine.specs.Stepping.{NodeStepped, node_step, after_core, settled, walked}
-use Rattle.ring_srp.proofs.Sending.{GaveNothing, ignored}
+use Rattle.std.specs.Prelude.{◌-◌, nat_lt, filter_map}
+use Rattle.ring_base.specs.Numbers.{numbers_from}
+use Rattle.ring_base.specs.declared.ring_id.RingId.{RingId}
+use Rattle.ring_payload.specs.Kinds.{is_user}
+use Rattle.ring_payload.specs.Packing.{is_queued}
+use Rattle.ring_wire.specs.declared.message.Message.{Message}
+use Rattle.ring_window.specs.Held.{found}
+use Rattle.ring_core.specs.declared.out.Out.TheVariants.{Agreed, Safe}
+
+-- Where front and mark stay, nothing is given
+
+none_left : (n : ℕ) → n - n ≡ 0
+none_left n = omega arith
+
+not_below : (n : ℕ) → nat_lt n n ≡ false
+not_below n = le-ltb n n (omega arith)
+
+agreed_nothing : {A : Type 0} (c : Core A) (ring : RingId) → agreed_from c ring (front c ring) ≡ []
+agreed_nothing {A} c ring =
+    ap (λ n. map (λ (x : Message A). Agreed ring x.number x)
+    (filter (λ (x : Message A). is_user x.payload) (filter_map (found c.held ring) (numbers_from (front c ring + 1) n)))) (none_left (front c ring))
+
+safe_nothing : {A : Type 0} (c : Core A) (ring : RingId) → safe_from c ring (mark c ring) ≡ []
+safe_nothing c ring = cond-false (nat_lt (mark c ring) (mark c ring)) (Safe ring (mark c ring) ∷ []) [] (not_below (mark c ring))
+
+given_nothing : {A : Type 0} (c : Core A) → given c c ≡ []
+given_nothing {A} c =
+    ap (λ (outs : List (Out A)). outs ++ safe_from c c.installed.ring (mark c c.installed.ring)) (agreed_nothing c c.installed.ring)
+    ∙ safe_nothing c c.installed.ring
+
+-- a step that ended in this core, and gave nothing
+pub record GaveNothing {A : Type 0} (s : Stepped A) (c : Core A) : Type 0 where
+  pub core : s.core ≡ c
+  pub outs : s.outs ≡ []
+
+settled_nothing : {A : Type 0} (b : Bool) (c : Core A) (outs : List (Out A)) → b ≡ false → outs ≡ [] → GaveNothing (settle b c outs) c
+settled_nothing true c outs h e = (let q : true ≡ false = h in cc)
+settled_nothing false c outs h e = record { core = refl; outs = e }
+
+-- A payload is dropped
+
+ignored : {A : Type 0} (c : Core A) → may_install c ≡ false → GaveNothing (delivered c (done c Ignore)) c
+ignored c h = settled_nothing (may_install c) c (given c c) h (given_nothing c)
+
+-- A core that has stopped
 
 pub stopped_state : (s : State) → is_stopped s ≡ true → s ≡ Stopped
 stopped_state Stopped e = refl

@@ -1,7 +1,7 @@
 -- What the code keeps goes on telling the world, event by event.
 use Rattle.std.proofs.Common.{◌≡◌, ℕ, zero, suc, ◌+◌, ◌-◌, ◌<◌, ◌≤◌, Bool, true, false, ◌==◌, ◌&&◌, if◌then◌else◌, List, [], ◌∷◌, ◌++◌, map, length, drop, Option, Some, None, slice_get, get_or, refl, ap, ◌∙◌, sym, subst, arith, inl, inr, append-nil}
 use Rattle.std.specs.List.{AllByRecursion as Each}
-use Rattle.std.specs.Prelude.{nat_le, slice_set}
+use Rattle.std.specs.Prelude.{nat_le, slice_set, MatchOption}
 use Rattle.std.proofs.Math.Seq.{drop-append_seam}
 use Rattle.std.proofs.lemmas.Bool.{cond-true, cond-false, and_from, le-leb, eqb-true, eqb-false, eq-eqb, cases_Bool}
 use Rattle.std.proofs.lemmas.Bool.Decides.{nat_tests}
@@ -12,20 +12,28 @@ use Rattle.ring_object.specs.Operations.{Sequential}
 use Rattle.ring_core.specs.State.{Carried}
 use Rattle.ring_machine.specs.declared.input.Input.{Input}
 use Rattle.ring_machine.specs.Nodes.{Node, node_committed, node_stopped, is_stopped}
-use Rattle.ring_machine.specs.Stepping.{node_step}
+use Rattle.ring_machine.specs.Stepping.{node_step, submit_fault, submitted, due_by_submit}
+use Rattle.ring_ticket.specs.Tickets.{Asked}
+use Rattle.ring_base.specs.declared.fault.Fault.{Fault}
+use Rattle.ring_base.specs.declared.fault.Fault.TheVariants.{Memory}
+use Rattle.ring_world.proofs.Refusals.{not_memory}
+use Rattle.ring_base.specs.Fault.{fault_number}
+use Rattle.ring_payload.specs.declared.call.Call.{Call}
 use Rattle.ring_history.specs.declared.event.Event.{Event}
 use Rattle.ring_history.specs.declared.event.Event.TheVariants.{Issue, Deliver, Noise, Timeout, Stop}
 use Rattle.ring_history.specs.declared.item.Item.{Item}
+use Rattle.ring_history.specs.declared.item.Item.TheVariants.{Issue as IssuedItem}
 use Rattle.ring_history.specs.declared.told.Told.{Told}
+use Rattle.ring_history.specs.declared.told.Told.TheVariants.{Refused as ToldRefused}
 use Rattle.ring_history.specs.Limits.{EventFits}
-use Rattle.ring_history.specs.Worlds.{World, world_opening, run, happens, put, is_node, after_step, stepped, stepped_if, stopped_if, carried, items_of, told_by}
+use Rattle.ring_history.specs.Worlds.{World, world_opening, run, happens, put, is_node, after_step, stepped, stepped_if, stopped_if, issued_or, issued_if, carried, items_of, told_by}
 use Rattle.ring_linear.proofs.Orderly.{run-more}
 use Rattle.ring_world.specs.Played.{Played, IsCopy, world_of, told_behind, steps_node, IsDone, IsStopped, Goes}
 use Rattle.ring_world.specs.Spares.{Spares, AllLeft, Holds, after_answers}
 use Rattle.ring_world.specs.Keeping.{KeepsCopies, IsKept, IsWorld}
-use Rattle.ring_world.proofs.Spared.{get-set_same, get-set_other, set-length}
+use Rattle.ring_world.proofs.Spared.{get-set_same, get-set_other, set-length, holds-more}
 use Rattle.ring_world.proofs.Silent.{silent, stopped_node}
-use Rattle.ring_world.proofs.Growing.{step-grows, step-goes}
+use Rattle.ring_world.proofs.Growing.{hands-committed, step-grows, step-goes}
 
 -- Copies of events
 
@@ -48,6 +56,24 @@ eq_test i j e = eq-eqb i j e
 
 not_test : (i j : ℕ) → (i ≡ j → ⊥) → (i == j) ≡ false
 not_test i j f = elim (cases_Bool (i == j)) [ inl t ↦ absurd (f (eqb-true i j t)) | inr e ↦ e ]
+
+set-same : {X : Type 0} (xs : List X) (i : ℕ) (x : X) → slice_get xs i ≡ Some x → slice_set xs i x ≡ xs
+set-same [] i x e = absurd (let q : ⊥ = cc e in q)
+set-same (y ∷ xs) zero x e = (let q : y ≡ x = cc e in ap (λ z. z ∷ xs) (sym q))
+set-same (y ∷ xs) (suc i) x e = ap (λ zs. y ∷ zs) (set-same xs i x e)
+
+pub set-set : {X : Type 0} (xs : List X) (i : ℕ) (x y : X) → slice_set (slice_set xs i x) i y ≡ slice_set xs i y
+set-set [] i x y = refl
+set-set (z ∷ xs) zero x y = refl
+set-set (z ∷ xs) (suc i) x y = ap (λ zs. z ∷ zs) (set-set xs i x y)
+
+pub at-set : {X : Type 0} (xs : List X) (i : ℕ) (x y : X) → i < length xs → y ≡ get_or (slice_set xs i x) i y → y ≡ x
+at-set [] i x y l e = absurd (omega (arith, l))
+at-set (z ∷ xs) zero x y l e = e
+at-set (z ∷ xs) (suc i) x y l e = at-set xs i x y (omega (arith, l)) e
+
+submitted-committed : {A : Type 0} (n : Node A) (c : Call A) → node_committed (submitted n c) ≡ node_committed n
+submitted-committed n c = hands-committed n.group (due_by_submit n c) n.life
 
 at-get : {X : Type 0} (xs : List X) (i : ℕ) (x y : X) → slice_get xs i ≡ Some y → x ≡ get_or xs i x → x ≡ y
 at-get xs i x y e is = is ∙ get_or_from_slice_get xs i y x e
@@ -267,3 +293,85 @@ module _ {O A : Type 0} (object : Sequential O) where
       -- memory was refused to its step
       pub refused_goes : (q : Played A) (e : Event A) → steps_node e ≡ Some i → q.group ≡ p.group → q.events ≡ p.events ++ Stop i ∷ [] → q.told ≡ p.told → Goes object e p q
       refused_goes q e steps a b c = inr (inl (record { node = i; steps = steps; known = known; group = a; events = b; told = c }))
+
+      -- a call is submitted
+
+      -- copies that are as they were
+      pub kept_spares : (s : Spares A) (ss : List (Spares A)) → ss ≡ slice_set spares m s → KeepsCopies (w.nodes i) s → IsKept w nodes ss frames history
+      kept_spares s ss is k = record {
+        nodes_are = h.kept.nodes_are;
+        many = h.kept.many;
+        copies = λ j l. elim (cases_Bool (j == m)) [
+          | inl t ↦
+              let e = eqb-true j m t in
+              let c = h.kept.copies m below in
+              (s, (ap (λ xs. slice_get xs j) is ∙ ap (slice_get (slice_set spares m s)) e ∙ get-set_same spares m s c.0 c.1), subst (λ x. KeepsCopies (w.nodes x) s) (sym (ap suc e ∙ next)) k)
+          | inr f ↦
+              let e = eqb-false j m f in
+              let c = h.kept.copies j l in
+              (c.0, (ap (λ xs. slice_get xs j) is ∙ get-set_other spares m j s e ∙ c.1), c.2)
+        ];
+        copies_many = ap length is ∙ set-length spares m s ∙ h.kept.copies_many;
+        frames_are = h.kept.frames_are;
+        history_is = h.kept.history_is;
+      }
+
+      pub same_world : (s : Spares A) (ss : List (Spares A)) → ss ≡ slice_set spares m s → KeepsCopies (w.nodes i) s → IsWorld object p.group p.events nodes ss frames history
+      same_world s ss is k = record { kept = kept_spares s ss is k; same = h.same; fit = h.fit; few = h.few }
+
+      pub same_nodes : (n : Node A) → n ≡ w.nodes i → slice_set nodes m n ≡ nodes
+      same_nodes n is = ap (slice_set nodes m) is ∙ set-same nodes m (w.nodes i) (h.kept.nodes_are m below ∙ ap (λ j. Some (w.nodes j)) next)
+
+      issue_is : (c : Call A) (o : Option Fault) → submit_fault (w.nodes i) ≡ o → happens object w (Issue i c) ≡ issued_or o w i c
+      issue_is c o is = ap (λ b. issued_if b w i c) known ∙ ap (λ x. issued_or x w i c) is
+
+      pub issue_world : (c : Call A) (d : Event A) → IsCopy (Issue i c) d → EventFits (Issue i c) → submit_fault (w.nodes i) ≡ None → (n : Node A) (s s' : Spares A) (nodes' : List (Node A)) (ss : List (Spares A)) (is : List (Item A)) →
+          KeepsCopies (w.nodes i) s → n ≡ submitted (w.nodes i) c → nodes' ≡ slice_set nodes m n → ss ≡ slice_set spares m s' → s'.calls ≡ s.calls ++ Some c ∷ [] → is ≡ history ++ IssuedItem c ∷ [] →
+          IsWorld object p.group (p.events ++ d ∷ []) nodes' ss frames is
+      issue_world c d copy fits free n s s' nodes' ss is k n_is ns ss_is s_is is_is =
+          let v = issued_or None w i c in
+          let t : Asked A = record { call = c; since = length (node_committed (w.nodes i)) } in
+          let more : Holds (s.calls ++ Some c ∷ []) (submitted (w.nodes i) c).tickets (node_committed (w.nodes i)) = holds-more s.calls (w.nodes i).tickets (node_committed (w.nodes i)) t k in
+          let now : Holds (s.calls ++ Some c ∷ []) (submitted (w.nodes i) c).tickets (node_committed (submitted (w.nodes i) c)) =
+          subst (Holds (s.calls ++ Some c ∷ []) (submitted (w.nodes i) c).tickets) (sym (submitted-committed (w.nodes i) c)) more in
+          let keeps : KeepsCopies n s' = subst (λ cs. Holds cs n.tickets (node_committed n)) (sym s_is)
+          (subst (λ (x : Node A). Holds (s.calls ++ Some c ∷ []) x.tickets (node_committed x)) (sym n_is) now) in
+          tells p.group p.events nodes nodes' spares ss frames frames history is d v h (copy_fits (Issue i c) d copy fits) (copy_happens w (Issue i c) d copy ∙ issue_is c None free) refl
+          (put_kept n nodes' ss frames is v ns refl (ap (λ (x : Node A). put w.nodes i x) (sym n_is)) (sym h.kept.frames_are) (ap (λ xs. xs ++ IssuedItem c ∷ []) (sym h.kept.history_is) ∙ sym is_is)
+          (subst (Copied n) (sym ss_is) (copies_set n s' keeps)) (ap length ss_is ∙ set-length spares m s'))
+
+      pub issue_goes : (q : Played A) (c : Call A) (d : Event A) → IsCopy (Issue i c) d → submit_fault (w.nodes i) ≡ None → q.group ≡ p.group → q.events ≡ p.events ++ d ∷ [] → q.told ≡ p.told →
+          Goes object (Issue i c) p q
+      issue_goes q c d copy free a b t = is_done p q (Issue i c) d [] (issued_or None w i c) copy (issue_is c None free) (sym (append-nil w.told)) a b (t ∙ sym (append-nil p.told))
+
+      -- and is refused
+      pub told_world : (c : Call A) (d : Event A) (f : Fault) → IsCopy (Issue i c) d → EventFits (Issue i c) → submit_fault (w.nodes i) ≡ Some f → (s : Spares A) (ss : List (Spares A)) → ss ≡ slice_set spares m s → KeepsCopies (w.nodes i) s →
+          IsWorld object p.group (p.events ++ d ∷ []) nodes ss frames history
+      told_world c d f copy fits is s ss ss_is k =
+          let e = kept_spares s ss ss_is k in
+          tells p.group p.events nodes nodes spares ss frames frames history history d (issued_or (Some f) w i c) h (copy_fits (Issue i c) d copy fits) (copy_happens w (Issue i c) d copy ∙ issue_is c (Some f) is) refl
+          (record { nodes_are = e.nodes_are; many = e.many; copies = e.copies; copies_many = e.copies_many; frames_are = e.frames_are; history_is = e.history_is })
+
+      pub told_goes : (q : Played A) (c : Call A) (d : Event A) (f : Fault) → IsCopy (Issue i c) d → submit_fault (w.nodes i) ≡ Some f → q.group ≡ p.group → q.events ≡ p.events ++ d ∷ [] →
+          q.told ≡ p.told ++ ToldRefused i c (fault_number f) ∷ [] → Goes object (Issue i c) p q
+      told_goes q c d f copy is a b t = is_done p q (Issue i c) d (ToldRefused i c (fault_number f) ∷ []) (issued_or (Some f) w i c) copy (issue_is c (Some f) is) refl a b t
+
+      -- for want of memory
+      pub left_out : (q : Played A) (c : Call A) → submit_fault (w.nodes i) ≡ None → q.group ≡ p.group → q.events ≡ p.events → q.told ≡ p.told ++ ToldRefused i c 11 ∷ [] → Goes object (Issue i c) p q
+      left_out q c free a b t = inr (inr (record { node = i; call = c; issues = refl; known = known; taken = free; group = a; events = b; told = t }))
+
+      -- for one reason or the other
+      pub refusal_world : (c : Call A) (d : Event A) (fault : Fault) (o : Option Fault) → IsCopy (Issue i c) d → EventFits (Issue i c) → submit_fault (w.nodes i) ≡ o → MatchOption o (fault ≡ Memory) (λ first. fault ≡ first) →
+          (es : List (Event A)) → (fault ≡ Memory → es ≡ p.events) → ((fault ≡ Memory → ⊥) → es ≡ p.events ++ d ∷ []) → (s : Spares A) (ss : List (Spares A)) → ss ≡ slice_set spares m s → KeepsCopies (w.nodes i) s →
+          IsWorld object p.group es nodes ss frames history
+      refusal_world c d fault None copy fits is f_is es out stays s ss ss_is k =
+          subst (λ xs. IsWorld object p.group xs nodes ss frames history) (sym (out f_is)) (same_world s ss ss_is k)
+      refusal_world c d fault (Some f) copy fits is f_is es out stays s ss ss_is k =
+          subst (λ xs. IsWorld object p.group xs nodes ss frames history) (sym (stays (λ q. not_memory (w.nodes i) f is (sym f_is ∙ q)))) (told_world c d f copy fits is s ss ss_is k)
+
+      pub refusal_goes : (q : Played A) (c : Call A) (d : Event A) (fault : Fault) (o : Option Fault) → IsCopy (Issue i c) d → submit_fault (w.nodes i) ≡ o → MatchOption o (fault ≡ Memory) (λ first. fault ≡ first) →
+          q.group ≡ p.group → (fault ≡ Memory → q.events ≡ p.events) → ((fault ≡ Memory → ⊥) → q.events ≡ p.events ++ d ∷ []) → q.told ≡ p.told ++ ToldRefused i c (fault_number fault) ∷ [] →
+          Goes object (Issue i c) p q
+      refusal_goes q c d fault None copy is f_is a out stays t = left_out q c is a (out f_is) (t ∙ ap (λ f. p.told ++ ToldRefused i c (fault_number f) ∷ []) f_is)
+      refusal_goes q c d fault (Some f) copy is f_is a out stays t =
+          told_goes q c d f copy is a (stays (λ x. not_memory (w.nodes i) f is (sym f_is ∙ x))) (t ∙ ap (λ x. p.told ++ ToldRefused i c (fault_number x) ∷ []) f_is)

@@ -4,6 +4,7 @@ ghost use Rattle.std.specs.Prelude.{◌≡◌, ℕ, true, [], ◌∷◌, ◌++�
 ghost use Rattle.std.specs.List.{AllByRecursion};
 ghost use Rattle.ring_base.specs.Fronts.{IsFront};
 ghost use Rattle.ring_base.specs.Numbers.{numbers_from};
+ghost use Rattle.ring_base.specs.Fault.{fault_number};
 ghost use Rattle.ring_base.specs.declared.fault.Fault.TheVariants.{Memory};
 ghost use Rattle.ring_wire.specs.Frames.{FrameFits};
 ghost use Rattle.ring_core.specs.State.{Sent as OneSent, Carried};
@@ -11,6 +12,7 @@ ghost use Rattle.ring_session.specs.Deduplicated.{deduplicated};
 ghost use Rattle.ring_machine.specs.Limits.{InputFits};
 ghost use Rattle.ring_machine.specs.Nodes.{node_opening, node_committed};
 ghost use Rattle.ring_history.specs.declared.event.Event.TheVariants.{Issue, Deliver, Stop};
+ghost use Rattle.ring_history.specs.declared.told.Told.TheVariants.{Refused as ToldRefused};
 ghost use Rattle.ring_history.specs.Histories.{IsLinearization};
 ghost use Rattle.ring_history.specs.Limits.{EventFits};
 ghost use Rattle.ring_history.specs.Worlds.{carried, happens, stepped, frame_at, order};
@@ -116,14 +118,14 @@ impl<O: Object> World<O> {
     {
         for event in events {
             self.happen(event)?;
-            self.count();
+            self.count(events.len());
         }
         Ok(())
     }
 
-    /// One event more is done.
-    fn count(&mut self)
-        requires { self.old.done < 2 ^ 63 }
+    /// One event more is done, of so many.
+    fn count(&mut self, many: usize)
+        requires { self.old.done < many }
         ensures { self.new ≡ record self.old { done = self.old.done + 1 } }
     {
         self.done += 1;
@@ -251,7 +253,8 @@ impl<O: Object> World<O> {
         ensures refused { IfErr result (λ fault. fault ≡ Memory) }
     {
         frames_law::<O>();
-        match self.frames.frame_to(self.alloc, node, number)? {
+        let sent = self.frames.frame_to(self.alloc, node, number)?;
+        match sent {
             Some(frame) => self.step(node, Input::Frame(frame), event),
             None => self.idle(event),
         }
@@ -338,14 +341,7 @@ impl<O: Object> World<O> {
                 self.spares[place].add(spare);
                 self.events.push_reserved(kept);
             }
-            Err(Fault::Memory) => {
-                let_go(kept);
-                self.told.push_reserved(Told::Refused(node, copy, 11));
-            }
-            Err(fault) => {
-                self.told.push_reserved(Told::Refused(node, copy, fault.number()));
-                self.events.push_reserved(kept);
-            }
+            Err(fault) => refuse(&mut self.events, &mut self.told, node, copy, kept, fault),
         }
         Ok(())
     }
@@ -377,6 +373,28 @@ fn no_spares<A: Allocator + Copy>(alloc: A, count: u8) -> Result<Vec<Spares<A>, 
         spares.push(Spares::new(alloc))?;
     }
     Ok(spares)
+}
+
+/// A submit was refused: that is told, and its event is kept unless for want of memory. There is room.
+fn refuse<A: Allocator + Copy>(
+    events: &mut Vec<Event<A>, A>,
+    told: &mut Vec<Told<A>, A>,
+    node: Proc,
+    call: Call<A>,
+    kept: Event<A>,
+    fault: Fault,
+)
+    requires events_room { vec_len events.old + 1 ≤ vec_capacity events.old }
+    requires told_room { vec_len told.old + 64 ≤ vec_capacity told.old }
+    ensures told { told.new.items ≡ told.old.items ++ ToldRefused node call (fault_number fault) ∷ [] }
+    ensures left_out { fault ≡ Memory → events.new.items ≡ events.old.items }
+    ensures kept { (fault ≡ Memory → ⊥) → events.new.items ≡ events.old.items ++ kept ∷ [] }
+{
+    told.push_reserved(Told::Refused(node, call, fault.number()));
+    match fault {
+        Fault::Memory => let_go(kept),
+        _ => events.push_reserved(kept),
+    }
 }
 
 /// The event is left out.

@@ -236,4 +236,22 @@ invariant_of-self-in-Err g c =
         (c.in-Err.ensures.err ∙ ap node_stopped node) refl))
 
 pub returns-in-Err : goal.returns-in-Err
-returns-in-Err g c = ?
+returns-in-Err g c =
+    let k = c.self.inside in
+    let object = g.O.Object.sequential in
+    let p : Played g.row.O-Alloc.Denot = record { group = k.fixed; events = k.events.items; told = k.told.items; done = k.done } in
+    let q : Played g.row.O-Alloc.Denot = record { group = k.fixed; events = c.push_reserved-in-Err.new.self.items; told = c.make_room.new.told.items; done = k.done } in
+    let i = c.args.node in
+    let m = c.from-place.result - 1 in
+    let low : 1 ≤ i = omega (arith, c.number.ensures.value, c.number.ensures.in_range.0) in
+    let at : m ≡ i - 1 = ap (λ x. x - 1) (c.from-place.ensures ∙ c.number.ensures.value) in
+    let n = k.nodes.ok.0 in
+    let inside : m < length k.nodes.items = omega (arith, n, c.len.ensures, c.if-place-len.false) in
+    record {
+      ok = subst (λ (r : Played g.row.O-Alloc.Denot). Goes object c.args.event.now r q) c.self.view_is
+          (refused_goes object p k.nodes.items k.spares.items k.frames.frames k.history.items c.self.invariant i m low at inside q c.args.event.now c.requires.steps refl
+          (c.push_reserved-in-Err.ensures.items ∙ ap (λ es. es ++ Stop i ∷ []) c.in_ok-make_room.ensures.events) c.in_ok-make_room.ensures.told);
+      err = tt;
+      done = ap (λ (r : Played g.row.O-Alloc.Denot). r.done) c.self.view_is;
+      refused = tt;
+    }
