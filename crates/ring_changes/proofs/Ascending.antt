@@ -12,7 +12,7 @@ use Rattle.ring_window.specs.Held.{found}
 use Rattle.ring_recover.specs.Plans.{Plan, safe, is_known, gap, known_above_safe}
 use Rattle.ring_recover.specs.Deliveries.{is_from_mate, transitional_part, past_gap_part, rests}
 use Rattle.ring_moves.proofs.Lists.{each-in, each-filter, each-filter_map, numbers-above}
-use Rattle.ring_chain.proofs.Safety.{in_filter}
+use Rattle.ring_lives.proofs.Safety.{in_filter}
 use Rattle.ring_views.specs.Synchrony.{IsBefore, Ascend}
 use Rattle.ring_lives.proofs.Telling.{heard}
 use Rattle.ring_changes.proofs.Heard.{found_as}

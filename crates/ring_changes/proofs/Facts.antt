@@ -27,13 +27,13 @@ use Rattle.ring_moves.specs.CommitRounds.{all_pairs, is_above}
 use Rattle.ring_moves.proofs.Lists.{in-each, in-left, in-right}
 use Rattle.ring_moves.proofs.Fits.{mark_below}
 use Rattle.ring_moves.proofs.Rounds.{pairs_fall}
-use Rattle.ring_chain.specs.Words.{IsGenuine, IsRingOf}
+use Rattle.ring_lives.specs.Words.{IsGenuine, IsRingOf}
 use Rattle.ring_moves.proofs.Wraps.{same-self}
-use Rattle.ring_chain.proofs.Texts.{one_text, numbered_in}
-use Rattle.ring_chain.proofs.Rings.{one_members}
-use Rattle.ring_chain.proofs.Runs.{Holds}
-use Rattle.ring_chain.proofs.Plans.{IsPlan, one_plan}
-use Rattle.ring_chain.proofs.Everywhere.{held_somewhere}
+use Rattle.ring_lives.proofs.Texts.{one_text, numbered_in}
+use Rattle.ring_lives.proofs.Rings.{one_members}
+use Rattle.ring_lives.proofs.Runs.{Holds}
+use Rattle.ring_lives.proofs.Plans.{IsPlan, one_plan}
+use Rattle.ring_lives.proofs.Everywhere.{held_somewhere}
 use Rattle.ring_views.specs.Changes.{IsNode, stages_in, regulars_of, members_in, alternate, Change, changes_of, changes_in, delivered_by}
 use Rattle.ring_views.specs.Synchrony.{DeliversAlike, DeliversOwn, HasConfigurations}
 use Rattle.ring_views.proofs.Quantified.{in_numbers}

@@ -33,11 +33,11 @@ use Rattle.ring_moves.specs.Moves.{Move, Idles, Enters, Learns, Visits, Takes, I
 use Rattle.ring_moves.proofs.Lists.{in-each, each-in, in-left, in-parts, each-reverse}
 use Rattle.ring_moves.proofs.Fits.{mark_below}
 use Rattle.ring_moves.proofs.Lifting.{kept_run}
-use Rattle.ring_chain.specs.Words.{inner_message}
-use Rattle.ring_chain.proofs.Growing.{put-each}
-use Rattle.ring_chain.proofs.Rings.{came_right}
-use Rattle.ring_chain.proofs.Runs.{Holds}
-use Rattle.ring_chain.proofs.Texts.{numbered_in}
+use Rattle.ring_lives.specs.Words.{inner_message}
+use Rattle.ring_lives.proofs.Growing.{put-each}
+use Rattle.ring_lives.proofs.Rings.{came_right}
+use Rattle.ring_lives.proofs.Runs.{Holds}
+use Rattle.ring_lives.proofs.Texts.{numbered_in}
 use Rattle.ring_moves.proofs.Wraps.{same-self}
 use Rattle.ring_lives.specs.Tales.{plan_into}
 use Rattle.ring_changes.specs.Recovery.{HoldsInner, IsRecovering}

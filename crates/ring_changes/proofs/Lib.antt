@@ -1,3 +1,15 @@
+pub use Rattle.ring_lives.proofs.Keeps
+pub use Rattle.ring_lives.proofs.Ordered
+pub use Rattle.ring_lives.proofs.Telling
+pub use Rattle.ring_lives.proofs.Worlds
+pub use Rattle.ring_lives.proofs.Everywhere
+pub use Rattle.ring_lives.proofs.Growing
+pub use Rattle.ring_lives.proofs.Left
+pub use Rattle.ring_lives.proofs.Plans
+pub use Rattle.ring_lives.proofs.Rings
+pub use Rattle.ring_lives.proofs.Runs
+pub use Rattle.ring_lives.proofs.Safety
+pub use Rattle.ring_lives.proofs.Texts
 pub mod Mates
 pub mod Known
 pub mod Planned

@@ -42,13 +42,13 @@ use Rattle.ring_moves.proofs.Lists.{in-each, each-in, in-left, in-right, in-reve
 use Rattle.ring_moves.proofs.Rises.{Rising, moved_rises, runs_in, alone_rises}
 use Rattle.ring_moves.proofs.Fits.{Fit, moved_fits}
 use Rattle.ring_moves.proofs.Lifting.{IsKeptInWorlds, kept_run}
-use Rattle.ring_chain.specs.Words.{IsGenuine, inner_message}
-use Rattle.ring_chain.proofs.Growing.{put-each, moved_grows}
-use Rattle.ring_chain.proofs.Rings.{came_right}
-use Rattle.ring_chain.proofs.Texts.{numbered_in}
-use Rattle.ring_chain.proofs.Safety.{in_filter, in_picked}
-use Rattle.ring_chain.proofs.Runs.{Holds}
-use Rattle.ring_chain.proofs.Plans.{IsPlan, HoldsPlans, learned_plan as learned_plan_is, plans_moved, one_plan, plans_hold}
+use Rattle.ring_lives.specs.Words.{IsGenuine, inner_message}
+use Rattle.ring_lives.proofs.Growing.{put-each, moved_grows}
+use Rattle.ring_lives.proofs.Rings.{came_right}
+use Rattle.ring_lives.proofs.Texts.{numbered_in}
+use Rattle.ring_lives.proofs.Safety.{in_filter, in_picked}
+use Rattle.ring_lives.proofs.Runs.{Holds}
+use Rattle.ring_lives.proofs.Plans.{IsPlan, HoldsPlans, learned_plan as learned_plan_is, plans_moved, one_plan, plans_hold}
 use Rattle.ring_lives.specs.Tales.{plan_into}
 use Rattle.ring_lives.proofs.Ordered.{Ordered, moved_ordered, opening_ordered}
 use Rattle.ring_lives.proofs.Keeps.{Keeps, IsStill, all_same, visited_same, moved_keeps}

@@ -22,8 +22,8 @@ use Rattle.ring_moves.specs.Worlds.{run, unformed}
 use Rattle.ring_moves.specs.Moves.{Move, Idles, Enters, Learns, Visits, Takes, Installs, moved, MayMove}
 use Rattle.ring_moves.proofs.Lists.{in-each, each-in, in-right, each-filter_map}
 use Rattle.ring_moves.proofs.Everywhere.{everywhere}
-use Rattle.ring_chain.proofs.Growing.{moved_grows}
-use Rattle.ring_chain.proofs.Safety.{in_filter}
+use Rattle.ring_lives.proofs.Growing.{moved_grows}
+use Rattle.ring_lives.proofs.Safety.{in_filter}
 use Rattle.ring_views.proofs.Quantified.{all_decides, numbers_in}
 use Rattle.ring_changes.specs.Recovery.{HoldsEnd, HoldsEnds}
 use Rattle.ring_changes.proofs.Heard.{found_as}

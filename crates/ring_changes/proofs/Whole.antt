@@ -29,9 +29,9 @@ use Rattle.ring_moves.specs.Lives.{Stage, InRegular, InTransitional, delivered_i
 use Rattle.ring_moves.proofs.Lists.{in-each, each-in, in-left, in-right, each-filter, each-filter_map}
 use Rattle.ring_moves.proofs.Fits.{mark_below}
 use Rattle.ring_moves.proofs.Wraps.{same-self}
-use Rattle.ring_chain.proofs.Rings.{one_members}
-use Rattle.ring_chain.proofs.Safety.{in_filter, mark_safe}
-use Rattle.ring_chain.proofs.Everywhere.{unformed_text}
+use Rattle.ring_lives.proofs.Rings.{one_members}
+use Rattle.ring_lives.proofs.Safety.{in_filter, mark_safe}
+use Rattle.ring_lives.proofs.Everywhere.{unformed_text}
 use Rattle.ring_views.specs.Changes.{IsNode, stages_in, agreed_at, agreed_of, deliveries_of, users_upto, regulars_of, Change, changes_in, delivered_by}
 use Rattle.ring_views.specs.Synchrony.{IsBefore, Ascend, HasSameText, DeliversSafely, IsVirtuallySynchronous}
 use Rattle.ring_views.proofs.Quantified.{in_decides, in_numbers, numbers_in}

@@ -1,3 +1,4 @@
+pub use Rattle.ring_projection.proofs.Quiet
 pub mod Dues
 pub mod Telling
 pub mod Steps

@@ -14,7 +14,7 @@ use Rattle.ring_moves.specs.declared.event.RingEvent.{RingEvent}
 use Rattle.ring_moves.specs.declared.event.RingEvent.TheVariants.{Deliver, Timeout}
 use Rattle.ring_moves.specs.Worlds.{World as RingWorld, after_step, stepped_if, handed_if, handed, frame_at as ring_frame_at, happens, unformed}
 use Rattle.ring_moves.proofs.Everywhere.{kept_step}
-use Rattle.ring_lives.proofs.Ordered.{Ordered, ordering}
+use Rattle.ring_ready.proofs.Ordered.{Ordered, ordering}
 use Rattle.ring_machine.specs.Nodes.{Node}
 use Rattle.ring_history.specs.declared.event.Event.{Event}
 use Rattle.ring_history.specs.Worlds.{World, world_opening, put, is_node, frame_at, run}
@@ -23,7 +23,7 @@ use Rattle.ring_projection.proofs.Events.{ring_run}
 use Rattle.ring_projection.proofs.Quiet.{stepped_is}
 use Rattle.ring_projection.proofs.Sends.{run-append}
 use Rattle.ring_projection.proofs.Steps.{by, IsOver, becomes_part, becomes_over}
-use Rattle.ring_discipline.proofs.Worlds.{opened_on}
+use Rattle.ring_texts.proofs.Worlds.{opened_on}
 use Rattle.ring_texts.proofs.Nodes.{NodeSays, AllSay, core_says, all_say, in_order}
 use Rattle.ring_facts.specs.Facts.{HasFacts}
 use Rattle.ring_facts.specs.Between.{MayCome, stepped_node, between}

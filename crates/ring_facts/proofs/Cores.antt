@@ -24,13 +24,13 @@ use Rattle.ring_moves.specs.Worlds.{World, is_node, run, unformed}
 use Rattle.ring_moves.proofs.Fits.{mark_below}
 use Rattle.ring_moves.proofs.Lists.{in-each}
 use Rattle.ring_moves.proofs.Wraps.{same-self}
-use Rattle.ring_chain.specs.Words.{IsRingOf}
-use Rattle.ring_chain.specs.Told.{MarksAreSafe}
-use Rattle.ring_chain.proofs.Rings.{AreRings, one_members}
-use Rattle.ring_chain.proofs.Everywhere.{unformed_marks}
+use Rattle.ring_ready.specs.Words.{IsRingOf}
+use Rattle.ring_ready.specs.Told.{MarksAreSafe}
+use Rattle.ring_ready.proofs.Rings.{AreRings, one_members}
+use Rattle.ring_ready.proofs.Everywhere.{unformed_marks}
 use Rattle.ring_views.proofs.Quantified.{numbers_in}
-use Rattle.ring_changes.proofs.Heard.{found_as}
-use Rattle.ring_changes.proofs.Recovering.{Recovered, all_recovered}
+use Rattle.ring_ready.proofs.Heard.{found_as}
+use Rattle.ring_ready.proofs.Recovering.{Recovered, all_recovered}
 use Rattle.ring_ready.proofs.Installed.{all_orderly, all_ready, heard_installed}
 use Rattle.ring_log.specs.Lives.{upto}
 use Rattle.ring_texts.proofs.Numbering.{users_in, upto_taken}

@@ -18,8 +18,8 @@ use Rattle.ring_moves.specs.Facts.{IsIn}
 use Rattle.ring_moves.specs.Laws.{IsFalling}
 use Rattle.ring_moves.specs.Worlds.{World as RingWorld}
 use Rattle.ring_moves.proofs.Lists.{in-each}
-use Rattle.ring_chain.specs.Words.{IsRingOf}
-use Rattle.ring_lives.proofs.Ordered.{Ordered}
+use Rattle.ring_ready.specs.Words.{IsRingOf}
+use Rattle.ring_ready.proofs.Ordered.{Ordered}
 use Rattle.ring_log.specs.Stays.{Stay}
 use Rattle.ring_log.specs.Lives.{upto}
 use Rattle.ring_order.specs.Facts.{IsStay, StayIn, Rises, said_by, safe_part, AllHeard}
@@ -29,9 +29,9 @@ use Rattle.ring_history.specs.declared.event.Event.{Event}
 use Rattle.ring_history.specs.Worlds.{World, world_opening, is_node, run}
 use Rattle.ring_projection.specs.Projection.{ring_part, IsRingRun}
 use Rattle.ring_projection.proofs.Events.{ring_run}
-use Rattle.ring_discipline.specs.Living.{lives_of}
-use Rattle.ring_discipline.proofs.Steps.{rings_of, installed_rings}
-use Rattle.ring_discipline.proofs.Worlds.{opened_on}
+use Rattle.ring_texts.specs.Living.{lives_of}
+use Rattle.ring_texts.proofs.Steps.{rings_of, installed_rings}
+use Rattle.ring_texts.proofs.Worlds.{opened_on}
 use Rattle.ring_texts.specs.Spoken.{spoken, spoken_in}
 use Rattle.ring_texts.specs.Said.{SpeaksInOrder}
 use Rattle.ring_texts.proofs.Numbering.{users_in, users_front, take_front, upto_all}

@@ -1,3 +1,4 @@
+pub use Rattle.ring_texts.proofs.Worlds
 pub mod Lives
 pub mod Members
 pub mod Cores

@@ -11,15 +11,15 @@ use Rattle.ring_core.specs.Giving.{users}
 use Rattle.ring_moves.specs.Facts.{IsIn}
 use Rattle.ring_moves.specs.Worlds.{World as RingWorld}
 use Rattle.ring_moves.specs.Lives.{Stage, InRegular, InTransitional, Life, lived, life_after, belongs, all_belong, outs_of, begun, life_of, is_well_told}
-use Rattle.ring_lives.specs.Tales.{tale, regular_of, before_of}
-use Rattle.ring_lives.proofs.Ordered.{Ordered}
-use Rattle.ring_lives.proofs.Telling.{tale_is}
-use Rattle.ring_lives.proofs.Worlds.{lives_are, all_well_told}
+use Rattle.ring_ready.specs.Tales.{tale, regular_of, before_of}
+use Rattle.ring_ready.proofs.Ordered.{Ordered}
+use Rattle.ring_ready.proofs.Telling.{tale_is}
+use Rattle.ring_ready.proofs.Worlds.{lives_are, all_well_told}
 use Rattle.ring_log.specs.Stays.{Stay}
 use Rattle.ring_machine.specs.Lives.{lived as node_lived, lived_through}
 use Rattle.ring_order.specs.Facts.{IsStay}
 use Rattle.ring_history.specs.Worlds.{World}
-use Rattle.ring_discipline.proofs.Steps.{rings_of, installed_rings}
+use Rattle.ring_texts.proofs.Steps.{rings_of, installed_rings}
 use Rattle.ring_projection.specs.Projection.{ring_part, unsent, heard_life, IsRingRun}
 
 -- what a core's facts tell of a ring

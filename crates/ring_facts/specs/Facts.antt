@@ -8,7 +8,7 @@ use Rattle.ring_core.specs.Views.{front}
 use Rattle.ring_log.specs.Lives.{upto}
 use Rattle.ring_history.specs.Worlds.{World}
 use Rattle.ring_order.specs.Facts.{said_by, AllHeard, RingFacts}
-use Rattle.ring_discipline.specs.Living.{lives_of}
+use Rattle.ring_texts.specs.Living.{lives_of}
 use Rattle.ring_texts.specs.Spoken.{spoken}
 use Rattle.ring_texts.specs.Texts.{IsText}
 

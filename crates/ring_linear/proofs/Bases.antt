@@ -19,8 +19,8 @@ use Rattle.ring_order.specs.Discipline.{OpensWithHead, KeepsDiscipline}
 use Rattle.ring_order.proofs.Living.{IsOrderly}
 use Rattle.ring_order.proofs.Moment.{safe-stays}
 use Rattle.ring_order.proofs.Sound.{keeps-all}
-use Rattle.ring_discipline.specs.Living.{lives_of}
-use Rattle.ring_discipline.proofs.Worlds.{opened_on, lives_keep}
+use Rattle.ring_facts.specs.Living.{lives_of}
+use Rattle.ring_facts.proofs.Worlds.{opened_on, lives_keep}
 use Rattle.ring_facts.specs.Facts.{HasFacts}
 use Rattle.ring_facts.specs.Between.{MayCome, stepped_node, between}
 use Rattle.ring_facts.proofs.Facts.{all_facts}

@@ -8,8 +8,8 @@ use Rattle.ring_history.specs.declared.event.Event.{Event}
 use Rattle.ring_history.specs.Worlds.{World, world_opening, happens, run}
 use Rattle.ring_order.specs.Facts.{RingFacts}
 use Rattle.ring_order.specs.Discipline.{KeepsDiscipline}
-use Rattle.ring_discipline.specs.Living.{lives_of}
-use Rattle.ring_discipline.proofs.Worlds.{lives_keep}
+use Rattle.ring_facts.specs.Living.{lives_of}
+use Rattle.ring_facts.proofs.Worlds.{lives_keep}
 use Rattle.ring_facts.proofs.Facts.{all_facts}
 
 pub record IsOrderlyWorld {A : Type 0} (group : Group) (w : World A) : Type 0 where

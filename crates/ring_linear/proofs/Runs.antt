@@ -18,7 +18,7 @@ use Rattle.ring_history.specs.Orders.{longer, order_of, IsOrderStep}
 use Rattle.ring_history.specs.Worlds.{World, world_opening, happens, run, order, committed_in, moment_of}
 use Rattle.ring_history.proofs.Linear.{linear-nothing}
 use Rattle.ring_history.proofs.Orders.{order_of-grows, order_of-fronts, linear-step}
-use Rattle.ring_discipline.proofs.Worlds.{lives_on}
+use Rattle.ring_facts.proofs.Worlds.{lives_on}
 use Rattle.ring_linear.specs.Linear.{OnlyIssued}
 use Rattle.ring_linear.proofs.Worlds.{WorldKnows, opening-knows, run-knows}
 use Rattle.ring_linear.proofs.Orderly.{run-more, orderly, orderly-after}

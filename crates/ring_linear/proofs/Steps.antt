@@ -39,7 +39,7 @@ use Rattle.ring_order.specs.Discipline.{OrderlyLives}
 use Rattle.ring_order.specs.Time.{LivesOn, IsKnownCall, OnlyHandsOver}
 use Rattle.ring_order.proofs.Issued.{logs-known}
 use Rattle.ring_order.proofs.Moment.{committed-front, one-log, committed-grows}
-use Rattle.ring_discipline.specs.Living.{lives_of}
+use Rattle.ring_facts.specs.Living.{lives_of}
 use Rattle.ring_linear.proofs.Orderly.{IsOrderlyWorld}
 use Rattle.ring_linear.proofs.Told.{told-after}
 use Rattle.ring_linear.proofs.Worlds.{IssuedIn, WorldKnows, event-knows}

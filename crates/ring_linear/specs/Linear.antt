@@ -17,7 +17,7 @@ use Rattle.ring_history.specs.Histories.{IsIssuedAt}
 use Rattle.ring_history.specs.Worlds.{World}
 use Rattle.ring_order.specs.Facts.{IsStay, AllHeard}
 use Rattle.ring_order.specs.Time.{IsKnownCall}
-use Rattle.ring_discipline.specs.Living.{lives_of}
+use Rattle.ring_facts.specs.Living.{lives_of}
 
 -- a primary ring's log, by a front of its text that holds its whole exchange and that all its members heard, is a front of the base of every later primary
 -- ring that has one

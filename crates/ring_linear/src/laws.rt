@@ -4,7 +4,7 @@ ghost use Rattle.std.specs.Prelude.{ℕ, ◌≤◌, List};
 ghost use Rattle.ring_base.specs.Fronts.{IsFront};
 ghost use Rattle.ring_base.specs.Group.{Group};
 ghost use Rattle.ring_core.specs.declared.input.Input.{Input};
-ghost use Rattle.ring_discipline.specs.Living.{lives_of};
+ghost use Rattle.ring_facts.specs.Living.{lives_of};
 ghost use Rattle.ring_facts.specs.Between.{MayCome, stepped_node};
 ghost use Rattle.ring_facts.specs.Facts.{HasFacts};
 ghost use Rattle.ring_machine.specs.Nodes.{node_committed};

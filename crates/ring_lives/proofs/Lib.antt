@@ -1,3 +1,11 @@
+pub use Rattle.ring_chain.proofs.Everywhere
+pub use Rattle.ring_chain.proofs.Growing
+pub use Rattle.ring_chain.proofs.Left
+pub use Rattle.ring_chain.proofs.Plans
+pub use Rattle.ring_chain.proofs.Rings
+pub use Rattle.ring_chain.proofs.Runs
+pub use Rattle.ring_chain.proofs.Safety
+pub use Rattle.ring_chain.proofs.Texts
 pub mod Ordered
 pub mod Keeps
 pub mod Telling

@@ -1,1 +1,3 @@
+pub use Rattle.ring_chain.specs.Told
+pub use Rattle.ring_chain.specs.Words
 pub mod Tales

@@ -1,6 +1,6 @@
 -- A queue's first messages are taken off it one by one: the run at its front is measured, and its Calls are moved.
 use Rattle.std.proofs.Common.{◌≡◌, ℕ, zero, suc, ◌+◌, ◌-◌, ◌<◌, ◌≤◌, max, List, [], ◌∷◌, ◌++◌, length, take, drop, Option, Some, None, IsSome, get_or, refl, sym, ap, subst, ◌∙◌, arith, append_assoc}
-use Rattle.std.specs.Prelude.{nat_le, option_to_list}
+use Rattle.std.specs.Prelude.{nat_le, option_to_list, Result, Ok, Err, OnErr}
 use Rattle.std.proofs.lemmas.Bool.{cond-true, cond-false, le-leb, lt-leb}
 use Rattle.std.proofs.lemmas.List.{drop_more, at_drop_all, append-nil}
 use Rattle.ring_payload.specs.declared.call.Call.{Call as OneCall}
@@ -10,7 +10,8 @@ use Rattle.ring_payload.specs.Limits.{most_pack}
 use Rattle.ring_payload.specs.Calls.{call_bytes}
 use Rattle.ring_payload.specs.Packing.{run_within, front_run, made_of, behind, packed, left_behind}
 use Rattle.ring_payload.proofs.Packing.{calls_as, front_run-longest}
-use Rattle.ring_packing.specs.Taking.{call_of, bytes_of}
+use Rattle.std.proofs.lemmas.List.{take-append-drop}
+use Rattle.ring_packing.specs.Taking.{call_of, bytes_of, IsLeftOf}
 
 -- The length of a run
 
@@ -237,3 +238,22 @@ pub left-end : {A : Type 0} (most counter : ℕ) (now end : List (Payload A)) �
 left-end most counter now end l i =
     let n : most - counter ≡ 0 = omega arith in
     ap (λ m. left_behind m now) (sym n) ∙ i
+
+-- What is left where memory was refused
+
+pub left-whole : {A : Type 0} (queue : List (Payload A)) → IsLeftOf queue queue
+left-whole queue = ([], refl)
+
+pub left-drop : {A : Type 0} (queue left : List (Payload A)) (n : ℕ) → left ≡ drop n queue → IsLeftOf left queue
+left-drop queue left n e = (take n queue, ap (λ xs. take n queue ++ xs) e ∙ take-append-drop n queue)
+
+pub left-behind : {A : Type 0} (queue left : List (Payload A)) → left ≡ behind queue → IsLeftOf left queue
+left-behind queue left e = left-drop queue left (max 1 (length (front_run queue))) e
+
+pub left-twice : {A : Type 0} {queue mid left : List (Payload A)} → IsLeftOf mid queue → IsLeftOf left mid → IsLeftOf left queue
+left-twice {A} {queue} {mid} {left} a b = (a.0 ++ b.0, append_assoc a.0 b.0 left ∙ ap (λ xs. a.0 ++ xs) b.1 ∙ a.1)
+
+-- what holds, holds of a result that is an error
+pub on-err : {T E P : Type 0} (r : Result T E) → P → OnErr r P
+on-err (Ok x) p = tt
+on-err (Err x) p = p

@@ -1,5 +1,5 @@
--- What a payload at the front of a queue is to a Pack: a Call of so many bytes, or no part of it.
-use Rattle.std.specs.Prelude.{ℕ, Option, Some, None}
+-- What a payload at the front of a queue is to a Pack: a Call of so many bytes, or no part of it; and what is left of a queue.
+use Rattle.std.specs.Prelude.{◌≡◌, ◌++◌, ℕ, List, Option, Some, None}
 use Rattle.ring_payload.specs.declared.call.Call.{Call as OneCall}
 use Rattle.ring_payload.specs.declared.content.Payload.{Payload}
 use Rattle.ring_payload.specs.declared.content.Payload.TheVariants.{Call, Wrapped, End, Head, Part, Pack, Snap}
@@ -22,3 +22,7 @@ bytes_of (Head head) = None
 bytes_of (Part part) = None
 bytes_of (Pack pack) = None
 bytes_of (Snap snap) = None
+
+-- a queue off which some of its first payloads were taken
+abbrev pub IsLeftOf : {A : Type 0} → List (Payload A) → List (Payload A) → Type 0
+IsLeftOf left queue = (taken : List (Payload _)) × (taken ++ left ≡ queue)

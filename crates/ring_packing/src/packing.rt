@@ -1,9 +1,9 @@
 //! A visit's new messages, made of the front of a queue.
 
-ghost use Rattle.std.specs.Prelude.{◌≡◌, drop, length, IfOk, IfErr, OnOk, option_to_list};
+ghost use Rattle.std.specs.Prelude.{◌≡◌, drop, length, IfOk, IfErr, OnOk, OnErr, option_to_list};
 ghost use Rattle.ring_base.specs.declared.fault.Fault.TheVariants.{Memory};
 ghost use Rattle.ring_payload.specs.Packing.{front_run, behind, packed, left_behind};
-ghost use Rattle.ring_packing.specs.Taking.{call_of, bytes_of};
+ghost use Rattle.ring_packing.specs.Taking.{call_of, bytes_of, IsLeftOf};
 
 use ring_base::Fault;
 use ring_payload::{Call, Calls, MOST_PACK_BYTES, Pack, Payload};
@@ -14,8 +14,8 @@ use std::collections::VecDeque;
 const MOST_CALLS: usize = 16;
 
 /// Takes a queue's first messages off it, at most so many: each is made anew of what is left, the longest run of
-/// Calls at the front that fits one Pack as a Pack, a run of one as a Call, anything else alone. What the queue
-/// is where memory was refused is not told.
+/// Calls at the front that fits one Pack as a Pack, a run of one as a Call, anything else alone. `Memory` where a growth
+/// was refused: then some of the queue's first payloads may be lost, and the rest stands as it was.
 pub fn take_packed<A: Allocator + Copy>(
     alloc: A,
     queue: &mut VecDeque<Payload<A>, A>,
@@ -23,6 +23,7 @@ pub fn take_packed<A: Allocator + Copy>(
 ) -> Result<Vec<Payload<A>, A>, Fault>
     ensures items { IfOk result (λ payloads. payloads.items ≡ packed most queue.old.items) }
     ensures queue { OnOk result (queue.new.items ≡ left_behind most queue.old.items) }
+    ensures rest { OnErr result (IsLeftOf queue.new.items queue.old.items) }
     ensures refused { IfErr result (λ fault. fault ≡ Memory) }
 {
     let mut payloads = Vec::with_capacity(alloc, queue.len().min(most as usize))?;
@@ -42,6 +43,7 @@ fn take_message<A: Allocator + Copy>(
 ) -> Result<Option<Payload<A>>, Fault>
     ensures message { IfOk result (λ message. option_to_list message ≡ packed 1 queue.old.items) }
     ensures queue { OnOk result (queue.new.items ≡ behind queue.old.items) }
+    ensures rest { OnErr result (IsLeftOf queue.new.items queue.old.items) }
     ensures refused { IfErr result (λ fault. fault ≡ Memory) }
 {
     let count = run_length(queue);
@@ -83,6 +85,7 @@ fn take_calls<A: Allocator + Copy>(
     requires { count ≡ length (front_run queue.old.items) }
     ensures calls { IfOk result (λ calls. calls.items ≡ front_run queue.old.items) }
     ensures queue { OnOk result (queue.new.items ≡ drop count queue.old.items) }
+    ensures rest { OnErr result (IsLeftOf queue.new.items queue.old.items) }
     ensures refused { IfErr result (λ fault. fault ≡ Memory) }
 {
     let mut calls = Vec::with_capacity(alloc, count)?;

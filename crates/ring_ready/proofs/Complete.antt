@@ -34,12 +34,12 @@ use Rattle.ring_moves.specs.Worlds.{Carried}
 use Rattle.ring_moves.proofs.Fits.{mark_below}
 use Rattle.ring_moves.proofs.Lists.{in-each, any-some, in-filtered}
 use Rattle.ring_moves.proofs.Wraps.{same-self}
-use Rattle.ring_chain.specs.Words.{IsGenuine, IsRingOf}
-use Rattle.ring_chain.proofs.Plans.{IsPlan, one_plan}
-use Rattle.ring_chain.proofs.Rings.{one_members}
-use Rattle.ring_chain.proofs.Runs.{Holds}
-use Rattle.ring_chain.proofs.Texts.{numbered_in, one_text}
-use Rattle.ring_lives.proofs.Keeps.{holds-found}
+use Rattle.ring_changes.specs.Words.{IsGenuine, IsRingOf}
+use Rattle.ring_changes.proofs.Plans.{IsPlan, one_plan}
+use Rattle.ring_changes.proofs.Rings.{one_members}
+use Rattle.ring_changes.proofs.Runs.{Holds}
+use Rattle.ring_changes.proofs.Texts.{numbered_in, one_text}
+use Rattle.ring_changes.proofs.Keeps.{holds-found}
 use Rattle.ring_views.proofs.Quantified.{all_decides, numbers_in}
 use Rattle.ring_changes.specs.Recovery.{HoldsEnd}
 use Rattle.ring_changes.proofs.Heard.{found_as}

@@ -16,8 +16,8 @@ use Rattle.ring_core.specs.State.{Core, floor}
 use Rattle.ring_core.specs.Views.{front}
 use Rattle.ring_moves.specs.Facts.{IsIn}
 use Rattle.ring_moves.specs.Moves.{Move, Idles, Enters, Learns, Visits, Takes, Installs, moved, MayMove, MayVisit}
-use Rattle.ring_chain.proofs.Growing.{moved_grows}
-use Rattle.ring_chain.proofs.Texts.{numbered_in}
+use Rattle.ring_changes.proofs.Growing.{moved_grows}
+use Rattle.ring_changes.proofs.Texts.{numbered_in}
 use Rattle.ring_local.specs.Local.{RingsFit}
 use Rattle.ring_local.proofs.Rings.{newest_in}
 use Rattle.ring_changes.specs.Recovery.{HoldsEnds}

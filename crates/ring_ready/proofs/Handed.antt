@@ -19,9 +19,9 @@ use Rattle.ring_moves.specs.Facts.{IsIn, SomeIs}
 use Rattle.ring_moves.specs.Moves.{Move, Idles, Enters, Learns, Visits, Takes, Installs, moved, MayMove, MayVisit, AreWraps, AllAreUsers}
 use Rattle.ring_moves.proofs.Lists.{in-left, in-right, in-reverse}
 use Rattle.ring_moves.proofs.Wraps.{seen_of}
-use Rattle.ring_chain.proofs.Growing.{moved_grows}
-use Rattle.ring_chain.proofs.Texts.{numbered_in}
-use Rattle.ring_lives.proofs.Keeps.{holds-found}
+use Rattle.ring_changes.proofs.Growing.{moved_grows}
+use Rattle.ring_changes.proofs.Texts.{numbered_in}
+use Rattle.ring_changes.proofs.Keeps.{holds-found}
 use Rattle.ring_changes.proofs.Heard.{found_as}
 use Rattle.ring_changes.proofs.Unwrapped.{held_stays}
 use Rattle.ring_ready.specs.Ends.{IsHandedBefore, HasHandedOn, EndsBehindWraps}

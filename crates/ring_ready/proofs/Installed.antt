@@ -24,12 +24,12 @@ use Rattle.ring_moves.specs.declared.event.RingEvent.{RingEvent}
 use Rattle.ring_moves.specs.declared.event.RingEvent.TheVariants.{Send, Deliver, Timeout, Stop}
 use Rattle.ring_moves.proofs.Lifting.{IsKeptInWorlds, kept_run}
 use Rattle.ring_moves.proofs.Lists.{in-each, in-filter, in-filter_map, in-numbers, any-in}
-use Rattle.ring_chain.specs.Words.{IsRingOf}
-use Rattle.ring_chain.proofs.Everywhere.{held_somewhere}
-use Rattle.ring_chain.proofs.Growing.{put-each}
-use Rattle.ring_chain.proofs.Rings.{one_members}
-use Rattle.ring_chain.proofs.Texts.{numbered_in}
-use Rattle.ring_lives.proofs.Keeps.{holds-found}
+use Rattle.ring_changes.specs.Words.{IsRingOf}
+use Rattle.ring_changes.proofs.Everywhere.{held_somewhere}
+use Rattle.ring_changes.proofs.Growing.{put-each}
+use Rattle.ring_changes.proofs.Rings.{one_members}
+use Rattle.ring_changes.proofs.Texts.{numbered_in}
+use Rattle.ring_changes.proofs.Keeps.{holds-found}
 use Rattle.ring_views.specs.Synchrony.{IsVirtuallySynchronous}
 use Rattle.ring_views.proofs.Quantified.{all_decides}
 use Rattle.ring_changes.specs.Installed.{HeardIsInstalled}

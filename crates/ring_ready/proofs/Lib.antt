@@ -1,3 +1,10 @@
+pub use Rattle.ring_changes.proofs.Everywhere
+pub use Rattle.ring_changes.proofs.Heard
+pub use Rattle.ring_changes.proofs.Ordered
+pub use Rattle.ring_changes.proofs.Recovering
+pub use Rattle.ring_changes.proofs.Rings
+pub use Rattle.ring_changes.proofs.Telling
+pub use Rattle.ring_changes.proofs.Worlds
 pub mod Sent
 pub mod Ends
 pub mod Own

@@ -19,7 +19,7 @@ use Rattle.ring_moves.specs.Facts.{IsIn}
 use Rattle.ring_moves.specs.Moves.{Move, Idles, Enters, Learns, Visits, Takes, Installs, moved, MayMove, MayLearn}
 use Rattle.ring_moves.proofs.Fits.{Fit}
 use Rattle.ring_moves.proofs.Wraps.{same-self}
-use Rattle.ring_chain.proofs.Growing.{moved_grows}
+use Rattle.ring_changes.proofs.Growing.{moved_grows}
 use Rattle.ring_local.proofs.Messages.{AreFit}
 use Rattle.ring_local.proofs.Reports.{exact_now}
 use Rattle.ring_changes.proofs.Known.{own_is}

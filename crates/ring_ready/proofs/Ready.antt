@@ -35,11 +35,11 @@ use Rattle.ring_moves.proofs.Lists.{in-each}
 use Rattle.ring_moves.proofs.Rises.{Rising, moved_rises, one_ring, runs_in, below_floor}
 use Rattle.ring_moves.proofs.Steps.{move_of, acted, asked_by, may_act, may_propose, proposed_token}
 use Rattle.ring_moves.proofs.Wraps.{same-self}
-use Rattle.ring_chain.proofs.Growing.{moved_grows}
-use Rattle.ring_chain.proofs.Left.{front_other, raises_other, gives_other}
+use Rattle.ring_changes.proofs.Growing.{moved_grows}
+use Rattle.ring_changes.proofs.Left.{front_other, raises_other, gives_other}
 use Rattle.ring_local.proofs.Everywhere.{Holds, moved_holds}
 use Rattle.ring_local.proofs.Rings.{newest_in}
-use Rattle.ring_lives.proofs.Keeps.{IsSameOf, IsStill, all_same, visited_same, found_past, other_not}
+use Rattle.ring_changes.proofs.Keeps.{IsSameOf, IsStill, all_same, visited_same, found_past, other_not}
 use Rattle.ring_changes.proofs.Unwrapped.{ready_ends}
 use Rattle.ring_ready.specs.Ready.{ReadyIsComplete, ReadyIsInstalled}
 use Rattle.ring_ready.proofs.Complete.{member_at}

@@ -21,8 +21,8 @@ use Rattle.ring_moves.specs.Laws.{EndsWrapping, HasEnded}
 use Rattle.ring_moves.specs.Moves.{Move, Idles, Enters, Learns, Visits, Takes, Installs, moved, MayMove, MayVisit, MayEnd, AreWraps, AreLast, IsWrapping, AllAreUsers}
 use Rattle.ring_moves.proofs.Lists.{in-each, in-parts, in-filter, any-in}
 use Rattle.ring_moves.proofs.Wraps.{same-self}
-use Rattle.ring_chain.specs.Words.{inner_message}
-use Rattle.ring_chain.proofs.Texts.{numbered_in}
+use Rattle.ring_changes.specs.Words.{inner_message}
+use Rattle.ring_changes.proofs.Texts.{numbered_in}
 use Rattle.ring_changes.proofs.Heard.{held_is}
 use Rattle.ring_local.proofs.Messages.{AreHeldOf}
 use Rattle.ring_ready.specs.Ends.{IsSentBy, EndsLast}

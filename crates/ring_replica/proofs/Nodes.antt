@@ -97,10 +97,6 @@ module _ {A : Type 0} (n : Node A) (core : Core A) where
   dues-are life (o ∷ outs) =
       ap (λ l. l ++ due_by n core (lived life o) outs) (out-due life o) ∙ ap (λ l. dues_at m life o ++ l) (dues-are (lived life o) outs)
 
-hands-committed : {A : Type 0} (n : Node A) (due : List (Payload A)) (life : List (Stay A)) → committed_of n.group (hands due life) ≡ committed_of n.group life
-hands-committed n due [] = refl
-hands-committed n due (s ∷ older) = refl
-
 module _ {O A : Type 0} (object : Sequential O) (n : Node A) (s : Stepped A) where
   abbrev life : List (Stay A)
   life = lived_through n.life s.outs
@@ -108,13 +104,7 @@ module _ {O A : Type 0} (object : Sequential O) (n : Node A) (s : Stepped A) whe
   step-by : (b : Bool) (due : List (Payload A))
       → settled object b n (walked n s.core life due) s.outs life ≡ node_by n s.core (replica_settled object b (replica_of n) s.outs life due)
   step-by false due = refl
-  step-by true due =
-      ap (λ (l : List (OneCall A)). record {
-        node = walked n s.core life due;
-        sends = filter_map send_of s.outs;
-        answers = answers_after object n.tickets (node_committed n) (drop (length (node_committed n)) (committed_of n.group life));
-        committed = drop (length (node_committed n)) l;
-      }) (sym (hands-committed n due life))
+  step-by true due = refl
 
   pub step-is : after_core object n s ≡ node_by n s.core (replica_step object (running_of s.core) (replica_of n) s.outs)
   step-is =

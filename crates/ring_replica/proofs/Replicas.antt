@@ -1,5 +1,5 @@
 -- What the code keeps of a replica, as it opens, gives a ticket, takes a step and ends it.
-use Rattle.std.proofs.Common.{◌≡◌, ℕ, zero, suc, ◌≤◌, ◌||◌, nat_le, Bool, true, false, List, [], ◌∷◌, ◌++◌, length, take, drop, Option, Some, None, refl, ap, sym, ◌∙◌, subst, arith, if◌then◌else◌}
+use Rattle.std.proofs.Common.{◌≡◌, ℕ, zero, suc, ◌+◌, ◌≤◌, ◌||◌, nat_le, Bool, true, false, List, [], ◌∷◌, ◌++◌, length, take, drop, Option, Some, None, refl, ap, sym, ◌∙◌, subst, arith, if◌then◌else◌}
 use Rattle.std.specs.Prelude.{fold}
 use Rattle.std.proofs.Math.Seq.{drop-append_seam}
 use Rattle.std.proofs.lemmas.List.Sums.{fold-append}
@@ -11,6 +11,7 @@ use Rattle.ring_base.specs.declared.ring_id.RingId.{RingId}
 use Rattle.ring_object.specs.Operations.{Sequential}
 use Rattle.ring_payload.specs.declared.call.Call.{Call as OneCall}
 use Rattle.ring_payload.specs.declared.content.Payload.{Payload}
+use Rattle.ring_session.specs.Deduplicated.{deduplicated}
 use Rattle.ring_session.specs.Table.{Table, opening, table_next, table_after}
 use Rattle.ring_core.specs.declared.out.Out.{Out}
 use Rattle.ring_log.specs.Logs.{Log, committed_calls}
@@ -21,10 +22,12 @@ use Rattle.ring_ticket.specs.Recent.{kept_answer}
 use Rattle.ring_ticket.specs.declared.pending.Pending.{Pending}
 use Rattle.ring_ticket.specs.Pendings.{Tickets, none_given, is_full, with_ticket, with_answers, answers_behind, pending_from, AreTickets}
 use Rattle.ring_ticket.specs.Tickets.{unanswered, answers_after}
+use Rattle.ring_ticket.specs.Waiting.{done_after}
+use Rattle.ring_ticket.proofs.Effects.{length-deduplicated, deduplicated_after-few}
 use Rattle.ring_ticket.proofs.Pendings.{are-answers, are-kept, are-given, are-full, are-replies}
 use Rattle.ring_replica.specs.Courses.{Course, course_opening, Moment, handed_if, dues_by}
 use Rattle.ring_machine.specs.Lives.{lived_through}
-use Rattle.ring_replica.specs.Replicas.{Replica, Tale, tale_opening, tale_done, tale_given, IsDone, replica_stopped, replica_reply, submit_refusal, moment_of, replica_moved, replica_settled, replica_step, told_replica, IsReplica}
+use Rattle.ring_replica.specs.Replicas.{Replica, Tale, tale_opening, tale_done, tale_given, IsDone, replica_stopped, replica_reply, submit_refusal, moment_of, replica_moved, replica_settled, replica_step, told_replica, IsReplica, IsCounted}
 use Rattle.ring_replica.proofs.Courses.{sound-front}
 use Rattle.ring_replica.proofs.Going.{kept-born, hands-log, hands-committed}
 
@@ -183,7 +186,7 @@ module _ {O A : Type 0} (object : Sequential O) (course : Course A) (table : Tab
   first-within course' front =
       omega (arith, k.committed, front_length kept (committed_calls course'.log) (front_trans kept (committed_calls course.log) (committed_calls course'.log) k.front front))
 
-  more-is : (course' : Course A) → committed_calls course'.log ≡ committed_of course.group course'.life → more_of course' ≡ drop (length kept) (committed_of course.group course'.life)
+  pub more-is : (course' : Course A) → committed_calls course'.log ≡ committed_of course.group course'.life → more_of course' ≡ drop (length kept) (committed_of course.group course'.life)
   more-is course' e = ap (λ n. drop n (committed_calls course'.log)) k.committed ∙ ap (drop (length kept)) e
 
   pub stepped-replica : (course' : Course A) (table' : Table O) (due : List (Payload A)) → course.life ≡ tale.life → stopped ≡ false → course'.fine ≡ true
@@ -240,6 +243,30 @@ module _ {O A : Type 0} (object : Sequential O) (course : Course A) (table : Tab
       ∙ ap (λ n. dues_by (of (pending_from kept 0 tale.tickets) n) course.life outs) k.committed
       ∙ ap (λ l. dues_by (of (pending_from kept 0 tale.tickets) (length kept)) l outs) here
 
+  -- how many calls take effect by it
+  pub effects-few : (effects : ℕ) → effects ≡ length (deduplicated kept) → effects ≤ first
+  effects-few effects e = (let few = deduplicated_after-few [] kept in omega (arith, e, few, k.committed))
+
+  pub reached-is : (course' : Course A) (due : List (Payload A)) (effects reached : ℕ) → course.life ≡ tale.life → stopped ≡ false → course'.group ≡ course.group
+      → IsFront (committed_calls course.log) (committed_calls course'.log) → committed_calls course'.log ≡ committed_of course'.group course'.life
+      → effects ≡ length (deduplicated kept) → reached ≡ effects + done_after object table (more_of course')
+      → (course'' : Course A) → course'' ≡ record course' { life = hands due course'.life }
+      → reached ≡ length (deduplicated (committed_of course''.group course''.life))
+  reached-is course' due effects reached here s same front all counted is course'' handed =
+      let r = k.runs s in
+      let more = more_of course' in
+      let told : committed_calls course'.log ≡ committed_of course.group course'.life = all ∙ ap (λ gr. committed_of gr course'.life) same in
+      let grows : IsFront kept (committed_of course.group course'.life) =
+      subst (λ l. IsFront kept l) told (front_trans kept (committed_calls course.log) (committed_calls course'.log) k.front front) in
+      let whole : kept ++ more ≡ committed_of course.group course'.life =
+      ap (λ l. kept ++ l) (more-is course' told) ∙ behind-front kept (committed_of course.group course'.life) grows in
+      is ∙ ap (λ n. n + done_after object table more) counted
+      ∙ ap (λ t. length (deduplicated kept) + done_after object t more) (r.applied ∙ ap (λ l. table_after object (committed_of course.group l)) here)
+      ∙ length-deduplicated object kept more
+      ∙ ap (λ l. length (deduplicated l))
+      (whole ∙ ap (λ gr. committed_of gr course'.life) (sym same) ∙ sym (hands-committed course'.group due course'.life))
+      ∙ ap (λ (x : Course A). length (deduplicated (committed_of x.group x.life))) (sym handed)
+
   -- ---- the end of a step
 
   pub finished-replica : (answers : List (Answered A)) (tickets' : Tickets A) (places' first' : ℕ) (tale' : Tale A) → stopped ≡ false
@@ -269,6 +296,59 @@ module _ {O A : Type 0} (object : Sequential O) (course : Course A) (table : Tab
       nothing : (l : List (OneCall A)) → l ++ [] ≡ l
       nothing [] = refl
       nothing (x ∷ l) = ap (λ w. x ∷ w) (nothing l)
+
+-- ---- how many calls took effect
+
+none-counted : {A : Type 0} (group : Group) (life : List (Stay A)) → 0 ≡ length (committed_of group life) → 0 ≡ length (deduplicated (committed_of group life))
+none-counted group life e = (let few = deduplicated_after-few [] (committed_of group life) in omega (arith, e, few))
+
+pub opened-counted : {O A : Type 0} (object : Sequential O) (group : Group) (me : ℕ) (course : Course A) (table : Table O) (tickets : Tickets A) (tale : Tale A)
+    → course ≡ course_opening group me → table ≡ opening object.initial → tickets ≡ none_given → tale ≡ tale_opening me
+    → IsCounted object course table tickets 0 0 0 0 false tale
+opened-counted {O} {A} object group me course table tickets tale ec e et ea =
+    let k = opened-as object group me course table tickets tale ec e et ea in
+    let same : course.life ≡ tale.life = ap (λ (x : Course A). x.life) ec ∙ ap (λ (x : Tale A). x.life) (sym ea) in
+    let order = none-counted course.group tale.life k.committed in
+    record { kept = k; order = order; ahead = λ _. order ∙ ap (λ l. length (deduplicated (committed_of course.group l))) (sym same) }
+
+-- with another story and course, of the same committed places
+pub same-counted : {O A : Type 0} (object : Sequential O) (course course' : Course A) (table table' : Table O) (tickets tickets' : Tickets A) (places first effects reached : ℕ) (stopped : Bool) (tale tale' : Tale A)
+    → IsCounted object course table tickets places first effects reached stopped tale → IsReplica object course' table' tickets' places first stopped tale'
+    → committed_of course'.group tale'.life ≡ committed_of course.group tale.life → committed_of course'.group course'.life ≡ committed_of course.group course.life
+    → IsCounted object course' table' tickets' places first effects reached stopped tale'
+same-counted object course course' table table' tickets tickets' places first effects reached stopped tale tale' k new same ahead =
+    record {
+      kept = new;
+      order = k.order ∙ ap (λ l. length (deduplicated l)) (sym same);
+      ahead = λ s. k.ahead s ∙ ap (λ l. length (deduplicated l)) (sym ahead);
+    }
+
+pub given-counted : {O A : Type 0} (object : Sequential O) (course : Course A) (table : Table O) (tickets : Tickets A) (places first effects reached : ℕ) (stopped : Bool) (tale : Tale A)
+    → IsCounted object course table tickets places first effects reached stopped tale
+    → (c : OneCall A) (runs : Bool) (course' : Course A) (tickets' : Tickets A) (tale' : Tale A)
+    → course' ≡ record course { life = hands (handed_if runs c) course.life } → tickets' ≡ with_ticket tickets c → tale' ≡ tale_given tale c runs first
+    → IsCounted object course' table tickets' places first effects reached stopped tale'
+given-counted {O} {A} object course table tickets places first effects reached stopped tale k c runs course' tickets' tale' ec et ea =
+    let due = handed_if runs c in
+    let of_course : Course A → List (OneCall A) = λ x. committed_of x.group x.life in
+    let group : course'.group ≡ course.group = ap (λ (x : Course A). x.group) ec in
+    let life : tale'.life ≡ hands due tale.life = ap (λ (x : Tale A). x.life) ea in
+    same-counted object course course' table table tickets tickets' places first effects reached stopped tale tale' k
+    (given-replica object course table tickets places first stopped tale k.kept c runs course' tickets' tale' ec et ea)
+    (ap (λ gr. committed_of gr tale'.life) group ∙ ap (committed_of course.group) life ∙ hands-committed course.group due tale.life)
+    (ap of_course ec ∙ hands-committed course.group due course.life)
+
+-- it stopped
+pub halted-counted : {O A : Type 0} (object : Sequential O) (course : Course A) (table : Table O) (tickets : Tickets A) (places first effects reached : ℕ) (stopped : Bool) (tale : Tale A)
+    → IsCounted object course table tickets places first effects reached stopped tale
+    → (course' : Course A) (table' : Table O) → course'.group ≡ course.group → IsFront (committed_calls course.log) (committed_calls course'.log)
+    → IsCounted object course' table' tickets places first effects reached true tale
+halted-counted object course table tickets places first effects reached stopped tale k course' table' same front =
+    record {
+      kept = halted-replica object course table tickets places first stopped tale k.kept course' table' same front;
+      order = k.order ∙ ap (λ gr. length (deduplicated (committed_of gr tale.life))) (sym same);
+      ahead = λ s. absurd (cc s);
+    }
 
 -- ---- what a step makes of what is told
 

@@ -9,6 +9,7 @@ use Rattle.ring_base.specs.declared.ring_id.RingId.{RingId}
 use Rattle.ring_object.specs.Operations.{Sequential}
 use Rattle.ring_payload.specs.declared.call.Call.{Call as OneCall}
 use Rattle.ring_payload.specs.declared.content.Payload.{Payload}
+use Rattle.ring_session.specs.Deduplicated.{deduplicated}
 use Rattle.ring_session.specs.Table.{Table, table_after}
 use Rattle.ring_session.specs.declared.answer.Answer.{Answer}
 use Rattle.ring_core.specs.Joining.{is_operational}
@@ -22,7 +23,7 @@ use Rattle.ring_ticket.specs.Pendings.{Tickets, AreTickets, pending_from}
 use Rattle.ring_ticket.specs.Tickets.{Asked, unanswered, answers_after, all_answers, kept_answers, answer_to}
 use Rattle.ring_replica.specs.Courses.{Course, Moment, is_running, handed_if, dues_by}
 use Rattle.ring_machine.specs.Lives.{lived_through}
-use Rattle.ring_machine.specs.Nodes.{Node, node_committed, node_stopped}
+use Rattle.ring_machine.specs.Nodes.{Node, node_stopped}
 use Rattle.ring_machine.specs.Stepping.{send_of, handed_over, NodeStepped, quiet}
 
 pub record Replica (A : Type 0) : Type 0 where
@@ -111,12 +112,13 @@ moment_of running r =
       committed = length (replica_committed r);
     }
 
--- what a step of the core makes of it, with the frames sent, what is to be handed to the core, and the answers given
+-- what a step of the core makes of it, with the frames sent, what is to be handed to the core, the answers given, and the calls newly committed
 pub record ReplicaStepped (A : Type 0) : Type 0 where
   pub replica : Replica A
   pub sends : List (Sent A)
   pub due : List (Payload A)
   pub answers : List (Answered A)
+  pub committed : List (OneCall A)
 
 module _ {O : Type 0} (object : Sequential O) where
   abbrev pub replica_moved : {A : Type 0} → Replica A → List (Out A) → List (Stay A) → List (Payload A) → ReplicaStepped A
@@ -126,10 +128,11 @@ module _ {O : Type 0} (object : Sequential O) where
         sends = filter_map send_of outs;
         due = due;
         answers = answers_after object r.tickets (replica_committed r) (drop (length (replica_committed r)) (committed_of r.group life));
+        committed = drop (length (replica_committed r)) (committed_of r.group life);
       }
 
   abbrev pub replica_settled : {A : Type 0} → Bool → Replica A → List (Out A) → List (Stay A) → List (Payload A) → ReplicaStepped A
-  replica_settled false r outs life due = record { replica = replica_stopped r; sends = []; due = []; answers = [] }
+  replica_settled false r outs life due = record { replica = replica_stopped r; sends = []; due = []; answers = []; committed = [] }
   replica_settled true r outs life due = replica_moved r outs life due
 
   -- the core, of which this ring runs then, took a step with these outputs
@@ -159,7 +162,7 @@ node_unless false n core r =
       node = record n { core = handed_over core r.due; life = r.replica.ahead };
       sends = r.sends;
       answers = r.answers;
-      committed = drop (length (node_committed n)) (committed_of n.group r.replica.ahead);
+      committed = r.committed;
     }
 
 abbrev pub node_by : {A : Type 0} → Node A → Core A → ReplicaStepped A → NodeStepped A
@@ -193,3 +196,9 @@ pub record IsReplica {O A : Type 0} (object : Sequential O) (course : Course A) 
   pub front : IsFront (committed_of course.group tale.life) (committed_calls course.log)
   pub answers : AreTickets object tale.tickets (committed_of course.group tale.life) tickets
   pub runs : stopped ≡ false → Runs object course table tale
+
+-- beside it, how many of the committed places took effect, by the story and by the course
+pub record IsCounted {O A : Type 0} (object : Sequential O) (course : Course A) (table : Table O) (tickets : Tickets A) (places first effects reached : ℕ) (stopped : Bool) (tale : Tale A) : Type 0 where
+  pub kept : IsReplica object course table tickets places first stopped tale
+  pub order : effects ≡ length (deduplicated (committed_of course.group tale.life))
+  pub ahead : stopped ≡ false → reached ≡ length (deduplicated (committed_of course.group course.life))

@@ -3,17 +3,19 @@
 ghost use Rattle.std.specs.Prelude.{◌≡◌, []};
 
 use crate::sent::Sent;
-use ring_payload::Payload;
+use ring_payload::{Call, Payload};
 use ring_ticket::Answered;
 use std::alloc::{Allocator, Global};
 
-/// What a step of the core gives by a node's replica: the frames sent, what is to be handed to the core, in its order, and
-/// the answers, by the order of their places, then of their tickets.
+/// What a step of the core gives by a node's replica: the frames sent, what is to be handed to the core, in its order, the
+/// answers, by the order of their places, then of their tickets, and the calls newly committed.
 #[derive(Drop)]
 pub struct Given<A: Allocator + Copy + Drop = Global> {
     pub sends: Vec<Sent<A>, A>,
     pub due: Vec<Payload<A>, A>,
     pub answers: Vec<Answered<A>, A>,
+    /// The calls newly committed, in order.
+    pub committed: Vec<Call<A>, A>,
 }
 
 impl<A: Allocator + Copy + Drop> Given<A> {
@@ -22,11 +24,13 @@ impl<A: Allocator + Copy + Drop> Given<A> {
         ensures sends { result.sends.items ≡ [] }
         ensures due { result.due.items ≡ [] }
         ensures answers { result.answers.items ≡ [] }
+        ensures committed { result.committed.items ≡ [] }
     {
         Given {
             sends: Vec::new(alloc),
             due: Vec::new(alloc),
             answers: Vec::new(alloc),
+            committed: Vec::new(alloc),
         }
     }
 }

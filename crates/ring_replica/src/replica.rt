@@ -1,12 +1,14 @@
 //! All of a node but its core.
 
-ghost use Rattle.std.specs.Prelude.{◌≡◌, ◌≤◌, [], true, false, fold, length, drop, IfOk, IfErr, OnOk, OnErr, Some, None};
+ghost use Rattle.std.specs.Prelude.{◌≡◌, ◌≤◌, ◌+◌, [], true, false, fold, length, drop, IfOk, IfErr, OnOk, OnErr, Some, None};
 ghost use Rattle.ring_base.specs.declared.fault.Fault.TheVariants.{Memory};
 ghost use Rattle.ring_log.specs.Logs.{committed_calls};
 ghost use Rattle.ring_log.specs.Lives.{committed_of};
+ghost use Rattle.ring_session.specs.Deduplicated.{deduplicated};
 ghost use Rattle.ring_session.specs.Table.{table_next};
 ghost use Rattle.ring_ticket.specs.Pendings.{answers_behind};
 ghost use Rattle.ring_ticket.specs.Tickets.{answers_after};
+ghost use Rattle.ring_ticket.specs.Waiting.{done_after};
 ghost use Rattle.ring_replica.specs.Courses.{rises};
 ghost use Rattle.ring_replica.specs.Replicas.{IsDone, replica_opening, replica_committed, replica_log, replica_stopped, replica_reply, submit_refusal, has_adopted_running, replica_given, replica_step, replica_done};
 
@@ -20,6 +22,7 @@ use ring_object::Object;
 use ring_payload::Call;
 use ring_session::{Answer, Sessions};
 use ring_ticket::{Answered, Pending, Ticket, Tickets, answers_of};
+use std::alloc::Allocator;
 use std::marker::Model;
 
 /// All of a node but its core: its log, with where the exchange of its newest ring stands, its tickets, and the
@@ -36,18 +39,21 @@ pub struct Replica<O: Object> {
     /// How many places the log had, and how many of them were committed, as the last step was done.
     places: u64,
     committed: u64,
+    /// How many of the committed places took effect, as the last step was done, and by the step that is being done.
+    effects: u64,
+    reached: u64,
     stopped: bool,
     story: Past<Story<O::Alloc>>,
 }
 
 impl<O: Object> Model for Replica<O> {
-    ghost use Rattle.ring_replica.specs.Replicas.{Replica as ToldReplica, IsReplica, told_replica};
+    ghost use Rattle.ring_replica.specs.Replicas.{Replica as ToldReplica, IsCounted, told_replica};
 
     ghost Value = { ToldReplica O.Alloc };
 
     ghost view = { λ r. told_replica r.course r.stopped r.story.value };
 
-    ghost invariant = { λ r. IsReplica O.sequential r.course r.sessions r.tickets r.places r.committed r.stopped r.story.value };
+    ghost invariant = { λ r. IsCounted O.sequential r.course r.sessions r.tickets r.places r.committed r.effects r.reached r.stopped r.story.value };
 }
 
 impl<O: Object> Replica<O> {
@@ -63,6 +69,8 @@ impl<O: Object> Replica<O> {
             tickets: Tickets::new(alloc)?,
             places: 0,
             committed: 0,
+            effects: 0,
+            reached: 0,
             stopped: false,
             story: opened(me),
         })
@@ -120,6 +128,7 @@ impl<O: Object> Replica<O> {
         ensures sends { IfOk result (λ given. given.sends.items ≡ (replica_step O.sequential running.now self.old outs.items).sends) }
         ensures due { IfOk result (λ given. given.due.items ≡ (replica_step O.sequential running.now self.old outs.items).due) }
         ensures answers { IfOk result (λ given. given.answers.items ≡ (replica_step O.sequential running.now self.old outs.items).answers) }
+        ensures committed { IfOk result (λ given. given.committed.items ≡ (replica_step O.sequential running.now self.old outs.items).committed) }
         ensures err { OnErr result (self.new ≡ replica_stopped self.old) }
         ensures refused { IfErr result (λ fault. fault ≡ Memory) }
     {
@@ -138,13 +147,17 @@ impl<O: Object> Replica<O> {
         if !self.course.is_fine() {
             return Ok(Given::new(self.alloc));
         }
-        given.answers = new_answers(
+        given.committed = new_calls(self.alloc, self.course.log(), self.committed)?;
+        let (answers, reached) = new_answers(
             self.alloc,
             &mut self.sessions,
             self.tickets.pending(),
             self.course.log(),
             self.committed,
+            self.effects,
         )?;
+        given.answers = answers;
+        self.reached = reached;
         self.course.hand(&given.due);
         self.stopped = false;
         Ok(given)
@@ -164,6 +177,7 @@ impl<O: Object> Replica<O> {
             .keep(&calls[self.committed as usize..], answers);
         self.places = log.length();
         self.committed = calls.len() as u64;
+        self.effects = self.reached;
     }
 
     /// Stops for good. It takes no memory.
@@ -200,23 +214,49 @@ impl<O: Object> Replica<O> {
     {
         self.places
     }
+
+    /// How many calls of the committed places took effect: how long the committed log is, repeats removed.
+    pub fn order_len(&self) -> u64
+        ensures { result ≡ length (deduplicated (replica_committed self.now)) }
+    {
+        self.effects
+    }
 }
 
-/// The answers that the places committed behind these give to the tickets, once the sessions did their calls. Refused with
-/// `Memory` alone.
+/// Copies of the calls committed behind so many. Refused with `Memory` alone.
+fn new_calls<A: Allocator + Copy + Drop>(
+    alloc: A,
+    log: &Log<A>,
+    committed: u64,
+) -> Result<Vec<Call<A>, A>, Fault>
+    requires { committed ≤ length (committed_calls log.now) }
+    ensures calls { IfOk result (λ calls. calls.items ≡ drop committed (committed_calls log.now)) }
+    ensures refused { IfErr result (λ fault. fault ≡ Memory) }
+{
+    let calls = log.committed_calls();
+    Ok(calls[committed as usize..].to_vec(alloc)?)
+}
+
+/// The answers that the places committed behind these give to the tickets, once the sessions did their calls, and how many
+/// calls took effect by then, of which so many did before. Refused with `Memory` alone.
 fn new_answers<O: Object>(
     alloc: O::Alloc,
     sessions: &mut Sessions<O>,
     pending: &[Pending<O::Alloc>],
     log: &Log<O::Alloc>,
     committed: u64,
-) -> Result<Vec<Answered<O::Alloc>, O::Alloc>, Fault>
-    requires { committed ≤ length (committed_calls log.now) }
+    effects: u64,
+) -> Result<(Vec<Answered<O::Alloc>, O::Alloc>, u64), Fault>
+    requires within { committed ≤ length (committed_calls log.now) }
+    requires few { effects ≤ committed }
     ensures table { OnOk result (sessions.new ≡ fold (table_next O.sequential) sessions.old (drop committed (committed_calls log.now))) }
-    ensures answers { IfOk result (λ answers. answers.items ≡ answers_behind O.sequential sessions.old pending.now [] (drop committed (committed_calls log.now))) }
+    ensures answers { IfOk result (λ given. given.0.items ≡ answers_behind O.sequential sessions.old pending.now [] (drop committed (committed_calls log.now))) }
+    ensures effects { IfOk result (λ given. given.1 ≡ effects + done_after O.sequential sessions.old (drop committed (committed_calls log.now))) }
     ensures refused { IfErr result (λ fault. fault ≡ Memory) }
 {
     let calls = log.committed_calls();
-    let (answers, _) = answers_of(alloc, sessions, pending, &calls[committed as usize..])?;
-    Ok(answers)
+    let is_within = committed <= log.length();
+    prove!(is_within);
+    let (answers, more) = answers_of(alloc, sessions, pending, &calls[committed as usize..])?;
+    Ok((answers, effects + more))
 }

@@ -2,3 +2,5 @@ pub mod Silent
 pub mod Places
 pub mod Ties
 pub mod Openings
+pub mod Forming
+pub mod Acting

@@ -1,5 +1,5 @@
 -- The opening of all in Gather, and what a whole run gives.
-use Rattle.std.proofs.Common.{◌≡◌, ℕ, zero, suc, ◌+◌, ◌<◌, ◌≤◌, take, append_assoc, add-one, Result, Ok, Err, OnErr, false, List, [], ◌∷◌, ◌++◌, map, length, Option, Some, None, slice_get, refl, ap, ◌∙◌, sym, arith}
+use Rattle.std.proofs.Common.{◌≡◌, ℕ, zero, suc, ◌+◌, ◌<◌, ◌≤◌, take, append_assoc, add-one, Result, Ok, Err, OnErr, List, [], ◌∷◌, ◌++◌, map, length, Some, None, slice_get, refl, ap, ◌∙◌, sym, arith}
 use Rattle.std.proofs.lemmas.List.{append-nil, map-append, length-map}
 use Rattle.ring_base.specs.Numbers.{numbers_from}
 use Rattle.ring_base.specs.Passing.{length-numbers_from}
@@ -17,7 +17,7 @@ opened_more f xs ys k x me a b c d =
     b ∙ ap (λ zs. zs ++ x ∷ []) a ∙ ap (λ y. map f (numbers_from 1 k) ++ y ∷ []) (c ∙ ap f last)
     ∙ sym (map-append f (numbers_from 1 k) ((1 + k) ∷ [])) ∙ ap (map f) (numbers-append 1 k 1)
 
-get-numbers : {X : Type 0} (f : ℕ → X) (first n i : ℕ) → i < n → slice_get (map f (numbers_from first n)) i ≡ Some (f (first + i))
+pub get-numbers : {X : Type 0} (f : ℕ → X) (first n i : ℕ) → i < n → slice_get (map f (numbers_from first n)) i ≡ Some (f (first + i))
 get-numbers f first zero i l = absurd (omega (arith, l))
 get-numbers f first (suc n) zero l = ap (λ k. Some (f k)) (let e : first ≡ first + 0 = omega arith in e)
 get-numbers f first (suc n) (suc i) l =
@@ -51,7 +51,7 @@ take_next [] i x e = absurd (let q : ⊥ = cc in q)
 take_next (y ∷ xs) zero x e = (let q : y ≡ x = cc e in ap (λ z. z ∷ []) q)
 take_next (y ∷ xs) (suc i) x e = ap (λ zs. y ∷ zs) (take_next xs i x e)
 
-take_more : {X : Type 0} (xs : List X) (i : ℕ) (x : X) → slice_get xs i ≡ Some x → take (i + 1) xs ≡ take i xs ++ x ∷ []
+pub take_more : {X : Type 0} (xs : List X) (i : ℕ) (x : X) → slice_get xs i ≡ Some x → take (i + 1) xs ≡ take i xs ++ x ∷ []
 take_more xs i x e = ap (λ n. take n xs) (add-one i) ∙ take_next xs i x e
 
 pub ran_more : {A : Type 0} (r s t : Ran A) (es : List (RingEvent A)) (i : ℕ) (e : RingEvent A) → s ≡ all_ran r (take i es) → slice_get es i ≡ Some e → t ≡ more s e →
@@ -60,7 +60,7 @@ ran_more {A} r s t es i e a h b =
     let with_events : List (RingEvent A) → Ran A = λ xs. record r { events = xs } in
     b ∙ ap (λ q. more q e) a ∙ ap with_events (append_assoc r.events (take i es) (e ∷ []) ∙ ap (λ xs. r.events ++ xs) (sym (take_more es i e h)))
 
-take_whole : {X : Type 0} (xs : List X) (i : ℕ) → length xs ≤ i → take i xs ≡ xs
+pub take_whole : {X : Type 0} (xs : List X) (i : ℕ) → length xs ≤ i → take i xs ≡ xs
 take_whole [] zero l = refl
 take_whole [] (suc i) l = refl
 take_whole (x ∷ xs) zero l = absurd (omega (arith, l))

@@ -9,12 +9,11 @@ use Rattle.ring_wire.specs.declared.frame.Frame.TheVariants.{Message as MessageF
 use Rattle.ring_commit.specs.Outcomes.{is_at}
 use Rattle.ring_core.specs.declared.input.Input.{Input}
 use Rattle.ring_core.specs.declared.input.Input.TheVariants.{Frame as FrameInput, Timeout, Send}
-use Rattle.ring_core.specs.State.{Core, Stepped, halted}
+use Rattle.ring_core.specs.State.{Core, halted}
 use Rattle.ring_core.specs.Naming.{is_named}
 use Rattle.ring_core.specs.Views.{takes_number}
 use Rattle.ring_core.specs.Deciding.{Act, Ignore, Take, takes_of, members_of, decide_token, decide_join, decide_round, decide_if_named, decide_time, decide_payload, decide}
-use Rattle.ring_core.specs.Acting.{done}
-use Rattle.ring_core.specs.Giving.{installs_in, delivered}
+use Rattle.ring_core.specs.Giving.{installs_in}
 use Rattle.ring_core.specs.Stepping.{ring_step}
 use Rattle.ring_srp.specs.Machines.{is_stopped}
 use Rattle.ring_srp.proofs.Sending.{GaveNothing, ignored}

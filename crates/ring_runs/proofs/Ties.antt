@@ -1,12 +1,12 @@
 -- What the code keeps goes on telling the world: after a step, a stop, and where nothing happens.
-use Rattle.std.proofs.Common.{◌≡◌, ℕ, zero, suc, ◌+◌, ◌-◌, ◌<◌, ◌≤◌, Bool, true, false, ◌==◌, ◌&&◌, if◌then◌else◌, List, [], ◌∷◌, ◌++◌, map, length, Option, Some, None, slice_get, get_or, refl, ap, ◌∙◌, sym, subst, arith, inl, inr, append_assoc, length-set}
+use Rattle.std.proofs.Common.{◌≡◌, ℕ, zero, suc, ◌-◌, ◌<◌, ◌≤◌, Bool, true, false, ◌==◌, if◌then◌else◌, List, [], ◌∷◌, ◌++◌, map, length, Option, Some, None, slice_get, get_or, refl, ap, ◌∙◌, sym, subst, arith, inl, inr, append_assoc, length-set}
 use Rattle.std.specs.List.{AllByRecursion as Each}
-use Rattle.std.specs.Prelude.{filter_map, nat_le, slice_set}
-use Rattle.std.proofs.lemmas.Bool.{cond_both, cond-true, cond-false, leb-true, le-leb, eqb-true, eq-eqb, eqb-false, cases_Bool}
+use Rattle.std.specs.Prelude.{filter_map, slice_set}
+use Rattle.std.proofs.lemmas.Bool.{cond-true, cond-false, le-leb, eqb-true, eqb-false, cases_Bool}
 use Rattle.std.proofs.lemmas.Bool.Decides.{nat_tests}
 use Rattle.std.proofs.lemmas.List.{append-nil, get_or-set_same, get_or-set_other}
 use Rattle.std.proofs.lemmas.List.Elements.{filter_map-append}
-use Rattle.std.proofs.lemmas.Option.{slice_get-get_or, slice_get_past, slice_get_within, get_or_from_slice_get}
+use Rattle.std.proofs.lemmas.Option.{slice_get-get_or, get_or_from_slice_get}
 use Rattle.ring_base.specs.Processors.{has}
 use Rattle.ring_base.proofs.Each.{each-get}
 use Rattle.ring_wire.specs.Frames.{FrameFits}

@@ -24,9 +24,13 @@ ran_from true count events = run (ring_formed count) events
 abbrev pub world_of : {A : Type 0} → Ran A → World A
 world_of r = ran_from r.formed r.count r.events
 
--- nothing yet
+-- nothing yet, all in Gather
 abbrev pub none_ran : {A : Type 0} → ℕ → Ran A
 none_ran n = record { count = n; formed = false; events = [] }
+
+-- the same on a ring of all
+abbrev pub none_ran_formed : {A : Type 0} → ℕ → Ran A
+none_ran_formed n = record { count = n; formed = true; events = [] }
 
 abbrev pub more : {A : Type 0} → Ran A → RingEvent A → Ran A
 more r event = record r { events = r.events ++ event ∷ [] }
@@ -93,7 +97,7 @@ pub record IsWorld {A : Type 0} (w : World A) (cores : List (Core A)) (first : O
   pub places_are : places ≡ places_from 0 outs
   pub fits : WorldFits w
 
--- A run of all from Gather, before and after
+-- A world that is run once, before and after
 
 pub record Prepared : Type 0 where
   pub count : ℕ
@@ -106,6 +110,7 @@ abbrev pub is_there : {A : Type 0} → Option (Ran A) → Bool
 is_there None = false
 is_there (Some r) = true
 
-abbrev pub IsPrepared : {A : Type 0} → ℕ → Option (Ran A) → Type 0
-IsPrepared n None = Unit {0}
-IsPrepared n (Some r) = r ≡ none_ran n
+-- what is there is as it opened
+abbrev pub IsPrepared : {A : Type 0} → Ran A → Option (Ran A) → Type 0
+IsPrepared opened None = Unit {0}
+IsPrepared opened (Some r) = r ≡ opened

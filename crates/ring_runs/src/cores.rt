@@ -1,15 +1,15 @@
 //! The ring cores of all processors, and what happens to them.
 
-ghost use Rattle.std.specs.Prelude.{◌≡◌, [], ◌∷◌, ◌++◌, ◌≤◌, map, IfOk, IfErr, OnOk, option_copied};
+ghost use Rattle.std.specs.Prelude.{◌≡◌, [], ◌∷◌, ◌++◌, ◌≤◌, ◌-◌, length, map, filter_map, IfOk, IfErr, OnOk, option_copied};
 ghost use Rattle.ring_base.specs.declared.fault.Fault.TheVariants.{Memory};
 ghost use Rattle.ring_base.specs.Numbers.{numbers_from};
-ghost use Rattle.ring_core.specs.State.{opening};
+ghost use Rattle.ring_core.specs.State.{formed, opening};
 ghost use Rattle.ring_limits.specs.Limits.{EventFits, InputFits};
 ghost use Rattle.ring_moves.specs.declared.event.RingEvent.TheVariants.{Deliver, Stop};
-ghost use Rattle.ring_moves.specs.Worlds.{stepped, frame_at, happens};
-ghost use Rattle.ring_runs.specs.Running.{places_from, places_of, frame_for, world_of, more, none_ran};
+ghost use Rattle.ring_moves.specs.Worlds.{carried_by, stepped, frame_at, happens};
+ghost use Rattle.ring_runs.specs.Running.{places_from, places_of, frame_for, world_of, more, none_ran, none_ran_formed, opening_frames};
 
-use crate::history::{Story, more, unformed};
+use crate::history::{Story, more, ring_formed, unformed};
 use crate::sent::{Sent, copied, copied_payload, later_frame, numbered_frame};
 use ring_base::{Fault, Fixed, Past, Proc};
 use ring_core::{Input, Out};
@@ -57,6 +57,28 @@ impl<A: Allocator + Copy> Cores<A> {
         Ok(Cores {
             cores,
             first: None,
+            outs,
+            places,
+            past,
+        })
+    }
+
+    /// All processors in the ring (1, 1) of all, with nothing held, whose representative has visited the first token: what it
+    /// sent is frame 1. `Memory` where a growth was refused.
+    pub fn formed(alloc: A, fixed: Fixed) -> Result<Cores<A>, Fault>
+        ensures ok { IfOk result (λ world. world ≡ none_ran_formed fixed.count) }
+        ensures refused { IfErr result (λ fault. fault ≡ Memory) }
+    {
+        let count = fixed.count();
+        let (core, sent) = Srp::started(alloc, fixed)?;
+        let first = sent_first(sent);
+        let cores = in_ring(alloc, fixed, count, core)?;
+        let outs = Vec::new(alloc);
+        let places = Vec::new(alloc);
+        let past = ring_formed(fixed);
+        Ok(Cores {
+            cores,
+            first,
             outs,
             places,
             past,
@@ -183,6 +205,50 @@ fn opened<A: Allocator + Copy>(alloc: A, fixed: Fixed, count: u8) -> Result<Vec<
         cores.push(core)?;
     }
     Ok(cores)
+}
+
+/// The cores of all processors in the ring of all, of which the representative's is given.
+fn in_ring<A: Allocator + Copy>(
+    alloc: A,
+    fixed: Fixed,
+    count: u8,
+    representative: Srp<A>,
+) -> Result<Vec<Srp<A>, A>, Fault>
+    requires count { count ≡ fixed.count }
+    requires some { 1 ≤ count }
+    requires few { count ≤ 16 }
+    ensures ok { IfOk result (λ cores. cores.items ≡ representative ∷ map (formed fixed.count) (numbers_from 2 (count - 1))) }
+    ensures refused { IfErr result (λ fault. fault ≡ Memory) }
+{
+    let mut cores = Vec::new(alloc);
+    cores.push(representative)?;
+    for before in 1..count {
+        let me = Proc::new(before + 1);
+        let core = Srp::formed(alloc, fixed, me)?;
+        cores.push(core)?;
+    }
+    Ok(cores)
+}
+
+/// The frame that was sent, if one was.
+fn sent_first<A: Allocator + Copy>(mut outs: Vec<Out<A>, A>) -> Option<Sent<A>>
+    requires { length outs.items ≤ 1 }
+    ensures { opening_frames result ≡ filter_map (carried_by 1) outs.items }
+{
+    match outs.pop() {
+        Some(out) => sent_by(out),
+        None => None,
+    }
+}
+
+/// The frame that an output sends.
+fn sent_by<A: Allocator + Copy>(out: Out<A>) -> Option<Sent<A>>
+    ensures { opening_frames result ≡ filter_map (carried_by 1) (out ∷ []) }
+{
+    match out {
+        Out::Send(to, frame) => Some(Sent { to, frame }),
+        _ => None,
+    }
 }
 
 /// Notes what a processor gave, and where the frames stand among it.

@@ -1,7 +1,7 @@
 //! What happened to a world, as contracts see it.
 
-ghost use Rattle.std.specs.Prelude.{◌≡◌, true, false, []};
-ghost use Rattle.ring_runs.specs.Running.{more, none_ran};
+ghost use Rattle.std.specs.Prelude.{◌≡◌, false, []};
+ghost use Rattle.ring_runs.specs.Running.{more, none_ran, none_ran_formed};
 
 use ring_base::{Fixed, Past, past_of};
 use ring_moves::RingEvent;
@@ -39,7 +39,7 @@ pub(crate) fn unformed<A: Allocator + Copy>(fixed: Fixed) -> Past<Story<A>>
 
 /// All in one ring, whose representative has visited the first token.
 pub(crate) fn ring_formed<A: Allocator + Copy>(fixed: Fixed) -> Past<Story<A>>
-    ensures { result.value ≡ record { count = fixed.count; formed = true; events = [] } }
+    ensures { result.value ≡ none_ran_formed fixed.count }
 {
     past_of(&fixed)
 }

@@ -2,10 +2,12 @@
 #![tactic(auto)]
 
 mod cores;
+mod fixed_ring;
 mod history;
 mod rings;
 mod sent;
 
 pub use cores::Cores;
+pub use fixed_ring::FixedRing;
 pub use ring_moves::RingEvent;
 pub use rings::Rings;

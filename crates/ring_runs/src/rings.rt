@@ -1,6 +1,6 @@
 //! Ring cores that are run from the opening of all in Gather.
 
-ghost use Rattle.std.specs.Prelude.{◌≡◌, ℕ, ◌<◌, true, length, IfOk, IfErr, OnOk, OnErr};
+ghost use Rattle.std.specs.Prelude.{◌≡◌, ℕ, ◌<◌, true, false, length, IfOk, IfErr, OnOk, OnErr};
 ghost use Rattle.std.specs.List.{AllByRecursion};
 ghost use Rattle.ring_base.specs.declared.fault.Fault.TheVariants.{Memory};
 ghost use Rattle.ring_chain.specs.Told.{NameSameMembers};
@@ -27,13 +27,13 @@ pub struct Rings<A: Allocator + Copy = Global> {
 }
 
 impl<A: Allocator + Copy> Model for Rings<A> {
-    ghost use Rattle.ring_runs.specs.Running.{Prepared, IsPrepared, is_there};
+    ghost use Rattle.ring_runs.specs.Running.{Prepared, IsPrepared, is_there, none_ran};
 
     ghost Value = { Prepared };
 
     ghost view = { λ r. record { count = r.fixed.count; is_fresh = is_there r.cores; done = r.done } };
 
-    ghost invariant = { λ r. IsPrepared r.fixed.count r.cores };
+    ghost invariant = { λ r. IsPrepared (none_ran r.fixed.count) r.cores };
 }
 
 impl<A: Allocator + Copy> Rings<A> {
@@ -51,7 +51,7 @@ impl<A: Allocator + Copy> Rings<A> {
     }
 
     /// Runs the events, once. Answers all that was given, in order, each with the processor that gave it. `Memory` where a
-    /// growth was refused: then `done` tells how many events were done.
+    /// growth was refused. Either way `done` tells how many events were done: all of them, or fewer.
     pub fn run(&mut self, events: &[RingEvent<A>]) -> Result<Vec<(Proc, Out<A>), A>, Fault>
         requires fresh { self.old.is_fresh ≡ true }
         requires fit { AllByRecursion EventFits events.now }
@@ -59,6 +59,10 @@ impl<A: Allocator + Copy> Rings<A> {
         ensures synchronous { IsVirtuallySynchronous (run (unformed self.old.count) events.now) }
         ensures members { NameSameMembers (run (unformed self.old.count) events.now).cores }
         ensures rounds { CommitRounds (unformed self.old.count) events.now }
+        ensures spent { self.new.is_fresh ≡ false }
+        ensures count { self.new.count ≡ self.old.count }
+        ensures all { OnOk result (self.new.done ≡ length events.now) }
+        ensures some { OnErr result (self.new.done < length events.now) }
         ensures refused { IfErr result (λ fault. fault ≡ Memory) }
     {
         match self.cores.take() {

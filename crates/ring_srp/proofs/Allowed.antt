@@ -24,13 +24,13 @@ use Rattle.ring_join.specs.declared.hearing.Hearing.TheVariants.{Ignored, Agrees
 use Rattle.ring_commit.specs.Outcomes.{is_at}
 use Rattle.ring_core.specs.declared.input.Input.{Input}
 use Rattle.ring_core.specs.declared.input.Input.TheVariants.{Frame as FrameInput, Timeout, Send}
-use Rattle.ring_core.specs.State.{Core}
+use Rattle.ring_core.specs.State.{Core, all_of, formed}
 use Rattle.ring_core.specs.Naming.{is_named}
 use Rattle.ring_core.specs.Visiting.{accepts}
 use Rattle.ring_core.specs.Joining.{regathered, hears, disturbs}
 use Rattle.ring_core.specs.Handing.{takes_first_round, takes_second_round, takes_start}
 use Rattle.ring_core.specs.Deciding.{Ignore, Enqueue, Take, Visit, Fill, Learn, is_taken, decide_message, decide_token, heard_in_gather, heard_elsewhere, overhear, decide_join, decide_round, decide_commit, decide_frame, decide_if_named, decide_time, decide_user, decide_payload, decide}
-use Rattle.ring_srp.specs.Allowing.{Allows, InputFits, TokenGoes}
+use Rattle.ring_srp.specs.Allowing.{Allows, InputFits, TokenGoes, VisitAllowed}
 use Rattle.ring_srp.specs.Machines.{is_running}
 
 -- Tokens
@@ -40,6 +40,10 @@ token_goes t f = record { seq = f.seq; ascending = f.ascending }
 
 first_goes : (ring : RingId) → TokenGoes (first_token ring)
 first_goes ring = record { seq = omega arith; ascending = λ k l. absurd (omega arith) }
+
+-- the representative of the ring that is formed from the start may visit the first token
+pub first_allowed : {A : Type 0} (n : ℕ) (c : Core A) (t : Token) → c ≡ formed n 1 → t ≡ first_token (all_of n).ring → VisitAllowed c t
+first_allowed n c t e f = rw (e, f) (record { runs = refl; passes = refl; goes = first_goes (all_of n).ring })
 
 in_token : {A : Type 0} (s : State) (c : Core A) (t : Token) → c.state ≡ s → TokenGoes t → Allows c (decide_token s c t)
 in_token Recovery c t h g = cond_both (accepts c t) (Visit t) Ignore (Allows c) (λ e. record { runs = ap is_running h; passes = e; goes = g }) (λ e. tt)

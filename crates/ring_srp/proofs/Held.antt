@@ -37,9 +37,9 @@ use Rattle.ring_core.specs.Deciding.{takes_of, members_of, is_taken}
 use Rattle.ring_core.specs.Giving.{users}
 use Rattle.ring_core.specs.Views.{front, mark, plan, takes_number}
 use Rattle.ring_base.specs.Processors.{has}
-use Rattle.ring_srp.specs.declared.recovering.Recovering.{Recovering}
+use Rattle.ring_parts.specs.declared.recovering.Recovering.{Recovering}
 use Rattle.ring_srp.specs.Machines.{IsPart, IsBelow, bound, is_forming, ring_in_use, window_of, Recovers, IsRecovering, IsMachine}
-use Rattle.ring_srp.specs.Taking.{window_front, with_taken, inner_of, with_inner}
+use Rattle.ring_parts.specs.Taking.{window_front, with_taken, inner_of, with_inner}
 
 -- the core with other messages held
 abbrev pub with_held : {A : Type 0} → Core A → List (Message A) → Core A
@@ -301,9 +301,9 @@ module _ {A : Type 0} (c : Core A) (gather : Gatherer) (window : Windowed A) (vi
     (m : IsMachine c gather window visit recovery) where
   -- a message of the installed ring is held, but in Recovery
   pub held_installed : (x : Message A) → (c.state ≡ Recovery → ⊥) → x.ring ≡ ring_in_use c.state c → takes_number c x.ring x.number ≡ true
-      → (window' : Windowed A) (recovery' : Option (Recovering A)) → window' ≡ taken window x
+      → (window' : Windowed A) (recovery' : Option (Recovering A)) → window' ≡ taken window x → recovery' ≡ None
       → IsMachine (with_held c (x ∷ c.held)) gather window' visit recovery'
-  held_installed x n e h window' recovery' w =
+  held_installed x n e h window' recovery' w none =
       let ring = c.installed.ring in
       let here : x.ring ≡ ring = e ∙ in_use_installed c.state c n in
       let t = fresh_is c ring x here h in
@@ -321,6 +321,7 @@ module _ {A : Type 0} (c : Core A) (gather : Gatherer) (window : Windowed A) (vi
         apart = m.apart;
         same = m.same;
         recovering = λ s. absurd (n s);
+        over = λ q. none;
       }
 
   -- in Recovery a message of the running ring is held
@@ -344,6 +345,7 @@ module _ {A : Type 0} (c : Core A) (gather : Gatherer) (window : Windowed A) (vi
         apart = m.apart;
         same = m.same;
         recovering = λ q. recovers_more c x r e h (recovering_some c recovery r some (m.recovering s));
+        over = λ n. absurd (n s);
       }
 
   -- and one of the old ring
@@ -367,6 +369,7 @@ module _ {A : Type 0} (c : Core A) (gather : Gatherer) (window : Windowed A) (vi
         apart = m.apart;
         same = m.same;
         recovering = λ q. recovering_on recovery (m.recovering q) (other_ring ring y c.held other);
+        over = m.over;
       }
     where
       recovering_on : (o : Option (Recovering A)) → IsRecovering c o → of_ring c.running.ring (y ∷ c.held) ≡ of_ring c.running.ring c.held

@@ -4,7 +4,7 @@ use Rattle.std.proofs.Common.{map, filter, filter_map, Option, Some, None, Resul
 use Rattle.std.specs.Prelude.{nat_lt, if◌then◌else◌}
 use Rattle.std.specs.Option.{IsSome}
 use Rattle.std.specs.Result.{OnOk}
-use Rattle.std.specs.List.{AllByRecursion, cons_option}
+use Rattle.std.specs.List.{AllByRecursion}
 use Rattle.std.proofs.lemmas.Bool.{cond_both, true≢false}
 use Rattle.std.proofs.lemmas.List.{map-append}
 use Rattle.std.proofs.lemmas.List.Elements.{filter-append, filter_map-append}
@@ -34,10 +34,12 @@ use Rattle.ring_core.specs.declared.out.Out.TheVariants.{Agreed, Trans, Rest, Re
 use Rattle.ring_core.specs.State.{Core, Sent}
 use Rattle.ring_core.specs.Views.{front, mark, plan}
 use Rattle.ring_core.specs.Giving.{may_install, installs_in, ready_then_complete, install, settle, users, safe_from, delivered_from}
-use Rattle.ring_srp.specs.Histories.{with_install}
-use Rattle.ring_srp.specs.Machines.{History, core_of, bound, window_of, Recovers, IsRecovering, IsMachine}
-use Rattle.ring_srp.specs.declared.recovering.Recovering.{Recovering}
-use Rattle.ring_srp.specs.Installs.{given_first, given_all, rest_one, rest_of, all_agreed}
+use Rattle.ring_parts.specs.Histories.{with_install}
+use Rattle.ring_parts.specs.Histories.{History}
+use Rattle.ring_srp.specs.Machines.{core_of, bound, window_of, Recovers, IsRecovering, IsMachine}
+use Rattle.ring_parts.specs.declared.recovering.Recovering.{Recovering}
+use Rattle.ring_srp.specs.Installs.{given_first, given_all}
+use Rattle.ring_parts.specs.Rests.{rest_of, all_agreed}
 use Rattle.ring_srp.proofs.Standing.{below_wider}
 
 -- a ring is installed in Recovery alone
@@ -123,9 +125,9 @@ module _ {A : Type 0} (me total : ℕ) (s : State) (running installed : Configur
   -- what was kept of the running ring is kept of the installed one
   pub into_operational : (o : Option (Recovering A)) → o ≡ Some r
       → IsMachine (core_of me total s running installed g shown queue held h) gather window visit o → s ≡ Recovery → (h' : History A)
-      → h' ≡ with_install h running → (recovery : Option (Recovering A))
+      → h' ≡ with_install h running → (recovery : Option (Recovering A)) → recovery ≡ None
       → IsMachine (core_of me total Operational running running g shown queue held h') gather r.part.window r.part.visit recovery
-  into_operational o there m e h' is recovery =
+  into_operational o there m e h' is recovery none =
       let now = core_of me total Operational running running g shown queue held (with_install h running) in
       let f : Recovers (core_of me total s running installed g shown queue held h) r = subst (λ (x : Option (Recovering A)). IsRecovering
       (core_of me total s running installed g shown queue held h) x) there (m.recovering e) in
@@ -144,6 +146,7 @@ module _ {A : Type 0} (me total : ℕ) (s : State) (running installed : Configur
         apart = λ q. absurd (true≢false (sym q));
         same = λ q. refl;
         recovering = λ q. absurd (operational_not_recovery q);
+        over = λ q. none;
       } in
       subst (λ (x : History A). IsMachine (core_of me total Operational running running g shown queue held x) gather r.part.window r.part.visit recovery)
       (sym is) all
@@ -227,25 +230,6 @@ rests_by {A} c w e l =
     ∙ ap (λ (xs : List (Message A)). xs ++ filter_map (kept v) (past_gap_part p c.held)) one
     ∙ ap (λ (xs : List (Message A)). filter_map (found c.held old) (transitional_part p) ++ xs) two
     ∙ sym (filter_map-append (found c.held old) (transitional_part p) (past_gap_part p c.held))
-
-pub rest_parts : {A : Type 0} (w : Windowed A) (ms ns : List ℕ) → rest_of w (ms ++ ns) ≡ rest_of w ms ++ rest_of w ns
-rest_parts {A} w ms ns =
-    let out = λ (x : Message A). Rest x.ring x.number x in
-    let users_only = λ (x : Message A). is_user x.payload in
-    let a = filter_map (kept w) ms in
-    let b = filter_map (kept w) ns in
-    ap (λ (xs : List (Message A)). map out (filter users_only xs)) (filter_map-append (kept w) ms ns)
-    ∙ ap (map out) (filter-append users_only a b)
-    ∙ map-append out (filter users_only a) (filter users_only b)
-
--- what one number gives
-pub rest_some : {A : Type 0} (w : Windowed A) (n : ℕ) (x : Message A) → kept w n ≡ Some x → rest_one x ≡ rest_of w (n ∷ [])
-rest_some {A} w n x h = ap (λ (o : Option (Message A)). map (λ (y : Message A). Rest y.ring y.number y) (filter (λ (y : Message A). is_user y.payload)
-    (cons_option o []))) (sym h)
-
-pub rest_none : {A : Type 0} (w : Windowed A) (n : ℕ) → kept w n ≡ None → [] ≡ rest_of w (n ∷ [])
-rest_none {A} w n h = ap (λ (o : Option (Message A)). map (λ (y : Message A). Rest y.ring y.number y) (filter (λ (y : Message A). is_user y.payload)
-    (cons_option o []))) (sym h)
 
 -- so they make the rest of the old ring
 pub rest_given : {A : Type 0} (c : Core A) (w : Windowed A) → w ≡ window_of c c.installed.ring → mark c c.installed.ring ≤ safe (plan c)

@@ -41,9 +41,10 @@ use Rattle.ring_core.specs.Giving.{users}
 use Rattle.ring_core.specs.Handing.{passed}
 use Rattle.ring_srp.specs.Allowing.{LearnAllowed}
 use Rattle.ring_srp.specs.Learns.{plan_at, safe_at}
-use Rattle.ring_srp.specs.Machines.{History, core_of, IsPart, IsBelow, bound, is_forming, Recovers, IsMachine, raises_of}
-use Rattle.ring_srp.specs.Histories.{with_plan}
-use Rattle.ring_srp.specs.declared.recovering.Recovering.{Recovering}
+use Rattle.ring_parts.specs.Histories.{History}
+use Rattle.ring_srp.specs.Machines.{core_of, IsPart, IsBelow, bound, is_forming, Recovers, IsMachine, raises_of}
+use Rattle.ring_parts.specs.Histories.{with_plan}
+use Rattle.ring_parts.specs.declared.recovering.Recovering.{Recovering}
 use Rattle.ring_srp.proofs.Standing.{below_wider}
 use Rattle.ring_srp.proofs.Receivers.{receiver_member}
 
@@ -380,5 +381,6 @@ module _ {A : Type 0} (me total : ℕ) (s : State) (running installed : Configur
         apart = λ e. m.apart (ap is_forming a.state);
         same = λ e. absurd (recovery_not_operational e);
         recovering = λ e. f;
+        over = λ n. absurd (n refl);
       } in
       subst (λ (x : History A). IsMachine (core_of me total Recovery running installed g shown' queue held x) gather window' visit' (Some r)) (sym is) all

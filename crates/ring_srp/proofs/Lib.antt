@@ -13,7 +13,6 @@ pub mod Starting
 pub mod Stopping
 pub mod Users
 pub mod Turned
-pub mod Aside
 pub mod Held
 pub mod Wraps
 pub mod Visits

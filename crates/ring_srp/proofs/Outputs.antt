@@ -5,14 +5,17 @@ use Rattle.std.proofs.lemmas.List.{append-nil, map-append, append_assoc}
 use Rattle.std.proofs.lemmas.List.Elements.{filter-append}
 use Rattle.ring_base.specs.Processors.{nobody}
 use Rattle.ring_base.specs.declared.ring_id.RingId.{RingId}
+use Rattle.ring_wire.specs.declared.token.Token.{Token}
+use Rattle.ring_token.specs.Turns.{first_token}
 use Rattle.ring_core.specs.declared.input.Input.{Input}
 use Rattle.ring_core.specs.declared.out.Out.{Out}
 use Rattle.ring_core.specs.declared.out.Out.TheVariants.{Send}
-use Rattle.ring_core.specs.State.{Core, Sent, Did}
+use Rattle.ring_core.specs.State.{Core, Sent, Did, all_of, formed}
 use Rattle.ring_core.specs.Joining.{proposes}
 use Rattle.ring_core.specs.Deciding.{Act, decide}
 use Rattle.ring_core.specs.Acting.{act, may_follow, silently, proposed_after, done}
 use Rattle.ring_core.specs.Views.{front, mark}
+use Rattle.ring_core.specs.Visiting.{visited}
 use Rattle.ring_core.specs.Giving.{addressed, sent, delivered_from, given, may_install, settle, delivered}
 use Rattle.ring_core.specs.Stepping.{ring_step}
 
@@ -121,3 +124,13 @@ unfolding ring_step
 step_settles c input =
     let did = done c (decide c input) in
     settled_by (may_install did.core) did.core (sent did.sends ++ given c did.core) refl
+
+-- where nothing was sent before, the outputs of the first visit are all
+pub first_alone : {A : Type 0} (n : ℕ) (c : Core A) (t : Token) (before after : List (Out A)) → before ≡ [] → after ≡ before ++ sent (visited c t).sends → c ≡ formed n 1 →
+    t ≡ first_token (all_of n).ring → after ≡ sent (visited {A = A} (formed n 1) (first_token (all_of n).ring)).sends
+first_alone {A} n c t before after none gives same first =
+    gives ∙ ap (λ outs. outs ++ sent (visited c t).sends) none ∙ ap (λ (d : Core A). sent (visited d t).sends) same ∙ ap (λ k. sent (visited {A = A} (formed n 1) k).sends) first
+
+pub first_core : {A : Type 0} (n : ℕ) (c d : Core A) (t : Token) → d ≡ (visited c t).core → c ≡ formed n 1 → t ≡ first_token (all_of n).ring →
+    d ≡ (visited (formed n 1) (first_token (all_of n).ring)).core
+first_core {A} n c d t gives same first = gives ∙ ap (λ (e : Core A). (visited e t).core) same ∙ ap (λ k. (visited {A = A} (formed n 1) k).core) first

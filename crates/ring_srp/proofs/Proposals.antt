@@ -46,9 +46,18 @@ may Stopped c h = (let q : false ≡ true = h in cc)
 abbrev proposed_by : {A : Type 0} → Core A → CommitToken
 proposed_by c = proposal c.me (new_number (floor c) c.gathering) (candidates c.gathering) (own_entry c)
 
+-- who proposes is in Gather
+gathers : {A : Type 0} (s : State) (c : Core A) → proposes_in s c ≡ true → s ≡ Gather
+gathers Gather c h = refl
+gathers Commit c h = (let q : false ≡ true = h in cc)
+gathers Recovery c h = (let q : false ≡ true = h in cc)
+gathers Operational c h = (let q : false ≡ true = h in cc)
+gathers Stopped c h = (let q : false ≡ true = h in cc)
+
 -- the token that is due
 pub record IsDue {A : Type 0} (c : Core A) (token : CommitToken) : Type 0 where
   pub proposes : proposes c ≡ true
+  pub state : c.state ≡ Gather
   pub token_is : token ≡ proposal c.me (new_number (floor c) c.gathering) (candidates c.gathering) (own_entry c)
   pub newer : floor c < token.ring.seq
   pub member : IsMember token.members c.me
@@ -59,6 +68,7 @@ due_of c low h =
     let e : smallest (candidates c.gathering) ≡ c.me = is_smallest c.me (floor c) c.gathering (may c.state c h) in
     record {
       proposes = h;
+      state = gathers c.state c h;
       token_is = refl;
       newer = omega arith;
       member = smallest_member (candidates c.gathering) c.me low e;

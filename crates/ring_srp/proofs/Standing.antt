@@ -13,11 +13,12 @@ use Rattle.ring_token.specs.Histories.{TokenHistory}
 use Rattle.ring_join.specs.Gatherers.{Gatherer}
 use Rattle.ring_join.specs.Gathering.{Gathering}
 use Rattle.ring_commit.specs.declared.configuration.Configuration.{Configuration}
-use Rattle.ring_srp.specs.declared.recovering.Recovering.{Recovering}
+use Rattle.ring_parts.specs.declared.recovering.Recovering.{Recovering}
 use Rattle.ring_wire.specs.declared.entries.CommitEntry.{CommitEntry}
-use Rattle.ring_srp.specs.Histories.{with_ring}
+use Rattle.ring_parts.specs.Histories.{with_ring}
 use Rattle.ring_core.specs.State.{Core, Sent}
-use Rattle.ring_srp.specs.Machines.{History, core_of, IsBelow, bound, IsRecovering, IsMachine}
+use Rattle.ring_parts.specs.Histories.{History}
+use Rattle.ring_srp.specs.Machines.{core_of, IsBelow, bound, IsRecovering, IsMachine}
 
 -- Numbers below a bound are below a higher one
 
@@ -83,9 +84,9 @@ module _ {A : Type 0} (me total : ℕ) (s : State) (running installed : Configur
   -- Gather is entered
   pub into_gather : (g' : Gathering) (shown' : Option (Sent A)) (queue' : List (Payload A)) (gather' : Gatherer) (recovery' : Option (Recovering A)) →
       IsMachine (core_of me total s running installed g shown queue held h) gather window visit recovery →
-      gather'.me ≡ me → gather'.floor ≡ running.ring.seq →
+      gather'.me ≡ me → gather'.floor ≡ running.ring.seq → recovery' ≡ None →
       IsMachine (core_of me total Gather running installed g' shown' queue' held h) gather' window visit recovery'
-  into_gather g' shown' queue' gather' recovery' m a b =
+  into_gather g' shown' queue' gather' recovery' m a b none =
       let wide = below_wider (core_of me total s running installed g shown queue held h) (bound s running.ring.seq) (suc running.ring.seq) (bound_short s running.ring.seq) m.below in
       record {
         runs = refl;
@@ -98,14 +99,15 @@ module _ {A : Type 0} (me total : ℕ) (s : State) (running installed : Configur
         apart = λ e. absurd (true≢false (sym e));
         same = λ e. absurd (not_operational e);
         recovering = λ e. absurd (not_recovery e);
+        over = λ e. none;
       }
 
   -- a newer ring is taken part in
   pub into_commit : (running' : Configuration) (shown' : Option (Sent A)) (own : CommitEntry) →
       IsMachine (core_of me total s running installed g shown queue held h) gather window visit recovery →
-      running.ring.seq < running'.ring.seq → IsMember running'.members me →
+      s ≡ Gather → running.ring.seq < running'.ring.seq → IsMember running'.members me →
       IsMachine (core_of me total Commit running' installed g shown' queue held (with_ring h running' own)) gather window visit recovery
-  into_commit running' shown' own m newer member =
+  into_commit running' shown' own m gathers newer member =
       let wide = below_wider (core_of me total s running installed g shown queue held h) (bound s running.ring.seq) running'.ring.seq (omega (arith, bound_short s running.ring.seq, newer)) m.below in
       record {
         runs = refl;
@@ -118,6 +120,7 @@ module _ {A : Type 0} (me total : ℕ) (s : State) (running installed : Configur
         apart = λ e. omega (arith, m.older, newer);
         same = λ e. absurd (commit_not_operational e);
         recovering = λ e. absurd (commit_not_recovery e);
+        over = λ e. m.over (λ q. not_recovery (sym gathers ∙ q));
       }
 
   -- the queue changes
@@ -136,6 +139,7 @@ module _ {A : Type 0} (me total : ℕ) (s : State) (running installed : Configur
         apart = m.apart;
         same = m.same;
         recovering = recovering_on me total s running installed g g shown shown queue queue' held h recovery m.recovering;
+        over = m.over;
       }
 
   -- what Gather goes by changes
@@ -155,4 +159,5 @@ module _ {A : Type 0} (me total : ℕ) (s : State) (running installed : Configur
         apart = m.apart;
         same = m.same;
         recovering = recovering_on me total s running installed g g' shown shown queue queue held h recovery m.recovering;
+        over = m.over;
       }

@@ -13,7 +13,8 @@ use Rattle.ring_join.specs.Gatherers.{Gatherer}
 use Rattle.ring_join.specs.Gathering.{entered}
 use Rattle.ring_commit.specs.declared.configuration.Configuration.{Configuration}
 use Rattle.ring_core.specs.State.{alone, all_of, opening, formed}
-use Rattle.ring_srp.specs.Machines.{History, history_of, core_of, IsMachine, is_forming, is_stopped}
+use Rattle.ring_parts.specs.Histories.{History, history_of}
+use Rattle.ring_srp.specs.Machines.{core_of, IsMachine, is_forming, is_stopped}
 
 -- the lists of facts of a core that opens in this ring
 abbrev first_in : {A : Type 0} → Configuration → History A
@@ -41,6 +42,7 @@ starts_at total me state ring queue opens =
       apart = λ e. absurd (true≢false (sym e ∙ opens.idle));
       same = λ e. refl;
       recovering = λ e. absurd (true≢false (sym (ap is_forming e) ∙ opens.idle));
+      over = λ e. refl;
     }
 
 starts : {A : Type 0} (total me : ℕ) (state : State) (ring : Configuration) (gather : Gatherer) (window : Windowed A) (visit : TokenHistory A)

@@ -1,7 +1,6 @@
 -- A core whose token goes on: what is kept of its rings stands on.
-use Rattle.std.proofs.Common.{◌≡◌, ℕ, suc, ◌+◌, ◌<◌, ◌≤◌, min, max, true, false, List, [], ◌∷◌, map, length, Option, Some, refl, ap, ◌∙◌, sym, subst, ◌⊎◌, inl, inr, arith}
-use Rattle.std.specs.Prelude.{◌==◌}
-use Rattle.std.proofs.lemmas.Bool.{cond-true, cond-false, cases_Bool, true≢false, eq-eqb, eqb-true, and_parts}
+use Rattle.std.proofs.Common.{◌≡◌, ℕ, suc, ◌+◌, ◌<◌, ◌≤◌, max, true, false, List, ◌∷◌, map, length, Option, Some, refl, ap, ◌∙◌, sym, subst, ◌⊎◌, inl, inr, arith}
+use Rattle.std.proofs.lemmas.Bool.{true≢false}
 use Rattle.ring_base.specs.Rings.{same_ring}
 use Rattle.ring_base.specs.Numbers.{greatest}
 use Rattle.ring_base.specs.Processors.{only, next}
@@ -18,7 +17,6 @@ use Rattle.ring_window.proofs.OfRing.{missing_of_ring}
 use Rattle.ring_token.specs.Turns.{Turn, Raise, turns_of, mark_by, forwarded_in, raised_to, safe_mark}
 use Rattle.ring_token.specs.Visits.{requests_after}
 use Rattle.ring_token.specs.Histories.{TokenHistory, turn_by, with_turn, mark_of, last_aru}
-use Rattle.ring_token.proofs.Arus.{aru_step}
 use Rattle.ring_join.specs.Gatherers.{Gatherer}
 use Rattle.ring_join.specs.Gathering.{Gathering}
 use Rattle.ring_commit.specs.declared.configuration.Configuration.{Configuration}
@@ -26,78 +24,17 @@ use Rattle.ring_recover.specs.Plans.{safe}
 use Rattle.ring_core.specs.State.{Core, Sent}
 use Rattle.ring_core.specs.Views.{front, mark, plan}
 use Rattle.ring_core.specs.Giving.{users}
-use Rattle.ring_srp.specs.declared.part.Part.{Part}
-use Rattle.ring_srp.specs.declared.recovering.Recovering.{Recovering}
-use Rattle.ring_srp.specs.Machines.{History, core_of, IsPart, bound, is_forming, is_running, window_of, visits_of, raises_of, Recovers, IsMachine}
+use Rattle.ring_parts.specs.declared.part.Part.{Part}
+use Rattle.ring_parts.specs.declared.recovering.Recovering.{Recovering}
+use Rattle.ring_parts.specs.Histories.{History}
+use Rattle.ring_srp.specs.Machines.{core_of, IsPart, bound, is_forming, is_running, window_of, visits_of, raises_of, Recovers, IsMachine}
 use Rattle.ring_srp.specs.Passing.{passed_on}
-use Rattle.ring_srp.specs.Histories.{with_visit}
-use Rattle.ring_srp.specs.Setting.{turn_in, SetsAside}
-use Rattle.ring_srp.specs.Users.{users_in}
+use Rattle.ring_parts.specs.Histories.{with_visit}
+use Rattle.ring_parts.specs.Setting.{turn_in, SetsAside}
+use Rattle.ring_parts.specs.Users.{users_in}
 use Rattle.ring_srp.proofs.Users.{users_of, front_by, mark_of_part}
 use Rattle.ring_srp.proofs.Parts.{turns_twice, raises_twice}
-
--- The mark of one ring
-
-ring_itself : (a b : RingId) → a ≡ b → same_ring a b ≡ true
-ring_itself a b e =
-    let s : a.seq ≡ b.seq = ap (λ (r : RingId). r.seq) e in
-    let r : a.rep ≡ b.rep = ap (λ (r : RingId). r.rep) e in
-    rw (eq-eqb a.seq b.seq s, eq-eqb a.rep b.rep r) refl
-
--- rings of two numbers are two
-other_ring : (a b : RingId) → a.seq < b.seq → same_ring b a ≡ false
-other_ring a b l = elim (cases_Bool (same_ring b a)) [
-  | inl e ↦ (let q : b.seq ≡ a.seq = eqb-true b.seq a.seq (and_parts (b.seq == a.seq) (b.rep == a.rep) e).0 in absurd (omega arith))
-  | inr e ↦ e
-]
-
-mark_more : {A : Type 0} (v : Turn A) (turns : List (Turn A)) → mark_by (v.went.aru ∷ map (λ (x : Turn A). x.went.aru) turns) ≡ max
-    (min v.went.aru (last_aru turns)) (mark_by (map (λ (x : Turn A). x.went.aru) turns))
-mark_more v [] = omega arith
-mark_more v (w ∷ turns) = refl
-
-turned : {A : Type 0} (v : Turn A) (turns : List (Turn A)) (ring : RingId) → v.came.ring ≡ ring → turns_of ring (v ∷ turns) ≡ v ∷ turns_of ring turns
-turned v turns ring e = cond-true (same_ring v.came.ring ring) (v ∷ turns_of ring turns) (turns_of ring turns) (ring_itself v.came.ring ring e)
-
-unturned : {A : Type 0} (v : Turn A) (turns : List (Turn A)) (ring : RingId) → same_ring v.came.ring ring ≡ false →
-    turns_of ring (v ∷ turns) ≡ turns_of ring turns
-unturned v turns ring e = cond-false (same_ring v.came.ring ring) (v ∷ turns_of ring turns) (turns_of ring turns) e
-
--- a visit more: the lesser of its aru and the last one
-mark_turned : {A : Type 0} (v : Turn A) (turns : List (Turn A)) (raises : List Raise) (ring : RingId) → v.came.ring ≡ ring →
-    safe_mark (v ∷ turns) raises ring ≡ max (min v.went.aru (last_aru (turns_of ring turns))) (safe_mark turns raises ring)
-mark_turned {A} v turns raises ring e =
-    let a : mark_by (forwarded_in ring (v ∷ turns)) ≡ max (min v.went.aru (last_aru (turns_of ring turns))) (mark_by (forwarded_in ring turns)) =
-    ap (λ (vs : List (Turn A)). mark_by (map (λ (x : Turn A). x.went.aru) vs)) (turned v turns ring e) ∙ mark_more v (turns_of ring turns) in
-    regrouped _ _ _ _ a
-  where
-    regrouped : (one p m raised : ℕ) → one ≡ max p m → max one raised ≡ max p (max m raised)
-    regrouped one p m raised a = omega arith
-
-mark_unturned : {A : Type 0} (v : Turn A) (turns : List (Turn A)) (raises : List Raise) (ring : RingId) → same_ring v.came.ring ring ≡ false →
-    safe_mark (v ∷ turns) raises ring ≡ safe_mark turns raises ring
-mark_unturned {A} v turns raises ring e = ap (λ (vs : List (Turn A)). max (mark_by (map (λ (x : Turn A). x.went.aru) vs)) (raised_to ring raises))
-    (unturned v turns ring e)
-
--- so it is no further than what the visit and those before it reached
-pub mark_within : {A : Type 0} (v : Turn A) (turns : List (Turn A)) (raises : List Raise) (ring : RingId) (n : ℕ) → v.came.ring ≡ ring →
-    last_aru (turns_of ring turns) ≤ n → safe_mark turns raises ring ≤ n → safe_mark (v ∷ turns) raises ring ≤ n
-mark_within v turns raises ring n e l m = within _ _ _ _ n (mark_turned v turns raises ring e) l m
-  where
-    within : (one went last before n : ℕ) → one ≡ max (min went last) before → last ≤ n → before ≤ n → one ≤ n
-    within one went last before n e l m = omega arith
-
-mark_risen : {A : Type 0} (v : Turn A) (turns : List (Turn A)) (raises : List Raise) (ring : RingId) → v.came.ring ≡ ring →
-    safe_mark turns raises ring ≤ safe_mark (v ∷ turns) raises ring
-mark_risen v turns raises ring e = omega (arith, mark_turned v turns raises ring e)
-
-led_turned : {A : Type 0} (v : Turn A) (turns : List (Turn A)) (ring : RingId) (n : ℕ) → v.came.ring ≡ ring → v.went.aru ≤ n →
-    last_aru (turns_of ring (v ∷ turns)) ≤ n
-led_turned {A} v turns ring n e l = subst (λ (vs : List (Turn A)). last_aru vs ≤ n) (sym (turned v turns ring e)) l
-
-led_unturned : {A : Type 0} (v : Turn A) (turns : List (Turn A)) (ring : RingId) (n : ℕ) → same_ring v.came.ring ring ≡ false →
-    last_aru (turns_of ring turns) ≤ n → last_aru (turns_of ring (v ∷ turns)) ≤ n
-led_unturned {A} v turns ring n e l = subst (λ (vs : List (Turn A)). last_aru vs ≤ n) (sym (unturned v turns ring e)) l
+use Rattle.ring_parts.proofs.Turns.{other_ring, turned, unturned, mark_unturned, mark_within, mark_risen, led_turned, led_unturned, aru_within}
 
 -- the mark of the visits of one ring is the core's
 mark_of_visits : {A : Type 0} (me : ℕ) (turns : List (Turn A)) (raises : List Raise) (ring : RingId) →
@@ -105,14 +42,6 @@ mark_of_visits : {A : Type 0} (me : ℕ) (turns : List (Turn A)) (raises : List 
 mark_of_visits {A} me turns raises ring =
     ap (λ (vs : List (Turn A)). max (mark_by (map (λ (x : Turn A). x.went.aru) vs)) (raised_to ring (raises_of ring raises))) (turns_twice turns ring)
     ∙ ap (λ (xs : List Raise). max (mark_by (forwarded_in ring turns)) (greatest (map (λ (x : Raise). x.mark) xs))) (raises_twice raises ring)
-
--- What a visit forwards is no further than the front
-pub aru_within : {A : Type 0} (w : Windowed A) (h : TokenHistory A) (t : Token) (stays : List ℕ) (fresh : List (Payload A)) →
-    (turn_in w h t stays fresh).went.aru ≤ front_of w.held w.ring
-aru_within w h t stays fresh = elim (aru_step h.me (front_of w.held w.ring) (t.seq + length fresh) t) [
-  | inl s ↦ omega (arith, s.aru_is)
-  | inr s ↦ omega (arith, s.aru_is, s.below)
-]
 
 -- What is kept of one ring
 
@@ -293,6 +222,7 @@ module _ {A : Type 0} (me total : ℕ) (s : State) (running installed : Configur
         apart = m.apart;
         same = m.same;
         recovering = λ q. recovers_aside (core_of me total s running installed g shown queue held h) r r' (m.recovering q) a;
+        over = λ n. absurd (n e);
       }
 
   -- in Recovery the token went on
@@ -318,6 +248,7 @@ module _ {A : Type 0} (me total : ℕ) (s : State) (running installed : Configur
         apart = m.apart;
         same = m.same;
         recovering = λ q. recovers_turned c r r' v shown' (m.recovering q) newer e l all n;
+        over = λ n. absurd (n s_is);
       }
 
   -- in Operational what is kept is of the running ring
@@ -349,6 +280,7 @@ module _ {A : Type 0} (me total : ℕ) (s : State) (running installed : Configur
         apart = m.apart;
         same = m.same;
         recovering = λ q. absurd (recovery_no_operational s q s_is);
+        over = m.over;
       }
 
   -- the core that it leaves

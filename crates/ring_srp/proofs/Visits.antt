@@ -36,7 +36,7 @@ use Rattle.ring_core.specs.Giving.{addressed, sent}
 use Rattle.ring_core.specs.State.{Core, Sent}
 use Rattle.ring_core.specs.Views.{front, mark, takes_number, plan}
 use Rattle.ring_core.specs.Visiting.{accepts, repeated, room_at, offers, new_payloads, new_messages, queue_after, to_others, to_next, forwarded, visited}
-use Rattle.ring_srp.specs.declared.recovering.Recovering.{Recovering}
+use Rattle.ring_parts.specs.declared.recovering.Recovering.{Recovering}
 use Rattle.ring_srp.specs.Machines.{IsPart, IsMachine, IsRecovering, visits_of, raises_of, is_running, ring_in_use}
 use Rattle.ring_srp.specs.Passing.{went, passed_on}
 use Rattle.ring_srp.specs.Sending.{news, holding}

@@ -1,27 +1,11 @@
 -- What an installation gives, part by part.
-use Rattle.std.specs.Prelude.{ℕ, List, [], ◌∷◌, ◌++◌, map, filter, filter_map}
-use Rattle.ring_base.specs.declared.ring_id.RingId.{RingId}
-use Rattle.ring_payload.specs.Kinds.{is_user}
-use Rattle.ring_wire.specs.declared.message.Message.{Message}
-use Rattle.ring_window.specs.Windows.{Windowed, kept}
+use Rattle.std.specs.Prelude.{List, [], ◌∷◌, ◌++◌, map}
 use Rattle.ring_recover.specs.Deliveries.{rests}
 use Rattle.ring_core.specs.declared.out.Out.{Out}
-use Rattle.ring_core.specs.declared.out.Out.TheVariants.{Agreed, Trans, Rest, Regular}
+use Rattle.ring_core.specs.declared.out.Out.TheVariants.{Trans, Rest, Regular}
 use Rattle.ring_core.specs.State.{Core}
 use Rattle.ring_core.specs.Views.{plan}
 use Rattle.ring_core.specs.Giving.{configured}
-
--- messages of a ring are agreed
-abbrev pub all_agreed : {A : Type 0} → RingId → List (Message A) → List (Out A)
-all_agreed ring xs = map (λ (x : Message _). Agreed ring x.number x) xs
-
--- what a message gives in the transitional configuration
-abbrev pub rest_one : {A : Type 0} → Message A → List (Out A)
-rest_one x = map (λ (y : Message _). Rest y.ring y.number y) (filter (λ (y : Message _). is_user y.payload) (x ∷ []))
-
--- and what the messages of these numbers give, which the window still has
-abbrev pub rest_of : {A : Type 0} → Windowed A → List ℕ → List (Out A)
-rest_of w ns = map (λ (x : Message _). Rest x.ring x.number x) (filter (λ (x : Message _). is_user x.payload) (filter_map (kept w) ns))
 
 -- all of it
 unfoldable pub given_all : {A : Type 0} → Core A → List (Out A)

@@ -1,14 +1,9 @@
 pub mod Acts
 pub mod Machines
 pub mod Allowing
-pub mod Histories
 pub mod Proposing
 pub mod Passing
 pub mod Ended
-pub mod Users
-pub mod Setting
 pub mod Learns
-pub mod Taking
-pub mod Wraps
 pub mod Installs
 pub mod Sending

@@ -7,7 +7,6 @@ use Rattle.ring_base.specs.declared.ring_id.RingId.{RingId}
 use Rattle.ring_base.specs.declared.state.State.{State}
 use Rattle.ring_base.specs.declared.state.State.TheVariants.{Gather, Commit, Recovery, Operational, Stopped}
 use Rattle.ring_payload.specs.declared.content.Payload.{Payload}
-use Rattle.ring_wire.specs.declared.commit.CommitToken.{CommitToken}
 use Rattle.ring_wire.specs.declared.message.Message.{Message}
 use Rattle.ring_window.specs.Held.{of_ring, highest}
 use Rattle.ring_window.specs.Windows.{Windowed}
@@ -18,22 +17,11 @@ use Rattle.ring_recover.specs.Plans.{safe}
 use Rattle.ring_join.specs.Gatherers.{Gatherer}
 use Rattle.ring_join.specs.Gathering.{Gathering}
 use Rattle.ring_commit.specs.declared.configuration.Configuration.{Configuration}
-use Rattle.ring_srp.specs.declared.recovering.Recovering.{Recovering}
-use Rattle.ring_core.specs.State.{Core, Sent, Report, floor}
+use Rattle.ring_parts.specs.declared.recovering.Recovering.{Recovering}
+use Rattle.ring_core.specs.State.{Core, Sent, floor}
 use Rattle.ring_core.specs.Views.{front, mark, plan}
 use Rattle.ring_core.specs.Giving.{users}
-
--- what only contracts know: the lists of facts of a core, but for the messages held
-pub record History (A : Type 0) : Type 0 where
-  pub rings : List Configuration
-  pub installs : List Configuration
-  pub turns : List (Turn A)
-  pub raises : List Raise
-  pub reports : List Report
-  pub plans : List CommitToken
-
-abbrev pub history_of : {A : Type 0} → Core A → History A
-history_of c = record { rings = c.rings; installs = c.installs; turns = c.turns; raises = c.raises; reports = c.reports; plans = c.plans }
+use Rattle.ring_parts.specs.Histories.{History}
 
 -- the core, of what the code keeps and of its history
 abbrev pub core_of : {A : Type 0} → ℕ → ℕ → State → Configuration → Configuration → Gathering → Option (Sent A) → List (Payload A) → List (Message A) → History A → Core A
@@ -152,4 +140,6 @@ pub record IsMachine {A : Type 0} (c : Core A) (gather : Gatherer) (window : Win
   pub older : c.installed.ring.seq ≤ floor c
   pub apart : is_forming c.state ≡ true → c.installed.ring.seq < floor c
   pub same : c.state ≡ Operational → c.installed ≡ c.running
+  -- in Recovery there is what it goes by then, and in no other state
   pub recovering : c.state ≡ Recovery → IsRecovering c recovery
+  pub over : (c.state ≡ Recovery → ⊥) → recovery ≡ None

@@ -1,10 +1,10 @@
 //! What an input comes to: the tests.
 
-ghost use Rattle.std.specs.Prelude.{◌≡◌, ◌&&◌, [], true, None};
+ghost use Rattle.std.specs.Prelude.{◌≡◌, ◌&&◌, true, None};
 ghost use Rattle.ring_payload.specs.Packing.{is_queued};
 ghost use Rattle.ring_token.specs.Turns.{first_token};
 ghost use Rattle.ring_srp.specs.Acts.{act_of};
-ghost use Rattle.ring_core.specs.Deciding.{decide, decide_frame, decide_message, decide_token, decide_join, decide_commit, decide_round, decide_time, decide_payload, decide_user, heard_in_gather, heard_elsewhere, overhear, is_taken};
+ghost use Rattle.ring_core.specs.Deciding.{decide, decide_frame, decide_token, decide_join, decide_commit, decide_round, decide_time, decide_payload, decide_user, heard_in_gather, heard_elsewhere, overhear, is_taken};
 ghost use Rattle.ring_core.specs.Joining.{disturbs};
 ghost use Rattle.ring_core.specs.Handing.{takes_first_round, takes_second_round, takes_start};
 ghost use Rattle.ring_srp.specs.Machines.{is_running, ring_in_use};

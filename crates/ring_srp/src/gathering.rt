@@ -10,10 +10,10 @@ ghost use Rattle.ring_core.specs.Giving.{sent};
 ghost use Rattle.ring_core.specs.Joining.{first_procs, regathered, with_gathering, announced, invited};
 
 use crate::machine::Machine;
-use crate::sent::{send, send_copy};
 use ring_base::{Fault, ProcSet, State};
 use ring_core::Out;
 use ring_join::Gather;
+use ring_parts::{send, send_copy};
 use ring_wire::{Frame, Join};
 use std::alloc::Allocator;
 use std::collections::VecDeque;

@@ -2,17 +2,13 @@
 
 ghost use Rattle.std.specs.Prelude.{◌≡◌, ◌++◌, ◌≤◌, IfErr, OnOk};
 ghost use Rattle.ring_base.specs.declared.fault.Fault.TheVariants.{Memory};
-ghost use Rattle.ring_window.specs.Held.{front_of};
 ghost use Rattle.ring_core.specs.Giving.{delivered_from};
 ghost use Rattle.ring_core.specs.Views.{front, mark};
-ghost use Rattle.ring_srp.specs.Users.{agreed_in, agreed_of, safe_to};
 
 use crate::machine::Machine;
 use ring_base::{Fault, RingId};
 use ring_core::Out;
-use ring_recover::is_user;
-use ring_window::Window;
-use ring_wire::Message;
+use ring_parts::{give_agreed, give_safe};
 use std::alloc::Allocator;
 
 /// How far a ring was as a step began: its front, and its safe mark.
@@ -46,58 +42,21 @@ impl<A: Allocator + Copy> Machine<A> {
         ensures ok { OnOk result (outs.new.items ≡ outs.old.items ++ delivered_from self.now before.ring before.front before.mark) }
         ensures refused { IfErr result (λ fault. fault ≡ Memory) }
     {
+        self.make_room(before.front, before.mark, outs)?;
         let window = &self.kept.window;
         give_agreed(window, before.front, outs)?;
         give_safe(window.ring(), before.mark, window.mark(), outs)
     }
-}
 
-/// Gives the users' messages after a number that the front covers, ascending. None of them is forgotten yet.
-pub(crate) fn give_agreed<A: Allocator + Copy>(
-    window: &Window<A>,
-    below: u64,
-    outs: &mut Vec<Out<A>, A>,
-) -> Result<(), Fault>
-    requires { window.now.mark ≤ below }
-    ensures ok { OnOk result (outs.new.items ≡ outs.old.items ++ agreed_in window.now below (front_of window.now.held window.now.ring)) }
-    ensures refused { IfErr result (λ fault. fault ≡ Memory) }
-{
-    for before in below..window.front() {
-        if let Some(message) = window.get(before + 1) {
-            give_message(window.ring(), message, outs)?;
-        }
+    /// Room for all that may be given past a front and a mark: what the front newly covers, and the safe mark if it rose.
+    fn make_room(&self, front: u64, mark: u64, outs: &mut Vec<Out<A>, A>) -> Result<(), Fault>
+        ensures kept { outs.new.items ≡ outs.old.items }
+        ensures refused { IfErr result (λ fault. fault ≡ Memory) }
+    {
+        let window = &self.kept.window;
+        let covered = window.front().saturating_sub(front) as usize;
+        let marks = usize::from(mark < window.mark());
+        outs.reserve(covered.saturating_add(marks))?;
+        Ok(())
     }
-    Ok(())
-}
-
-/// Gives a message of a ring, if it is a user's.
-fn give_message<A: Allocator + Copy>(
-    ring: RingId,
-    message: &Message<A>,
-    outs: &mut Vec<Out<A>, A>,
-) -> Result<(), Fault>
-    ensures ok { OnOk result (outs.new.items ≡ outs.old.items ++ agreed_of ring message.now) }
-    ensures refused { IfErr result (λ fault. fault ≡ Memory) }
-{
-    if is_user(&message.payload) {
-        let copy = message.clone()?;
-        outs.push(Out::Agreed(ring, message.number, copy))?;
-    }
-    Ok(())
-}
-
-/// Gives the safe mark of a ring, if it rose.
-pub(crate) fn give_safe<A: Allocator + Copy>(
-    ring: RingId,
-    before: u64,
-    mark: u64,
-    outs: &mut Vec<Out<A>, A>,
-) -> Result<(), Fault>
-    ensures ok { OnOk result (outs.new.items ≡ outs.old.items ++ safe_to ring before mark) }
-    ensures refused { IfErr result (λ fault. fault ≡ Memory) }
-{
-    if before < mark {
-        outs.push(Out::Safe(ring, mark))?;
-    }
-    Ok(())
 }

@@ -1,6 +1,6 @@
 //! A ring is taken part in: a commit token is proposed, filled in, and handed on.
 
-ghost use Rattle.std.specs.Prelude.{◌≡◌, ◌==◌, true, [], ◌∷◌, ◌++◌, ◌<◌, Some, IfErr, OnOk};
+ghost use Rattle.std.specs.Prelude.{◌≡◌, ◌==◌, ◌∷◌, ◌++◌, ◌<◌, Some, IfErr, OnOk};
 ghost use Rattle.ring_base.specs.Processors.{IsMember, size, smallest};
 ghost use Rattle.ring_base.specs.declared.fault.Fault.TheVariants.{Memory};
 ghost use Rattle.ring_base.specs.declared.state.State.TheVariants.{Gather as InGather, Commit as InCommit};
@@ -14,12 +14,11 @@ ghost use Rattle.ring_core.specs.Views.{own_entry};
 ghost use Rattle.ring_join.specs.Gathering.{candidates, may_propose};
 ghost use Rattle.ring_srp.specs.Allowing.{FillAllowed};
 
-use crate::history::with_ring;
 use crate::machine::Machine;
-use crate::sent::{Sent, send_copy};
 use ring_base::{Fault, MAX, ProcSet, RingId, State};
-use ring_commit::{Configuration, Outcome, fill, propose, receiver};
+use ring_commit::{Outcome, fill, propose, receiver};
 use ring_core::Out;
+use ring_parts::{Sent, send_copy, with_ring};
 use ring_wire::{CommitBox, CommitToken, Frame};
 use std::alloc::Allocator;
 
@@ -30,6 +29,7 @@ impl<A: Allocator + Copy> Machine<A> {
         ensures outs { OnOk result (outs.new.items ≡ outs.old.items ++ sent (proposed_after (proposes self.old) (silently self.old)).sends) }
         ensures refused { IfErr result (λ fault. fault ≡ Memory) }
     {
+        // Read, so that what always holds of a machine is known here: `me` is a processor of the run.
         let _me = &self.me;
         match self.due() {
             Some(token) => self.join(token, outs),
@@ -104,6 +104,7 @@ impl<A: Allocator + Copy> Machine<A> {
 
     /// Takes part in the ring of a commit token, which goes on.
     fn join(&mut self, token: CommitToken, outs: &mut Vec<Out<A>, A>) -> Result<(), Fault>
+        requires state { self.old.state ≡ InGather }
         requires newer { floor self.old < token.ring.seq }
         requires member { IsMember token.members self.old.me }
         requires some { 0 < size token.members }
@@ -121,6 +122,7 @@ impl<A: Allocator + Copy> Machine<A> {
 
     /// Takes part in a ring from now on: the own report was written, and this was sent.
     fn take_part(&mut self, ring: RingId, members: ProcSet, to: ProcSet, frame: Frame<A>)
+        requires state { self.old.state ≡ InGather }
         requires newer { floor self.old < ring.seq }
         requires member { IsMember members self.old.me }
         ensures { self.new ≡ record self.old { state = InCommit; running = record { ring = ring; members = members }; shown = Some (record { to = to; frame = frame }); rings = record { ring = ring; members = members } ∷ self.old.rings; reports = record { ring = ring; entry = own_entry self.old } ∷ self.old.reports } }

@@ -1,22 +1,15 @@
 //! Messages are held, and what they wrap.
 
-ghost use Rattle.std.specs.Prelude.{◌≡◌, ◌≤◌, ◌∷◌, true, length, IfErr, OnOk, OnErr};
-ghost use Rattle.ring_base.specs.Fronts.{IsFront};
+ghost use Rattle.std.specs.Prelude.{◌≡◌, ◌∷◌, true, IfErr, OnOk};
 ghost use Rattle.ring_base.specs.declared.fault.Fault.TheVariants.{Memory};
-ghost use Rattle.ring_window.specs.Windows.{taken};
 ghost use Rattle.ring_core.specs.Acting.{took};
 ghost use Rattle.ring_core.specs.Deciding.{is_taken};
 ghost use Rattle.ring_core.specs.Views.{takes_number};
 ghost use Rattle.ring_srp.specs.Machines.{ring_in_use};
-ghost use Rattle.ring_srp.specs.Taking.{window_front, with_taken, with_inner};
 
-use crate::history::{one_first, told_both};
 use crate::machine::Machine;
-use crate::recovering::Recovering;
 use ring_base::{Fault, State};
-use ring_payload::Payload;
-use ring_recover::unwrap;
-use ring_window::Window;
+use ring_parts::{one_first, told_both, unwrap_into};
 use ring_wire::Message;
 use std::alloc::Allocator;
 
@@ -57,41 +50,5 @@ impl<A: Allocator + Copy> Machine<A> {
                 self.kept.window.take(message);
             }
         }
-    }
-}
-
-impl<A: Allocator + Copy> Recovering<A> {
-    /// A message of the running ring is held: the plan sees what it wraps, and what the front newly covers is counted.
-    fn take(&mut self, message: Message<A>)
-        requires front { IsFront self.old.ends (window_front (taken self.old.part.window message)) }
-        requires mark { (taken self.old.part.window message).mark ≤ length self.old.ends }
-        ensures { self.new ≡ with_taken self.old message }
-    {
-        self.plan.see(&message);
-        self.part.window.take(message);
-        self.ends.follow(&self.part.window);
-    }
-}
-
-/// What a payload wraps goes to the old ring's window, if it is new there.
-fn unwrap_into<A: Allocator + Copy>(
-    payload: &Payload<A>,
-    window: &mut Window<A>,
-) -> Result<(), Fault>
-    ensures ok { OnOk result (window.new ≡ with_inner window.old payload.now) }
-    ensures refused { IfErr result (λ fault. fault ≡ Memory) }
-    ensures kept { OnErr result (window.new ≡ window.old) }
-{
-    match payload {
-        Payload::Wrapped(wrapped) => {
-            unwrap(wrapped, window)?;
-            Ok(())
-        }
-        Payload::Call(_)
-        | Payload::End
-        | Payload::Head(_)
-        | Payload::Part(_)
-        | Payload::Pack(_)
-        | Payload::Snap(_) => Ok(()),
     }
 }

@@ -1,20 +1,18 @@
 //! The running ring is installed.
 
-ghost use Rattle.std.specs.Prelude.{◌≡◌, ◌≤◌, true, if◌then◌else◌, [], ◌∷◌, ◌++◌, Some, None, IfErr, OnOk};
+ghost use Rattle.std.specs.Prelude.{◌≡◌, ◌≤◌, true, if◌then◌else◌, [], ◌++◌, Some, None, IfErr, OnOk};
 ghost use Rattle.ring_base.specs.declared.fault.Fault.TheVariants.{Memory};
 ghost use Rattle.ring_recover.specs.Deliveries.{delivery as whole_delivery};
-ghost use Rattle.ring_core.specs.declared.out.Out.TheVariants.{Agreed};
 ghost use Rattle.ring_core.specs.Giving.{may_install, install, settle, users};
 ghost use Rattle.ring_core.specs.Views.{front, mark, plan};
-ghost use Rattle.ring_srp.specs.Installs.{given_first, given_all, rest_one, rest_of, all_agreed};
+ghost use Rattle.ring_srp.specs.Installs.{given_first, given_all};
 
 use crate::giving::Reached;
-use crate::history::with_install;
 use crate::machine::Machine;
-use ring_base::{Fault, RingId, State};
+use ring_base::{Fault, State};
 use ring_core::Out;
-use ring_recover::{Delivery, Numbers, is_user};
-use ring_window::Window;
+use ring_parts::{give_aside, give_rest, with_install};
+use ring_recover::Delivery;
 use ring_wire::Message;
 use std::alloc::{Allocator, Global};
 
@@ -63,6 +61,7 @@ impl<A: Allocator + Copy> Machine<A> {
         ensures outs { OnOk result (outs.new.items ≡ outs.old.items ++ given_all self.old) }
         ensures refused { IfErr result (λ fault. fault ≡ Memory) }
     {
+        self.make_room_to_install(outs)?;
         self.give_change(delivery, outs)?;
         let aside = self.settle();
         let ring = self.installed.ring;
@@ -73,6 +72,26 @@ impl<A: Allocator + Copy> Machine<A> {
         };
         give_aside(&ring, aside.messages, outs)?;
         self.give(before, outs)
+    }
+
+    /// Room for all that an installation may give: the two configurations, what the old ring's window holds, what stands
+    /// aside of the running ring, what its front covers behind that, and its safe mark.
+    fn make_room_to_install(&self, outs: &mut Vec<Out<A>, A>) -> Result<(), Fault>
+        ensures kept { outs.new.items ≡ outs.old.items }
+        ensures refused { IfErr result (λ fault. fault ≡ Memory) }
+    {
+        if let Some(recovering) = &self.recovery {
+            let window = &self.kept.window;
+            let rest = window.highest().saturating_sub(window.mark()) as usize;
+            let behind = recovering
+                .part
+                .window
+                .front()
+                .saturating_sub(recovering.most) as usize;
+            let room = rest.saturating_add(recovering.aside.len());
+            outs.reserve(room.saturating_add(behind).saturating_add(3))?;
+        }
+        Ok(())
     }
 
     /// The transitional configuration with the rest of the old ring, and the regular one.
@@ -109,71 +128,4 @@ impl<A: Allocator + Copy> Machine<A> {
             messages: recovering.aside,
         }
     }
-}
-
-/// In the transitional configuration the users' messages of these numbers, which the window still has.
-fn give_rest<A: Allocator + Copy>(
-    window: &Window<A>,
-    numbers: &Numbers,
-    outs: &mut Vec<Out<A>, A>,
-) -> Result<(), Fault>
-    ensures ok { OnOk result (outs.new.items ≡ outs.old.items ++ rest_of window.now numbers.now) }
-    ensures refused { IfErr result (λ fault. fault ≡ Memory) }
-{
-    for number in numbers.iter() {
-        give_number(window, number, outs)?;
-    }
-    Ok(())
-}
-
-/// In the transitional configuration the message of a number, where the window still has it and it is a user's.
-fn give_number<A: Allocator + Copy>(
-    window: &Window<A>,
-    number: u64,
-    outs: &mut Vec<Out<A>, A>,
-) -> Result<(), Fault>
-    ensures ok { OnOk result (outs.new.items ≡ outs.old.items ++ rest_of window.now (number ∷ [])) }
-    ensures refused { IfErr result (λ fault. fault ≡ Memory) }
-{
-    match window.get(number) {
-        Some(message) => give_if_users(message, outs),
-        None => Ok(()),
-    }
-}
-
-/// In the transitional configuration a message, where it is a user's.
-fn give_if_users<A: Allocator + Copy>(
-    message: &Message<A>,
-    outs: &mut Vec<Out<A>, A>,
-) -> Result<(), Fault>
-    ensures ok { OnOk result (outs.new.items ≡ outs.old.items ++ rest_one message.now) }
-    ensures refused { IfErr result (λ fault. fault ≡ Memory) }
-{
-    if is_user(&message.payload) {
-        outs.push(Out::Rest(message.ring, message.number, message.clone()?))?;
-    }
-    Ok(())
-}
-
-/// Messages that stood aside are agreed.
-fn give_aside<A: Allocator + Copy>(
-    ring: &RingId,
-    messages: Vec<Message<A>, A>,
-    outs: &mut Vec<Out<A>, A>,
-) -> Result<(), Fault>
-    ensures ok { OnOk result (outs.new.items ≡ outs.old.items ++ all_agreed ring.now messages.items) }
-    ensures refused { IfErr result (λ fault. fault ≡ Memory) }
-{
-    for message in messages {
-        outs.push(agreed(*ring, message))?;
-    }
-    Ok(())
-}
-
-/// A message of a ring is agreed.
-fn agreed<A: Allocator + Copy>(ring: RingId, message: Message<A>) -> Out<A>
-    ensures { result ≡ Agreed ring message.number message }
-{
-    let number = message.number;
-    Out::Agreed(ring, number, message)
 }

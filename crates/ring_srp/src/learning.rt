@@ -9,14 +9,11 @@ ghost use Rattle.ring_core.specs.Handing.{learned};
 ghost use Rattle.ring_srp.specs.Allowing.{LearnAllowed};
 ghost use Rattle.ring_srp.specs.Learns.{plan_at, recovering_by};
 
-use crate::history::with_plan;
 use crate::machine::Machine;
-use crate::part::Part;
-use crate::recovering::Recovering;
-use crate::sent::{Sent, send_copy};
 use ring_base::{Fault, ProcSet, State};
 use ring_commit::receiver;
 use ring_core::Out;
+use ring_parts::{Part, Recovering, Sent, send_copy, with_plan};
 use ring_recover::{Ends, Plan};
 use ring_token::Visit;
 use ring_window::Window;

@@ -1,17 +1,14 @@
 //! A ring core that runs.
 
-ghost use Rattle.std.specs.Prelude.{◌≡◌, ◌≤◌, true, [], IfOk, IfErr};
+ghost use Rattle.std.specs.Prelude.{◌≡◌, ◌≤◌, true, IfOk, IfErr};
 ghost use Rattle.ring_base.specs.Processors.{IsMember};
 ghost use Rattle.ring_base.specs.declared.fault.Fault.TheVariants.{Memory};
 ghost use Rattle.ring_core.specs.State.{all_of, alone, formed, opening};
 
-use crate::history::{Story, formed_of, none, opened};
-use crate::part::Part;
-use crate::recovering::Recovering;
-use crate::sent::Sent;
 use ring_base::{Fault, Fixed, Past, Proc, ProcSet, RingId, State};
 use ring_commit::Configuration;
 use ring_join::Gather;
+use ring_parts::{Part, Recovering, Sent, Story, formed_of, none, opened};
 use ring_payload::Payload;
 use ring_wire::{CommitEntry, Message};
 use std::alloc::{Allocator, Global};
@@ -149,7 +146,7 @@ fn alone(me: Proc) -> Configuration
 }
 
 /// The ring (1, 1) of all processors of the run.
-fn all_of(fixed: Fixed) -> Configuration
+pub(crate) fn all_of(fixed: Fixed) -> Configuration
     ensures { result ≡ all_of fixed.count }
 {
     Configuration {

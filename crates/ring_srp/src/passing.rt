@@ -1,31 +1,21 @@
 //! The end of a visit: the token goes on, and the visit is a fact.
 
-ghost use Rattle.std.specs.Prelude.{◌≡◌, ◌≤◌, ◌<◌, ◌+◌, ◌++◌, ◌∷◌, [], true, List, length, Some, IfErr, OnOk};
+ghost use Rattle.std.specs.Prelude.{◌≡◌, ◌≤◌, ◌<◌, ◌+◌, ◌++◌, ◌∷◌, [], true, length, Some, IfErr, OnOk};
 ghost use Rattle.std.specs.List.Sorted.{IsStrictlyIncreasing};
 ghost use Rattle.ring_base.specs.Numbers.{max_number};
 ghost use Rattle.ring_base.specs.declared.fault.Fault.TheVariants.{Memory};
 ghost use Rattle.ring_base.specs.declared.state.State.TheVariants.{Recovery as InRecovery, Operational as InOperational};
-ghost use Rattle.ring_payload.specs.declared.content.Payload.{Payload as OnePayload};
 ghost use Rattle.ring_wire.specs.declared.frame.Frame.TheVariants.{Token as TokenFrame};
-ghost use Rattle.ring_window.specs.Held.{front_of};
-ghost use Rattle.ring_window.specs.Windows.{forgotten};
-ghost use Rattle.ring_token.specs.Turns.{turns_of};
-ghost use Rattle.ring_token.specs.Visits.{token_after};
-ghost use Rattle.ring_token.specs.Histories.{turn_by, with_turn, mark_of, last_aru};
 ghost use Rattle.ring_core.specs.Giving.{sent};
 ghost use Rattle.ring_core.specs.Visiting.{to_next};
 ghost use Rattle.ring_srp.specs.Machines.{is_running};
 ghost use Rattle.ring_srp.specs.Passing.{went, passed_on};
-ghost use Rattle.ring_srp.specs.Setting.{turn_in};
 
-use crate::history::with_visit;
 use crate::machine::Machine;
-use crate::part::Part;
-use crate::sent::Sent;
 use ring_base::{Fault, Past, ProcSet, State};
 use ring_core::Out;
+use ring_parts::{Sent, with_visit};
 use ring_payload::Payload;
-use ring_token::{Visit, requests_after};
 use ring_wire::{Frame, Requests, Token};
 use std::alloc::Allocator;
 
@@ -130,35 +120,6 @@ impl<A: Allocator + Copy> Machine<A> {
     }
 }
 
-impl<A: Allocator + Copy> Part<A> {
-    /// The token is visited, and the window may forget what is safe by now. Answers the token as it goes on.
-    fn pass(
-        &mut self,
-        token: Token,
-        stays: &Requests,
-        count: u64,
-        fresh: &Past<[Payload<A>; 0]>,
-    ) -> Token
-        requires ring { token.ring ≡ self.old.visit.ring }
-        requires number { token.number < max_number }
-        requires seq { token.seq + count ≤ max_number }
-        requires count { length fresh.now.value ≡ count }
-        requires stays { IsStrictlyIncreasing stays.now }
-        requires reached { mark_of self.old.visit ≤ front_of self.old.window.held self.old.window.ring }
-        requires led { last_aru (turns_of self.old.visit.ring self.old.visit.turns) ≤ front_of self.old.window.held self.old.window.ring }
-        ensures token { result ≡ (turn_in self.old.window self.old.visit token stays.now fresh.now.value).went }
-        ensures visit { self.new.visit ≡ with_turn self.old.visit (turn_in self.old.window self.old.visit token stays.now fresh.now.value) }
-        ensures window { self.new.window ≡ forgotten self.old.window (mark_of self.new.visit) }
-    {
-        let missing = self.window.missing(token.seq + count);
-        let requests = requests_after(stays, &missing);
-        let front = self.window.front();
-        let token = visit_as(&mut self.visit, token, front, count, requests, fresh);
-        self.window.forget(self.visit.safe());
-        token
-    }
-}
-
 /// A token is the last that was sent.
 fn show<A: Allocator + Copy>(shown: &mut Option<Sent<A>>, to: ProcSet, token: Token)
     ensures { shown.new ≡ Some (record { to = to; frame = TokenFrame token }) }
@@ -167,27 +128,4 @@ fn show<A: Allocator + Copy>(shown: &mut Option<Sent<A>>, to: ProcSet, token: To
         to,
         frame: Frame::Token(token),
     });
-}
-
-/// A visit whose new messages carry these payloads: `fresh` alone tells a caller's pick of the ghost list of `Visit::visit`,
-/// since a pick is made of a call's own arguments.
-fn visit_as<A: Allocator + Copy>(
-    visit: &mut Visit<A>,
-    token: Token,
-    front: u64,
-    count: u64,
-    requests: Requests,
-    fresh: &Past<[Payload<A>; 0]>,
-) -> Token
-    ghost payloads: { List (OnePayload A) }
-    requires fresh { payloads ≡ fresh.now.value }
-    requires ring { token.ring ≡ visit.old.ring }
-    requires number { token.number < max_number }
-    requires seq { token.seq + count ≤ max_number }
-    requires count { length payloads ≡ count }
-    ensures token { result ≡ token_after visit.old.me front count requests token }
-    ensures visit { visit.new ≡ with_turn visit.old (turn_by visit.old.me front payloads requests token) }
-{
-    let _ = fresh;
-    visit.visit(token, front, count, requests)
 }

@@ -2,13 +2,17 @@
 
 ghost use Rattle.std.specs.Prelude.{◌≡◌, ◌≤◌, false, [], if◌then◌else◌, IfOk, IfErr, OnOk, OnErr};
 ghost use Rattle.ring_base.specs.declared.fault.Fault.TheVariants.{Memory, Stopped as StoppedFault};
-ghost use Rattle.ring_core.specs.State.{opening, formed, halted};
+ghost use Rattle.ring_core.specs.Giving.{sent};
+ghost use Rattle.ring_core.specs.State.{all_of, opening, formed, halted};
 ghost use Rattle.ring_core.specs.Stepping.{ring_step};
+ghost use Rattle.ring_core.specs.Visiting.{visited};
 ghost use Rattle.ring_core.specs.declared.input.Input.TheVariants.{Send as SendInput};
 ghost use Rattle.ring_srp.specs.Allowing.{InputFits};
 ghost use Rattle.ring_srp.specs.Machines.{is_stopped};
+ghost use Rattle.ring_token.specs.Turns.{first_token};
 
-use crate::machine::Machine;
+use crate::deciding::first_token;
+use crate::machine::{Machine, all_of};
 use ring_base::{Fault, Fixed, Past, Proc, RingId, State, past_of};
 use ring_commit::Configuration;
 use ring_core::{Input, Out};
@@ -72,7 +76,29 @@ impl<A: Allocator + Copy> Srp<A> {
         })
     }
 
-    /// One step. `Stopped` once stopped. `Memory` where a growth was refused: then the core has stopped for good, and
+    /// Processor 1 of the run, in the ring (1, 1) of all processors, once it has visited the first token as its representative;
+    /// and what it sent: the token, as it goes to the next member. No other call takes that token, whose number is 0. `Memory`
+    /// where a growth was refused.
+    pub fn started(alloc: A, fixed: Fixed) -> Result<(Srp<A>, Vec<Out<A>, A>), Fault>
+        ensures core { IfOk result (λ started. started.0 ≡ (visited (formed fixed.count 1) (first_token (all_of fixed.count).ring)).core) }
+        ensures outs { IfOk result (λ started. started.1.items ≡ sent (visited (formed fixed.count 1) (first_token (all_of fixed.count).ring)).sends) }
+        ensures refused { IfErr result (λ fault. fault ≡ Memory) }
+    {
+        let mut machine = Machine::formed(alloc, fixed, Proc::new(1))?;
+        let mut outs = Vec::new(alloc);
+        let token = first_token(all_of(fixed).ring);
+        machine.visit(token, &mut outs)?;
+        let last = machine.installed;
+        let before = seen(&machine);
+        let srp = Srp {
+            machine: Some(machine),
+            last,
+            before,
+        };
+        Ok((srp, outs))
+    }
+
+    /// One step, of an input whose frame keeps its limits, as a decoded one does. `Stopped` once stopped. `Memory` where a growth was refused: then the core has stopped for good, and
     /// none of the step's outputs is given.
     pub fn step(&mut self, input: Input<A>) -> Result<Vec<Out<A>, A>, Fault>
         requires fits { InputFits input }

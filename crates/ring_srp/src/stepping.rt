@@ -1,6 +1,6 @@
 //! One step: what an input comes to is done, a ring may be proposed, and what follows is given.
 
-ghost use Rattle.std.specs.Prelude.{◌≡◌, ◌++◌, ◌∷◌, [], false, IfOk, IfErr, OnOk, OnErr};
+ghost use Rattle.std.specs.Prelude.{◌≡◌, ◌≤◌, ◌++◌, ◌∷◌, [], false, IfOk, IfErr, OnOk, OnErr};
 ghost use Rattle.ring_base.specs.declared.fault.Fault.TheVariants.{Memory};
 ghost use Rattle.ring_core.specs.Acting.{act, may_follow, done};
 ghost use Rattle.ring_core.specs.Giving.{sent, may_install};
@@ -29,11 +29,32 @@ impl<A: Allocator + Copy> Machine<A> {
     {
         let before = self.reached();
         let what = self.decide(input);
-        let mut outs = Vec::new(self.alloc);
+        let mut outs = Vec::with_capacity(self.alloc, self.room_for(&what))?;
         self.carry_out(what, &mut outs)?;
         self.give(before, &mut outs)?;
         self.install_if_due(&mut outs)?;
         Ok(outs)
+    }
+
+    /// For how many outputs an act needs room that is told beforehand. A visit sends again what was asked for, then its new
+    /// messages and the token; the new messages may be agreed at once, and the safe mark may rise.
+    fn room_for(&self, what: &Act<A>) -> usize
+        ensures { result ≤ 50 }
+    {
+        match what {
+            Act::Visit(token) => token.requests.as_slice().len() + 2 * self.most_new() + 2,
+            _ => 0,
+        }
+    }
+
+    /// A visit sends no more new messages than this.
+    fn most_new(&self) -> usize
+        ensures { result ≤ 8 }
+    {
+        match self.state {
+            State::Operational => self.queue.len().min(8),
+            _ => 8,
+        }
     }
 
     /// A payload goes to the end of the queue.

@@ -12,12 +12,11 @@ ghost use Rattle.ring_srp.specs.Sending.{news, holding};
 ghost use Rattle.ring_core.specs.Views.{mark};
 ghost use Rattle.ring_core.specs.Visiting.{accepts, repeated, room_at, new_payloads, queue_after, to_others, visited};
 
-use crate::history::{none, one_last};
 use crate::machine::Machine;
-use crate::sent::send_message;
 use ring_base::{Fault, MAX, MAX_NEW, Past, ProcSet, State, WINDOW};
 use ring_core::Out;
 use ring_packing::take_packed;
+use ring_parts::{none, one_last, send_message};
 use ring_payload::Payload;
 use ring_token::left;
 use ring_wire::{Message, Requests, Token};

@@ -33,8 +33,8 @@ use Rattle.ring_moves.specs.Facts.{IsIn}
 use Rattle.ring_moves.specs.Laws.{CameWith, IsFalling}
 use Rattle.ring_moves.proofs.Causes.{caused}
 use Rattle.ring_moves.proofs.Lists.{each-in}
-use Rattle.ring_lives.proofs.Ordered.{Ordered}
-use Rattle.ring_lives.proofs.Telling.{keeps_done}
+use Rattle.ring_changes.proofs.Ordered.{Ordered}
+use Rattle.ring_changes.proofs.Telling.{keeps_done}
 use Rattle.ring_log.specs.Stays.{Stay, hands}
 use Rattle.ring_log.specs.Lives.{is_sound, log_of}
 use Rattle.ring_machine.specs.declared.input.Input.{Input as NodeInput}
@@ -46,7 +46,7 @@ use Rattle.ring_machine.specs.Stepping.{handed_over, walked, settled, after_core
 use Rattle.ring_order.specs.Facts.{IsStay, StayIn}
 use Rattle.ring_order.specs.Discipline.{FollowsHead, OpensWithHead}
 use Rattle.ring_order.proofs.Living.{IsOrderly}
-use Rattle.ring_projection.proofs.Quiet.{installs_same, stepped_is}
+use Rattle.ring_discipline.proofs.Quiet.{installs_same, stepped_is}
 use Rattle.ring_discipline.proofs.Telling.{through-append}
 use Rattle.ring_discipline.proofs.Steps.{installs_recovering, rings_of, installed_rings}
 use Rattle.ring_discipline.proofs.Nodes.{IsOrderlyNode, handed_queues}

@@ -18,7 +18,7 @@ use Rattle.ring_token.specs.Rounds.{VisitBy, arrived, AreVisits}
 use Rattle.ring_moves.specs.Facts.{IsIn, SomeIs}
 use Rattle.ring_moves.proofs.Lists.{in-left, in-right, in-parts, in-filtered, each-in, each-filter, each-take}
 use Rattle.ring_log.specs.Lives.{upto}
-use Rattle.ring_chain.specs.Words.{picked}
+use Rattle.ring_changes.specs.Words.{picked}
 use Rattle.ring_order.specs.Facts.{said_by}
 use Rattle.ring_texts.specs.Spoken.{spoken_at, spoken_in}
 use Rattle.ring_texts.specs.Texts.{Ascends}

@@ -31,7 +31,7 @@ use Rattle.ring_moves.specs.Moves.{IsWrapping, AreWraps}
 use Rattle.ring_moves.proofs.Wraps.{are_wraps, same-self}
 use Rattle.ring_moves.proofs.Guards.{guarded}
 use Rattle.ring_moves.proofs.Steps.{queue_each}
-use Rattle.ring_lives.proofs.Ordered.{Ordered}
+use Rattle.ring_changes.proofs.Ordered.{Ordered}
 use Rattle.ring_discipline.proofs.Steps.{installed_rings}
 use Rattle.ring_texts.specs.Spoken.{spoken_at, spoken_in, spoken}
 

@@ -19,9 +19,9 @@ use Rattle.ring_moves.specs.declared.event.RingEvent.{RingEvent}
 use Rattle.ring_moves.specs.Worlds.{World, run, unformed}
 use Rattle.ring_moves.proofs.Lists.{in-each, in-filter, in-filtered}
 use Rattle.ring_moves.proofs.Wraps.{same-self}
-use Rattle.ring_chain.specs.Words.{picked, IsGenuine}
-use Rattle.ring_chain.proofs.Runs.{Holds}
-use Rattle.ring_lives.proofs.Keeps.{holds-found}
+use Rattle.ring_changes.specs.Words.{picked, IsGenuine}
+use Rattle.ring_changes.proofs.Runs.{Holds}
+use Rattle.ring_changes.proofs.Keeps.{holds-found}
 use Rattle.ring_changes.proofs.Heard.{found_as}
 use Rattle.ring_changes.proofs.Recovering.{Recovered, numbered_by, all_recovered}
 use Rattle.ring_texts.specs.Spoken.{spoken_in}

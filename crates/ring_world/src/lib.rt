@@ -3,15 +3,13 @@
 
 mod copies;
 mod frames;
-mod laws;
-mod node;
 mod nothing;
 mod order;
 mod spares;
 mod telling;
 mod world;
 
-pub use node::Node;
 pub use ring_history::{Event, Item, Told, is_linearization};
 pub use ring_linear::laws::linear_law;
+pub use ring_node::Node;
 pub use world::World;

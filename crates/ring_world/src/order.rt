@@ -8,9 +8,9 @@ ghost use Rattle.ring_payload.specs.declared.call.Call.{Call as OneCall};
 ghost use Rattle.ring_session.specs.Deduplicated.{deduplicated};
 ghost use Rattle.ring_world.specs.Ordering.{IsOrdered, IsLongest, logs_of};
 
-use crate::node::Node;
 use crate::nothing::Nothing;
 use ring_base::Fault;
+use ring_node::Node;
 use ring_object::Object;
 use ring_payload::Call;
 use ring_session::{Answer, Sessions, table_law};

@@ -23,15 +23,14 @@ ghost use Rattle.ring_world.specs.Synchronous.{IsSynchronous};
 
 use crate::copies::{copied_call, copied_event};
 use crate::frames::Frames;
-use crate::laws::{few_law, frames_law, pending_law};
-use crate::node::{Node, Outs, Sent};
 use crate::order::{effects, longest};
 use crate::spares::Spares;
 use crate::telling::tell;
 use ring_base::{Fault, Fixed, Proc, ProcSet};
+use ring_frames::laws::{few_law, frames_law, pending_law};
 use ring_history::{Event, Item, Told};
 use ring_linear::laws::linear_law;
-use ring_machine::Input;
+use ring_node::{Input, Node, Outs, Sent};
 use ring_object::Object;
 use ring_payload::Call;
 use std::alloc::Allocator;

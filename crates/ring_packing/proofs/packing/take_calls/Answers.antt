@@ -1,6 +1,6 @@
-use Rattle.std.proofs.Common.{◌<◌, length, subst, sym, ◌∙◌, arith}
+use Rattle.std.proofs.Common.{◌+◌, ◌<◌, length, subst, sym, ◌∙◌, arith}
 use Rattle.ring_payload.specs.Packing.{front_run}
-use Rattle.ring_packing.proofs.Taking.{some-left, call-left, call-moved}
+use Rattle.ring_packing.proofs.Taking.{some-left, call-left, call-moved, left-drop, on-err}
 use Rattle.ring_packing.proofs.packing.take_calls.Goals as goal
 
 pub unreachable-requires : goal.unreachable-requires
@@ -18,3 +18,9 @@ loop-preserved g c =
     let inside : c.loop.counter < length (front_run c.args.queue.now.items) = subst (λ n. c.loop.counter < n) c.requires c.loop-test.true in
     let m = call-moved c.args.queue.now.items c.loop.queue.items c.pop_front.new.self.items c.loop.calls.items c.in-Some.payload c.in-Some-call_of.call c.loop.counter inside c.loop.invariant.taken c.loop.invariant.left c.in-Some.ensures.items (sym c.call_of.ensures ∙ c.in-Some-call_of.is) in
     rw c.in_ok-push.ensures.items (record { taken = m.0; left = m.1 })
+
+pub returns-in_err-push-clause-rest : goal.returns-in_err-push-clause-rest
+returns-in_err-push-clause-rest g c =
+    let inside : c.loop.counter < length (front_run c.args.queue.now.items) = subst (λ n. c.loop.counter < n) c.requires c.loop-test.true in
+    let m = call-moved c.args.queue.now.items c.loop.queue.items c.pop_front.new.self.items c.loop.calls.items c.in-Some.payload c.in-Some-call_of.call c.loop.counter inside c.loop.invariant.taken c.loop.invariant.left c.in-Some.ensures.items (sym c.call_of.ensures ∙ c.in-Some-call_of.is) in
+    on-err c.from_residual-in_err-push.result (left-drop c.args.queue.now.items c.pop_front.new.self.items (c.loop.counter + 1) m.1)

@@ -1,13 +1,14 @@
 use Rattle.std.proofs.Common.{◌≡◌, ◌-◌, [], ap, sym, ◌∙◌}
 use Rattle.std.specs.Prelude.{option_to_list}
 use Rattle.ring_payload.specs.Packing.{packed}
-use Rattle.ring_packing.proofs.Taking.{taken-begun, left-begun, taken-more, left-more, taken-none, left-all, taken-all, left-end}
+use Rattle.ring_packing.proofs.Taking.{taken-begun, left-begun, taken-more, left-more, taken-none, left-all, taken-all, left-end, left-whole, left-twice, left-behind, on-err}
 use Rattle.ring_packing.proofs.packing.take_packed.Goals as goal
 
 pub loop-init : goal.loop-init
 loop-init g c =
     record {
       taken = taken-begun c.args.most c.in_ok-payloads.payloads.items c.args.queue.now.items c.in_ok-payloads.ensures.items;
+      rest = left-whole c.args.queue.now.items;
       left = left-begun c.args.most c.args.queue.now.items;
     }
 
@@ -26,6 +27,7 @@ loop-preserved g c =
     let first = ap option_to_list (sym c.in-Some.is) ∙ c.in_ok-payload.ensures.message in
     rw c.in_ok-push.ensures.items (record {
       taken = taken-more c.args.most c.loop.counter c.loop.payloads.items c.loop.queue.items c.take_message.new.queue.items _ c.in-Some.payload c.loop-test.true first c.in_ok-payload.ensures.queue c.loop.invariant.taken;
+      rest = left-twice c.loop.invariant.rest (left-behind c.loop.queue.items _ c.in_ok-payload.ensures.queue);
       left = left-more c.args.most c.loop.counter c.loop.queue.items c.take_message.new.queue.items _ c.loop-test.true c.in_ok-payload.ensures.queue c.loop.invariant.left;
     })
 
@@ -34,3 +36,11 @@ returns-clause-items g c = taken-all c.args.most c.loop.counter c.loop.payloads.
 
 pub returns-clause-queue : goal.returns-clause-queue
 returns-clause-queue g c = left-end c.args.most c.loop.counter c.loop.queue.items _ c.loop-test.false c.loop.invariant.left
+
+pub returns-in_err-payload-clause-rest : goal.returns-in_err-payload-clause-rest
+returns-in_err-payload-clause-rest g c = on-err c.from_residual-in_err-payload.result (left-twice c.loop.invariant.rest c.in_err-payload.ensures.rest)
+
+pub returns-in_err-push-clause-rest : goal.returns-in_err-push-clause-rest
+returns-in_err-push-clause-rest g c =
+    on-err c.from_residual-in_err-push.result
+    (left-twice c.loop.invariant.rest (left-behind c.loop.queue.items c.take_message.new.queue.items c.in_ok-payload.ensures.queue))

@@ -1,5 +1,5 @@
 -- Event by event.
-use Rattle.std.proofs.Common.{◌≡◌, ◌+◌, ◌<◌, Some, slice_get, length, refl, ap, ◌∙◌, sym, arith}
+use Rattle.std.proofs.Common.{◌+◌, ◌<◌, length, refl, ap, ◌∙◌, arith}
 use Rattle.std.proofs.lemmas.Option.{slice_get_read}
 use Rattle.ring_base.proofs.Each.{each-get}
 use Rattle.ring_limits.specs.Limits.{EventFits}

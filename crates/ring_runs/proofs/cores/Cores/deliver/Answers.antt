@@ -1,5 +1,5 @@
 -- A frame that was sent to the processor fits, and is what happens.
-use Rattle.std.proofs.Common.{◌≡◌, Some, None, option_copied, ap, sym, subst, ◌∙◌}
+use Rattle.std.proofs.Common.{option_copied, ap, sym, subst, ◌∙◌}
 use Rattle.ring_wire.specs.Frames.{FrameFits}
 use Rattle.ring_core.specs.declared.input.Input.TheVariants.{Frame as FrameInput}
 use Rattle.ring_limits.specs.Limits.{WorldFits}

@@ -1,5 +1,5 @@
 -- Frames are numbered in the order sent.
-use Rattle.std.proofs.Common.{◌≡◌, ◌++◌, Some, ap, sym, ◌∙◌}
+use Rattle.std.proofs.Common.{◌++◌, Some, ap, sym, ◌∙◌}
 use Rattle.ring_moves.specs.Worlds.{frame_at}
 use Rattle.ring_runs.specs.Running.{Ran, world_of, frame_for, frames_of, opening_frames, places_from}
 use Rattle.ring_runs.proofs.cores.Cores.frame_to.Goals as goal

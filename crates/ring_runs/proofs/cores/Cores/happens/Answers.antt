@@ -1,5 +1,5 @@
 -- What is handed over is a copy of what the event has.
-use Rattle.std.proofs.Common.{◌≡◌, ap, sym, subst, ◌∙◌}
+use Rattle.std.proofs.Common.{ap, sym, subst, ◌∙◌}
 use Rattle.ring_payload.specs.Payloads.{PayloadFits}
 use Rattle.ring_core.specs.declared.input.Input.TheVariants.{Send as SendInput}
 use Rattle.ring_limits.specs.Limits.{EventFits}

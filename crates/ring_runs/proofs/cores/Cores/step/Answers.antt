@@ -1,5 +1,5 @@
 -- What is kept goes on telling the world.
-use Rattle.std.proofs.Common.{sym, subst, ◌<◌, ◌≡◌, ◌≤◌, ◌-◌, ℕ, length, ap, ◌∙◌, arith}
+use Rattle.std.proofs.Common.{sym, subst, ◌<◌, ◌≡◌, ◌≤◌, ◌-◌, length, ap, ◌∙◌, arith}
 use Rattle.ring_runs.specs.Running.{Ran, world_of}
 use Rattle.ring_moves.specs.Worlds.{happens, stepped}
 use Rattle.ring_srp.specs.Machines.{is_stopped}

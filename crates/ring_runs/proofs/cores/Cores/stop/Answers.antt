@@ -1,6 +1,6 @@
 -- What is kept goes on telling the world.
-use Rattle.std.proofs.Common.{◌≡◌, ◌≤◌, ◌<◌, ◌-◌, ℕ, length, ap, sym, subst, ◌∙◌, arith}
-use Rattle.ring_moves.specs.Worlds.{happens, is_node, stopped_if}
+use Rattle.std.proofs.Common.{◌≡◌, ◌≤◌, ◌<◌, ◌-◌, length, ap, ◌∙◌, arith}
+use Rattle.ring_moves.specs.Worlds.{happens}
 use Rattle.ring_runs.specs.Running.{Ran, world_of}
 use Rattle.ring_runs.proofs.Ties.{halted_tells, stopped_not}
 use Rattle.ring_runs.proofs.cores.Cores.stop.Goals as goal

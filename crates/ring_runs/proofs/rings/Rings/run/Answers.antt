@@ -18,6 +18,6 @@ returns-in-Some-clause-rounds g c = rounds_of_runs c.args.self.now.count c.args.
 pub returns-in-Some-clause-outs : goal.returns-in-Some-clause-outs
 returns-in-Some-clause-outs g c =
     let is = sym c.take.ensures.value ∙ c.in-Some.is in
-    let fresh = subst (λ (o : Option (Ran g.row.A.Denot)). IsPrepared c.self.inside.fixed.count o) is c.self.invariant in
+    let fresh = subst (λ (o : Option (Ran g.row.A.Denot)). IsPrepared (none_ran c.self.inside.fixed.count) o) is c.self.invariant in
     let counted : c.in-Some.cores ≡ none_ran c.args.self.now.count = fresh ∙ ap (λ (p : Prepared). none_ran p.count) c.self.view_is in
     subst (λ (r : Ran g.row.A.Denot). IfOk c.run_all.result (λ outs. outs.items ≡ (world_of (all_ran r c.args.events.now)).outs)) counted c.run_all.ensures.outs

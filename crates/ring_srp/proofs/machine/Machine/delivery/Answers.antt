@@ -2,7 +2,7 @@
 use Rattle.std.proofs.Common.{◌≡◌, Option, ap, sym, ◌∙◌, subst}
 use Rattle.ring_base.specs.declared.state.State.TheVariants.{Recovery}
 use Rattle.ring_srp.specs.Machines.{core_of, IsRecovering}
-use Rattle.ring_srp.specs.declared.recovering.Recovering.{Recovering}
+use Rattle.ring_parts.specs.declared.recovering.Recovering.{Recovering}
 use Rattle.ring_srp.proofs.Held.{is_recovery, no_recovery}
 use Rattle.ring_srp.proofs.Installs.{told, told_none, not_ready, all_ready}
 use Rattle.ring_srp.proofs.machine.Machine.delivery.Goals.{in_default-via-in-Some+else-eq, in_default-via-in_default}

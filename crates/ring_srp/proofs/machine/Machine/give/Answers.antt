@@ -6,7 +6,7 @@ use Rattle.ring_core.specs.State.{Core}
 use Rattle.ring_core.specs.declared.out.Out.{Out}
 use Rattle.ring_core.specs.Giving.{agreed_from, delivered_from}
 use Rattle.ring_srp.specs.Machines.{core_of}
-use Rattle.ring_srp.specs.Users.{agreed_in, safe_to}
+use Rattle.ring_parts.specs.Users.{agreed_in, safe_to}
 use Rattle.ring_srp.proofs.Users.{agreed_by, safe_by}
 use Rattle.ring_srp.proofs.machine.Machine.give.Goals as goal
 
@@ -23,6 +23,7 @@ returns-clause-ok g c =
     ap (λ q. c.give_agreed.new.outs.items ++ safe_to q m c.mark.result) c.ring.ensures
     ∙ ap (λ n. c.give_agreed.new.outs.items ++ safe_to w.ring m n) c.mark.ensures
     ∙ ap (λ ys. ys ++ safe) c.in_ok-give_agreed.ensures.ok
+    ∙ ap (λ ys. (ys ++ agreed_in w f (front_of w.held w.ring)) ++ safe) c.make_room.ensures.kept
     ∙ append_assoc outs (agreed_in w f (front_of w.held w.ring)) safe
     ∙ ap (λ ys. outs ++ (ys ++ safe)) (agreed_by core s.installed.ring w s.kept.visit f c.self.invariant.kept)
     ∙ ap (λ ys. outs ++ (agreed_from core s.installed.ring f ++ ys)) (safe_by core s.installed.ring w s.kept.visit m c.self.invariant.kept)

@@ -8,7 +8,7 @@ use Rattle.ring_core.specs.Views.{plan}
 use Rattle.ring_core.specs.Giving.{may_install}
 use Rattle.ring_srp.specs.Installs.{given_first}
 use Rattle.ring_srp.specs.Machines.{core_of, Recovers, IsRecovering}
-use Rattle.ring_srp.specs.declared.recovering.Recovering.{Recovering}
+use Rattle.ring_parts.specs.declared.recovering.Recovering.{Recovering}
 use Rattle.ring_srp.proofs.Installs.{due_in, some_in, first_by}
 use Rattle.ring_srp.proofs.machine.Machine.give_change.Goals as goal
 

@@ -38,12 +38,14 @@ invariant_of-self-in_default g c =
           rw (w.self-inside-is, c.one_first-held.ensures)
           (held_installed _ _ _ _ _ c.self.invariant c.args.message
           (no_recovery c.self.inside.state (sym w.eq.ensures ∙ w.if-eq.false)) e h c.take-in_default.new.self _
-          (rw w.self-inside-is at c.take-in_default.ensures.window))
+          (rw w.self-inside-is at c.take-in_default.ensures.window)
+          (sym w.in-Some.is ∙ c.self.invariant.over (no_recovery c.self.inside.state (sym w.eq.ensures ∙ w.if-eq.false))))
       | in_default-via-in_default w ↦
           rw (w.self-inside-is, c.one_first-held.ensures)
           (held_installed _ _ _ _ _ c.self.invariant c.args.message
           (λ s. recovering_there _ _ (c.self.invariant.recovering s) w.in_default.not-Some) e h c.take-in_default.new.self _
-          (rw w.self-inside-is at c.take-in_default.ensures.window))
+          (rw w.self-inside-is at c.take-in_default.ensures.window)
+          (c.self.invariant.over (λ s. recovering_there _ _ (c.self.invariant.recovering s) w.in_default.not-Some)))
     ]
 
 pub returns-in_default : goal.returns-in_default

@@ -4,7 +4,7 @@ use Rattle.ring_base.specs.Processors.{only}
 use Rattle.ring_base.specs.declared.state.State.TheVariants.{Operational}
 use Rattle.ring_token.specs.Histories.{TokenHistory}
 use Rattle.ring_core.specs.State.{Core}
-use Rattle.ring_srp.specs.Histories.{with_visit}
+use Rattle.ring_parts.specs.Histories.{with_visit}
 use Rattle.ring_srp.specs.Machines.{core_of}
 use Rattle.ring_srp.specs.Passing.{passed_on}
 use Rattle.ring_srp.proofs.Turned.{part_ring, part_reached, part_led, running_part, installed_on, passed_by}

@@ -6,8 +6,8 @@ use Rattle.ring_window.specs.Windows.{forgotten}
 use Rattle.ring_token.specs.Histories.{TokenHistory, mark_of}
 use Rattle.ring_recover.proofs.Following.{none_from}
 use Rattle.ring_core.specs.State.{Core}
-use Rattle.ring_srp.specs.declared.recovering.Recovering.{Recovering}
-use Rattle.ring_srp.specs.Histories.{with_visit}
+use Rattle.ring_parts.specs.declared.recovering.Recovering.{Recovering}
+use Rattle.ring_parts.specs.Histories.{with_visit}
 use Rattle.ring_srp.specs.Machines.{core_of, IsMachine, IsRecovering}
 use Rattle.ring_srp.specs.Passing.{passed_on}
 use Rattle.ring_srp.proofs.Turned.{part_ring, part_reached, part_led, aside_near, aside_there, recovers_aside, aside_on, running_on, passed_by}

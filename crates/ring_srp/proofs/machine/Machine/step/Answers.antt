@@ -34,7 +34,7 @@ returns-clause-outs g c =
     ∙ step_outs c.args.self.now c.carry_out.new.self (act_of c.decide-what.result) c.args.input c.give.new.outs.items
     c.decide-what.ensures c.in_ok-carry_out.ensures.core
     (given_outs c.args.self.now c.carry_out.new.self (done c.args.self.now (act_of c.decide-what.result)).sends _ _ _ _ _ _
-    c.new-outs.ensures.items c.in_ok-carry_out.ensures.outs c.in_ok-give.ensures.ok
+    c.in_ok-outs.ensures.items c.in_ok-carry_out.ensures.outs c.in_ok-give.ensures.ok
     c.reached-before.ensures.ring c.reached-before.ensures.front c.reached-before.ensures.mark)
 
 pub returns-clause-core : goal.returns-clause-core

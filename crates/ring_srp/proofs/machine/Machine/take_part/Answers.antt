@@ -6,14 +6,16 @@ use Rattle.ring_wire.specs.declared.entries.CommitEntry.{CommitEntry}
 use Rattle.ring_commit.specs.declared.configuration.Configuration.{Configuration}
 use Rattle.ring_core.specs.State.{Core, floor}
 use Rattle.ring_core.specs.Views.{own_entry}
-use Rattle.ring_srp.specs.Histories.{with_ring}
-use Rattle.ring_srp.specs.Machines.{History, core_of}
+use Rattle.ring_parts.specs.Histories.{with_ring}
+use Rattle.ring_parts.specs.Histories.{History}
+use Rattle.ring_srp.specs.Machines.{core_of}
 use Rattle.ring_srp.proofs.Standing.{into_commit}
 use Rattle.ring_srp.proofs.machine.Machine.take_part.Goals as goal
 
 pub invariant_of-self : goal.invariant_of-self
 invariant_of-self g c =
     rw (c.with_ring-past.ensures) (into_commit _ _ _ _ _ _ _ _ _ _ _ _ _ _ (record { ring = c.args.ring; members = c.args.members }) _ c.own_entry-own.result c.self.invariant
+    (ap (λ (x : Core g.row.A.Denot). x.state) c.self.view_is ∙ c.requires.state)
     (subst (λ (x : Core g.row.A.Denot). floor x < c.args.ring.seq) (sym c.self.view_is) c.requires.newer)
     (subst (λ (x : Core g.row.A.Denot). IsMember c.args.members x.me) (sym c.self.view_is) c.requires.member))
 

@@ -1,0 +1,10 @@
+pub mod Sends
+pub mod Answers
+pub mod Committed
+pub mod Pending
+pub mod Logs
+pub mod Outputs
+pub mod Dues
+pub mod Nodes
+pub mod Worlds
+pub mod Growth

@@ -1,0 +1,10 @@
+pub mod Lent
+pub mod Leading
+pub mod Standing
+pub mod Telling
+pub mod Shown
+pub mod Ordering
+pub mod Given
+pub mod Growing
+pub mod Logging
+pub mod Bridge

@@ -1,0 +1,10 @@
+pub mod Steps
+pub mod Machines
+pub mod Lines
+pub mod Kept
+pub mod Runs
+pub mod Answers
+pub mod Nothing
+pub mod Orders
+pub mod Logs
+pub mod Events

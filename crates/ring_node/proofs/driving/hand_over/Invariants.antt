@@ -1,0 +1,11 @@
+-- What the payloads so far made of the core, which runs.
+use Rattle.std.proofs.Common.{◌≡◌, false}
+use Rattle.ring_machine.specs.Nodes.{is_stopped}
+use Rattle.ring_machine.specs.Stepping.{handed_over}
+use Rattle.ring_node.proofs.driving.hand_over.Given as goal
+
+abbrev pub invariant-loop-payload : goal.invariant-loop-payload
+invariant-loop-payload g l = record {
+  core : l.core ≡ handed_over l.fn.core l.yielded;
+  going : is_stopped l.core.state ≡ false;
+}

@@ -1,0 +1,26 @@
+-- A call goes to the core at once where an adopted ring runs.
+use Rattle.std.proofs.Common.{true, false, sym, ap, ◌∙◌}
+use Rattle.ring_payload.specs.declared.content.Payload.TheVariants.{Call}
+use Rattle.ring_core.specs.Stepping.{ring_step}
+use Rattle.ring_core.specs.declared.input.Input.TheVariants.{Send as SendInput}
+use Rattle.ring_node.specs.declared.node.Node.TheInside.{Inside}
+use Rattle.ring_node.proofs.Steps.{given-node}
+use Rattle.ring_node.proofs.node.Node.take.Goals as goal
+use Rattle.ring_node.proofs.node.Node.take.Goals.{then-has_adopted+in_ok-copy_of+in_ok-send, else-has_adopted}
+
+pub invariant_of-self-2 : goal.invariant_of-self-2
+invariant_of-self-2 g c =
+    let s = c.self.inside in
+    let t = c.if-has_adopted.self-inside in
+    elim c.if-has_adopted.branch [
+      | then-has_adopted+in_ok-copy_of+in_ok-send w ↦
+          given-node s.core t.core s.replica t.replica c.give.new.self s.last t.last s.ended.value t.ended.value c.running-running.result c.args.call true c.self.invariant
+          (ap (λ (x : Inside _ _). x.replica) w.self-inside-is) (ap (λ (x : Inside _ _). x.last) w.self-inside-is) (ap (λ (x : Inside _ _). x.ended.value) w.self-inside-is)
+          (sym c.has_adopted.ensures ∙ w.if-has_adopted.true)
+          (ap (λ (x : Inside _ _). x.core) w.self-inside-is ∙ w.in_ok-send.ensures.ok ∙ ap (λ x. (ring_step s.core (SendInput (Call x))).core) w.in_ok-copy_of.ensures)
+          c.give.ensures.replica
+      | else-has_adopted w ↦
+          given-node s.core t.core s.replica t.replica c.give.new.self s.last t.last s.ended.value t.ended.value c.running-running.result c.args.call false c.self.invariant
+          (ap (λ (x : Inside _ _). x.replica) w.self-inside-is) (ap (λ (x : Inside _ _). x.last) w.self-inside-is) (ap (λ (x : Inside _ _). x.ended.value) w.self-inside-is)
+          (sym c.has_adopted.ensures ∙ w.if-has_adopted.false) (ap (λ (x : Inside _ _). x.core) w.self-inside-is) c.give.ensures.replica
+    ]

@@ -1,0 +1,262 @@
+//! A node.
+
+ghost use Rattle.std.specs.Prelude.{◌≡◌, ◌≤◌, true, false, length, if◌then◌else◌, Some, None, IsOk, IfOk, IfErr, OnOk, OnErr, MatchOption};
+ghost use Rattle.ring_base.specs.declared.fault.Fault.TheVariants.{Memory, Stopped as StoppedFault};
+ghost use Rattle.ring_core.specs.Stepping.{ring_step};
+ghost use Rattle.ring_srp.specs.Allowing.{InputFits as CoreInputFits};
+ghost use Rattle.ring_session.specs.Deduplicated.{deduplicated};
+ghost use Rattle.ring_machine.specs.Nodes.{node_opening, node_committed, node_log, node_reply, node_stopped, is_stopped};
+ghost use Rattle.ring_machine.specs.Stepping.{after_core, node_step, submit_fault, submitted};
+ghost use Rattle.ring_machine.specs.Limits.{InputFits};
+ghost use Rattle.ring_machine.specs.declared.input.Input.TheVariants.{Stop as StopInput};
+
+use crate::driving::{advance, copied, running, seen};
+use crate::outs::Outs;
+use ring_base::{Fault, Fixed, Past, Proc, RingId, State};
+use ring_core::Input as CoreInput;
+use ring_machine::Input;
+use ring_object::Object;
+use ring_payload::{Call, Payload};
+use ring_replica::Replica;
+use ring_session::Answer;
+use ring_srp::Srp;
+use ring_ticket::{Ticket, copy_of};
+use std::marker::Model;
+
+/// A node. Contracts see a `Node`: its group, its core, its life and its tickets.
+#[derive(Drop)]
+pub struct Node<O: Object> {
+    alloc: O::Alloc,
+    core: Srp<O::Alloc>,
+    replica: Replica<O>,
+    /// The last installed ring, as the node stopped.
+    last: RingId,
+    /// The core as it was before the step in which the node stopped.
+    ended: Past<Srp<O::Alloc>>,
+}
+
+impl<O: Object> Model for Node<O> {
+    ghost use Rattle.ring_machine.specs.Nodes.{Node as ToldNode};
+    ghost use Rattle.ring_node.specs.Kept.{told_node, IsNode};
+
+    ghost Value = { ToldNode O.Alloc };
+
+    ghost view = { λ n. told_node n.core n.replica n.ended.value };
+
+    ghost invariant = { λ n. IsNode n.core n.replica n.last n.ended.value };
+}
+
+impl<O: Object> Node<O> {
+    /// Processor `me` of the run at its opening, or `Memory`.
+    pub fn new(alloc: O::Alloc, fixed: Fixed, me: Proc) -> Result<Node<O>, Fault>
+        requires { me ≤ fixed.count }
+        ensures ok { IfOk result (λ node. node ≡ node_opening fixed me) }
+        ensures refused { IfErr result (λ fault. fault ≡ Memory) }
+    {
+        let core = Srp::new(alloc, fixed, me)?;
+        let replica = Replica::new(alloc, fixed, me)?;
+        let last = core.ring();
+        let ended = seen(&core);
+        Ok(Node {
+            alloc,
+            core,
+            replica,
+            last,
+            ended,
+        })
+    }
+
+    /// Submits a call, and gives its ticket. Refused, in this order: `Stopped` in a stopped node; `PendingFull` where 64
+    /// tickets have no answer, or 2^62 were given; `Memory`. A refusal leaves the node as it was.
+    pub fn submit(&mut self, call: Call<O::Alloc>) -> Result<Ticket, Fault>
+        ensures ticket { IfOk result (λ ticket. ticket ≡ length self.old.tickets) }
+        ensures taken { OnOk result (submit_fault self.old ≡ None) }
+        ensures ok { OnOk result (self.new ≡ submitted self.old call) }
+        ensures err { OnErr result (self.new ≡ self.old) }
+        ensures refused { IfErr result (λ fault. MatchOption (submit_fault self.old) (fault ≡ Memory) (λ first. fault ≡ first)) }
+    {
+        self.check()?;
+        self.take(call)
+    }
+
+    /// The same for a call that the caller keeps: the node copies it.
+    pub fn submit_on(&mut self, call: &Call<O::Alloc>) -> Result<Ticket, Fault>
+        ensures ticket { IfOk result (λ ticket. ticket ≡ length self.old.tickets) }
+        ensures taken { OnOk result (submit_fault self.old ≡ None) }
+        ensures ok { OnOk result (self.new ≡ submitted self.old call.now) }
+        ensures err { OnErr result (self.new ≡ self.old) }
+        ensures refused { IfErr result (λ fault. MatchOption (submit_fault self.old) (fault ≡ Memory) (λ first. fault ≡ first)) }
+    {
+        self.check()?;
+        self.take(copy_of(call)?)
+    }
+
+    /// Does a step on an input: gives the frames sent, the answers that come, and the calls newly committed. Refused with
+    /// `Stopped` in a stopped node, which stays as it was, else with `Memory`: then the node has stopped for good, its log
+    /// as before the step. A stop takes no memory.
+    pub fn step(&mut self, input: Input<O::Alloc>) -> Result<Outs<O::Alloc>, Fault>
+        requires fits { InputFits input }
+        ensures runs { OnOk result (is_stopped self.old.core.state ≡ false) }
+        ensures sends { IfOk result (λ outs. outs.sends.items ≡ (node_step O.sequential self.old input).sends) }
+        ensures answers { IfOk result (λ outs. outs.answers.items ≡ (node_step O.sequential self.old input).answers) }
+        ensures committed { IfOk result (λ outs. outs.committed.items ≡ (node_step O.sequential self.old input).committed) }
+        ensures ok { OnOk result (self.new ≡ (node_step O.sequential self.old input).node) }
+        ensures err { OnErr result (self.new ≡ node_stopped self.old) }
+        ensures refused { IfErr result (λ fault. fault ≡ (if is_stopped self.old.core.state then StoppedFault else Memory)) }
+        ensures stops { input ≡ StopInput → is_stopped self.old.core.state ≡ false → IsOk result }
+    {
+        if self.replica.is_stopped() {
+            return Err(Fault::Stopped);
+        }
+        match input {
+            Input::Frame(frame) => self.drive(CoreInput::Frame(frame)),
+            Input::Timeout(kind) => self.drive(CoreInput::Timeout(kind)),
+            Input::Noise => Ok(Outs::new(self.alloc)),
+            Input::Stop => {
+                self.halt();
+                Ok(Outs::new(self.alloc))
+            }
+        }
+    }
+
+    /// The same for an input that the caller keeps: the node copies its frame.
+    pub fn step_on(&mut self, input: &Input<O::Alloc>) -> Result<Outs<O::Alloc>, Fault>
+        requires fits { InputFits input.now }
+        ensures runs { OnOk result (is_stopped self.old.core.state ≡ false) }
+        ensures sends { IfOk result (λ outs. outs.sends.items ≡ (node_step O.sequential self.old input.now).sends) }
+        ensures answers { IfOk result (λ outs. outs.answers.items ≡ (node_step O.sequential self.old input.now).answers) }
+        ensures committed { IfOk result (λ outs. outs.committed.items ≡ (node_step O.sequential self.old input.now).committed) }
+        ensures ok { OnOk result (self.new ≡ (node_step O.sequential self.old input.now).node) }
+        ensures err { OnErr result (self.new ≡ node_stopped self.old) }
+        ensures refused { IfErr result (λ fault. fault ≡ (if is_stopped self.old.core.state then StoppedFault else Memory)) }
+        ensures stops { input.now ≡ StopInput → is_stopped self.old.core.state ≡ false → IsOk result }
+    {
+        if self.replica.is_stopped() {
+            return Err(Fault::Stopped);
+        }
+        match input {
+            Input::Frame(frame) => match copied(frame) {
+                Ok(frame) => self.drive(CoreInput::Frame(frame)),
+                Err(refused) => {
+                    self.halt();
+                    Err(refused)
+                }
+            },
+            Input::Timeout(kind) => self.drive(CoreInput::Timeout(*kind)),
+            Input::Noise => Ok(Outs::new(self.alloc)),
+            Input::Stop => {
+                self.halt();
+                Ok(Outs::new(self.alloc))
+            }
+        }
+    }
+
+    /// The answer to a ticket, if it is among the 64 that were answered last.
+    pub fn reply(&self, ticket: Ticket) -> Option<Answer>
+        ensures { result ≡ node_reply O.sequential self.now ticket }
+    {
+        self.replica.reply(ticket)
+    }
+
+    /// The committed places of the log, in order.
+    pub fn committed(&self) -> &[Call<O::Alloc>]
+        ensures { result.now ≡ node_committed self.now }
+    {
+        self.replica.committed()
+    }
+
+    /// The node's state.
+    pub fn state(&self) -> State
+        ensures { result ≡ self.now.core.state }
+    {
+        if self.replica.is_stopped() {
+            State::Stopped
+        } else {
+            self.core.state()
+        }
+    }
+
+    /// The last installed ring: (0, me) before any.
+    pub fn ring(&self) -> RingId
+        ensures { result ≡ self.now.core.installed.ring }
+    {
+        if self.replica.is_stopped() {
+            self.last
+        } else {
+            self.core.ring()
+        }
+    }
+
+    /// How many places the log has, committed or not.
+    pub fn log_len(&self) -> u64
+        ensures { result ≡ length (node_log self.now) }
+    {
+        self.replica.log_len()
+    }
+
+    /// How many calls of the committed places took effect: how long the committed log is, repeats removed.
+    pub fn order_len(&self) -> u64
+        ensures { result ≡ length (deduplicated (node_committed self.now)) }
+    {
+        self.replica.order_len()
+    }
+}
+
+impl<O: Object> Node<O> {
+    /// Refuses a submit that is refused whatever the memory.
+    fn check(&self) -> Result<(), Fault>
+        ensures ok { OnOk result (submit_fault self.now ≡ None) }
+        ensures err { IfErr result (λ fault. submit_fault self.now ≡ Some fault) }
+    {
+        self.replica.check()
+    }
+
+    /// Takes a call, or leaves the node as it was.
+    fn take(&mut self, call: Call<O::Alloc>) -> Result<Ticket, Fault>
+        requires { submit_fault self.old ≡ None }
+        ensures ticket { IfOk result (λ ticket. ticket ≡ length self.old.tickets) }
+        ensures ok { OnOk result (self.new ≡ submitted self.old call) }
+        ensures err { OnErr result (self.new ≡ self.old) }
+        ensures refused { IfErr result (λ fault. fault ≡ Memory) }
+    {
+        let running = running(&self.core);
+        if self.replica.has_adopted(&running) {
+            self.core.send(Payload::Call(copy_of(&call)?))?;
+        }
+        Ok(self.replica.give(&running, call))
+    }
+
+    /// The core takes a step, and what follows of it is done. Refused with `Memory` alone, and then the node has stopped.
+    fn drive(&mut self, input: CoreInput<O::Alloc>) -> Result<Outs<O::Alloc>, Fault>
+        requires fits { CoreInputFits input }
+        requires runs { is_stopped self.old.core.state ≡ false }
+        ensures sends { IfOk result (λ outs. outs.sends.items ≡ (after_core O.sequential self.old (ring_step self.old.core input)).sends) }
+        ensures answers { IfOk result (λ outs. outs.answers.items ≡ (after_core O.sequential self.old (ring_step self.old.core input)).answers) }
+        ensures committed { IfOk result (λ outs. outs.committed.items ≡ (after_core O.sequential self.old (ring_step self.old.core input)).committed) }
+        ensures ok { OnOk result (self.new ≡ (after_core O.sequential self.old (ring_step self.old.core input)).node) }
+        ensures err { OnErr result (self.new ≡ node_stopped self.old) }
+        ensures refused { IfErr result (λ fault. fault ≡ Memory) }
+    {
+        self.last = self.core.ring();
+        self.ended = seen(&self.core);
+        match advance(&mut self.core, &mut self.replica, input) {
+            Ok(outs) => Ok(outs),
+            Err(refused) => {
+                self.core.stop();
+                self.replica.stop();
+                Err(refused)
+            }
+        }
+    }
+
+    /// Stops for good. It takes no memory, and gives back what the core kept.
+    fn halt(&mut self)
+        requires { is_stopped self.old.core.state ≡ false }
+        ensures { self.new ≡ node_stopped self.old }
+    {
+        self.last = self.core.ring();
+        self.ended = seen(&self.core);
+        self.core.stop();
+        self.replica.stop();
+    }
+}

@@ -1,0 +1,6 @@
+pub mod Histories
+pub mod Users
+pub mod Setting
+pub mod Taking
+pub mod Wraps
+pub mod Rests

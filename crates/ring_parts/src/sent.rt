@@ -1,0 +1,73 @@
+//! Frames with their receivers.
+
+ghost use Rattle.std.specs.Prelude.{◌≡◌, [], ◌∷◌, ◌++◌, IfErr, OnOk};
+ghost use Rattle.ring_base.specs.declared.fault.Fault.TheVariants.{Memory};
+ghost use Rattle.ring_wire.specs.declared.frame.Frame.TheVariants.{Message as MessageFrame};
+ghost use Rattle.ring_core.specs.Giving.{sent};
+
+use ring_base::{Fault, ProcSet};
+use ring_core::Out;
+use ring_wire::{Frame, Message};
+use std::alloc::{Allocator, Global};
+use std::marker::Model;
+
+/// A frame with its receivers.
+#[derive(Drop)]
+pub struct Sent<A: Allocator + Copy = Global> {
+    /// The receivers.
+    pub to: ProcSet,
+    /// What goes to them.
+    pub frame: Frame<A>,
+}
+
+impl<A: Allocator + Copy> Model for Sent<A> {
+    ghost use Rattle.ring_core.specs.State.{Sent as OneSent};
+
+    ghost Value = { OneSent A };
+
+    ghost view = { λ s. record { to = s.to; frame = s.frame } };
+}
+
+/// Sends a frame, unless it is to nobody.
+pub fn send<A: Allocator + Copy>(
+    outs: &mut Vec<Out<A>, A>,
+    to: ProcSet,
+    frame: Frame<A>,
+) -> Result<(), Fault>
+    ensures ok { OnOk result (outs.new.items ≡ outs.old.items ++ sent (record { to = to; frame = frame } ∷ [])) }
+    ensures refused { IfErr result (λ fault. fault ≡ Memory) }
+{
+    if !to.is_empty() {
+        outs.push(Out::Send(to, frame))?;
+    }
+    Ok(())
+}
+
+/// Sends a copy of a token or commit token, unless it is to nobody.
+pub fn send_copy<A: Allocator + Copy>(
+    outs: &mut Vec<Out<A>, A>,
+    to: ProcSet,
+    frame: &Frame<A>,
+) -> Result<(), Fault>
+    ensures ok { OnOk result (outs.new.items ≡ outs.old.items ++ sent (record { to = to; frame = frame.now } ∷ [])) }
+    ensures refused { IfErr result (λ fault. fault ≡ Memory) }
+{
+    let copy = frame.clone()?;
+    send(outs, to, copy)
+}
+
+/// Sends a copy of a message, unless it is to nobody.
+pub fn send_message<A: Allocator + Copy>(
+    outs: &mut Vec<Out<A>, A>,
+    to: ProcSet,
+    message: &Message<A>,
+) -> Result<(), Fault>
+    ensures ok { OnOk result (outs.new.items ≡ outs.old.items ++ sent (record { to = to; frame = MessageFrame message.now } ∷ [])) }
+    ensures refused { IfErr result (λ fault. fault ≡ Memory) }
+{
+    if to.is_empty() {
+        return Ok(());
+    }
+    let copy = message.clone()?;
+    send(outs, to, Frame::Message(copy))
+}

@@ -1,0 +1,105 @@
+-- The opening of all in one ring, whose representative has visited the first token.
+use Rattle.std.proofs.Common.{◌≡◌, ℕ, zero, suc, ◌+◌, ◌-◌, ◌≤◌, ◌<◌, false, List, [], ◌∷◌, ◌++◌, map, length, Option, Some, slice_get, refl, ap, ◌∙◌, sym, subst, arith}
+use Rattle.std.specs.Prelude.{◌==◌, not, filter_map}
+use Rattle.std.proofs.lemmas.Bool.{cond_both, cond-false, ne_eqb}
+use Rattle.std.proofs.lemmas.List.{append-nil, map-append, length-map}
+use Rattle.ring_base.specs.Numbers.{numbers_from}
+use Rattle.ring_base.specs.Passing.{length-numbers_from}
+use Rattle.ring_base.specs.Processors.{nobody}
+use Rattle.ring_payload.specs.Packing.{packed}
+use Rattle.ring_payload.specs.declared.content.Payload.{Payload}
+use Rattle.ring_token.specs.Turns.{first_token}
+use Rattle.ring_token.specs.Visits.{numbered}
+use Rattle.ring_core.specs.declared.out.Out.{Out}
+use Rattle.ring_core.specs.declared.out.Out.TheVariants.{Send as SendOut}
+use Rattle.ring_core.specs.State.{Core, Sent, all_of, formed}
+use Rattle.ring_core.specs.Giving.{sent}
+use Rattle.ring_core.specs.Visiting.{room_at, new_payloads, to_others, to_next, forwarded}
+use Rattle.ring_moves.specs.Worlds.{put, carried_by, carried_from, started}
+use Rattle.ring_moves.proofs.Lifting.{outs_carried}
+use Rattle.ring_limits.proofs.Runs.{start_fits}
+use Rattle.ring_chain.proofs.Formed.{numbers-append}
+use Rattle.ring_runs.specs.Running.{Ran, none_ran_formed, world_of, opening_frames, IsWorld}
+use Rattle.ring_runs.proofs.Openings.{get-numbers}
+
+-- The first visit sends the token alone
+
+packed_none : {A : Type 0} (n : ℕ) → packed {A = A} n [] ≡ []
+packed_none zero = refl
+packed_none (suc n) = refl
+
+one_addressed : {A : Type 0} (s : Sent A) → length (sent (s ∷ [])) ≤ 1
+one_addressed {A} s =
+    let sends : List (Sent A) → List (Out A) = map (λ (x : Sent A). SendOut x.to x.frame) in
+    cond_both (not (s.to == nobody)) (s ∷ []) [] (λ xs. length (sends xs) ≤ 1) (λ e. omega arith) (λ e. omega arith)
+
+started_sends : {A : Type 0} (n : ℕ) → (started {A = A} n).sends ≡ to_next {A = A} (formed n 1) (forwarded {A = A} (formed n 1) (first_token (all_of n).ring)) ∷ []
+started_sends {A} n =
+    let c : Core A = formed n 1 in
+    let t = first_token (all_of n).ring in
+    let none : new_payloads c t ≡ [] = packed_none (room_at c t) in
+    ap (λ (ps : List (Payload A)). to_others c (numbered t.ring c.me t.seq ps) ++ to_next c (forwarded c t) ∷ []) none
+
+pub started_one : {A : Type 0} (n : ℕ) (outs : List (Out A)) → outs ≡ sent (started {A = A} n).sends → length outs ≤ 1
+started_one {A} n outs e =
+    let c : Core A = formed n 1 in
+    subst (λ (xs : List (Out A)). length xs ≤ 1) (sym (e ∙ ap (λ (xs : List (Sent A)). sent xs) (started_sends n))) (one_addressed (to_next c (forwarded c (first_token (all_of n).ring))))
+
+first_frames : {A : Type 0} (n : ℕ) (outs : List (Out A)) (first : Option (Sent A)) → outs ≡ sent (started {A = A} n).sends → opening_frames first ≡ filter_map (carried_by 1) outs →
+    carried_from {A = A} 1 (started n).sends ≡ opening_frames first ++ []
+first_frames {A} n outs first e f =
+    let sends = (started {A = A} n).sends in
+    sym (outs_carried 1 sends [] tt) ∙ ap (filter_map (carried_by 1)) (append-nil (sent sends) ∙ sym e) ∙ sym f ∙ sym (append-nil (opening_frames first))
+
+-- the last of at most one is the only one
+from_one : {X : Type 0} (rest : List X) (x : X) → length (rest ++ x ∷ []) ≤ 1 → rest ≡ []
+from_one [] x l = refl
+from_one (y ∷ []) x l = absurd (omega (arith, l))
+from_one (y ∷ z ∷ rest) x l = absurd (omega (arith, l))
+
+pub last_alone : {X : Type 0} (xs rest : List X) (x : X) → xs ≡ rest ++ x ∷ [] → length xs ≤ 1 → xs ≡ x ∷ []
+last_alone {X} xs rest x e l = e ∙ ap (λ ys. ys ++ x ∷ []) (from_one rest x (subst (λ (ys : List X). length ys ≤ 1) e l))
+
+pub met : (k n : ℕ) → k ≤ n → n ≤ k → k ≡ n
+met k n below above = omega (arith, below, above)
+
+-- One processor more is in the ring
+
+pub joined_more : {X : Type 0} (f : ℕ → X) (first : X) (xs ys : List X) (k : ℕ) (x : X) (me : ℕ) → 1 ≤ k → xs ≡ first ∷ map f (numbers_from 2 (k - 1)) → ys ≡ xs ++ x ∷ [] →
+    x ≡ f me → me ≡ k + 1 → ys ≡ first ∷ map f (numbers_from 2 (k + 1 - 1))
+joined_more f first xs ys k x me low a b c d =
+    let last : me ≡ 2 + (k - 1) = omega (arith, d, low) in
+    let count : k - 1 + 1 ≡ k + 1 - 1 = omega (arith, low) in
+    b ∙ ap (λ zs. zs ++ x ∷ []) a
+    ∙ ap (λ zs. first ∷ zs) (ap (λ y. map f (numbers_from 2 (k - 1)) ++ y ∷ []) (c ∙ ap f last)
+    ∙ sym (map-append f (numbers_from 2 (k - 1)) ((2 + (k - 1)) ∷ [])) ∙ ap (map f) (numbers-append 2 (k - 1) 1) ∙ ap (λ m. map f (numbers_from 2 m)) count)
+
+-- The opening tells its world
+
+core_at : {A : Type 0} (n i : ℕ) (c : Core A) → i < n → slice_get (c ∷ map (formed n) (numbers_from 2 (n - 1))) i ≡ Some (put (formed n) 1 c (suc i))
+core_at n zero c l = refl
+core_at {A} n (suc i) c l =
+    let f : ℕ → Core A = formed n in
+    let two : 2 + i ≡ suc (suc i) = omega arith in
+    let other : (suc (suc i) == 1) ≡ false = ne_eqb (suc (suc i)) 1 (λ e. omega (arith, e)) in
+    get-numbers f 2 (n - 1) i (omega (arith, l)) ∙ ap (λ k. Some (f k)) two ∙ ap (λ (d : Core A). Some d) (sym (cond-false (suc (suc i) == 1) c (f (suc (suc i))) other))
+
+stands_at : {A : Type 0} (n : ℕ) (first : Option (Sent A)) → 1 ≤ n → n ≤ 16 → carried_from {A = A} 1 (started n).sends ≡ opening_frames first ++ [] →
+    IsWorld {A = A} (world_of (none_ran_formed n)) ((started n).core ∷ map (formed n) (numbers_from 2 (n - 1))) first [] []
+stands_at {A} n first low most frames =
+    let f : ℕ → Core A = formed n in
+    let count : suc (n - 1) ≡ n = omega (arith, low) in
+    record {
+      cores_are = λ i l. core_at n i (started n).core l;
+      many = ap suc (length-map (numbers_from 2 (n - 1)) f ∙ length-numbers_from 2 (n - 1)) ∙ count;
+      outs_are = refl;
+      frames_are = frames;
+      places_are = refl;
+      fits = start_fits n low most;
+    }
+
+pub stands : {A : Type 0} (n : ℕ) (r : Ran A) (cores : List (Core A)) (core : Core A) (sent_outs : List (Out A)) (first : Option (Sent A)) (outs : List (ℕ × Out A)) (places : List ℕ) →
+    1 ≤ n → n ≤ 16 → r ≡ none_ran_formed n → cores ≡ core ∷ map (formed n) (numbers_from 2 (n - 1)) → core ≡ (started n).core → sent_outs ≡ sent (started {A = A} n).sends →
+    opening_frames first ≡ filter_map (carried_by 1) sent_outs → outs ≡ [] → places ≡ [] → IsWorld (world_of r) cores first outs places
+stands {A} n r cores core sent_outs first outs places low most a b c s f o p =
+    rw (a, b, c, o, p) (stands_at n first low most (first_frames n sent_outs first s f))

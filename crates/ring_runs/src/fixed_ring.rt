@@ -1,0 +1,135 @@
+//! Ring cores that are run on a ring of all that is formed from the start.
+
+ghost use Rattle.std.specs.Prelude.{◌≡◌, ℕ, ◌<◌, true, false, [], ◌∷◌, length, filter, IfOk, IfErr, OnOk, OnErr};
+ghost use Rattle.std.specs.List.{AllByRecursion};
+ghost use Rattle.ring_base.specs.declared.fault.Fault.TheVariants.{Memory};
+ghost use Rattle.ring_base.specs.declared.ring_id.RingId.{RingId as OneRing};
+ghost use Rattle.ring_base.specs.Numbers.{numbers_from};
+ghost use Rattle.ring_chain.specs.Told.{AllIsOfFormed, ToldIsHeld, agreed_numbers};
+ghost use Rattle.ring_core.specs.State.{all_of};
+ghost use Rattle.ring_core.specs.Views.{front};
+ghost use Rattle.ring_limits.specs.Limits.{EventFits};
+ghost use Rattle.ring_moves.specs.Texts.{HasOneText};
+ghost use Rattle.ring_moves.specs.Worlds.{acts_on_formed, run_formed};
+ghost use Rattle.ring_runs.specs.Running.{world_of, all_ran};
+
+use crate::cores::Cores;
+use ring_base::{Fault, Fixed, Kind, Proc};
+use ring_core::Out;
+use ring_moves::RingEvent;
+use std::alloc::{Allocator, Global};
+use std::marker::Model;
+
+/// Ring cores of all processors, in the ring (1, 1) of all with nothing held, whose representative has visited the first
+/// token: to be run once.
+#[derive(Drop)]
+pub struct FixedRing<A: Allocator + Copy = Global> {
+    fixed: Fixed,
+    /// None once it was run.
+    cores: Option<Cores<A>>,
+    done: u64,
+}
+
+impl<A: Allocator + Copy> Model for FixedRing<A> {
+    ghost use Rattle.ring_runs.specs.Running.{Prepared, IsPrepared, is_there, none_ran_formed};
+
+    ghost Value = { Prepared };
+
+    ghost view = { λ r. record { count = r.fixed.count; is_fresh = is_there r.cores; done = r.done } };
+
+    ghost invariant = { λ r. IsPrepared (none_ran_formed r.fixed.count) r.cores };
+}
+
+impl<A: Allocator + Copy> FixedRing<A> {
+    /// All processors in the ring of all. What its representative sent is frame 1, the token of number 1. `Memory` where a
+    /// growth was refused.
+    pub fn new(alloc: A, fixed: Fixed) -> Result<FixedRing<A>, Fault>
+        ensures ok { IfOk result (λ ring. ring ≡ record { count = fixed.count; is_fresh = true; done = 0 }) }
+        ensures refused { IfErr result (λ fault. fault ≡ Memory) }
+    {
+        let cores = Cores::formed(alloc, fixed)?;
+        Ok(FixedRing {
+            fixed,
+            cores: Some(cores),
+            done: 0,
+        })
+    }
+
+    /// Runs the events, once; of the timeouts retransmit alone acts. Answers all that was given, in order, each with the
+    /// processor that gave it: of the opening nothing. `Memory` where a growth was refused. Either way `done` tells how many
+    /// events were done: all of them, or fewer.
+    pub fn run(&mut self, events: &[RingEvent<A>]) -> Result<Vec<(Proc, Out<A>), A>, Fault>
+        requires fresh { self.old.is_fresh ≡ true }
+        requires fit { AllByRecursion EventFits events.now }
+        ensures outs { IfOk result (λ outs. outs.items ≡ (run_formed self.old.count events.now).outs) }
+        ensures text { (ring : OneRing) → HasOneText (run_formed self.old.count events.now) ring }
+        ensures held { ToldIsHeld (run_formed self.old.count events.now) }
+        ensures agreed { (i : ℕ) → agreed_numbers (run_formed self.old.count events.now) i ≡ numbers_from 1 (front ((run_formed self.old.count events.now).cores i) (all_of self.old.count).ring) }
+        ensures safe { AllIsOfFormed self.old.count (run_formed self.old.count events.now) }
+        ensures spent { self.new.is_fresh ≡ false }
+        ensures count { self.new.count ≡ self.old.count }
+        ensures all { OnOk result (self.new.done ≡ length events.now) }
+        ensures some { OnErr result (self.new.done < length events.now) }
+        ensures refused { IfErr result (λ fault. fault ≡ Memory) }
+    {
+        prove!(self.fixed.count() >= 1);
+        match self.cores.take() {
+            Some(cores) => {
+                self.done = 0;
+                run_acting(cores, events, &mut self.done)
+            }
+            None => Err(Fault::Memory),
+        }
+    }
+
+    /// How many events of the run were done.
+    pub fn done(&self) -> u64
+        ensures { result ≡ self.now.done }
+    {
+        self.done
+    }
+}
+
+/// Runs the events that act.
+fn run_acting<A: Allocator + Copy>(
+    cores: Cores<A>,
+    events: &[RingEvent<A>],
+    done: &mut u64,
+) -> Result<Vec<(Proc, Out<A>), A>, Fault>
+    requires fit { AllByRecursion EventFits events.now }
+    requires fresh { done.old ≡ 0 }
+    ensures outs { IfOk result (λ outs. outs.items ≡ (world_of (all_ran cores (filter acts_on_formed events.now))).outs) }
+    ensures all { OnOk result (done.new ≡ length events.now) }
+    ensures some { OnErr result (done.new < length events.now) }
+    ensures refused { IfErr result (λ fault. fault ≡ Memory) }
+{
+    let mut world = cores;
+    for event in events {
+        world = acted(world, event)?;
+        *done += 1;
+    }
+    Ok(world.into_outs())
+}
+
+/// An event happens, if it acts.
+fn acted<A: Allocator + Copy>(world: Cores<A>, event: &RingEvent<A>) -> Result<Cores<A>, Fault>
+    requires { EventFits event.now }
+    ensures ok { IfOk result (λ after. after ≡ all_ran world (filter acts_on_formed (event.now ∷ []))) }
+    ensures refused { IfErr result (λ fault. fault ≡ Memory) }
+{
+    if acts_on_formed(event) {
+        world.happens(event)
+    } else {
+        Ok(world)
+    }
+}
+
+/// Whether an event acts on a ring that is formed from the start.
+fn acts_on_formed<A: Allocator + Copy>(event: &RingEvent<A>) -> bool
+    ensures { result ≡ acts_on_formed event.now }
+{
+    match event {
+        RingEvent::Timeout(_, kind) => matches!(kind, Kind::Retransmit),
+        RingEvent::Send(_, _) | RingEvent::Deliver(_, _) | RingEvent::Stop(_) => true,
+    }
+}
