@@ -11,3 +11,5 @@ pub mod Playing
 pub mod Synchrony
 pub mod Ordered
 pub mod Longer
+pub mod Opening
+pub mod Logs

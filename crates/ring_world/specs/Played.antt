@@ -8,7 +8,7 @@ use Rattle.ring_machine.specs.Stepping.{submit_fault}
 use Rattle.ring_history.specs.declared.event.Event.{Event}
 use Rattle.ring_history.specs.declared.event.Event.TheVariants.{Issue, Deliver, Noise, Timeout, Stop}
 use Rattle.ring_history.specs.declared.told.Told.{Told}
-use Rattle.ring_history.specs.declared.told.Told.TheVariants.{Answer, Refused}
+use Rattle.ring_history.specs.declared.told.Told.TheVariants.{Refused}
 use Rattle.ring_history.specs.Worlds.{World, world_opening, run, happens, is_node}
 
 -- all events since the opening, what was told, and how many events of the last run were done

@@ -1,5 +1,4 @@
 -- The ring part of a world is virtually synchronous. Outputs, rule 11 of docs/PROTOCOL.md.
-use Rattle.std.specs.Prelude.{ℕ}
 use Rattle.ring_base.specs.Group.{Group}
 use Rattle.ring_history.specs.Worlds.{World}
 use Rattle.ring_chain.specs.Told.{NameSameMembers}

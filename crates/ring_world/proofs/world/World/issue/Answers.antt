@@ -12,7 +12,7 @@ use Rattle.ring_history.specs.declared.told.Told.TheVariants.{Refused as ToldRef
 use Rattle.ring_history.specs.Limits.{EventFits}
 use Rattle.ring_history.specs.Worlds.{happens, issued_if}
 use Rattle.ring_world.specs.Played.{Played, IsCopy, world_of, Goes}
-use Rattle.ring_world.specs.Spares.{Holds}
+use Rattle.ring_world.specs.Spares.{Spares, Holds}
 use Rattle.ring_world.specs.Keeping.{KeepsCopies, IsWorld}
 use Rattle.ring_world.proofs.Ties.{unknown, node_is, copies_are, spare_there, same_world, same_nodes, issue_world, issue_goes, refusal_world, refusal_goes, set-set, at-set}
 use Rattle.ring_world.proofs.world.World.issue.Goals as goal
@@ -146,3 +146,32 @@ returns-in-Err g c =
       done = ap (λ (r : Played g.row.O-Alloc.Denot). r.done) c.self.view_is;
       refused = tt;
     }
+
+pub idle-requires-clause-same : goal.idle-requires-clause-same
+idle-requires-clause-same g c =
+    let k = c.self.inside in
+    let object = g.O.Object.sequential in
+    let p : Played g.row.O-Alloc.Denot = record { group = k.fixed; events = k.events.items; told = k.told.items; done = k.done } in
+    let low : 1 ≤ c.args.node = omega (arith, c.number.ensures.value, c.number.ensures.in_range.0) in
+    let n = k.nodes.ok.0 in
+    let far : length k.nodes.items ≤ c.args.node - 1 = omega (arith, n, c.len.ensures, c.from-place.ensures, c.number.ensures.value, c.if-place-len.true) in
+    let none = unknown object p k.nodes.items k.spares.items k.frames.frames k.history.items c.self.invariant c.args.node low far in
+    subst (λ (q : Played g.row.O-Alloc.Denot). happens object (world_of object q) c.args.event.now ≡ world_of object q) c.self.view_is
+    (ap (happens object (world_of object p)) c.requires.event ∙ ap (λ b. issued_if b (world_of object p) c.args.node c.args.call.now) none)
+
+pub add-requires : goal.add-requires
+add-requires g c =
+    let k = c.self.inside in
+    let object = g.O.Object.sequential in
+    let p : Played g.row.O-Alloc.Denot = record { group = k.fixed; events = k.events.items; told = k.told.items; done = k.done } in
+    let i = c.args.node in
+    let m = c.from-place.result - 1 in
+    let low : 1 ≤ i = omega (arith, c.number.ensures.value, c.number.ensures.in_range.0) in
+    let at : m ≡ i - 1 = ap (λ x. x - 1) (c.from-place.ensures ∙ c.number.ensures.value) in
+    let n = k.nodes.ok.0 in
+    let inside : m < length k.nodes.items = omega (arith, n, c.len.ensures, c.if-place-len.false) in
+    let there = spare_there object p k.nodes.items k.spares.items k.frames.frames k.history.items c.self.invariant i m low at inside in
+    let t = c.make_room-2.new.self in
+    let r = c.index_mut-in-Ok.result.now in
+    let same : r ≡ t = at-set k.spares.items m t r there c.index_mut-in-Ok.ensures.value in
+    subst (λ (x : Spares g.row.O-Alloc.Denot). 0 < x.places) (sym same) c.in_ok-make_room-2.ensures.room
