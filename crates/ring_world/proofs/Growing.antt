@@ -76,9 +76,11 @@ module _ {O A : Type 0} (object : Sequential O) where
       let old = node_committed n in
       let rest : drop (length old) (committed_of n.group life) ≡ front.0 = ap (drop (length old)) (is ∙ sym front.1) ∙ drop-append_seam old front.0 in
       let g = goes_on object n.tickets old (drop (length old) (committed_of n.group life)) calls h in
-      let all : old ++ drop (length old) (committed_of n.group life) ≡ node_committed new = ap (λ l. old ++ l) rest ∙ front.1 in
-      (g.left, subst (λ ts. Holds (after_answers calls (settled object true n new outs life).answers) ts (node_committed new)) (sym tickets)
-          (subst (Holds (after_answers calls (settled object true n new outs life).answers) n.tickets) all g.holds))
+      let all : old ++ drop (length old) (committed_of n.group life) ≡ node_committed new = ap (λ l. old ++ l) rest ∙ front.1 in (
+        g.left,
+        subst (λ ts. Holds (after_answers calls (settled object true n new outs life).answers) ts (node_committed new)) (sym tickets)
+            (subst (Holds (after_answers calls (settled object true n new outs life).answers) n.tickets) all g.holds),
+      )
 
   core-goes : (n : Node A) (s : Stepped A) (calls : List (Option (Call A))) → IsFront (node_committed n) (node_committed (after_core object n s).node) → Holds calls n.tickets (node_committed n) →
       AllLeft calls (after_core object n s).answers × Holds (after_answers calls (after_core object n s).answers) (after_core object n s).node.tickets (node_committed (after_core object n s).node)

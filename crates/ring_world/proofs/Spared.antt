@@ -125,8 +125,8 @@ module _ {O A : Type 0} (object : Sequential O) where
       skipped (committed ++ d ∷ []) calls ticket t ts (answers_at object (committed ++ d ∷ []) (length committed) (ticket + 1) ts)
       (λ w. subst (λ n. IsLeft calls n t.call) at (wait zero t refl (waits_on committed d t w)))
       (rest calls (λ k u at_u w.
-          let n : ticket + suc k ≡ (ticket + 1) + k = omega arith in
-          subst (λ m. IsLeft calls m u.call) n (wait (suc k) u at_u w)))
+      let n : ticket + suc k ≡ (ticket + 1) + k = omega arith in
+      subst (λ m. IsLeft calls m u.call) n (wait (suc k) u at_u w)))
 
   -- Either
 
@@ -147,8 +147,8 @@ module _ {O A : Type 0} (object : Sequential O) where
         let here = subst (λ n. IsLeft calls n t.call) at (wait zero t refl (was_waiting committed d t (at_place (length committed) (place_of now t) e))) in
         taken now calls ticket t ts (answers_at object now (length committed) (ticket + 1) ts) a here (not_place (length committed) (place_of now t) e)
         (rest (without calls ticket) (λ k u at_u w.
-            let n : ticket + suc k ≡ (ticket + 1) + k = omega arith in
-            get-set_other calls ticket ((ticket + 1) + k) None (λ q. (let f : ⊥ = omega (arith, q) in f)) ∙ subst (λ m. IsLeft calls m u.call) n (wait (suc k) u at_u w)))
+        let n : ticket + suc k ≡ (ticket + 1) + k = omega arith in
+        get-set_other calls ticket ((ticket + 1) + k) None (λ q. (let f : ⊥ = omega (arith, q) in f)) ∙ subst (λ m. IsLeft calls m u.call) n (wait (suc k) u at_u w)))
 
     group : (calls : List (Option (Call A))) (ticket : ℕ) (ts : List (Asked A)) → Wait committed calls ticket ts → IsGroup now calls ticket ts (answers_at object now (length committed) ticket ts)
     group calls ticket [] wait = record { left = tt; each = λ k t e w. absurd (let q : ⊥ = cc e in q); below = λ j l. refl; many = refl }

@@ -148,6 +148,7 @@ module _ {A : Type 0} where
         within = is.within;
         spelled = is.spelled;
       }
+
   pub for_found : (frames : List (Carried A)) (bytes : List ℕ) (marks : List Mark) (h : AreFrames frames bytes marks) (node number : ℕ) (o : Option Mark) (m : Mark) → mark_at marks number ≡ o →
       mark_for node o ≡ Some m → IsFor bytes m (frame_for node (frame_at frames number))
   for_found frames bytes marks h node number None m at e = absurd (let q : ⊥ = cc e in q)

@@ -66,7 +66,9 @@ fn reply<A: Allocator + Copy>(history: &mut Vec<Item<A>, A>, call: Call<A>, answ
     ensures capacity { vec_capacity history.new ≡ vec_capacity history.old }
 {
     match answer {
-        Answer::Done(reply) | Answer::Kept(reply) => history.push_reserved(Item::Reply(call, *reply)),
+        Answer::Done(reply) | Answer::Kept(reply) => history.push_reserved(Item::Reply(
+            call, *reply,
+        )),
         Answer::Refused(_) => {}
     }
 }

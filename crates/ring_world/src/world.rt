@@ -260,7 +260,12 @@ impl<O: Object> World<O> {
     }
 
     /// A node steps; an unknown one changes nothing.
-    fn step(&mut self, node: Proc, input: Input<O::Alloc>, event: &Event<O::Alloc>) -> Result<(), Fault>
+    fn step(
+        &mut self,
+        node: Proc,
+        input: Input<O::Alloc>,
+        event: &Event<O::Alloc>,
+    ) -> Result<(), Fault>
         requires fits { InputFits input }
         requires same { happens O.sequential (world_of O.sequential self.old) event.now ≡ stepped O.sequential (world_of O.sequential self.old) node input }
         requires steps { steps_node event.now ≡ Some node }
@@ -277,7 +282,12 @@ impl<O: Object> World<O> {
             return self.idle(event);
         }
         let kept = copied_event(event)?;
-        make_room(&mut self.events, &mut self.told, &mut self.history, &mut self.frames)?;
+        make_room(
+            &mut self.events,
+            &mut self.told,
+            &mut self.history,
+            &mut self.frames,
+        )?;
         match self.nodes[place].step(input) {
             Ok(outs) => {
                 let Outs {
@@ -286,7 +296,13 @@ impl<O: Object> World<O> {
                     committed: _,
                 } = outs;
                 keep_all(&mut self.frames, node, &sends);
-                tell(&mut self.told, &mut self.history, &mut self.spares[place], node, answers);
+                tell(
+                    &mut self.told,
+                    &mut self.history,
+                    &mut self.spares[place],
+                    node,
+                    answers,
+                );
                 self.events.push_reserved(kept);
             }
             Err(Fault::Stopped) => self.events.push_reserved(kept),
@@ -317,7 +333,12 @@ impl<O: Object> World<O> {
     }
 
     /// A call is submitted at a node; at an unknown one it changes nothing.
-    fn issue(&mut self, node: Proc, call: &Call<O::Alloc>, event: &Event<O::Alloc>) -> Result<(), Fault>
+    fn issue(
+        &mut self,
+        node: Proc,
+        call: &Call<O::Alloc>,
+        event: &Event<O::Alloc>,
+    ) -> Result<(), Fault>
         requires fits { EventFits event.now }
         requires event { event.now ≡ Issue node call.now }
         ensures ok { OnOk result (Goes O.sequential event.now self.old self.new) }
@@ -332,7 +353,12 @@ impl<O: Object> World<O> {
         let kept = copied_event(event)?;
         let copy = copied_call(call)?;
         let spare = copied_call(call)?;
-        make_room(&mut self.events, &mut self.told, &mut self.history, &mut self.frames)?;
+        make_room(
+            &mut self.events,
+            &mut self.told,
+            &mut self.history,
+            &mut self.frames,
+        )?;
         self.spares[place].make_room()?;
         match self.nodes[place].submit_on(call) {
             Ok(_) => {
@@ -347,8 +373,13 @@ impl<O: Object> World<O> {
 }
 
 /// The nodes at their opening, or `Memory`.
-fn opened<O: Object>(alloc: O::Alloc, fixed: Fixed, count: u8) -> Result<Vec<Node<O>, O::Alloc>, Fault>
-    requires { count ≡ fixed.count }
+fn opened<O: Object>(
+    alloc: O::Alloc,
+    fixed: Fixed,
+    count: u8,
+) -> Result<Vec<Node<O>, O::Alloc>, Fault>
+    requires same { count ≡ fixed.count }
+    requires few { count ≤ 16 }
     ensures ok { IfOk result (λ nodes. nodes.items ≡ map (node_opening fixed) (numbers_from 1 count)) }
     ensures refused { IfErr result (λ fault. fault ≡ Memory) }
 {

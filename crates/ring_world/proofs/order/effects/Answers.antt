@@ -1,4 +1,4 @@
-use Rattle.std.proofs.Common.{◌≡◌, ◌+◌, take, length, refl, ap, ◌∙◌, sym, subst}
+use Rattle.std.proofs.Common.{take, length, refl, ap, ◌∙◌, sym, subst}
 use Rattle.std.proofs.lemmas.Option.{slice_get_read}
 use Rattle.ring_session.specs.Deduplicated.{deduplicated}
 use Rattle.ring_world.specs.Ordering.{IsOrdered}

@@ -1,5 +1,4 @@
-use Rattle.std.proofs.Common.{◌≡◌, ◌+◌, ◌<◌, ◌≤◌, take, length, Option, ℕ, refl, ap, ◌∙◌, sym, subst, arith}
-use Rattle.std.proofs.lemmas.Bool.Decides.{nat_tests}
+use Rattle.std.proofs.Common.{◌+◌, ◌<◌, ◌≤◌, take, length, Option, ℕ, refl, ap, ◌∙◌, sym, subst, arith}
 use Rattle.std.proofs.lemmas.Option.{slice_get_read}
 use Rattle.ring_machine.specs.Nodes.{node_committed}
 use Rattle.ring_session.specs.Deduplicated.{deduplicated}
@@ -25,9 +24,10 @@ loop-place-preserved g c =
           (w.most-is ∙ len ∙ ap length (sym (replaced xs i x at more)), subst (λ (o : Option ℕ). IsLongest (take (i + 1) xs) o) (sym w.longest-is) (is-longest xs i x at more))
       | else-len-most w ↦
           let test = w.if-len-most.false in
-          let less : length (deduplicated (node_committed x)) ≤ length (order_of (logs_of (take i xs))) = omega (arith, test, most, len) in
-          (w.most-is ∙ most ∙ ap length (sym (stays xs i x at less)),
-              subst (λ (o : Option ℕ). IsLongest (take (i + 1) xs) o) (sym w.longest-is) (still-longest xs i x at c.loop-place.longest less c.loop-place.invariant.1))
+          let less : length (deduplicated (node_committed x)) ≤ length (order_of (logs_of (take i xs))) = omega (arith, test, most, len) in (
+            w.most-is ∙ most ∙ ap length (sym (stays xs i x at less)),
+            subst (λ (o : Option ℕ). IsLongest (take (i + 1) xs) o) (sym w.longest-is) (still-longest xs i x at c.loop-place.longest less c.loop-place.invariant.1),
+          )
     ]
 
 pub returns-clause-len : goal.returns-clause-len

@@ -1,5 +1,5 @@
 -- Answers are told one by one.
-use Rattle.std.proofs.Common.{[], ◌++◌, List, ◌≡◌, ◌<◌, ◌≤◌, take, length, refl, ap, ◌∙◌, sym, subst, arith}
+use Rattle.std.proofs.Common.{[], ◌++◌, List, ◌≡◌, refl, ap, ◌∙◌, sym, subst, arith}
 use Rattle.std.specs.Prelude.{vec_len, vec_capacity}
 use Rattle.std.proofs.lemmas.List.{map-id}
 use Rattle.std.proofs.lemmas.Iterator.Adapters.{YieldsList-from_vec}
@@ -52,8 +52,7 @@ pub loop-answered-preserved : goal.loop-answered-preserved
 loop-answered-preserved g c =
     let i = c.loop-answered.invariant in
     let e = c.tell_one.ensures in
-    let told_more = e.told_len in
-    (
+    let told_more = e.told_len in (
       one_told c.args.node c.loop-answered.yielded c.args.told.now.items c.args.history.now.items c.args.spares.now.calls c.in-Some.answered c.loop-answered.told.items c.tell_one.new.told.items
           c.loop-answered.history.items c.tell_one.new.history.items c.loop-answered.spares.calls c.tell_one.new.spares.calls i.0 e.told e.history e.spares,
       one_taken c.loop-answered.yielded c.in-Some.answered (vec_len c.args.told.now) (vec_len c.loop-answered.told) (vec_len c.tell_one.new.told) (vec_capacity c.args.told.now) (vec_capacity c.loop-answered.told)

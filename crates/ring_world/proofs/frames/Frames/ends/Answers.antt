@@ -1,5 +1,5 @@
 -- Each mark tells its frame's sender and receivers.
-use Rattle.std.proofs.Common.{◌≡◌, Some, None, ap, ◌∙◌, sym}
+use Rattle.std.proofs.Common.{ap, ◌∙◌, sym}
 use Rattle.std.specs.Prelude.{option_map}
 use Rattle.ring_core.specs.State.{Carried}
 use Rattle.ring_history.specs.Worlds.{frame_at}

@@ -1,9 +1,8 @@
 -- The frame stands where its mark says.
-use Rattle.std.proofs.Common.{◌≡◌, ◌≤◌, length, Some, None, ap, ◌∙◌, sym, subst}
+use Rattle.std.proofs.Common.{◌≡◌, ◌≤◌, length, Some, ap, ◌∙◌, sym, subst}
 use Rattle.std.specs.Prelude.{slice_range}
-use Rattle.ring_wire.specs.Frames.{spelling_of, FrameFits}
-use Rattle.ring_wire.specs.Spells.{Spells}
-use Rattle.ring_world.specs.Stored.{Stored, mark_at, mark_for, frame_for}
+use Rattle.ring_wire.specs.Frames.{spelling_of}
+use Rattle.ring_world.specs.Stored.{Stored, mark_at, frame_for}
 use Rattle.ring_history.specs.Worlds.{frame_at}
 use Rattle.ring_world.proofs.Storing.{for_found, for_missing}
 use Rattle.ring_world.proofs.frames.Frames.frame_to.Goals as goal

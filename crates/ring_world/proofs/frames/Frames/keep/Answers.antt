@@ -1,5 +1,5 @@
 -- One frame more is kept.
-use Rattle.std.proofs.Common.{◌≡◌, ℕ, ◌+◌, ◌≤◌, length, ap, ◌∙◌, sym, subst, refl, arith}
+use Rattle.std.proofs.Common.{◌+◌, sym, subst, refl, arith}
 use Rattle.ring_wire.specs.Frames.{spelling_of}
 use Rattle.ring_world.specs.Stored.{HasRoom}
 use Rattle.ring_world.proofs.Storing.{kept}

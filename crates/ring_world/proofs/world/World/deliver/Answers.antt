@@ -1,5 +1,5 @@
 -- What is handed over is the frame that was sent to the node, which keeps its limits.
-use Rattle.std.proofs.Common.{◌≡◌, Some, None, refl, ap, ◌∙◌, sym, subst}
+use Rattle.std.proofs.Common.{◌≡◌, ap, ◌∙◌, sym, subst}
 use Rattle.ring_history.specs.Limits.{EventFits}
 use Rattle.ring_machine.specs.declared.input.Input.TheVariants.{Frame as FrameInput}
 use Rattle.ring_history.specs.Worlds.{happens, stepped, frame_at}
@@ -25,7 +25,7 @@ step-requires-clause-same g c =
     let w = world_of object p in
     subst (λ (r : Played g.row.O-Alloc.Denot). happens object (world_of object r) c.args.event.now ≡ stepped object (world_of object r) c.args.node (FrameInput c.in-Some.frame)) c.self.view_is
     (ap (happens object w) c.requires ∙ handed_is object w c.args.node (frame_at w.frames c.args.number)
-        ∙ ap (hands object w c.args.node) (ap (λ fs. frame_for c.args.node (frame_at fs c.args.number)) (sym c.self.invariant.kept.frames_are) ∙ sym c.in_ok-sent.ensures.ok ∙ c.in-Some.is))
+    ∙ ap (hands object w c.args.node) (ap (λ fs. frame_for c.args.node (frame_at fs c.args.number)) (sym c.self.invariant.kept.frames_are) ∙ sym c.in_ok-sent.ensures.ok ∙ c.in-Some.is))
 
 pub step-requires-clause-steps : goal.step-requires-clause-steps
 step-requires-clause-steps g c = ap steps_node c.requires
@@ -41,4 +41,4 @@ idle-requires-clause-same g c =
     let w = world_of object p in
     subst (λ (r : Played g.row.O-Alloc.Denot). happens object (world_of object r) c.args.event.now ≡ world_of object r) c.self.view_is
     (ap (happens object w) c.requires ∙ handed_is object w c.args.node (frame_at w.frames c.args.number)
-        ∙ ap (hands object w c.args.node) (ap (λ fs. frame_for c.args.node (frame_at fs c.args.number)) (sym c.self.invariant.kept.frames_are) ∙ sym c.in_ok-sent.ensures.ok ∙ c.in-None.is))
+    ∙ ap (hands object w c.args.node) (ap (λ fs. frame_for c.args.node (frame_at fs c.args.number)) (sym c.self.invariant.kept.frames_are) ∙ sym c.in_ok-sent.ensures.ok ∙ c.in-None.is))

@@ -1,12 +1,11 @@
 -- A submit gives a ticket, whose call has a second copy; or it is refused, and told.
-use Rattle.std.proofs.Common.{◌≡◌, ℕ, ◌-◌, ◌<◌, ◌≤◌, List, [], ◌∷◌, ◌++◌, length, Option, Some, None, get_or, refl, ap, ◌∙◌, sym, subst, arith}
+use Rattle.std.proofs.Common.{◌≡◌, ◌-◌, ◌<◌, ◌≤◌, [], ◌∷◌, ◌++◌, length, Some, refl, ap, ◌∙◌, sym, subst, arith}
 use Rattle.std.specs.Prelude.{slice_set, MatchOption}
 use Rattle.ring_base.specs.declared.fault.Fault.TheVariants.{Memory}
 use Rattle.ring_base.specs.Fault.{fault_number}
 use Rattle.ring_machine.specs.Nodes.{Node, node_committed}
 use Rattle.ring_machine.specs.Stepping.{submit_fault, submitted}
 use Rattle.ring_history.specs.declared.event.Event.{Event}
-use Rattle.ring_history.specs.declared.event.Event.TheVariants.{Issue}
 use Rattle.ring_history.specs.declared.item.Item.TheVariants.{Issue as IssuedItem}
 use Rattle.ring_history.specs.declared.told.Told.TheVariants.{Refused as ToldRefused}
 use Rattle.ring_history.specs.Limits.{EventFits}
@@ -62,11 +61,11 @@ invariant_of-self-in-Ok g c =
     subst (λ es. IsWorld object k.fixed es (slice_set k.nodes.items m c.submit_on.new.self) (slice_set (slice_set k.spares.items m t) m c.add.new.self) c.make_room.new.frames.frames c.push_reserved.new.self.items)
     (sym (c.push_reserved-in-Ok.ensures.items ∙ ap (λ es. es ++ c.in_ok-kept.kept ∷ []) c.in_ok-make_room.ensures.events))
     (rw (c.in_ok-make_room.ensures.frames)
-        (issue_world object p k.nodes.items k.spares.items k.frames.frames k.history.items inv i m low at inside c.args.call.now c.in_ok-kept.kept copy fits free c.submit_on.new.self t c.add.new.self (slice_set k.nodes.items m c.submit_on.new.self)
-        (slice_set (slice_set k.spares.items m t) m c.add.new.self) c.push_reserved.new.self.items keeps_on
-        (c.in-Ok.ensures.ok ∙ ap (λ (x : Node g.row.O-Alloc.Denot). submitted x c.args.call.now) node) refl (set-set k.spares.items m t c.add.new.self)
-        (c.add.ensures ∙ ap (λ x. x.calls ++ Some c.in_ok-spare.spare ∷ []) same ∙ ap (λ x. t.calls ++ Some x ∷ []) c.in_ok-spare.ensures.ok)
-        (c.push_reserved.ensures.items ∙ ap (λ xs. xs ++ IssuedItem c.in_ok-copy.copy ∷ []) c.in_ok-make_room.ensures.history ∙ ap (λ x. k.history.items ++ IssuedItem x ∷ []) c.in_ok-copy.ensures.ok)))
+    (issue_world object p k.nodes.items k.spares.items k.frames.frames k.history.items inv i m low at inside c.args.call.now c.in_ok-kept.kept copy fits free c.submit_on.new.self t c.add.new.self (slice_set k.nodes.items m c.submit_on.new.self)
+    (slice_set (slice_set k.spares.items m t) m c.add.new.self) c.push_reserved.new.self.items keeps_on
+    (c.in-Ok.ensures.ok ∙ ap (λ (x : Node g.row.O-Alloc.Denot). submitted x c.args.call.now) node) refl (set-set k.spares.items m t c.add.new.self)
+    (c.add.ensures ∙ ap (λ x. x.calls ++ Some c.in_ok-spare.spare ∷ []) same ∙ ap (λ x. t.calls ++ Some x ∷ []) c.in_ok-spare.ensures.ok)
+    (c.push_reserved.ensures.items ∙ ap (λ xs. xs ++ IssuedItem c.in_ok-copy.copy ∷ []) c.in_ok-make_room.ensures.history ∙ ap (λ x. k.history.items ++ IssuedItem x ∷ []) c.in_ok-copy.ensures.ok)))
 
 pub returns-in-Ok-clause-ok : goal.returns-in-Ok-clause-ok
 returns-in-Ok-clause-ok g c =
@@ -87,8 +86,8 @@ returns-in-Ok-clause-ok g c =
     let free = ap submit_fault (sym node) ∙ c.in-Ok.ensures.taken in
     subst (λ (r : Played g.row.O-Alloc.Denot). Goes object c.args.event.now r q) c.self.view_is
     (subst (λ (e : Event g.row.O-Alloc.Denot). Goes object e p q) (sym c.requires.event)
-        (issue_goes object p k.nodes.items k.spares.items k.frames.frames k.history.items inv i m low at inside q c.args.call.now c.in_ok-kept.kept copy free refl
-        (c.push_reserved-in-Ok.ensures.items ∙ ap (λ es. es ++ c.in_ok-kept.kept ∷ []) c.in_ok-make_room.ensures.events) c.in_ok-make_room.ensures.told))
+    (issue_goes object p k.nodes.items k.spares.items k.frames.frames k.history.items inv i m low at inside q c.args.call.now c.in_ok-kept.kept copy free refl
+    (c.push_reserved-in-Ok.ensures.items ∙ ap (λ es. es ++ c.in_ok-kept.kept ∷ []) c.in_ok-make_room.ensures.events) c.in_ok-make_room.ensures.told))
 
 pub invariant_of-self-in-Err-1 : goal.invariant_of-self-in-Err-1
 invariant_of-self-in-Err-1 g c =
@@ -114,8 +113,8 @@ invariant_of-self-in-Err-1 g c =
     let why = subst (λ (x : Node g.row.O-Alloc.Denot). MatchOption (submit_fault x) (c.in-Err.fault ≡ Memory) (λ first. c.in-Err.fault ≡ first)) node c.in-Err.ensures.refused in
     rw (c.in_ok-make_room.ensures.frames, c.in_ok-make_room.ensures.history, stays)
     (refusal_world object p k.nodes.items k.spares.items k.frames.frames k.history.items inv i m low at inside c.args.call.now c.in_ok-kept.kept c.in-Err.fault o copy fits refl why c.refuse.new.events.items
-        (λ e. c.refuse.ensures.left_out e ∙ c.in_ok-make_room.ensures.events) (λ f. c.refuse.ensures.kept f ∙ ap (λ es. es ++ c.in_ok-kept.kept ∷ []) c.in_ok-make_room.ensures.events)
-        t (slice_set k.spares.items m t) refl keeps_on)
+    (λ e. c.refuse.ensures.left_out e ∙ c.in_ok-make_room.ensures.events) (λ f. c.refuse.ensures.kept f ∙ ap (λ es. es ++ c.in_ok-kept.kept ∷ []) c.in_ok-make_room.ensures.events)
+    t (slice_set k.spares.items m t) refl keeps_on)
 
 pub returns-in-Err : goal.returns-in-Err
 returns-in-Err g c =

@@ -14,4 +14,4 @@ returns g c =
     let p : Played g.row.O-Alloc.Denot = record { group = k.fixed; events = k.events.items; told = k.told.items; done = k.done } in
     subst (λ (q : Played g.row.O-Alloc.Denot). c.longest-len.result.1 ≡ length (order (world_of object q))) c.self.view_is
     (c.longest-len.ensures.len ∙ ap (λ xs. length (order_of (logs_of xs))) c.deref.ensures.value
-        ∙ ap length (logs-order object p k.nodes.items k.spares.items k.frames.frames k.history.items c.self.invariant))
+    ∙ ap length (logs-order object p k.nodes.items k.spares.items k.frames.frames k.history.items c.self.invariant))

@@ -1,5 +1,5 @@
 -- What holds of every run holds of this one.
-use Rattle.std.proofs.Common.{◌≡◌, ◌≤◌, ℕ, List, take, ap, sym, subst}
+use Rattle.std.proofs.Common.{◌≤◌, take, sym, subst}
 use Rattle.ring_base.specs.Fronts.{IsFront}
 use Rattle.ring_base.specs.Group.{Group}
 use Rattle.ring_history.specs.Worlds.{World, order}
@@ -38,7 +38,7 @@ returns-clause-grows g c =
     let l = plays_longer object es p q (plays_from object es 0 p q c.run_all.ensures.plays) in
     subst (λ (r : Played g.row.O-Alloc.Denot). IsFront (order (world_of object r)) (order (world_of object q))) c.self.view_is
     (subst (λ (x : World g.row.O-Alloc.Denot). IsFront (order (world_of object p)) (order x)) (sym (world_later object p q l))
-        (c.linear_law.ensures.grows k.fixed k.events.items l.later c.self.invariant.few))
+    (c.linear_law.ensures.grows k.fixed k.events.items l.later c.self.invariant.few))
 
 pub returns-clause-fronts : goal.returns-clause-fronts
 returns-clause-fronts g c = λ node low high.

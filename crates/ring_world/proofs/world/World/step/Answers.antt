@@ -1,18 +1,15 @@
 -- A step of a node is a step of the world, and its answers have their copies; where memory was refused, it stands as a stop.
-use Rattle.std.proofs.Common.{◌≡◌, ℕ, ◌+◌, ◌-◌, ◌*◌, ◌<◌, ◌≤◌, List, [], ◌∷◌, ◌++◌, length, refl, ap, ◌∙◌, sym, subst, arith}
-use Rattle.std.specs.Prelude.{vec_len, slice_set}
+use Rattle.std.proofs.Common.{◌≡◌, ◌-◌, ◌<◌, ◌≤◌, [], ◌∷◌, ◌++◌, length, refl, ap, ◌∙◌, sym, subst, arith}
+use Rattle.std.specs.Prelude.{slice_set}
 use Rattle.std.specs.List.{AllByRecursion}
 use Rattle.ring_wire.specs.Frames.{FrameFits}
 use Rattle.ring_core.specs.State.{Sent}
 use Rattle.ring_machine.specs.Nodes.{Node, node_stopped, is_stopped}
-use Rattle.ring_machine.specs.Stepping.{NodeStepped, node_step}
-use Rattle.ring_ticket.specs.declared.answered.Answered.{Answered}
-use Rattle.ring_history.specs.declared.event.Event.{Event}
+use Rattle.ring_machine.specs.Stepping.{node_step}
 use Rattle.ring_history.specs.declared.event.Event.TheVariants.{Stop}
-use Rattle.ring_history.specs.Worlds.{World, happens, stepped, stepped_if, carried, items_of, told_by}
+use Rattle.ring_history.specs.Worlds.{happens, stepped, stepped_if, carried, items_of, told_by}
 use Rattle.ring_world.specs.Played.{Played, world_of, Goes}
-use Rattle.ring_world.specs.Spares.{Spares, AllLeft, after_answers}
-use Rattle.ring_world.specs.Stored.{HasRoom}
+use Rattle.ring_world.specs.Spares.{AllLeft, after_answers}
 use Rattle.ring_world.specs.Keeping.{IsWorld}
 use Rattle.ring_world.proofs.Ties.{steps_fits, unknown, node_is, copies_are, spare_there, high, answers_left, step_world, step_goes, silent_world, silent_goes, stop_world, refused_goes}
 use Rattle.ring_world.proofs.Refusals.{was_stopped, room_less}
@@ -144,10 +141,10 @@ invariant_of-self-in-Ok g c =
     subst (λ es. IsWorld object k.fixed es (slice_set k.nodes.items m c.step.new.self) (slice_set k.spares.items m c.tell.new.spares) c.keep_all.new.frames.frames c.tell.new.history.items)
     (sym (c.push_reserved.ensures.items ∙ ap (λ es. es ++ c.in_ok-kept.kept ∷ []) c.in_ok-make_room.ensures.events))
     (step_world object p k.nodes.items k.spares.items k.frames.frames k.history.items inv i m low at inside c.args.event.now c.in_ok-kept.kept c.args.input c.in_ok-kept.ensures.ok
-        (steps_fits c.args.event.now i c.requires.steps) same c.step.new.self s c.tell.new.spares (slice_set k.nodes.items m c.step.new.self) (slice_set k.spares.items m c.tell.new.spares) c.keep_all.new.frames.frames
-        c.tell.new.history.items keeps (c.in-Ok.ensures.ok ∙ ap (λ (x : Node g.row.O-Alloc.Denot). (node_step object x c.args.input).node) node) refl refl
-        (c.tell.ensures.spares ∙ ap (after_answers s.calls) answers) (c.keep_all.ensures ∙ ap (λ fs. fs ++ carried i c.deref.result.now) c.in_ok-make_room.ensures.frames ∙ ap (λ xs. k.frames.frames ++ carried i xs) sends)
-        (c.tell.ensures.history ∙ ap (λ is. is ++ items_of c.in-Ok.outs.answers.items) c.in_ok-make_room.ensures.history ∙ ap (λ xs. k.history.items ++ items_of xs) answers))
+    (steps_fits c.args.event.now i c.requires.steps) same c.step.new.self s c.tell.new.spares (slice_set k.nodes.items m c.step.new.self) (slice_set k.spares.items m c.tell.new.spares) c.keep_all.new.frames.frames
+    c.tell.new.history.items keeps (c.in-Ok.ensures.ok ∙ ap (λ (x : Node g.row.O-Alloc.Denot). (node_step object x c.args.input).node) node) refl refl
+    (c.tell.ensures.spares ∙ ap (after_answers s.calls) answers) (c.keep_all.ensures ∙ ap (λ fs. fs ++ carried i c.deref.result.now) c.in_ok-make_room.ensures.frames ∙ ap (λ xs. k.frames.frames ++ carried i xs) sends)
+    (c.tell.ensures.history ∙ ap (λ is. is ++ items_of c.in-Ok.outs.answers.items) c.in_ok-make_room.ensures.history ∙ ap (λ xs. k.history.items ++ items_of xs) answers))
 
 pub returns-in-Ok-clause-ok : goal.returns-in-Ok-clause-ok
 returns-in-Ok-clause-ok g c =
@@ -167,8 +164,8 @@ returns-in-Ok-clause-ok g c =
     let answers = c.in-Ok.ensures.answers ∙ ap (λ (x : Node g.row.O-Alloc.Denot). (node_step object x c.args.input).answers) node in
     subst (λ (r : Played g.row.O-Alloc.Denot). Goes object c.args.event.now r q) c.self.view_is
     (step_goes object p k.nodes.items k.spares.items k.frames.frames k.history.items inv i m low at inside q c.args.event.now c.in_ok-kept.kept c.args.input c.in_ok-kept.ensures.ok same refl
-        (c.push_reserved.ensures.items ∙ ap (λ es. es ++ c.in_ok-kept.kept ∷ []) c.in_ok-make_room.ensures.events)
-        (c.tell.ensures.told ∙ ap (λ ts. ts ++ told_by i c.in-Ok.outs.answers.items) c.in_ok-make_room.ensures.told ∙ ap (λ xs. k.told.items ++ told_by i xs) answers))
+    (c.push_reserved.ensures.items ∙ ap (λ es. es ++ c.in_ok-kept.kept ∷ []) c.in_ok-make_room.ensures.events)
+    (c.tell.ensures.told ∙ ap (λ ts. ts ++ told_by i c.in-Ok.outs.answers.items) c.in_ok-make_room.ensures.told ∙ ap (λ xs. k.told.items ++ told_by i xs) answers))
 
 pub returns-in-Ok-clause-done : goal.returns-in-Ok-clause-done
 returns-in-Ok-clause-done g c = ap (λ (r : Played g.row.O-Alloc.Denot). r.done) c.self.view_is
@@ -191,9 +188,9 @@ invariant_of-self-in-Err-Stopped g c =
     subst (λ es. IsWorld object k.fixed es (slice_set k.nodes.items m c.step.new.self) k.spares.items c.make_room.new.frames.frames c.make_room.new.history.items)
     (sym (c.push_reserved-in-Err-Stopped.ensures.items ∙ ap (λ es. es ++ c.in_ok-kept.kept ∷ []) c.in_ok-make_room.ensures.events))
     (rw (c.in_ok-make_room.ensures.frames, c.in_ok-make_room.ensures.history)
-        (silent_world object p k.nodes.items k.spares.items k.frames.frames k.history.items inv i m low at inside c.args.event.now c.in_ok-kept.kept c.args.input c.in_ok-kept.ensures.ok
-        (steps_fits c.args.event.now i c.requires.steps) same c.step.new.self (slice_set k.nodes.items m c.step.new.self)
-        (ap (λ (x : Node g.row.O-Alloc.Denot). is_stopped x.core.state) (sym node) ∙ stopped) (c.in-Err-Stopped.ensures.err ∙ ap node_stopped node) refl))
+    (silent_world object p k.nodes.items k.spares.items k.frames.frames k.history.items inv i m low at inside c.args.event.now c.in_ok-kept.kept c.args.input c.in_ok-kept.ensures.ok
+    (steps_fits c.args.event.now i c.requires.steps) same c.step.new.self (slice_set k.nodes.items m c.step.new.self)
+    (ap (λ (x : Node g.row.O-Alloc.Denot). is_stopped x.core.state) (sym node) ∙ stopped) (c.in-Err-Stopped.ensures.err ∙ ap node_stopped node) refl))
 
 pub returns-in-Err-Stopped-clause-ok : goal.returns-in-Err-Stopped-clause-ok
 returns-in-Err-Stopped-clause-ok g c =
@@ -213,8 +210,8 @@ returns-in-Err-Stopped-clause-ok g c =
     let stopped = was_stopped (is_stopped c.index_mut.result.now.core.state) c.in-Err-Stopped.field-0 c.in-Err-Stopped.ensures.refused c.in-Err-Stopped.field-0-is in
     subst (λ (r : Played g.row.O-Alloc.Denot). Goes object c.args.event.now r q) c.self.view_is
     (silent_goes object p k.nodes.items k.spares.items k.frames.frames k.history.items inv i m low at inside q c.args.event.now c.in_ok-kept.kept c.args.input c.in_ok-kept.ensures.ok same
-        (ap (λ (x : Node g.row.O-Alloc.Denot). is_stopped x.core.state) (sym node) ∙ stopped) refl
-        (c.push_reserved-in-Err-Stopped.ensures.items ∙ ap (λ es. es ++ c.in_ok-kept.kept ∷ []) c.in_ok-make_room.ensures.events) c.in_ok-make_room.ensures.told)
+    (ap (λ (x : Node g.row.O-Alloc.Denot). is_stopped x.core.state) (sym node) ∙ stopped) refl
+    (c.push_reserved-in-Err-Stopped.ensures.items ∙ ap (λ es. es ++ c.in_ok-kept.kept ∷ []) c.in_ok-make_room.ensures.events) c.in_ok-make_room.ensures.told)
 
 pub invariant_of-self-in-Err : goal.invariant_of-self-in-Err
 invariant_of-self-in-Err g c =
@@ -232,8 +229,8 @@ invariant_of-self-in-Err g c =
     subst (λ es. IsWorld object k.fixed es (slice_set k.nodes.items m c.step.new.self) k.spares.items c.make_room.new.frames.frames c.make_room.new.history.items)
     (sym (c.push_reserved-in-Err.ensures.items ∙ ap (λ es. es ++ Stop i ∷ []) c.in_ok-make_room.ensures.events))
     (rw (c.in_ok-make_room.ensures.frames, c.in_ok-make_room.ensures.history)
-        (stop_world object p k.nodes.items k.spares.items k.frames.frames k.history.items inv i m low at inside c.step.new.self (slice_set k.nodes.items m c.step.new.self)
-        (c.in-Err.ensures.err ∙ ap node_stopped node) refl))
+    (stop_world object p k.nodes.items k.spares.items k.frames.frames k.history.items inv i m low at inside c.step.new.self (slice_set k.nodes.items m c.step.new.self)
+    (c.in-Err.ensures.err ∙ ap node_stopped node) refl))
 
 pub returns-in-Err : goal.returns-in-Err
 returns-in-Err g c =

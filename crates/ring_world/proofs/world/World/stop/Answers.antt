@@ -1,9 +1,7 @@
 -- The node has stopped, whatever memory does.
-use Rattle.std.proofs.Common.{◌≡◌, ℕ, ◌-◌, ◌<◌, ◌≤◌, Bool, true, false, Result, Ok, Err, List, [], ◌∷◌, ◌++◌, length, refl, ap, ◌∙◌, sym, subst, arith, OnOk, OnErr}
+use Rattle.std.proofs.Common.{◌≡◌, ◌-◌, ◌<◌, ◌≤◌, [], ◌∷◌, ◌++◌, length, refl, ap, ◌∙◌, sym, subst, arith}
 use Rattle.std.specs.Prelude.{slice_set}
-use Rattle.ring_machine.specs.declared.input.Input.TheVariants.{Stop as StopInput}
-use Rattle.ring_machine.specs.Nodes.{Node, node_stopped}
-use Rattle.ring_machine.specs.Stepping.{node_step}
+use Rattle.ring_machine.specs.Nodes.{node_stopped}
 use Rattle.ring_history.specs.declared.event.Event.{Event}
 use Rattle.ring_history.specs.declared.event.Event.TheVariants.{Stop}
 use Rattle.ring_history.specs.Worlds.{happens, stopped_if}
@@ -58,4 +56,4 @@ returns-clause-ok g c =
     let inv = c.self.invariant in
     subst (λ (r : Played g.row.O-Alloc.Denot). Goes object c.args.event.now r q) c.self.view_is
     (subst (λ (e : Event g.row.O-Alloc.Denot). Goes object e p q) (sym c.requires)
-        (stop_goes object p k.nodes.items k.spares.items k.frames.frames k.history.items inv i m low at inside q refl (c.push_reserved.ensures.items ∙ ap (λ es. es ++ Stop i ∷ []) c.reserve.ensures.items) refl))
+    (stop_goes object p k.nodes.items k.spares.items k.frames.frames k.history.items inv i m low at inside q refl (c.push_reserved.ensures.items ∙ ap (λ es. es ++ Stop i ∷ []) c.reserve.ensures.items) refl))
