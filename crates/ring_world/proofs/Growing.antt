@@ -1,5 +1,5 @@
 -- In a run what a node committed only grows, so the copies of the calls that it answers are left.
-use Rattle.std.proofs.Common.{◌≡◌, ℕ, zero, suc, ◌+◌, ◌-◌, ◌≤◌, Bool, true, false, ◌==◌, List, [], ◌∷◌, ◌++◌, length, drop, Option, Some, slice_get, refl, ap, ◌∙◌, sym, subst, arith}
+use Rattle.std.proofs.Common.{◌≡◌, ℕ, zero, suc, ◌-◌, ◌≤◌, Bool, true, false, ◌==◌, List, [], ◌∷◌, ◌++◌, length, drop, Option, Some, slice_get, refl, ap, ◌∙◌, sym, subst}
 use Rattle.std.proofs.Math.Seq.{drop-append_seam}
 use Rattle.std.proofs.lemmas.Bool.{cond-true, eq-eqb}
 use Rattle.ring_base.specs.Fronts.{IsFront}
@@ -21,13 +21,13 @@ use Rattle.ring_machine.specs.Nodes.{Node, node_committed}
 use Rattle.ring_machine.specs.Stepping.{settled, walked, after_core, node_step}
 use Rattle.ring_history.specs.declared.event.Event.{Event}
 use Rattle.ring_history.specs.Orders.{EachGrows}
-use Rattle.ring_history.specs.Worlds.{World, world_opening, run, happens, put, is_node, after_step, stepped, stepped_if, committed_in, moment_of}
+use Rattle.ring_history.specs.Worlds.{World, world_opening, run, happens, put, is_node, after_step, stepped, stepped_if, committed_in}
 use Rattle.ring_discipline.proofs.Worlds.{lives_on}
 use Rattle.ring_linear.proofs.Orderly.{run-more, orderly, orderly-after}
 use Rattle.ring_linear.proofs.Steps.{order-step, committed-at}
 use Rattle.ring_linear.proofs.Worlds.{WorldKnows, run-knows, opening-knows}
 use Rattle.ring_world.specs.Spares.{AllLeft, after_answers, Holds}
-use Rattle.ring_world.proofs.Spared.{GoesOn, goes_on}
+use Rattle.ring_world.proofs.Spared.{goes_on}
 
 each-at : {A : Type 0} (xs ys : List (List (Call A))) (k : ℕ) (a b : List (Call A)) → EachGrows xs ys → slice_get xs k ≡ Some a → slice_get ys k ≡ Some b → IsFront a b
 each-at [] ys k a b h e f = absurd (let q : ⊥ = cc e in q)

@@ -1,5 +1,5 @@
 -- What is handed to a node is the frame that was sent to it, if any.
-use Rattle.std.proofs.Common.{◌≡◌, ℕ, zero, suc, Bool, true, false, if◌then◌else◌, List, [], ◌∷◌, Option, Some, None, refl, ap, ◌∙◌, sym, subst}
+use Rattle.std.proofs.Common.{◌≡◌, ℕ, zero, suc, Bool, true, false, if◌then◌else◌, List, Option, Some, None, refl, subst}
 use Rattle.std.specs.List.{AllByRecursion as Each}
 use Rattle.ring_base.specs.Processors.{has}
 use Rattle.ring_base.proofs.Each.{each-get}

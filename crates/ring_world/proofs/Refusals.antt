@@ -1,11 +1,11 @@
 -- What a refusal tells, and room for fewer.
-use Rattle.std.proofs.Common.{◌≡◌, ℕ, ◌+◌, ◌*◌, ◌≤◌, Bool, true, false, if◌then◌else◌, Result, Ok, Err, OnOk, OnErr, refl, ◌∙◌, sym, arith}
+use Rattle.std.proofs.Common.{◌≡◌, ℕ, ◌≤◌, Bool, true, false, if◌then◌else◌, Result, Ok, Err, OnOk, OnErr, refl, ◌∙◌, sym, arith}
 use Rattle.ring_base.specs.declared.fault.Fault.{Fault}
 use Rattle.ring_base.specs.Numbers.{max_number}
 use Rattle.ring_base.specs.declared.fault.Fault.TheVariants.{Memory, PendingFull, Stopped as StoppedFault}
 use Rattle.ring_machine.specs.Nodes.{Node, node_pending, is_stopped}
 use Rattle.ring_machine.specs.Stepping.{submit_fault}
-use Rattle.std.specs.Prelude.{nat_le, length, Option, Some, None}
+use Rattle.std.specs.Prelude.{nat_le, length, Some, None}
 use Rattle.ring_world.specs.Stored.{Stored, HasRoom}
 
 pub was_stopped : (b : Bool) (f : Fault) → f ≡ (if b then StoppedFault else Memory) → f ≡ StoppedFault → b ≡ true

@@ -1,6 +1,6 @@
 -- The step of a node that has stopped gives nothing and changes nothing.
 use Rattle.std.proofs.Common.{◌≡◌, ℕ, ◌+◌, map, filter, arith, Bool, true, false, ◌&&◌, List, [], ◌∷◌, ◌++◌, length, drop, refl, ap, ◌∙◌, sym, subst, append-nil, if◌then◌else◌}
-use Rattle.std.proofs.lemmas.Bool.{cond_both, cond-true, cond-false, le-ltb}
+use Rattle.std.proofs.lemmas.Bool.{cond_both, cond-false, le-ltb}
 use Rattle.ring_base.specs.Processors.{has}
 use Rattle.ring_base.specs.declared.state.State.{State}
 use Rattle.ring_base.specs.declared.state.State.TheVariants.{Gather, Commit, Recovery, Operational, Stopped}
@@ -8,20 +8,19 @@ use Rattle.ring_wire.specs.declared.frame.Frame.{Frame}
 use Rattle.ring_wire.specs.declared.frame.Frame.TheVariants.{Message as MessageFrame, Token as TokenFrame, Join as JoinFrame, Commit as CommitFrame}
 use Rattle.ring_commit.specs.Outcomes.{is_at}
 use Rattle.ring_core.specs.declared.input.Input.{Input}
-use Rattle.ring_core.specs.declared.input.Input.TheVariants.{Frame as FrameInput, Timeout, Send, Send as SendInput}
+use Rattle.ring_core.specs.declared.input.Input.TheVariants.{Frame as FrameInput, Timeout, Send}
 use Rattle.ring_core.specs.State.{Core, Stepped, halted}
 use Rattle.ring_core.specs.Naming.{is_named}
 use Rattle.ring_core.specs.Views.{takes_number, front, mark}
-use Rattle.ring_core.specs.Deciding.{Act, Ignore, Take, takes_of, members_of, decide_token, decide_join, decide_round, decide_if_named, decide_time, decide_payload, decide, Enqueue}
+use Rattle.ring_core.specs.Deciding.{Act, Ignore, Take, takes_of, members_of, decide_token, decide_join, decide_round, decide_if_named, decide_time, decide_payload, decide}
 use Rattle.ring_core.specs.Acting.{done}
 use Rattle.ring_core.specs.Giving.{installs_in, delivered, agreed_from, safe_from, given, may_install, settle}
 use Rattle.ring_core.specs.Stepping.{ring_step}
 use Rattle.ring_object.specs.Operations.{Sequential}
-use Rattle.ring_payload.specs.declared.call.Call.{Call}
 use Rattle.ring_payload.specs.declared.content.Payload.{Payload}
 use Rattle.ring_core.specs.declared.out.Out.{Out}
 use Rattle.ring_log.specs.Stays.{Stay, hands}
-use Rattle.ring_log.specs.Lives.{committed_of, is_sound}
+use Rattle.ring_log.specs.Lives.{is_sound}
 use Rattle.ring_ticket.specs.Tickets.{answers_after}
 use Rattle.ring_machine.specs.declared.input.Input.{Input as NodeInput}
 use Rattle.ring_machine.specs.declared.input.Input.TheVariants.{Frame as NodeFrame, Noise as NodeNoise, Timeout as NodeTime, Stop as NodeStop}
@@ -31,7 +30,6 @@ use Rattle.std.specs.Prelude.{◌-◌, nat_lt, filter_map}
 use Rattle.ring_base.specs.Numbers.{numbers_from}
 use Rattle.ring_base.specs.declared.ring_id.RingId.{RingId}
 use Rattle.ring_payload.specs.Kinds.{is_user}
-use Rattle.ring_payload.specs.Packing.{is_queued}
 use Rattle.ring_wire.specs.declared.message.Message.{Message}
 use Rattle.ring_window.specs.Held.{found}
 use Rattle.ring_core.specs.declared.out.Out.TheVariants.{Agreed, Safe}

@@ -1,6 +1,6 @@
 -- One frame more is kept, and the frame of a number is found.
-use Rattle.std.proofs.Common.{◌≡◌, ℕ, zero, suc, ◌+◌, ◌-◌, ◌*◌, ◌≤◌, Bool, true, false, if◌then◌else◌, List, [], ◌∷◌, ◌++◌, length, take, drop, Option, Some, None, slice_get, Result, Ok, Err, refl, ap, ◌∙◌, sym, subst, arith, append-nil, append_assoc, length-append, MatchResult, IfErr, inl, inr}
-use Rattle.std.specs.Prelude.{slice_range, option_map, ◌⊎◌, IfOk}
+use Rattle.std.proofs.Common.{◌≡◌, ℕ, zero, suc, ◌+◌, ◌-◌, ◌≤◌, Bool, true, false, if◌then◌else◌, List, [], ◌∷◌, ◌++◌, length, take, Option, Some, None, slice_get, Result, Ok, Err, refl, ap, ◌∙◌, sym, subst, arith, append-nil, append_assoc, length-append, MatchResult, IfErr, inl, inr}
+use Rattle.std.specs.Prelude.{slice_range, option_map, IfOk}
 use Rattle.std.specs.List.{AllByRecursion as Each}
 use Rattle.std.proofs.lemmas.List.{take_at, drop_at}
 use Rattle.ring_base.proofs.Each.{each-push, each-get}

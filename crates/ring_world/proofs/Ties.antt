@@ -1,7 +1,6 @@
 -- What the code keeps goes on telling the world, event by event.
-use Rattle.std.proofs.Common.{◌≡◌, ℕ, zero, suc, ◌+◌, ◌-◌, ◌<◌, ◌≤◌, Bool, true, false, ◌==◌, ◌&&◌, if◌then◌else◌, List, [], ◌∷◌, ◌++◌, map, length, drop, Option, Some, None, slice_get, get_or, refl, ap, ◌∙◌, sym, subst, arith, inl, inr, append-nil}
-use Rattle.std.specs.List.{AllByRecursion as Each}
-use Rattle.std.specs.Prelude.{nat_le, slice_set, MatchOption}
+use Rattle.std.proofs.Common.{◌≡◌, ℕ, zero, suc, ◌-◌, ◌<◌, ◌≤◌, true, false, ◌==◌, List, [], ◌∷◌, ◌++◌, length, drop, Option, Some, None, slice_get, get_or, refl, ap, ◌∙◌, sym, subst, arith, inl, inr, append-nil}
+use Rattle.std.specs.Prelude.{slice_set, MatchOption}
 use Rattle.std.proofs.Math.Seq.{drop-append_seam}
 use Rattle.std.proofs.lemmas.Bool.{cond-true, cond-false, and_from, le-leb, eqb-true, eqb-false, eq-eqb, cases_Bool}
 use Rattle.std.proofs.lemmas.Bool.Decides.{nat_tests}
@@ -28,7 +27,7 @@ use Rattle.ring_history.specs.declared.told.Told.TheVariants.{Refused as ToldRef
 use Rattle.ring_history.specs.Limits.{EventFits}
 use Rattle.ring_history.specs.Worlds.{World, world_opening, run, happens, put, is_node, after_step, stepped, stepped_if, stopped_if, issued_or, issued_if, carried, items_of, told_by}
 use Rattle.ring_linear.proofs.Orderly.{run-more}
-use Rattle.ring_world.specs.Played.{Played, IsCopy, world_of, told_behind, steps_node, IsDone, IsStopped, Goes}
+use Rattle.ring_world.specs.Played.{Played, IsCopy, world_of, told_behind, steps_node, Goes}
 use Rattle.ring_world.specs.Spares.{Spares, AllLeft, Holds, after_answers}
 use Rattle.ring_world.specs.Keeping.{KeepsCopies, IsKept, IsWorld}
 use Rattle.ring_world.proofs.Spared.{get-set_same, get-set_other, set-length, holds-more}

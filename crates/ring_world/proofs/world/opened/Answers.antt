@@ -1,5 +1,5 @@
 -- One more is opened.
-use Rattle.std.proofs.Common.{◌≡◌, ◌+◌, ◌≤◌, map, ap, ◌∙◌, arith}
+use Rattle.std.proofs.Common.{◌+◌, ◌≤◌, map, ap, ◌∙◌, arith}
 use Rattle.ring_base.specs.Numbers.{numbers_from}
 use Rattle.ring_machine.specs.Nodes.{node_opening}
 use Rattle.ring_world.proofs.Opening.{opened_more}
