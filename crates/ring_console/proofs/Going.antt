@@ -1,19 +1,15 @@
 -- What one event and one turn do to a run.
-use Rattle.std.proofs.Common.{◌≡◌, ℕ, zero, suc, ◌+◌, ◌<◌, ◌≤◌, Bool, true, false, ◌⊎◌, inl, inr, List, [], ◌∷◌, ◌++◌, length, take, Option, Some, None, Result, Ok, Err, OnOk, OnErr, refl, sym, ap, subst, ◌∙◌, arith, add-one, append_assoc, append-nil}
+use Rattle.std.proofs.Common.{◌≡◌, ℕ, zero, suc, ◌+◌, ◌<◌, ◌≤◌, Bool, true, false, inl, inr, List, [], ◌∷◌, length, take, Option, Result, Ok, Err, OnOk, OnErr, refl, sym, ap, subst, ◌∙◌, arith, add-one}
 use Rattle.ring_base.specs.Fronts.{IsFront, front_self, front_trans, front_append}
-use Rattle.ring_base.specs.Group.{Group}
 use Rattle.ring_object.specs.Operations.{Sequential}
 use Rattle.ring_history.specs.declared.event.Event.{Event}
-use Rattle.ring_history.specs.declared.event.Event.TheVariants as events
-use Rattle.ring_history.specs.declared.told.Told.{Told}
 use Rattle.ring_script.specs.declared.line.Line.{Line}
 use Rattle.ring_script.specs.declared.line.Line.TheVariants.{Call, Deliver, Timeout, Noise, Stop, Cut, Heal, Pump, Show}
 use Rattle.ring_console.specs.declared.pairs.Pair.{Pair}
 use Rattle.ring_console.specs.declared.pairs.Pairs.{Pairs}
 use Rattle.ring_console.specs.Pairs.{frames_of, pairs_from, IsReached, hears}
-use Rattle.ring_world.specs.Played.{Played, IsDone, IsStopped, IsRefused, Goes, Plays, world_of}
-use Rattle.ring_console.specs.Running.{RunView, Rests, Happens, Comes, Turns, BreaksTurn, TurnsTimes, Pumps, BreaksPump, Does, Breaks, Ends, text_of, show_text}
-use Rattle.ring_console.specs.Printed.{told_text}
+use Rattle.ring_world.specs.Played.{Played, Goes, Plays}
+use Rattle.ring_console.specs.Running.{RunView, Rests, Happens, Comes, Turns, BreaksTurn, TurnsTimes, Pumps, Does, Breaks, Ends}
 use Rattle.ring_console.proofs.Growing.{goes_frames, world_same, open_later, reached_later}
 
 module _ {O A : Type 0} (object : Sequential O) where

@@ -1,5 +1,5 @@
 -- Frames only come: those of a world stay as it goes on, and so the copies that are open.
-use Rattle.std.proofs.Common.{◌≡◌, ℕ, zero, suc, ◌+◌, ◌-◌, ◌^◌, ◌≤◌, Bool, true, false, ◌⊎◌, inl, inr, List, [], ◌∷◌, ◌++◌, length, take, drop, Option, Some, None, refl, sym, ap, subst, ◌∙◌, arith, append_assoc, length-append, zero-add}
+use Rattle.std.proofs.Common.{◌≡◌, ℕ, zero, suc, ◌+◌, ◌-◌, ◌^◌, Bool, true, false, inl, inr, List, [], ◌∷◌, ◌++◌, length, take, drop, Option, Some, None, refl, sym, ap, subst, ◌∙◌, arith, append_assoc, zero-add}
 use Rattle.std.proofs.lemmas.List.{drop-append-le, drop_at, length-drop}
 use Rattle.ring_base.specs.Fronts.{IsFront, front_self, front_length}
 use Rattle.ring_base.specs.Group.{Group}
@@ -14,7 +14,6 @@ use Rattle.ring_machine.specs.Stepping.{node_step, submit_fault}
 use Rattle.ring_history.specs.declared.event.Event.{Event}
 use Rattle.ring_history.specs.declared.event.Event.TheVariants.{Issue, Deliver, Noise, Timeout, Stop}
 use Rattle.ring_history.specs.Worlds.{World, world_opening, carried, issued_or, issued_if, stopped_if, stepped_if, handed_if, handed, frame_at, is_node, happens, run}
-use Rattle.ring_console.specs.declared.pairs.Pair.{Pair}
 use Rattle.ring_console.specs.declared.pairs.Pairs.{Pairs}
 use Rattle.ring_console.specs.Pairs.{frames_of, pairs_of, pairs_behind, within_reach, all_pairs, opened_since, pairs_from, IsReached}
 use Rattle.ring_world.specs.Played.{Played, world_of, Goes}

@@ -1,6 +1,6 @@
 -- The copies of the next frame, and the first copy that is open.
-use Rattle.std.proofs.Common.{◌≡◌, ℕ, zero, suc, ◌+◌, ◌-◌, ◌^◌, ◌<◌, ◌≤◌, List, [], ◌∷◌, ◌++◌, map, length, take, drop, Option, Some, None, slice_get, refl, sym, ap, subst, ◌∙◌, arith, add-one}
-use Rattle.std.proofs.lemmas.List.{drop_all, length-take}
+use Rattle.std.proofs.Common.{◌≡◌, ℕ, zero, suc, ◌+◌, ◌-◌, ◌^◌, ◌<◌, ◌≤◌, List, [], ◌∷◌, ◌++◌, map, length, take, drop, Option, Some, None, slice_get, refl, sym, ap, ◌∙◌, arith, add-one}
+use Rattle.std.proofs.lemmas.List.{drop_all}
 use Rattle.std.specs.Prelude.{option_map}
 use Rattle.std.specs.Option.{SomeIff}
 use Rattle.ring_base.specs.Elements.{elements-nobody}
@@ -8,9 +8,8 @@ use Rattle.ring_base.specs.Processors.{elements, nobody, only, less, smallest, I
 use Rattle.ring_base.proofs.Taking.{elements-taken}
 use Rattle.ring_core.specs.State.{Carried}
 use Rattle.ring_history.specs.Worlds.{frame_at}
-use Rattle.ring_console.specs.declared.pairs.Pair.{Pair}
 use Rattle.ring_console.specs.declared.pairs.Pairs.{Pairs}
-use Rattle.ring_console.specs.Pairs.{pairs_of, pairs_behind, within_reach, pairs_from, IsReached, Takes}
+use Rattle.ring_console.specs.Pairs.{pairs_of, pairs_behind, within_reach, pairs_from, IsReached}
 
 -- ---- lists
 

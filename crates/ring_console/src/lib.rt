@@ -12,6 +12,6 @@ pub use pairs::Pair;
 pub use ring_listing::frames;
 pub use ring_report::{Failure, report};
 pub use ring_script::{Groups, Line, Numbered, Rings, Script, ScriptFault};
+pub use ring_world::World;
 pub use run::Run;
 pub use running::{Things, script, script_check};
-pub use ring_world::World;

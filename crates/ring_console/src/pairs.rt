@@ -4,9 +4,9 @@ ghost use Rattle.std.specs.Prelude.{◌≡◌, ◌+◌, true, false, IsTrue};
 ghost use Rattle.ring_base.specs.Processors.{nobody};
 ghost use Rattle.ring_console.specs.Pairs.{frames_of, pairs_from, IsReached, Takes};
 
-use ring_world::World;
 use ring_base::{Proc, ProcSet};
 use ring_object::Object;
+use ring_world::World;
 
 /// A copy of a frame, on its way from one node to another.
 #[derive(Clone, Copy)]

@@ -13,12 +13,12 @@ ghost use Rattle.ring_console.specs.Running.{run_opening, Prints, UnlessOutput, 
 
 use crate::pairs::{Pair, Pairs};
 use crate::printed::{print_node, print_order, print_told};
-use ring_world::World;
 use ring_base::{Fault, Fixed, Proc};
 use ring_history::Event;
 use ring_object::Object;
 use ring_report::Failure;
 use ring_script::{Groups, Line, Script};
+use ring_world::World;
 use std::io::Write;
 use std::marker::Model;
 

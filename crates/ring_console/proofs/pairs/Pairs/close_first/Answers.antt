@@ -1,4 +1,4 @@
-use Rattle.std.proofs.Common.{◌≡◌, ◌∙◌, refl, sym}
+use Rattle.std.proofs.Common.{◌∙◌, refl, sym}
 use Rattle.ring_console.specs.Pairs.{frames_of}
 use Rattle.ring_console.proofs.Opening.{closes}
 use Rattle.ring_console.proofs.pairs.Pairs.close_first.Goals as goal

@@ -1,4 +1,4 @@
-use Rattle.std.proofs.Common.{◌≡◌, List, [], ◌∷◌, ◌++◌, ◌∙◌, refl, sym, ap}
+use Rattle.std.proofs.Common.{◌≡◌, List, [], ◌∷◌, ◌++◌, ◌∙◌, ap}
 use Rattle.ring_history.specs.declared.event.Event.{Event}
 use Rattle.ring_console.proofs.Going.{happened, rested, still_reached}
 use Rattle.ring_console.proofs.run.Run.happen.Goals as goal

@@ -1,4 +1,4 @@
-use Rattle.std.proofs.Common.{◌≡◌, ◌∙◌, refl, sym, ap}
+use Rattle.std.proofs.Common.{refl, ap}
 use Rattle.ring_console.specs.Pairs.{frames_of}
 use Rattle.ring_console.proofs.Opening.{none_open, none_reached}
 use Rattle.ring_console.proofs.run.Run.new.Goals as goal

@@ -1,4 +1,4 @@
-use Rattle.std.proofs.Common.{◌≡◌, ◌∙◌, refl, sym, subst, arith}
+use Rattle.std.proofs.Common.{◌∙◌, sym, subst, arith}
 use Rattle.ring_console.specs.Running.{RunView, TurnsTimes, BreaksPump}
 use Rattle.ring_console.proofs.Going.{turned, turn_broken, one_more, pumped, none_left}
 use Rattle.ring_console.proofs.Texts.{on_err}
