@@ -1,4 +1,3 @@
-// Open: neither proved nor run yet. Tests of worlds of ring cores through Rings and FixedRing; crates.txt then needs: ring_runs_tests: refusing_alloc ring_base ring_payload ring_wire ring_core ring_limits ring_runs bytes
 //! Frames that come in the order in which they were sent.
 
 use crate::steps::{Step, event_of};

@@ -1,4 +1,3 @@
-// Open: neither proved nor run yet. Tests of worlds of ring cores through Rings and FixedRing; crates.txt then needs: ring_runs_tests: refusing_alloc ring_base ring_payload ring_wire ring_core ring_limits ring_runs bytes
 //! What happens to ring cores, in short, and the events that it stands for.
 
 ghost use Rattle.std.specs.Prelude.{IfOk};
