@@ -35,7 +35,11 @@ pub(crate) fn configurations<A: Allocator + Copy>(
 }
 
 /// What a processor gives.
-fn write_line<A: Allocator + Copy>(text: &mut String, node: Proc, out: &Out<A>) -> Result<(), AllocError> {
+fn write_line<A: Allocator + Copy>(
+    text: &mut String,
+    node: Proc,
+    out: &Out<A>,
+) -> Result<(), AllocError> {
     write!(text, "{node} ")?;
     match out {
         Out::Send(to, frame) => {
@@ -82,7 +86,10 @@ fn write_frame<A: Allocator + Copy>(text: &mut String, frame: &Frame<A>) -> Resu
 }
 
 /// A message, and whether it carries a call or ends a recovery.
-fn write_message<A: Allocator + Copy>(text: &mut String, message: &Message<A>) -> Result<(), AllocError> {
+fn write_message<A: Allocator + Copy>(
+    text: &mut String,
+    message: &Message<A>,
+) -> Result<(), AllocError> {
     let (ring, number, sender) = (message.ring, message.number, message.sender);
     let kind = match &message.payload {
         Payload::Call(_) => "call",
@@ -96,7 +103,10 @@ fn write_message<A: Allocator + Copy>(text: &mut String, message: &Message<A>) -
 fn write_token(text: &mut String, token: &Token) -> Result<(), AllocError> {
     let (ring, number, seq, aru) = (token.ring, token.number, token.seq, token.aru);
     let holder = token.aru_id.map_or(0, Proc::number);
-    write!(text, " token {ring} number {number} seq {seq} aru {aru} id {holder} asks")?;
+    write!(
+        text,
+        " token {ring} number {number} seq {seq} aru {aru} id {holder} asks"
+    )?;
     for asked in token.requests.as_slice() {
         write!(text, " {asked}")?;
     }
@@ -120,5 +130,9 @@ fn write_commit(text: &mut String, token: &CommitToken) -> Result<(), AllocError
     let (ring, hop) = (token.ring, token.hop);
     write!(text, " commit {ring} members ")?;
     write_set(text, token.members)?;
-    write!(text, " hop {hop} entries {}", token.entries.as_slice().len())
+    write!(
+        text,
+        " hop {hop} entries {}",
+        token.entries.as_slice().len()
+    )
 }

@@ -1,52 +1,52 @@
 //! Frames that come in the order in which they were sent.
 
 use crate::steps::{Step, event_of};
-use ring_base::{Fault, Fixed, Proc};
+use ring_base::{Fault, Fixed, Proc, ProcSet};
 use ring_core::Out;
 use ring_runs::Cores;
 use std::alloc::Global;
 use std::collections::VecDeque;
 
-/// Ring cores, the frames on their way, and what happened.
+/// The frames on their way, and what happened.
 #[derive(Drop)]
-struct Pump {
-    cores: Cores,
+struct Way {
+    alloc: Global,
     /// Each with its receiver.
-    under_way: VecDeque<(Proc, u64)>,
+    open: VecDeque<(Proc, u64)>,
     /// How many outputs were looked at, and how many of them were frames.
     seen: usize,
     frames: u64,
     steps: Vec<Step>,
 }
 
-impl Pump {
+impl Way {
     /// A step is done, and what it sent is on its way.
-    fn does(self, step: Step) -> Result<Pump, Fault> {
-        let Pump {
-            cores,
-            mut under_way,
-            mut seen,
-            mut frames,
-            mut steps,
-        } = self;
-        let cores = cores.happens(&event_of(step))?;
-        steps.push(step)?;
-        for given in cores.outs().iter().skip(seen) {
-            seen = seen.saturating_add(1);
+    fn does(&mut self, cores: Cores, step: Step) -> Result<Cores, Fault> {
+        let event = event_of(self.alloc, step)?;
+        let cores = cores.happens(&event)?;
+        self.steps.push(step)?;
+        self.follow(cores.outs())?;
+        Ok(cores)
+    }
+
+    /// The frames among what was given since are on their way.
+    fn follow(&mut self, outs: &[(Proc, Out)]) -> Result<(), Fault> {
+        for given in outs.iter().skip(self.seen) {
             if let Out::Send(to, _) = &given.1 {
-                frames = frames.saturating_add(1);
-                for receiver in to.iter() {
-                    under_way.push_back((receiver, frames))?;
-                }
+                self.send(*to)?;
             }
         }
-        Ok(Pump {
-            cores,
-            under_way,
-            seen,
-            frames,
-            steps,
-        })
+        self.seen = outs.len();
+        Ok(())
+    }
+
+    /// The next frame is on its way to each of its receivers.
+    fn send(&mut self, to: ProcSet) -> Result<(), Fault> {
+        self.frames = self.frames.saturating_add(1);
+        for receiver in to.iter() {
+            self.open.push_back((receiver, self.frames))?;
+        }
+        Ok(())
     }
 }
 
@@ -57,22 +57,22 @@ pub(crate) fn pumped(
     opening: &[Step],
     turns: u64,
 ) -> Result<Vec<Step>, Fault> {
-    let cores = Cores::unformed(alloc, fixed)?;
-    let mut pump = Pump {
-        cores,
-        under_way: VecDeque::new(alloc),
+    let mut cores = Cores::unformed(alloc, fixed)?;
+    let mut way = Way {
+        alloc,
+        open: VecDeque::new(alloc),
         seen: 0,
         frames: 0,
         steps: Vec::new(alloc),
     };
     for step in opening {
-        pump = pump.does(*step)?;
+        cores = way.does(cores, *step)?;
     }
     for _ in 0..turns {
-        let Some((node, frame)) = pump.under_way.pop_front() else {
-            return Ok(pump.steps);
+        let Some((node, frame)) = way.open.pop_front() else {
+            return Ok(way.steps);
         };
-        pump = pump.does(Step::Hand(node, frame))?;
+        cores = way.does(cores, Step::Hand(node, frame))?;
     }
-    Ok(pump.steps)
+    Ok(way.steps)
 }

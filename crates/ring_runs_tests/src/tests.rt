@@ -8,8 +8,7 @@ use bytes::BytesMut;
 use refusing_alloc::Refusing;
 use ring_base::{Fault, Fixed, Kind, Proc};
 use ring_core::Out;
-use ring_payload::{Call, Payload};
-use ring_runs::{FixedRing, RingEvent, Rings};
+use ring_runs::{FixedRing, Rings};
 use ring_wire::Wire;
 use std::alloc::{Allocator, Global};
 use std::test::Fail;
@@ -76,7 +75,7 @@ fn three_gather(rt: HostRuntime) -> Result<(), Fail> {
     let alloc = rt.alloc();
     let fixed = Fixed::new(3)?;
     let steps = pumped(alloc, fixed, &joins(), 12)?;
-    let events = events_of(alloc, &steps)?;
+    let events = events_of(alloc, alloc, &steps)?;
     let mut rings = Rings::new(alloc, fixed)?;
     let outs = rings.run(&events)?;
     assert_eq!(rt; lines_of(alloc, &outs)?.as_str(), GATHERED);
@@ -87,18 +86,19 @@ fn three_gather(rt: HostRuntime) -> Result<(), Fail> {
 #[test]
 fn a_silent_processor_is_given_up(rt: HostRuntime) -> Result<(), Fail> {
     let alloc = rt.alloc();
-    let fixed = Fixed::new(3)?;
     let (one, two) = (Proc::new(1), Proc::new(2));
-    let mut rings = Rings::new(alloc, fixed)?;
-    let outs = rings.run(&[
-        RingEvent::Timeout(one, Kind::Join),
-        RingEvent::Timeout(two, Kind::Join),
-        RingEvent::Deliver(one, 2),
-        RingEvent::Deliver(two, 1),
-        RingEvent::Timeout(one, Kind::Consensus),
-        RingEvent::Deliver(two, 3),
-        RingEvent::Deliver(one, 4),
-    ])?;
+    let steps = [
+        Step::Time(one, Kind::Join),
+        Step::Time(two, Kind::Join),
+        Step::Hand(one, 2),
+        Step::Hand(two, 1),
+        Step::Time(one, Kind::Consensus),
+        Step::Hand(two, 3),
+        Step::Hand(one, 4),
+    ];
+    let events = events_of(alloc, alloc, &steps)?;
+    let mut rings = Rings::new(alloc, Fixed::new(3)?)?;
+    let outs = rings.run(&events)?;
     assert_eq!(rt; lines_of(alloc, &outs)?.as_str(), GIVEN_UP);
     let mut bytes = BytesMut::new(alloc);
     if let Some((_, Out::Send(_, frame))) = outs.get(2) {
@@ -113,7 +113,7 @@ fn a_hundred_turns_bring_all_to_one_ring(rt: HostRuntime) -> Result<(), Fail> {
     let alloc = rt.alloc();
     let fixed = Fixed::new(3)?;
     let steps = pumped(alloc, fixed, &joins(), 100)?;
-    let events = events_of(alloc, &steps)?;
+    let events = events_of(alloc, alloc, &steps)?;
     let mut rings = Rings::new(alloc, fixed)?;
     let outs = rings.run(&events)?;
     assert_eq!(rt; rings.done(), 103);
@@ -129,20 +129,21 @@ fn a_hundred_turns_bring_all_to_one_ring(rt: HostRuntime) -> Result<(), Fail> {
 fn a_lost_message_is_asked_for(rt: HostRuntime) -> Result<(), Fail> {
     let alloc = rt.alloc();
     let (one, two) = (Proc::new(1), Proc::new(2));
-    let call = Call::new(alloc, 7, 1, &[1, 1, 0, 0, 0, 0, 0, 0, 0, 0, 5])?;
+    let steps = [
+        Step::Submit(two),
+        Step::Hand(two, 1),
+        Step::Hand(one, 3),
+        Step::Hand(two, 4),
+        Step::Hand(one, 5),
+        Step::Hand(one, 5),
+        Step::Hand(one, 6),
+        Step::Hand(two, 7),
+        Step::Hand(one, 8),
+        Step::Hand(two, 9),
+    ];
+    let events = events_of(alloc, alloc, &steps)?;
     let mut ring = FixedRing::new(alloc, Fixed::new(2)?)?;
-    let outs = ring.run(&[
-        RingEvent::Send(two, Payload::Call(call)),
-        RingEvent::Deliver(two, 1),
-        RingEvent::Deliver(one, 3),
-        RingEvent::Deliver(two, 4),
-        RingEvent::Deliver(one, 5),
-        RingEvent::Deliver(one, 5),
-        RingEvent::Deliver(one, 6),
-        RingEvent::Deliver(two, 7),
-        RingEvent::Deliver(one, 8),
-        RingEvent::Deliver(two, 9),
-    ])?;
+    let outs = ring.run(&events)?;
     assert_eq!(rt; lines_of(alloc, &outs)?.as_str(), LOST_AND_REPEATED);
     assert_eq!(rt; ring.done(), 10);
     Ok(())
@@ -152,14 +153,16 @@ fn a_lost_message_is_asked_for(rt: HostRuntime) -> Result<(), Fail> {
 fn retransmit_alone_acts_on_a_formed_ring(rt: HostRuntime) -> Result<(), Fail> {
     let alloc = rt.alloc();
     let (one, two) = (Proc::new(1), Proc::new(2));
+    let steps = [
+        Step::Time(two, Kind::Loss),
+        Step::Time(one, Kind::Join),
+        Step::Time(one, Kind::Consensus),
+        Step::Time(two, Kind::Retransmit),
+        Step::Time(one, Kind::Retransmit),
+    ];
+    let events = events_of(alloc, alloc, &steps)?;
     let mut ring = FixedRing::new(alloc, Fixed::new(2)?)?;
-    let outs = ring.run(&[
-        RingEvent::Timeout(two, Kind::Loss),
-        RingEvent::Timeout(one, Kind::Join),
-        RingEvent::Timeout(one, Kind::Consensus),
-        RingEvent::Timeout(two, Kind::Retransmit),
-        RingEvent::Timeout(one, Kind::Retransmit),
-    ])?;
+    let outs = ring.run(&events)?;
     assert_eq!(rt; lines_of(alloc, &outs)?.as_str(), FIRST_TOKEN);
     assert_eq!(rt; ring.done(), 5);
     Ok(())
@@ -172,7 +175,7 @@ fn gathered<A: Allocator + Copy>(
     steps: &[Step],
     done: &mut u64,
 ) -> Result<(), Fault> {
-    let events = events_of(list, steps)?;
+    let events = events_of(list, alloc, steps)?;
     let mut rings = Rings::new(alloc, Fixed::new(3)?)?;
     let ran = rings.run(&events);
     *done = rings.done();
@@ -180,26 +183,25 @@ fn gathered<A: Allocator + Copy>(
     Ok(())
 }
 
-/// The token goes round a ring of two that is formed from the start, with a call.
-fn circled<A: Allocator + Copy>(alloc: A, done: &mut u64) -> Result<(), Fault> {
+/// The token goes round a ring of two that is formed from the start, with a call: how many events were done.
+fn circled<A: Allocator + Copy>(alloc: A, list: Global, done: &mut u64) -> Result<(), Fault> {
     let (one, two) = (Proc::new(1), Proc::new(2));
-    let call = Call::new(alloc, 7, 1, &[1, 1])?;
+    let steps = [
+        Step::Submit(two),
+        Step::Hand(two, 1),
+        Step::Hand(one, 2),
+        Step::Hand(one, 3),
+    ];
+    let events = events_of(list, alloc, &steps)?;
     let mut ring = FixedRing::new(alloc, Fixed::new(2)?)?;
-    let ran = ring.run(&[
-        RingEvent::Send(two, Payload::Call(call)),
-        RingEvent::Deliver(two, 1),
-        RingEvent::Deliver(one, 2),
-        RingEvent::Deliver(one, 3),
-    ]);
+    let ran = ring.run(&events);
     *done = ring.done();
     ran?;
     Ok(())
 }
 
 #[test]
-fn each_request_of_a_gather_and_a_recovery_is_refused_in_turn(
-    rt: HostRuntime,
-) -> Result<(), Fail> {
+fn each_request_of_a_gather_and_a_recovery_is_refused_in_turn(rt: HostRuntime) -> Result<(), Fail> {
     let alloc = rt.alloc();
     let steps = pumped(alloc, Fixed::new(3)?, &joins(), 100)?;
     let mut last = 0;
@@ -224,11 +226,12 @@ fn each_request_of_a_gather_and_a_recovery_is_refused_in_turn(
 
 #[test]
 fn each_request_on_a_formed_ring_is_refused_in_turn(rt: HostRuntime) -> Result<(), Fail> {
+    let alloc = rt.alloc();
     let mut last = 0;
     for passed in 0..u64::MAX {
-        let heap = Refusing::new(rt.alloc(), passed);
+        let heap = Refusing::new(alloc, passed);
         let mut done = 0;
-        match circled(&heap, &mut done) {
+        match circled(&heap, alloc, &mut done) {
             Ok(()) => {
                 assert!(rt; !heap.has_refused());
                 assert!(rt; passed > 10, "{passed}");

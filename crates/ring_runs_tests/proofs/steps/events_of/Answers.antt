@@ -1,0 +1,11 @@
+-- One event more keeps the limits.
+use Rattle.std.proofs.Common.{subst, sym}
+use Rattle.std.specs.List.{AllByRecursion}
+use Rattle.ring_base.proofs.Each.{each-push}
+use Rattle.ring_limits.specs.Limits.{EventFits}
+use Rattle.ring_runs_tests.proofs.steps.events_of.Goals as goal
+
+pub loop-step-preserved : goal.loop-step-preserved
+loop-step-preserved g c =
+    subst (AllByRecursion EventFits) (sym c.in_ok-push.ensures.items)
+    (each-push EventFits c.loop-step.events.items c.in_ok-event.event c.loop-step.invariant c.in_ok-event.ensures)

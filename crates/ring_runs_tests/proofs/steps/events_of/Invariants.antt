@@ -1,0 +1,7 @@
+-- The events so far keep the limits.
+use Rattle.std.specs.List.{AllByRecursion}
+use Rattle.ring_limits.specs.Limits.{EventFits}
+use Rattle.ring_runs_tests.proofs.steps.events_of.Given as goal
+
+abbrev pub invariant-loop-step : goal.invariant-loop-step
+invariant-loop-step g l = AllByRecursion EventFits l.events.items
