@@ -21,10 +21,10 @@ struct Way {
 
 impl Way {
     /// A step is done, and what it sent is on its way.
-    fn does(&mut self, cores: Cores, step: Step) -> Result<Cores, Fault> {
-        let event = event_of(self.alloc, step)?;
+    fn does(&mut self, cores: Cores, step: &Step) -> Result<Cores, Fault> {
+        let event = event_of(self.alloc, *step)?;
         let cores = cores.happens(&event)?;
-        self.steps.push(step)?;
+        self.steps.push(*step)?;
         self.follow(cores.outs())?;
         Ok(cores)
     }
@@ -66,13 +66,13 @@ pub(crate) fn pumped(
         steps: Vec::new(alloc),
     };
     for step in opening {
-        cores = way.does(cores, *step)?;
+        cores = way.does(cores, step)?;
     }
     for _ in 0..turns {
         let Some((node, frame)) = way.open.pop_front() else {
             return Ok(way.steps);
         };
-        cores = way.does(cores, Step::Hand(node, frame))?;
+        cores = way.does(cores, &Step::Hand(node, frame))?;
     }
     Ok(way.steps)
 }
