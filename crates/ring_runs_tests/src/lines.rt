@@ -64,12 +64,15 @@ fn write_line<A: Allocator + Copy>(
 
 /// The members of a set, by commas; `-` where there are none.
 fn write_set(text: &mut String, set: ProcSet) -> Result<(), AllocError> {
-    let mut before = "";
+    let mut is_empty = true;
     for member in set.iter() {
-        write!(text, "{before}{member}")?;
-        before = ",";
+        if !is_empty {
+            write!(text, ",")?;
+        }
+        write!(text, "{member}")?;
+        is_empty = false;
     }
-    if set.len() < 1 {
+    if is_empty {
         write!(text, "-")?;
     }
     Ok(())
