@@ -36,16 +36,23 @@ fn submitted<O: Object>(
     }
 }
 
-/// The step of this place in the run: a time, or a frame, of which every other one is copied by the node.
+/// The token of this number comes: every other one is copied by the node. Each message was sent before it, and is held.
+fn visit<O: Object>(driven: &mut Driven<O>, number: u8) -> Result<(), Fault> {
+    let bytes = token(number, number.saturating_sub(1).max(1));
+    if number % 2 == 0 {
+        driven.deliver_on(&bytes)
+    } else {
+        driven.deliver(&bytes)
+    }
+}
+
+/// The step of this place in the run: a time, a commit token, or a token.
 fn step<O: Object>(driven: &mut Driven<O>, place: u8) -> Result<(), Fault> {
     match place {
         0 => driven.time(Kind::Join),
         1 => driven.deliver(&commit(1)),
         2 => driven.deliver_on(&commit(2)),
-        3 => driven.deliver(&token(1, 1)),
-        4 => driven.deliver_on(&token(2, 1)),
-        5 => driven.deliver(&token(3, 2)),
-        _ => driven.deliver_on(&token(4, 3)),
+        _ => visit(driven, place.saturating_sub(2)),
     }
 }
 

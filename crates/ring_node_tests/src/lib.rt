@@ -1,4 +1,3 @@
-// Not proved yet: its four tests ran and passed; open is the proof of the test functions (that frames read by `get` keep their limits).
 //! What no contract of a node says: a worked run of a ring of one, that each call succeeds where memory is left, that each
 //! request for memory which is refused is answered as such, and that a node may go to another thread.
 #![tactic(auto)]

@@ -1,11 +1,9 @@
 //! Worked runs. Expected values are those of `docs/FORMATS.md` and `docs/PROTOCOL.md`.
 
-use crate::driven::{ADD, Driven, Seen, commit, counted, token};
+use crate::driven::{Driven, Seen, commit, counted, token};
 use crate::sending::lend;
-use ring_base::{Fault, Fixed, Kind, State};
-use ring_node::{Input, Node};
+use ring_base::{Fault, Kind, State};
 use ring_object::Object;
-use ring_payload::Call;
 use ring_session::Answer;
 use ring_things::Counters;
 use std::process::Abort;
@@ -56,7 +54,7 @@ fn the_first_reply(rt: HostRuntime) -> Result<(), Fail> {
 fn stops(rt: HostRuntime) -> Result<(), Fail> {
     let mut driven = Driven::<Counters>::new(rt.alloc(), rt.alloc())?;
     form_in_steps(&rt, &mut driven)?;
-    driven.node.step(Input::Stop)?;
+    driven.stop()?;
     assert_seen(&rt, &driven, (State::Stopped, 1, 0, 0, 0));
     assert_eq!(rt; driven.time(Kind::Join), Err(Fault::Stopped));
     assert_eq!(rt; driven.submit(1).err(), Some(Fault::Stopped));
@@ -66,14 +64,13 @@ fn stops(rt: HostRuntime) -> Result<(), Fail> {
 /// A node is made here and steps in another thread.
 #[test]
 fn steps_in_another_thread(rt: HostRuntime) -> Result<(), Fail> {
-    let fixed = Fixed::new(1)?;
-    let mut node = Node::<Counters>::new(rt.alloc(), fixed, fixed.proc(1)?)?;
-    lend(&node);
-    let call = Call::new(rt.alloc(), 7, 1, &ADD)?;
-    node.submit(call)?;
-    let lent = &mut node;
-    let (outs, ()) = thread::join(&rt, move || lent.step(Input::Timeout(Kind::Join)), || ());
-    assert_eq!(rt; outs?.sends.len(), 1);
-    assert_eq!(rt; node.state(), State::Commit);
+    let mut driven = Driven::<Counters>::new(rt.alloc(), rt.alloc())?;
+    lend(driven.node());
+    driven.submit(1)?;
+    let lent = &mut driven;
+    let (done, ()) = thread::join(&rt, move || lent.time(Kind::Join), || ());
+    done?;
+    assert_eq!(rt; driven.sends, 1);
+    assert_seen(&rt, &driven, (State::Commit, 0, 0, 0, 0));
     Ok(())
 }

@@ -1,5 +1,8 @@
 //! A node of a ring of one, driven by hand. Its frames are those of `docs/FORMATS.md`, byte by byte.
 
+ghost use Rattle.std.specs.Prelude.{IfOk};
+ghost use Rattle.ring_wire.specs.Frames.{FrameFits};
+
 use ring_base::{Fault, Fixed, Kind, State};
 use ring_node::{Input, Node, Outs};
 use ring_object::{Object, Reply};
@@ -7,6 +10,7 @@ use ring_payload::Call;
 use ring_session::Answer;
 use ring_ticket::Ticket;
 use ring_wire::{Frame, Wire};
+use std::alloc::Allocator;
 
 /// Add 5 on key 0 of an object of counters.
 pub const ADD: [u8; 10] = [1, 0, 0, 0, 0, 0, 0, 0, 0, 5];
@@ -48,6 +52,14 @@ pub fn token(number: u8, messages: u8) -> [u8; 43] {
     bytes
 }
 
+/// The frame that these bytes spell.
+fn frame_of<A: Allocator + Copy>(alloc: A, bytes: &[u8]) -> Result<Frame<A>, Fault>
+    ensures { IfOk result (λ frame. FrameFits frame) }
+{
+    let (frame, _) = Frame::<A>::get(alloc, bytes)?;
+    Ok(frame)
+}
+
 /// What is seen of a node: its state, the number of its last installed ring, how many places are committed, how many the
 /// log has, and how many calls took effect.
 pub type Seen = (State, u64, usize, u64, u64);
@@ -57,7 +69,7 @@ pub type Seen = (State, u64, usize, u64, u64);
 #[derive(Drop)]
 pub struct Driven<O: Object> {
     ample: O::Alloc,
-    pub node: Node<O>,
+    node: Node<O>,
     pub sends: usize,
     pub answers: usize,
     pub committed: usize,
@@ -90,9 +102,16 @@ impl<O: Object> Driven<O> {
         Ok(())
     }
 
+    /// The node is stopped.
+    pub fn stop(&mut self) -> Result<(), Fault> {
+        let outs = self.node.step(Input::Stop)?;
+        self.count(&outs);
+        Ok(())
+    }
+
     /// A frame comes, which is handed over.
     pub fn deliver(&mut self, bytes: &[u8]) -> Result<(), Fault> {
-        let (frame, _) = Frame::get(self.ample, bytes)?;
+        let frame = frame_of(self.ample, bytes)?;
         let outs = self.node.step(Input::Frame(frame))?;
         self.count(&outs);
         Ok(())
@@ -100,7 +119,7 @@ impl<O: Object> Driven<O> {
 
     /// A frame comes, which the node copies.
     pub fn deliver_on(&mut self, bytes: &[u8]) -> Result<(), Fault> {
-        let (frame, _) = Frame::get(self.ample, bytes)?;
+        let frame = frame_of(self.ample, bytes)?;
         let outs = self.node.step_on(&Input::Frame(frame))?;
         self.count(&outs);
         Ok(())
@@ -116,6 +135,11 @@ impl<O: Object> Driven<O> {
     pub fn submit_on(&mut self, number: u64) -> Result<Ticket, Fault> {
         let call = Call::new(self.ample, 7, number, &ADD)?;
         self.node.submit_on(&call)
+    }
+
+    /// The node, lent.
+    pub fn node(&self) -> &Node<O> {
+        &self.node
     }
 
     pub fn reply(&self, ticket: Ticket) -> Option<Answer> {
