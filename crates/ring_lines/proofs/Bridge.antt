@@ -1,5 +1,6 @@
 -- A book run is the run of its lines' events.
-use Rattle.std.proofs.Common.{◌≡◌, ℕ, zero, suc, ◌+◌, ◌-◌, ◌≤◌, ◌++◌, ◌==◌, Bool, true, false, List, [], ◌∷◌, length, take, Option, None, Some, slice_get, refl, inl, inr, ap, subst, sym, ◌∙◌, arith, append-nil, append_assoc, length-append, eq-eqb}
+use Rattle.std.proofs.Common.{◌≡◌, ℕ, zero, suc, ◌+◌, ◌-◌, ◌≤◌, ◌++◌, ◌==◌, Bool, true, false, List, [], ◌∷◌, length}
+use Rattle.std.proofs.Common.{take, Option, None, Some, slice_get, refl, inl, inr, ap, subst, sym, ◌∙◌, arith, append-nil, append_assoc, length-append, eq-eqb}
 use Rattle.std.specs.Prelude.{if◌then◌else◌, map, IsSomeAnd}
 use Rattle.std.specs.List.{AllByRecursion as Each}
 use Rattle.std.proofs.lemmas.Bool.{cases_Bool, eqb-true, cond-true, cond-false, cond_both, and_from, le-leb}
@@ -31,12 +32,14 @@ use Rattle.ring_history.specs.declared.item.Item.TheVariants.{Issue as IssuedIte
 use Rattle.ring_history.specs.Limits.{EventFits}
 use Rattle.ring_history.specs.Orders.{AreOneLog, order_of}
 use Rattle.ring_history.proofs.Linear.{all-at}
-use Rattle.ring_history.specs.Worlds.{World, world_opening, put, is_node, carried, items_of, after_step, issued_or, issued_if, stopped_if, frame_at, stepped_if, handed_if, handed, happens, run, committed_in, order}
+use Rattle.ring_history.specs.Worlds.{World, world_opening, put, is_node, carried, items_of, after_step, issued_or, issued_if}
+use Rattle.ring_history.specs.Worlds.{stopped_if, frame_at, stepped_if, handed_if, handed, happens, run, committed_in, order}
 use Rattle.ring_lines.specs.declared.frame_ref.FrameRef.{FrameRef}
 use Rattle.ring_lines.specs.declared.input.LineInput.{LineInput}
 use Rattle.ring_lines.specs.declared.input.LineInput.TheVariants.{Called, Came}
 use Rattle.ring_lines.specs.Answers.{by_ticket, told_by, told_from, told_to}
-use Rattle.ring_lines.specs.Events.{answers_of, frames_of, frame_number, event_of, event_on, events_after, events_of, items_in, history_of, IsDone, AreDone, IsRun}
+use Rattle.ring_lines.specs.Events.{answers_of, frames_of, frame_number, event_of, event_on, events_after}
+use Rattle.ring_lines.specs.Events.{events_of, items_in, history_of, IsDone, AreDone, IsRun}
 use Rattle.ring_lines.specs.Lines.{steps_of, frame_to, IsFound}
 use Rattle.ring_lines.specs.Logs.{committed_by, committed_to, longest_log}
 use Rattle.ring_lines.specs.Machines.{Machine, node_machine}
@@ -62,11 +65,13 @@ born-committed {A} group i =
 
 frames_of-snoc : {A : Type 0} (ls : List (LineView A)) (l : LineView A) → frames_of (ls ++ l ∷ []) ≡ frames_of ls ++ carried l.step.node l.step.frames
 frames_of-snoc [] l = append-nil (carried l.step.node l.step.frames)
-frames_of-snoc (x ∷ ls) l = ap (λ ys. carried x.step.node x.step.frames ++ ys) (frames_of-snoc ls l) ∙ sym (append_assoc (carried x.step.node x.step.frames) (frames_of ls) (carried l.step.node l.step.frames))
+frames_of-snoc (x ∷ ls) l = ap (λ ys. carried x.step.node x.step.frames ++ ys) (frames_of-snoc ls l)
+    ∙ sym (append_assoc (carried x.step.node x.step.frames) (frames_of ls) (carried l.step.node l.step.frames))
 
 history_of-snoc : {A : Type 0} (ls : List (LineView A)) (l : LineView A) → history_of (ls ++ l ∷ []) ≡ history_of ls ++ items_in l.step.input l.step.answers
 history_of-snoc [] l = append-nil (items_in l.step.input l.step.answers)
-history_of-snoc (x ∷ ls) l = ap (λ ys. items_in x.step.input x.step.answers ++ ys) (history_of-snoc ls l) ∙ sym (append_assoc (items_in x.step.input x.step.answers) (history_of ls) (items_in l.step.input l.step.answers))
+history_of-snoc (x ∷ ls) l = ap (λ ys. items_in x.step.input x.step.answers ++ ys) (history_of-snoc ls l)
+    ∙ sym (append_assoc (items_in x.step.input x.step.answers) (history_of ls) (items_in l.step.input l.step.answers))
 
 calls_of-snoc : {A : Type 0} (ss : List (StepView A)) (s : StepView A) → calls_of (ss ++ s ∷ []) ≡ calls_of ss ++ call_in s.input
 calls_of-snoc [] s = append-nil (call_in s.input)
@@ -76,7 +81,8 @@ committed_by-snoc : {A : Type 0} (ss : List (StepView A)) (s : StepView A) → c
 committed_by-snoc [] s = append-nil s.calls
 committed_by-snoc (x ∷ ss) s = ap (λ ys. x.calls ++ ys) (committed_by-snoc ss s) ∙ sym (append_assoc x.calls (committed_by ss) s.calls)
 
-after-snoc : {A : Type 0} (before ls : List (LineView A)) (l : LineView A) → events_after before (ls ++ l ∷ []) ≡ events_after before ls ++ event_of (before ++ ls) l.step.node l.step.input ∷ []
+after-snoc : {A : Type 0} (before ls : List (LineView A)) (l : LineView A)
+    → events_after before (ls ++ l ∷ []) ≡ events_after before ls ++ event_of (before ++ ls) l.step.node l.step.input ∷ []
 after-snoc before [] l = ap (λ (xs : List (LineView _)). event_of xs l.step.node l.step.input ∷ []) (sym (append-nil before))
 after-snoc before (x ∷ ls) l =
     ap (λ es. event_of before x.step.node x.step.input ∷ es)
@@ -114,7 +120,8 @@ module _ {O A : Type 0} (object : Sequential O) (group : Group) where
   abbrev issued_in : World A → ℕ → Call A → World A
   issued_in w node c = issued_or None w node c
 
-  next_issued : (w after : World A) (node : ℕ) (c : Call A) (l : StepView A) (u : Node A) → after ≡ issued_in w node c → u ≡ submitted (w.nodes node) c → l.frames ≡ []
+  next_issued : (w after : World A) (node : ℕ) (c : Call A) (l : StepView A) (u : Node A) → after ≡ issued_in w node c → u ≡ submitted (w.nodes node) c
+      → l.frames ≡ []
       → IsNext w after node (Called c) l u
   next_issued w after node c l u e new none = record {
     group_is = ap (λ x. x.group) e;
@@ -136,7 +143,8 @@ module _ {O A : Type 0} (object : Sequential O) (group : Group) where
   }
 
   -- the frame that comes was sent in the world
-  comes : (o : Option (Carried A)) (w : World A) (node : ℕ) (f : Frame A) (s : Carried A) → o ≡ Some s → s.frame ≡ f → has s.to node ≡ true → is_node w node ≡ true
+  comes : (o : Option (Carried A)) (w : World A) (node : ℕ) (f : Frame A) (s : Carried A) → o ≡ Some s → s.frame ≡ f → has s.to node ≡ true
+      → is_node w node ≡ true
       → (handed object w node o ≡ after_step w node (node_step object (w.nodes node) (Comes f))) × IsSomeAnd o (λ (x : Carried A). (x.frame ≡ f) × (has x.to node ≡ true))
   comes None w node f s e is to known = absurd cc
   comes (Some x) w node f s e is to known =
@@ -157,7 +165,8 @@ module _ {O A : Type 0} (object : Sequential O) (group : Group) where
     pub next : IsNext w (happens object w (event_of before node input)) node input l u
 
   -- a line of a book run is a line of the run
-  follows : (w : World A) (before : List (LineView A)) (node : ℕ) (input : LineInput A) (l : StepView A) (u : Node A) → is_node w node ≡ true → w.frames ≡ frames_of before
+  follows : (w : World A) (before : List (LineView A)) (node : ℕ) (input : LineInput A) (l : StepView A) (u : Node A) → is_node w node ≡ true
+      → w.frames ≡ frames_of before
       → Makes machine (w.nodes node) input l u → IsFound before node input → Follows w before node input l u
   follows w before node (Called c) l u known e made found = record {
     done = (made.0, made.2, made.3, made.4);
@@ -223,11 +232,14 @@ module _ {O A : Type 0} (object : Sequential O) (group : Group) where
     answers : answers_of object u ≡ told_by (answers_of object n) input l.answers
     committed : node_committed u ≡ node_committed n ++ l.calls
 
-  makes3 : (n u : Node A) (input : LineInput A) (l : StepView A) → Makes machine n input l u → IsFront (node_committed n) (node_committed u) → Makes3 n u input l
+  makes3 : (n u : Node A) (input : LineInput A) (l : StepView A) → Makes machine n input l u → IsFront (node_committed n) (node_committed u)
+      → Makes3 n u input l
   makes3 n u (Called c) l made front = record {
-    calls = ap (λ (x : Node A). asked_calls x.tickets) made.1 ∙ map-append (λ (t : Asked A). t.call) n.tickets (record { call = c; since = length (node_committed n) } ∷ []);
+    calls = ap (λ (x : Node A). asked_calls x.tickets) made.1
+        ∙ map-append (λ (t : Asked A). t.call) n.tickets (record { call = c; since = length (node_committed n) } ∷ []);
     answers = ap (λ (x : Node A). answers_of object x) made.1 ∙ answers_of-submitted object n c;
-    committed = ap (λ (x : Node A). node_committed x) made.1 ∙ (submitted-committed n c ∙ (sym (append-nil (node_committed n)) ∙ ap (λ cs. node_committed n ++ cs) (sym made.4)));
+    committed = ap (λ (x : Node A). node_committed x) made.1
+        ∙ (submitted-committed n c ∙ (sym (append-nil (node_committed n)) ∙ ap (λ cs. node_committed n ++ cs) (sym made.4)));
   }
   makes3 n u (Came input at) l made front =
       let d = node_step object n input in
@@ -239,9 +251,14 @@ module _ {O A : Type 0} (object : Sequential O) (group : Group) where
         committed = ap (λ (x : Node A). node_committed x) made.1 ∙ (adds.committed ∙ ap (λ cs. node_committed n ++ cs) (sym made.4));
       }
 
-  all-fronts : (w : World A) → AreOneLog (committed_in w) → ((i : ℕ) → 1 ≤ i → i ≤ group.count → slice_get (committed_in w) (i - 1) ≡ Some (node_committed (w.nodes i)))
+  all-fronts : (w : World A) → AreOneLog (committed_in w)
+      → ((i : ℕ) → 1 ≤ i → i ≤ group.count → slice_get (committed_in w) (i - 1) ≡ Some (node_committed (w.nodes i)))
       → (log : List (Call A)) × ((i : ℕ) → 1 ≤ i → i ≤ group.count → IsFront (node_committed (w.nodes i)) log)
-  all-fronts w one at = (one.0, λ i low high. all-at (λ (calls : List (Call A)). IsFront calls one.0) (committed_in w) (i - 1) (node_committed (w.nodes i)) one.1 (at i low high))
+  all-fronts w one at = (
+    one.0,
+    λ i low high. all-at (λ (calls : List (Call A)). IsFront calls one.0) (committed_in w) (i - 1) (node_committed (w.nodes i)) one.1
+        (at i low high),
+  )
 
   -- after one line more
   says-next : (w after : World A) (before : List (LineView A)) (l : LineView A) (u : Node A) → Says w before → 1 ≤ l.step.node → l.step.node ≤ group.count
@@ -267,37 +284,45 @@ module _ {O A : Type 0} (object : Sequential O) (group : Group) where
         history = next.history ∙ (ap (λ xs. xs ++ items_in l.step.input l.step.answers) says.history ∙ sym (history_of-snoc before l));
         calls = λ i. elim (cases_Bool (i == node)) [
           | inl t ↦ own-calls i (eqb-true i node t) m
-          | inr f ↦ ap (λ (x : Node A). asked_calls x.tickets) (next.others i f) ∙ (says.calls i ∙ sym (ap calls_of (steps_of-other i before l (apart-sym i node f))))
+          | inr f ↦ ap (λ (x : Node A). asked_calls x.tickets) (next.others i f)
+              ∙ (says.calls i ∙ sym (ap calls_of (steps_of-other i before l (apart-sym i node f))))
         ];
         answers = λ i. elim (cases_Bool (i == node)) [
           | inl t ↦ own-answers i (eqb-true i node t) m
-          | inr f ↦ ap (λ (x : Node A). answers_of object x) (next.others i f) ∙ (says.answers i ∙ sym (ap (told_from []) (steps_of-other i before l (apart-sym i node f))))
+          | inr f ↦ ap (λ (x : Node A). answers_of object x) (next.others i f)
+              ∙ (says.answers i ∙ sym (ap (told_from []) (steps_of-other i before l (apart-sym i node f))))
         ];
         committed = λ i. elim (cases_Bool (i == node)) [
           | inl t ↦ own-committed i (eqb-true i node t) m
-          | inr f ↦ ap (λ (x : Node A). node_committed x) (next.others i f) ∙ (says.committed i ∙ sym (ap committed_by (steps_of-other i before l (apart-sym i node f))))
+          | inr f ↦ ap (λ (x : Node A). node_committed x) (next.others i f)
+              ∙ (says.committed i ∙ sym (ap committed_by (steps_of-other i before l (apart-sym i node f))))
         ];
-        longest = longest-next (λ i. node_committed (w.nodes i)) (λ i. node_committed (after.nodes i)) group.count node before l grow fronts.0 fronts.1 says.longest;
+        longest = longest-next (λ i. node_committed (w.nodes i))
+            (λ i. node_committed (after.nodes i)) group.count node before l grow fronts.0 fronts.1 says.longest;
       }
     where
       apart-sym : (i node : ℕ) → (i == node) ≡ false → (node == i) ≡ false
       apart-sym i node f = grind (arith, nat_tests, f)
 
-      own-calls : (i : ℕ) → i ≡ l.step.node → Makes3 (w.nodes l.step.node) u l.step.input l.step → asked_calls (after.nodes i).tickets ≡ calls_of (steps_of i (before ++ l ∷ []))
+      own-calls : (i : ℕ) → i ≡ l.step.node → Makes3 (w.nodes l.step.node) u l.step.input l.step
+          → asked_calls (after.nodes i).tickets ≡ calls_of (steps_of i (before ++ l ∷ []))
       own-calls i e m =
           ap (λ (k : ℕ). asked_calls (after.nodes k).tickets) e
           ∙ (ap (λ (x : Node A). asked_calls x.tickets) next.own ∙ (m.calls ∙ (ap (λ xs. xs ++ call_in l.step.input) (says.calls l.step.node)
           ∙ (sym (calls_of-snoc (steps_of l.step.node before) l.step) ∙ (sym (ap calls_of (steps_of-own l.step.node before l refl))
           ∙ ap (λ (k : ℕ). calls_of (steps_of k (before ++ l ∷ []))) (sym e))))))
 
-      own-answers : (i : ℕ) → i ≡ l.step.node → Makes3 (w.nodes l.step.node) u l.step.input l.step → answers_of object (after.nodes i) ≡ told_to i (before ++ l ∷ [])
+      own-answers : (i : ℕ) → i ≡ l.step.node → Makes3 (w.nodes l.step.node) u l.step.input l.step
+          → answers_of object (after.nodes i) ≡ told_to i (before ++ l ∷ [])
       own-answers i e m =
           ap (λ (k : ℕ). answers_of object (after.nodes k)) e
-          ∙ (ap (λ (x : Node A). answers_of object x) next.own ∙ (m.answers ∙ (ap (λ (xs : List (Option Answer)). told_by xs l.step.input l.step.answers) (says.answers l.step.node)
+          ∙ (ap (λ (x : Node A). answers_of object x) next.own
+          ∙ (m.answers ∙ (ap (λ (xs : List (Option Answer)). told_by xs l.step.input l.step.answers) (says.answers l.step.node)
           ∙ (sym (told_from-snoc [] (steps_of l.step.node before) l.step) ∙ (sym (ap (told_from []) (steps_of-own l.step.node before l refl))
           ∙ ap (λ (k : ℕ). told_to k (before ++ l ∷ [])) (sym e))))))
 
-      own-committed : (i : ℕ) → i ≡ l.step.node → Makes3 (w.nodes l.step.node) u l.step.input l.step → node_committed (after.nodes i) ≡ committed_to i (before ++ l ∷ [])
+      own-committed : (i : ℕ) → i ≡ l.step.node → Makes3 (w.nodes l.step.node) u l.step.input l.step
+          → node_committed (after.nodes i) ≡ committed_to i (before ++ l ∷ [])
       own-committed i e m =
           ap (λ (k : ℕ). node_committed (after.nodes k)) e
           ∙ (ap (λ (x : Node A). node_committed x) next.own ∙ (m.committed ∙ (ap (λ xs. xs ++ l.step.calls) (says.committed l.step.node)
@@ -313,9 +338,11 @@ module _ {O A : Type 0} (object : Sequential O) (group : Group) (few : group.cou
   abbrev world : List (LineView A) → World A
   world lines = run object (world_opening group) (events_of lines)
 
-  world-more : (before : List (LineView A)) (l : LineView A) → world (before ++ l ∷ []) ≡ happens object (world before) (event_of before l.step.node l.step.input)
+  world-more : (before : List (LineView A)) (l : LineView A)
+      → world (before ++ l ∷ []) ≡ happens object (world before) (event_of before l.step.node l.step.input)
   world-more before l =
-      ap (run object (world_opening group)) (after-snoc [] before l) ∙ run-more object (world_opening group) (events_of before) (event_of before l.step.node l.step.input)
+      ap (run object (world_opening group)) (after-snoc [] before l)
+      ∙ run-more object (world_opening group) (events_of before) (event_of before l.step.node l.step.input)
 
   is-known : (w : World A) (i : ℕ) → w.group ≡ group → 1 ≤ i → i ≤ group.count → is_node w i ≡ true
   is-known w i e low high = and_from _ _ (le-leb 1 i low) (le-leb i w.group.count (omega (arith, high, ap (λ (g : Group). g.count) e)))
@@ -337,8 +364,11 @@ module _ {O A : Type 0} (object : Sequential O) (group : Group) (few : group.cou
   first : (w : World A) (l : LineView A) (ls : List (LineView A)) → 1 ≤ l.step.node → l.step.node ≤ group.count → Lead w (l ∷ ls)
       → (t : Node A) × Leads m (w.nodes l.step.node) (l.step ∷ steps_of l.step.node ls) t
   first w l ls low high lead =
-      let h = lead l.step.node low high in
-      (h.0, subst (λ (ss : List (StepView A)). Leads m (w.nodes l.step.node) ss h.0) (steps_of-first l.step.node ls l (eq-eqb l.step.node l.step.node refl)) h.1)
+      let h = lead l.step.node low high in (
+        h.0,
+        subst (λ (ss : List (StepView A)). Leads m (w.nodes l.step.node) ss h.0)
+            (steps_of-first l.step.node ls l (eq-eqb l.step.node l.step.node refl)) h.1,
+      )
 
   rest-leads : (w after : World A) (l : LineView A) (ls : List (LineView A)) (u : Node A) → IsNext object group w after l.step.node l.step.input l.step u
       → ((t : Node A) × Leads m u (steps_of l.step.node ls) t) → Lead w (l ∷ ls) → Lead after ls
@@ -349,8 +379,11 @@ module _ {O A : Type 0} (object : Sequential O) (group : Group) (few : group.cou
         (own.0, subst (λ (x : Node A). Leads m x (steps_of i ls) own.0) (sym is) (subst (λ (k : ℕ). Leads m u (steps_of k ls) own.0) (sym e) own.1))
     | inr f ↦
         let h = lead i low high in
-        let skip = steps_of-skip i ls l (grind (arith, nat_tests, f)) in
-        (h.0, subst (λ (x : Node A). Leads m x (steps_of i ls) h.0) (sym (next.others i f)) (subst (λ (ss : List (StepView A)). Leads m (w.nodes i) ss h.0) skip h.1))
+        let skip = steps_of-skip i ls l (grind (arith, nat_tests, f)) in (
+          h.0,
+          subst (λ (x : Node A). Leads m x (steps_of i ls) h.0) (sym (next.others i f))
+              (subst (λ (ss : List (StepView A)). Leads m (w.nodes i) ss h.0) skip h.1),
+        )
   ]
 
   led-on : (w after last : World A) (l : LineView A) (ls : List (LineView A)) (u : Node A) → IsNext object group w after l.step.node l.step.input l.step u

@@ -1,5 +1,6 @@
 -- What a node's step and submit add to its committed log and to the answers of its tickets.
-use Rattle.std.proofs.Common.{◌≡◌, ℕ, ◌+◌, ◌<◌, ◌≤◌, Bool, true, false, List, [], ◌∷◌, ◌++◌, length, drop, Option, Some, None, refl, ap, sym, subst, ◌∙◌, arith, append-nil, length-append, if◌then◌else◌}
+use Rattle.std.proofs.Common.{◌≡◌, ℕ, ◌+◌, ◌<◌, ◌≤◌, Bool, true, false, List, [], ◌∷◌, ◌++◌, length}
+use Rattle.std.proofs.Common.{drop, Option, Some, None, refl, ap, sym, subst, ◌∙◌, arith, append-nil, length-append, if◌then◌else◌}
 use Rattle.std.specs.Prelude.{replicate}
 use Rattle.std.specs.List.{AllByRecursion}
 use Rattle.std.proofs.lemmas.List.{length-replicate, replicate-append-replicate}
@@ -52,7 +53,8 @@ pub record Adds {O A : Type 0} (object : Sequential O) (n : Node A) (s : NodeSte
   pub answers : s.answers ≡ answers_after object n.tickets (node_committed n) s.committed
 
 module _ {O A : Type 0} (object : Sequential O) where
-  settled-adds : (b : Bool) (n new : Node A) (outs : List (Out A)) (life : List (Stay A)) → node_committed new ≡ committed_of n.group life → new.tickets ≡ n.tickets
+  settled-adds : (b : Bool) (n new : Node A) (outs : List (Out A)) (life : List (Stay A)) → node_committed new ≡ committed_of n.group life
+      → new.tickets ≡ n.tickets
       → IsFront (node_committed n) (node_committed (settled object b n new outs life).node) → Adds object n (settled object b n new outs life)
   settled-adds false n new outs life is same front = record { committed = sym (append-nil (node_committed n)); tickets = refl; answers = refl }
   settled-adds true n new outs life is same front =
@@ -86,16 +88,19 @@ below-append : {A : Type 0} (n : ℕ) (xs ys : List (Answered A)) → AreBelow n
 below-append n [] ys h k = k
 below-append n (x ∷ xs) ys h k = (h.0, below-append n xs ys h.1 k)
 
-below-answered : {A : Type 0} (n ticket : ℕ) (c : Call A) (answer : Option Answer) (b : Bool) → ticket < n → AreBelow n (if b then answered ticket c answer else [])
+below-answered : {A : Type 0} (n ticket : ℕ) (c : Call A) (answer : Option Answer) (b : Bool) → ticket < n
+    → AreBelow n (if b then answered ticket c answer else [])
 below-answered n ticket c None true h = tt
 below-answered n ticket c (Some answer) true h = (h, tt)
 below-answered n ticket c answer false h = tt
 
 module _ {O A : Type 0} (object : Sequential O) where
-  below-at : (n : ℕ) (committed : List (Call A)) (place ticket : ℕ) (ts : List (Asked A)) → ticket + length ts ≤ n → AreBelow n (answers_at object committed place ticket ts)
+  below-at : (n : ℕ) (committed : List (Call A)) (place ticket : ℕ) (ts : List (Asked A)) → ticket + length ts ≤ n
+      → AreBelow n (answers_at object committed place ticket ts)
   below-at n committed place ticket [] h = tt
   below-at n committed place ticket (t ∷ ts) h =
-      below-append n (if is_place place (place_of committed t) then answered ticket t.call (session_answer object committed place) else []) (answers_at object committed place (ticket + 1) ts)
+      below-append n (if is_place place (place_of committed t) then answered ticket t.call (session_answer object committed place) else [])
+      (answers_at object committed place (ticket + 1) ts)
       (below-answered n ticket t.call (session_answer object committed place) (is_place place (place_of committed t)) (omega arith))
       (below-at n committed place (ticket + 1) ts (omega arith))
 
@@ -103,7 +108,8 @@ module _ {O A : Type 0} (object : Sequential O) where
   below-after : (tickets : List (Asked A)) (committed more : List (Call A)) → AreBelow (length tickets) (answers_after object tickets committed more)
   below-after tickets committed [] = tt
   below-after tickets committed (c ∷ more) =
-      below-append (length tickets) (answers_at object (committed ++ c ∷ []) (length committed) 0 tickets) (answers_after object tickets (committed ++ c ∷ []) more)
+      below-append (length tickets) (answers_at object (committed ++ c ∷ []) (length committed) 0 tickets)
+      (answers_after object tickets (committed ++ c ∷ []) more)
       (below-at (length tickets) (committed ++ c ∷ []) (length committed) 0 tickets (omega arith)) (below-after tickets (committed ++ c ∷ []) more)
 
   -- a submit adds a ticket without an answer

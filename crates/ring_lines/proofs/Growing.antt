@@ -41,7 +41,8 @@ module _ {O A : Type 0} (object : Sequential O) (group : Group) (few : group.cou
       → IsFront (node_committed ((at events).nodes i)) (node_committed ((happens object (at events) e).nodes i))
   grown events e i low high =
       let w' = happens object (at events) e in
-      grows-at (committed_in (at events)) (committed_in w') (i - 1) (node_committed ((at events).nodes i)) (node_committed (w'.nodes i)) (next-step events e).grows
+      grows-at (committed_in (at events)) (committed_in w') (i - 1) (node_committed ((at events).nodes i)) (node_committed (w'.nodes i))
+      (next-step events e).grows
       (committed-at group (at events) (known events) i low high) (committed-at group w' (event-knows object group (at events) e (known events)) i low high)
 
   -- and after it all are fronts of one list

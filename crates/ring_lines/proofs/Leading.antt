@@ -24,12 +24,16 @@ steps-snoc (x ∷ ls) l = ap (λ ys. x.step ∷ ys) (steps-snoc ls l)
 pub steps_of-own : {A : Type 0} (i : ℕ) (ls : List (LineView A)) (l : LineView A) → l.step.node ≡ i → steps_of i (ls ++ l ∷ []) ≡ steps_of i ls ++ l.step ∷ []
 steps_of-own {A} i ls l e =
     let b : (l.step.node == i) ≡ true = eq-eqb l.step.node i e in
-    ap (own_steps i) (steps-snoc ls l) ∙ (filter-append (λ (x : StepView A). x.node == i) (steps ls) (l.step ∷ []) ∙ ap (λ ys. steps_of i ls ++ ys) (ap (λ (c : Bool). if c then (l.step ∷ []) else []) b))
+    ap (own_steps i) (steps-snoc ls l)
+    ∙ (filter-append (λ (x : StepView A). x.node == i) (steps ls) (l.step ∷ [])
+    ∙ ap (λ ys. steps_of i ls ++ ys) (ap (λ (c : Bool). if c then (l.step ∷ []) else []) b))
 
 -- and with one of another
 pub steps_of-other : {A : Type 0} (i : ℕ) (ls : List (LineView A)) (l : LineView A) → (l.step.node == i) ≡ false → steps_of i (ls ++ l ∷ []) ≡ steps_of i ls
 steps_of-other {A} i ls l b =
-    ap (own_steps i) (steps-snoc ls l) ∙ (filter-append (λ (x : StepView A). x.node == i) (steps ls) (l.step ∷ []) ∙ (ap (λ ys. steps_of i ls ++ ys) (ap (λ (c : Bool). if c then (l.step ∷ []) else []) b) ∙ append-nil (steps_of i ls)))
+    ap (own_steps i) (steps-snoc ls l)
+    ∙ (filter-append (λ (x : StepView A). x.node == i) (steps ls) (l.step ∷ [])
+    ∙ (ap (λ ys. steps_of i ls ++ ys) (ap (λ (c : Bool). if c then (l.step ∷ []) else []) b) ∙ append-nil (steps_of i ls)))
 
 -- a first line of a node is its first step
 pub steps_of-first : {A : Type 0} (i : ℕ) (ls : List (LineView A)) (l : LineView A) → (l.step.node == i) ≡ true → steps_of i (l ∷ ls) ≡ l.step ∷ steps_of i ls

@@ -1,5 +1,6 @@
 -- The longest committed log, line by line.
-use Rattle.std.proofs.Common.{◌≡◌, ℕ, zero, suc, ◌+◌, ◌-◌, ◌≤◌, ◌<◌, ◌==◌, Bool, true, false, List, [], ◌∷◌, ◌++◌, length, drop, Option, None, Some, slice_get, All, refl, inl, inr, ap, subst, sym, ◌∙◌, arith, append-nil, append_assoc, length-append, nat_lt, eq-eqb, if◌then◌else◌}
+use Rattle.std.proofs.Common.{◌≡◌, ℕ, zero, suc, ◌+◌, ◌-◌, ◌≤◌, ◌<◌, ◌==◌, Bool, true, false, List, [], ◌∷◌, ◌++◌, length, drop}
+use Rattle.std.proofs.Common.{Option, None, Some, slice_get, All, refl, inl, inr, ap, subst, sym, ◌∙◌, arith, append-nil, append_assoc, length-append, nat_lt, eq-eqb, if◌then◌else◌}
 use Rattle.std.specs.Prelude.{take, map, ◌⊎◌}
 use Rattle.std.specs.List.{AllByRecursion as Each}
 use Rattle.std.proofs.Math.Seq.{drop-append_seam}
@@ -19,7 +20,8 @@ use Rattle.ring_lines.specs.Steps.{StepView, LineView}
 
 -- ---- one line more
 
-from-snoc : {A : Type 0} (n : ℕ) (log : LogView) (ls : List (LineView A)) (l : LineView A) → logged_from n log (ls ++ l ∷ []) ≡ logged_by (n + length ls) (logged_from n log ls) l.step
+from-snoc : {A : Type 0} (n : ℕ) (log : LogView) (ls : List (LineView A)) (l : LineView A)
+    → logged_from n log (ls ++ l ∷ []) ≡ logged_by (n + length ls) (logged_from n log ls) l.step
 from-snoc n log [] l = let k : n ≡ n + 0 = omega arith in ap (λ (j : ℕ). logged_by j log l.step) k
 from-snoc n log (x ∷ ls) l =
     let k : suc n + length ls ≡ n + suc (length ls) = omega arith in
@@ -83,11 +85,13 @@ get-last (y ∷ xs) x = get-last xs x
 -- ---- how a log goes on
 
 -- a list that is a longer front of another and a call list behind it
-goes_on : {X : Type 0} (xs ys more : List X) → IsFront xs ys → IsFront ys (xs ++ more) → ys ++ drop (length more - (length (xs ++ more) - length ys)) more ≡ xs ++ more
+goes_on : {X : Type 0} (xs ys more : List X) → IsFront xs ys → IsFront ys (xs ++ more)
+    → ys ++ drop (length more - (length (xs ++ more) - length ys)) more ≡ xs ++ more
 goes_on {X} [] ys more p q =
     let le = front_length ys more q in
     let n : length more - (length more - length ys) ≡ length ys = omega (arith, le) in
-    ap (λ (k : ℕ). ys ++ drop k more) n ∙ (ap (λ (zs : List X). ys ++ drop (length ys) zs) (sym q.1) ∙ (ap (λ (zs : List X). ys ++ zs) (drop-append_seam ys q.0) ∙ q.1))
+    ap (λ (k : ℕ). ys ++ drop k more) n
+    ∙ (ap (λ (zs : List X). ys ++ drop (length ys) zs) (sym q.1) ∙ (ap (λ (zs : List X). ys ++ zs) (drop-append_seam ys q.0) ∙ q.1))
 goes_on (x ∷ xs) [] more p q = absurd (cc p.1)
 goes_on {X} (x ∷ xs) (y ∷ ys) more p q =
     let same : x ≡ y = cc p.1 in
@@ -118,7 +122,8 @@ pub record IsGrown {A : Type 0} (before after : ℕ → List (Call A)) (count no
   pub others : (i : ℕ) → (i == node) ≡ false → after i ≡ before i
   pub length_is : s.committed ≡ length (after node)
 
-module _ {A : Type 0} (before after : ℕ → List (Call A)) (count node : ℕ) (lines : List (LineView A)) (l : LineView A) (grown : IsGrown before after count node l.step)
+module _ {A : Type 0} (before after : ℕ → List (Call A)) (count node : ℕ) (lines : List (LineView A)) (l : LineView A)
+    (grown : IsGrown before after count node l.step)
     (log : List (Call A)) (one : (i : ℕ) → 1 ≤ i → i ≤ count → IsFront (after i) log) (is : IsLongest before count lines) where
   abbrev old : List (Call A)
   old = longest_log lines
@@ -133,7 +138,8 @@ module _ {A : Type 0} (before after : ℕ → List (Call A)) (count node : ℕ) 
   old-front : IsFront old log
   old-front = elim is.some [
     | inl e ↦ subst (λ (zs : List (Call A)). IsFront zs log) (sym e) (log, refl)
-    | inr j ↦ subst (λ (zs : List (Call A)). IsFront zs log) (sym j.log_is) (front_trans (before j.node) (after j.node) log (front-on j.node) (one j.node j.low j.high))
+    | inr j ↦ subst (λ (zs : List (Call A)). IsFront zs log) (sym j.log_is)
+        (front_trans (before j.node) (after j.node) log (front-on j.node) (one j.node j.low j.high))
   ]
 
   -- another's log is a front of any that the old one is a front of
@@ -182,7 +188,8 @@ module _ {A : Type 0} (before after : ℕ → List (Call A)) (count node : ℕ) 
       let k : from ≡ length s.calls - (length (before node ++ s.calls) - length old) = omega (arith, grown.length_is, ap length grown.own, is.total) in
       let whole : old ++ drop from s.calls ≡ after node =
       ap (λ (j : ℕ). old ++ drop j s.calls) k
-      ∙ (goes_on (before node) old s.calls (is.fronts node grown.low grown.high) (subst (λ (zs : List (Call A)). IsFront old zs) grown.own front) ∙ sym grown.own) in
+      ∙ (goes_on (before node) old s.calls (is.fronts node grown.low grown.high) (subst (λ (zs : List (Call A)). IsFront old zs) grown.own front)
+      ∙ sym grown.own) in
       let calls : calls_at (lines ++ l ∷ []) ((log_in lines).segments ++ segment ∷ []) ≡ after node =
       calls_at-append (lines ++ l ∷ []) (log_in lines).segments (segment ∷ [])
       ∙ (ap (λ zs. zs ++ (calls_on from (slice_get (lines ++ l ∷ []) (length lines)) ++ [])) kept-calls
@@ -192,7 +199,8 @@ module _ {A : Type 0} (before after : ℕ → List (Call A)) (count node : ℕ) 
             (below-more (length lines) (length (lines ++ l ∷ [])) (log_in lines).segments (omega (arith, length-append lines (l ∷ []))) is.below)
             (omega (arith, length-append lines (l ∷ [])));
         total = grown.length_is ∙ ap length (sym calls);
-        fronts = subst (λ (zs : List (Call A)). (i : ℕ) → 1 ≤ i → i ≤ count → IsFront (after i) zs) (sym calls) (other-fronts (after node) front (front_self (after node)));
+        fronts = subst (λ (zs : List (Call A)). (i : ℕ) → 1 ≤ i → i ≤ count → IsFront (after i) zs) (sym calls)
+            (other-fronts (after node) front (front_self (after node)));
         some = inr (record { node = node; low = grown.low; high = grown.high; log_is = calls });
       }
 
@@ -230,6 +238,12 @@ order-longest {A} committed count lines is one at =
     front_whole (order_of all) (deduplicated (longest_log lines)) front (elim is.some [
       | inl e ↦ let none : length (deduplicated (longest_log lines)) ≡ 0 = ap (λ (zs : List (Call A)). length (deduplicated zs)) e in omega (arith, none)
       | inr j ↦
-          let same : length (deduplicated (longest_log lines)) ≡ length (deduplicated (committed j.node)) = ap (λ (zs : List (Call A)). length (deduplicated zs)) j.log_is in
-          omega (arith, same, front_length (deduplicated (committed j.node)) (order_of all) (order_of-fronts all (j.node - 1) (committed j.node) one (at j.node j.low j.high)))
+          let same : length (deduplicated (longest_log lines)) ≡ length (deduplicated (committed j.node)) = ap
+          (λ (zs : List (Call A)). length (deduplicated zs)) j.log_is in
+          omega (
+            arith,
+            same,
+            front_length (deduplicated (committed j.node)) (order_of all)
+                (order_of-fronts all (j.node - 1) (committed j.node) one (at j.node j.low j.high)),
+          )
     ])

@@ -1,5 +1,6 @@
 -- Frames that stand in the lines, and where they stand among all frames.
-use Rattle.std.proofs.Common.{◌≡◌, ℕ, zero, suc, ◌+◌, ◌++◌, ◌≤◌, ◌∙◌, Bool, true, false, List, [], ◌∷◌, Option, None, Some, length, take, slice_get, refl, ap, subst, sym, arith, length-append}
+use Rattle.std.proofs.Common.{◌≡◌, ℕ, zero, suc, ◌+◌, ◌++◌, ◌≤◌, ◌∙◌, Bool, true, false, List, []}
+use Rattle.std.proofs.Common.{◌∷◌, Option, None, Some, length, take, slice_get, refl, ap, subst, sym, arith, length-append}
 use Rattle.std.proofs.lemmas.Option.{slice_get_read}
 use Rattle.std.specs.Borrow.{Bor}
 use Rattle.std.specs.Slice.{IsItemAt}
@@ -29,13 +30,15 @@ get-right (x ∷ xs) ys k (suc n) e = get-right xs ys k n (omega arith)
 abbrev by_node : {A : Type 0} → ℕ → Sent A → Carried A
 by_node i s = record { from = i; to = s.to; frame = s.frame }
 
-get-carried : {A : Type 0} (i : ℕ) (sends : List (Sent A)) (k : ℕ) (s : Sent A) → slice_get sends k ≡ Some s → slice_get (carried i sends) k ≡ Some (by_node i s)
+get-carried : {A : Type 0} (i : ℕ) (sends : List (Sent A)) (k : ℕ) (s : Sent A) → slice_get sends k ≡ Some s
+    → slice_get (carried i sends) k ≡ Some (by_node i s)
 get-carried i [] zero s h = absurd cc
 get-carried i [] (suc k) s h = absurd cc
 get-carried {A} i (x ∷ sends) zero s h = let same : x ≡ s = cc in ap (λ (y : Sent A). Some (by_node i y)) same
 get-carried i (x ∷ sends) (suc k) s h = get-carried i sends k s h
 
-frame_stands : {A : Type 0} (ls : List (LineView A)) (i place n : ℕ) (l : LineView A) (s : Sent A) → slice_get ls i ≡ Some l → slice_get l.step.frames place ≡ Some s
+frame_stands : {A : Type 0} (ls : List (LineView A)) (i place n : ℕ) (l : LineView A) (s : Sent A) → slice_get ls i ≡ Some l
+    → slice_get l.step.frames place ≡ Some s
     → n ≡ length (frames_of (take i ls)) + place → slice_get (frames_of ls) n ≡ Some (by_node l.step.node s)
 frame_stands [] zero place n l s h g e = absurd cc
 frame_stands [] (suc i) place n l s h g e = absurd cc
@@ -108,4 +111,5 @@ one_frame f g h k e = (same_front frame_format f g [] [] h k (ap (λ (xs : List 
 -- two texts are the same exactly where their frames are
 pub same_frame : {A : Type 0} (f g : Frame A) (bytes text : List ℕ) (b : Bool) → FrameFits f → FrameFits g → bytes ≡ spelling_of f → text ≡ spelling_of g
     → IsTrue b ↔ (bytes ≡ text) → IsTrue b ↔ (f ≡ g)
-same_frame f g bytes text b h k first second same = ((λ t. one_frame f g h k (sym first ∙ (same.0 t ∙ second))), (λ e. same.1 (first ∙ (ap spelling_of e ∙ sym second))))
+same_frame f g bytes text b h k first second same =
+    ((λ t. one_frame f g h k (sym first ∙ (same.0 t ∙ second))), (λ e. same.1 (first ∙ (ap spelling_of e ∙ sym second))))

@@ -8,9 +8,16 @@ use Rattle.ring_wire.specs.declared.frame.Frame.{Frame}
 use Rattle.ring_wire.specs.declared.frame.Frame.TheVariants as frames
 use Rattle.ring_machine.specs.declared.input.Input.TheVariants.{Noise}
 use Rattle.ring_lines.specs.declared.cause.Cause.{Cause}
+use Rattle.ring_lines.specs.declared.frames.Kept.{Kept}
+use Rattle.ring_lines.specs.declared.frames.Kept.TheVariants.{Spelled, Given}
 use Rattle.ring_lines.specs.declared.input.LineInput.TheVariants.{Came}
 use Rattle.ring_lines.specs.Lines.{cause_of}
 use Rattle.ring_lines.specs.Steps.{StepView}
+
+-- what was sent, of frames as they are kept
+abbrev pub sends_of : {A : Type 0} → Kept A → List (Sent A)
+sends_of (Spelled frames) = frames.items
+sends_of (Given frames) = frames.items
 
 -- a frame, and a step, of no meaning
 abbrev pub some_frame : {A : Type 0} → Frame A

@@ -1,15 +1,14 @@
 //! The lines of the book.
 
-ghost use Rattle.std.specs.Prelude.{◌≡◌, ◌+◌, ◌≤◌, ◌↔◌, Some, IsTrue, IsSomeAnd, length};
-ghost use Rattle.std.specs.Option.{option_copied};
+ghost use Rattle.std.specs.Prelude.{◌≡◌, ◌+◌, ◌≤◌, ◌↔◌, Some, IsTrue, length};
 ghost use Rattle.ring_machine.specs.Limits.{InputFits};
-ghost use Rattle.ring_wire.specs.Frames.{FrameFits, spelling_of};
-ghost use Rattle.ring_lines.specs.Lines.{cause_of, frame_for, frame_to, sent_at, IsFound, IsThere, Stands};
+ghost use Rattle.ring_wire.specs.Frames.{FrameFits};
+ghost use Rattle.ring_lines.specs.Lines.{cause_of, frame_to, IsFound, IsThere, Stands};
 
 use crate::cause::Cause;
 use crate::frame_ref::FrameRef;
+use crate::frames::Frames;
 use crate::input::LineInput;
-use crate::spelled::SpelledFrame;
 use crate::step::Step;
 use crate::stories::{StepStory, shown_step};
 use bytes::BytesMut;
@@ -29,7 +28,7 @@ pub struct Line<A: Allocator + Copy + Drop = Global> {
     number: u32,
     node: Proc,
     cause: Cause<A>,
-    frames: Vec<SpelledFrame<A>, A>,
+    frames: Frames<A>,
     answers: Vec<Answered<A>, A>,
     calls: Vec<Call<A>, A>,
     step: Past<StepStory<A>>,
@@ -44,11 +43,11 @@ impl<A: Allocator + Copy + Drop> Model for Line<A> {
 
     ghost view = { λ l. record { number = l.number; step = l.step.value } };
 
-    ghost invariant = { λ l. IsKept l.step.value l.node l.cause l.frames.items l.answers.items l.calls.items };
+    ghost invariant = { λ l. IsKept l.step.value l.node l.cause l.frames l.answers.items l.calls.items };
 }
 
 /// A line takes little, so that a full book on an idle ring does.
-const _: () = prove!(size_of::<Line>() <= 128);
+const _: () = prove!(size_of::<Line>() <= 136);
 
 /// What the line tells of its input.
 fn cause<A: Allocator + Copy + Drop>(input: LineInput<A>) -> Cause<A>
@@ -110,10 +109,10 @@ impl<A: Allocator + Copy + Drop> Line<A> {
     }
 
     /// The frames sent; the place of each in this list, counted from 0, is that of its `FrameRef`.
-    pub fn frames(&self) -> &[SpelledFrame<A>]
+    pub fn frames(&self) -> &Frames<A>
         ensures { result.now ≡ self.now.step.frames }
     {
-        self.frames.as_slice()
+        &self.frames
     }
 
     /// The answers given.
@@ -131,39 +130,22 @@ impl<A: Allocator + Copy + Drop> Line<A> {
     }
 }
 
-/// The frame that stands there, if there is one.
-pub fn frame_at<A: Allocator + Copy + Drop>(
-    lines: &[Line<A>],
-    at: FrameRef,
-) -> Option<&SpelledFrame<A>>
-    ensures { option_copied result ≡ sent_at lines.now at }
-{
-    match lines.get(at.line as usize) {
-        Some(line) => line.frames().get(at.place as usize),
-        None => None,
-    }
-}
-
-/// Whether these bytes stand there for the node.
+/// Whether these bytes stand there for the node. A frame may be spelled in `text`, which has room for every frame.
 pub fn stands<A: Allocator + Copy + Drop>(
     lines: &[Line<A>],
     at: FrameRef,
     node: Proc,
     bytes: &[u8],
+    text: &mut BytesMut<A>,
 ) -> bool
-    ensures { IsTrue result ↔ Stands lines.now at node bytes.now }
+    requires { 8192 ≤ length text.old.items + text.old.spare }
+    ensures found { IsTrue result ↔ Stands lines.now at node bytes.now }
+    ensures room { 8192 ≤ length text.new.items + text.new.spare }
 {
-    match frame_at(lines, at) {
-        Some(sent) => holds_bytes(sent, node, bytes),
+    match lines.get(at.line as usize) {
+        Some(line) => line.frames().has_bytes(at.place, node, bytes, text),
         None => false,
     }
-}
-
-/// Whether the frame goes to the node and has these bytes.
-fn holds_bytes<A: Allocator + Copy + Drop>(sent: &SpelledFrame<A>, node: Proc, bytes: &[u8]) -> bool
-    ensures { IsTrue result ↔ IsSomeAnd (frame_for node sent.now) (λ f. spelling_of f ≡ bytes.now) }
-{
-    sent.goes_to(node) && sent.has_bytes(bytes)
 }
 
 /// Whether what the step delivers stands in these lines. A frame is spelled in `text`, which has room for every frame.
@@ -214,23 +196,8 @@ fn is_sent<A: Allocator + Copy + Drop>(
     ensures found { IsTrue result ↔ (frame_to lines.now at node ≡ Some frame.now) }
     ensures room { 8192 ≤ length text.new.items + text.new.spare }
 {
-    match frame_at(lines, at) {
-        Some(sent) => holds_frame(sent, node, frame, text),
+    match lines.get(at.line as usize) {
+        Some(line) => line.frames().has_frame(at.place, node, frame, text),
         None => false,
     }
-}
-
-/// Whether it is this frame, and goes to the node.
-fn holds_frame<A: Allocator + Copy + Drop>(
-    sent: &SpelledFrame<A>,
-    node: Proc,
-    frame: &Frame<A>,
-    text: &mut BytesMut<A>,
-) -> bool
-    requires fits { FrameFits frame.now }
-    requires room { 8192 ≤ length text.old.items + text.old.spare }
-    ensures found { IsTrue result ↔ (frame_for node sent.now ≡ Some frame.now) }
-    ensures room { 8192 ≤ length text.new.items + text.new.spare }
-{
-    sent.goes_to(node) && sent.is_frame(frame, text)
 }

@@ -1,10 +1,10 @@
 //! Frames as they are kept: their bytes, with their receivers.
 
-ghost use Rattle.std.specs.Prelude.{◌≡◌, ◌+◌, ◌≤◌, ◌↔◌, IsTrue, length, OnOk, IfOk, IfErr};
+ghost use Rattle.std.specs.Prelude.{◌≡◌, ◌+◌, ◌≤◌, ◌↔◌, IsTrue, IsSomeAnd, Some, length, OnOk, IfOk, IfErr};
 ghost use Rattle.ring_base.specs.Processors.{has};
 ghost use Rattle.ring_base.specs.declared.fault.Fault.TheVariants.{Memory};
 ghost use Rattle.ring_wire.specs.Frames.{FrameFits, spelling_of};
-ghost use Rattle.ring_wire.specs.declared.frame.Frame.{Frame as OneFrame};
+ghost use Rattle.ring_lines.specs.Lines.{frame_for};
 
 use crate::stories::{FrameStory, shown_frame};
 use bytes::BytesMut;
@@ -45,7 +45,7 @@ fn copied<A: Allocator + Copy + Drop>(alloc: A, text: &[u8]) -> Result<Vec<u8, A
 }
 
 /// Puts the frame's bytes alone into the text.
-fn write_in<A: Allocator + Copy + Drop>(frame: &Frame<A>, text: &mut BytesMut<A>)
+pub(crate) fn write_in<A: Allocator + Copy + Drop>(frame: &Frame<A>, text: &mut BytesMut<A>)
     requires fits { FrameFits frame.now }
     requires room { 8192 ≤ length text.old.items + text.old.spare }
     ensures text { text.new.items ≡ spelling_of frame.now }
@@ -56,7 +56,7 @@ fn write_in<A: Allocator + Copy + Drop>(frame: &Frame<A>, text: &mut BytesMut<A>
 }
 
 /// Whether the bytes are the same.
-fn is_same_text(text: &[u8], bytes: &[u8]) -> bool
+pub(crate) fn is_same_text(text: &[u8], bytes: &[u8]) -> bool
     ensures { IsTrue result ↔ (text.now ≡ bytes.now) }
 {
     text == bytes
@@ -121,5 +121,22 @@ impl<A: Allocator + Copy + Drop> SpelledFrame<A> {
     {
         write_in(frame, text);
         is_same_text(self.bytes.as_slice(), text.as_slice())
+    }
+
+    /// Whether it goes to the node and is this frame. That is spelled in `text`, which has room for every frame.
+    pub fn is_for(&self, node: Proc, frame: &Frame<A>, text: &mut BytesMut<A>) -> bool
+        requires fits { FrameFits frame.now }
+        requires room { 8192 ≤ length text.old.items + text.old.spare }
+        ensures found { IsTrue result ↔ (frame_for node self.now ≡ Some frame.now) }
+        ensures room { 8192 ≤ length text.new.items + text.new.spare }
+    {
+        self.goes_to(node) && self.is_frame(frame, text)
+    }
+
+    /// Whether it goes to the node and has these bytes.
+    pub fn holds(&self, node: Proc, bytes: &[u8]) -> bool
+        ensures { IsTrue result ↔ IsSomeAnd (frame_for node self.now) (λ f. spelling_of f ≡ bytes.now) }
+    {
+        self.goes_to(node) && self.has_bytes(bytes)
     }
 }

@@ -7,8 +7,8 @@ ghost use Rattle.ring_payload.specs.Calls.{CallFits};
 ghost use Rattle.ring_lines.specs.declared.input.LineInput.TheVariants.{Called, Came};
 
 use crate::frame_ref::FrameRef;
+use crate::frames::Frames;
 use crate::input::LineInput;
-use crate::spelled::SpelledFrame;
 use ring_base::Proc;
 use ring_machine::Input;
 use ring_payload::Call;
@@ -22,7 +22,7 @@ use std::marker::Model;
 pub struct Step<A: Allocator + Copy + Drop = Global> {
     pub(crate) node: Proc,
     pub(crate) input: LineInput<A>,
-    pub(crate) frames: Vec<SpelledFrame<A>, A>,
+    pub(crate) frames: Frames<A>,
     pub(crate) answers: Vec<Answered<A>, A>,
     pub(crate) calls: Vec<Call<A>, A>,
     pub(crate) committed: usize,
@@ -34,7 +34,7 @@ impl<A: Allocator + Copy + Drop> Model for Step<A> {
 
     ghost Value = { StepView A };
 
-    ghost view = { λ s. record { node = s.node; input = s.input; frames = s.frames.items; answers = s.answers.items; calls = s.calls.items; committed = s.committed } };
+    ghost view = { λ s. record { node = s.node; input = s.input; frames = s.frames; answers = s.answers.items; calls = s.calls.items; committed = s.committed } };
 
     ghost invariant = { λ s. LineFits s.input };
 }
@@ -44,13 +44,13 @@ impl<A: Allocator + Copy + Drop> Step<A> {
     pub fn came(
         node: Proc,
         input: LineInput<A>,
-        frames: Vec<SpelledFrame<A>, A>,
+        frames: Frames<A>,
         answers: Vec<Answered<A>, A>,
         calls: Vec<Call<A>, A>,
         committed: usize,
     ) -> Step<A>
         requires { LineFits input }
-        ensures { result ≡ record { node = node; input = input; frames = frames.items; answers = answers.items; calls = calls.items; committed = committed } }
+        ensures { result ≡ record { node = node; input = input; frames = frames; answers = answers.items; calls = calls.items; committed = committed } }
     {
         Step {
             node,
@@ -70,7 +70,7 @@ impl<A: Allocator + Copy + Drop> Step<A> {
         Step::came(
             node,
             LineInput::Called(call),
-            Vec::new(alloc),
+            Frames::none(alloc),
             Vec::new(alloc),
             Vec::new(alloc),
             committed,
@@ -84,7 +84,7 @@ impl<A: Allocator + Copy + Drop> Step<A> {
         Step::came(
             node,
             LineInput::Came(Input::Stop, at),
-            Vec::new(alloc),
+            Frames::none(alloc),
             Vec::new(alloc),
             Vec::new(alloc),
             committed,

@@ -1,5 +1,6 @@
 pub mod Among
 pub mod Cutting
+pub mod Fitting
 pub mod Inputs
 pub mod Lengths
 pub mod Numerals

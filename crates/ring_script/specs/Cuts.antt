@@ -1,8 +1,8 @@
 -- The groups that a cut parts the nodes into: GROUP GROUP.. of a line `cut`.
 -- Scripts, of docs/FORMATS.md.
-use Rattle.std.specs.Prelude.{◌≡◌, ℕ, ◌+◌, Bool, true, nat_le, ◌&&◌, ◌==◌, if◌then◌else◌, List, [], ◌∷◌, length, replicate, Contains, Option, Some, None}
+use Rattle.std.specs.Prelude.{◌≡◌, ℕ, ◌+◌, ◌-◌, Bool, true, nat_le, ◌&&◌, ◌==◌, if◌then◌else◌, List, [], ◌∷◌, length, replicate, slice_set, Contains, Option, Some, None}
 use Rattle.ring_base.specs.Group.{Group}
-use Rattle.ring_base.specs.Processors.{IsMember, most_processors, has, nobody, only, everybody, union, common}
+use Rattle.ring_base.specs.Processors.{IsMember, most_processors, has, nobody, only, everybody, union, common, less}
 use Rattle.ring_script.specs.Numbers.{node_of}
 use Rattle.ring_script.specs.Reading.{◌>>=◌}
 use Rattle.ring_script.specs.Words.{pieces}
@@ -65,6 +65,10 @@ table_after table (group ∷ groups) = table_after (placed_from 1 group table) g
 -- the group of each processor, nobody where it is in none
 abbrev pub table_of : List ℕ → List ℕ
 table_of groups = table_after (replicate most_processors nobody) groups
+
+-- the group of each processor where one is cut off from all others
+abbrev pub apart : ℕ → List ℕ
+apart node = slice_set (replicate most_processors (less (everybody most_processors) (only node))) (node - 1) (only node)
 
 -- the cut that all of the words tell, as the group of each processor
 unfoldable pub cut_at : Group → List (List ℕ) → Option (List ℕ × List (List ℕ))

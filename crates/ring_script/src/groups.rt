@@ -2,7 +2,7 @@
 
 ghost use Rattle.std.specs.Prelude.{◌≡◌, ◌-◌, slice_index};
 ghost use Rattle.ring_base.specs.Processors.{has, nobody};
-ghost use Rattle.ring_script.specs.Cuts.{cut_at, placed_from, group_of, gathered};
+ghost use Rattle.ring_script.specs.Cuts.{apart, cut_at, placed_from, group_of, gathered};
 ghost use Rattle.ring_script.specs.Reading.{Tells};
 
 use crate::words::{Words, node_of};
@@ -28,6 +28,17 @@ impl Model for Groups {
 }
 
 impl Groups {
+    /// One node against all others.
+    pub fn apart(node: Proc) -> Groups
+        ensures { result ≡ apart node }
+    {
+        let own = ProcSet::only(node);
+        let others = ProcSet::from_bits(u16::MAX).less(own);
+        let mut group_of = [others; 16];
+        group_of[usize::from(node.number()) - 1] = own;
+        Groups { group_of }
+    }
+
     /// Whether the two nodes are in one group.
     pub fn are_together(&self, a: Proc, b: Proc) -> bool
         ensures { result ≡ has (slice_index self.now (a - 1)) b }

@@ -4,6 +4,7 @@ ghost use Rattle.std.specs.Char.{is_ascii};
 ghost use Rattle.std.specs.List.{list_all};
 ghost use Rattle.std.specs.Prelude.{◌≡◌, ℕ, ◌≤◌, Some, None, List, length, map, option_map, if◌then◌else◌, IsTrue, IfOk, IfErr, IfSome};
 ghost use Rattle.ring_script.specs.Faults.{IsOfText};
+ghost use Rattle.ring_script.specs.Fits.{AreFit};
 ghost use Rattle.ring_script.specs.Lines.{asked_by};
 ghost use Rattle.ring_script.specs.Reading.{Gives, Tells};
 ghost use Rattle.ring_script.specs.Scripts.{CanForm, allowed, nodes_of, is_useful, useful_of, unless_skipped, at_line, nodes_in, asked_in, script_of, numbered_by, schedule_by, AreAmong, Answers, longest_text, IsAllOf, AnswersInput, IsUnread};
@@ -63,11 +64,12 @@ impl Rings {
 }
 
 impl<A: Allocator + Copy> Script<A> {
-    /// The script that the whole input is, as `parse` reads it: no line names a node past the script's nodes.
-    /// `AtLine(0)` where it can't be read or is longer than 1,048,576 bytes.
+    /// The script that the whole input is, as `parse` reads it: no line names a node past the script's nodes,
+    /// and each call keeps the limits of calls. `AtLine(0)` where it can't be read or is longer than 1,048,576 bytes.
     pub fn read<R: Read>(alloc: A, input: &mut R, rings: Rings) -> Result<Script<A>, ScriptFault>
         ensures nodes { IfOk result (λ script. CanForm rings script.nodes) }
         ensures among { IfOk result (λ script. AreAmong script.nodes.count script.lines.items) }
+        ensures fit { IfOk result (λ script. AreFit script.lines.items) }
         ensures read { (bytes : List ℕ) × IsAllOf (R.remaining input.old) bytes
             × AnswersInput rings result bytes }
     {
@@ -81,6 +83,7 @@ impl<A: Allocator + Copy> Script<A> {
     pub fn parse(alloc: A, text: &[u8], rings: Rings) -> Result<Script<A>, ScriptFault>
         ensures nodes { IfOk result (λ script. CanForm rings script.nodes) }
         ensures among { IfOk result (λ script. AreAmong script.nodes.count script.lines.items) }
+        ensures fit { IfOk result (λ script. AreFit script.lines.items) }
         ensures read { Answers schedule_by result (script_of rings text.now) }
         ensures refused { IfErr result IsOfText }
     {

@@ -2,6 +2,7 @@ use Rattle.std.proofs.lemmas.Result.{err_from_is_err_and}
 use Rattle.ring_script.specs.Scripts.{asked_in, nodes_in}
 use Rattle.ring_script.specs.Votes.{votes_in}
 use Rattle.ring_script.proofs.Among.{lines_among}
+use Rattle.ring_script.proofs.Fitting.{lines_fit}
 use Rattle.ring_script.proofs.Readings.{asked_low, votes_low, nodes_low, faults_low}
 use Rattle.ring_script.proofs.scripts.Script.parse.Goals as goal
 
@@ -29,3 +30,7 @@ returns-in_err-lines-clause-refused g c =
 pub returns-clause-among : goal.returns-clause-among
 returns-clause-among g c =
     lines_among c.args.rings c.in_ok-nodes.nodes c.read_votes.new.lines.before c.read_votes.new.lines.lines c.in_ok-lines.lines.items c.in_ok-lines.ensures
+
+pub returns-clause-fit : goal.returns-clause-fit
+returns-clause-fit g c =
+    lines_fit c.args.rings c.in_ok-nodes.nodes c.read_votes.new.lines.before c.read_votes.new.lines.lines c.in_ok-lines.lines.items c.in_ok-lines.ensures

@@ -1,0 +1,157 @@
+-- Each call that a script asks for keeps the limits of calls.
+use Rattle.std.proofs.Common.{◌≡◌, ℕ, ◌+◌, ◌-◌, ◌^◌, ◌<◌, ◌≤◌, List, [], ◌∷◌, length, map, Option, Some, None, Result, Ok, arith, refl}
+use Rattle.std.specs.Prelude.{IfSome, IfOk}
+use Rattle.std.specs.List.{AllByRecursion}
+use Rattle.std.proofs.lemmas.Grind.{common_steps}
+use Rattle.std.proofs.lemmas.Result.{IfOk-at_ok}
+use Rattle.ring_base.specs.Group.{Group}
+use Rattle.ring_script.specs.declared.line.Line.{Line}
+use Rattle.ring_script.specs.declared.line.Line.TheVariants as lines
+use Rattle.ring_script.specs.declared.scripts.Numbered.{Numbered}
+use Rattle.ring_script.specs.declared.scripts.Rings.{Rings}
+use Rattle.ring_script.specs.Fits.{IsFit, AreFit}
+use Rattle.ring_script.specs.Lines.{Asked, Call, Deliver, Timeout, Noise, Stop, Cut, Heal, Pump, Show, asked_by, call_at, deliver_at, timeout_at, noise_at, stop_at, cut_line_at, pump_at, form_at, asked_of}
+use Rattle.ring_script.specs.Numbers.{word_at, number_at, node_at}
+use Rattle.ring_script.specs.Operations.{operation_at}
+use Rattle.ring_script.specs.Reading.{◌>>=◌}
+use Rattle.ring_script.specs.Scripts.{unless_skipped, useful_of, then_asked, asked_in, numbered_by}
+use Rattle.ring_script.specs.Words.{words_of, whole}
+use Rattle.ring_script.proofs.Lengths.{operation_short}
+
+-- what is asked for keeps the limits
+abbrev FitsAsked : Asked → Type 0
+FitsAsked (Call node client number operation) = (client < 2 ^ 32) × (1 ≤ number) × (number < 2 ^ 64) × (length operation ≤ 1024)
+FitsAsked (Deliver node frame) = Unit {0}
+FitsAsked (Timeout node kind) = Unit {0}
+FitsAsked (Noise node bytes) = Unit {0}
+FitsAsked (Stop node) = Unit {0}
+FitsAsked (Cut groups) = Unit {0}
+FitsAsked Heal = Unit {0}
+FitsAsked (Pump turns) = Unit {0}
+FitsAsked Show = Unit {0}
+
+-- ---- the forms of lines
+
+client_low : (words : List (List ℕ)) → IfSome (number_at 0 (2 ^ 32 - 1) words) (λ number. number.0 < 2 ^ 32)
+client_low words = grind (arith, common_steps)
+
+number_low : (words : List (List ℕ)) → IfSome (number_at 1 (2 ^ 64 - 1) words) (λ number. (1 ≤ number.0) × (number.0 < 2 ^ 64))
+number_low words = grind (arith, common_steps)
+
+operation_low : (words : List (List ℕ)) → IfSome (operation_at words) (λ operation. length operation.0 ≤ 1024)
+operation_low words = at_some (operation_at words) refl
+  where
+    at_some : (o : Option (List ℕ × List (List ℕ))) → operation_at words ≡ o → IfSome o (λ operation. length operation.0 ≤ 1024)
+    at_some None e = tt
+    at_some (Some x) e = operation_short words x e
+
+-- what a form reads, and the words after it
+abbrev ReadFits : Option (Asked × List (List ℕ)) → Type 0
+ReadFits read = IfSome read (λ asked. FitsAsked asked.0)
+
+call_fits : (nodes : Group) (words : List (List ℕ)) → ReadFits (call_at nodes words)
+unfolding call_at
+call_fits nodes words = after_node (node_at nodes words)
+  where
+    after_operation : (node client number : ℕ) → client < 2 ^ 32 → (1 ≤ number) × (number < 2 ^ 64) → (o : Option (List ℕ × List (List ℕ))) → IfSome o (λ operation. length operation.0 ≤ 1024)
+        → ReadFits (o >>= (λ operation. Some (Call node client number operation.0, operation.1)))
+    after_operation node client number low within None short = tt
+    after_operation node client number low within (Some operation) short = (low, within.0, within.1, short)
+
+    after_number : (node client : ℕ) → client < 2 ^ 32 → (o : Option (ℕ × List (List ℕ))) → IfSome o (λ number. (1 ≤ number.0) × (number.0 < 2 ^ 64))
+        → ReadFits (o >>= (λ number. operation_at number.1 >>= (λ operation. Some (Call node client number.0 operation.0, operation.1))))
+    after_number node client low None within = tt
+    after_number node client low (Some number) within = after_operation node client number.0 low within (operation_at number.1) (operation_low number.1)
+
+    after_client : (node : ℕ) → (o : Option (ℕ × List (List ℕ))) → IfSome o (λ client. client.0 < 2 ^ 32)
+        → ReadFits (o >>= (λ client. number_at 1 (2 ^ 64 - 1) client.1 >>= (λ number. operation_at number.1 >>= (λ operation. Some (Call node client.0 number.0 operation.0, operation.1)))))
+    after_client node None low = tt
+    after_client node (Some client) low = after_number node client.0 low (number_at 1 (2 ^ 64 - 1) client.1) (number_low client.1)
+
+    after_node : (o : Option (ℕ × List (List ℕ)))
+        → ReadFits (o >>= (λ node. number_at 0 (2 ^ 32 - 1) node.1 >>= (λ client. number_at 1 (2 ^ 64 - 1) client.1 >>= (λ number. operation_at number.1 >>= (λ operation. Some (Call node.0 client.0 number.0 operation.0, operation.1))))))
+    after_node None = tt
+    after_node (Some node) = after_client node.0 (number_at 0 (2 ^ 32 - 1) node.1) (client_low node.1)
+
+deliver_fits : (nodes : Group) (words : List (List ℕ)) → ReadFits (deliver_at nodes words)
+unfolding deliver_at
+deliver_fits nodes words = grind arith
+
+timeout_fits : (nodes : Group) (words : List (List ℕ)) → ReadFits (timeout_at nodes words)
+unfolding timeout_at
+timeout_fits nodes words = grind arith
+
+noise_fits : (nodes : Group) (words : List (List ℕ)) → ReadFits (noise_at nodes words)
+unfolding noise_at
+noise_fits nodes words = grind arith
+
+stop_fits : (nodes : Group) (words : List (List ℕ)) → ReadFits (stop_at nodes words)
+unfolding stop_at
+stop_fits nodes words = grind arith
+
+cut_fits : (nodes : Group) (words : List (List ℕ)) → ReadFits (cut_line_at nodes words)
+unfolding cut_line_at
+cut_fits nodes words = grind arith
+
+pump_fits : (words : List (List ℕ)) → ReadFits (pump_at words)
+unfolding pump_at
+pump_fits words = grind arith
+
+form_fits : (nodes : Group) (word : List ℕ) (words : List (List ℕ)) → ReadFits (form_at nodes word words)
+unfolding form_at
+form_fits nodes word words = grind (arith, call_fits, deliver_fits, timeout_fits, noise_fits, stop_fits, cut_fits, pump_fits)
+
+-- ---- one line
+
+whole_fits : (read : Option (Asked × List (List ℕ))) → ReadFits read → IfSome (read >>= whole) FitsAsked
+whole_fits read fits = grind arith
+
+words_fit : (nodes : Group) (words : List (List ℕ)) → IfSome (word_at words >>= (λ word. form_at nodes word.0 word.1 >>= whole)) FitsAsked
+words_fit nodes [] = tt
+words_fit nodes (word ∷ words) = whole_fits (form_at nodes word words) (form_fits nodes word words)
+
+asked_fits : (nodes : Group) (line : List ℕ) → IfSome (asked_of nodes line) FitsAsked
+unfolding asked_of
+asked_fits nodes line = words_fit nodes (words_of line)
+
+useful_fits : (rings : Rings) (nodes : Group) (line : List ℕ) → IfSome (useful_of rings nodes line) FitsAsked
+unfolding useful_of
+useful_fits rings nodes line = grind (arith, asked_fits nodes line)
+
+-- ---- all lines
+
+-- what is asked for, with its number, keeps the limits
+abbrev AllFit : List (ℕ × Asked) → Type 0
+AllFit asked = AllByRecursion (λ (a : ℕ × Asked). FitsAsked a.1) asked
+
+told_fits : (rings : Rings) (nodes : Group) (line : List ℕ) → IfSome (unless_skipped (useful_of rings nodes) line) (λ told. IfSome told FitsAsked)
+told_fits rings nodes line = grind (arith, useful_fits rings nodes line)
+
+then_fits : (number : ℕ) (told : Option (Option Asked)) (others : Result (List (ℕ × Asked)) ℕ) → IfSome told (λ asked. IfSome asked FitsAsked) → IfOk others AllFit → IfOk (then_asked number told others) AllFit
+then_fits number told others first later = grind arith
+
+all_fit : (rings : Rings) (nodes : Group) (before : ℕ) (lines : List (List ℕ)) → IfOk (asked_in rings nodes before lines) AllFit
+unfolding asked_in
+all_fit rings nodes before [] = tt
+all_fit rings nodes before (line ∷ lines) =
+    then_fits (before + 1) (unless_skipped (useful_of rings nodes) line) (asked_in rings nodes (before + 1) lines) (told_fits rings nodes line) (all_fit rings nodes (before + 1) lines)
+
+-- the same of the program's lines
+IsFit-asked : {A : Type 0} (line : Line A) → FitsAsked (asked_by line) → IsFit line
+IsFit-asked (lines.Call node call) fits = record { client = fits.0; number = fits.1; number_fits = fits.2; op = fits.3 }
+IsFit-asked (lines.Deliver node frame) fits = tt
+IsFit-asked (lines.Timeout node kind) fits = tt
+IsFit-asked (lines.Noise node bytes) fits = tt
+IsFit-asked (lines.Stop node) fits = tt
+IsFit-asked (lines.Cut groups) fits = tt
+IsFit-asked lines.Heal fits = tt
+IsFit-asked (lines.Pump turns) fits = tt
+IsFit-asked lines.Show fits = tt
+
+AreFit-numbered : {A : Type 0} (lines : List (Numbered A)) → AllFit (map numbered_by lines) → AreFit lines
+AreFit-numbered [] fit = tt
+AreFit-numbered (line ∷ lines) fit = (IsFit-asked line.line fit.0, AreFit-numbered lines fit.1)
+
+-- the lines that were read of a text
+pub lines_fit : {A : Type 0} (rings : Rings) (nodes : Group) (before : ℕ) (text : List (List ℕ)) (lines : List (Numbered A)) → asked_in rings nodes before text ≡ Ok (map numbered_by lines) → AreFit lines
+lines_fit rings nodes before text lines read = AreFit-numbered lines (IfOk-at_ok AllFit read (all_fit rings nodes before text))
