@@ -1,6 +1,6 @@
 -- What a world has done since its opening, and how a run goes on from it: each event is done, or stands as a stop where memory was refused to its step, or
 -- is left out where memory was refused to its submit. Rings and states, rules 14 and 15, of docs/PROTOCOL.md.
-use Rattle.std.specs.Prelude.{◌≡◌, ℕ, true, ◌⊎◌, List, [], ◌∷◌, ◌++◌, length, drop, Option, Some, None}
+use Rattle.std.specs.Prelude.{◌≡◌, ℕ, true, ◌⊎◌, Vec, List, [], ◌∷◌, ◌++◌, length, drop, Option, Some, None}
 use Rattle.ring_base.specs.Group.{Group}
 use Rattle.ring_object.specs.Operations.{Sequential}
 use Rattle.ring_payload.specs.declared.call.Call.{Call}
@@ -8,7 +8,7 @@ use Rattle.ring_machine.specs.Stepping.{submit_fault}
 use Rattle.ring_history.specs.declared.event.Event.{Event}
 use Rattle.ring_history.specs.declared.event.Event.TheVariants.{Issue, Deliver, Noise, Timeout, Stop}
 use Rattle.ring_history.specs.declared.told.Told.{Told}
-use Rattle.ring_history.specs.declared.told.Told.TheVariants.{Answer, Refused}
+use Rattle.ring_history.specs.declared.told.Told.TheVariants.{Refused}
 use Rattle.ring_history.specs.Worlds.{World, world_opening, run, happens, is_node}
 
 -- all events since the opening, what was told, and how many events of the last run were done
@@ -29,6 +29,14 @@ steps_node (Issue i c) = None
 steps_node (Noise i bytes) = None
 steps_node (Stop i) = None
 
+-- a copy of an event is the event; of noise it has the same bytes
+abbrev pub IsCopy : {A : Type 0} → Event A → Event A → Type 0
+IsCopy {A} (Noise i bytes) d = (copy : Vec ℕ A) × (d ≡ Noise i copy) × (copy.items ≡ bytes.items)
+IsCopy (Issue i c) d = d ≡ Issue i c
+IsCopy (Deliver i k) d = d ≡ Deliver i k
+IsCopy (Timeout i kind) d = d ≡ Timeout i kind
+IsCopy (Stop i) d = d ≡ Stop i
+
 module _ {O : Type 0} (object : Sequential O) where
   -- the world: the run of all its events
   abbrev pub world_of : {A : Type 0} → Played A → World A
@@ -38,10 +46,12 @@ module _ {O : Type 0} (object : Sequential O) where
   abbrev pub told_behind : {A : Type 0} → World A → Event A → List (Told A)
   told_behind w e = drop (length w.told) (happens object w e).told
 
-  -- the event is done
+  -- the event is done: a copy of it is kept
   pub record IsDone {A : Type 0} (e : Event A) (p q : Played A) : Type 0 where
+    pub kept : Event A
+    pub copy : IsCopy e kept
     pub group : q.group ≡ p.group
-    pub events : q.events ≡ p.events ++ e ∷ []
+    pub events : q.events ≡ p.events ++ kept ∷ []
     pub told : q.told ≡ p.told ++ told_behind (world_of p) e
 
   -- memory was refused to the step that the event is: it stands as a stop of that node
@@ -59,7 +69,7 @@ module _ {O : Type 0} (object : Sequential O) where
     pub call : Call A
     pub issues : e ≡ Issue node call
     pub known : is_node (world_of p) node ≡ true
-    pub open : submit_fault ((world_of p).nodes node) ≡ None
+    pub taken : submit_fault ((world_of p).nodes node) ≡ None
     pub group : q.group ≡ p.group
     pub events : q.events ≡ p.events
     pub told : q.told ≡ p.told ++ Refused node call 11 ∷ []

@@ -1,0 +1,40 @@
+-- What is handed to a node is the frame that was sent to it, if any.
+use Rattle.std.proofs.Common.{◌≡◌, ℕ, zero, suc, Bool, true, false, if◌then◌else◌, List, Option, Some, None, refl, subst}
+use Rattle.std.specs.List.{AllByRecursion as Each}
+use Rattle.ring_base.specs.Processors.{has}
+use Rattle.ring_base.proofs.Each.{each-get}
+use Rattle.ring_object.specs.Operations.{Sequential}
+use Rattle.ring_wire.specs.declared.frame.Frame.{Frame}
+use Rattle.ring_wire.specs.Frames.{FrameFits}
+use Rattle.ring_core.specs.State.{Carried}
+use Rattle.ring_machine.specs.declared.input.Input.TheVariants.{Frame as FrameInput}
+use Rattle.ring_history.specs.Worlds.{World, stepped, handed, handed_if, frame_at}
+use Rattle.ring_world.specs.Stored.{frame_for}
+
+module _ {O A : Type 0} (object : Sequential O) where
+  abbrev pub hands : World A → ℕ → Option (Frame A) → World A
+  hands w i None = w
+  hands w i (Some frame) = stepped object w i (FrameInput frame)
+
+  hands_if : (b : Bool) (w : World A) (i : ℕ) (frame : Frame A) → handed_if object b w i frame ≡ hands w i (if b then Some frame else None)
+  hands_if true w i frame = refl
+  hands_if false w i frame = refl
+
+  pub handed_is : (w : World A) (i : ℕ) (o : Option (Carried A)) → handed object w i o ≡ hands w i (frame_for i o)
+  handed_is w i None = refl
+  handed_is w i (Some f) = hands_if (has f.to i) w i f.frame
+
+at_fits : {A : Type 0} (frames : List (Carried A)) (k : ℕ) (f : Carried A) → Each (λ (g : Carried A). FrameFits g.frame) frames → frame_at frames k ≡ Some f → FrameFits f.frame
+at_fits frames zero f h e = absurd (let q : ⊥ = cc e in q)
+at_fits {A} frames (suc k) f h e = each-get (λ (g : Carried A). FrameFits g.frame) frames k f h e
+
+from_if : {A : Type 0} (b : Bool) (f g : Frame A) → (if b then Some f else None) ≡ Some g → f ≡ g
+from_if true f g e = cc e
+from_if false f g e = absurd (let q : ⊥ = cc e in q)
+
+one_fits : {A : Type 0} (o : Option (Carried A)) (i : ℕ) (frame : Frame A) → ((f : Carried A) → o ≡ Some f → FrameFits f.frame) → frame_for i o ≡ Some frame → FrameFits frame
+one_fits None i frame h e = absurd (let q : ⊥ = cc e in q)
+one_fits (Some f) i frame h e = subst FrameFits (from_if (has f.to i) f.frame frame e) (h f refl)
+
+pub frame_fits : {A : Type 0} (frames : List (Carried A)) (i k : ℕ) (frame : Frame A) → Each (λ (g : Carried A). FrameFits g.frame) frames → frame_for i (frame_at frames k) ≡ Some frame → FrameFits frame
+frame_fits frames i k frame h e = one_fits (frame_at frames k) i frame (λ f. at_fits frames k f h) e

@@ -1,0 +1,15 @@
+pub mod Lent
+pub mod Storing
+pub mod Tellings
+pub mod Spared
+pub mod Silent
+pub mod Growing
+pub mod Ties
+pub mod Refusals
+pub mod Handing
+pub mod Playing
+pub mod Synchrony
+pub mod Ordered
+pub mod Longer
+pub mod Opening
+pub mod Logs

@@ -1,0 +1,66 @@
+-- The opening world: its nodes are at their opening, and no ticket waits for an answer.
+use Rattle.std.proofs.Common.{◌≡◌, ℕ, zero, suc, ◌+◌, ◌<◌, ◌≤◌, List, [], ◌∷◌, ◌++◌, map, length, Some, slice_get, refl, ap, ◌∙◌, sym, arith}
+use Rattle.std.proofs.lemmas.List.{map-append, length-map}
+use Rattle.std.specs.List.{AllByRecursion}
+use Rattle.ring_base.specs.Group.{Group}
+use Rattle.ring_base.specs.Numbers.{numbers_from}
+use Rattle.ring_base.specs.Passing.{length-numbers_from}
+use Rattle.ring_object.specs.Operations.{Sequential}
+use Rattle.ring_payload.specs.declared.call.Call.{Call}
+use Rattle.ring_core.specs.State.{Carried}
+use Rattle.ring_machine.specs.Nodes.{Node, node_opening, node_committed}
+use Rattle.ring_history.specs.declared.event.Event.{Event}
+use Rattle.ring_history.specs.declared.item.Item.{Item}
+use Rattle.ring_chain.proofs.Formed.{numbers-append}
+use Rattle.ring_world.specs.Spares.{Spares, Holds}
+use Rattle.ring_world.specs.Keeping.{KeepsCopies, IsWorld}
+
+-- one more of a row
+pub opened_more : {X : Type 0} (f : ℕ → X) (xs ys : List X) (k : ℕ) (x : X) (me : ℕ) → xs ≡ map f (numbers_from 1 k) → ys ≡ xs ++ x ∷ [] → x ≡ f me
+    → me ≡ k + 1 → ys ≡ map f (numbers_from 1 (k + 1))
+opened_more f xs ys k x me a b c d =
+    let last : me ≡ 1 + k = omega (arith, d) in
+    b ∙ ap (λ zs. zs ++ x ∷ []) a ∙ ap (λ y. map f (numbers_from 1 k) ++ y ∷ []) (c ∙ ap f last)
+    ∙ sym (map-append f (numbers_from 1 k) ((1 + k) ∷ [])) ∙ ap (map f) (numbers-append 1 k 1)
+
+get-numbers : {X : Type 0} (f : ℕ → X) (first n i : ℕ) → i < n → slice_get (map f (numbers_from first n)) i ≡ Some (f (first + i))
+get-numbers f first zero i l = absurd (omega (arith, l))
+get-numbers f first (suc n) zero l = ap (λ k. Some (f k)) (let e : first ≡ first + 0 = omega arith in e)
+get-numbers f first (suc n) (suc i) l =
+    get-numbers f (suc first) n i (omega (arith, l)) ∙ ap (λ k. Some (f k)) (let e : suc first + i ≡ first + suc i = omega arith in e)
+
+none_asked : {A : Type 0} (committed : List (Call A)) (s : Spares A) → s.calls ≡ [] → Holds s.calls [] committed
+none_asked committed s none = record { many = ap length none; each = λ k t asked. absurd (let q : ⊥ = cc asked in q) }
+
+copies_at : {A : Type 0} (group : Group) (f : ℕ → ℕ) (xs : List (Spares A)) (i : ℕ) → i < length xs → AllByRecursion (λ (s : Spares A). s.calls ≡ []) xs →
+    (s : Spares A) × (slice_get xs i ≡ Some s) × KeepsCopies (node_opening group (f i)) s
+copies_at group f [] i l none = absurd (omega (arith, l))
+copies_at {A} group f (s ∷ xs) zero l none = (let n : Node A = node_opening group (f zero) in (s, refl, none_asked (node_committed n) s none.0))
+copies_at group f (s ∷ xs) (suc i) l none = copies_at group (λ j. f (suc j)) xs i (omega (arith, l)) none.1
+
+opens_at : {O A : Type 0} (object : Sequential O) (group : Group) (spares : List (Spares A)) → length spares ≡ group.count →
+    AllByRecursion (λ (s : Spares A). s.calls ≡ []) spares → group.count ≤ 16 →
+    IsWorld object group [] (map (node_opening group) (numbers_from 1 group.count)) spares [] []
+opens_at {A} object group spares many none few =
+    let f : ℕ → Node A = node_opening group in
+    record {
+      kept = record {
+        nodes_are = λ i l. get-numbers f 1 group.count i l ∙ ap (λ k. Some (f k)) (let e : 1 + i ≡ suc i = omega arith in e);
+        many = length-map (numbers_from 1 group.count) f ∙ length-numbers_from 1 group.count;
+        copies = λ i l. copies_at group suc spares i (omega (arith, l, many)) none;
+        copies_many = many;
+        frames_are = refl;
+        history_is = refl;
+      };
+      same = refl;
+      fit = tt;
+      few = few;
+    }
+
+pub opens : {O A : Type 0} (object : Sequential O) (group : Group) (events : List (Event A)) (nodes : List (Node A)) (spares : List (Spares A))
+    (frames : List (Carried A)) (history : List (Item A)) (count : ℕ) → count ≡ group.count → count ≤ 16 → events ≡ []
+    → nodes ≡ map (node_opening group) (numbers_from 1 count) → length spares ≡ count → AllByRecursion (λ (s : Spares A). s.calls ≡ []) spares → frames ≡ []
+    → history ≡ [] → IsWorld object group events nodes spares frames history
+opens object group events nodes spares frames history count is few a b c d e f =
+    let all = b ∙ ap (λ n. map (node_opening group) (numbers_from 1 n)) is in
+    rw (a, all, e, f) (opens_at object group spares (c ∙ is) d (omega (arith, is, few)))

@@ -1,0 +1,83 @@
+-- A run goes on event by event, and only adds to what was.
+use Rattle.std.proofs.Common.{◌≡◌, ℕ, zero, suc, ◌+◌, ◌≤◌, length, arith, take, Some, slice_get, add-one, List, [], ◌∷◌, ◌++◌, refl, ap, ◌∙◌, sym, subst, inl, inr, append-nil, append_assoc}
+use Rattle.ring_base.specs.Group.{Group}
+use Rattle.ring_object.specs.Operations.{Sequential}
+use Rattle.ring_history.specs.declared.event.Event.{Event}
+use Rattle.ring_history.specs.declared.event.Event.TheVariants.{Stop}
+use Rattle.ring_history.specs.declared.told.Told.{Told}
+use Rattle.ring_history.specs.Worlds.{World, world_opening, happens, run}
+use Rattle.ring_world.specs.Played.{Played, world_of, Goes, Plays}
+
+take_next : {X : Type 0} (xs : List X) (i : ℕ) (x : X) → slice_get xs i ≡ Some x → take (suc i) xs ≡ take i xs ++ x ∷ []
+take_next [] i x e = absurd (let q : ⊥ = cc in q)
+take_next (y ∷ xs) zero x e = (let q : y ≡ x = cc e in ap (λ z. z ∷ []) q)
+take_next (y ∷ xs) (suc i) x e = ap (λ zs. y ∷ zs) (take_next xs i x e)
+
+pub take_more : {X : Type 0} (xs : List X) (i : ℕ) (x : X) → slice_get xs i ≡ Some x → take (i + 1) xs ≡ take i xs ++ x ∷ []
+take_more xs i x e = ap (λ n. take n xs) (add-one i) ∙ take_next xs i x e
+
+pub take_whole : {X : Type 0} (xs : List X) (i : ℕ) → length xs ≤ i → take i xs ≡ xs
+take_whole [] zero l = refl
+take_whole [] (suc i) l = refl
+take_whole (x ∷ xs) zero l = absurd (omega (arith, l))
+take_whole (x ∷ xs) (suc i) l = ap (λ ys. x ∷ ys) (take_whole xs i (omega (arith, l)))
+
+module _ {O A : Type 0} (object : Sequential O) where
+  -- how many were done is another matter
+  pub goes_to : (e : Event A) (n : ℕ) (p q : Played A) → Goes object e p q → Goes object e p (record q { done = n })
+  goes_to e n p q (inl d) = inl (record { kept = d.kept; copy = d.copy; group = d.group; events = d.events; told = d.told })
+  goes_to e n p q (inr (inl d)) = inr (inl (record { node = d.node; steps = d.steps; known = d.known; group = d.group; events = d.events; told = d.told }))
+  goes_to e n p q (inr (inr d)) = inr (inr (record { node = d.node; call = d.call; issues = d.issues; known = d.known; taken = d.taken; group = d.group; events = d.events; told = d.told }))
+
+  pub goes_from : (e : Event A) (n : ℕ) (p q : Played A) → Goes object e (record p { done = n }) q → Goes object e p q
+  goes_from e n p q (inl d) = inl (record { kept = d.kept; copy = d.copy; group = d.group; events = d.events; told = d.told })
+  goes_from e n p q (inr (inl d)) = inr (inl (record { node = d.node; steps = d.steps; known = d.known; group = d.group; events = d.events; told = d.told }))
+  goes_from e n p q (inr (inr d)) = inr (inr (record { node = d.node; call = d.call; issues = d.issues; known = d.known; taken = d.taken; group = d.group; events = d.events; told = d.told }))
+
+  pub plays_from : (es : List (Event A)) (n : ℕ) (p q : Played A) → Plays object es (record p { done = n }) q → Plays object es p q
+  plays_from [] n p q h = h
+  plays_from (e ∷ es) n p q h = (h.0, goes_from e n p h.0 h.1, h.2)
+
+  same_start : (p m : Played A) → m.group ≡ p.group → m.events ≡ p.events → m.told ≡ p.told → (e : Event A) (q : Played A) → Goes object e m q → Goes object e p q
+  same_start p m a b c e q g =
+      let one : Group → Played A = λ x. record { group = x; events = m.events; told = m.told; done = m.done } in
+      let two : List (Event A) → Played A = λ x. record { group = p.group; events = x; told = m.told; done = m.done } in
+      let three : List (Told A) → Played A = λ x. record { group = p.group; events = p.events; told = x; done = m.done } in
+      let same : m ≡ record p { done = m.done } = ap one a ∙ ap two b ∙ ap three c in
+      goes_from e m.done p q (subst (λ (r : Played A). Goes object e r q) same g)
+
+  -- an event more
+  pub plays_more : (es : List (Event A)) (e : Event A) (n : ℕ) (p m q : Played A) → Plays object es p m → Goes object e m q → Plays object (es ++ e ∷ []) p (record q { done = n })
+  plays_more [] e n p m q h g = (record q { done = n }, goes_to e n p q (same_start p m h.0 h.1 h.2 e q g), (refl, refl, refl))
+  plays_more (d ∷ es) e n p m q h g = (h.0, h.1, plays_more es e n h.0 m q h.2 g)
+
+  pub record IsLonger (p q : Played A) : Type 0 where
+    pub later : List (Event A)
+    pub group : q.group ≡ p.group
+    pub events : q.events ≡ p.events ++ later
+
+  goes_longer : (e : Event A) (p q : Played A) → Goes object e p q → IsLonger p q
+  goes_longer e p q (inl d) = record { later = d.kept ∷ []; group = d.group; events = d.events }
+  goes_longer e p q (inr (inl d)) = record { later = Stop d.node ∷ []; group = d.group; events = d.events }
+  goes_longer e p q (inr (inr d)) = record { later = []; group = d.group; events = d.events ∙ sym (append-nil p.events) }
+
+  pub plays_longer : (es : List (Event A)) (p q : Played A) → Plays object es p q → IsLonger p q
+  plays_longer [] p q h = record { later = []; group = h.0; events = h.1 ∙ sym (append-nil p.events) }
+  plays_longer (e ∷ es) p q h =
+      let one = goes_longer e p h.0 h.1 in
+      let rest = plays_longer es h.0 q h.2 in
+      record {
+        later = one.later ++ rest.later;
+        group = rest.group ∙ one.group;
+        events = rest.events ∙ ap (λ xs. xs ++ rest.later) one.events ∙ append_assoc p.events one.later rest.later;
+      }
+
+  run-append : (w : World A) (xs ys : List (Event A)) → run object w (xs ++ ys) ≡ run object (run object w xs) ys
+  run-append w [] ys = refl
+  run-append w (x ∷ xs) ys = run-append (happens object w x) xs ys
+
+  -- so the world after it is a later one of the same run
+  pub world_later : (p q : Played A) (l : IsLonger p q) → world_of object q ≡ run object (world_of object p) l.later
+  world_later p q l =
+      let at : Group → World A = λ group. run object (world_opening group) q.events in
+      ap at l.group ∙ ap (run object (world_opening p.group)) l.events ∙ run-append (world_opening p.group) p.events l.later

@@ -1,0 +1,157 @@
+-- The step of a node that has stopped gives nothing and changes nothing.
+use Rattle.std.proofs.Common.{◌≡◌, ℕ, ◌+◌, map, filter, arith, Bool, true, false, ◌&&◌, List, [], ◌∷◌, ◌++◌, length, drop, refl, ap, ◌∙◌, sym, subst, append-nil, if◌then◌else◌}
+use Rattle.std.proofs.lemmas.Bool.{cond_both, cond-false, le-ltb}
+use Rattle.ring_base.specs.Processors.{has}
+use Rattle.ring_base.specs.declared.state.State.{State}
+use Rattle.ring_base.specs.declared.state.State.TheVariants.{Gather, Commit, Recovery, Operational, Stopped}
+use Rattle.ring_wire.specs.declared.frame.Frame.{Frame}
+use Rattle.ring_wire.specs.declared.frame.Frame.TheVariants.{Message as MessageFrame, Token as TokenFrame, Join as JoinFrame, Commit as CommitFrame}
+use Rattle.ring_commit.specs.Outcomes.{is_at}
+use Rattle.ring_core.specs.declared.input.Input.{Input}
+use Rattle.ring_core.specs.declared.input.Input.TheVariants.{Frame as FrameInput, Timeout, Send}
+use Rattle.ring_core.specs.State.{Core, Stepped, halted}
+use Rattle.ring_core.specs.Naming.{is_named}
+use Rattle.ring_core.specs.Views.{takes_number, front, mark}
+use Rattle.ring_core.specs.Deciding.{Act, Ignore, Take, takes_of, members_of, decide_token, decide_join, decide_round, decide_if_named, decide_time, decide_payload, decide}
+use Rattle.ring_core.specs.Acting.{done}
+use Rattle.ring_core.specs.Giving.{installs_in, delivered, agreed_from, safe_from, given, may_install, settle}
+use Rattle.ring_core.specs.Stepping.{ring_step}
+use Rattle.ring_object.specs.Operations.{Sequential}
+use Rattle.ring_payload.specs.declared.content.Payload.{Payload}
+use Rattle.ring_core.specs.declared.out.Out.{Out}
+use Rattle.ring_log.specs.Stays.{Stay, hands}
+use Rattle.ring_log.specs.Lives.{is_sound}
+use Rattle.ring_ticket.specs.Tickets.{answers_after}
+use Rattle.ring_machine.specs.declared.input.Input.{Input as NodeInput}
+use Rattle.ring_machine.specs.declared.input.Input.TheVariants.{Frame as NodeFrame, Noise as NodeNoise, Timeout as NodeTime, Stop as NodeStop}
+use Rattle.ring_machine.specs.Nodes.{Node, node_committed, node_stopped, is_stopped}
+use Rattle.ring_machine.specs.Stepping.{NodeStepped, node_step, after_core, settled, walked}
+use Rattle.std.specs.Prelude.{◌-◌, nat_lt, filter_map}
+use Rattle.ring_base.specs.Numbers.{numbers_from}
+use Rattle.ring_base.specs.declared.ring_id.RingId.{RingId}
+use Rattle.ring_payload.specs.Kinds.{is_user}
+use Rattle.ring_wire.specs.declared.message.Message.{Message}
+use Rattle.ring_window.specs.Held.{found}
+use Rattle.ring_core.specs.declared.out.Out.TheVariants.{Agreed, Safe}
+
+-- Where front and mark stay, nothing is given
+
+none_left : (n : ℕ) → n - n ≡ 0
+none_left n = omega arith
+
+not_below : (n : ℕ) → nat_lt n n ≡ false
+not_below n = le-ltb n n (omega arith)
+
+agreed_nothing : {A : Type 0} (c : Core A) (ring : RingId) → agreed_from c ring (front c ring) ≡ []
+agreed_nothing {A} c ring =
+    ap (λ n. map (λ (x : Message A). Agreed ring x.number x)
+    (filter (λ (x : Message A). is_user x.payload) (filter_map (found c.held ring) (numbers_from (front c ring + 1) n)))) (none_left (front c ring))
+
+safe_nothing : {A : Type 0} (c : Core A) (ring : RingId) → safe_from c ring (mark c ring) ≡ []
+safe_nothing c ring = cond-false (nat_lt (mark c ring) (mark c ring)) (Safe ring (mark c ring) ∷ []) [] (not_below (mark c ring))
+
+given_nothing : {A : Type 0} (c : Core A) → given c c ≡ []
+given_nothing {A} c =
+    ap (λ (outs : List (Out A)). outs ++ safe_from c c.installed.ring (mark c c.installed.ring)) (agreed_nothing c c.installed.ring)
+    ∙ safe_nothing c c.installed.ring
+
+-- a step that ended in this core, and gave nothing
+pub record GaveNothing {A : Type 0} (s : Stepped A) (c : Core A) : Type 0 where
+  pub core : s.core ≡ c
+  pub outs : s.outs ≡ []
+
+settled_nothing : {A : Type 0} (b : Bool) (c : Core A) (outs : List (Out A)) → b ≡ false → outs ≡ [] → GaveNothing (settle b c outs) c
+settled_nothing true c outs h e = (let q : true ≡ false = h in cc)
+settled_nothing false c outs h e = record { core = refl; outs = e }
+
+-- A payload is dropped
+
+ignored : {A : Type 0} (c : Core A) → may_install c ≡ false → GaveNothing (delivered c (done c Ignore)) c
+ignored c h = settled_nothing (may_install c) c (given c c) h (given_nothing c)
+
+-- A core that has stopped
+
+pub stopped_state : (s : State) → is_stopped s ≡ true → s ≡ Stopped
+stopped_state Stopped e = refl
+stopped_state Gather e = absurd (let q : false ≡ true = e in cc)
+stopped_state Commit e = absurd (let q : false ≡ true = e in cc)
+stopped_state Recovery e = absurd (let q : false ≡ true = e in cc)
+stopped_state Operational e = absurd (let q : false ≡ true = e in cc)
+
+decides_frame : {A : Type 0} (b : Bool) (c : Core A) (frame : Frame A) → c.state ≡ Stopped → decide_if_named b c frame ≡ Ignore
+decides_frame false c frame e = refl
+decides_frame {A} true c (MessageFrame x) e =
+    let decides : State → Act A = λ s. if takes_of s c x.ring && has (members_of s c) x.sender && takes_number c x.ring x.number then Take x else Ignore in
+    ap decides e
+decides_frame true c (TokenFrame t) e = ap (λ s. decide_token s c t) e
+decides_frame true c (JoinFrame j) e = ap (λ s. decide_join s c j) e
+decides_frame {A} true c (CommitFrame k) e = cond_both (is_at c.me k) (decide_round c.state c k) Ignore (λ (a : Act A). a ≡ Ignore) (λ t. ap (λ s. decide_round s c k) e) (λ t. refl)
+
+decides_nothing : {A : Type 0} (c : Core A) (input : Input A) → c.state ≡ Stopped → decide c input ≡ Ignore
+decides_nothing c (FrameInput frame) e = decides_frame (is_named c.total frame) c frame e
+decides_nothing {A} c (Timeout kind) e = ap (λ s. decide_time {A = A} s kind) e
+decides_nothing c (Send payload) e = ap (λ s. decide_payload s payload) e
+
+pub stopped_step : {A : Type 0} (c : Core A) (input : Input A) → is_stopped c.state ≡ true → GaveNothing (ring_step c input) c
+unfolding ring_step
+stopped_step c input e =
+    let s = stopped_state c.state e in
+    rw (decides_nothing c input s) (ignored c (ap (λ t. installs_in t c) s))
+
+-- it is what it was, once more stopped
+pub stopped_halts : {A : Type 0} (c : Core A) → is_stopped c.state ≡ true → halted c ≡ c
+stopped_halts {A} c e =
+    let with_state : State → Core A = λ s. record c { state = s } in
+    ap with_state (let s = stopped_state c.state e in sym s)
+
+-- A node
+
+pub record IsSilent {A : Type 0} (s : NodeStepped A) (n : Node A) : Type 0 where
+  pub node : s.node ≡ n
+  pub sends : s.sends ≡ []
+  pub answers : s.answers ≡ []
+
+-- it is what it was, once more stopped
+pub stopped_node : {A : Type 0} (n : Node A) → is_stopped n.core.state ≡ true → node_stopped n ≡ n
+stopped_node {A} n e =
+    let with_core : Core A → Node A = λ c. record n { core = c } in
+    ap with_core (stopped_halts n.core e)
+
+hands-nothing : {A : Type 0} (life : List (Stay A)) → hands [] life ≡ life
+hands-nothing [] = refl
+hands-nothing {A} (s ∷ older) =
+    let with_sent : List (Payload A) → List (Stay A) = λ ps. record s { sent = ps } ∷ older in
+    ap with_sent (append-nil s.sent)
+
+drop_all : {X : Type 0} (xs : List X) → drop (length xs) xs ≡ []
+drop_all [] = refl
+drop_all (x ∷ xs) = drop_all xs
+
+module _ {O A : Type 0} (object : Sequential O) where
+  silent-if : (b : Bool) (n : Node A) → is_stopped n.core.state ≡ true →
+      IsSilent (settled object b n (walked n n.core n.life []) [] n.life) n
+  silent-if false n e = record { node = stopped_node n e; sends = refl; answers = refl }
+  silent-if true n e =
+      let with_life : List (Stay A) → Node A = λ l. record n { life = l } in
+      record {
+        node = ap with_life (hands-nothing n.life);
+        sends = refl;
+        answers = ap (λ more. answers_after object n.tickets (node_committed n) more) (drop_all (node_committed n));
+      }
+
+  silent-core : (n : Node A) (s : Stepped A) → is_stopped n.core.state ≡ true → GaveNothing s n.core → IsSilent (after_core object n s) n
+  silent-core n s e g =
+      let same : s ≡ record { core = n.core; outs = [] } = same_stepped s n.core g in
+      subst (λ t. IsSilent (after_core object n t) n) (sym same) (silent-if (is_sound n.group n.life) n e)
+    where
+      same_stepped : (s : Stepped A) (c : Core A) → GaveNothing s c → s ≡ record { core = c; outs = [] }
+      same_stepped s c g =
+          let first : Core A → Stepped A = λ x. record { core = x; outs = s.outs } in
+          let second : List (Out A) → Stepped A = λ x. record { core = c; outs = x } in
+          ap first g.core ∙ ap second g.outs
+
+  pub silent : (n : Node A) (input : NodeInput A) → is_stopped n.core.state ≡ true → IsSilent (node_step object n input) n
+  silent n (NodeFrame frame) e = silent-core n (ring_step n.core (FrameInput frame)) e (stopped_step n.core (FrameInput frame) e)
+  silent n (NodeTime kind) e = silent-core n (ring_step n.core (Timeout kind)) e (stopped_step n.core (Timeout kind) e)
+  silent n NodeNoise e = record { node = refl; sends = refl; answers = refl }
+  silent n NodeStop e = record { node = stopped_node n e; sends = refl; answers = refl }

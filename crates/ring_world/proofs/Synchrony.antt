@@ -1,0 +1,22 @@
+-- The ring part of every run is virtually synchronous.
+use Rattle.std.proofs.Common.{List, subst}
+use Rattle.ring_base.specs.Group.{Group}
+use Rattle.ring_object.specs.Operations.{Sequential}
+use Rattle.ring_moves.specs.Worlds.{World as RingWorld}
+use Rattle.ring_history.specs.declared.event.Event.{Event}
+use Rattle.ring_history.specs.Worlds.{world_opening, run}
+use Rattle.ring_chain.specs.Told.{NameSameMembers}
+use Rattle.ring_chain.proofs.Parts.{unformed_same_members}
+use Rattle.ring_projection.proofs.Events.{ring_run}
+use Rattle.ring_ready.proofs.Installed.{all_synchronous}
+use Rattle.ring_views.specs.Synchrony.{IsVirtuallySynchronous}
+use Rattle.ring_world.specs.Synchronous.{IsSynchronous}
+
+pub synchronous_run : {O A : Type 0} (object : Sequential O) (group : Group) (events : List (Event A)) → IsSynchronous group (run object (world_opening group) events)
+synchronous_run {O} {A} object group events =
+    let r = ring_run object group events in
+    record {
+      ring = r;
+      synchronous = subst (λ (x : RingWorld A). IsVirtuallySynchronous x) r.part (all_synchronous group.count r.events);
+      members = subst (λ (x : RingWorld A). NameSameMembers x.cores) r.part (unformed_same_members group.count r.events);
+    }

@@ -1,0 +1,55 @@
+-- What holds of every run holds of this one.
+use Rattle.std.proofs.Common.{◌≤◌, take, sym, subst}
+use Rattle.ring_base.specs.Fronts.{IsFront}
+use Rattle.ring_base.specs.Group.{Group}
+use Rattle.ring_history.specs.Worlds.{World, order}
+use Rattle.ring_world.specs.Played.{Played, world_of, Plays}
+use Rattle.ring_world.proofs.Playing.{plays_from, plays_longer, world_later}
+use Rattle.ring_world.proofs.Synchrony.{synchronous_run}
+use Rattle.ring_world.proofs.world.World.run.Goals as goal
+
+pub returns-clause-plays : goal.returns-clause-plays
+returns-clause-plays g c =
+    let k = c.self.inside in
+    let object = g.O.Object.sequential in
+    let p : Played g.row.O-Alloc.Denot = record { group = k.fixed; events = k.events.items; told = k.told.items; done = k.done } in
+    let q = c.run_all.new.self in
+    let es = take q.done c.args.events.now in
+    subst (λ (r : Played g.row.O-Alloc.Denot). Plays object es r q) c.self.view_is (plays_from object es 0 p q c.run_all.ensures.plays)
+
+pub returns-clause-explains : goal.returns-clause-explains
+returns-clause-explains g c =
+    let k = c.self.inside in
+    let object = g.O.Object.sequential in
+    let p : Played g.row.O-Alloc.Denot = record { group = k.fixed; events = k.events.items; told = k.told.items; done = k.done } in
+    let q = c.run_all.new.self in
+    let es = take q.done c.args.events.now in
+    let l = plays_longer object es p q (plays_from object es 0 p q c.run_all.ensures.plays) in
+    let few = subst (λ (x : Group). x.count ≤ 16) (sym l.group) c.self.invariant.few in
+    c.linear_law.ensures.explains q.group q.events few
+
+pub returns-clause-grows : goal.returns-clause-grows
+returns-clause-grows g c =
+    let k = c.self.inside in
+    let object = g.O.Object.sequential in
+    let p : Played g.row.O-Alloc.Denot = record { group = k.fixed; events = k.events.items; told = k.told.items; done = k.done } in
+    let q = c.run_all.new.self in
+    let es = take q.done c.args.events.now in
+    let l = plays_longer object es p q (plays_from object es 0 p q c.run_all.ensures.plays) in
+    subst (λ (r : Played g.row.O-Alloc.Denot). IsFront (order (world_of object r)) (order (world_of object q))) c.self.view_is
+    (subst (λ (x : World g.row.O-Alloc.Denot). IsFront (order (world_of object p)) (order x)) (sym (world_later object p q l))
+    (c.linear_law.ensures.grows k.fixed k.events.items l.later c.self.invariant.few))
+
+pub returns-clause-fronts : goal.returns-clause-fronts
+returns-clause-fronts g c = λ node low high.
+    let k = c.self.inside in
+    let object = g.O.Object.sequential in
+    let p : Played g.row.O-Alloc.Denot = record { group = k.fixed; events = k.events.items; told = k.told.items; done = k.done } in
+    let q = c.run_all.new.self in
+    let es = take q.done c.args.events.now in
+    let l = plays_longer object es p q (plays_from object es 0 p q c.run_all.ensures.plays) in
+    let few = subst (λ (x : Group). x.count ≤ 16) (sym l.group) c.self.invariant.few in
+    c.linear_law.ensures.fronts q.group q.events node few low high
+
+pub returns-clause-synchronous : goal.returns-clause-synchronous
+returns-clause-synchronous g c = synchronous_run g.O.Object.sequential c.run_all.new.self.group c.run_all.new.self.events

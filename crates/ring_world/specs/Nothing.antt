@@ -1,0 +1,48 @@
+-- The object that keeps nothing: no operation can be read, and its one snapshot has no bytes.
+use Rattle.std.proofs.Common.{◌≡◌, ℕ, ◌<◌, Bool, false, List, [], ◌∷◌, Option, Some, None, refl, arith}
+use Rattle.std.proofs.lemmas.List.Elements.{All-nil, All-cons}
+use Rattle.ring_object.specs.Bytes.{AreBytes}
+use Rattle.ring_object.specs.Operations.{Sequential, IsReply, unreadable}
+use Rattle.ring_object.specs.Snapshots.{Restores}
+
+-- its one content
+abbrev pub Content : Type 0
+Content = Unit {0}
+
+abbrev pub is_content : Content → Type 0
+is_content content = Unit {0}
+
+abbrev pub is_readable : List ℕ → Bool
+is_readable op = false
+
+abbrev pub reply : Content → List ℕ → List ℕ
+reply content op = unreadable
+
+abbrev pub next : Content → List ℕ → Content
+next content op = content
+
+-- the object: it has one content
+abbrev pub nothing : Sequential Content
+nothing = record { initial = tt; reply = reply; next = next }
+
+abbrev pub snapshot_of : Content → List ℕ
+snapshot_of content = []
+
+abbrev pub restored : List ℕ → Option Content
+restored [] = Some tt
+restored (byte ∷ bytes) = None
+
+-- ---- the laws
+
+pub ignores : (content : Content) (op : List ℕ) → is_readable op ≡ false → (reply content op ≡ unreadable) × (next content op ≡ content)
+ignores content op unread = (refl, refl)
+
+pub replies : (content : Content) (op : List ℕ) → AreBytes op → is_content content → IsReply (reply content op)
+replies content op bytes is = (omega arith, All-cons (λ byte. byte < 256) 255 [] (omega arith) (All-nil (λ byte. byte < 256)))
+
+only : (bytes : List ℕ) (content : Content) → AreBytes bytes → restored bytes ≡ Some content → is_content content × (snapshot_of content ≡ bytes)
+only [] content bytes is = (tt, refl)
+only (byte ∷ more) content bytes is = absurd (cc is)
+
+pub restores : Restores is_content snapshot_of restored
+restores = record { same = λ content is fits. refl; only = only }

@@ -1,0 +1,204 @@
+//! All frames ever sent, kept as bytes.
+
+ghost use Rattle.std.specs.Prelude.{◌≡◌, ℕ, ◌+◌, ◌≤◌, [], ◌∷◌, ◌++◌, length, slice_range, option_map, OnOk, IfOk, IfErr, MatchResult};
+ghost use Rattle.ring_base.specs.declared.fault.Fault.TheVariants.{Memory};
+ghost use Rattle.ring_wire.specs.declared.frame.Frame.{Frame as OneFrame};
+ghost use Rattle.ring_wire.specs.Frames.{FrameFits};
+ghost use Rattle.ring_wire.specs.Spells.{Spells};
+ghost use Rattle.ring_core.specs.State.{Carried};
+ghost use Rattle.ring_history.specs.Worlds.{frame_at};
+ghost use Rattle.ring_world.specs.Stored.{HasRoom, frame_for, mark_at, mark_for};
+
+use bytes::BytesMut;
+use ring_base::{Fault, Past, Proc, ProcSet, past_of};
+use ring_layout::Encode;
+use ring_wire::{Frame, decode_frame, one_spelling_law, short_law, spelling_law};
+use std::alloc::{Allocator, Global};
+use std::marker::{Model, PhantomData};
+
+/// So many frames a step sends at most.
+const FRAMES: usize = 64;
+
+/// A frame has at most so many bytes.
+const FRAME_BYTES: usize = 8192;
+
+/// All frames ever sent, as contracts see them. No value of it is made.
+pub(crate) struct Sendings<A: Allocator + Copy = Global> {
+    allocator: PhantomData<A>,
+}
+
+impl<A: Allocator + Copy> Model for Sendings<A> {
+    ghost use Rattle.std.specs.Prelude.{List, []};
+    ghost use Rattle.ring_core.specs.State.{Carried};
+
+    ghost Value = { List (Carried A) };
+
+    ghost view = { λ _. [] };
+}
+
+/// Where a frame stands among all bytes, who sent it, and to whom.
+#[derive(Clone, Copy)]
+pub(crate) struct Mark {
+    pub(crate) start: usize,
+    pub(crate) end: usize,
+    pub(crate) from: Proc,
+    pub(crate) to: ProcSet,
+}
+
+/// All frames ever sent, numbered from 1: their spellings one behind the other, and where each stands. Contracts see the
+/// frames, with their senders and receivers, and how many more there is room for.
+#[derive(Drop)]
+pub(crate) struct Frames<A: Allocator + Copy = Global> {
+    bytes: BytesMut<A>,
+    marks: Vec<Mark, A>,
+    past: Past<Sendings<A>>,
+}
+
+impl<A: Allocator + Copy> Model for Frames<A> {
+    ghost use Rattle.std.specs.Prelude.{◌-◌, vec_len, vec_capacity};
+    ghost use Rattle.ring_world.specs.Stored.{Stored, AreFrames};
+
+    ghost Value = { Stored A };
+
+    ghost view = { λ f. record { frames = f.past.value; places = vec_capacity f.marks - vec_len f.marks; bytes = f.bytes.spare } };
+
+    ghost invariant = { λ f. AreFrames f.past.value f.bytes.items f.marks.items };
+}
+
+impl<A: Allocator + Copy> Frames<A> {
+    /// None yet.
+    pub(crate) fn new(alloc: A) -> Frames<A>
+        ensures { result.frames ≡ [] }
+    {
+        Frames {
+            bytes: BytesMut::new(alloc),
+            marks: Vec::new(alloc),
+            past: none_sent(&alloc),
+        }
+    }
+
+    /// Makes room for as many frames as a step may send, of any length, or answers `Memory`.
+    pub(crate) fn make_room(&mut self) -> Result<(), Fault>
+        ensures frames { self.new.frames ≡ self.old.frames }
+        ensures room { OnOk result (HasRoom 64 self.new) }
+        ensures refused { IfErr result (λ fault. fault ≡ Memory) }
+    {
+        self.marks.reserve(FRAMES)?;
+        self.bytes.reserve(FRAMES * FRAME_BYTES)?;
+        Ok(())
+    }
+
+    /// Keeps a frame that was sent. There is room for it.
+    pub(crate) fn keep(&mut self, from: Proc, to: ProcSet, frame: &Frame<A>)
+        requires fits { FrameFits frame.now }
+        requires room { HasRoom 1 self.old }
+        ensures frames { self.new.frames ≡ self.old.frames ++ record { from = from; to = to; frame = frame.now } ∷ [] }
+        ensures room { (many : ℕ) → HasRoom (many + 1) self.old → HasRoom many self.new }
+    {
+        spelling_law::<A>();
+        short_law::<A>();
+        let start = self.bytes.len();
+        self.past = one_sent(&self.past, from, to, frame);
+        frame.write(&mut self.bytes);
+        let end = self.bytes.len();
+        self.marks.push_reserved(Mark {
+            start,
+            end,
+            from,
+            to,
+        });
+    }
+
+    /// The frame of this number, if it was sent to this processor, decoded from its bytes. `Memory` is the only refusal.
+    pub(crate) fn frame_to(
+        &self,
+        alloc: A,
+        node: Proc,
+        number: u64,
+    ) -> Result<Option<Frame<A>>, Fault>
+        ensures ok { IfOk result (λ frame. frame ≡ frame_for node (frame_at self.now.frames number)) }
+        ensures refused { IfErr result (λ fault. fault ≡ Memory) }
+    {
+        spelling_law::<A>();
+        match mark_for(mark_at(&self.marks, number), node) {
+            Some(mark) => match decoded(alloc, self.bytes.as_slice(), mark) {
+                Ok(frame) => Ok(Some(frame)),
+                Err(fault) => Err(fault),
+            },
+            None => Ok(None),
+        }
+    }
+
+    /// Sender and receivers of the frame of this number, if it was sent.
+    pub(crate) fn ends(&self, number: u64) -> Option<(Proc, ProcSet)>
+        ensures { result ≡ option_map (λ (f : Carried A). (f.from, f.to)) (frame_at self.now.frames number) }
+    {
+        match mark_at(&self.marks, number) {
+            Some(mark) => Some((mark.from, mark.to)),
+            None => None,
+        }
+    }
+}
+
+/// What stands at this number, counted from 1.
+fn mark_at(marks: &[Mark], number: u64) -> Option<Mark>
+    ensures { result ≡ mark_at marks.now number }
+{
+    if number < 1 {
+        return None;
+    }
+    marks.get((number - 1) as usize).copied()
+}
+
+/// The same, if it was sent to this processor.
+fn mark_for(mark: Option<Mark>, node: Proc) -> Option<Mark>
+    ensures { result ≡ mark_for node mark }
+{
+    match mark {
+        Some(mark) => {
+            if mark.to.contains(node) {
+                Some(mark)
+            } else {
+                None
+            }
+        }
+        None => None,
+    }
+}
+
+/// The frame that is spelled there: where one is, `Memory` is the only refusal.
+fn decoded<A: Allocator + Copy>(alloc: A, bytes: &[u8], mark: Mark) -> Result<Frame<A>, Fault>
+    requires order { mark.start ≤ mark.end }
+    requires within { mark.end ≤ length bytes.now }
+    ensures { (frame : OneFrame A) → Spells frame (slice_range bytes.now mark.start mark.end) → MatchResult result (λ f. f ≡ frame) (λ fault. fault ≡ Memory) }
+{
+    one_spelling_law::<A>();
+    decode_frame(alloc, &bytes[mark.start..mark.end])
+}
+
+/// A value made of another, and of what is lent, by a step that the caller names.
+fn told<T, F>(past: &Past<T>, from: &F) -> Past<T>
+    ghost step: { T → F → T }
+    ensures { result.value ≡ step past.now.value from.now }
+{
+    past_of(&(past, from))
+}
+
+/// No frame was sent.
+fn none_sent<A: Allocator + Copy>(alloc: &A) -> Past<Sendings<A>>
+    ensures { result.value ≡ [] }
+{
+    past_of(alloc)
+}
+
+/// One frame more was sent.
+fn one_sent<A: Allocator + Copy>(
+    past: &Past<Sendings<A>>,
+    from: Proc,
+    to: ProcSet,
+    frame: &Frame<A>,
+) -> Past<Sendings<A>>
+    ensures { result.value ≡ past.now.value ++ record { from = from; to = to; frame = frame.now } ∷ [] }
+{
+    told(past, &(from, to, frame))
+}

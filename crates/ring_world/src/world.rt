@@ -1,0 +1,480 @@
+//! The world: all nodes, what happened to them and what they told.
+
+ghost use Rattle.std.specs.Prelude.{◌≡◌, ℕ, true, [], ◌∷◌, ◌++◌, ◌+◌, ◌<◌, ◌≤◌, ◌^◌, List, length, map, take, vec_len, vec_capacity, IfOk, IfErr, OnOk, OnErr, Some, option_map};
+ghost use Rattle.std.specs.List.{AllByRecursion};
+ghost use Rattle.ring_base.specs.Fronts.{IsFront};
+ghost use Rattle.ring_base.specs.Numbers.{numbers_from};
+ghost use Rattle.ring_base.specs.Fault.{fault_number};
+ghost use Rattle.ring_base.specs.declared.fault.Fault.TheVariants.{Memory};
+ghost use Rattle.ring_wire.specs.Frames.{FrameFits};
+ghost use Rattle.ring_core.specs.State.{Sent as OneSent, Carried};
+ghost use Rattle.ring_session.specs.Deduplicated.{deduplicated};
+ghost use Rattle.ring_machine.specs.Limits.{InputFits};
+ghost use Rattle.ring_machine.specs.Nodes.{node_opening, node_committed};
+ghost use Rattle.ring_history.specs.declared.event.Event.TheVariants.{Issue, Deliver, Stop};
+ghost use Rattle.ring_history.specs.declared.told.Told.TheVariants.{Refused as ToldRefused};
+ghost use Rattle.ring_history.specs.Histories.{IsLinearization};
+ghost use Rattle.ring_history.specs.Limits.{EventFits};
+ghost use Rattle.ring_history.specs.Worlds.{carried, happens, stepped, frame_at, order};
+ghost use Rattle.ring_world.specs.Played.{Played, played_opening, world_of, steps_node, Goes, Plays};
+ghost use Rattle.ring_world.specs.Stored.{HasRoom};
+ghost use Rattle.ring_world.specs.Spares.{Spares as ToldSpares};
+ghost use Rattle.ring_world.specs.Synchronous.{IsSynchronous};
+
+use crate::copies::{copied_call, copied_event};
+use crate::frames::Frames;
+use crate::order::{effects, longest};
+use crate::spares::Spares;
+use crate::telling::tell;
+use ring_base::{Fault, Fixed, Proc, ProcSet};
+use ring_frames::laws::{few_law, frames_law, pending_law};
+use ring_history::{Event, Item, Told};
+use ring_linear::laws::linear_law;
+use ring_node::{Input, Node, Outs, Sent};
+use ring_object::Object;
+use ring_payload::Call;
+use std::alloc::Allocator;
+use std::marker::Model;
+
+/// A world of nodes that runs. Contracts see its events since the opening, and what was told.
+#[derive(Drop)]
+pub struct World<O: Object> {
+    alloc: O::Alloc,
+    fixed: Fixed,
+    /// That of processor i stands at i - 1.
+    nodes: Vec<Node<O>, O::Alloc>,
+    /// Of each node, the second copies of the calls that wait for their answers.
+    spares: Vec<Spares<O::Alloc>, O::Alloc>,
+    frames: Frames<O::Alloc>,
+    history: Vec<Item<O::Alloc>, O::Alloc>,
+    told: Vec<Told<O::Alloc>, O::Alloc>,
+    events: Vec<Event<O::Alloc>, O::Alloc>,
+    done: u64,
+}
+
+impl<O: Object> Model for World<O> {
+    ghost use Rattle.ring_world.specs.Played.{Played};
+    ghost use Rattle.ring_world.specs.Keeping.{IsWorld};
+
+    ghost Value = { Played O.Alloc };
+
+    ghost view = { λ w. record { group = w.fixed; events = w.events.items; told = w.told.items; done = w.done } };
+
+    ghost invariant = { λ w. IsWorld O.sequential w.fixed w.events.items w.nodes.items w.spares.items w.frames.frames w.history.items };
+}
+
+impl<O: Object> World<O> {
+    /// All nodes at their opening, or `Memory`.
+    pub fn new(alloc: O::Alloc, fixed: Fixed) -> Result<World<O>, Fault>
+        ensures ok { IfOk result (λ world. world ≡ played_opening fixed) }
+        ensures refused { IfErr result (λ fault. fault ≡ Memory) }
+    {
+        let count = fixed.count();
+        let nodes = opened(alloc, fixed, count)?;
+        let spares = no_spares(alloc, count)?;
+        Ok(World {
+            alloc,
+            fixed,
+            nodes,
+            spares,
+            frames: Frames::new(alloc),
+            history: Vec::new(alloc),
+            told: Vec::new(alloc),
+            events: Vec::new(alloc),
+            done: 0,
+        })
+    }
+
+    /// Runs the events, in their order. The room for all that an event adds is made before its step, so an event is done
+    /// whole or not at all. `Memory` where a growth was refused to the world itself: then `done` tells how many of these
+    /// events were done, and the world is the one after these. Where memory was refused to a node in its step, the node
+    /// has stopped, and the event stands as its stop. Where it was refused to a submit, the event is left out, and told.
+    pub fn run(&mut self, events: &[Event<O::Alloc>]) -> Result<(), Fault>
+        requires fit { AllByRecursion EventFits events.now }
+        ensures plays { Plays O.sequential (take self.new.done events.now) self.old self.new }
+        ensures all { OnOk result (self.new.done ≡ length events.now) }
+        ensures some { OnErr result (self.new.done < length events.now) }
+        ensures explains { let w = world_of O.sequential self.new in IsLinearization O.sequential (order w) w.history }
+        ensures grows { IsFront (order (world_of O.sequential self.old)) (order (world_of O.sequential self.new)) }
+        ensures fronts { (node : ℕ) → 1 ≤ node → node ≤ self.new.group.count →
+            let w = world_of O.sequential self.new in IsFront (deduplicated (node_committed (w.nodes node))) (order w) }
+        ensures synchronous { IsSynchronous self.new.group (world_of O.sequential self.new) }
+        ensures refused { IfErr result (λ fault. fault ≡ Memory) }
+    {
+        linear_law::<O>();
+        self.done = 0;
+        self.run_all(events)
+    }
+
+    /// Runs the events, of which none is done.
+    fn run_all(&mut self, events: &[Event<O::Alloc>]) -> Result<(), Fault>
+        requires fit { AllByRecursion EventFits events.now }
+        requires none { self.old.done ≡ 0 }
+        ensures plays { Plays O.sequential (take self.new.done events.now) self.old self.new }
+        ensures all { OnOk result (self.new.done ≡ length events.now) }
+        ensures some { OnErr result (self.new.done < length events.now) }
+        ensures refused { IfErr result (λ fault. fault ≡ Memory) }
+    {
+        for event in events {
+            self.happen(event)?;
+            self.count(events.len());
+        }
+        Ok(())
+    }
+
+    /// One event more is done, of so many.
+    fn count(&mut self, many: usize)
+        requires { self.old.done < many }
+        ensures { self.new ≡ record self.old { done = self.old.done + 1 } }
+    {
+        self.done += 1;
+    }
+
+    /// How many events of the last run were done.
+    pub fn done(&self) -> u64
+        ensures { result ≡ self.now.done }
+    {
+        self.done
+    }
+
+    /// All events since the opening: a step that memory refused stands as a stop, a submit that memory refused does not.
+    pub fn events(&self) -> &[Event<O::Alloc>]
+        ensures { result.now ≡ self.now.events }
+    {
+        &self.events
+    }
+
+    /// What was told, in order: answers and refused submits.
+    pub fn told(&self) -> &[Told<O::Alloc>]
+        ensures { result.now ≡ self.now.told }
+    {
+        &self.told
+    }
+
+    /// What was issued and replied, in order.
+    pub fn history(&self) -> &[Item<O::Alloc>]
+        ensures { result.now ≡ (world_of O.sequential self.now).history }
+    {
+        &self.history
+    }
+
+    /// The order: the longest committed log, repeats removed. Or `Memory`.
+    pub fn order(&self) -> Result<Vec<Call<O::Alloc>, O::Alloc>, Fault>
+        ensures ok { IfOk result (λ calls. calls.items ≡ order (world_of O.sequential self.now)) }
+        ensures refused { IfErr result (λ fault. fault ≡ Memory) }
+    {
+        let (place, _) = longest(&self.nodes);
+        match place {
+            Some(place) => effects(self.alloc, self.nodes[place].committed()),
+            None => Ok(Vec::new(self.alloc)),
+        }
+    }
+
+    /// How long the order is.
+    pub fn order_len(&self) -> u64
+        ensures { result ≡ length (order (world_of O.sequential self.now)) }
+    {
+        let (_, len) = longest(&self.nodes);
+        len
+    }
+
+    /// The committed places of a node. Or `Memory`.
+    pub fn committed(&self, node: Proc) -> Result<Vec<Call<O::Alloc>, O::Alloc>, Fault>
+        requires { node ≤ self.now.group.count }
+        ensures ok { IfOk result (λ calls. calls.items ≡ node_committed ((world_of O.sequential self.now).nodes node)) }
+        ensures refused { IfErr result (λ fault. fault ≡ Memory) }
+    {
+        copied_calls(self.alloc, self.node(node).committed())
+    }
+
+    /// A node.
+    pub fn node(&self, node: Proc) -> &Node<O>
+        requires { node ≤ self.now.group.count }
+        ensures { result.now ≡ (world_of O.sequential self.now).nodes node }
+    {
+        &self.nodes[usize::from(node.number()) - 1]
+    }
+
+    /// Sender and receivers of the frame of this number, counted from 1 in the order sent, if it was sent.
+    pub fn frame(&self, number: u64) -> Option<(Proc, ProcSet)>
+        ensures { result ≡ option_map (λ (f : Carried O.Alloc). (f.from, f.to)) (frame_at (world_of O.sequential self.now).frames number) }
+    {
+        self.frames.ends(number)
+    }
+
+    /// The group.
+    pub fn fixed(&self) -> Fixed
+        ensures { result ≡ self.now.group }
+    {
+        self.fixed
+    }
+}
+
+impl<O: Object> World<O> {
+    /// An event happens.
+    fn happen(&mut self, event: &Event<O::Alloc>) -> Result<(), Fault>
+        requires fits { EventFits event.now }
+        ensures ok { OnOk result (Goes O.sequential event.now self.old self.new) }
+        ensures err { OnErr result (self.new ≡ self.old) }
+        ensures done { self.new.done ≡ self.old.done }
+        ensures refused { IfErr result (λ fault. fault ≡ Memory) }
+    {
+        match event {
+            Event::Issue(node, call) => self.issue(*node, call, event),
+            Event::Deliver(node, number) => self.deliver(*node, *number, event),
+            Event::Noise(_, _) => self.idle(event),
+            Event::Timeout(node, kind) => self.step(*node, Input::Timeout(*kind), event),
+            Event::Stop(node) => self.stop(*node, event),
+        }
+    }
+
+    /// The event changes nothing.
+    fn idle(&mut self, event: &Event<O::Alloc>) -> Result<(), Fault>
+        requires fits { EventFits event.now }
+        requires same { happens O.sequential (world_of O.sequential self.old) event.now ≡ world_of O.sequential self.old }
+        ensures ok { OnOk result (Goes O.sequential event.now self.old self.new) }
+        ensures err { OnErr result (self.new ≡ self.old) }
+        ensures done { self.new.done ≡ self.old.done }
+        ensures refused { IfErr result (λ fault. fault ≡ Memory) }
+    {
+        let kept = copied_event(event)?;
+        self.events.reserve(1)?;
+        self.events.push_reserved(kept);
+        Ok(())
+    }
+
+    /// A frame is handed to a node, if it was sent to it.
+    fn deliver(&mut self, node: Proc, number: u64, event: &Event<O::Alloc>) -> Result<(), Fault>
+        requires { event.now ≡ Deliver node number }
+        ensures ok { OnOk result (Goes O.sequential event.now self.old self.new) }
+        ensures err { OnErr result (self.new ≡ self.old) }
+        ensures done { self.new.done ≡ self.old.done }
+        ensures refused { IfErr result (λ fault. fault ≡ Memory) }
+    {
+        frames_law::<O>();
+        let sent = self.frames.frame_to(self.alloc, node, number)?;
+        match sent {
+            Some(frame) => self.step(node, Input::Frame(frame), event),
+            None => self.idle(event),
+        }
+    }
+
+    /// A node steps; an unknown one changes nothing.
+    fn step(
+        &mut self,
+        node: Proc,
+        input: Input<O::Alloc>,
+        event: &Event<O::Alloc>,
+    ) -> Result<(), Fault>
+        requires fits { InputFits input }
+        requires same { happens O.sequential (world_of O.sequential self.old) event.now ≡ stepped O.sequential (world_of O.sequential self.old) node input }
+        requires steps { steps_node event.now ≡ Some node }
+        ensures ok { OnOk result (Goes O.sequential event.now self.old self.new) }
+        ensures err { OnErr result (self.new ≡ self.old) }
+        ensures done { self.new.done ≡ self.old.done }
+        ensures refused { IfErr result (λ fault. fault ≡ Memory) }
+    {
+        few_law::<O>();
+        pending_law::<O>();
+        frames_law::<O>();
+        let place = usize::from(node.number()) - 1;
+        if place >= self.nodes.len() {
+            return self.idle(event);
+        }
+        let kept = copied_event(event)?;
+        make_room(
+            &mut self.events,
+            &mut self.told,
+            &mut self.history,
+            &mut self.frames,
+        )?;
+        match self.nodes[place].step(input) {
+            Ok(outs) => {
+                let Outs {
+                    sends,
+                    answers,
+                    committed: _,
+                } = outs;
+                keep_all(&mut self.frames, node, &sends);
+                tell(
+                    &mut self.told,
+                    &mut self.history,
+                    &mut self.spares[place],
+                    node,
+                    answers,
+                );
+                self.events.push_reserved(kept);
+            }
+            Err(Fault::Stopped) => self.events.push_reserved(kept),
+            Err(_) => {
+                let_go(kept);
+                self.events.push_reserved(Event::Stop(node));
+            }
+        }
+        Ok(())
+    }
+
+    /// A node stops; an unknown one changes nothing.
+    fn stop(&mut self, node: Proc, event: &Event<O::Alloc>) -> Result<(), Fault>
+        requires { event.now ≡ Stop node }
+        ensures ok { OnOk result (Goes O.sequential event.now self.old self.new) }
+        ensures err { OnErr result (self.new ≡ self.old) }
+        ensures done { self.new.done ≡ self.old.done }
+        ensures refused { IfErr result (λ fault. fault ≡ Memory) }
+    {
+        let place = usize::from(node.number()) - 1;
+        if place >= self.nodes.len() {
+            return self.idle(event);
+        }
+        self.events.reserve(1)?;
+        let _ = self.nodes[place].step(Input::Stop);
+        self.events.push_reserved(Event::Stop(node));
+        Ok(())
+    }
+
+    /// A call is submitted at a node; at an unknown one it changes nothing.
+    fn issue(
+        &mut self,
+        node: Proc,
+        call: &Call<O::Alloc>,
+        event: &Event<O::Alloc>,
+    ) -> Result<(), Fault>
+        requires fits { EventFits event.now }
+        requires event { event.now ≡ Issue node call.now }
+        ensures ok { OnOk result (Goes O.sequential event.now self.old self.new) }
+        ensures err { OnErr result (self.new ≡ self.old) }
+        ensures done { self.new.done ≡ self.old.done }
+        ensures refused { IfErr result (λ fault. fault ≡ Memory) }
+    {
+        let place = usize::from(node.number()) - 1;
+        if place >= self.nodes.len() {
+            return self.idle(event);
+        }
+        let kept = copied_event(event)?;
+        let copy = copied_call(call)?;
+        let spare = copied_call(call)?;
+        make_room(
+            &mut self.events,
+            &mut self.told,
+            &mut self.history,
+            &mut self.frames,
+        )?;
+        self.spares[place].make_room()?;
+        match self.nodes[place].submit_on(call) {
+            Ok(_) => {
+                self.history.push_reserved(Item::Issue(copy));
+                self.spares[place].add(spare);
+                self.events.push_reserved(kept);
+            }
+            Err(fault) => refuse(&mut self.events, &mut self.told, node, copy, kept, fault),
+        }
+        Ok(())
+    }
+}
+
+/// The nodes at their opening, or `Memory`.
+fn opened<O: Object>(
+    alloc: O::Alloc,
+    fixed: Fixed,
+    count: u8,
+) -> Result<Vec<Node<O>, O::Alloc>, Fault>
+    requires same { count ≡ fixed.count }
+    requires few { count ≤ 16 }
+    ensures ok { IfOk result (λ nodes. nodes.items ≡ map (node_opening fixed) (numbers_from 1 count)) }
+    ensures refused { IfErr result (λ fault. fault ≡ Memory) }
+{
+    let mut nodes = Vec::new(alloc);
+    for before in 0..count {
+        let me = Proc::new(before + 1);
+        let node = Node::new(alloc, fixed, me)?;
+        nodes.push(node)?;
+    }
+    Ok(nodes)
+}
+
+/// For each of the nodes, no copies yet, or `Memory`.
+fn no_spares<A: Allocator + Copy>(alloc: A, count: u8) -> Result<Vec<Spares<A>, A>, Fault>
+    ensures many { IfOk result (λ spares. length spares.items ≡ count) }
+    ensures none { IfOk result (λ spares. AllByRecursion (λ (s : ToldSpares A). s.calls ≡ []) spares.items) }
+    ensures refused { IfErr result (λ fault. fault ≡ Memory) }
+{
+    let mut spares = Vec::new(alloc);
+    for _ in 0..count {
+        spares.push(Spares::new(alloc))?;
+    }
+    Ok(spares)
+}
+
+/// A submit was refused: that is told, and its event is kept unless for want of memory. There is room.
+fn refuse<A: Allocator + Copy>(
+    events: &mut Vec<Event<A>, A>,
+    told: &mut Vec<Told<A>, A>,
+    node: Proc,
+    call: Call<A>,
+    kept: Event<A>,
+    fault: Fault,
+)
+    requires events_room { vec_len events.old + 1 ≤ vec_capacity events.old }
+    requires told_room { vec_len told.old + 64 ≤ vec_capacity told.old }
+    ensures told { told.new.items ≡ told.old.items ++ ToldRefused node call (fault_number fault) ∷ [] }
+    ensures left_out { fault ≡ Memory → events.new.items ≡ events.old.items }
+    ensures kept { (fault ≡ Memory → ⊥) → events.new.items ≡ events.old.items ++ kept ∷ [] }
+{
+    told.push_reserved(Told::Refused(node, call, fault.number()));
+    match fault {
+        Fault::Memory => let_go(kept),
+        _ => events.push_reserved(kept),
+    }
+}
+
+/// The event is left out.
+fn let_go<A: Allocator + Copy>(_event: Event<A>) {}
+
+/// Makes the room for all that an event adds, or answers `Memory`.
+fn make_room<A: Allocator + Copy>(
+    events: &mut Vec<Event<A>, A>,
+    told: &mut Vec<Told<A>, A>,
+    history: &mut Vec<Item<A>, A>,
+    frames: &mut Frames<A>,
+) -> Result<(), Fault>
+    ensures events { events.new.items ≡ events.old.items }
+    ensures events_room { OnOk result (vec_len events.new + 1 ≤ vec_capacity events.new) }
+    ensures told { told.new.items ≡ told.old.items }
+    ensures told_room { OnOk result (vec_len told.new + 64 ≤ vec_capacity told.new) }
+    ensures history { history.new.items ≡ history.old.items }
+    ensures history_room { OnOk result (vec_len history.new + 64 ≤ vec_capacity history.new) }
+    ensures frames { frames.new.frames ≡ frames.old.frames }
+    ensures frames_room { OnOk result (HasRoom 64 frames.new) }
+    ensures refused { IfErr result (λ fault. fault ≡ Memory) }
+{
+    events.reserve(1)?;
+    told.reserve(ANSWERS)?;
+    history.reserve(ANSWERS)?;
+    frames.make_room()
+}
+
+/// Keeps the frames that a node sent. They keep their limits, and there is room.
+fn keep_all<A: Allocator + Copy>(frames: &mut Frames<A>, from: Proc, sends: &[Sent<A>])
+    requires fit { AllByRecursion (λ (s : OneSent A). FrameFits s.frame) sends.now }
+    requires room { HasRoom (length sends.now) frames.old }
+    ensures { frames.new.frames ≡ frames.old.frames ++ carried from sends.now }
+{
+    for sent in sends {
+        frames.keep(from, sent.to, &sent.frame);
+    }
+}
+
+/// A copy of the calls, or `Memory`.
+fn copied_calls<A: Allocator + Copy>(alloc: A, calls: &[Call<A>]) -> Result<Vec<Call<A>, A>, Fault>
+    ensures ok { IfOk result (λ copies. copies.items ≡ calls.now) }
+    ensures refused { IfErr result (λ fault. fault ≡ Memory) }
+{
+    let mut copies = Vec::with_capacity(alloc, calls.len())?;
+    for call in calls {
+        copies.push(copied_call(call)?)?;
+    }
+    Ok(copies)
+}
+
+/// A step gives at most so many answers.
+const ANSWERS: usize = 64;
