@@ -1,5 +1,6 @@
 -- The opening of all in one ring, whose representative has visited the first token.
-use Rattle.std.proofs.Common.{◌≡◌, ℕ, zero, suc, ◌+◌, ◌-◌, ◌≤◌, ◌<◌, false, List, [], ◌∷◌, ◌++◌, map, length, Option, Some, slice_get, refl, ap, ◌∙◌, sym, subst, arith}
+use Rattle.std.proofs.Common.{◌≡◌, ℕ, zero, suc, ◌+◌, ◌-◌, ◌≤◌, ◌<◌, false, List, [], ◌∷◌, ◌++◌, map, length, Option, Some, slice_get, refl}
+use Rattle.std.proofs.Common.{ap, ◌∙◌, sym, subst, arith}
 use Rattle.std.specs.Prelude.{◌==◌, not, filter_map}
 use Rattle.std.proofs.lemmas.Bool.{cond_both, cond-false, ne_eqb}
 use Rattle.std.proofs.lemmas.List.{append-nil, map-append, length-map}
@@ -33,7 +34,8 @@ one_addressed {A} s =
     let sends : List (Sent A) → List (Out A) = map (λ (x : Sent A). SendOut x.to x.frame) in
     cond_both (not (s.to == nobody)) (s ∷ []) [] (λ xs. length (sends xs) ≤ 1) (λ e. omega arith) (λ e. omega arith)
 
-started_sends : {A : Type 0} (n : ℕ) → (started {A = A} n).sends ≡ to_next {A = A} (formed n 1) (forwarded {A = A} (formed n 1) (first_token (all_of n).ring)) ∷ []
+started_sends : {A : Type 0} (n : ℕ) →
+    (started {A = A} n).sends ≡ to_next {A = A} (formed n 1) (forwarded {A = A} (formed n 1) (first_token (all_of n).ring)) ∷ []
 started_sends {A} n =
     let c : Core A = formed n 1 in
     let t = first_token (all_of n).ring in
@@ -43,9 +45,11 @@ started_sends {A} n =
 pub started_one : {A : Type 0} (n : ℕ) (outs : List (Out A)) → outs ≡ sent (started {A = A} n).sends → length outs ≤ 1
 started_one {A} n outs e =
     let c : Core A = formed n 1 in
-    subst (λ (xs : List (Out A)). length xs ≤ 1) (sym (e ∙ ap (λ (xs : List (Sent A)). sent xs) (started_sends n))) (one_addressed (to_next c (forwarded c (first_token (all_of n).ring))))
+    subst (λ (xs : List (Out A)). length xs ≤ 1) (sym (e ∙ ap (λ (xs : List (Sent A)). sent xs) (started_sends n)))
+    (one_addressed (to_next c (forwarded c (first_token (all_of n).ring))))
 
-first_frames : {A : Type 0} (n : ℕ) (outs : List (Out A)) (first : Option (Sent A)) → outs ≡ sent (started {A = A} n).sends → opening_frames first ≡ filter_map (carried_by 1) outs →
+first_frames : {A : Type 0} (n : ℕ) (outs : List (Out A)) (first : Option (Sent A)) → outs ≡ sent (started {A = A} n).sends →
+    opening_frames first ≡ filter_map (carried_by 1) outs →
     carried_from {A = A} 1 (started n).sends ≡ opening_frames first ++ []
 first_frames {A} n outs first e f =
     let sends = (started {A = A} n).sends in
@@ -65,7 +69,8 @@ met k n below above = omega (arith, below, above)
 
 -- One processor more is in the ring
 
-pub joined_more : {X : Type 0} (f : ℕ → X) (first : X) (xs ys : List X) (k : ℕ) (x : X) (me : ℕ) → 1 ≤ k → xs ≡ first ∷ map f (numbers_from 2 (k - 1)) → ys ≡ xs ++ x ∷ [] →
+pub joined_more : {X : Type 0} (f : ℕ → X) (first : X) (xs ys : List X) (k : ℕ) (x : X) (me : ℕ) → 1 ≤ k → xs ≡ first ∷ map f (numbers_from 2 (k - 1)) →
+    ys ≡ xs ++ x ∷ [] →
     x ≡ f me → me ≡ k + 1 → ys ≡ first ∷ map f (numbers_from 2 (k + 1 - 1))
 joined_more f first xs ys k x me low a b c d =
     let last : me ≡ 2 + (k - 1) = omega (arith, d, low) in
@@ -82,7 +87,8 @@ core_at {A} n (suc i) c l =
     let f : ℕ → Core A = formed n in
     let two : 2 + i ≡ suc (suc i) = omega arith in
     let other : (suc (suc i) == 1) ≡ false = ne_eqb (suc (suc i)) 1 (λ e. omega (arith, e)) in
-    get-numbers f 2 (n - 1) i (omega (arith, l)) ∙ ap (λ k. Some (f k)) two ∙ ap (λ (d : Core A). Some d) (sym (cond-false (suc (suc i) == 1) c (f (suc (suc i))) other))
+    get-numbers f 2 (n - 1) i (omega (arith, l)) ∙ ap (λ k. Some (f k)) two
+    ∙ ap (λ (d : Core A). Some d) (sym (cond-false (suc (suc i) == 1) c (f (suc (suc i))) other))
 
 stands_at : {A : Type 0} (n : ℕ) (first : Option (Sent A)) → 1 ≤ n → n ≤ 16 → carried_from {A = A} 1 (started n).sends ≡ opening_frames first ++ [] →
     IsWorld {A = A} (world_of (none_ran_formed n)) ((started n).core ∷ map (formed n) (numbers_from 2 (n - 1))) first [] []
@@ -98,8 +104,10 @@ stands_at {A} n first low most frames =
       fits = start_fits n low most;
     }
 
-pub stands : {A : Type 0} (n : ℕ) (r : Ran A) (cores : List (Core A)) (core : Core A) (sent_outs : List (Out A)) (first : Option (Sent A)) (outs : List (ℕ × Out A)) (places : List ℕ) →
-    1 ≤ n → n ≤ 16 → r ≡ none_ran_formed n → cores ≡ core ∷ map (formed n) (numbers_from 2 (n - 1)) → core ≡ (started n).core → sent_outs ≡ sent (started {A = A} n).sends →
+pub stands : {A : Type 0} (n : ℕ) (r : Ran A) (cores : List (Core A)) (core : Core A) (sent_outs : List (Out A)) (first : Option (Sent A))
+    (outs : List (ℕ × Out A)) (places : List ℕ) →
+    1 ≤ n → n ≤ 16 → r ≡ none_ran_formed n → cores ≡ core ∷ map (formed n) (numbers_from 2 (n - 1)) → core ≡ (started n).core →
+    sent_outs ≡ sent (started {A = A} n).sends →
     opening_frames first ≡ filter_map (carried_by 1) sent_outs → outs ≡ [] → places ≡ [] → IsWorld (world_of r) cores first outs places
 stands {A} n r cores core sent_outs first outs places low most a b c s f o p =
     rw (a, b, c, o, p) (stands_at n first low most (first_frames n sent_outs first s f))

@@ -1,5 +1,6 @@
 -- The opening of all in Gather, and what a whole run gives.
-use Rattle.std.proofs.Common.{◌≡◌, ℕ, zero, suc, ◌+◌, ◌<◌, ◌≤◌, take, append_assoc, add-one, Result, Ok, Err, OnErr, List, [], ◌∷◌, ◌++◌, map, length, Some, None, slice_get, refl, ap, ◌∙◌, sym, arith}
+use Rattle.std.proofs.Common.{◌≡◌, ℕ, zero, suc, ◌+◌, ◌<◌, ◌≤◌, take, append_assoc, add-one, Result, Ok, Err, OnErr, List, [], ◌∷◌, ◌++◌}
+use Rattle.std.proofs.Common.{map, length, Some, None, slice_get, refl, ap, ◌∙◌, sym, arith}
 use Rattle.std.proofs.lemmas.List.{append-nil, map-append, length-map}
 use Rattle.ring_base.specs.Numbers.{numbers_from}
 use Rattle.ring_base.specs.Passing.{length-numbers_from}
@@ -10,7 +11,8 @@ use Rattle.ring_limits.proofs.Runs.{unformed_fits}
 use Rattle.ring_chain.proofs.Formed.{numbers-append}
 use Rattle.ring_runs.specs.Running.{Ran, none_ran, all_ran, more, world_of, IsWorld}
 
-pub opened_more : {X : Type 0} (f : ℕ → X) (xs ys : List X) (k : ℕ) (x : X) (me : ℕ) → xs ≡ map f (numbers_from 1 k) → ys ≡ xs ++ x ∷ [] → x ≡ f me → me ≡ k + 1 →
+pub opened_more : {X : Type 0} (f : ℕ → X) (xs ys : List X) (k : ℕ) (x : X) (me : ℕ) → xs ≡ map f (numbers_from 1 k) → ys ≡ xs ++ x ∷ [] → x ≡ f me →
+    me ≡ k + 1 →
     ys ≡ map f (numbers_from 1 (k + 1))
 opened_more f xs ys k x me a b c d =
     let last : me ≡ 1 + k = omega (arith, d) in
@@ -35,7 +37,8 @@ opens_at {A} n most =
       fits = unformed_fits n [] most tt;
     }
 
-pub opens : {A : Type 0} (n : ℕ) (r : Ran A) (cores : List (Core A)) (outs : List (ℕ × Out A)) (places : List ℕ) → r ≡ none_ran n → cores ≡ map (opening n) (numbers_from 1 n) →
+pub opens : {A : Type 0} (n : ℕ) (r : Ran A) (cores : List (Core A)) (outs : List (ℕ × Out A)) (places : List ℕ) → r ≡ none_ran n →
+    cores ≡ map (opening n) (numbers_from 1 n) →
     outs ≡ [] → places ≡ [] → n ≤ 16 → IsWorld (world_of r) cores None outs places
 opens n r cores outs places a b c d most = rw (a, b, c, d) (opens_at n most)
 
@@ -54,7 +57,8 @@ take_next (y ∷ xs) (suc i) x e = ap (λ zs. y ∷ zs) (take_next xs i x e)
 pub take_more : {X : Type 0} (xs : List X) (i : ℕ) (x : X) → slice_get xs i ≡ Some x → take (i + 1) xs ≡ take i xs ++ x ∷ []
 take_more xs i x e = ap (λ n. take n xs) (add-one i) ∙ take_next xs i x e
 
-pub ran_more : {A : Type 0} (r s t : Ran A) (es : List (RingEvent A)) (i : ℕ) (e : RingEvent A) → s ≡ all_ran r (take i es) → slice_get es i ≡ Some e → t ≡ more s e →
+pub ran_more : {A : Type 0} (r s t : Ran A) (es : List (RingEvent A)) (i : ℕ) (e : RingEvent A) → s ≡ all_ran r (take i es) → slice_get es i ≡ Some e →
+    t ≡ more s e →
     t ≡ all_ran r (take (i + 1) es)
 ran_more {A} r s t es i e a h b =
     let with_events : List (RingEvent A) → Ran A = λ xs. record r { events = xs } in

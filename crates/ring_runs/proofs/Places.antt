@@ -1,5 +1,6 @@
 -- Where the frames stand among what was given, and which each of them is.
-use Rattle.std.proofs.Common.{◌≡◌, ℕ, zero, suc, ◌+◌, ◌-◌, ◌<◌, ◌≤◌, Bor, option_copied, if◌then◌else◌, List, [], ◌∷◌, ◌++◌, map, length, Option, Some, None, slice_get, refl, ap, ◌∙◌, sym, arith}
+use Rattle.std.proofs.Common.{◌≡◌, ℕ, zero, suc, ◌+◌, ◌-◌, ◌<◌, ◌≤◌, Bor, option_copied, if◌then◌else◌, List, [], ◌∷◌, ◌++◌, map, length}
+use Rattle.std.proofs.Common.{Option, Some, None, slice_get, refl, ap, ◌∙◌, sym, arith}
 use Rattle.std.specs.Prelude.{filter_map}
 use Rattle.std.specs.List.{cons_option}
 use Rattle.std.specs.Slice.{IsItemAt}
@@ -18,11 +19,13 @@ frames_by i (o ∷ outs) = ap (cons_option (carried_by i o)) (frames_by i outs)
 
 -- One more stands last
 
-with_more : {A : Type 0} (at n : ℕ) (o p : Option (Carried A)) (places : List ℕ) → places_with at o (places ++ places_with n p []) ≡ places_with at o places ++ places_with n p []
+with_more : {A : Type 0} (at n : ℕ) (o p : Option (Carried A)) (places : List ℕ) →
+    places_with at o (places ++ places_with n p []) ≡ places_with at o places ++ places_with n p []
 with_more at n None p places = refl
 with_more at n (Some f) p places = refl
 
-pub places_push : {A : Type 0} (at : ℕ) (outs : List (ℕ × Out A)) (x : ℕ × Out A) → places_from at (outs ++ x ∷ []) ≡ places_from at outs ++ places_with (at + length outs) (carried_of x) []
+pub places_push : {A : Type 0} (at : ℕ) (outs : List (ℕ × Out A)) (x : ℕ × Out A) →
+    places_from at (outs ++ x ∷ []) ≡ places_from at outs ++ places_with (at + length outs) (carried_of x) []
 places_push at [] x = ap (λ n. places_with n (carried_of x) []) (let e : at ≡ at + 0 = omega arith in e)
 places_push {A} at (y ∷ outs) x =
     let n : suc at + length outs ≡ at + suc (length outs) = omega arith in
@@ -67,7 +70,8 @@ later_there : {A : Type 0} (at : ℕ) (x : ℕ × Out A) (outs : List (ℕ × Ou
 later_there at x outs place given far f zero e = absurd (omega (arith, far, e))
 later_there at x outs place given far f (suc j) e = f j (omega (arith, e))
 
-later : {A : Type 0} (at : ℕ) (x : ℕ × Out A) (outs : List (ℕ × Out A)) (place : ℕ) (frame : Option (Carried A)) → StandsThere (suc at) outs place frame → StandsThere at (x ∷ outs) place frame
+later : {A : Type 0} (at : ℕ) (x : ℕ × Out A) (outs : List (ℕ × Out A)) (place : ℕ) (frame : Option (Carried A)) → StandsThere (suc at) outs place frame →
+    StandsThere at (x ∷ outs) place frame
 later at x outs place frame s =
     record {
       far = omega (arith, s.far);
@@ -80,7 +84,8 @@ first_there : {A : Type 0} (at : ℕ) (x : ℕ × Out A) (outs : List (ℕ × Ou
 first_there at x outs place zero e h = refl
 first_there at x outs place (suc j) e h = absurd (omega (arith, e, h))
 
-found_at : {A : Type 0} (at : ℕ) (x : ℕ × Out A) (o : Option (Carried A)) (outs : List (ℕ × Out A)) (places : List ℕ) (frames : List (Carried A)) → carried_of x ≡ o →
+found_at : {A : Type 0} (at : ℕ) (x : ℕ × Out A) (o : Option (Carried A)) (outs : List (ℕ × Out A)) (places : List ℕ) (frames : List (Carried A)) →
+    carried_of x ≡ o →
     ((k place : ℕ) → slice_get places k ≡ Some place → StandsThere (suc at) outs place (slice_get frames k)) →
     (k place : ℕ) → slice_get (places_with at o places) k ≡ Some place → StandsThere at (x ∷ outs) place (slice_get (cons_option o frames) k)
 found_at at x None outs places frames c f k place e = later at x outs place (slice_get frames k) (f k place e)
@@ -89,7 +94,8 @@ found_at at x (Some g) outs places frames c f zero place e =
     record { far = omega (arith, same); given = x; there = λ j h. first_there at x outs place j same h; carries = c }
 found_at at x (Some g) outs places frames c f (suc k) place e = later at x outs place (slice_get frames k) (f k place e)
 
-stands_from : {A : Type 0} (at : ℕ) (outs : List (ℕ × Out A)) (k place : ℕ) → slice_get (places_from at outs) k ≡ Some place → StandsThere at outs place (slice_get (frames_of outs) k)
+stands_from : {A : Type 0} (at : ℕ) (outs : List (ℕ × Out A)) (k place : ℕ) → slice_get (places_from at outs) k ≡ Some place →
+    StandsThere at outs place (slice_get (frames_of outs) k)
 stands_from at [] k place e = absurd (cc e)
 stands_from at (x ∷ outs) k place e =
     found_at at x (carried_of x) outs (places_from (suc at) outs) (frames_of outs) refl (stands_from (suc at) outs) k place e

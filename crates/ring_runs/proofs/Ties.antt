@@ -1,5 +1,6 @@
 -- What the code keeps goes on telling the world: after a step, a stop, and where nothing happens.
-use Rattle.std.proofs.Common.{◌≡◌, ℕ, zero, suc, ◌-◌, ◌<◌, ◌≤◌, Bool, true, false, ◌==◌, if◌then◌else◌, List, [], ◌∷◌, ◌++◌, map, length, Option, Some, None, slice_get, get_or, refl, ap, ◌∙◌, sym, subst, arith, inl, inr, append_assoc, length-set}
+use Rattle.std.proofs.Common.{◌≡◌, ℕ, zero, suc, ◌-◌, ◌<◌, ◌≤◌, Bool, true, false, ◌==◌, if◌then◌else◌, List, [], ◌∷◌, ◌++◌, map, length}
+use Rattle.std.proofs.Common.{Option, Some, None, slice_get, get_or, refl, ap, ◌∙◌, sym, subst, arith, inl, inr, append_assoc, length-set}
 use Rattle.std.specs.List.{AllByRecursion as Each}
 use Rattle.std.specs.Prelude.{filter_map, slice_set}
 use Rattle.std.proofs.lemmas.Bool.{cond-true, cond-false, le-leb, eqb-true, eqb-false, cases_Bool}
@@ -17,7 +18,8 @@ use Rattle.ring_core.specs.declared.out.Out.{Out}
 use Rattle.ring_core.specs.State.{Core, Sent, Carried, halted}
 use Rattle.ring_core.specs.Stepping.{ring_step}
 use Rattle.ring_moves.specs.declared.event.RingEvent.{RingEvent}
-use Rattle.ring_moves.specs.Worlds.{World, happens, run, unformed, ring_formed, put, carried_by, after_step, is_node, stepped_if, stepped, stopped_if, handed_if, handed, frame_at}
+use Rattle.ring_moves.specs.Worlds.{World, happens, run, unformed, ring_formed, put, carried_by, after_step, is_node, stepped_if, stepped}
+use Rattle.ring_moves.specs.Worlds.{stopped_if, handed_if, handed, frame_at}
 use Rattle.ring_limits.specs.Limits.{InputFits, WorldFits}
 use Rattle.ring_limits.proofs.Runs.{stepped_fits, stopped_fits}
 use Rattle.ring_srp.specs.Allowing.{InputFits as CoreInputFits}
@@ -50,7 +52,8 @@ get-set_same xs i x l =
 
 get-set_other : {X : Type 0} (xs : List X) (i j : ℕ) (x : X) → (j ≡ i → ⊥) → j < length xs → slice_get (slice_set xs i x) j ≡ slice_get xs j
 get-set_other xs i j x n l =
-    slice_get-get_or (slice_set xs i x) j x (let e = length-set xs i x in omega (arith, e, l)) ∙ ap Some (get_or-set_other xs i j x x n) ∙ sym (slice_get-get_or xs j x l)
+    slice_get-get_or (slice_set xs i x) j x (let e = length-set xs i x in omega (arith, e, l)) ∙ ap Some (get_or-set_other xs i j x x n)
+    ∙ sym (slice_get-get_or xs j x l)
 
 -- The core of processor i stands at i - 1
 
@@ -61,7 +64,8 @@ module _ {A : Type 0} (w : World A) (cores : List (Core A)) (many : length cores
       let e : suc (i - 1) ≡ i = omega (arith, low) in
       get_or_from_slice_get cores (i - 1) (w.cores (suc (i - 1))) d (are (i - 1) (omega (arith, l, many))) ∙ ap w.cores e
 
-  cores_put : (i : ℕ) (c : Core A) → 1 ≤ i → i - 1 < length cores → (j : ℕ) → j < w.total → slice_get (slice_set cores (i - 1) c) j ≡ Some (put w.cores i c (suc j))
+  cores_put : (i : ℕ) (c : Core A) → 1 ≤ i → i - 1 < length cores → (j : ℕ) → j < w.total →
+      slice_get (slice_set cores (i - 1) c) j ≡ Some (put w.cores i c (suc j))
   cores_put i c low l j h =
       elim (cases_Bool (suc j == i)) [
         | inl t ↦
@@ -70,7 +74,8 @@ module _ {A : Type 0} (w : World A) (cores : List (Core A)) (many : length cores
             ap (slice_get (slice_set cores (i - 1) c)) (sym p) ∙ get-set_same cores (i - 1) c l ∙ ap Some (sym (cond-true (suc j == i) c (w.cores (suc j)) t))
         | inr f ↦
             let e = eqb-false (suc j) i f in
-            get-set_other cores (i - 1) j c (λ q. e (omega (arith, q, low))) (omega (arith, h, many)) ∙ are j h ∙ ap Some (sym (cond-false (suc j == i) c (w.cores (suc j)) f))
+            get-set_other cores (i - 1) j c (λ q. e (omega (arith, q, low))) (omega (arith, h, many)) ∙ are j h
+            ∙ ap Some (sym (cond-false (suc j == i) c (w.cores (suc j)) f))
       ]
 
 -- What happens to a world
@@ -91,13 +96,15 @@ module _ {A : Type 0} (w : World A) (cores : List (Core A)) (first : Option (Sen
             ap (λ fs. fs ++ filter_map (carried_by i) s.outs) h.frames_are
             ∙ append_assoc (opening_frames first) (frames_of outs) (filter_map (carried_by i) s.outs)
             ∙ ap (λ fs. opening_frames first ++ fs)
-            (ap (λ fs. frames_of outs ++ fs) (sym (frames_by i s.outs)) ∙ sym (filter_map-append carried_of outs (map (λ o. (i, o)) s.outs)) ∙ ap frames_of (sym o));
+            (ap (λ fs. frames_of outs ++ fs) (sym (frames_by i s.outs)) ∙ sym (filter_map-append carried_of outs (map (λ o. (i, o)) s.outs))
+            ∙ ap frames_of (sym o));
         places_are = p;
         fits = stepped_fits w h.fits true i input (λ e. node) fits;
       }
 
   -- a processor stepped
-  pub steps : (i : ℕ) (input : Input A) (cores' : List (Core A)) (outs' : List (ℕ × Out A)) (places' : List ℕ) → 1 ≤ i → i - 1 < length cores → InputFits input →
+  pub steps : (i : ℕ) (input : Input A) (cores' : List (Core A)) (outs' : List (ℕ × Out A)) (places' : List ℕ) → 1 ≤ i → i - 1 < length cores →
+      InputFits input →
       cores' ≡ slice_set cores (i - 1) (ring_step (w.cores i) input).core → outs' ≡ outs ++ map (λ o. (i, o)) (ring_step (w.cores i) input).outs →
       places' ≡ places_from 0 outs' → IsWorld (stepped w i input) cores' first outs' places'
   steps i input cores' outs' places' low l fits c o p =
@@ -152,7 +159,8 @@ run_more : {A : Type 0} (w : World A) (events : List (RingEvent A)) (e : RingEve
 run_more w [] e = refl
 run_more w (f ∷ events) e = run_more (happens w f) events e
 
-ran_more : {A : Type 0} (formed : Bool) (count : ℕ) (events : List (RingEvent A)) (e : RingEvent A) → ran_from formed count (events ++ e ∷ []) ≡ happens (ran_from formed count events) e
+ran_more : {A : Type 0} (formed : Bool) (count : ℕ) (events : List (RingEvent A)) (e : RingEvent A) →
+    ran_from formed count (events ++ e ∷ []) ≡ happens (ran_from formed count events) e
 ran_more false count events e = run_more (unformed count) events e
 ran_more true count events e = run_more (ring_formed count) events e
 
@@ -161,13 +169,15 @@ pub world_more : {A : Type 0} (r : Ran A) (e : RingEvent A) → world_of (more r
 world_more r e = ran_more r.formed r.count r.events e
 
 -- what is kept tells the world after one event more
-pub tells : {A : Type 0} (r s : Ran A) (e : RingEvent A) (w : World A) (cores : List (Core A)) (first : Option (Sent A)) (outs : List (ℕ × Out A)) (places : List ℕ) →
+pub tells : {A : Type 0} (r s : Ran A) (e : RingEvent A) (w : World A) (cores : List (Core A)) (first : Option (Sent A)) (outs : List (ℕ × Out A))
+    (places : List ℕ) →
     s ≡ more r e → happens (world_of r) e ≡ w → IsWorld w cores first outs places → IsWorld (world_of s) cores first outs places
 tells r s e w cores first outs places a b h = subst (λ v. IsWorld v cores first outs places) (sym (ap world_of a ∙ world_more r e ∙ b)) h
 
 -- Frames fit
 
-at_fits : {A : Type 0} (frames : List (Carried A)) (k : ℕ) (f : Carried A) → Each (λ (g : Carried A). FrameFits g.frame) frames → frame_at frames k ≡ Some f → FrameFits f.frame
+at_fits : {A : Type 0} (frames : List (Carried A)) (k : ℕ) (f : Carried A) → Each (λ (g : Carried A). FrameFits g.frame) frames → frame_at frames k ≡ Some f →
+    FrameFits f.frame
 at_fits frames zero f h e = absurd (let x : ⊥ = cc in x)
 at_fits {A} frames (suc k) f h e = each-get (λ (g : Carried A). FrameFits g.frame) frames k f h e
 
@@ -175,7 +185,8 @@ from_if : {A : Type 0} (b : Bool) (f g : Frame A) → (if b then Some f else Non
 from_if true f g e = cc e
 from_if false f g e = absurd (let x : ⊥ = cc in x)
 
-one_fits : {A : Type 0} (o : Option (Carried A)) (i : ℕ) (frame : Frame A) → ((f : Carried A) → o ≡ Some f → FrameFits f.frame) → frame_for i o ≡ Some frame → FrameFits frame
+one_fits : {A : Type 0} (o : Option (Carried A)) (i : ℕ) (frame : Frame A) → ((f : Carried A) → o ≡ Some f → FrameFits f.frame) → frame_for i o ≡ Some frame →
+    FrameFits frame
 one_fits None i frame h e = absurd (let x : ⊥ = cc in x)
 one_fits (Some f) i frame h e = subst FrameFits (from_if (has f.to i) f.frame frame e) (h f refl)
 

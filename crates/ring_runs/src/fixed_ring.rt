@@ -64,7 +64,8 @@ impl<A: Allocator + Copy> FixedRing<A> {
         ensures outs { IfOk result (λ outs. outs.items ≡ (run_formed self.old.count events.now).outs) }
         ensures text { (ring : OneRing) → HasOneText (run_formed self.old.count events.now) ring }
         ensures held { ToldIsHeld (run_formed self.old.count events.now) }
-        ensures agreed { (i : ℕ) → agreed_numbers (run_formed self.old.count events.now) i ≡ numbers_from 1 (front ((run_formed self.old.count events.now).cores i) (all_of self.old.count).ring) }
+        ensures agreed { (i : ℕ) → agreed_numbers (run_formed self.old.count events.now) i
+            ≡ numbers_from 1 (front ((run_formed self.old.count events.now).cores i) (all_of self.old.count).ring) }
         ensures safe { AllIsOfFormed self.old.count (run_formed self.old.count events.now) }
         ensures spent { self.new.is_fresh ≡ false }
         ensures count { self.new.count ≡ self.old.count }

@@ -9,6 +9,7 @@ use Rattle.ring_wire.specs.Frames.{FrameFits}
 use Rattle.ring_core.specs.State.{Carried}
 use Rattle.ring_machine.specs.declared.input.Input.TheVariants.{Frame as FrameInput}
 use Rattle.ring_history.specs.Worlds.{World, stepped, handed, handed_if, frame_at}
+use Rattle.ring_world.specs.Played.{sent_to}
 use Rattle.ring_world.specs.Stored.{frame_for}
 
 module _ {O A : Type 0} (object : Sequential O) where
@@ -38,3 +39,11 @@ one_fits (Some f) i frame h e = subst FrameFits (from_if (has f.to i) f.frame fr
 
 pub frame_fits : {A : Type 0} (frames : List (Carried A)) (i k : ℕ) (frame : Frame A) → Each (λ (g : Carried A). FrameFits g.frame) frames → frame_for i (frame_at frames k) ≡ Some frame → FrameFits frame
 frame_fits frames i k frame h e = one_fits (frame_at frames k) i frame (λ f. at_fits frames k f h) e
+
+sent_if : {A : Type 0} (b : Bool) (i : ℕ) (f g : Frame A) → (if b then Some f else None) ≡ Some g → (if b then Some i else None) ≡ Some i
+sent_if true i f g e = refl
+sent_if false i f g e = absurd (let q : ⊥ = cc e in q)
+
+pub sent_it : {A : Type 0} (i : ℕ) (o : Option (Carried A)) (frame : Frame A) → frame_for i o ≡ Some frame → sent_to i o ≡ Some i
+sent_it i None frame e = absurd (let q : ⊥ = cc e in q)
+sent_it i (Some f) frame e = sent_if (has f.to i) i f.frame frame e

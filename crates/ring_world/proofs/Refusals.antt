@@ -12,6 +12,10 @@ pub was_stopped : (b : Bool) (f : Fault) → f ≡ (if b then StoppedFault else 
 was_stopped true f a e = refl
 was_stopped false f a e = absurd (let q : ⊥ = cc (sym a ∙ e) in q)
 
+pub was_running : (b : Bool) (f : Fault) → f ≡ (if b then StoppedFault else Memory) → (f ≡ StoppedFault → ⊥) → b ≡ false
+was_running true f a e = absurd (e a)
+was_running false f a e = refl
+
 pub room_less : {A : Type 0} (many few : ℕ) (s : Stored A) → few ≤ many → HasRoom many s → HasRoom few s
 room_less many few s l h = record { places = (let p = h.places in omega (arith, p, l)); bytes = (let b = h.bytes in omega (arith, b, l)) }
 

@@ -1,6 +1,6 @@
 -- What the code keeps goes on telling the world, event by event.
 use Rattle.std.proofs.Common.{◌≡◌, ℕ, zero, suc, ◌-◌, ◌<◌, ◌≤◌, true, false, ◌==◌, List, [], ◌∷◌, ◌++◌, length, drop, Option, Some, None, slice_get, get_or, refl, ap, ◌∙◌, sym, subst, arith, inl, inr, append-nil}
-use Rattle.std.specs.Prelude.{slice_set, MatchOption}
+use Rattle.std.specs.Prelude.{not, slice_set, MatchOption}
 use Rattle.std.proofs.Math.Seq.{drop-append_seam}
 use Rattle.std.proofs.lemmas.Bool.{cond-true, cond-false, and_from, le-leb, eqb-true, eqb-false, eq-eqb, cases_Bool}
 use Rattle.std.proofs.lemmas.Bool.Decides.{nat_tests}
@@ -27,7 +27,7 @@ use Rattle.ring_history.specs.declared.told.Told.TheVariants.{Refused as ToldRef
 use Rattle.ring_history.specs.Limits.{EventFits}
 use Rattle.ring_history.specs.Worlds.{World, world_opening, run, happens, put, is_node, after_step, stepped, stepped_if, stopped_if, issued_or, issued_if, carried, items_of, told_by}
 use Rattle.ring_linear.proofs.Orderly.{run-more}
-use Rattle.ring_world.specs.Played.{Played, IsCopy, world_of, told_behind, steps_node, Goes}
+use Rattle.ring_world.specs.Played.{Played, IsCopy, world_of, told_behind, step_in, runs_in, Goes}
 use Rattle.ring_world.specs.Spares.{Spares, AllLeft, Holds, after_answers}
 use Rattle.ring_world.specs.Keeping.{KeepsCopies, IsKept, IsWorld}
 use Rattle.ring_world.proofs.Spared.{get-set_same, get-set_other, set-length, holds-more}
@@ -43,12 +43,12 @@ copy_fits (Noise i bytes) d copy fits = subst EventFits (sym copy.1) tt
 copy_fits (Timeout i kind) d copy fits = subst EventFits (sym copy) tt
 copy_fits (Stop i) d copy fits = subst EventFits (sym copy) tt
 
-pub steps_fits : {A : Type 0} (e : Event A) (i : ℕ) → steps_node e ≡ Some i → EventFits e
-steps_fits (Issue j c) i e = absurd (let q : ⊥ = cc e in q)
-steps_fits (Deliver j k) i e = tt
-steps_fits (Noise j bytes) i e = tt
-steps_fits (Timeout j kind) i e = tt
-steps_fits (Stop j) i e = tt
+pub steps_fits : {A : Type 0} (w : World A) (e : Event A) (i : ℕ) → step_in w e ≡ Some i → EventFits e
+steps_fits w (Issue j c) i e = absurd (let q : ⊥ = cc e in q)
+steps_fits w (Deliver j k) i e = tt
+steps_fits w (Noise j bytes) i e = tt
+steps_fits w (Timeout j kind) i e = tt
+steps_fits w (Stop j) i e = tt
 
 eq_test : (i j : ℕ) → i ≡ j → (i == j) ≡ true
 eq_test i j e = eq-eqb i j e
@@ -290,8 +290,11 @@ module _ {O A : Type 0} (object : Sequential O) where
       stop_goes q a b c = is_done p q (Stop i) (Stop i) [] (stopped_if true w i) refl stop_is (sym (append-nil w.told)) a b (c ∙ sym (append-nil p.told))
 
       -- memory was refused to its step
-      pub refused_goes : (q : Played A) (e : Event A) → steps_node e ≡ Some i → q.group ≡ p.group → q.events ≡ p.events ++ Stop i ∷ [] → q.told ≡ p.told → Goes object e p q
-      refused_goes q e steps a b c = inr (inl (record { node = i; steps = steps; known = known; group = a; events = b; told = c }))
+      runs : is_stopped (w.nodes i).core.state ≡ false → runs_in w i ≡ true
+      runs f = and_from _ _ known (ap not f)
+
+      pub refused_goes : (q : Played A) (e : Event A) → step_in w e ≡ Some i → is_stopped (w.nodes i).core.state ≡ false → q.group ≡ p.group → q.events ≡ p.events ++ Stop i ∷ [] → q.told ≡ p.told → Goes object e p q
+      refused_goes q e steps f a b c = inr (inl (record { node = i; steps = steps; known = runs f; group = a; events = b; told = c }))
 
       -- a call is submitted
 

@@ -1,4 +1,4 @@
--- What the code of a world keeps, and how that tells the world. Rings and states, rules 14 and 15, of docs/PROTOCOL.md.
+-- What the code of a world keeps, and how that tells the world. The book and the threads, rules 1 to 8, of docs/PROTOCOL.md.
 use Rattle.std.specs.Prelude.{◌≡◌, ℕ, suc, ◌<◌, ◌≤◌, List, length, Some, slice_get}
 use Rattle.std.specs.List.{AllByRecursion}
 use Rattle.ring_base.specs.Group.{Group}

@@ -1,15 +1,18 @@
 -- What a world has done since its opening, and how a run goes on from it: each event is done, or stands as a stop where memory was refused to its step, or
--- is left out where memory was refused to its submit. Rings and states, rules 14 and 15, of docs/PROTOCOL.md.
-use Rattle.std.specs.Prelude.{◌≡◌, ℕ, true, ◌⊎◌, Vec, List, [], ◌∷◌, ◌++◌, length, drop, Option, Some, None}
+-- is left out where memory was refused to its submit. The book and the threads, rules 1 to 8, of docs/PROTOCOL.md.
+use Rattle.std.specs.Prelude.{◌≡◌, ℕ, Bool, true, not, ◌&&◌, if◌then◌else◌, ◌⊎◌, Vec, List, [], ◌∷◌, ◌++◌, length, drop, Option, Some, None}
 use Rattle.ring_base.specs.Group.{Group}
+use Rattle.ring_base.specs.Processors.{has}
 use Rattle.ring_object.specs.Operations.{Sequential}
 use Rattle.ring_payload.specs.declared.call.Call.{Call}
+use Rattle.ring_core.specs.State.{Carried}
+use Rattle.ring_machine.specs.Nodes.{is_stopped}
 use Rattle.ring_machine.specs.Stepping.{submit_fault}
 use Rattle.ring_history.specs.declared.event.Event.{Event}
 use Rattle.ring_history.specs.declared.event.Event.TheVariants.{Issue, Deliver, Noise, Timeout, Stop}
 use Rattle.ring_history.specs.declared.told.Told.{Told}
 use Rattle.ring_history.specs.declared.told.Told.TheVariants.{Refused}
-use Rattle.ring_history.specs.Worlds.{World, world_opening, run, happens, is_node}
+use Rattle.ring_history.specs.Worlds.{World, world_opening, run, happens, is_node, frame_at}
 
 -- all events since the opening, what was told, and how many events of the last run were done
 pub record Played (A : Type 0) : Type 0 where
@@ -21,13 +24,22 @@ pub record Played (A : Type 0) : Type 0 where
 abbrev pub played_opening : {A : Type 0} → Group → Played A
 played_opening group = record { group = group; events = []; told = []; done = 0 }
 
--- the node whose step an event may be
-abbrev pub steps_node : {A : Type 0} → Event A → Option ℕ
-steps_node (Deliver i k) = Some i
-steps_node (Timeout i kind) = Some i
-steps_node (Issue i c) = None
-steps_node (Noise i bytes) = None
-steps_node (Stop i) = None
+-- a node of the world that has not stopped
+abbrev pub runs_in : {A : Type 0} → World A → ℕ → Bool
+runs_in w i = is_node w i && not (is_stopped (w.nodes i).core.state)
+
+-- the node, if the frame was sent, and to it
+abbrev pub sent_to : {A : Type 0} → ℕ → Option (Carried A) → Option ℕ
+sent_to i None = None
+sent_to i (Some f) = if has f.to i then Some i else None
+
+-- the node whose step an event may be: a frame is handed only to a node that it was sent to
+abbrev pub step_in : {A : Type 0} → World A → Event A → Option ℕ
+step_in w (Deliver i k) = sent_to i (frame_at w.frames k)
+step_in w (Timeout i kind) = Some i
+step_in w (Issue i c) = None
+step_in w (Noise i bytes) = None
+step_in w (Stop i) = None
 
 -- a copy of an event is the event; of noise it has the same bytes
 abbrev pub IsCopy : {A : Type 0} → Event A → Event A → Type 0
@@ -54,11 +66,11 @@ module _ {O : Type 0} (object : Sequential O) where
     pub events : q.events ≡ p.events ++ kept ∷ []
     pub told : q.told ≡ p.told ++ told_behind (world_of p) e
 
-  -- memory was refused to the step that the event is: it stands as a stop of that node
+  -- memory was refused to the step that the event is, of a node that ran: it stands as a stop of that node
   pub record IsStopped {A : Type 0} (e : Event A) (p q : Played A) : Type 0 where
     pub node : ℕ
-    pub steps : steps_node e ≡ Some node
-    pub known : is_node (world_of p) node ≡ true
+    pub steps : step_in (world_of p) e ≡ Some node
+    pub known : runs_in (world_of p) node ≡ true
     pub group : q.group ≡ p.group
     pub events : q.events ≡ p.events ++ Stop node ∷ []
     pub told : q.told ≡ p.told

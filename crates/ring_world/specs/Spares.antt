@@ -1,4 +1,5 @@
--- What is kept for the answers of a node's tickets: a second copy of each ticket's call, until the ticket is answered. So a step that answers needs no memory for what it adds to the history. The replicated log, rules 13 to 15 of docs/PROTOCOL.md.
+-- What is kept for the answers of a node's tickets: a second copy of each ticket's call, until the ticket is answered.
+-- So a step that answers needs no memory for what it adds to the history. The replicated log, rules 13 to 15 of docs/PROTOCOL.md.
 use Rattle.std.specs.Prelude.{◌≡◌, ℕ, List, [], ◌∷◌, length, Option, Some, None, slice_get, slice_set}
 use Rattle.ring_payload.specs.declared.call.Call.{Call}
 use Rattle.ring_ticket.specs.declared.answered.Answered.{Answered}

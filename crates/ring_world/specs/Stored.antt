@@ -1,4 +1,5 @@
--- How all frames ever sent are kept: as one text of their spellings, with where each stands in it, who sent it and to whom. Frames, docs/FORMATS.md, and Rings and states, rule 14 of docs/PROTOCOL.md.
+-- How all frames ever sent are kept: as one text of their spellings, with where each stands in it, who sent it and to whom.
+-- Frames, docs/FORMATS.md, and The book and the threads, rules 1 to 4, of docs/PROTOCOL.md.
 use Rattle.std.specs.Prelude.{◌≡◌, ℕ, zero, suc, ◌+◌, ◌*◌, ◌≤◌, List, [], ◌∷◌, ◌++◌, length, if◌then◌else◌, Option, Some, None, slice_get}
 use Rattle.std.specs.List.{AllByRecursion}
 use Rattle.ring_base.specs.Processors.{has}

@@ -16,7 +16,7 @@ ghost use Rattle.ring_history.specs.declared.told.Told.TheVariants.{Refused as T
 ghost use Rattle.ring_history.specs.Histories.{IsLinearization};
 ghost use Rattle.ring_history.specs.Limits.{EventFits};
 ghost use Rattle.ring_history.specs.Worlds.{carried, happens, stepped, frame_at, order};
-ghost use Rattle.ring_world.specs.Played.{Played, played_opening, world_of, steps_node, Goes, Plays};
+ghost use Rattle.ring_world.specs.Played.{Played, played_opening, world_of, step_in, Goes, Plays};
 ghost use Rattle.ring_world.specs.Stored.{HasRoom};
 ghost use Rattle.ring_world.specs.Spares.{Spares as ToldSpares};
 ghost use Rattle.ring_world.specs.Synchronous.{IsSynchronous};
@@ -268,7 +268,7 @@ impl<O: Object> World<O> {
     ) -> Result<(), Fault>
         requires fits { InputFits input }
         requires same { happens O.sequential (world_of O.sequential self.old) event.now ≡ stepped O.sequential (world_of O.sequential self.old) node input }
-        requires steps { steps_node event.now ≡ Some node }
+        requires steps { step_in (world_of O.sequential self.old) event.now ≡ Some node }
         ensures ok { OnOk result (Goes O.sequential event.now self.old self.new) }
         ensures err { OnErr result (self.new ≡ self.old) }
         ensures done { self.new.done ≡ self.old.done }
@@ -305,11 +305,13 @@ impl<O: Object> World<O> {
                 );
                 self.events.push_reserved(kept);
             }
-            Err(Fault::Stopped) => self.events.push_reserved(kept),
-            Err(_) => {
-                let_go(kept);
-                self.events.push_reserved(Event::Stop(node));
-            }
+            Err(fault) => match fault {
+                Fault::Stopped => self.events.push_reserved(kept),
+                _ => {
+                    let_go(kept);
+                    self.events.push_reserved(Event::Stop(node));
+                }
+            },
         }
         Ok(())
     }

@@ -19,6 +19,7 @@ loop-out-preserved g c =
 pub returns-clause-outs : goal.returns-clause-outs
 returns-clause-outs g c =
     let begun = c.into_iter-out-iterator.ensures.into_iter_gives in
-    let ended = YieldsList-end (YieldsList-from_vec c.args.given.items begun.0 (begun.1 ∙ c.args.given.ok.0)) c.loop-out.yielded c.loop-out.out-iterator c.loop-out.yielded_by c.next.result c.next.new.self c.in-None.is c.next.ensures.steps in
+    let ended = YieldsList-end (YieldsList-from_vec c.args.given.items begun.0 (begun.1 ∙ c.args.given.ok.0)) c.loop-out.yielded c.loop-out.out-iterator
+    c.loop-out.yielded_by c.next.result c.next.new.self c.in-None.is c.next.ensures.steps in
     let all : c.loop-out.yielded ≡ c.args.given.items = sym (map-id c.loop-out.yielded) ∙ ended.0 in
     c.loop-out.invariant.0 ∙ ap (λ xs. c.args.outs.now.items ++ map (λ (o : Out g.row.A.Denot). (c.args.node, o)) xs) all

@@ -6,4 +6,5 @@ use Rattle.ring_runs.proofs.cores.sent_first.Goals as goal
 
 pub returns-in-Some : goal.returns-in-Some
 returns-in-Some g c =
-    c.sent_by.ensures ∙ ap (filter_map (carried_by {A = g.row.A.Denot} 1)) (sym (last_alone c.args.outs.items c.pop.new.self.items c.in-Some.out c.in-Some.ensures.items c.requires))
+    c.sent_by.ensures ∙ ap (filter_map (carried_by {A = g.row.A.Denot} 1))
+    (sym (last_alone c.args.outs.items c.pop.new.self.items c.in-Some.out c.in-Some.ensures.items c.requires))

@@ -16,15 +16,18 @@ pub acted-requires : goal.acted-requires
 acted-requires g c =
     let es = c.args.events.now in
     let e = c.event-item.result in
-    each-get EventFits es c.loop-event.event-index e c.requires.fit (slice_get_read es (length es) c.loop-event.event-index e refl c.loop-event-test.true c.event-item.is)
+    each-get EventFits es c.loop-event.event-index e c.requires.fit
+    (slice_get_read es (length es) c.loop-event.event-index e refl c.loop-event-test.true c.event-item.is)
 
 pub loop-event-preserved : goal.loop-event-preserved
 loop-event-preserved g c =
     let es = c.args.events.now in
     let e = c.event-item.result in
     let i = c.loop-event.event-index in
-    let at = slice_get_read es (length es) i e refl c.loop-event-test.true c.event-item.is in
-    (acted_more acts_on_formed c.args.cores c.loop-event.world c.in_ok-world.world es i e c.loop-event.invariant.0 at c.in_ok-world.ensures.ok, ap (λ n. n + 1) c.loop-event.invariant.1)
+    let at = slice_get_read es (length es) i e refl c.loop-event-test.true c.event-item.is in (
+      acted_more acts_on_formed c.args.cores c.loop-event.world c.in_ok-world.world es i e c.loop-event.invariant.0 at c.in_ok-world.ensures.ok,
+      ap (λ n. n + 1) c.loop-event.invariant.1,
+    )
 
 pub returns-clause-outs : goal.returns-clause-outs
 returns-clause-outs g c =
@@ -32,4 +35,5 @@ returns-clause-outs g c =
     (acted_whole acts_on_formed c.args.cores c.loop-event.world c.args.events.now c.loop-event.event-index c.loop-event.invariant.0 c.loop-event-test.false)
 
 pub returns-in_err-world-clause-some : goal.returns-in_err-world-clause-some
-returns-in_err-world-clause-some g c = on_err c.from_residual.result (c.loop-event.done < length c.args.events.now) (omega (arith, c.loop-event.invariant.1, c.loop-event-test.true))
+returns-in_err-world-clause-some g c =
+    on_err c.from_residual.result (c.loop-event.done < length c.args.events.now) (omega (arith, c.loop-event.invariant.1, c.loop-event-test.true))

@@ -6,8 +6,12 @@ use Rattle.ring_runs.proofs.sent.given_frame.Goals as goal
 pub returns-in-Some : goal.returns-in-Some
 returns-in-Some g c =
     c.standing_frame.ensures
-    ∙ given_at c.args.node c.args.outs.now c.args.index c.in-Some.place.now (ap (λ ps. slice_get ps c.args.index) (sym c.requires) ∙ sym (item_copied c.args.places.now c.args.index (Some c.in-Some.place) c.in-Some.ensures.lookup))
+    ∙ given_at c.args.node c.args.outs.now c.args.index c.in-Some.place.now
+    (ap (λ ps. slice_get ps c.args.index) (sym c.requires)
+    ∙ sym (item_copied c.args.places.now c.args.index (Some c.in-Some.place) c.in-Some.ensures.lookup))
 
 pub returns-in-None : goal.returns-in-None
 returns-in-None g c =
-    sym (ap (frame_for c.args.node) (missing_from 0 c.args.outs.now c.args.index (ap (λ ps. slice_get ps c.args.index) (sym c.requires) ∙ sym (item_copied c.args.places.now c.args.index None c.in-None.ensures.lookup))))
+    sym (ap (frame_for c.args.node)
+    (missing_from 0 c.args.outs.now c.args.index
+    (ap (λ ps. slice_get ps c.args.index) (sym c.requires) ∙ sym (item_copied c.args.places.now c.args.index None c.in-None.ensures.lookup))))

@@ -7,7 +7,9 @@ pub returns-then-number-lt1 : goal.returns-then-number-lt1
 returns-then-number-lt1 g c = sym (none_at c.args.node (opening_frames (Some c.args.first.now) ++ frames_of c.args.outs.now) c.args.number c.if-number-lt1.true)
 
 pub returns-then-number-lt2 : goal.returns-then-number-lt2
-returns-then-number-lt2 g c = c.to_node.ensures ∙ first_at c.args.node c.args.first.now (frames_of c.args.outs.now) c.args.number c.if-number-lt1.false c.if-number-lt2.true
+returns-then-number-lt2 g c =
+    c.to_node.ensures ∙ first_at c.args.node c.args.first.now (frames_of c.args.outs.now) c.args.number c.if-number-lt1.false c.if-number-lt2.true
 
 pub returns : goal.returns
-returns g c = c.given_frame.ensures ∙ ap (frame_for c.args.node) (sym (later_at c.args.first.now (frames_of c.args.outs.now) c.args.number c.if-number-lt2.false))
+returns g c =
+    c.given_frame.ensures ∙ ap (frame_for c.args.node) (sym (later_at c.args.first.now (frames_of c.args.outs.now) c.args.number c.if-number-lt2.false))

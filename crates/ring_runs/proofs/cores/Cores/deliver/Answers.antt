@@ -11,16 +11,19 @@ use Rattle.ring_runs.proofs.cores.Cores.deliver.Goals as goal
 pub idle-requires : goal.idle-requires
 idle-requires g c =
     let w = world_of c.args.self in
-    ap (happens w) c.requires ∙ handed_is w c.args.node (frame_at w.frames c.args.number) ∙ ap (hands w c.args.node) (sym c.frame_to.ensures ∙ ap option_copied c.in-None.is)
+    ap (happens w) c.requires ∙ handed_is w c.args.node (frame_at w.frames c.args.number)
+    ∙ ap (hands w c.args.node) (sym c.frame_to.ensures ∙ ap option_copied c.in-None.is)
 
 pub step-requires-clause-fits : goal.step-requires-clause-fits
 step-requires-clause-fits g c =
     let w = world_of c.args.self in
     let fits = subst (λ (r : Ran g.row.A.Denot). WorldFits (world_of r)) c.self.view_is c.self.invariant.fits in
-    subst FrameFits (sym c.in_ok-frame-in-Some.ensures.ok) (frame_fits w c.args.node c.args.number c.in-Some.frame.now fits (sym c.frame_to.ensures ∙ ap option_copied c.in-Some.is))
+    subst FrameFits (sym c.in_ok-frame-in-Some.ensures.ok)
+    (frame_fits w c.args.node c.args.number c.in-Some.frame.now fits (sym c.frame_to.ensures ∙ ap option_copied c.in-Some.is))
 
 pub step-requires-clause-same : goal.step-requires-clause-same
 step-requires-clause-same g c =
     let w = world_of c.args.self in
-    ap (happens w) c.requires ∙ handed_is w c.args.node (frame_at w.frames c.args.number) ∙ ap (hands w c.args.node) (sym c.frame_to.ensures ∙ ap option_copied c.in-Some.is)
+    ap (happens w) c.requires ∙ handed_is w c.args.node (frame_at w.frames c.args.number)
+    ∙ ap (hands w c.args.node) (sym c.frame_to.ensures ∙ ap option_copied c.in-Some.is)
     ∙ ap (λ frame. stepped w c.args.node (FrameInput frame)) (sym c.in_ok-frame-in-Some.ensures.ok)

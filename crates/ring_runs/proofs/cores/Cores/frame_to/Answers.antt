@@ -15,7 +15,8 @@ returns-in-Some g c =
     let k = c.self.inside in
     let i = c.args.node in
     let n = c.args.number in
-    let frames = ap (λ os. opening_frames (Some c.in-Some.first) ++ frames_of os) c.as_slice-outs.ensures.value ∙ ap (λ f. opening_frames f ++ frames_of k.outs.items) (sym c.in-Some.is)
+    let frames = ap (λ os. opening_frames (Some c.in-Some.first) ++ frames_of os) c.as_slice-outs.ensures.value
+    ∙ ap (λ f. opening_frames f ++ frames_of k.outs.items) (sym c.in-Some.is)
     ∙ sym c.self.invariant.frames_are ∙ ap (λ (r : Ran g.row.A.Denot). (world_of r).frames) c.self.view_is in
     c.later_frame.ensures ∙ ap (λ fs. frame_for i (frame_at fs n)) frames
 

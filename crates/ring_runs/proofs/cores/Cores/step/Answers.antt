@@ -8,7 +8,8 @@ use Rattle.ring_runs.proofs.cores.Cores.step.Goals as goal
 
 pub idle-requires : goal.idle-requires
 idle-requires g c =
-    let t : length c.self.inside.cores.items ≡ (world_of c.args.self).total = c.self.invariant.many ∙ ap (λ (r : Ran g.row.A.Denot). (world_of r).total) c.self.view_is in
+    let t : length c.self.inside.cores.items ≡ (world_of c.args.self).total = c.self.invariant.many
+    ∙ ap (λ (r : Ran g.row.A.Denot). (world_of r).total) c.self.view_is in
     let k = c.self.inside.cores.ok.0 in
     c.requires.same ∙ stepped_not (world_of c.args.self) c.args.node c.args.input
     (omega (arith, c.number.ensures.value, c.number.ensures.in_range.0))
@@ -29,7 +30,8 @@ invariant_of-self g c =
     let inside : i - 1 < length k.cores.items = omega (arith, n, same, c.len.ensures, c.if-place-len.false) in
     let w = subst (λ (r : Ran g.row.A.Denot). happens (world_of r) e ≡ stepped (world_of r) i c.args.input) (sym c.self.view_is) c.requires.same in
     stepped_tells k.past.value c.more.result.value e k.cores.items k.first k.outs.items k.places.items c.self.invariant c.more.ensures i m same low inside
-    c.index_mut.result.now c.index_mut.ensures.value c.args.input c.step.new.self c.in-Ok.outs.items c.note.new.outs.items c.note.new.places.items w c.requires.fits
+    c.index_mut.result.now c.index_mut.ensures.value c.args.input c.step.new.self c.in-Ok.outs.items c.note.new.outs.items c.note.new.places.items w
+    c.requires.fits
     c.in-Ok.ensures.ok c.in-Ok.ensures.outs c.in_ok-note-in-Ok.ensures.outs c.in_ok-note-in-Ok.ensures.places
 
 pub invariant_of-self-in-Err-Stopped : goal.invariant_of-self-in-Err-Stopped
@@ -44,5 +46,6 @@ invariant_of-self-in-Err-Stopped g c =
     let inside : i - 1 < length k.cores.items = omega (arith, n, same, c.len.ensures, c.if-place-len.false) in
     let w = subst (λ (r : Ran g.row.A.Denot). happens (world_of r) e ≡ stepped (world_of r) i c.args.input) (sym c.self.view_is) c.requires.same in
     let t = was_stopped (is_stopped c.index_mut.result.now.state) c.in-Err-Stopped.field-0 c.in-Err-Stopped.ensures.refused c.in-Err-Stopped.field-0-is in
-    stopped_tells k.past.value c.more-in-Err-Stopped.result.value e k.cores.items k.first k.outs.items k.places.items c.self.invariant c.more-in-Err-Stopped.ensures i m same low inside
+    stopped_tells k.past.value c.more-in-Err-Stopped.result.value e k.cores.items k.first k.outs.items k.places.items c.self.invariant
+    c.more-in-Err-Stopped.ensures i m same low inside
     c.index_mut.result.now c.index_mut.ensures.value c.args.input c.step.new.self w c.requires.fits c.in-Err-Stopped.ensures.err t

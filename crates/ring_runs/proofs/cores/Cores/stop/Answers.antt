@@ -23,5 +23,6 @@ invariant_of-self g c =
     let low : 1 ≤ i = omega (arith, c.number.ensures.value, c.number.ensures.in_range.0) in
     let n = k.cores.ok.0 in
     let inside : i - 1 < length k.cores.items = omega (arith, n, same, c.len.ensures, c.if-place-len.false) in
-    halted_tells k.past.value c.more.result.value c.args.event.now k.cores.items k.first k.outs.items k.places.items c.self.invariant c.more.ensures i m same low inside
+    halted_tells k.past.value c.more.result.value c.args.event.now k.cores.items k.first k.outs.items k.places.items c.self.invariant c.more.ensures i m same
+    low inside
     c.index_mut.result.now c.index_mut.ensures.value c.stop.new.self (ap (happens (world_of k.past.value)) c.requires) c.stop.ensures

@@ -31,4 +31,5 @@ returns-in-Some-clause-outs g c =
     let is = sym c.take.ensures.value ∙ c.in-Some.is in
     let fresh = subst (λ (o : Option (Ran g.row.A.Denot)). IsPrepared (none_ran_formed c.self.inside.fixed.count) o) is c.self.invariant in
     let counted : c.in-Some.cores ≡ none_ran_formed c.args.self.now.count = fresh ∙ ap (λ (p : Prepared). none_ran_formed p.count) c.self.view_is in
-    subst (λ (r : Ran g.row.A.Denot). IfOk c.run_acting.result (λ outs. outs.items ≡ (world_of (all_ran r (filter acts_on_formed c.args.events.now))).outs)) counted c.run_acting.ensures.outs
+    subst (λ (r : Ran g.row.A.Denot). IfOk c.run_acting.result (λ outs. outs.items ≡ (world_of (all_ran r (filter acts_on_formed c.args.events.now))).outs))
+    counted c.run_acting.ensures.outs

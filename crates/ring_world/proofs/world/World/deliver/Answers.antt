@@ -1,11 +1,11 @@
 -- What is handed over is the frame that was sent to the node, which keeps its limits.
-use Rattle.std.proofs.Common.{◌≡◌, ap, ◌∙◌, sym, subst}
+use Rattle.std.proofs.Common.{◌≡◌, Some, ap, ◌∙◌, sym, subst}
 use Rattle.ring_history.specs.Limits.{EventFits}
 use Rattle.ring_machine.specs.declared.input.Input.TheVariants.{Frame as FrameInput}
 use Rattle.ring_history.specs.Worlds.{happens, stepped, frame_at}
-use Rattle.ring_world.specs.Played.{Played, world_of, steps_node}
+use Rattle.ring_world.specs.Played.{Played, world_of, step_in}
 use Rattle.ring_world.specs.Stored.{frame_for}
-use Rattle.ring_world.proofs.Handing.{hands, handed_is, frame_fits}
+use Rattle.ring_world.proofs.Handing.{hands, handed_is, frame_fits, sent_it}
 use Rattle.ring_world.proofs.world.World.deliver.Goals as goal
 
 pub step-requires-clause-fits : goal.step-requires-clause-fits
@@ -28,7 +28,14 @@ step-requires-clause-same g c =
     ∙ ap (hands object w c.args.node) (ap (λ fs. frame_for c.args.node (frame_at fs c.args.number)) (sym c.self.invariant.kept.frames_are) ∙ sym c.in_ok-sent.ensures.ok ∙ c.in-Some.is))
 
 pub step-requires-clause-steps : goal.step-requires-clause-steps
-step-requires-clause-steps g c = ap steps_node c.requires
+step-requires-clause-steps g c =
+    let k = c.self.inside in
+    let object = g.O.Object.sequential in
+    let p : Played g.row.O-Alloc.Denot = record { group = k.fixed; events = k.events.items; told = k.told.items; done = k.done } in
+    let w = world_of object p in
+    subst (λ (r : Played g.row.O-Alloc.Denot). step_in (world_of object r) c.args.event.now ≡ Some c.args.node) c.self.view_is
+    (ap (step_in w) c.requires ∙ sent_it c.args.node (frame_at w.frames c.args.number) c.in-Some.frame
+    (ap (λ fs. frame_for c.args.node (frame_at fs c.args.number)) (sym c.self.invariant.kept.frames_are) ∙ sym c.in_ok-sent.ensures.ok ∙ c.in-Some.is))
 
 pub idle-requires-clause-fits : goal.idle-requires-clause-fits
 idle-requires-clause-fits g c = subst EventFits (sym c.requires) tt

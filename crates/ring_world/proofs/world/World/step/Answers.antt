@@ -1,5 +1,5 @@
 -- A step of a node is a step of the world, and its answers have their copies; where memory was refused, it stands as a stop.
-use Rattle.std.proofs.Common.{◌≡◌, ◌-◌, ◌<◌, ◌≤◌, [], ◌∷◌, ◌++◌, length, refl, ap, ◌∙◌, sym, subst, arith}
+use Rattle.std.proofs.Common.{◌≡◌, ◌-◌, ◌<◌, ◌≤◌, [], ◌∷◌, ◌++◌, length, Some, refl, ap, ◌∙◌, sym, subst, arith}
 use Rattle.std.specs.Prelude.{slice_set}
 use Rattle.std.specs.List.{AllByRecursion}
 use Rattle.ring_wire.specs.Frames.{FrameFits}
@@ -8,11 +8,11 @@ use Rattle.ring_machine.specs.Nodes.{Node, node_stopped, is_stopped}
 use Rattle.ring_machine.specs.Stepping.{node_step}
 use Rattle.ring_history.specs.declared.event.Event.TheVariants.{Stop}
 use Rattle.ring_history.specs.Worlds.{happens, stepped, stepped_if, carried, items_of, told_by}
-use Rattle.ring_world.specs.Played.{Played, world_of, Goes}
+use Rattle.ring_world.specs.Played.{Played, world_of, step_in, Goes}
 use Rattle.ring_world.specs.Spares.{AllLeft, after_answers}
 use Rattle.ring_world.specs.Keeping.{IsWorld}
 use Rattle.ring_world.proofs.Ties.{steps_fits, unknown, node_is, copies_are, spare_there, high, answers_left, step_world, step_goes, silent_world, silent_goes, stop_world, refused_goes}
-use Rattle.ring_world.proofs.Refusals.{was_stopped, room_less}
+use Rattle.ring_world.proofs.Refusals.{was_stopped, was_running, room_less}
 use Rattle.ring_world.proofs.world.World.step.Goals as goal
 
 pub idle-requires-clause-same : goal.idle-requires-clause-same
@@ -141,7 +141,7 @@ invariant_of-self-in-Ok g c =
     subst (λ es. IsWorld object k.fixed es (slice_set k.nodes.items m c.step.new.self) (slice_set k.spares.items m c.tell.new.spares) c.keep_all.new.frames.frames c.tell.new.history.items)
     (sym (c.push_reserved.ensures.items ∙ ap (λ es. es ++ c.in_ok-kept.kept ∷ []) c.in_ok-make_room.ensures.events))
     (step_world object p k.nodes.items k.spares.items k.frames.frames k.history.items inv i m low at inside c.args.event.now c.in_ok-kept.kept c.args.input c.in_ok-kept.ensures.ok
-    (steps_fits c.args.event.now i c.requires.steps) same c.step.new.self s c.tell.new.spares (slice_set k.nodes.items m c.step.new.self) (slice_set k.spares.items m c.tell.new.spares) c.keep_all.new.frames.frames
+    (steps_fits (world_of object c.args.self.now) c.args.event.now i c.requires.steps) same c.step.new.self s c.tell.new.spares (slice_set k.nodes.items m c.step.new.self) (slice_set k.spares.items m c.tell.new.spares) c.keep_all.new.frames.frames
     c.tell.new.history.items keeps (c.in-Ok.ensures.ok ∙ ap (λ (x : Node g.row.O-Alloc.Denot). (node_step object x c.args.input).node) node) refl refl
     (c.tell.ensures.spares ∙ ap (after_answers s.calls) answers) (c.keep_all.ensures ∙ ap (λ fs. fs ++ carried i c.deref.result.now) c.in_ok-make_room.ensures.frames ∙ ap (λ xs. k.frames.frames ++ carried i xs) sends)
     (c.tell.ensures.history ∙ ap (λ is. is ++ items_of c.in-Ok.outs.answers.items) c.in_ok-make_room.ensures.history ∙ ap (λ xs. k.history.items ++ items_of xs) answers))
@@ -170,8 +170,8 @@ returns-in-Ok-clause-ok g c =
 pub returns-in-Ok-clause-done : goal.returns-in-Ok-clause-done
 returns-in-Ok-clause-done g c = ap (λ (r : Played g.row.O-Alloc.Denot). r.done) c.self.view_is
 
-pub invariant_of-self-in-Err-Stopped : goal.invariant_of-self-in-Err-Stopped
-invariant_of-self-in-Err-Stopped g c =
+pub invariant_of-self-in-Stopped : goal.invariant_of-self-in-Stopped
+invariant_of-self-in-Stopped g c =
     let k = c.self.inside in
     let object = g.O.Object.sequential in
     let p : Played g.row.O-Alloc.Denot = record { group = k.fixed; events = k.events.items; told = k.told.items; done = k.done } in
@@ -184,20 +184,20 @@ invariant_of-self-in-Err-Stopped g c =
     let inv = c.self.invariant in
     let node = node_is object p k.nodes.items k.spares.items k.frames.frames k.history.items inv i m low at inside c.index_mut.result.now c.index_mut.ensures.value in
     let same = subst (λ (q : Played g.row.O-Alloc.Denot). happens object (world_of object q) c.args.event.now ≡ stepped object (world_of object q) i c.args.input) (sym c.self.view_is) c.requires.same in
-    let stopped = was_stopped (is_stopped c.index_mut.result.now.core.state) c.in-Err-Stopped.field-0 c.in-Err-Stopped.ensures.refused c.in-Err-Stopped.field-0-is in
+    let stopped = was_stopped (is_stopped c.index_mut.result.now.core.state) c.in-Err.fault c.in-Err.ensures.refused c.in-Stopped.is in
     subst (λ es. IsWorld object k.fixed es (slice_set k.nodes.items m c.step.new.self) k.spares.items c.make_room.new.frames.frames c.make_room.new.history.items)
-    (sym (c.push_reserved-in-Err-Stopped.ensures.items ∙ ap (λ es. es ++ c.in_ok-kept.kept ∷ []) c.in_ok-make_room.ensures.events))
+    (sym (c.push_reserved-in-Stopped.ensures.items ∙ ap (λ es. es ++ c.in_ok-kept.kept ∷ []) c.in_ok-make_room.ensures.events))
     (rw (c.in_ok-make_room.ensures.frames, c.in_ok-make_room.ensures.history)
     (silent_world object p k.nodes.items k.spares.items k.frames.frames k.history.items inv i m low at inside c.args.event.now c.in_ok-kept.kept c.args.input c.in_ok-kept.ensures.ok
-    (steps_fits c.args.event.now i c.requires.steps) same c.step.new.self (slice_set k.nodes.items m c.step.new.self)
-    (ap (λ (x : Node g.row.O-Alloc.Denot). is_stopped x.core.state) (sym node) ∙ stopped) (c.in-Err-Stopped.ensures.err ∙ ap node_stopped node) refl))
+    (steps_fits (world_of object c.args.self.now) c.args.event.now i c.requires.steps) same c.step.new.self (slice_set k.nodes.items m c.step.new.self)
+    (ap (λ (x : Node g.row.O-Alloc.Denot). is_stopped x.core.state) (sym node) ∙ stopped) (c.in-Err.ensures.err ∙ ap node_stopped node) refl))
 
-pub returns-in-Err-Stopped-clause-ok : goal.returns-in-Err-Stopped-clause-ok
-returns-in-Err-Stopped-clause-ok g c =
+pub returns-in-Stopped-clause-ok : goal.returns-in-Stopped-clause-ok
+returns-in-Stopped-clause-ok g c =
     let k = c.self.inside in
     let object = g.O.Object.sequential in
     let p : Played g.row.O-Alloc.Denot = record { group = k.fixed; events = k.events.items; told = k.told.items; done = k.done } in
-    let q : Played g.row.O-Alloc.Denot = record { group = k.fixed; events = c.push_reserved-in-Err-Stopped.new.self.items; told = c.make_room.new.told.items; done = k.done } in
+    let q : Played g.row.O-Alloc.Denot = record { group = k.fixed; events = c.push_reserved-in-Stopped.new.self.items; told = c.make_room.new.told.items; done = k.done } in
     let i = c.args.node in
     let m = c.from-place.result - 1 in
     let low : 1 ≤ i = omega (arith, c.number.ensures.value, c.number.ensures.in_range.0) in
@@ -207,14 +207,14 @@ returns-in-Err-Stopped-clause-ok g c =
     let inv = c.self.invariant in
     let node = node_is object p k.nodes.items k.spares.items k.frames.frames k.history.items inv i m low at inside c.index_mut.result.now c.index_mut.ensures.value in
     let same = subst (λ (r : Played g.row.O-Alloc.Denot). happens object (world_of object r) c.args.event.now ≡ stepped object (world_of object r) i c.args.input) (sym c.self.view_is) c.requires.same in
-    let stopped = was_stopped (is_stopped c.index_mut.result.now.core.state) c.in-Err-Stopped.field-0 c.in-Err-Stopped.ensures.refused c.in-Err-Stopped.field-0-is in
+    let stopped = was_stopped (is_stopped c.index_mut.result.now.core.state) c.in-Err.fault c.in-Err.ensures.refused c.in-Stopped.is in
     subst (λ (r : Played g.row.O-Alloc.Denot). Goes object c.args.event.now r q) c.self.view_is
     (silent_goes object p k.nodes.items k.spares.items k.frames.frames k.history.items inv i m low at inside q c.args.event.now c.in_ok-kept.kept c.args.input c.in_ok-kept.ensures.ok same
     (ap (λ (x : Node g.row.O-Alloc.Denot). is_stopped x.core.state) (sym node) ∙ stopped) refl
-    (c.push_reserved-in-Err-Stopped.ensures.items ∙ ap (λ es. es ++ c.in_ok-kept.kept ∷ []) c.in_ok-make_room.ensures.events) c.in_ok-make_room.ensures.told)
+    (c.push_reserved-in-Stopped.ensures.items ∙ ap (λ es. es ++ c.in_ok-kept.kept ∷ []) c.in_ok-make_room.ensures.events) c.in_ok-make_room.ensures.told)
 
-pub invariant_of-self-in-Err : goal.invariant_of-self-in-Err
-invariant_of-self-in-Err g c =
+pub invariant_of-self-in_default : goal.invariant_of-self-in_default
+invariant_of-self-in_default g c =
     let k = c.self.inside in
     let object = g.O.Object.sequential in
     let p : Played g.row.O-Alloc.Denot = record { group = k.fixed; events = k.events.items; told = k.told.items; done = k.done } in
@@ -227,27 +227,30 @@ invariant_of-self-in-Err g c =
     let inv = c.self.invariant in
     let node = node_is object p k.nodes.items k.spares.items k.frames.frames k.history.items inv i m low at inside c.index_mut.result.now c.index_mut.ensures.value in
     subst (λ es. IsWorld object k.fixed es (slice_set k.nodes.items m c.step.new.self) k.spares.items c.make_room.new.frames.frames c.make_room.new.history.items)
-    (sym (c.push_reserved-in-Err.ensures.items ∙ ap (λ es. es ++ Stop i ∷ []) c.in_ok-make_room.ensures.events))
+    (sym (c.push_reserved-in_default.ensures.items ∙ ap (λ es. es ++ Stop i ∷ []) c.in_ok-make_room.ensures.events))
     (rw (c.in_ok-make_room.ensures.frames, c.in_ok-make_room.ensures.history)
     (stop_world object p k.nodes.items k.spares.items k.frames.frames k.history.items inv i m low at inside c.step.new.self (slice_set k.nodes.items m c.step.new.self)
     (c.in-Err.ensures.err ∙ ap node_stopped node) refl))
 
-pub returns-in-Err : goal.returns-in-Err
-returns-in-Err g c =
+pub returns-in_default : goal.returns-in_default
+returns-in_default g c =
     let k = c.self.inside in
     let object = g.O.Object.sequential in
     let p : Played g.row.O-Alloc.Denot = record { group = k.fixed; events = k.events.items; told = k.told.items; done = k.done } in
-    let q : Played g.row.O-Alloc.Denot = record { group = k.fixed; events = c.push_reserved-in-Err.new.self.items; told = c.make_room.new.told.items; done = k.done } in
+    let q : Played g.row.O-Alloc.Denot = record { group = k.fixed; events = c.push_reserved-in_default.new.self.items; told = c.make_room.new.told.items; done = k.done } in
     let i = c.args.node in
     let m = c.from-place.result - 1 in
     let low : 1 ≤ i = omega (arith, c.number.ensures.value, c.number.ensures.in_range.0) in
     let at : m ≡ i - 1 = ap (λ x. x - 1) (c.from-place.ensures ∙ c.number.ensures.value) in
     let n = k.nodes.ok.0 in
     let inside : m < length k.nodes.items = omega (arith, n, c.len.ensures, c.if-place-len.false) in
+    let node = node_is object p k.nodes.items k.spares.items k.frames.frames k.history.items c.self.invariant i m low at inside c.index_mut.result.now c.index_mut.ensures.value in
+    let steps = subst (λ (r : Played g.row.O-Alloc.Denot). step_in (world_of object r) c.args.event.now ≡ Some i) (sym c.self.view_is) c.requires.steps in
+    let runs = ap (λ (x : Node g.row.O-Alloc.Denot). is_stopped x.core.state) (sym node) ∙ was_running (is_stopped c.index_mut.result.now.core.state) c.in-Err.fault c.in-Err.ensures.refused c.in_default.not-Stopped in
     record {
       ok = subst (λ (r : Played g.row.O-Alloc.Denot). Goes object c.args.event.now r q) c.self.view_is
-          (refused_goes object p k.nodes.items k.spares.items k.frames.frames k.history.items c.self.invariant i m low at inside q c.args.event.now c.requires.steps refl
-          (c.push_reserved-in-Err.ensures.items ∙ ap (λ es. es ++ Stop i ∷ []) c.in_ok-make_room.ensures.events) c.in_ok-make_room.ensures.told);
+          (refused_goes object p k.nodes.items k.spares.items k.frames.frames k.history.items c.self.invariant i m low at inside q c.args.event.now steps runs refl
+          (c.push_reserved-in_default.ensures.items ∙ ap (λ es. es ++ Stop i ∷ []) c.in_ok-make_room.ensures.events) c.in_ok-make_room.ensures.told);
       err = tt;
       done = ap (λ (r : Played g.row.O-Alloc.Denot). r.done) c.self.view_is;
       refused = tt;
