@@ -3,7 +3,8 @@ use Rattle.std.proofs.Common.{◌≡◌, ℕ, ◌<◌, ◌∷◌, length, arith,
 use Rattle.ring_base.specs.Processors.{IsProc, IsMember, only, less, elements, size, smallest}
 use Rattle.ring_base.specs.Elements.{elements-first, position_of-inside}
 
-pub elements-taken : (set first one rest : ℕ) → first ≡ smallest set → IsProc first × IsMember set first → one ≡ only first → rest ≡ less set one → elements set ≡ first ∷ elements rest
+pub elements-taken : (set first one rest : ℕ) → first ≡ smallest set → IsProc first × IsMember set first
+    → one ≡ only first → rest ≡ less set one → elements set ≡ first ∷ elements rest
 elements-taken set first one rest least m alone left =
     let some : 0 < size set = omega (arith, position_of-inside set first m.0 m.1) in
     rw (left, alone, least) (elements-first set some)

@@ -24,7 +24,13 @@ rest_reached m a p l =
     let r : a % m < m = mod-lt a (omega arith) in
     let x : m * (a / m) + a % m ≡ a = div-add-mod a m in
     elim (cases_lt p (a % m)) [
-      | inl k ↦ (let e : a + (m + p - a % m) ≡ m * suc (a / m) + p = (let z : m * suc (a / m) ≡ m * (a / m) + m = mul-suc m (a / m) in omega arith) in (m + p - a % m, omega arith, rw (e, mul-add-mod_self_left) (mod-eq_of_lt l)))
+      | inl k ↦ (let e : a + (m + p - a % m) ≡ m * suc (a / m) + p = (let z : m * suc (a / m) ≡ m * (a / m)
+          + m = mul-suc m (a / m) in omega arith) in (
+            m + p - a % m,
+            omega arith,
+            rw (e, mul-add-mod_self_left)
+                (mod-eq_of_lt l),
+          ))
       | inr k ↦ (let e : a + (p - a % m) ≡ m * (a / m) + p = omega arith in (p - a % m, omega arith, rw (e, mul-add-mod_self_left) (mod-eq_of_lt l)))
     ]
 

@@ -1,5 +1,6 @@
 -- What the code computes on votes: votes of one each, and the votes of members and of others, place by place.
-use Rattle.std.proofs.Common.{◌≡◌, ℕ, zero, suc, ◌+◌, ◌-◌, ◌≤◌, Bool, true, false, not, List, [], ◌∷◌, ◌++◌, length, take, replicate, Ok, Err, Result, slice_index, arith, inl, inr, refl, ap, sym, ◌∙◌, subst}
+use Rattle.std.proofs.Common.{◌≡◌, ℕ, zero, suc, ◌+◌, ◌-◌, ◌≤◌, Bool, true, false, not, List, [], ◌∷◌, ◌++◌, length}
+use Rattle.std.proofs.Common.{take, replicate, Ok, Err, Result, slice_index, arith, inl, inr, refl, ap, sym, ◌∙◌, subst}
 use Rattle.std.specs.Prelude.{◌↔◌, OkIff, nat_lt, ◌*◌}
 use Rattle.std.specs.Cmp.{both_ways}
 use Rattle.std.specs.List.{sum, sum_by}
@@ -17,7 +18,8 @@ suc_last : (n : ℕ) → suc n + 1 ≡ suc (n + 1)
 suc_last n = omega arith
 
 -- one number more in a row, at its end
-pub weight_last : (w : ℕ → ℕ) (p : ℕ → Bool) (first n : ℕ) → p (first + n) ≡ true → sum_by w (passing p first (n + 1)) ≡ sum_by w (passing p first n) + w (first + n)
+pub weight_last : (w : ℕ → ℕ) (p : ℕ → Bool) (first n : ℕ) → p (first + n) ≡ true → sum_by w (passing p first (n + 1))
+    ≡ sum_by w (passing p first n) + w (first + n)
 weight_last w p first zero pass =
     let e : first + 0 ≡ first = omega arith in
     omega (arith, weight_more w p first 0 (rw e at pass), ap w e)
@@ -45,7 +47,8 @@ weight_kept w p first (suc n) fail =
     ]
 
 -- those that pass and those that don't weigh what all do
-pub weight_parted : (w : ℕ → ℕ) (p : ℕ → Bool) (first n : ℕ) → sum_by w (passing p first n) + sum_by w (passing (λ j. not (p j)) first n) ≡ sum_by w (numbers_from first n)
+pub weight_parted : (w : ℕ → ℕ) (p : ℕ → Bool) (first n : ℕ) → sum_by w (passing p first n) + sum_by w
+    (passing (λ j. not (p j)) first n) ≡ sum_by w (numbers_from first n)
 weight_parted w p first zero = refl
 weight_parted w p first (suc n) =
     let all = sum_by-cons w first (numbers_from (suc first) n) in
@@ -62,7 +65,8 @@ AreVotes-ones n = (
   λ proc. record { processors = subst IsProc (sym (length-replicate n 1)) proc; each = All-replicate (λ (vote : ℕ). 1 ≤ vote) n 1 (omega arith) },
 )
 
-pub new_votes : {E : Type 0} (r : Result Group E) (n : ℕ) (votes : List ℕ) → votes ≡ replicate n 1 → OkIff r (AreVotes votes) (record { count = length votes; votes = votes })
+pub new_votes : {E : Type 0} (r : Result Group E) (n : ℕ) (votes : List ℕ) → votes ≡ replicate n 1
+    → OkIff r (AreVotes votes) (record { count = length votes; votes = votes })
     → OkIff r (IsProc n) (record { count = n; votes = replicate n 1 })
 new_votes (Ok group) n votes e h = ((AreVotes-ones n).0 (subst AreVotes e h.0), h.1 ∙ rw (e, length-replicate) refl)
 new_votes (Err fault) n votes e h = λ proc. h (subst AreVotes (sym e) ((AreVotes-ones n).1 proc))
@@ -79,24 +83,31 @@ zeros_behind (v ∷ votes) n zero = refl
 zeros_behind (v ∷ votes) n (suc k) = zeros_behind votes n k
 
 -- a processor's votes stand at its place
-pub votes_at : (count : ℕ) (places : List ℕ) (group : Group) (k : ℕ) → IsFilled count places → (record { count = count; votes = take count places }) ≡ group → votes_of group (1 + k) ≡ slice_index places k
+pub votes_at : (count : ℕ) (places : List ℕ) (group : Group) (k : ℕ) → IsFilled count places
+    → (record { count = count; votes = take count places }) ≡ group → votes_of group (1 + k) ≡ slice_index places k
 votes_at count places group k is view =
     let place : 1 + k - 1 ≡ k = omega arith in
-    ap (λ (g : Group). votes_of g (1 + k)) (sym view) ∙ rw place (sym (zeros_behind (take count places) (most_processors - length (take count places)) k) ∙ ap (λ (all : List ℕ). slice_index all k) is.zeros)
+    ap (λ (g : Group). votes_of g (1 + k)) (sym view)
+    ∙ rw place (sym (zeros_behind (take count places) (most_processors - length (take count places)) k)
+    ∙ ap (λ (all : List ℕ). slice_index all k) is.zeros)
 
 -- there are votes for each processor
-pub votes_few : (count : ℕ) (places : List ℕ) (group : Group) → IsFilled count places → (record { count = count; votes = take count places }) ≡ group → IsProc (length group.votes)
+pub votes_few : (count : ℕ) (places : List ℕ) (group : Group) → IsFilled count places
+    → (record { count = count; votes = take count places }) ≡ group → IsProc (length group.votes)
 votes_few count places group is view = subst (λ (g : Group). IsProc (length g.votes)) view (subst IsProc (sym is.whole) is.processors)
 
 -- all votes together are those of the members and those of the others
-pub votes_parted : (group : Group) (set : ℕ) → IsProc (length group.votes) → votes_in group set + sum_by (votes_of group) (passing (λ j. not (has set j)) 1 most_processors) ≡ sum group.votes
+pub votes_parted : (group : Group) (set : ℕ) → IsProc (length group.votes) → votes_in group set + sum_by
+    (votes_of group) (passing (λ j. not (has set j)) 1 most_processors) ≡ sum group.votes
 unfolding elements
 votes_parted group set proc =
     weight_parted (votes_of group) (has set) 1 most_processors ∙ (votes_front group most_processors ∙ ap sum (take_all most_processors group.votes proc.1))
 
 -- members have more votes than the others just where theirs, doubled, are more than all
-pub most_votes : (group : Group) (set members others : ℕ) → IsProc (length group.votes) → members ≡ sum_by (votes_of group) (passing (has set) 1 most_processors)
-    → others ≡ sum_by (votes_of group) (passing (λ j. not (has set j)) 1 most_processors) → nat_lt others members ≡ nat_lt (sum group.votes) (2 * votes_in group set)
+pub most_votes : (group : Group) (set members others : ℕ) → IsProc (length group.votes)
+    → members ≡ sum_by (votes_of group) (passing (has set) 1 most_processors)
+    → others ≡ sum_by (votes_of group) (passing (λ j. not (has set j)) 1 most_processors)
+    → nat_lt others members ≡ nat_lt (sum group.votes) (2 * votes_in group set)
 unfolding elements
 most_votes group set members others few m o =
     let all = votes_parted group set few in

@@ -128,11 +128,13 @@ pub position_of-common : (set i : ℕ) → 1 ≤ i → position_of set i ≡ siz
 unfolding elements
 position_of-common set i low =
     passing_before (has set) 1 most_processors i ∙
-    ap length (passing_same (λ j. has set j && nat_lt j i) (has (common set (everybody (i - 1)))) 1 most_processors (λ j from. both_ways (has set j && nat_lt j i) (has (common set (everybody (i - 1))) j)
+    ap length (passing_same (λ j. has set j && nat_lt j i) (has (common set (everybody (i - 1)))) 1 most_processors
+    (λ j from. both_ways (has set j && nat_lt j i) (has (common set (everybody (i - 1))) j)
     (λ h.
     let both = and_parts (has set j) (nat_lt j i) h in
     let below = ltb-true j i both.1 in
-    has_member (common set (everybody (i - 1))) j ((common_members set (everybody (i - 1)) j).1 (member_had set j from both.0, (everybody_members (i - 1) j).1 (from, omega (arith, below)))))
+    has_member (common set (everybody (i - 1))) j ((common_members set (everybody (i - 1)) j).1
+    (member_had set j from both.0, (everybody_members (i - 1) j).1 (from, omega (arith, below)))))
     (λ h.
     let both = (common_members set (everybody (i - 1)) j).0 (member_had (common set (everybody (i - 1))) j from h) in
     let below = (everybody_members (i - 1) j).0 both.1 in

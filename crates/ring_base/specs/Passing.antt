@@ -135,14 +135,19 @@ passing_before p first (suc n) i =
     ]
 
 -- the least that passes, and then those that also differ from it
-pub passing_first : (p q : ℕ → Bool) (first n i : ℕ) → Stands p first n i → ((j : ℕ) → first ≤ j → p j ≡ true → i ≤ j) → q i ≡ false → ((j : ℕ) → first ≤ j → j ≢ i → p j ≡ q j) → passing p first n ≡ i ∷ passing q first n
+pub passing_first : (p q : ℕ → Bool) (first n i : ℕ) → Stands p first n i → ((j : ℕ) → first ≤ j → p j ≡ true → i ≤ j)
+    → q i ≡ false → ((j : ℕ) → first ≤ j → j ≢ i → p j ≡ q j) → passing p first n ≡ i ∷ passing q first n
 passing_first p q first zero i s least not_i others = absurd (omega (arith, s.low, s.high))
 passing_first p q first (suc n) i s least not_i others =
     elim (cases_lt first i) [
       | inl before_i ↦
           let ne : first ≢ i = omega arith in
           let same = others first (omega arith) ne in
-          let rest = passing_first p q (suc first) n i (record { low = omega arith; high = omega (arith, s.high); passes = s.passes }) (λ j le. least j (omega arith)) not_i (λ j le. others j (omega arith)) in
+          let rest = passing_first p q (suc first) n i (record {
+            low = omega arith;
+            high = omega (arith, s.high);
+            passes = s.passes;
+          }) (λ j le. least j (omega arith)) not_i (λ j le. others j (omega arith)) in
           elim (cases_Bool (p first)) [
             | inl pass ↦ absurd (omega (arith, least first (omega arith) pass))
             | inr fail ↦ let fails : q first ≡ false = sym same ∙ fail in rw (fail, fails) rest

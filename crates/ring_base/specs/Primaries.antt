@@ -28,7 +28,8 @@ later : (p q : ℕ → Bool) (first : ℕ) → Shared p q (suc first) → Shared
 later p q first s = record { number = s.number; low = omega (arith, s.low); passes_first = s.passes_first; passes_second = s.passes_second }
 
 -- If those that pass the two tests weigh more than all numbers do, one number passes both.
-shared : (w : ℕ → ℕ) (p q : ℕ → Bool) (first n : ℕ) → sum_by w (numbers_from first n) < sum_by w (passing p first n) + sum_by w (passing q first n) → Shared p q first
+shared : (w : ℕ → ℕ) (p q : ℕ → Bool) (first n : ℕ) → sum_by w (numbers_from first n) < sum_by w (passing p first n)
+    + sum_by w (passing q first n) → Shared p q first
 shared w p q first zero more = absurd (omega arith)
 shared w p q first (suc n) more =
     let all = sum_by-cons w first (numbers_from (suc first) n) in
@@ -48,7 +49,8 @@ none_in_front zero = refl
 none_in_front (suc n) = refl
 
 -- numbers in a row that weigh what a list has at their places weigh what its front sums up to
-weight_front : (w : ℕ → ℕ) (first n : ℕ) (votes : List ℕ) → ((k : ℕ) → w (first + k) ≡ slice_index votes k) → sum_by w (numbers_from first n) ≡ sum (take n votes)
+weight_front : (w : ℕ → ℕ) (first n : ℕ) (votes : List ℕ) → ((k : ℕ) → w (first + k) ≡ slice_index votes k)
+    → sum_by w (numbers_from first n) ≡ sum (take n votes)
 weight_front w first zero votes weighs = refl
 weight_front w first (suc n) [] weighs =
     let here : w first ≡ 0 = let e : first + 0 ≡ first = omega arith in rw e at (weighs 0) in

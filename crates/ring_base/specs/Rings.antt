@@ -1,4 +1,5 @@
--- The order of the names of rings, by number, then by representative: Rings and states, rule 1 of docs/PROTOCOL.md. A last primary may be none, which is below every ring.
+-- The order of the names of rings, by number, then by representative: Rings and states, rule 1 of docs/PROTOCOL.md. A
+-- last primary may be none, which is below every ring.
 -- Also how a ring is printed.
 use Rattle.std.specs.Prelude.{◌≡◌, ℕ, ◌==◌, ◌&&◌, Bool, Option, List, ◌++◌, codes}
 use Rattle.std.specs.declared.cmp.Ordering.{Ordering}

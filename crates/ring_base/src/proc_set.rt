@@ -1,7 +1,8 @@
 //! Sets of processors.
 
 ghost use Rattle.std.specs.Prelude.{◌≡◌, ◌≢◌, ℕ, ◌^◌, ◌<◌, ◌≤◌, ◌↔◌, ◌⊎◌, IsTrue, IsSome, IsNone, IfSome};
-ghost use Rattle.ring_base.specs.Processors.{most_processors, IsProc, IsMember, IsSubset, has, within, nobody, only, union, common, less, size, smallest, position_of, at, next};
+ghost use Rattle.ring_base.specs.Processors.{most_processors, IsProc, IsMember, IsSubset, has, within, nobody, only};
+ghost use Rattle.ring_base.specs.Processors.{union, common, less, size, smallest, position_of, at, next};
 
 use crate::processor::Proc;
 use std::marker::Model;

@@ -44,7 +44,8 @@ made_fits x number bytes small short counted e =
 
 -- The opening of the ring of all
 
-sent_fit : {A : Type 0} (sends : List (Sent A)) → AllByRecursion (λ (g : Carried A). FrameFits g.frame) (map (λ s. record { from = 1; to = s.to; frame = s.frame }) sends) →
+sent_fit : {A : Type 0} (sends : List (Sent A)) → AllByRecursion (λ (g : Carried A). FrameFits g.frame)
+    (map (λ s. record { from = 1; to = s.to; frame = s.frame }) sends) →
     AllByRecursion OutFits (map (λ (s : Sent A). SendOut s.to s.frame) sends)
 sent_fit [] h = tt
 sent_fit (s ∷ sends) h = (h.0, sent_fit sends h.1)

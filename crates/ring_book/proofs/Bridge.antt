@@ -1,5 +1,7 @@
 -- A book run of one node is the run of its lines' events.
-use Rattle.std.proofs.Common.{◌≡◌, ℕ, zero, suc, ◌+◌, ◌≤◌, ◌++◌, ◌==◌, Bool, true, false, List, [], ◌∷◌, length, take, Option, None, Some, slice_get, refl, ap, subst, sym, ◌∙◌, arith, append-nil, append_assoc, length-append, eq-eqb}
+use Rattle.std.proofs.Common.{◌≡◌, ℕ, zero, suc, ◌+◌, ◌≤◌, ◌++◌, ◌==◌, Bool, true, false, List, [], ◌∷◌, length, take}
+use Rattle.std.proofs.Common.{Option, None, Some, slice_get, refl, ap, subst, sym, ◌∙◌, arith, append-nil, append_assoc}
+use Rattle.std.proofs.Common.{length-append, eq-eqb}
 use Rattle.std.specs.Prelude.{if◌then◌else◌}
 use Rattle.std.specs.List.{AllByRecursion}
 use Rattle.std.proofs.lemmas.List.{map-append}
@@ -59,7 +61,8 @@ frame_stands (x ∷ ls) (suc i) place n l f h g e =
     let at : n ≡ length x.step.frames + k = omega (arith, length-append x.step.frames (frames_of (take i ls))) in
     get-right x.step.frames (frames_of ls) k n at ∙ frame_stands ls i place k l f h g refl
 
-number_stands : {A : Type 0} (ls : List (Line A)) (at : FrameRef) (node : ℕ) (f : Frame A) → frame_to ls at node ≡ Some f → runs.frame_of (frames_of ls) (frame_number ls at) ≡ Some f
+number_stands : {A : Type 0} (ls : List (Line A)) (at : FrameRef) (node : ℕ) (f : Frame A)
+    → frame_to ls at node ≡ Some f → runs.frame_of (frames_of ls) (frame_number ls at) ≡ Some f
 number_stands ls at node f h =
     let t = there_line (slice_get ls at.line) at.place node f h in
     frame_stands ls at.line at.place (length (frames_of (take at.line ls)) + at.place) t.0 f t.1.0 t.1.1 refl
@@ -72,7 +75,8 @@ frames_of-snoc (x ∷ ls) l = ap (λ ys. x.step.frames ++ ys) (frames_of-snoc ls
 
 history_of-snoc : {A : Type 0} (ls : List (Line A)) (l : Line A) → history_of (ls ++ l ∷ []) ≡ history_of ls ++ items_of l.step.input l.step.answers
 history_of-snoc [] l = append-nil (items_of l.step.input l.step.answers)
-history_of-snoc (x ∷ ls) l = ap (λ ys. items_of x.step.input x.step.answers ++ ys) (history_of-snoc ls l) ∙ sym (append_assoc (items_of x.step.input x.step.answers) (history_of ls) (items_of l.step.input l.step.answers))
+history_of-snoc (x ∷ ls) l = ap (λ ys. items_of x.step.input x.step.answers ++ ys) (history_of-snoc ls l)
+    ∙ sym (append_assoc (items_of x.step.input x.step.answers) (history_of ls) (items_of l.step.input l.step.answers))
 
 module _ {O A : Type 0} (object : Sequential O) where
   abbrev machine : Machine (One A) A
@@ -86,7 +90,8 @@ module _ {O A : Type 0} (object : Sequential O) where
     calls : asked_calls after.node.tickets ≡ asked_calls w.node.tickets ++ call_in input
     answers : answers_of object after.node ≡ told_by (answers_of object w.node) input l.answers
 
-  issued : (w : World A) (c : Call A) (o : Option Fault) → o ≡ None → runs.issues w c o ≡ record { node = submitted w.node c; frames = w.frames; history = w.history ++ Issued c ∷ [] }
+  issued : (w : World A) (c : Call A) (o : Option Fault) → o ≡ None
+      → runs.issues w c o ≡ record { node = submitted w.node c; frames = w.frames; history = w.history ++ Issued c ∷ [] }
   issued w c None h = refl
   issued w c (Some fault) h = absurd cc
 
@@ -94,18 +99,21 @@ module _ {O A : Type 0} (object : Sequential O) where
   goes_on true x y h = absurd cc
   goes_on false x y h = refl
 
-  next_issued : (w after : World A) (c : Call A) (l : StepView A) (u : One A) → after ≡ record { node = submitted w.node c; frames = w.frames; history = w.history ++ Issued c ∷ [] }
+  next_issued : (w after : World A) (c : Call A) (l : StepView A) (u : One A)
+      → after ≡ record { node = submitted w.node c; frames = w.frames; history = w.history ++ Issued c ∷ [] }
       → u ≡ submitted w.node c → l.frames ≡ [] → IsNext w after (Called c) l u
   next_issued w after c l u e new none = record {
     node = ap (λ x. x.node) e ∙ sym new;
     frames = ap (λ x. x.frames) e ∙ (sym (append-nil w.frames) ∙ ap (λ fs. w.frames ++ fs) (sym none));
     history = ap (λ x. x.history) e;
-    calls = ap (λ x. asked_calls x.node.tickets) e ∙ map-append (λ (t : Asked A). t.call) w.node.tickets (record { call = c; since = length (committed_of w.node) } ∷ []);
+    calls = ap (λ x. asked_calls x.node.tickets) e ∙ map-append (λ (t : Asked A). t.call) w.node.tickets
+        (record { call = c; since = length (committed_of w.node) } ∷ []);
     answers = ap (λ x. answers_of object x.node) e ∙ answers_of-submitted object w.node c;
   }
 
   next_done : (w after : World A) (input : Input A) (at : FrameRef) (l : StepView A) (u : One A) (d : Did A) → after ≡ runs.did w d
-      → d.new.tickets ≡ w.node.tickets → answers_of object d.new ≡ answered_in (answers_of object w.node) d.answers → u ≡ d.new → l.frames ≡ d.frames → l.answers ≡ d.answers → IsNext w after (Came input at) l u
+      → d.new.tickets ≡ w.node.tickets → answers_of object d.new ≡ answered_in (answers_of object w.node) d.answers
+      → u ≡ d.new → l.frames ≡ d.frames → l.answers ≡ d.answers → IsNext w after (Came input at) l u
   next_done w after input at l u d e kept tells new sent told = record {
     node = ap (λ x. x.node) e ∙ sym new;
     frames = ap (λ x. x.frames) e ∙ ap (λ fs. w.frames ++ fs) (sym sent);
@@ -122,7 +130,9 @@ module _ {O A : Type 0} (object : Sequential O) where
   tickets_stay s input = (goes-on (λ (c : Call A). Unit {0}) s input).tickets
 
   -- the frame that stands there was sent in the world
-  is_sent : (w : World A) (before : List (Line A)) (at : FrameRef) (node : ℕ) (f : Frame A) → w.frames ≡ frames_of before → frame_to before at node ≡ Some f → runs.frame_of w.frames (frame_number before at) ≡ Some f
+  is_sent : (w : World A) (before : List (Line A)) (at : FrameRef) (node : ℕ) (f : Frame A)
+      → w.frames ≡ frames_of before → frame_to before at node ≡ Some f → runs.frame_of w.frames (frame_number before at)
+      ≡ Some f
   is_sent w before at node f e h = ap (λ fs. runs.frame_of fs (frame_number before at)) e ∙ number_stands before at node f h
 
   record Follows (w : World A) (before : List (Line A)) (input : LineInput A) (l : StepView A) (u : One A) : Type 0 where
@@ -141,19 +151,26 @@ module _ {O A : Type 0} (object : Sequential O) where
       record {
         done = (made.0, made.2, made.3, sent);
         moved = next_done w (runs.happens object w (event_of before (Came (Comes f) at))) (Comes f) at l u (one_step object w.node (Comes f))
-            (ap (runs.delivers object w) sent ∙ steps_on w (Comes f) made.0) (tickets_stay w.node (Comes f)) (answers_of-stepped object w.node (Comes f)) made.1 made.2 made.3;
+            (ap (runs.delivers object w) sent ∙ steps_on w (Comes f) made.0) (tickets_stay w.node (Comes f))
+            (answers_of-stepped object w.node (Comes f)) made.1 made.2 made.3;
       }
   follows w before (Came Noise at) l u e made found = record {
     done = (made.0, made.2, made.3, tt);
-    moved = next_done w (runs.happens object w (event_of before (Came Noise at))) Noise at l u (one_step object w.node Noise) (steps_on w Noise made.0) (tickets_stay w.node Noise) (answers_of-stepped object w.node Noise) made.1 made.2 made.3;
+    moved = next_done w (runs.happens object w (event_of before (Came Noise at))) Noise at l u
+        (one_step object w.node Noise) (steps_on w Noise made.0) (tickets_stay w.node Noise)
+        (answers_of-stepped object w.node Noise) made.1 made.2 made.3;
   }
   follows w before (Came (Timeout kind) at) l u e made found = record {
     done = (made.0, made.2, made.3, tt);
-    moved = next_done w (runs.happens object w (event_of before (Came (Timeout kind) at))) (Timeout kind) at l u (one_step object w.node (Timeout kind)) (steps_on w (Timeout kind) made.0) (tickets_stay w.node (Timeout kind)) (answers_of-stepped object w.node (Timeout kind)) made.1 made.2 made.3;
+    moved = next_done w (runs.happens object w (event_of before (Came (Timeout kind) at))) (Timeout kind) at l u
+        (one_step object w.node (Timeout kind)) (steps_on w (Timeout kind) made.0) (tickets_stay w.node (Timeout kind))
+        (answers_of-stepped object w.node (Timeout kind)) made.1 made.2 made.3;
   }
   follows w before (Came Stop at) l u e made found = record {
     done = (made.0, made.2, made.3, tt);
-    moved = next_done w (runs.happens object w (event_of before (Came Stop at))) Stop at l u (one_step object w.node Stop) (steps_on w Stop made.0) (tickets_stay w.node Stop) (answers_of-stepped object w.node Stop) made.1 made.2 made.3;
+    moved = next_done w (runs.happens object w (event_of before (Came Stop at))) Stop at l u
+        (one_step object w.node Stop) (steps_on w Stop made.0) (tickets_stay w.node Stop)
+        (answers_of-stepped object w.node Stop) made.1 made.2 made.3;
   }
 
   -- the world after the lines, and how it came about
@@ -167,7 +184,9 @@ module _ {O A : Type 0} (object : Sequential O) where
     pub committed : length (committed_of (runs.run_from object w (events_after before ls)).node) ≡ committed_after (before ++ ls)
 
   ran : (w : World A) (before ls : List (Line A)) (t : One A) → w.frames ≡ frames_of before → w.history ≡ history_of before
-      → asked_calls w.node.tickets ≡ calls_of before → answers_of object w.node ≡ told_from [] (steps before) → length (committed_of w.node) ≡ committed_after before → Leads machine w.node (steps ls) t → AllFound machine before ls → Ran w before ls t
+      → asked_calls w.node.tickets ≡ calls_of before → answers_of object w.node ≡ told_from [] (steps before)
+      → length (committed_of w.node) ≡ committed_after before → Leads machine w.node (steps ls) t
+      → AllFound machine before ls → Ran w before ls t
   ran w before [] t fs hs cs ts ks led found = record {
     done = tt;
     node = sym led;
@@ -185,7 +204,8 @@ module _ {O A : Type 0} (object : Sequential O) where
       (f.moved.frames ∙ (ap (λ xs. xs ++ l.step.frames) fs ∙ sym (frames_of-snoc before l)))
       (f.moved.history ∙ (ap (λ xs. xs ++ items_of l.step.input l.step.answers) hs ∙ sym (history_of-snoc before l)))
       (f.moved.calls ∙ (ap (λ xs. xs ++ call_in l.step.input) cs ∙ sym (calls_of-snoc before l)))
-      (f.moved.answers ∙ (ap (λ (xs : List (Option Answer)). told_by xs l.step.input l.step.answers) ts ∙ sym (ap (told_from []) (steps-snoc before l) ∙ told_from-snoc [] (steps before) l.step)))
+      (f.moved.answers ∙ (ap (λ (xs : List (Option Answer)). told_by xs l.step.input l.step.answers) ts
+      ∙ sym (ap (told_from []) (steps-snoc before l) ∙ told_from-snoc [] (steps before) l.step)))
       (ap (λ (s : One A). length (committed_of s)) f.moved.node ∙ (sym led.1.0.1 ∙ sym (committed_from-snoc 0 before l)))
       led' found.1 in
       record {
@@ -206,8 +226,10 @@ module _ {O A : Type 0} (object : Sequential O) where
       ap (λ (c : Bool). if c then (l.step ∷ steps_of 1 ls) else (steps_of 1 ls)) b ∙ ap (λ xs. l.step ∷ xs) (all_own n ls one h.1)
 
   -- a node whose steps are all in the book is the node of the run
-  pub book_ran : (n : ℕ) (ls : List (Line A)) (t : One A) → n ≡ 1 → IsBookRun machine n ls → Leads machine one_opening (steps_of 1 ls) t → Ran runs.world_opening [] ls t
-  book_ran n ls t one r led = ran runs.world_opening [] ls t refl refl refl refl refl (subst (λ (xs : List (StepView A)). Leads machine one_opening xs t) (all_own n ls one r.inside) led) r.found
+  pub book_ran : (n : ℕ) (ls : List (Line A)) (t : One A) → n ≡ 1 → IsBookRun machine n ls → Leads machine one_opening
+      (steps_of 1 ls) t → Ran runs.world_opening [] ls t
+  book_ran n ls t one r led = ran runs.world_opening [] ls t refl refl refl refl refl
+      (subst (λ (xs : List (StepView A)). Leads machine one_opening xs t) (all_own n ls one r.inside) led) r.found
 
   -- the lines of a book of one node are a run
   pub book_is_run : (n : ℕ) (ls : List (Line A)) → n ≡ 1 → IsBookRun machine n ls → IsRun object ls
@@ -230,10 +252,15 @@ module _ {O A : Type 0} (object : Sequential O) where
   -- the calls submitted and the committed length are those of the lines, so the order is that of so many of the calls
   pub book_order : (n : ℕ) (ls : List (Line A)) → n ≡ 1 → IsBookRun machine n ls
       → (let w = runs.run object (events_of ls) in IsFront (committed_of w.node) (asked_calls w.node.tickets))
-      → (committed_after ls ≤ length (call_lines ls)) × (deduplicated (calls_at ls (take (committed_after ls) (call_lines ls))) ≡ order_in (runs.run object (events_of ls)))
+      → (committed_after ls ≤ length (call_lines ls))
+      × (deduplicated (calls_at ls (take (committed_after ls) (call_lines ls))) ≡ order_in
+      (runs.run object (events_of ls)))
   book_order n ls one r front =
       let first = r.nodes 1 (omega arith) (omega arith) in
       let b = book_ran n ls first.0 one r first.1 in
       let w = runs.run object (events_of ls) in
-      let most = front_length (committed_of w.node) (asked_calls w.node.tickets) front in
-      (omega (arith, most, ap length b.calls, b.committed, length-call_lines ls), one_order ls (committed_of w.node) (asked_calls w.node.tickets) (committed_after ls) front b.calls b.committed)
+      let most = front_length (committed_of w.node) (asked_calls w.node.tickets) front in (
+        omega (arith, most, ap length b.calls, b.committed, length-call_lines ls),
+        one_order ls (committed_of w.node)
+            (asked_calls w.node.tickets) (committed_after ls) front b.calls b.committed,
+      )

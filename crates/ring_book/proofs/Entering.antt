@@ -1,5 +1,7 @@
 -- A step goes from a cell's journal to the book.
-use Rattle.std.proofs.Common.{◌≡◌, ℕ, suc, ◌<◌, ◌≤◌, ◌+◌, ◌-◌, ◌++◌, ◌==◌, List, [], ◌∷◌, refl, ap, subst, sym, ◌∙◌, true, false, Bool, inl, inr, Option, Some, slice_get, length, arith, append-nil, length-append, length-set, append_assoc}
+use Rattle.std.proofs.Common.{◌≡◌, ℕ, suc, ◌<◌, ◌≤◌, ◌+◌, ◌-◌, ◌++◌, ◌==◌, List, [], ◌∷◌, refl, ap, subst, sym, ◌∙◌}
+use Rattle.std.proofs.Common.{true, false, Bool, inl, inr, Option, Some, slice_get, length, arith, append-nil}
+use Rattle.std.proofs.Common.{length-append, length-set, append_assoc}
 use Rattle.std.specs.Prelude.{slice_set}
 use Rattle.std.specs.List.{AllByRecursion}
 use Rattle.std.proofs.lemmas.Bool.Decides.{nat_tests}
@@ -28,11 +30,14 @@ use Rattle.ring_book.proofs.Telling.{told_from-snoc, length-told_by}
 pub end_ring : {A : Type 0} (c d : End A) → SameConsumer c d → ring_of_consumer d ≡ ring_of_consumer c
 end_ring c d h = cc
 
-pub end_looks : {A : Type 0} (name : Name A) (lines : List (Line A)) (i : ℕ) (c d : End A) → IsEnd name lines i c → SameConsumer c d → received d ≡ received c → IsEnd name lines i d
+pub end_looks : {A : Type 0} (name : Name A) (lines : List (Line A)) (i : ℕ) (c d : End A) → IsEnd name lines i c
+    → SameConsumer c d → received d ≡ received c → IsEnd name lines i d
 end_looks name lines i c d e same r = record { ring = rw (end_ring c d same) e.ring; came = r ∙ e.came; one = same.1 ∙ e.one }
 
 -- the end of a node looked at its ring
-pub book_looks : {S A : Type 0} (m : Machine S A) (name : Name A) (lines : List (Line A)) (reserved : ℕ) (ends : List (End A)) (told : List (Option Answer)) (calls : List ℕ) (capacity tickets places room i : ℕ) (c d : End A)
+pub book_looks : {S A : Type 0} (m : Machine S A) (name : Name A) (lines : List (Line A)) (reserved : ℕ)
+    (ends : List (End A)) (told : List (Option Answer)) (calls : List ℕ) (capacity tickets places room i : ℕ)
+    (c d : End A)
     → IsBook m name lines reserved ends told calls capacity tickets places room → slice_get ends i ≡ Some c → SameConsumer c d → received d ≡ received c
     → IsBook m name lines reserved (slice_set ends i d) told calls capacity tickets places room
 book_looks m name lines reserved ends told calls capacity tickets places room i c d b at same r = record {
@@ -54,7 +59,8 @@ book_looks m name lines reserved ends told calls capacity tickets places room i 
 }
 
 -- what was found stays found: a list of lines with one more
-AllFound-snoc : {S A : Type 0} (m : Machine S A) (before ls : List (Line A)) (l : Line A) → AllFound m before ls → IsFound (before ++ ls) l.step.node l.step.input → AllFound m before (ls ++ l ∷ [])
+AllFound-snoc : {S A : Type 0} (m : Machine S A) (before ls : List (Line A)) (l : Line A) → AllFound m before ls
+    → IsFound (before ++ ls) l.step.node l.step.input → AllFound m before (ls ++ l ∷ [])
 AllFound-snoc m before [] l h f = (rw append-nil at f, tt)
 AllFound-snoc m before (x ∷ ls) l h f =
     (h.0, AllFound-snoc m (before ++ x ∷ []) ls l h.1 (rw append_assoc f))
@@ -114,16 +120,20 @@ pub record Popped {A : Type 0} (d : End A) (x : StepView A) (f : End A) : Type 0
   pub same : SameConsumer d f
   pub received_is : received f ≡ received d ++ x ∷ []
 
-pub book_enters : {S A : Type 0} (m : Machine S A) {IsSound : S → Type 0} (sound : Keeps m IsSound) (name : Name A) (lines : List (Line A)) (reserved : ℕ) (ends : List (End A)) (told : List (Option Answer)) (calls : List ℕ) (capacity tickets places room i me : ℕ)
+pub book_enters : {S A : Type 0} (m : Machine S A) {IsSound : S → Type 0} (sound : Keeps m IsSound) (name : Name A)
+    (lines : List (Line A)) (reserved : ℕ) (ends : List (End A)) (told : List (Option Answer)) (calls : List ℕ)
+    (capacity tickets places room i me : ℕ)
     (ahead : Bool) (node : S) (p q : Writer A) (c d f : End A) (x : StepView A)
     → suc i ≡ me → IsBook m name lines reserved ends told calls capacity tickets places room → IsCell m name me ahead node p → slice_get ends i ≡ Some c
     → Looked p q c d → sent p ≡ steps_of me lines ++ x ∷ [] → Popped d x f → IsFound lines x.node x.input → 0 < reserved
-    → IsBook m name (lines ++ record { number = length lines; step = x } ∷ []) (reserved - 1) (slice_set ends i f) (told_by told x.input x.answers) (calls ++ number_in (length lines) x.input) capacity tickets places room
+    → IsBook m name (lines ++ record { number = length lines; step = x } ∷ []) (reserved - 1) (slice_set ends i f)
+    (told_by told x.input x.answers) (calls ++ number_in (length lines) x.input) capacity tickets places room
 book_enters {S} {A} m sound name lines reserved ends told calls capacity tickets places room i me ahead node p q c d f x is b k at look journal pop found some =
     let l : Line A = record { number = length lines; step = x } in
     let mine : x.node ≡ me = AllOf-last me (steps_of me lines) x (subst (AllOf me) journal k.mine) in
     let first : x.node ≡ 1 = omega (arith, k.counted, k.in_book, b.alone) in
-    let leads : Leads m (m.opening me) (steps_of me lines ++ x ∷ []) node = subst (λ (js : List (StepView A)). Leads m (m.opening me) js node) journal k.leads in
+    let leads : Leads m (m.opening me) (steps_of me lines ++ x ∷ []) node =
+    subst (λ (js : List (StepView A)). Leads m (m.opening me) js node) journal k.leads in
     record {
       alone = b.alone;
       count = rw length-set b.count;
@@ -140,10 +150,12 @@ book_enters {S} {A} m sound name lines reserved ends told calls capacity tickets
         }
       ];
       run = run_adds m name.count lines l me node b.run mine k.counted k.in_book leads found;
-      kept = each-push (λ (y : Line A). AllByRecursion IsKept y.step.frames) lines l b.kept (Leads-last m sound (m.opening me) (steps_of me lines) x node (sound.opens me) leads);
+      kept = each-push (λ (y : Line A). AllByRecursion IsKept y.step.frames) lines l b.kept
+          (Leads-last m sound (m.opening me) (steps_of me lines) x node (sound.opens me) leads);
       room = omega (arith, length-append lines (l ∷ []), b.room);
       limit = omega (arith, length-append lines (l ∷ []), b.limit);
-      answers = ap (λ (ts : List (Option Answer)). told_by ts x.input x.answers) b.answers ∙ sym (ap (told_from []) (steps_of-own 1 lines l first) ∙ told_from-snoc [] (steps_of 1 lines) x);
+      answers = ap (λ (ts : List (Option Answer)). told_by ts x.input x.answers) b.answers
+          ∙ sym (ap (told_from []) (steps_of-own 1 lines l first) ∙ told_from-snoc [] (steps_of 1 lines) x);
       answers_room = omega (arith, length-told_by told x.input x.answers, b.answers_room);
       numbers = ap (λ ns. ns ++ number_in (length lines) x.input) b.numbers ∙ sym (call_lines-snoc lines l);
       numbers_room = omega (arith, length-append calls (number_in (length lines) x.input), length-number_in (length lines) x.input, b.numbers_room);
@@ -177,7 +189,8 @@ pair_stays name i p q c d f a b h k j =
       j.0.3 ∙ (k.0.3 ∙ (sym (ap (λ r. r.heap) e) ∙ sym h.0.3)),
     )
 
-pub popped : {A : Type 0} (d e f : End A) (x : StepView A) → SameConsumer d e → received e ≡ received d ++ x ∷ [] → SameConsumer e f → received f ≡ received e → Popped d x f
+pub popped : {A : Type 0} (d e f : End A) (x : StepView A) → SameConsumer d e → received e ≡ received d ++ x ∷ []
+    → SameConsumer e f → received f ≡ received e → Popped d x f
 popped d e f x h r i s = record {
   same = ((i.0.0 ∙ h.0.0, i.0.1 ∙ h.0.1, i.0.2 ∙ h.0.2, i.0.3 ∙ h.0.3), i.1 ∙ h.1);
   received_is = s ∙ r;
@@ -204,26 +217,33 @@ pub ring_at : {A : Type 0} (rings : List (Ring A)) (me i : ℕ) (r : Ring A) →
 ring_at rings me i r is h = let e : i ≡ me - 1 = omega arith in rw e h
 
 -- a book with more room, for more places
-pub book_grows : {S A : Type 0} (m : Machine S A) (name : Name A) (lines lines' : List (Line A)) (reserved reserved' : ℕ) (ends : List (End A)) (told told' : List (Option Answer)) (calls calls' : List ℕ) (capacity capacity' tickets tickets' places places' space : ℕ)
-    → IsBook m name lines reserved ends told calls capacity tickets places space → lines' ≡ lines → told' ≡ told → calls' ≡ calls → length lines + reserved' ≤ capacity' → length told + reserved' ≤ tickets' → length calls + reserved' ≤ places' → length lines + reserved' ≤ most_places
+pub book_grows : {S A : Type 0} (m : Machine S A) (name : Name A) (lines lines' : List (Line A))
+    (reserved reserved' : ℕ) (ends : List (End A)) (told told' : List (Option Answer)) (calls calls' : List ℕ)
+    (capacity capacity' tickets tickets' places places' space : ℕ)
+    → IsBook m name lines reserved ends told calls capacity tickets places space → lines' ≡ lines → told' ≡ told
+    → calls' ≡ calls → length lines + reserved' ≤ capacity' → length told + reserved' ≤ tickets'
+    → length calls + reserved' ≤ places' → length lines + reserved' ≤ most_places
     → IsBook m name lines' reserved' ends told' calls' capacity' tickets' places' space
-book_grows m name lines lines' reserved reserved' ends told told' calls calls' capacity capacity' tickets tickets' places places' space b same same_told same_calls room tickets_room places_room limit = rw (same, same_told, same_calls) record {
-  alone = b.alone;
-  count = b.count;
-  each = b.each;
-  run = b.run;
-  kept = b.kept;
-  room = room;
-  limit = limit;
-  answers = b.answers;
-  answers_room = tickets_room;
-  numbers = b.numbers;
-  numbers_room = places_room;
-  text = b.text;
-}
+book_grows m name lines lines' reserved reserved' ends told told' calls calls' capacity capacity' tickets tickets'
+    places places' space b same same_told same_calls room tickets_room places_room limit =
+    rw (same, same_told, same_calls) record {
+      alone = b.alone;
+      count = b.count;
+      each = b.each;
+      run = b.run;
+      kept = b.kept;
+      room = room;
+      limit = limit;
+      answers = b.answers;
+      answers_room = tickets_room;
+      numbers = b.numbers;
+      numbers_room = places_room;
+      text = b.text;
+    }
 
 -- the two ends of one ring
-pub pair_at : {A : Type 0} (name : Name A) (i : ℕ) (p : Writer A) (c : End A) → slice_get name.rings i ≡ Some (ring_of_producer p) → slice_get name.rings i ≡ Some (ring_of_consumer c) → IsPair p c
+pub pair_at : {A : Type 0} (name : Name A) (i : ℕ) (p : Writer A) (c : End A) → slice_get name.rings i ≡ Some
+    (ring_of_producer p) → slice_get name.rings i ≡ Some (ring_of_consumer c) → IsPair p c
 pair_at name i p c a b =
     let e : ring_of_producer p ≡ ring_of_consumer c = cc in
     (sym (ap (λ r. r.words) e), sym (ap (λ r. r.slots) e), sym (ap (λ r. r.names) e), sym (ap (λ r. r.heap) e))
@@ -242,8 +262,10 @@ cell_looks m name me ahead node p q k same e more = record {
 }
 
 -- a book whose text was written
-pub book_texts : {S A : Type 0} (m : Machine S A) (name : Name A) (lines : List (Line A)) (reserved : ℕ) (ends : List (End A)) (told : List (Option Answer)) (calls : List ℕ) (capacity tickets places space space' : ℕ)
-    → IsBook m name lines reserved ends told calls capacity tickets places space → frame_bytes ≤ space' → IsBook m name lines reserved ends told calls capacity tickets places space'
+pub book_texts : {S A : Type 0} (m : Machine S A) (name : Name A) (lines : List (Line A)) (reserved : ℕ)
+    (ends : List (End A)) (told : List (Option Answer)) (calls : List ℕ) (capacity tickets places space space' : ℕ)
+    → IsBook m name lines reserved ends told calls capacity tickets places space → frame_bytes ≤ space'
+    → IsBook m name lines reserved ends told calls capacity tickets places space'
 book_texts m name lines reserved ends told calls capacity tickets places space space' b text = record {
   alone = b.alone;
   count = b.count;

@@ -1,5 +1,6 @@
 -- The answers of the node's tickets that its committed log gives, submit by submit and step by step.
-use Rattle.std.proofs.Common.{◌≡◌, ℕ, ◌+◌, ◌<◌, ◌≤◌, Bool, true, false, List, [], ◌∷◌, ◌++◌, length, drop, Option, Some, None, ap, sym, subst, ◌∙◌, arith, length-append, if◌then◌else◌}
+use Rattle.std.proofs.Common.{◌≡◌, ℕ, ◌+◌, ◌<◌, ◌≤◌, Bool, true, false, List, [], ◌∷◌, ◌++◌, length, drop, Option, Some}
+use Rattle.std.proofs.Common.{None, ap, sym, subst, ◌∙◌, arith, length-append, if◌then◌else◌}
 use Rattle.std.specs.Prelude.{replicate}
 use Rattle.std.specs.List.{AllByRecursion}
 use Rattle.std.proofs.lemmas.List.{length-replicate, replicate-append-replicate}
@@ -28,16 +29,19 @@ below-append : {A : Type 0} (n : ℕ) (xs ys : List (Answered A)) → AreBelow n
 below-append n [] ys h k = k
 below-append n (x ∷ xs) ys h k = (h.0, below-append n xs ys h.1 k)
 
-below-answered : {A : Type 0} (n ticket : ℕ) (c : Call A) (answer : Option Answer) (b : Bool) → ticket < n → AreBelow n (if b then answered ticket c answer else [])
+below-answered : {A : Type 0} (n ticket : ℕ) (c : Call A) (answer : Option Answer) (b : Bool) → ticket < n
+    → AreBelow n (if b then answered ticket c answer else [])
 below-answered n ticket c None true h = tt
 below-answered n ticket c (Some answer) true h = (h, tt)
 below-answered n ticket c answer false h = tt
 
 module _ {O A : Type 0} (object : Sequential O) where
-  below-at : (n : ℕ) (committed : List (Call A)) (place ticket : ℕ) (ts : List (Asked A)) → ticket + length ts ≤ n → AreBelow n (answers_at object committed place ticket ts)
+  below-at : (n : ℕ) (committed : List (Call A)) (place ticket : ℕ) (ts : List (Asked A)) → ticket + length ts ≤ n
+      → AreBelow n (answers_at object committed place ticket ts)
   below-at n committed place ticket [] h = tt
   below-at n committed place ticket (t ∷ ts) h =
-      below-append n (if is_place place (place_of committed t) then answered ticket t.call (session_answer object committed place) else []) (answers_at object committed place (ticket + 1) ts)
+      below-append n (if is_place place (place_of committed t) then answered ticket t.call
+      (session_answer object committed place) else []) (answers_at object committed place (ticket + 1) ts)
       (below-answered n ticket t.call (session_answer object committed place) (is_place place (place_of committed t)) (omega arith))
       (below-at n committed place (ticket + 1) ts (omega arith))
 
@@ -45,7 +49,8 @@ module _ {O A : Type 0} (object : Sequential O) where
   below-after : (tickets : List (Asked A)) (committed more : List (Call A)) → AreBelow (length tickets) (answers_after object tickets committed more)
   below-after tickets committed [] = tt
   below-after tickets committed (c ∷ more) =
-      below-append (length tickets) (answers_at object (committed ++ c ∷ []) (length committed) 0 tickets) (answers_after object tickets (committed ++ c ∷ []) more)
+      below-append (length tickets) (answers_at object (committed ++ c ∷ []) (length committed) 0 tickets)
+      (answers_after object tickets (committed ++ c ∷ []) more)
       (below-at (length tickets) (committed ++ c ∷ []) (length committed) 0 tickets (omega arith)) (below-after tickets (committed ++ c ∷ []) more)
 
   -- a submit adds a ticket without an answer
@@ -64,7 +69,8 @@ module _ {O A : Type 0} (object : Sequential O) where
       ∙ answered_in-left (replicate n None) (None ∷ []) all below))
 
   -- a step tells the answers that come with it
-  pub answers_of-stepped : (s : One A) (input : Input A) → answers_of object (one_step object s input).new ≡ answered_in (answers_of object s) (one_step object s input).answers
+  pub answers_of-stepped : (s : One A) (input : Input A) → answers_of object (one_step object s input).new
+      ≡ answered_in (answers_of object s) (one_step object s input).answers
   answers_of-stepped s input =
       let new : One A = (move_on s input).new in
       let goes = goes-on (λ (c : Call A). Unit {0}) s input in
@@ -72,7 +78,8 @@ module _ {O A : Type 0} (object : Sequential O) where
       let rest : List (Call A) = front.0 in
       let n = length s.tickets in
       let before = all_answers object s.tickets (committed_of s) in
-      let left : drop (length (committed_of s)) (committed_of new) ≡ rest = ap (drop (length (committed_of s))) (sym front.1) ∙ drop-append_seam (committed_of s) rest in
+      let left : drop (length (committed_of s)) (committed_of new) ≡ rest = ap (drop (length (committed_of s)))
+      (sym front.1) ∙ drop-append_seam (committed_of s) rest in
       let came : new_answers object s new ≡ answers_after object s.tickets (committed_of s) rest =
       ap (λ (ts : List (Asked A)). answers_after object ts (committed_of s) (drop (length (committed_of s)) (committed_of new))) goes.tickets
       ∙ ap (answers_after object s.tickets (committed_of s)) left in

@@ -24,12 +24,15 @@ steps-snoc (x ∷ ls) l = ap (λ ys. x.step ∷ ys) (steps-snoc ls l)
 pub steps_of-own : {A : Type 0} (i : ℕ) (ls : List (Line A)) (l : Line A) → l.step.node ≡ i → steps_of i (ls ++ l ∷ []) ≡ steps_of i ls ++ l.step ∷ []
 steps_of-own {A} i ls l e =
     let b : (l.step.node == i) ≡ true = eq-eqb l.step.node i e in
-    ap (own_steps i) (steps-snoc ls l) ∙ (filter-append (λ (x : StepView A). x.node == i) (steps ls) (l.step ∷ []) ∙ ap (λ ys. steps_of i ls ++ ys) (ap (λ (c : Bool). if c then (l.step ∷ []) else []) b))
+    ap (own_steps i) (steps-snoc ls l) ∙ (filter-append (λ (x : StepView A). x.node == i) (steps ls) (l.step ∷ [])
+    ∙ ap (λ ys. steps_of i ls ++ ys) (ap (λ (c : Bool). if c then (l.step ∷ []) else []) b))
 
 -- and with one of another
 pub steps_of-other : {A : Type 0} (i : ℕ) (ls : List (Line A)) (l : Line A) → (l.step.node == i) ≡ false → steps_of i (ls ++ l ∷ []) ≡ steps_of i ls
 steps_of-other {A} i ls l b =
-    ap (own_steps i) (steps-snoc ls l) ∙ (filter-append (λ (x : StepView A). x.node == i) (steps ls) (l.step ∷ []) ∙ (ap (λ ys. steps_of i ls ++ ys) (ap (λ (c : Bool). if c then (l.step ∷ []) else []) b) ∙ append-nil (steps_of i ls)))
+    ap (own_steps i) (steps-snoc ls l) ∙ (filter-append (λ (x : StepView A). x.node == i) (steps ls) (l.step ∷ [])
+    ∙ (ap (λ ys. steps_of i ls ++ ys) (ap (λ (c : Bool). if c then (l.step ∷ []) else []) b)
+    ∙ append-nil (steps_of i ls)))
 
 -- steps of one node, with one more
 pub AllOf-snoc : {A : Type 0} (i : ℕ) (ls : List (StepView A)) (l : StepView A) → AllOf i ls → l.node ≡ i → AllOf i (ls ++ l ∷ [])

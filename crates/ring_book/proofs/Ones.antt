@@ -21,7 +21,10 @@ use Rattle.ring_base.specs.declared.kind.Kind.{Kind}
 use Rattle.ring_base.specs.declared.kind.Kind.TheVariants.{Retransmit, Join, Consensus, Loss}
 use Rattle.ring_base.specs.declared.state.State.{State}
 use Rattle.ring_base.specs.declared.state.State.TheVariants.{Gather, Commit, Recovery, Operational, Stopped}
-use Rattle.ring_one.specs.Machine.{One, Move, accepts, commit_token, end_after, is_commit_token, is_operational, is_own_report, move_on, new_messages, on_commit_token, on_frame, on_join_timeout, on_timeout, report, ring_before, ring_of_one, room, stays, text_after, token_of, visits}
+use Rattle.ring_one.specs.Machine.{One, Move, accepts, commit_token, end_after, is_commit_token, is_operational}
+use Rattle.ring_one.specs.Machine.{is_own_report, move_on, new_messages, on_commit_token, on_frame, on_join_timeout}
+use Rattle.ring_one.specs.Machine.{on_timeout, report, ring_before, ring_of_one, room, stays, text_after, token_of}
+use Rattle.ring_one.specs.Machine.{visits}
 use Rattle.ring_book.specs.Machines.{IsKept, Keeps, one_machine}
 
 -- the messages have numbers up to the greatest
@@ -109,14 +112,16 @@ module _ {A : Type 0} where
   either_good false x y f h = h
 
   commit_good : (state : State) (s : One A) (token : CommitToken) → IsBounded s → IsGood (on_commit_token state s token)
-  commit_good Commit s token h = either_good (is_commit_token 1 token && is_own_report token.entries) _ _ (λ _. (h, ((commit_fits 2 (omega arith) (omega arith), tt), tt))) (h, tt)
+  commit_good Commit s token h = either_good (is_commit_token 1 token && is_own_report token.entries) _ _ (λ _.
+      (h, ((commit_fits 2 (omega arith) (omega arith), tt), tt))) (h, tt)
   commit_good Recovery s token h = either_good (is_commit_token 2 token && (s.next == 0)) _ _ (λ _. visits_good s 0 h (omega arith)) (h, tt)
   commit_good Gather s token h = (h, tt)
   commit_good Operational s token h = (h, tt)
   commit_good Stopped s token h = (h, tt)
 
   frame_good : (s : One A) (frame : Frame A) → IsBounded s → IsGood (on_frame s frame)
-  frame_good s (OneToken token) h = either_good (accepts s token) _ _ (λ e. visits_good s token.number h (ltb-true token.number max_number (and_parts _ _ (and_parts _ _ e).0).1)) (h, tt)
+  frame_good s (OneToken token) h = either_good (accepts s token) _ _ (λ e. visits_good s token.number h
+      (ltb-true token.number max_number (and_parts _ _ (and_parts _ _ e).0).1)) (h, tt)
   frame_good s (OneCommit token) h = commit_good s.state s token h
   frame_good s (OneMessage message) h = (h, tt)
   frame_good s (OneJoin join) h = (h, tt)

@@ -40,6 +40,7 @@ pub stop_answers : {O A : Type 0} (object : Sequential O) (s : One A) → new_an
 stop_answers object s = ap (answers_after object s.tickets (committed_of s)) (drop_all (committed_of s))
 
 -- a node refuses where its cell is not a step ahead
-pub node_refuses : (ahead : Bool) (refusal : Option Fault) (fault : Fault) → ahead ≡ false → MatchOption refusal (fault ≡ Memory) (λ first. fault ≡ first) → IsRefusal ahead refusal fault
+pub node_refuses : (ahead : Bool) (refusal : Option Fault) (fault : Fault) → ahead ≡ false → MatchOption refusal
+    (fault ≡ Memory) (λ first. fault ≡ first) → IsRefusal ahead refusal fault
 node_refuses true refusal fault e h = absurd cc
 node_refuses false refusal fault e h = h

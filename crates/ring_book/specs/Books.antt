@@ -34,7 +34,8 @@ pub record IsEnd {A : Type 0} (name : Name A) (lines : List (Line A)) (i : ℕ) 
 
 module _ {S A : Type 0} (m : Machine S A) where
   -- There is one node, the lines are a run, each end has brought its node's steps, and there is room for what is reserved.
-  pub record IsBook (name : Name A) (lines : List (Line A)) (reserved : ℕ) (ends : List (End A)) (told : List (Option Answer)) (calls : List ℕ) (capacity tickets places space : ℕ) : Type 0 where
+  pub record IsBook (name : Name A) (lines : List (Line A)) (reserved : ℕ) (ends : List (End A))
+      (told : List (Option Answer)) (calls : List ℕ) (capacity tickets places space : ℕ) : Type 0 where
     pub alone : name.count ≡ 1
     pub count : length ends ≡ name.count
     pub each : (i : ℕ) (c : End A) → slice_get ends i ≡ Some c → IsEnd name lines i c

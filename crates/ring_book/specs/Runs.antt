@@ -13,7 +13,8 @@ module _ {S A : Type 0} (m : Machine S A) where
   -- from this state the machine makes just this of the input
   abbrev pub Makes : S → LineInput A → StepView A → S → Type 0
   Makes s (Called c) l t = (m.refusal s ≡ None) × (t ≡ m.submitted s c) × (l.frames ≡ []) × (l.answers ≡ [])
-  Makes s (Came input at) l t = (m.is_stopped s ≡ false) × (t ≡ (m.step s input).new) × (l.frames ≡ (m.step s input).frames) × (l.answers ≡ (m.step s input).answers)
+  Makes s (Came input at) l t = (m.is_stopped s ≡ false) × (t ≡ (m.step s input).new)
+      × (l.frames ≡ (m.step s input).frames) × (l.answers ≡ (m.step s input).answers)
 
   -- the step takes a node from the state s to the state t
   abbrev pub IsStep : S → StepView A → S → Type 0

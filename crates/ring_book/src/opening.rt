@@ -37,7 +37,8 @@ impl<O: Object> Model for Opening<O> {
 
     ghost view = { λ o. record { count = length o.nodes.items; rings = rings_of o.writers.items } };
 
-    ghost invariant = { λ o. AllStart (one_machine O.sequential) 1 o.nodes.items o.writers.items × AllStartEnds o.writers.items o.ends.items × (length o.nodes.items ≡ 1) };
+    ghost invariant = { λ o. AllStart (one_machine O.sequential) 1 o.nodes.items o.writers.items
+        × AllStartEnds o.writers.items o.ends.items × (length o.nodes.items ≡ 1) };
 }
 
 impl<O: Object> Opening<O> {

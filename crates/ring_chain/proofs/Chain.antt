@@ -1,4 +1,6 @@
--- The token's chain: the visits of a ring are one list, each of the token as the one before sent it on, by the member whose turn it is. A token is visited only by whom it was sent to, and only where it is newer than all that one visited: so it is the newest of all, since the one after it would have been that one's too.
+-- The token's chain: the visits of a ring are one list, each of the token as the one before sent it on, by the member
+-- whose turn it is. A token is visited only by whom it was sent to, and only where it is newer than all that one
+-- visited: so it is the newest of all, since the one after it would have been that one's too.
 use Rattle.std.proofs.Common.{◌≡◌, ℕ, ◌%◌, ◌<◌, ◌≤◌, ◌⊎◌, inl, inr, Bool, true, false, ◌==◌, cond, List, [], ◌∷◌, length, refl, ap, sym, ◌∙◌, subst}
 use Rattle.std.proofs.Math.Nat.{zero-mod}
 use Rattle.std.proofs.lemmas.Bool.{cond_both, eq-eqb, ne_eqb, cond-true, cond-false}
@@ -49,8 +51,11 @@ pub record HasTurn {A : Type 0} (members : ℕ) (i : ℕ) (t : Token) (vs : List
   pub here : i ≡ at members (t.number % size members)
   pub arrived : HasArrived t.ring t vs
 
-module _ {A : Type 0} (visits : Chains A) (cores : ℕ → Core A) (frames : List (Carried A)) (i : ℕ) (low : 1 ≤ i) (right : AreRight visits cores frames) (are : AreRings cores) (chains : AreChains visits cores) (turned : (q : ℕ) → Turned (cores q)) where
-  module _ (t : Token) (fresh : List (Payload A)) (requests : List ℕ) (again : List (Message A)) (queue : List (Payload A)) (h : MayVisit (CameTo frames i) (cores i) t fresh again queue) where
+module _ {A : Type 0} (visits : Chains A) (cores : ℕ → Core A) (frames : List (Carried A)) (i : ℕ) (low : 1 ≤ i)
+    (right : AreRight visits cores frames) (are : AreRings cores) (chains : AreChains visits cores)
+    (turned : (q : ℕ) → Turned (cores q)) where
+  module _ (t : Token) (fresh : List (Payload A)) (requests : List ℕ) (again : List (Message A))
+      (queue : List (Payload A)) (h : MayVisit (CameTo frames i) (cores i) t fresh again queue) where
     pub ring_here : IsRingOf cores t.ring (cores i).running.members
     ring_here =
         let r : IsRingOf cores (cores i).running.ring (cores i).running.members = are.shared i _ _ (runs_in (cores i) (are.rising i)) in
@@ -60,7 +65,8 @@ module _ {A : Type 0} (visits : Chains A) (cores : ℕ → Core A) (frames : Lis
     visits_here =
         elim (chains.rounds t.ring) [
           | inl e ↦ subst (λ (vs : List (VisitBy A)). AreVisits (cores i).running.members t.ring vs) (sym e) tt
-          | inr round ↦ subst (λ m. AreVisits m t.ring (visits t.ring)) (one_members cores are t.ring round.members (cores i).running.members round.ring_of ring_here) round.visits_are
+          | inr round ↦ subst (λ m. AreVisits m t.ring (visits t.ring)) (one_members cores are t.ring round.members
+              (cores i).running.members round.ring_of ring_here) round.visits_are
         ]
 
     starts : IsStart (cores i) t → HasTurn (cores i).running.members i t (visits t.ring)
@@ -82,7 +88,8 @@ module _ {A : Type 0} (visits : Chains A) (cores : ℕ → Core A) (frames : Lis
         let token : IsToken visits cores f.1 t = f.3 in
         let same : token.members ≡ ms = one_members cores are t.ring token.members ms token.ring_of ring_here in
         let some : 0 < size token.members = token.some in
-        let mine : i ≡ at token.members (t.number % size token.members) = only-is _ i (at-low token.members t.number some) low (subst (λ to. has to i ≡ true) token.sent_to f.2) in
+        let mine : i ≡ at token.members (t.number % size token.members) = only-is _ i
+        (at-low token.members t.number some) low (subst (λ to. has to i ≡ true) token.sent_to f.2) in
         record {
           some = subst (λ m. 0 < size m) same some;
           here = mine ∙ ap (λ m. at m (t.number % size m)) same;
@@ -109,7 +116,8 @@ module _ {A : Type 0} (visits : Chains A) (cores : ℕ → Core A) (frames : Lis
           comes = sym arrives;
           turn = has_turn.here ∙ ap (λ n. at ms (n % size ms)) number;
           within = (new.0).within;
-          goes = subst (λ me. visit.turn.went ≡ Rattle.ring_token.specs.Visits.token_after me visit.turn.front (length fresh) visit.turn.went.requests t) (are.me i) (new.0).goes;
+          goes = subst (λ me. visit.turn.went ≡ Rattle.ring_token.specs.Visits.token_after me visit.turn.front
+              (length fresh) visit.turn.went.requests t) (are.me i) (new.0).goes;
         }
 
     pub visit_moved : AreChains (with_visit visits t.ring visit) (put cores i (moved (cores i) (Visits t fresh requests again queue)))
@@ -117,7 +125,12 @@ module _ {A : Type 0} (visits : Chains A) (cores : ℕ → Core A) (frames : Lis
         let d = moved (cores i) (Visits t fresh requests again queue) in
         let cores' = put cores i d in
         let g : AllGrown cores cores' = put_grows cores i d (moved_grows (cores i) (Visits t fresh requests again queue)) in
-        let here : IsRound cores' t.ring (visit ∷ visits t.ring) = record { members = (cores i).running.members; ring_of = (g t.ring.rep).rings _ ring_here; some = has_turn.some; visits_are = (is_next, visits_here) } in
+        let here : IsRound cores' t.ring (visit ∷ visits t.ring) = record {
+          members = (cores i).running.members;
+          ring_of = (g t.ring.rep).rings _ ring_here;
+          some = has_turn.some;
+          visits_are = (is_next, visits_here);
+        } in
         record {
           rounds = λ r. cond_both (same_ring t.ring r) (visit ∷ visits r) (visits r) (λ (vs : List (VisitBy A)). (vs ≡ []) ⊎ IsRound cores' r vs)
               (λ e. inr (subst (λ r. IsRound cores' r (visit ∷ visits r)) (ring_same t.ring r e) here))
@@ -128,7 +141,9 @@ module _ {A : Type 0} (visits : Chains A) (cores : ℕ → Core A) (frames : Lis
         }
 
     -- the token as it goes is the ring's, and goes to the member whose turn is next
-    pub went_right : IsToken (with_visit visits t.ring visit) (put cores i (moved (cores i) (Visits t fresh requests again queue))) (to_next (cores i) visit.turn.went).to visit.turn.went
+    pub went_right : IsToken (with_visit visits t.ring visit)
+        (put cores i (moved (cores i) (Visits t fresh requests again queue)))
+        (to_next (cores i) visit.turn.went).to visit.turn.went
     went_right =
         let ms = (cores i).running.members in
         let d = moved (cores i) (Visits t fresh requests again queue) in
@@ -138,7 +153,9 @@ module _ {A : Type 0} (visits : Chains A) (cores : ℕ → Core A) (frames : Lis
           ring_of = (put_grows cores i d (moved_grows (cores i) (Visits t fresh requests again queue)) t.ring.rep).rings _ ring_here;
           some = has_turn.some;
           sent_to = ap only (ap (next ms) me ∙ next-turn ms t.number has_turn.some);
-          arrived = subst (λ (vs : List (VisitBy A)). HasArrived t.ring visit.turn.went vs) (sym (cond-true (same_ring t.ring t.ring) (visit ∷ visits t.ring) (visits t.ring) (same-self t.ring))) (inl refl);
+          arrived = subst (λ (vs : List (VisitBy A)). HasArrived t.ring visit.turn.went vs)
+              (sym (cond-true (same_ring t.ring t.ring) (visit ∷ visits t.ring) (visits t.ring) (same-self t.ring)))
+              (inl refl);
         }
 
   -- a move that takes no visit
@@ -151,7 +168,8 @@ module _ {A : Type 0} (visits : Chains A) (cores : ℕ → Core A) (frames : Lis
       let g : AllGrown cores (put cores i d) = put_grows cores i d (moved_grows (cores i) m) in
       record {
         rounds = λ r. round_grows cores (put cores i d) g r (visits r) (chains.rounds r);
-        turns = put-each (λ q (x : Core A). (r : RingId) → turns_of r x.turns ≡ picked q (visits r)) cores i d (λ q n r. chains.turns q r) (λ r. ap (turns_of r) e ∙ chains.turns i r);
+        turns = put-each (λ q (x : Core A). (r : RingId) → turns_of r x.turns ≡ picked q (visits r)) cores i d
+            (λ q n r. chains.turns q r) (λ r. ap (turns_of r) e ∙ chains.turns i r);
       }
 
   pub chains_moved : (m : Move A) → MayMove (CameTo frames i) (cores i) m → AreChains (visits_after visits i (cores i) m) (put cores i (moved (cores i) m))

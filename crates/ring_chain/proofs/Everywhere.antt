@@ -33,10 +33,12 @@ use Rattle.ring_chain.proofs.Runs.{Holds, holding, unformed_holds, formed_holds}
 -- A ring that is formed from the start: its representative has visited the first token, which is a move
 
 first_of_all : (n : ℕ) → 1 ≤ n → at (everybody n) 0 ≡ 1
-first_of_all n some = smallest-least (everybody n) 1 (omega arith, omega arith) ((everybody_members n 1).1 (omega arith, some)) (λ j m. ((everybody_members n j).0 m).0)
+first_of_all n some = smallest-least (everybody n) 1 (omega arith, omega arith)
+    ((everybody_members n 1).1 (omega arith, some)) (λ j m. ((everybody_members n j).0 m).0)
 
 pub may_start : {A : Type 0} → (n : ℕ) → 1 ≤ n → (t : Token) → t ≡ first_token (all_of n).ring →
-    MayVisit (CameTo {A = A} [] 1) (formed n 1) t (new_payloads (formed n 1) t) (repeated (formed n 1) t) (queue_after Operational (room_at (formed {A = A} n 1) t) [])
+    MayVisit (CameTo {A = A} [] 1) (formed n 1) t (new_payloads (formed n 1) t) (repeated (formed n 1) t)
+    (queue_after Operational (room_at (formed {A = A} n 1) t) [])
 may_start {A} n some t e =
     record {
       state = inr refl;
@@ -79,7 +81,8 @@ pub texts_agree : {A : Type 0} → (w : World A) → Holds w.cores w.frames → 
 texts_agree {A} w p ring x y hx hy e =
     let a = held_somewhere w.cores ring (numbers_from 1 w.total) x (contains-in (text_of w ring) hx.0 x hx.1 hx.2) in
     let b = held_somewhere w.cores ring (numbers_from 1 w.total) y (contains-in (text_of w ring) hy.0 y hy.1 hy.2) in
-    one_text p.visits w.cores p.chains x y (in-each (IsGenuine p.visits) x (w.cores a.0).held (p.texts.held a.0) a.1) (in-each (IsGenuine p.visits) y (w.cores b.0).held (p.texts.held b.0) b.1) (a.2 ∙ sym b.2) e
+    one_text p.visits w.cores p.chains x y (in-each (IsGenuine p.visits) x (w.cores a.0).held (p.texts.held a.0) a.1)
+    (in-each (IsGenuine p.visits) y (w.cores b.0).held (p.texts.held b.0) b.1) (a.2 ∙ sym b.2) e
 
 -- The laws
 

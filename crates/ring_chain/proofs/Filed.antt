@@ -27,9 +27,13 @@ report_more : (top : ℕ) (reports : List Report) (new : Report) → top < new.r
     x.ring ≡ y.ring → x ≡ y
 report_more top reports new l low one x y (inl a) (inl b) e = a ∙ sym b
 report_more top reports new l low one x y (inl a) (inr k) e =
-    (let p : y.ring.seq ≤ top = in-each (λ (x : Report). x.ring.seq ≤ top) y reports low k in let q : x.ring.seq ≡ new.ring.seq = ap (λ (r : Report). r.ring.seq) a in let s : x.ring.seq ≡ y.ring.seq = ap (λ (r : RingId). r.seq) e in absurd (omega arith))
+    (let p : y.ring.seq ≤ top = in-each (λ (x : Report). x.ring.seq ≤ top) y reports low k in let q : x.ring.seq
+    ≡ new.ring.seq = ap (λ (r : Report). r.ring.seq) a in let s : x.ring.seq ≡ y.ring.seq =
+    ap (λ (r : RingId). r.seq) e in absurd (omega arith))
 report_more top reports new l low one x y (inr h) (inl b) e =
-    (let p : x.ring.seq ≤ top = in-each (λ (x : Report). x.ring.seq ≤ top) x reports low h in let q : y.ring.seq ≡ new.ring.seq = ap (λ (r : Report). r.ring.seq) b in let s : x.ring.seq ≡ y.ring.seq = ap (λ (r : RingId). r.seq) e in absurd (omega arith))
+    (let p : x.ring.seq ≤ top = in-each (λ (x : Report). x.ring.seq ≤ top) x reports low h in let q : y.ring.seq
+    ≡ new.ring.seq = ap (λ (r : Report). r.ring.seq) b in let s : x.ring.seq ≡ y.ring.seq =
+    ap (λ (r : RingId). r.seq) e in absurd (omega arith))
 report_more top reports new l low one x y (inr h) (inr k) e = one x y h k e
 
 pub moved_filed : {A : Type 0} → (came : Frame A → Type 0) (c : Core A) (m : Move A) → MayMove came c m → Filed c → Filed (moved c m)
@@ -43,7 +47,12 @@ moved_filed came c (Enters k) h f =
     }
 moved_filed came c (Learns k) h f =
     let e : k.ring.seq ≡ floor c = ap (λ (r : RingId). r.seq) h.ring in
-    record { reports_low = f.reports_low; one_report = f.one_report; plans_low = (omega (arith, e), f.plans_low); unplanned = λ s. absurd (let q : Recovery ≡ Commit = s in let n : ⊥ = cc in n) }
+    record {
+      reports_low = f.reports_low;
+      one_report = f.one_report;
+      plans_low = (omega (arith, e), f.plans_low);
+      unplanned = λ s. absurd (let q : Recovery ≡ Commit = s in let n : ⊥ = cc in n);
+    }
 moved_filed came c (Idles state gathering shown queue sends) h f =
     record {
       reports_low = f.reports_low;
@@ -51,9 +60,17 @@ moved_filed came c (Idles state gathering shown queue sends) h f =
       plans_low = f.plans_low;
       unplanned = λ s. elim (h.leaves) [
         | inl same ↦ f.unplanned (sym same ∙ s)
-        | inr other ↦ elim other [ inl g ↦ absurd (let q : Gather ≡ Commit = sym g ∙ s in let n : ⊥ = cc in n) | inr t ↦ absurd (let q : Stopped ≡ Commit = sym t ∙ s in let n : ⊥ = cc in n) ]
+        | inr other ↦ elim other [
+          | inl g ↦ absurd (let q : Gather ≡ Commit = sym g ∙ s in let n : ⊥ = cc in n)
+          | inr t ↦ absurd (let q : Stopped ≡ Commit = sym t ∙ s in let n : ⊥ = cc in n)
+        ]
       ];
     }
 moved_filed came c (Visits t fresh requests again queue) h f = f
 moved_filed came c (Takes x) h f = f
-moved_filed came c Installs h f = record { reports_low = f.reports_low; one_report = f.one_report; plans_low = f.plans_low; unplanned = λ s. absurd (let q : Operational ≡ Commit = s in let n : ⊥ = cc in n) }
+moved_filed came c Installs h f = record {
+  reports_low = f.reports_low;
+  one_report = f.one_report;
+  plans_low = f.plans_low;
+  unplanned = λ s. absurd (let q : Operational ≡ Commit = s in let n : ⊥ = cc in n);
+}

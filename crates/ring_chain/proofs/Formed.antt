@@ -1,8 +1,11 @@
--- On a ring that is formed from the start there are no joins and no commit tokens, so that it runs until a processor stops; all its messages are users', and each processor tells as agreed the numbers 1, 2, 3 and so on up to its front.
-use Rattle.std.proofs.Common.{◌≡◌, ℕ, zero, suc, ◌+◌, ◌-◌, ◌<◌, ◌≤◌, ◌⊎◌, inl, inr, Bool, true, false, ◌&&◌, ◌==◌, List, [], ◌∷◌, ◌++◌, map, Option, Some, None, refl, ap, sym, ◌∙◌, subst, arith, append-nil}
+-- On a ring that is formed from the start there are no joins and no commit tokens, so that it runs until a processor
+-- stops; all its messages are users', and each processor tells as agreed the numbers 1, 2, 3 and so on up to its front.
+use Rattle.std.proofs.Common.{◌≡◌, ℕ, zero, suc, ◌+◌, ◌-◌, ◌<◌, ◌≤◌, ◌⊎◌, inl, inr, Bool, true, false, ◌&&◌, ◌==◌, List}
+use Rattle.std.proofs.Common.{[], ◌∷◌, ◌++◌, map, Option, Some, None, refl, ap, sym, ◌∙◌, subst, arith, append-nil}
 use Rattle.std.specs.Prelude.{nat_lt, not, filter, filter_map, find, reverse, slice_get}
 use Rattle.std.specs.List.{AllByRecursion as Each, cons_option, list_any}
-use Rattle.std.proofs.lemmas.Bool.{cond_both, cases_Bool, and_parts, and_right, false≢true, cond-true, cond-false, or_cases, eqb-true, eq-eqb, ne_eqb, both_ways}
+use Rattle.std.proofs.lemmas.Bool.{cond_both, cases_Bool, and_parts, and_right, false≢true, cond-true, cond-false}
+use Rattle.std.proofs.lemmas.Bool.{or_cases, eqb-true, eq-eqb, ne_eqb, both_ways}
 use Rattle.std.proofs.lemmas.List.Elements.{filter_map-append}
 use Rattle.ring_base.specs.Numbers.{numbers_from}
 use Rattle.ring_base.specs.Rings.{same_ring}
@@ -32,14 +35,17 @@ use Rattle.ring_core.specs.Views.{front, mark}
 use Rattle.ring_core.specs.Visiting.{room_at, new_payloads, new_messages, repeated, to_others, to_next, forwarded}
 use Rattle.ring_core.specs.Joining.{proposes, proposes_in}
 use Rattle.ring_core.specs.Giving.{installs_in, addressed, sent, agreed_from, safe_from, given, settle, delivered}
-use Rattle.ring_core.specs.Deciding.{Act, Ignore, Enqueue, Repeat, Announce, Invite, GiveUp, Regather, Agree, Widen, RegatherAndAgree, RegatherAndWiden, Take, Visit, Fill, Learn, decide}
+use Rattle.ring_core.specs.Deciding.{Act, Ignore, Enqueue, Repeat, Announce, Invite, GiveUp, Regather, Agree, Widen}
+use Rattle.ring_core.specs.Deciding.{RegatherAndAgree, RegatherAndWiden, Take, Visit, Fill, Learn, decide}
 use Rattle.ring_core.specs.Acting.{gives_old, shown_again, act, may_follow, proposed_after}
 use Rattle.ring_core.specs.Stepping.{ring_step}
 use Rattle.ring_moves.specs.Laws.{HasPassed, CameWith}
 use Rattle.ring_moves.specs.Facts.{IsIn}
 use Rattle.ring_moves.specs.declared.event.RingEvent.{RingEvent}
 use Rattle.ring_moves.specs.declared.event.RingEvent.TheVariants.{Send, Deliver, Timeout, Stop}
-use Rattle.ring_moves.specs.Worlds.{Carried, World, put, carried_by, carried_from, after_step, is_node, stepped_if, stopped_if, handed_if, handed, frame_at, is_repeat, happens, run, ring_formed, acts_on_formed, run_formed}
+use Rattle.ring_moves.specs.Worlds.{Carried, World, put, carried_by, carried_from, after_step, is_node, stepped_if}
+use Rattle.ring_moves.specs.Worlds.{stopped_if, handed_if, handed, frame_at, is_repeat, happens, run, ring_formed}
+use Rattle.ring_moves.specs.Worlds.{acts_on_formed, run_formed}
 use Rattle.ring_moves.specs.Moves.{AllAreUsers}
 use Rattle.ring_moves.proofs.Guards.{guarded}
 use Rattle.ring_moves.proofs.Causes.{caused}
@@ -104,7 +110,11 @@ operating n c f (inl e) =
 
 not_recovering : {A : Type 0} → (n : ℕ) (c : Core A) → IsFormed n c → c.state ≡ Recovery → ⊥
 not_recovering n c f e =
-    elim (f.state) [ inl o ↦ (let q : Recovery ≡ Operational = sym e ∙ o in let x : ⊥ = cc in x) | inr s ↦ (let q : Recovery ≡ Stopped = sym e ∙ s in let x : ⊥ = cc in x) ]
+    elim (f.state) [
+      | inl o ↦ (let q : Recovery ≡ Operational = sym e ∙ o in let x : ⊥ = cc in x)
+      | inr s ↦
+          (let q : Recovery ≡ Stopped = sym e ∙ s in let x : ⊥ = cc in x)
+    ]
 
 one_token : {A : Type 0} → (u s : Sent A) → IsQuiet u.frame → Some u ≡ Some s → IsQuiet s.frame
 one_token {A} u s h e = (let same : u ≡ s = cc in subst (λ (s : Sent A). IsQuiet s.frame) same h)
@@ -112,19 +122,26 @@ one_token {A} u s h e = (let same : u ≡ s = cc in subst (λ (s : Sent A). IsQu
 visited_formed : {A : Type 0} → (n : ℕ) (c : Core A) (t : Token) → IsFormed n c → c.state ≡ Operational → IsActed n (act c (Visit t))
 visited_formed {A} n c t f o =
     let new : Each (λ (x : Message A). IsUsers x) (new_messages c t) = numbered_users t.ring c.me t.seq (new_payloads c t) (fresh_users c t o f.queued) in
-    let old : Each (λ (x : Message A). IsUsers x) (repeated c t) = each-weaker (λ (x : Message A). IsIn x c.held) (λ (x : Message A). IsUsers x) (λ x i. in-each (λ (x : Message A). IsUsers x) x c.held f.users i) (repeated c t) (all_repeats c t) in
+    let old : Each (λ (x : Message A). IsUsers x) (repeated c t) = each-weaker (λ (x : Message A). IsIn x c.held)
+    (λ (x : Message A). IsUsers x) (λ x i. in-each (λ (x : Message A). IsUsers x) x c.held f.users i) (repeated c t)
+    (all_repeats c t) in
     record {
       core = record {
         installed = f.installed;
         rings = f.rings;
         installs = f.installs;
         state = f.state;
-        users = each-append (λ (x : Message A). IsUsers x) (reverse (new_messages c t)) c.held (each-reverse (λ (x : Message A). IsUsers x) (new_messages c t) new) f.users;
+        users = each-append (λ (x : Message A). IsUsers x) (reverse (new_messages c t)) c.held
+            (each-reverse (λ (x : Message A). IsUsers x) (new_messages c t) new) f.users;
         queued = queue_kept c.state (room_at c t) c.queue f.queued;
         shown = λ s e. one_token (to_next c (forwarded c t)) s tt e;
       };
       sends = each-append (λ (s : Sent A). IsQuiet s.frame) (to_others c (repeated c t ++ new_messages c t)) (to_next c (forwarded c t) ∷ [])
-          (each-map (λ (s : Sent A). IsQuiet s.frame) (λ x. record { to = less c.running.members (only c.me); frame = MessageFrame x }) (repeated c t ++ new_messages c t) (each-append (λ (x : Message A). IsUsers x) (repeated c t) (new_messages c t) old new))
+          (each-map (λ (s : Sent A). IsQuiet s.frame) (λ x. record {
+            to = less c.running.members (only c.me);
+            frame = MessageFrame x;
+          }) (repeated c t ++ new_messages c t) (each-append (λ (x : Message A). IsUsers x)
+          (repeated c t) (new_messages c t) old new))
           (tt, tt);
     }
 
@@ -144,7 +161,18 @@ acted_formed : {A : Type 0} → (n : ℕ) (c : Core A) (input : Input A) (a : Ac
     IsAsked a → IsActed n (act c a)
 acted_formed n c input Ignore f w g h u = record { core = f; sends = tt }
 acted_formed {A} n c input (Enqueue p) f w g h u =
-    record { core = record { installed = f.installed; rings = f.rings; installs = f.installs; state = f.state; users = f.users; queued = each-push (λ (p : Payload A). is_user p ≡ true) c.queue p f.queued u; shown = f.shown }; sends = tt }
+    record {
+      core = record {
+        installed = f.installed;
+        rings = f.rings;
+        installs = f.installs;
+        state = f.state;
+        users = f.users;
+        queued = each-push (λ (p : Payload A). is_user p ≡ true) c.queue p f.queued u;
+        shown = f.shown;
+      };
+      sends = tt;
+    }
 acted_formed n c input Repeat f w g h u = record { core = f; sends = again_quiet c.shown f.shown }
 acted_formed {A} n c input (Take x) f w g h u = record { core = took_formed n c x f (subst (λ (i : Input A). IsAllowed i) h w); sends = tt }
 acted_formed n c input (Visit t) f w g h u = visited_formed n c t f (operating n c f g.0)
@@ -183,7 +211,8 @@ step_is n c input f =
     ap (λ b. delivered c (proposed_after b d)) e ∙ ap (λ b. settle b d.core (sent d.sends ++ given c d.core)) (none_installed d.core.state f.state d.core)
 
 acting_grows : {A : Type 0} → (c : Core A) (input : Input A) (r : RingId) → front c r ≤ front (acting c input).core r
-acting_grows {A} c input r = subst (λ (d : Did A). front c r ≤ front d.core r) (sym (acted c (decide c input))) ((moved_grows c (move_of c (decide c input))).fronts r)
+acting_grows {A} c input r = subst (λ (d : Did A). front c r ≤ front d.core r) (sym (acted c (decide c input)))
+    ((moved_grows c (move_of c (decide c input))).fronts r)
 
 -- What is told as agreed
 
@@ -207,10 +236,18 @@ found_in_front : {A : Type 0} → (held : List (Message A)) → Each (λ (x : Me
     n ≤ front_of held ring → IsFound held ring n
 found_in_front {A} held u ring n low high =
     let f = find_one (is_numbered ring n) held ((front_is held ring).below n low high) in
-    record { message = f.0; is = f.1; number = eqb-true (f.0).number n (and_parts (same_ring (f.0).ring ring) ((f.0).number == n) f.2).1; user = in-each (λ (x : Message A). IsUsers x) f.0 held u f.3 }
+    record {
+      message = f.0;
+      is = f.1;
+      number = eqb-true (f.0).number n
+          (and_parts (same_ring (f.0).ring ring) ((f.0).number == n) f.2).1;
+      user = in-each (λ (x : Message A). IsUsers x)
+          f.0 held u f.3;
+    }
 
 all_told : {A : Type 0} → (held : List (Message A)) (ring : RingId) (first count : ℕ) → ((n : ℕ) → first ≤ n → n < first + count → IsFound held ring n) →
-    filter_map agreed_of (map (λ x. Agreed ring x.number x) (filter (λ (x : Message A). is_user x.payload) (filter_map (found held ring) (numbers_from first count)))) ≡ numbers_from first count
+    filter_map agreed_of (map (λ x. Agreed ring x.number x) (filter (λ (x : Message A). is_user x.payload)
+    (filter_map (found held ring) (numbers_from first count)))) ≡ numbers_from first count
 all_told held ring first zero h = refl
 all_told {A} held ring first (suc count) h =
     let f = h first (omega arith) (omega arith) in
@@ -218,9 +255,13 @@ all_told {A} held ring first (suc count) h =
     let rest = filter_map (found held ring) (numbers_from (suc first) count) in
     let tell : List (Message A) → List ℕ = λ xs. filter_map agreed_of (map (λ x. Agreed ring x.number x) xs) in
     let user : Message A → Bool = λ x. is_user x.payload in
-    let a : tell (filter user (cons_option (found held ring first) rest)) ≡ tell (filter user (x ∷ rest)) = ap (λ o. tell (filter user (cons_option o rest))) f.is in
-    let b : tell (filter user (x ∷ rest)) ≡ x.number ∷ tell (filter user rest) = ap tell (cond-true (user x) (x ∷ filter user rest) (filter user rest) f.user) in
-    let c : x.number ∷ tell (filter user rest) ≡ first ∷ numbers_from (suc first) count = ap (λ n. n ∷ tell (filter user rest)) f.number ∙ ap (λ ns. first ∷ ns) (all_told held ring (suc first) count (λ n l k. h n (omega arith) (omega arith))) in
+    let a : tell (filter user (cons_option (found held ring first) rest)) ≡ tell (filter user (x ∷ rest)) =
+    ap (λ o. tell (filter user (cons_option o rest))) f.is in
+    let b : tell (filter user (x ∷ rest)) ≡ x.number ∷ tell (filter user rest) =
+    ap tell (cond-true (user x) (x ∷ filter user rest) (filter user rest) f.user) in
+    let c : x.number ∷ tell (filter user rest) ≡ first ∷ numbers_from (suc first) count =
+    ap (λ n. n ∷ tell (filter user rest)) f.number ∙ ap (λ ns. first ∷ ns)
+    (all_told held ring (suc first) count (λ n l k. h n (omega arith) (omega arith))) in
     a ∙ b ∙ c
 
 none_sent : {A : Type 0} → (sends : List (Sent A)) → filter_map agreed_of (map (λ (s : Sent A). SendOut s.to s.frame) sends) ≡ []
@@ -233,10 +274,13 @@ step_tells {A} n c d sends e u =
     let r = c.installed.ring in
     let f = front c r in
     let ring : r ≡ (all_of n).ring = ap (λ (p : Configuration). p.ring) e in
-    let safe : filter_map agreed_of (safe_from d r (mark c r)) ≡ [] = cond_both (nat_lt (mark c r) (mark d r)) (Safe r (mark d r) ∷ []) [] (λ (outs : List (Out A)). filter_map agreed_of outs ≡ []) (λ t. refl) (λ t. refl) in
-    let told : filter_map agreed_of (agreed_from d r f) ≡ numbers_from (f + 1) (front d r - f) = all_told d.held r (f + 1) (front d r - f) (λ m l k. found_in_front d.held u r m (omega arith) (omega arith)) in
+    let safe : filter_map agreed_of (safe_from d r (mark c r)) ≡ [] = cond_both (nat_lt (mark c r) (mark d r))
+    (Safe r (mark d r) ∷ []) [] (λ (outs : List (Out A)). filter_map agreed_of outs ≡ []) (λ t. refl) (λ t. refl) in
+    let told : filter_map agreed_of (agreed_from d r f) ≡ numbers_from (f + 1) (front d r - f) = all_told d.held r
+    (f + 1) (front d r - f) (λ m l k. found_in_front d.held u r m (omega arith) (omega arith)) in
     let all : filter_map agreed_of (given c d) ≡ numbers_from (f + 1) (front d r - f) =
-    filter_map-append agreed_of (agreed_from d r f) (safe_from d r (mark c r)) ∙ ap (λ xs. filter_map agreed_of (agreed_from d r f) ++ xs) safe ∙ append-nil _ ∙ told in
+    filter_map-append agreed_of (agreed_from d r f) (safe_from d r (mark c r))
+    ∙ ap (λ xs. filter_map agreed_of (agreed_from d r f) ++ xs) safe ∙ append-nil _ ∙ told in
     filter_map-append agreed_of (sent sends) (given c d) ∙ ap (λ xs. xs ++ filter_map agreed_of (given c d)) (none_sent (addressed sends)) ∙ all
     ∙ ap (λ r. numbers_from (front c r + 1) (front d r - front c r)) ring
 
@@ -250,18 +294,21 @@ pub record IsFormedWorld {A : Type 0} (n : ℕ) (w : World A) : Type 0 where
 pub numbers-append : (first m k : ℕ) → numbers_from first m ++ numbers_from (first + m) k ≡ numbers_from first (m + k)
 numbers-append first zero k = (let e : first + 0 ≡ first = omega arith in let f : 0 + k ≡ k = omega arith in rw (e, f) refl)
 numbers-append first (suc m) k =
-    (let e : first + suc m ≡ suc first + m = omega arith in let f : suc m + k ≡ suc (m + k) = omega arith in rw (e, f) (ap (λ ns. first ∷ ns) (numbers-append (suc first) m k)))
+    (let e : first + suc m ≡ suc first + m = omega arith in let f : suc m + k ≡ suc (m + k) = omega arith in rw (e, f)
+    (ap (λ ns. first ∷ ns) (numbers-append (suc first) m k)))
 
 -- what a step of one tells, of each processor
 told_own : {A : Type 0} → (i q : ℕ) (outs : List (Out A)) → i ≡ q → filter_map (agreed_number q) (map (λ o. (i, o)) outs) ≡ filter_map agreed_of outs
 told_own i q [] e = refl
 told_own i q (o ∷ outs) e =
-    ap (λ x. cons_option x (filter_map (agreed_number q) (map (λ o. (i, o)) outs))) (cond-true (i == q) (agreed_of o) None (eq-eqb i q e)) ∙ ap (cons_option (agreed_of o)) (told_own i q outs e)
+    ap (λ x. cons_option x (filter_map (agreed_number q) (map (λ o. (i, o)) outs)))
+    (cond-true (i == q) (agreed_of o) None (eq-eqb i q e)) ∙ ap (cons_option (agreed_of o)) (told_own i q outs e)
 
 told_other : {A : Type 0} → (i q : ℕ) (outs : List (Out A)) → (i ≡ q → ⊥) → filter_map (agreed_number q) (map (λ o. (i, o)) outs) ≡ []
 told_other i q [] e = refl
 told_other i q (o ∷ outs) e =
-    ap (λ x. cons_option x (filter_map (agreed_number q) (map (λ o. (i, o)) outs))) (cond-false (i == q) (agreed_of o) None (ne_eqb i q e)) ∙ told_other i q outs e
+    ap (λ x. cons_option x (filter_map (agreed_number q) (map (λ o. (i, o)) outs)))
+    (cond-false (i == q) (agreed_of o) None (ne_eqb i q e)) ∙ told_other i q outs e
 
 module _ {A : Type 0} (n : ℕ) (w : World A) (f : IsFormedWorld n w) where
   after_formed : (i : ℕ) (input : Input A) → IsAllowed input → IsFormedWorld n (after_step w i (ring_step (w.cores i) input))
@@ -273,17 +320,27 @@ module _ {A : Type 0} (n : ℕ) (w : World A) (f : IsFormedWorld n w) where
       let done = acted_formed n c input a (f.cores i) allowed (guarded c input) (caused c input) (asked_by c input a refl (caused c input)) in
       let is = step_is n c input done.core in
       let outs = sent d.sends ++ given c d.core in
-      let v : World A = record w { cores = put w.cores i d.core; frames = w.frames ++ filter_map (carried_by i) outs; outs = w.outs ++ map (λ o. (i, o)) outs } in
+      let v : World A = record w {
+        cores = put w.cores i d.core;
+        frames = w.frames ++ filter_map (carried_by i) outs;
+        outs = w.outs ++ map (λ o. (i, o)) outs;
+      } in
       let sends : filter_map (carried_by i) outs ≡ carried_from i d.sends = outs_carried i d.sends (given c d.core) (told_from d.core c.installed.ring _ _) in
       let quiet : Each (λ (g : Carried A). IsQuiet g.frame) (carried_from i d.sends) =
-      each-map (λ (g : Carried A). IsQuiet g.frame) (λ s. record { from = i; to = s.to; frame = s.frame }) (addressed d.sends) (each-filter (λ (s : Sent A). IsQuiet s.frame) (λ s. not (s.to == nobody)) d.sends done.sends) in
+      each-map (λ (g : Carried A). IsQuiet g.frame) (λ s. record { from = i; to = s.to; frame = s.frame })
+      (addressed d.sends) (each-filter (λ (s : Sent A). IsQuiet s.frame) (λ s. not (s.to == nobody))
+      d.sends done.sends) in
       let grown : front c r ≤ front d.core r = acting_grows c input r in
-      let told : filter_map agreed_of outs ≡ numbers_from (front c r + 1) (front d.core r - front c r) = step_tells n c d.core d.sends (f.cores i).installed (done.core).users in
+      let told : filter_map agreed_of outs ≡ numbers_from (front c r + 1) (front d.core r - front c r) =
+      step_tells n c d.core d.sends (f.cores i).installed (done.core).users in
       let whole : IsFormedWorld n v = record {
         cores = put-each (λ q (x : Core A). IsFormed n x) w.cores i d.core (λ q m. f.cores q) done.core;
-        frames = each-append (λ (g : Carried A). IsQuiet g.frame) w.frames (filter_map (carried_by i) outs) f.frames (subst (Each (λ (g : Carried A). IsQuiet g.frame)) (sym sends) quiet);
+        frames = each-append (λ (g : Carried A). IsQuiet g.frame) w.frames (filter_map (carried_by i) outs) f.frames
+            (subst (Each (λ (g : Carried A). IsQuiet g.frame)) (sym sends) quiet);
         told = put-each (λ q (x : Core A). agreed_numbers v q ≡ numbers_from 1 (front x r)) w.cores i d.core
-            (λ q m. filter_map-append (agreed_number q) w.outs (map (λ o. (i, o)) outs) ∙ ap (λ xs. agreed_numbers w q ++ xs) (told_other i q outs (λ e. m (sym e))) ∙ append-nil (agreed_numbers w q) ∙ f.told q)
+            (λ q m. filter_map-append (agreed_number q) w.outs (map (λ o. (i, o)) outs)
+            ∙ ap (λ xs. agreed_numbers w q ++ xs) (told_other i q outs (λ e. m (sym e)))
+            ∙ append-nil (agreed_numbers w q) ∙ f.told q)
             (let one : 1 + front c r ≡ front c r + 1 = omega arith in
             let sum : front c r + (front d.core r - front c r) ≡ front d.core r = omega arith in
             filter_map-append (agreed_number i) w.outs (map (λ o. (i, o)) outs)
@@ -304,7 +361,16 @@ module _ {A : Type 0} (n : ℕ) (w : World A) (f : IsFormedWorld n w) where
   stopped_formed true i =
       let c = w.cores i in
       record {
-        cores = put-each (λ q (x : Core A). IsFormed n x) w.cores i (halted c) (λ q m. f.cores q) (record { installed = (f.cores i).installed; rings = (f.cores i).rings; installs = (f.cores i).installs; state = inr refl; users = (f.cores i).users; queued = (f.cores i).queued; shown = (f.cores i).shown });
+        cores = put-each (λ q (x : Core A). IsFormed n x) w.cores i (halted c) (λ q m. f.cores q)
+            (record {
+              installed = (f.cores i).installed;
+              rings = (f.cores i).rings;
+              installs = (f.cores i).installs;
+              state = inr refl;
+              users = (f.cores i).users;
+              queued = (f.cores i).queued;
+              shown = (f.cores i).shown;
+            });
         frames = f.frames;
         told = put-each (λ q (x : Core A). agreed_numbers w q ≡ numbers_from 1 (front x (all_of n).ring)) w.cores i (halted c) (λ q m. f.told q) (f.told i);
       }
@@ -334,12 +400,22 @@ run_formed_holds n w (e ∷ events) h f = run_formed_holds n (happens w e) event
 
 pub all_act : {A : Type 0} → (events : List (RingEvent A)) → Each (λ (e : RingEvent A). acts_on_formed e ≡ true) (filter acts_on_formed events)
 all_act [] = tt
-all_act {A} (e ∷ events) = cond_both (acts_on_formed e) (e ∷ filter acts_on_formed events) (filter acts_on_formed events) (Each (λ (e : RingEvent A). acts_on_formed e ≡ true)) (λ t. (t, all_act events)) (λ t. all_act events)
+all_act {A} (e ∷ events) = cond_both (acts_on_formed e) (e ∷ filter acts_on_formed events)
+    (filter acts_on_formed events) (Each (λ (e : RingEvent A). acts_on_formed e ≡ true)) (λ t. (t, all_act events))
+    (λ t. all_act events)
 
 -- Openings
 
 formed_core : {A : Type 0} → (n q : ℕ) → IsFormed {A = A} n (formed n q)
-formed_core n q = record { installed = refl; rings = refl; installs = refl; state = inl refl; users = tt; queued = tt; shown = λ s e. absurd (let x : ⊥ = cc in x) }
+formed_core n q = record {
+  installed = refl;
+  rings = refl;
+  installs = refl;
+  state = inl refl;
+  users = tt;
+  queued = tt;
+  shown = λ s e. absurd (let x : ⊥ = cc in x);
+}
 
 packed_none : {A : Type 0} → (n : ℕ) → packed {A = A} n [] ≡ []
 packed_none zero = refl
@@ -357,7 +433,9 @@ start_formed {A} n =
     let held : front d.core r ≡ 0 = ap (λ (ps : List (Payload A)). front_of (reverse (numbered t.ring c.me t.seq ps) ++ c.held) r) none in
     record {
       cores = put-each (λ q (x : Core A). IsFormed n x) (formed n) 1 d.core (λ q m. formed_core n q) first.core;
-      frames = each-map (λ (g : Carried A). IsQuiet g.frame) (λ s. record { from = 1; to = s.to; frame = s.frame }) (addressed d.sends) (each-filter (λ (s : Sent A). IsQuiet s.frame) (λ s. not (s.to == nobody)) d.sends first.sends);
+      frames = each-map (λ (g : Carried A). IsQuiet g.frame) (λ s. record { from = 1; to = s.to; frame = s.frame })
+          (addressed d.sends) (each-filter (λ (s : Sent A). IsQuiet s.frame) (λ s. not (s.to == nobody))
+          d.sends first.sends);
       told = put-each (λ q (x : Core A). [] ≡ numbers_from 1 (front x r)) (formed n) 1 d.core (λ q m. refl) (ap (numbers_from 1) (sym held));
     }
 

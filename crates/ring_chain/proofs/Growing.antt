@@ -38,10 +38,25 @@ pub grown_same : {A : Type 0} → (c : Core A) → HasGrown c c
 grown_same c = record { me = refl; rings = λ p h. h; reports = λ x h. h; plans = λ k h. h; turns = λ v h. h; fronts = λ r. omega arith }
 
 pub moved_grows : {A : Type 0} → (c : Core A) (m : Move A) → HasGrown c (moved c m)
-moved_grows c (Idles state gathering shown queue sends) = record { me = refl; rings = λ p h. h; reports = λ x h. h; plans = λ k h. h; turns = λ v h. h; fronts = λ r. omega arith }
+moved_grows c (Idles state gathering shown queue sends) = record {
+  me = refl;
+  rings = λ p h. h;
+  reports = λ x h. h;
+  plans = λ k h. h;
+  turns = λ v h. h;
+  fronts = λ r. omega arith;
+}
 moved_grows c (Enters k) = record { me = refl; rings = λ p h. inr h; reports = λ x h. inr h; plans = λ k h. h; turns = λ v h. h; fronts = λ r. omega arith }
 moved_grows c (Learns k) = record { me = refl; rings = λ p h. h; reports = λ x h. h; plans = λ k h. inr h; turns = λ v h. h; fronts = λ r. omega arith }
-moved_grows c (Visits t fresh requests again queue) = record { me = refl; rings = λ p h. h; reports = λ x h. h; plans = λ k h. h; turns = λ v h. inr h; fronts = λ r. front-append (reverse (numbered t.ring c.me t.seq fresh)) c.held r }
+moved_grows c (Visits t fresh requests again queue) = record {
+  me = refl;
+  rings = λ p h. h;
+  reports = λ x h. h;
+  plans = λ k h. h;
+  turns = λ v h. inr h;
+  fronts = λ r. front-append (reverse (numbered t.ring c.me t.seq fresh))
+      c.held r;
+}
 moved_grows c (Takes x) =
     record {
       me = refl;
@@ -77,7 +92,9 @@ visits_grow {A} visits i c (Visits t fresh requests again queue) =
     let v : VisitBy A = record { who = i; turn = turn_with c t fresh requests } in
     record {
       arrived = λ r u h. cond_both (same_ring t.ring r) (v ∷ visits r) (visits r) (λ vs. HasArrived r u vs) (λ e. inr h) (λ e. h);
-      genuine = λ x h. cond_both (same_ring t.ring x.ring) (v ∷ visits x.ring) (visits x.ring) (λ vs. SomeIs (λ (v : VisitBy A). IsIn x (numbered x.ring v.who v.turn.came.seq v.turn.fresh)) vs) (λ e. inr h) (λ e. h);
+      genuine = λ x h. cond_both (same_ring t.ring x.ring) (v ∷ visits x.ring) (visits x.ring)
+          (λ vs. SomeIs (λ (v : VisitBy A). IsIn x (numbered x.ring v.who v.turn.came.seq v.turn.fresh)) vs)
+          (λ e. inr h) (λ e. h);
     }
 visits_grow visits i c (Idles state gathering shown queue sends) = record { arrived = λ r u h. h; genuine = λ x h. h }
 visits_grow visits i c (Enters k) = record { arrived = λ r u h. h; genuine = λ x h. h }
@@ -111,4 +128,5 @@ right_grows visits visits' old new c g from to (JoinFrame j) h = tt
 
 pub all_right_grow : {A : Type 0} → (visits visits' : Chains A) (old new : ℕ → Core A) → ChainsGrow visits visits' → AllGrown old new →
     (frames : List (Carried A)) → AreRight visits old frames → AreRight visits' new frames
-all_right_grow {A} visits visits' old new c g frames h = each-weaker _ _ (λ (f : Carried A) k. right_grows visits visits' old new c g f.from f.to f.frame k) frames h
+all_right_grow {A} visits visits' old new c g frames h =
+    each-weaker _ _ (λ (f : Carried A) k. right_grows visits visits' old new c g f.from f.to f.frame k) frames h

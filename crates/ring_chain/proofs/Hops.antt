@@ -17,7 +17,8 @@ use Rattle.ring_commit.specs.Rounds.{receiver, is_own}
 use Rattle.ring_core.specs.State.{Core, Report}
 use Rattle.ring_moves.specs.Facts.{IsIn}
 use Rattle.ring_moves.specs.Worlds.{Carried, World}
-use Rattle.ring_moves.specs.CommitRounds.{all_pairs, report_for, are_reports, is_handed_on, is_hop, is_hop_if_commit, are_hops, commit_in, commits_of, agree_on_members}
+use Rattle.ring_moves.specs.CommitRounds.{all_pairs, report_for, are_reports, is_handed_on, is_hop, is_hop_if_commit}
+use Rattle.ring_moves.specs.CommitRounds.{are_hops, commit_in, commits_of, agree_on_members}
 use Rattle.ring_moves.proofs.Lists.{each-filter_map}
 use Rattle.ring_chain.specs.Words.{Chains, IsRingOf}
 use Rattle.ring_chain.proofs.Words.{IsHop, IsRight, AreRight}
@@ -71,8 +72,11 @@ module _ {A : Type 0} (visits : Chains A) (cores : ℕ → Core A) (filed : (q :
   hop_true from to k h =
       let count : length k.entries ≡ min k.hop (size k.members) = h.count in
       let a = and_from (nat_le 1 k.hop) (nat_le k.hop (2 * size k.members)) (le-leb 1 k.hop h.low) (le-leb k.hop (2 * size k.members) h.high) in
-      let b = and_from (nat_le 1 k.hop && nat_le k.hop (2 * size k.members)) (length k.entries == min k.hop (size k.members)) a (eq-eqb (length k.entries) (min k.hop (size k.members)) count) in
-      and_from (nat_le 1 k.hop && nat_le k.hop (2 * size k.members) && (length k.entries == min k.hop (size k.members))) (are_reports cores k.ring (elements k.members) k.entries) b
+      let b = and_from (nat_le 1 k.hop && nat_le k.hop (2 * size k.members))
+      (length k.entries == min k.hop (size k.members)) a (eq-eqb (length k.entries) (min k.hop (size k.members))
+      count) in
+      and_from (nat_le 1 k.hop && nat_le k.hop (2 * size k.members)
+      && (length k.entries == min k.hop (size k.members))) (are_reports cores k.ring (elements k.members) k.entries) b
       (reports_true cores filed k.ring (elements k.members) k.entries (omega arith) h.reports)
 
   handed_true : (f : Carried A) (k : CommitToken) → IsHop cores f.from f.to k → is_handed_on f k ≡ true
@@ -86,7 +90,9 @@ module _ {A : Type 0} (visits : Chains A) (cores : ℕ → Core A) (filed : (q :
 
   frames_true : (frames : List (Carried A)) → AreRight visits cores frames → list_all (λ (f : Carried A). is_hop_if_commit cores f f.frame) frames ≡ true
   frames_true [] h = refl
-  frames_true (f ∷ frames) h = and_from (is_hop_if_commit cores f f.frame) (list_all (λ (f : Carried A). is_hop_if_commit cores f f.frame) frames) (frame_true f f.frame h.0) (frames_true frames h.1)
+  frames_true (f ∷ frames) h = and_from (is_hop_if_commit cores f f.frame)
+      (list_all (λ (f : Carried A). is_hop_if_commit cores f f.frame) frames) (frame_true f f.frame h.0)
+      (frames_true frames h.1)
 
   -- Members
 
@@ -103,7 +109,9 @@ module _ {A : Type 0} (visits : Chains A) (cores : ℕ → Core A) (filed : (q :
   agree_true : (k l : CommitToken) → Known k → Known l → agree_on_members k l ≡ true
   agree_true k l hk hl =
       elim (cases_Bool (same_ring k.ring l.ring)) [
-        | inl t ↦ or_right (not (same_ring k.ring l.ring)) (k.members == l.members) (eq-eqb k.members l.members (one_members cores are k.ring k.members l.members hk (subst (λ r. IsRingOf cores r l.members) (sym (ring_same k.ring l.ring t)) hl)))
+        | inl t ↦ or_right (not (same_ring k.ring l.ring)) (k.members == l.members)
+            (eq-eqb k.members l.members (one_members cores are k.ring k.members l.members hk
+            (subst (λ r. IsRingOf cores r l.members) (sym (ring_same k.ring l.ring t)) hl)))
         | inr f ↦ or_left (not (same_ring k.ring l.ring)) (k.members == l.members) (ap not f)
       ]
 
@@ -116,7 +124,8 @@ module _ {A : Type 0} (visits : Chains A) (cores : ℕ → Core A) (filed : (q :
   pairs_agree (k ∷ ks) hs = and_from (list_all (agree_on_members k) ks) (all_pairs agree_on_members ks) (all_agree k ks hs.0 hs.1) (pairs_agree ks hs.1)
 
   commits_known : (frames : List (Carried A)) → AreRight visits cores frames → Each Known (filter_map (λ (f : Carried A). commit_in f.frame) frames)
-  commits_known frames h = each-filter_map (λ (f : Carried A). IsRight visits cores f.from f.to f.frame) Known (λ (f : Carried A). commit_in f.frame) (λ f k r e. commit_right f.from f.to f.frame k r e) frames h
+  commits_known frames h = each-filter_map (λ (f : Carried A). IsRight visits cores f.from f.to f.frame) Known
+      (λ (f : Carried A). commit_in f.frame) (λ f k r e. commit_right f.from f.to f.frame k r e) frames h
 
 pub hops_of_runs : {A : Type 0} → (w : World A) → Holds w.cores w.frames → are_hops w ≡ true
 hops_of_runs w p = frames_true p.visits w.cores p.filed p.rings w.frames p.sent.right

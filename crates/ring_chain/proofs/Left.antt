@@ -39,18 +39,24 @@ pub front_other : {A : Type 0} → (xs held : List (Message A)) (ring : RingId) 
 front_other xs held ring h =
     let f = front_is (xs ++ held) ring in
     front_only held ring (front_of (xs ++ held) ring)
-    (record { below = λ n a b. sym (holds_other xs held ring n h) ∙ f.below n a b; next = sym (holds_other xs held ring (suc (front_of (xs ++ held) ring)) h) ∙ f.next })
+    (record {
+      below = λ n a b. sym (holds_other xs held ring n h) ∙ f.below n a b;
+      next = sym (holds_other xs held ring (suc (front_of (xs ++ held) ring)) h) ∙ f.next;
+    })
 
 pub turns_other : {A : Type 0} → (v : Turn A) (turns : List (Turn A)) (raises : List Raise) (ring : RingId) → (v.came.ring ≡ ring → ⊥) →
     safe_mark (v ∷ turns) raises ring ≡ safe_mark turns raises ring
 turns_other {A} v turns raises ring n =
-    ap (λ (ts : List (Turn A)). max (mark_by (map (λ (v : Turn A). v.went.aru) ts)) (raised_to ring raises)) (cond-false (same_ring v.came.ring ring) (v ∷ turns_of ring turns) (turns_of ring turns) (other_ring v.came.ring ring n))
+    ap (λ (ts : List (Turn A)). max (mark_by (map (λ (v : Turn A). v.went.aru) ts)) (raised_to ring raises))
+    (cond-false (same_ring v.came.ring ring) (v ∷ turns_of ring turns) (turns_of ring turns)
+    (other_ring v.came.ring ring n))
 
 pub raises_other : {A : Type 0} → (x : Raise) (turns : List (Turn A)) (raises : List Raise) (ring : RingId) → (x.ring ≡ ring → ⊥) →
     safe_mark turns (x ∷ raises) ring ≡ safe_mark turns raises ring
 raises_other {A} x turns raises ring n =
     let rest = filter (λ (x : Raise). same_ring x.ring ring) raises in
-    ap (λ (rs : List Raise). max (mark_by (forwarded_in ring turns)) (greatest (map (λ (x : Raise). x.mark) rs))) (cond-false (same_ring x.ring ring) (x ∷ rest) rest (other_ring x.ring ring n))
+    ap (λ (rs : List Raise). max (mark_by (forwarded_in ring turns)) (greatest (map (λ (x : Raise). x.mark) rs)))
+    (cond-false (same_ring x.ring ring) (x ∷ rest) rest (other_ring x.ring ring n))
 
 -- what is unwrapped is of the installed ring
 inner_other : {A : Type 0} → (old : RingId) (m : ℕ) (held : List (Message A)) (w : WrappedMessage A) (ring : RingId) → (ring ≡ old → ⊥) →

@@ -1,5 +1,7 @@
--- Each hop of a ring is taken at most once. Who takes one keeps a fact that shows it: in the first round the ring, in the second the plan, at the end the visit of the first token; and with that fact the same hop would be ignored.
-use Rattle.std.proofs.Common.{◌≡◌, ℕ, ◌*◌, ◌%◌, ◌<◌, ◌≤◌, ◌⊎◌, inl, inr, Bool, true, false, ◌&&◌, ◌==◌, List, [], ◌∷◌, ◌++◌, Option, Some, None, refl, ap, sym, ◌∙◌, subst, arith}
+-- Each hop of a ring is taken at most once. Who takes one keeps a fact that shows it: in the first round the ring, in
+-- the second the plan, at the end the visit of the first token; and with that fact the same hop would be ignored.
+use Rattle.std.proofs.Common.{◌≡◌, ℕ, ◌*◌, ◌%◌, ◌<◌, ◌≤◌, ◌⊎◌, inl, inr, Bool, true, false, ◌&&◌, ◌==◌, List, [], ◌∷◌}
+use Rattle.std.proofs.Common.{◌++◌, Option, Some, None, refl, ap, sym, ◌∙◌, subst, arith}
 use Rattle.std.specs.Prelude.{not, nat_lt, nat_le, filter}
 use Rattle.std.specs.List.{list_all}
 use Rattle.std.proofs.lemmas.Bool.{cond_both, cases_Bool, and_from, and_parts, eqb-true, ltb-true, both_ways}
@@ -23,7 +25,8 @@ use Rattle.ring_core.specs.State.{Core, Did, floor}
 use Rattle.ring_core.specs.Visiting.{accepts}
 use Rattle.ring_core.specs.Joining.{proposes}
 use Rattle.ring_core.specs.Giving.{may_install, settle}
-use Rattle.ring_core.specs.Deciding.{Act, Ignore, Enqueue, Repeat, Announce, Invite, GiveUp, Regather, Agree, Widen, RegatherAndAgree, RegatherAndWiden, Take, Visit, Fill, Learn, decide}
+use Rattle.ring_core.specs.Deciding.{Act, Ignore, Enqueue, Repeat, Announce, Invite, GiveUp, Regather, Agree, Widen}
+use Rattle.ring_core.specs.Deciding.{RegatherAndAgree, RegatherAndWiden, Take, Visit, Fill, Learn, decide}
 use Rattle.ring_core.specs.Acting.{act, may_follow, proposed_after}
 use Rattle.ring_core.specs.Stepping.{ring_step}
 use Rattle.ring_moves.specs.Laws.{HasPassed, CameWith}
@@ -31,7 +34,8 @@ use Rattle.ring_moves.specs.Facts.{IsIn}
 use Rattle.ring_moves.specs.declared.event.RingEvent.{RingEvent}
 use Rattle.ring_moves.specs.declared.event.RingEvent.TheVariants.{Send, Deliver, Timeout, Stop}
 use Rattle.ring_moves.specs.Worlds.{Carried, World, is_node, stepped_if, handed_if, handed, frame_at, happens, run, unformed}
-use Rattle.ring_moves.specs.CommitRounds.{CommitRounds, all_pairs, Taking, is_ignored, taken_unless, taken_at, taken_if, taken_of, taken_in, takings, are_other_hops}
+use Rattle.ring_moves.specs.CommitRounds.{CommitRounds, all_pairs, Taking, is_ignored, taken_unless, taken_at, taken_if}
+use Rattle.ring_moves.specs.CommitRounds.{taken_of, taken_in, takings, are_other_hops}
 use Rattle.ring_moves.specs.Moves.{Enters, Installs, moved, CameTo}
 use Rattle.ring_moves.proofs.Guards.{guarded, one_position}
 use Rattle.ring_moves.proofs.Causes.{caused}
@@ -80,7 +84,10 @@ step_grows c input =
     grown_then d.core e.core _ (proposed_grows (may_follow (decide c input) && proposes d.core) d) (settled_grows (may_install e.core) e.core _)
 
 growing : {A : Type 0} → (base : ℕ → Core A) → IsKeptInWorlds (λ cores frames. AllGrown base cores)
-growing base = record { moves = λ cores frames i m low h g. λ q. grown_then (base q) (cores q) _ (g q) (put_grows cores i (moved (cores i) m) (moved_grows (cores i) m) q) }
+growing base = record {
+  moves = λ cores frames i m low h g. λ q. grown_then (base q) (cores q) _ (g q)
+      (put_grows cores i (moved (cores i) m) (moved_grows (cores i) m) q);
+}
 
 pub event_grows : {A : Type 0} → (w : World A) (e : RingEvent A) → AllGrown w.cores (happens w e).cores
 event_grows w e = kept_run (λ cores frames. AllGrown w.cores cores) (growing w.cores) w (e ∷ []) (λ q. grown_same (w.cores q))
@@ -132,7 +139,8 @@ acted_took c k (Visit t) g (inr s) n =
     let same : s.commit ≡ k = (let e = s.came in cc) in
     let ring : t.ring ≡ s.commit.ring = ap (λ (t : Token). t.ring) s.first in
     let number : t.number ≡ 0 = ap (λ (t : Token). t.number) s.first in
-    subst (λ (k : CommitToken). Took (act c (Visit t)).core k.ring k.hop k.members) same (inr (inr (start_hop c (FrameInput (CommitFrame k)) t s, (_, inl refl, ring, number))))
+    subst (λ (k : CommitToken). Took (act c (Visit t)).core k.ring k.hop k.members) same
+    (inr (inr (start_hop c (FrameInput (CommitFrame k)) t s, (_, inl refl, ring, number))))
 acted_took c k (Enqueue p) g h n = absurd (let x : ⊥ = cc in x)
 acted_took c k Repeat g h n = absurd (let x : ⊥ = cc in x)
 acted_took c k Announce g h n = absurd (let x : ⊥ = cc in x)
@@ -160,13 +168,17 @@ newer_all n p v [] h i e = absurd i
 newer_all {A} n p v (u ∷ vs) h i e =
     let test : Turn A → Bool = λ v. nat_lt v.came.number n in
     cond_both (p u) (u ∷ filter p vs) (filter p vs) (λ (us : List (Turn A)). list_all test us ≡ true → v.came.number < n)
-    (λ t k. (let q = and_parts (test u) (list_all test (filter p vs)) k in elim i [ inl s ↦ ltb-true v.came.number n (subst (λ (u : Turn A). test u ≡ true) (sym s) q.0) | inr j ↦ newer_all n p v vs q.1 j e ]))
+    (λ t k. (let q = and_parts (test u) (list_all test (filter p vs)) k in elim i [
+      | inl s ↦ ltb-true v.came.number n (subst (λ (u : Turn A). test u ≡ true) (sym s) q.0)
+      | inr j ↦ newer_all n p v vs q.1 j e
+    ]))
     (λ t k. elim i [ inl s ↦ absurd (both_ways (p u) t (subst (λ (u : Turn A). p u ≡ true) s e)) | inr j ↦ newer_all n p v vs k j e ])
     h
 
 visited_again : {A : Type 0} → (c : Core A) (t : Token) → accepts c t ≡ true → (v : Turn A) → IsIn v c.turns → v.came.ring ≡ t.ring → v.came.number < t.number
 visited_again c t h v i e =
-    let p = and_parts ((same_ring t.ring c.running.ring && is_newer c.turns t) && nat_lt t.number Rattle.ring_base.specs.Numbers.max_number) (nat_le (highest c.held t.ring) t.seq) h in
+    let p = and_parts ((same_ring t.ring c.running.ring && is_newer c.turns t)
+    && nat_lt t.number Rattle.ring_base.specs.Numbers.max_number) (nat_le (highest c.held t.ring) t.seq) h in
     let q = and_parts (same_ring t.ring c.running.ring && is_newer c.turns t) (nat_lt t.number Rattle.ring_base.specs.Numbers.max_number) p.0 in
     let r = and_parts (same_ring t.ring c.running.ring) (is_newer c.turns t) q.0 in
     newer_all t.number (λ (v : Turn _). same_ring v.came.ring t.ring) v c.turns r.1 i (subst (λ r. same_ring r t.ring ≡ true) (sym e) (same-self t.ring))
@@ -246,7 +258,9 @@ module _ {A : Type 0} (w : World A) (i n : ℕ) where
   stepped_here : (f : Carried A) → frame_at w.frames n ≡ Some f → has f.to i ≡ true → is_node w i ≡ true →
       (happens w (Deliver i n)).cores i ≡ (ring_step (w.cores i) (FrameInput f.frame)).core
   stepped_here f e h k =
-      ap (λ o. (handed w i o).cores i) e ∙ ap (λ b. (handed_if b w i f.frame).cores i) h ∙ ap (λ b. (stepped_if b w i (FrameInput f.frame)).cores i) k ∙ put-here w.cores i (ring_step (w.cores i) (FrameInput f.frame)).core
+      ap (λ o. (handed w i o).cores i) e ∙ ap (λ b. (handed_if b w i f.frame).cores i) h
+      ∙ ap (λ b. (stepped_if b w i (FrameInput f.frame)).cores i) k ∙ put-here w.cores i
+      (ring_step (w.cores i) (FrameInput f.frame)).core
 
   taking_if : (b : Bool) (f : Carried A) → frame_at w.frames n ≡ Some f → (has f.to i && is_node w i) ≡ b →
       TakesOne w (Deliver i n) (taken_if b (w.cores i) f.frame)
@@ -273,11 +287,17 @@ record HasTaken {A : Type 0} (cores : ℕ → Core A) (t : Taking) : Type 0 wher
   pub took : Took (cores t.who) t.commit.ring t.commit.hop t.commit.members
 
 taken_grows : {A : Type 0} → (old new : ℕ → Core A) → AllGrown old new → (t : Taking) → HasTaken old t → HasTaken new t
-taken_grows old new g t h = record { ring_of = (g _).rings _ h.ring_of; here = h.here; took = took_grows (old t.who) (new t.who) (g t.who) t.commit.ring t.commit.hop t.commit.members h.took }
+taken_grows old new g t h = record {
+  ring_of = (g _).rings _ h.ring_of;
+  here = h.here;
+  took = took_grows (old t.who)
+      (new t.who) (g t.who) t.commit.ring t.commit.hop t.commit.members h.took;
+}
 
 module _ {A : Type 0} (w : World A) (p : Holds w.cores w.frames) (e : RingEvent A) (u : Taking) (new : IsTaking w e u) where
   new_ring : IsRingOf w.cores u.commit.ring u.commit.members
-  new_ring = (let f = came_right p.visits w.cores w.frames new.i (CommitFrame u.commit) p.sent.right new.came in let hop : IsHop w.cores f.0 f.1 u.commit = f.3 in hop.ring_of)
+  new_ring = (let f = came_right p.visits w.cores w.frames new.i (CommitFrame u.commit)
+      p.sent.right new.came in let hop : IsHop w.cores f.0 f.1 u.commit = f.3 in hop.ring_of)
 
   new_here : receiver u.commit ≡ new.i
   new_here = one_position (w.cores new.i) u.commit new.taken ∙ p.rings.me new.i
@@ -297,11 +317,16 @@ module _ {A : Type 0} (w : World A) (p : Holds w.cores w.frames) (e : RingEvent 
       let q = and_parts (same_ring t.commit.ring u.commit.ring) (t.commit.hop == u.commit.hop) same in
       let ring : t.commit.ring ≡ u.commit.ring = ring_same t.commit.ring u.commit.ring q.0 in
       let hop : t.commit.hop ≡ u.commit.hop = eqb-true _ _ q.1 in
-      let members : t.commit.members ≡ u.commit.members = one_members w.cores p.rings u.commit.ring t.commit.members u.commit.members (subst (λ r. IsRingOf w.cores r t.commit.members) ring h.ring_of) new_ring in
-      let who : t.who ≡ new.i = sym h.here ∙ ap (λ n. at t.commit.members (n % size t.commit.members)) hop ∙ ap (λ m. at m (u.commit.hop % size m)) members ∙ new_here in
+      let members : t.commit.members ≡ u.commit.members = one_members w.cores p.rings u.commit.ring t.commit.members
+      u.commit.members (subst (λ r. IsRingOf w.cores r t.commit.members) ring h.ring_of) new_ring in
+      let who : t.who ≡ new.i = sym h.here ∙ ap (λ n. at t.commit.members (n % size t.commit.members)) hop
+      ∙ ap (λ m. at m (u.commit.hop % size m)) members ∙ new_here in
       let c = w.cores new.i in
       let took : Took c u.commit.ring u.commit.hop u.commit.members =
-      subst (λ m. Took c u.commit.ring u.commit.hop m) members (subst (λ n. Took c u.commit.ring n t.commit.members) hop (subst (λ r. Took c r t.commit.hop t.commit.members) ring (subst (λ q. Took (w.cores q) t.commit.ring t.commit.hop t.commit.members) who h.took))) in
+      subst (λ m. Took c u.commit.ring u.commit.hop m) members
+      (subst (λ n. Took c u.commit.ring n t.commit.members) hop
+      (subst (λ r. Took c r t.commit.hop t.commit.members) ring
+      (subst (λ q. Took (w.cores q) t.commit.ring t.commit.hop t.commit.members) who h.took))) in
       let input = FrameInput (CommitFrame u.commit) in
       not_again c (p.rings.rising new.i) (p.filed new.i) u.commit (decide c input) (guarded c input) (caused c input) new.taken took
 
@@ -311,7 +336,8 @@ others_of w p e t h ts (inl q) = subst (λ ts. list_all (are_other_hops t) ts �
 others_of w p e t h ts (inr (u, q, new)) =
     subst (λ ts. list_all (are_other_hops t) ts ≡ true) (sym q)
     (and_from (are_other_hops t u) true
-    (elim (cases_Bool (same_ring t.commit.ring u.commit.ring && (t.commit.hop == u.commit.hop))) [ inl same ↦ absurd (other w p e u new t h same) | inr differ ↦ ap not differ ]) refl)
+    (elim (cases_Bool (same_ring t.commit.ring u.commit.ring && (t.commit.hop == u.commit.hop)))
+    [ inl same ↦ absurd (other w p e u new t h same) | inr differ ↦ ap not differ ]) refl)
 
 others : {A : Type 0} → (w : World A) → Holds w.cores w.frames → (t : Taking) → HasTaken w.cores t → (events : List (RingEvent A)) →
     list_all (are_other_hops t) (takings w events) ≡ true
@@ -330,7 +356,9 @@ once_in {A} w p (e ∷ events) =
     elim (taking_in w e) [
       | inl none ↦ subst (λ ts. all_pairs are_other_hops (ts ++ rest) ≡ true) (sym none) (once_in (happens w e) after events)
       | inr one ↦ subst (λ ts. all_pairs are_other_hops (ts ++ rest) ≡ true) (sym one.1)
-          (and_from (list_all (are_other_hops one.0) rest) (all_pairs are_other_hops rest) (others (happens w e) after one.0 (new_taken w p e one.0 one.2) events) (once_in (happens w e) after events))
+          (and_from (list_all (are_other_hops one.0) rest) (all_pairs are_other_hops rest)
+          (others (happens w e) after one.0 (new_taken w p e one.0 one.2) events)
+          (once_in (happens w e) after events))
     ]
 
 -- All five facts of the commit token's rounds

@@ -20,7 +20,8 @@ use Rattle.ring_core.specs.Acting.{done}
 use Rattle.ring_core.specs.Stepping.{ring_step}
 use Rattle.ring_moves.specs.declared.event.RingEvent.{RingEvent}
 use Rattle.ring_moves.specs.declared.event.RingEvent.TheVariants.{Send, Deliver, Timeout, Stop}
-use Rattle.ring_moves.specs.Worlds.{Carried, World, is_node, stepped_if, stopped_if, handed_if, handed, frame_at, happens, run, unformed, ring_formed, acts_on_formed, run_formed}
+use Rattle.ring_moves.specs.Worlds.{Carried, World, is_node, stepped_if, stopped_if, handed_if, handed, frame_at}
+use Rattle.ring_moves.specs.Worlds.{happens, run, unformed, ring_formed, acts_on_formed, run_formed}
 use Rattle.ring_moves.proofs.Lists.{each-in}
 use Rattle.ring_moves.proofs.Lifting.{put-here}
 use Rattle.ring_chain.specs.Words.{IsSafe}
@@ -54,7 +55,8 @@ marks_sent c sends = each-map (IsMark c) (λ s. SendOut s.to s.frame) (addressed
 marks_configured : {A : Type 0} → (c : Core A) → Each (IsMark c) (configured c)
 marks_configured c = (
   tt,
-  each-append (IsMark c) (map (λ x. Rest x.ring x.number x) (rests (plan c) c.held)) (Regular c.running.ring c.running.members ∷ delivered_from c c.running.ring 0 0)
+  each-append (IsMark c) (map (λ x. Rest x.ring x.number x) (rests (plan c) c.held))
+      (Regular c.running.ring c.running.members ∷ delivered_from c c.running.ring 0 0)
       (each-map (IsMark c) (λ x. Rest x.ring x.number x) (rests (plan c) c.held) (each-in _ _ (λ x k. tt)))
       (tt, marks_from c c.running.ring 0 0),
 )
@@ -80,7 +82,8 @@ unfolding ring_step
 step_marks c input =
     let d = done c (decide c input) in
     marks_settled (may_install d.core) d.core (sent d.sends ++ given c d.core)
-    (each-append (IsMark d.core) (sent d.sends) (given c d.core) (marks_sent d.core d.sends) (marks_from d.core c.installed.ring (front c c.installed.ring) (mark c c.installed.ring)))
+    (each-append (IsMark d.core) (sent d.sends) (given c d.core) (marks_sent d.core d.sends)
+    (marks_from d.core c.installed.ring (front c c.installed.ring) (mark c c.installed.ring)))
 
 -- One event
 
@@ -139,13 +142,16 @@ told_event : {A : Type 0} → (w : World A) (e : RingEvent A) → Holds w.cores 
 told_event {A} w e p h =
     let v = happens w e in
     let Told : ℕ × Out A → Type 0 = λ o. IsSafelyTold v.cores o.1 in
-    let old : Each Told w.outs = each-weaker (λ (o : ℕ × Out A). IsSafelyTold w.cores o.1) Told (λ (o : ℕ × Out A) k. told_grows w.cores v.cores (event_grows w e) o.1 k) w.outs h in
+    let old : Each Told w.outs = each-weaker (λ (o : ℕ × Out A). IsSafelyTold w.cores o.1) Told
+    (λ (o : ℕ × Out A) k. told_grows w.cores v.cores (event_grows w e) o.1 k) w.outs h in
     let q = event_holds w e p in
     elim (gives w e) [
       | inl same ↦ subst (Each Told) (sym same) old
       | inr s ↦ (let outs = (ring_step (w.cores s.i) s.input).outs in
           let new : Each (λ (o : Out A). IsSafelyTold v.cores o) outs =
-          each-weaker (IsMark (ring_step (w.cores s.i) s.input).core) (IsSafelyTold v.cores) (told_new v.cores (mark_safe q.visits v.cores q.chains q.turned q.safe) s.i (ring_step (w.cores s.i) s.input).core s.core) outs (step_marks (w.cores s.i) s.input) in
+          each-weaker (IsMark (ring_step (w.cores s.i) s.input).core) (IsSafelyTold v.cores)
+          (told_new v.cores (mark_safe q.visits v.cores q.chains q.turned q.safe) s.i
+          (ring_step (w.cores s.i) s.input).core s.core) outs (step_marks (w.cores s.i) s.input) in
           subst (Each Told) (sym s.outs) (each-append Told w.outs (map (λ o. (s.i, o)) outs) old (each-map Told (λ o. (s.i, o)) outs new)))
     ]
 

@@ -1,4 +1,5 @@
--- Who takes part in a ring is one of its members, of whom the representative is the first: so it is as a ring is proposed, and a commit token is taken at the position of its hop alone. And all who take part name the same members.
+-- Who takes part in a ring is one of its members, of whom the representative is the first: so it is as a ring is
+-- proposed, and a commit token is taken at the position of its hop alone. And all who take part name the same members.
 use Rattle.std.proofs.Common.{◌≡◌, ℕ, ◌%◌, ◌<◌, ◌≤◌, ◌⊎◌, inl, inr, List, ◌++◌, refl, ap, sym, ◌∙◌, subst, arith, mod-lt}
 use Rattle.std.proofs.Math.Nat.{zero-mod}
 use Rattle.ring_base.specs.Processors.{IsProc, IsMember, only, at, size}

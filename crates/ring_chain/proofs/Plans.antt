@@ -1,4 +1,5 @@
--- Plans: the full commit token on which recovery begins has the reports of all members; and since each wrote one report of its way into the ring, all who recover have one plan.
+-- Plans: the full commit token on which recovery begins has the reports of all members; and since each wrote one report
+-- of its way into the ring, all who recover have one plan.
 use Rattle.std.proofs.Common.{◌≡◌, ℕ, suc, min, ◌≤◌, List, [], ◌∷◌, ◌++◌, length, Some, refl, ap, sym, ◌∙◌, subst, arith}
 use Rattle.std.specs.Prelude.{slice_get}
 use Rattle.std.specs.List.{AllByRecursion as Each}
@@ -23,7 +24,11 @@ use Rattle.ring_chain.proofs.Rings.{AreRings, came_right, one_members}
 use Rattle.ring_chain.proofs.Runs.{Holds, holding, opening_holds, unformed_holds}
 
 plan_grows : {A : Type 0} → (old new : ℕ → Core A) → AllGrown old new → (k : CommitToken) → IsPlan old k → IsPlan new k
-plan_grows old new g k h = record { ring_of = (g k.ring.rep).rings _ h.ring_of; count = h.count; reports = λ x e s. (g (at k.members x)).reports _ (h.reports x e s) }
+plan_grows old new g k h = record {
+  ring_of = (g k.ring.rep).rings _ h.ring_of;
+  count = h.count;
+  reports = λ x e s. (g (at k.members x)).reports _ (h.reports x e s);
+}
 
 -- all that holds, and the plans
 pub record HoldsPlans {A : Type 0} (cores : ℕ → Core A) (frames : List (Carried A)) : Type 0 where
@@ -56,7 +61,10 @@ plans_moved {A} cores frames i m low h p =
     let g : AllGrown cores new = put_grows cores i d (moved_grows (cores i) m) in
     record {
       all = holding.moves cores frames i m low h p.all;
-      plans = put-each (λ q (x : Core A). Each (IsPlan new) x.plans) cores i d (λ q n. each-weaker (IsPlan cores) (IsPlan new) (plan_grows cores new g) (cores q).plans (p.plans q)) (each-weaker (IsPlan cores) (IsPlan new) (plan_grows cores new g) d.plans (plans_after cores frames i m p.all p.plans h));
+      plans = put-each (λ q (x : Core A). Each (IsPlan new) x.plans) cores i d
+          (λ q n. each-weaker (IsPlan cores) (IsPlan new) (plan_grows cores new g) (cores q).plans (p.plans q))
+          (each-weaker (IsPlan cores) (IsPlan new) (plan_grows cores new g) d.plans
+          (plans_after cores frames i m p.all p.plans h));
     }
 
 pub plans_hold : {A : Type 0} → (n : ℕ) (events : List (RingEvent A)) → HoldsPlans (run (unformed n) events).cores (run (unformed n) events).frames
@@ -72,19 +80,24 @@ same_lists (x ∷ xs) (y ∷ ys) e h = ap (λ z. z ∷ xs) (h 0 x y refl refl) �
 pub one_plan : {A : Type 0} → (cores : ℕ → Core A) → AreRings cores → ((q : ℕ) → Filed (cores q)) → (k l : CommitToken) → IsPlan cores k → IsPlan cores l →
     k.ring ≡ l.ring → (k.members ≡ l.members) × (k.entries ≡ l.entries)
 one_plan cores are filed k l hk hl e =
-    let members : k.members ≡ l.members = one_members cores are k.ring k.members l.members hk.ring_of (subst (λ r. IsRingOf cores r l.members) (sym e) hl.ring_of) in (
+    let members : k.members ≡ l.members = one_members cores are k.ring k.members l.members hk.ring_of
+    (subst (λ r. IsRingOf cores r l.members) (sym e) hl.ring_of) in (
       members,
       same_lists k.entries l.entries (hk.count ∙ ap size members ∙ sym hl.count) (λ x a b s t.
           let ra : IsIn (record { ring = k.ring; entry = a }) (cores (at k.members x)).reports = hk.reports x a s in
-          let rb : IsIn (record { ring = l.ring; entry = b }) (cores (at k.members x)).reports = subst (λ m. IsIn (record { ring = l.ring; entry = b }) (cores (at m x)).reports) (sym members) (hl.reports x b t) in
-          ap (λ (r : Report). r.entry) ((filed (at k.members x)).one_report (record { ring = k.ring; entry = a }) (record { ring = l.ring; entry = b }) ra rb e)),
+          let rb : IsIn (record { ring = l.ring; entry = b }) (cores (at k.members x)).reports =
+          subst (λ m. IsIn (record { ring = l.ring; entry = b }) (cores (at m x)).reports) (sym members)
+          (hl.reports x b t) in
+          ap (λ (r : Report). r.entry) ((filed (at k.members x)).one_report (record { ring = k.ring; entry = a })
+          (record { ring = l.ring; entry = b }) ra rb e)),
     )
 
 pub one_plan_in_runs : {A : Type 0} → (n : ℕ) (events : List (RingEvent A)) → HaveOnePlan (run (unformed n) events).cores
 one_plan_in_runs n events p q k l hk hl e =
     let cores = (run (unformed n) events).cores in
     let h = plans_hold n events in
-    one_plan cores (h.all).rings (h.all).filed k l (in-each (IsPlan cores) k (cores p).plans (h.plans p) hk) (in-each (IsPlan cores) l (cores q).plans (h.plans q) hl) e
+    one_plan cores (h.all).rings (h.all).filed k l (in-each (IsPlan cores) k (cores p).plans (h.plans p) hk)
+    (in-each (IsPlan cores) l (cores q).plans (h.plans q) hl) e
 
 pub plans_in_runs : {A : Type 0} → (n : ℕ) (events : List (RingEvent A)) → ArePlans (run (unformed n) events).cores
 plans_in_runs n events = (plans_hold n events).plans

@@ -1,4 +1,5 @@
--- Rings: one list of members a ring. A ring is born as its representative proposes it, above its floor; all others take part in it by its commit token, which names the same members.
+-- Rings: one list of members a ring. A ring is born as its representative proposes it, above its floor; all others take
+-- part in it by its commit token, which names the same members.
 use Rattle.std.proofs.Common.{◌≡◌, ℕ, ◌⊎◌, inl, inr, true, List, refl, ap, sym, ◌∙◌, subst}
 use Rattle.ring_base.specs.declared.ring_id.RingId.{RingId}
 use Rattle.ring_wire.specs.declared.commit.CommitToken.{CommitToken}
@@ -29,7 +30,8 @@ came_right {A} visits cores frames i f all came =
     some-each _ _ ((from : ℕ) × (to : ℕ) × (has to i ≡ true) × IsRight visits cores from to f)
     (λ (g : Carried A) right e. (g.from, g.to, e.0, subst (IsRight visits cores g.from g.to) e.1 right)) frames all came
 
-module _ {A : Type 0} (visits : Chains A) (cores : ℕ → Core A) (frames : List (Carried A)) (i : ℕ) (right : AreRight visits cores frames) (are : AreRings cores) where
+module _ {A : Type 0} (visits : Chains A) (cores : ℕ → Core A) (frames : List (Carried A)) (i : ℕ)
+    (right : AreRight visits cores frames) (are : AreRings cores) where
   -- the ring that is entered has these members for its representative too
   pub entered_shared : (k : CommitToken) → MayEnter (CameTo frames i) (cores i) k → IsRingOf (put cores i (moved (cores i) (Enters k))) k.ring k.members
   entered_shared k h =
@@ -45,7 +47,9 @@ module _ {A : Type 0} (visits : Chains A) (cores : ℕ → Core A) (frames : Lis
   -- a ring of the core is that one, or was there before
   rings_after : (m : Move A) → MayMove (CameTo frames i) (cores i) m → (p : Configuration) → IsIn p (moved (cores i) m).rings →
       IsRingOf (put cores i (moved (cores i) m)) p.ring p.members ⊎ IsIn p (cores i).rings
-  rings_after (Enters k) h p (inl e) = inl (subst (λ (p : Configuration). IsRingOf (put cores i (moved (cores i) (Enters k))) p.ring p.members) (sym e) (entered_shared k h))
+  rings_after (Enters k) h p (inl e) =
+      inl (subst (λ (p : Configuration). IsRingOf (put cores i (moved (cores i) (Enters k))) p.ring p.members) (sym e)
+      (entered_shared k h))
   rings_after (Enters k) h p (inr x) = inr x
   rings_after (Idles state gathering shown queue sends) h p x = inr x
   rings_after (Learns k) h p x = inr x
@@ -61,12 +65,15 @@ module _ {A : Type 0} (visits : Chains A) (cores : ℕ → Core A) (frames : Lis
       record {
         me = λ q. (g q).me ∙ are.me q;
         rising = put-each (λ q (x : Core A). Rising x) cores i d (λ q n. are.rising q) (moved_rises (CameTo frames i) (cores i) m h (are.rising i));
-        shared = put-each (λ q (x : Core A). (ring : RingId) (members : ℕ) → IsIn (record { ring = ring; members = members }) x.rings → IsRingOf cores' ring members) cores i d
+        shared = put-each (λ q (x : Core A). (ring : RingId) (members : ℕ)
+            → IsIn (record { ring = ring; members = members }) x.rings → IsRingOf cores' ring members) cores i d
             (λ q n ring members x. (g ring.rep).rings _ (are.shared q ring members x))
-            (λ ring members x. elim (rings_after m h (record { ring = ring; members = members }) x) [ inl new ↦ new | inr old ↦ (g ring.rep).rings _ (are.shared i ring members old) ]);
+            (λ ring members x. elim (rings_after m h (record { ring = ring; members = members }) x)
+            [ inl new ↦ new | inr old ↦ (g ring.rep).rings _ (are.shared i ring members old) ]);
       }
 
 -- a ring has one set of members
 pub one_members : {A : Type 0} → (cores : ℕ → Core A) → AreRings cores → (ring : RingId) (a b : ℕ) → IsRingOf cores ring a → IsRingOf cores ring b → a ≡ b
 one_members cores are ring a b h k =
-    ap (λ (p : Configuration). p.members) (one_ring (cores ring.rep) (are.rising ring.rep) (record { ring = ring; members = a }) (record { ring = ring; members = b }) h k refl)
+    ap (λ (p : Configuration). p.members) (one_ring (cores ring.rep) (are.rising ring.rep)
+    (record { ring = ring; members = a }) (record { ring = ring; members = b }) h k refl)

@@ -37,7 +37,8 @@ moved_holds {A} cores frames i m low h p =
     let right = p.sent.right in
     record {
       visits = visits_after p.visits i (cores i) m;
-      turned = put-each (λ q (x : Core A). Turned x) cores i (moved (cores i) m) (λ q n. p.turned q) (moved_turned (CameTo frames i) (cores i) m h (p.turned i));
+      turned = put-each (λ q (x : Core A). Turned x) cores i (moved (cores i) m) (λ q n. p.turned q)
+          (moved_turned (CameTo frames i) (cores i) m h (p.turned i));
       filed = put-each (λ q (x : Core A). Filed x) cores i (moved (cores i) m) (λ q n. p.filed q) (moved_filed (CameTo frames i) (cores i) m h (p.filed i));
       rings = rings_moved p.visits cores frames i right p.rings m h;
       chains = chains_moved p.visits cores frames i low right p.rings p.chains p.turned m h;
@@ -59,7 +60,12 @@ opening_holds {A} n =
       rings = record {
         me = λ q. refl;
         rising = λ q. alone_rises (alone q);
-        shared = λ q ring members h. elim h [ inl e ↦ (let rep : ring.rep ≡ q = ap (λ (p : Configuration). p.ring.rep) e in subst (λ j. IsIn (record { ring = ring; members = members }) (opening {A = A} n j).rings) (sym rep) (inl e)) | inr none ↦ absurd none ];
+        shared = λ q ring members h. elim h [
+          | inl e ↦ (let rep : ring.rep ≡ q = ap (λ (p : Configuration). p.ring.rep)
+              e in subst (λ j. IsIn (record { ring = ring; members = members }) (opening {A = A} n j).rings) (sym rep)
+              (inl e))
+          | inr none ↦ absurd none
+        ];
       };
       chains = record { rounds = λ r. inl refl; turns = λ q r. refl };
       texts = record { queued = λ q. tt; held = λ q. tt; wraps = λ r. tt };

@@ -1,4 +1,5 @@
--- Safety: what a safe mark covers, each member of its ring holds. By the safe lemma it is so of what two visits forwarded; and what a commit token reports as safe was a mark as it was reported.
+-- Safety: what a safe mark covers, each member of its ring holds. By the safe lemma it is so of what two visits
+-- forwarded; and what a commit token reports as safe was a mark as it was reported.
 use Rattle.std.proofs.Common.{◌≡◌, ℕ, ◌≤◌, max, inl, inr, Bool, true, false, ◌==◌, cond, List, [], ◌∷◌, map, refl, ap, sym, ◌∙◌, subst, arith}
 use Rattle.std.specs.Prelude.{filter}
 use Rattle.std.specs.List.{AllByRecursion as Each}
@@ -47,7 +48,8 @@ raised_safe cores r [] h = inl refl
 raised_safe cores r (x ∷ raises) h =
     let rest = filter (λ (x : Raise). same_ring x.ring r) raises in
     cond_both (same_ring x.ring r) (x ∷ rest) rest (λ xs. IsSafe cores r (greatest (map (λ (x : Raise). x.mark) xs)))
-    (λ e. safe_max cores r x.mark (greatest (map (λ (x : Raise). x.mark) rest)) (subst (λ q. IsSafe cores q x.mark) (ring_same x.ring r e) h.0) (raised_safe cores r raises h.1))
+    (λ e. safe_max cores r x.mark (greatest (map (λ (x : Raise). x.mark) rest))
+    (subst (λ q. IsSafe cores q x.mark) (ring_same x.ring r e) h.0) (raised_safe cores r raises h.1))
     (λ e. raised_safe cores r raises h.1)
 
 -- the greatest that reports of a ring tell
@@ -75,9 +77,11 @@ pub in_picked : {A : Type 0} → (v : VisitBy A) (vs : List (VisitBy A)) → IsI
 in_picked v [] h = absurd h
 in_picked {A} v (w ∷ vs) (inl e) =
     let P : List (Turn A) → Type 0 = λ ts. IsIn v.turn ts in
-    subst P (sym (cond-true (w.who == v.who) (w.turn ∷ picked v.who vs) (picked v.who vs) (eq-eqb w.who v.who (ap (λ (u : VisitBy A). u.who) (sym e))))) (inl (ap (λ (u : VisitBy A). u.turn) e))
+    subst P (sym (cond-true (w.who == v.who) (w.turn ∷ picked v.who vs) (picked v.who vs)
+    (eq-eqb w.who v.who (ap (λ (u : VisitBy A). u.who) (sym e))))) (inl (ap (λ (u : VisitBy A). u.turn) e))
 in_picked {A} v (w ∷ vs) (inr h) =
-    cond_both (w.who == v.who) (w.turn ∷ picked v.who vs) (picked v.who vs) (λ (ts : List (Turn A)). IsIn v.turn ts) (λ e. inr (in_picked v vs h)) (λ e. in_picked v vs h)
+    cond_both (w.who == v.who) (w.turn ∷ picked v.who vs) (picked v.who vs) (λ (ts : List (Turn A)). IsIn v.turn ts)
+    (λ e. inr (in_picked v vs h)) (λ e. in_picked v vs h)
 
 pub in_filter : {X : Type 0} (p : X → Bool) (x : X) (xs : List X) → IsIn x (filter p xs) → IsIn x xs × (p x ≡ true)
 in_filter p x [] h = absurd h
@@ -86,35 +90,46 @@ in_filter p x (y ∷ xs) h =
     (λ e k. elim k [ inl s ↦ (inl s, subst (λ z. p z ≡ true) (sym s) e) | inr t ↦ (inr (in_filter p x xs t).0, (in_filter p x xs t).1) ])
     (λ e k. (inr (in_filter p x xs k).0, (in_filter p x xs k).1)) h
 
-module _ {A : Type 0} (visits : Chains A) (cores : ℕ → Core A) (chains : AreChains visits cores) (turned : (q : ℕ) → Turned (cores q)) (safe : AreSafe cores) where
+module _ {A : Type 0} (visits : Chains A) (cores : ℕ → Core A) (chains : AreChains visits cores)
+    (turned : (q : ℕ) → Turned (cores q)) (safe : AreSafe cores) where
   -- fronts have grown since the visits
   grown_since : (r : RingId) → HaveGrown (λ p. front (cores p) r) (visits r)
   grown_since r =
       each-in (λ (v : VisitBy A). v.turn.front ≤ front (cores v.who) r) (visits r) (λ v h.
       let P : List (Turn A) → Type 0 = λ ts. IsIn v.turn ts in
-      let i = in_filter (λ (u : Turn A). same_ring u.came.ring r) v.turn (cores v.who).turns (subst P (sym (chains.turns v.who r)) (in_picked v (visits r) h)) in
+      let i = in_filter (λ (u : Turn A). same_ring u.came.ring r) v.turn (cores v.who).turns
+      (subst P (sym (chains.turns v.who r)) (in_picked v (visits r) h)) in
       let t = in-each _ v.turn (cores v.who).turns (turned v.who) i.0 in
       subst (λ q. v.turn.front ≤ front (cores v.who) q) (ring_same v.turn.came.ring r i.1) t.grown)
 
   visits_safe : (q : ℕ) (r : RingId) → IsSafe cores r (mark_by (forwarded_in r (cores q).turns))
   visits_safe q r =
-      let same : forwarded_in r (cores q).turns ≡ forwarded_by q (visits r) = ap (map (λ (v : Turn A). v.went.aru)) (chains.turns q r) ∙ forwarded_picked q (visits r) in
+      let same : forwarded_in r (cores q).turns ≡ forwarded_by q (visits r) = ap (map (λ (v : Turn A). v.went.aru))
+      (chains.turns q r) ∙ forwarded_picked q (visits r) in
       subst (λ fs. IsSafe cores r (mark_by fs)) (sym same)
       (elim (chains.rounds r) [
         | inl e ↦ inl (ap (λ (vs : List (VisitBy A)). mark_by (forwarded_by q vs)) e)
-        | inr round ↦ inr (round.members, round.ring_of, λ p proc m. marks_safe round.members r (visits r) (λ p. front (cores p) r) round.some round.visits_are (grown_since r) q p proc m)
+        | inr round ↦ inr (
+          round.members,
+          round.ring_of,
+          λ p proc m. marks_safe round.members r (visits r)
+              (λ p. front (cores p) r) round.some round.visits_are (grown_since r) q p proc m,
+        )
       ])
 
   -- each safe mark of each core is safe
   pub mark_safe : (q : ℕ) (r : RingId) → IsSafe cores r (mark (cores q) r)
-  mark_safe q r = safe_max cores r (mark_by (forwarded_in r (cores q).turns)) (raised_to r (cores q).raises) (visits_safe q r) (raised_safe cores r (cores q).raises (safe.raises q))
+  mark_safe q r = safe_max cores r (mark_by (forwarded_in r (cores q).turns)) (raised_to r (cores q).raises)
+      (visits_safe q r) (raised_safe cores r (cores q).raises (safe.raises q))
 
   module _ (frames : List (Carried A)) (i : ℕ) (right : AreRight visits cores frames) where
     entries_safe : (k : CommitToken) → CameTo frames i (CommitFrame k) → Each (λ (e : CommitEntry). IsSafe cores e.old e.mark) k.entries
     entries_safe k came =
         let f = came_right visits cores frames i (CommitFrame k) right came in
         let hop : IsHop cores f.0 f.1 k = f.3 in
-        each-placed (λ (e : CommitEntry). IsSafe cores e.old e.mark) k.entries (λ x e s. in-each (λ (x : Report). IsSafe cores x.entry.old x.entry.mark) (record { ring = k.ring; entry = e }) _ (safe.reports _) (hop.reports x e s))
+        each-placed (λ (e : CommitEntry). IsSafe cores e.old e.mark) k.entries
+        (λ x e s. in-each (λ (x : Report). IsSafe cores x.entry.old x.entry.mark)
+        (record { ring = k.ring; entry = e }) _ (safe.reports _) (hop.reports x e s))
 
     raises_moved : (m : Move A) → MayMove (CameTo frames i) (cores i) m → Each (λ (x : Raise). IsSafe cores x.ring x.mark) (moved (cores i) m).raises
     raises_moved (Learns k) h = (reported_safe cores (cores i).installed.ring k.entries (entries_safe k h.from), safe.raises i)
@@ -137,9 +152,15 @@ module _ {A : Type 0} (visits : Chains A) (cores : ℕ → Core A) (chains : Are
         let d = moved (cores i) m in
         let cores' = put cores i d in
         let g : AllGrown cores cores' = put_grows cores i d (moved_grows (cores i) m) in
-        let raises = each-weaker (λ (x : Raise). IsSafe cores x.ring x.mark) (λ (x : Raise). IsSafe cores' x.ring x.mark) (λ x s. safe_grows cores cores' g x.ring x.mark s) in
-        let reports = each-weaker (λ (x : Report). IsSafe cores x.entry.old x.entry.mark) (λ (x : Report). IsSafe cores' x.entry.old x.entry.mark) (λ x s. safe_grows cores cores' g x.entry.old x.entry.mark s) in
+        let raises = each-weaker (λ (x : Raise). IsSafe cores x.ring x.mark)
+        (λ (x : Raise). IsSafe cores' x.ring x.mark) (λ x s. safe_grows cores cores' g x.ring x.mark s) in
+        let reports = each-weaker (λ (x : Report). IsSafe cores x.entry.old x.entry.mark)
+        (λ (x : Report). IsSafe cores' x.entry.old x.entry.mark)
+        (λ x s. safe_grows cores cores' g x.entry.old x.entry.mark s) in
         record {
-          raises = put-each (λ q (x : Core A). Each (λ (x : Raise). IsSafe cores' x.ring x.mark) x.raises) cores i d (λ q n. raises (cores q).raises (safe.raises q)) (raises d.raises (raises_moved m h));
-          reports = put-each (λ q (x : Core A). Each (λ (x : Report). IsSafe cores' x.entry.old x.entry.mark) x.reports) cores i d (λ q n. reports (cores q).reports (safe.reports q)) (reports d.reports (reports_moved m));
+          raises = put-each (λ q (x : Core A). Each (λ (x : Raise). IsSafe cores' x.ring x.mark) x.raises) cores i d
+              (λ q n. raises (cores q).raises (safe.raises q)) (raises d.raises (raises_moved m h));
+          reports = put-each (λ q (x : Core A). Each (λ (x : Report). IsSafe cores' x.entry.old x.entry.mark)
+              x.reports) cores i d (λ q n. reports (cores q).reports (safe.reports q))
+              (reports d.reports (reports_moved m));
         }

@@ -1,5 +1,8 @@
--- Each frame that a move sends is right: a message is genuine, a token goes to the member whose turn is next, a commit token is the next hop, with the reports of the members up to there.
-use Rattle.std.proofs.Common.{◌≡◌, ℕ, zero, suc, ◌-◌, ◌*◌, ◌%◌, min, ◌<◌, ◌≤◌, ◌⊎◌, inl, inr, Bool, ◌==◌, List, [], ◌∷◌, ◌++◌, length, Option, Some, None, refl, ap, sym, ◌∙◌, subst, arith, append-nil, mod-eq_of_lt}
+-- Each frame that a move sends is right: a message is genuine, a token goes to the member whose turn is next, a commit
+-- token is the next hop, with the reports of the members up to there.
+use Rattle.std.proofs.Common.{◌≡◌, ℕ, zero, suc, ◌-◌, ◌*◌, ◌%◌, min, ◌<◌, ◌≤◌, ◌⊎◌, inl, inr, Bool, ◌==◌, List, [], ◌∷◌}
+use Rattle.std.proofs.Common.{◌++◌, length, Option, Some, None, refl, ap, sym, ◌∙◌, subst, arith, append-nil}
+use Rattle.std.proofs.Common.{mod-eq_of_lt}
 use Rattle.std.specs.Prelude.{filter, slice_get, not}
 use Rattle.std.specs.List.{AllByRecursion as Each}
 use Rattle.ring_base.specs.Processors.{nobody, only, less, at, size}
@@ -18,7 +21,8 @@ use Rattle.ring_core.specs.Visiting.{to_others, to_next}
 use Rattle.ring_core.specs.Handing.{passed}
 use Rattle.ring_moves.specs.Facts.{IsIn}
 use Rattle.ring_moves.specs.Worlds.{Carried, put, carried_from}
-use Rattle.ring_moves.specs.Moves.{Move, Idles, Enters, Learns, Visits, Takes, Installs, went_with, moved, sends_of, IsRepeated, MayEnter, MayLearn, MayVisit, MayMove, CameTo}
+use Rattle.ring_moves.specs.Moves.{Move, Idles, Enters, Learns, Visits, Takes, Installs, went_with, moved, sends_of}
+use Rattle.ring_moves.specs.Moves.{IsRepeated, MayEnter, MayLearn, MayVisit, MayMove, CameTo}
 use Rattle.ring_moves.proofs.Lists.{in-each, each-filter}
 use Rattle.ring_moves.proofs.Lifting.{put-here}
 use Rattle.ring_moves.proofs.Turned.{Turned}
@@ -55,7 +59,8 @@ record HasEntries {A : Type 0} (cores : ℕ → Core A) (k : CommitToken) : Type
   pub count : length k.entries ≡ k.hop
   pub reports : AreReports cores k
 
-module _ {A : Type 0} (visits : Chains A) (cores : ℕ → Core A) (frames : List (Carried A)) (i : ℕ) (low : 1 ≤ i) (sent : AreSent visits cores frames) (are : AreRings cores) where
+module _ {A : Type 0} (visits : Chains A) (cores : ℕ → Core A) (frames : List (Carried A)) (i : ℕ) (low : 1 ≤ i)
+    (sent : AreSent visits cores frames) (are : AreRings cores) where
   -- Commit tokens
 
   entries_before : (k : CommitToken) → MayEnter (CameTo frames i) (cores i) k → HasEntries cores k
@@ -64,7 +69,8 @@ module _ {A : Type 0} (visits : Chains A) (cores : ℕ → Core A) (frames : Lis
       elim (h.from) [
         | inl own ↦ record {
           count = ap length own.entries ∙ sym own.hop;
-          reports = λ x e s. absurd (let n : slice_get {X = CommitEntry} [] x ≡ Some e = subst (λ es. slice_get es x ≡ Some e) own.entries s in let none : ⊥ = cc in none);
+          reports = λ x e s. absurd (let n : slice_get {X = CommitEntry} [] x ≡ Some e = subst
+              (λ es. slice_get es x ≡ Some e) own.entries s in let none : ⊥ = cc in none);
         }
         | inr came ↦ (let f = came_right visits cores frames i (CommitFrame k) sent.right came in
             let hop : IsHop cores f.0 f.1 k = f.3 in
@@ -84,7 +90,9 @@ module _ {A : Type 0} (visits : Chains A) (cores : ℕ → Core A) (frames : Lis
       let count : length k.entries ≡ k.hop = before.count in
       let push : length (k.entries ++ own ∷ []) ≡ suc (length k.entries) = push_length k.entries own in
       let less : suc k.hop - 1 ≡ k.hop = omega arith in
-      let mine : IsIn (record { ring = k.ring; entry = own }) (put cores i d i).reports = subst (λ (x : Core A). IsIn (record { ring = k.ring; entry = own }) x.reports) (sym (put-here cores i d)) (inl refl) in
+      let mine : IsIn (record { ring = k.ring; entry = own }) (put cores i d i).reports =
+      subst (λ (x : Core A). IsIn (record { ring = k.ring; entry = own }) x.reports) (sym (put-here cores i d))
+      (inl refl) in
       record {
         ring_of = entered_shared visits cores frames i sent.right are k h;
         sent_to = refl;
@@ -95,7 +103,8 @@ module _ {A : Type 0} (visits : Chains A) (cores : ℕ → Core A) (frames : Lis
         reports = λ x e s. elim (slice_push k.entries own x e s) [
           | inl old ↦ (g (at k.members x)).reports _ (before.reports x e old)
           | inr new ↦ (let who : i ≡ at k.members x = sym here ∙ ap (at k.members) (hop ∙ sym count ∙ sym new.0) in
-              subst (λ q. IsIn (record { ring = k.ring; entry = e }) (put cores i d q).reports) who (subst (λ e. IsIn (record { ring = k.ring; entry = e }) (put cores i d i).reports) new.1 mine))
+              subst (λ q. IsIn (record { ring = k.ring; entry = e }) (put cores i d q).reports) who
+              (subst (λ e. IsIn (record { ring = k.ring; entry = e }) (put cores i d i).reports) new.1 mine))
         ];
       }
 
@@ -128,7 +137,9 @@ module _ {A : Type 0} (visits : Chains A) (cores : ℕ → Core A) (frames : Lis
 
     -- what went out before is still right
     shown_again : (m : Move A) (q : ℕ) → ShowsRight (visits_after visits i (cores i) m) (after m) q (cores q).shown
-    shown_again m q s e = right_grows visits (visits_after visits i (cores i) m) cores (after m) (visits_grow visits i (cores i) m) (put_grows cores i (moved (cores i) m) (moved_grows (cores i) m)) q s.to s.frame (sent.shown q s e)
+    shown_again m q s e = right_grows visits (visits_after visits i (cores i) m) cores (after m)
+        (visits_grow visits i (cores i) m) (put_grows cores i (moved (cores i) m) (moved_grows (cores i) m))
+        q s.to s.frame (sent.shown q s e)
 
     abbrev SendsRight : Move A → Sent A → Type 0
     SendsRight m s = IsRight (visits_after visits i (cores i) m) (after m) i s.to s.frame
@@ -148,14 +159,18 @@ module _ {A : Type 0} (visits : Chains A) (cores : ℕ → Core A) (frames : Lis
         let m = Visits t fresh requests again queue in
         let g = visits_grow visits i (cores i) m in
         let new = numbered t.ring (cores i).me t.seq fresh in
-        let held : Each (IsGenuine (visits_after visits i (cores i) m)) again = each-weaker (λ (x : Message A). IsIn x (cores i).held) _ (λ x k. g.genuine x (in-each (IsGenuine visits) x (cores i).held (texts.held i) k)) again h.repeats in
-        let both : Each (IsGenuine (visits_after visits i (cores i) m)) (again ++ new) = each-append _ again new held (new_genuine visits cores frames i sent.right are texts t fresh requests) in
+        let held : Each (IsGenuine (visits_after visits i (cores i) m)) again = each-weaker
+        (λ (x : Message A). IsIn x (cores i).held) _ (λ x k. g.genuine x
+        (in-each (IsGenuine visits) x (cores i).held (texts.held i) k)) again h.repeats in
+        let both : Each (IsGenuine (visits_after visits i (cores i) m)) (again ++ new) = each-append _ again new held
+        (new_genuine visits cores frames i sent.right are texts t fresh requests) in
         each-append (SendsRight m) (to_others (cores i) (again ++ new)) (to_next (cores i) (went_with (cores i) t fresh requests) ∷ [])
         (messages_right m (again ++ new) both)
         (went_right visits cores frames i low sent.right are chains turned t fresh requests again queue h, tt)
 
     sends_right : (m : Move A) → MayMove (CameTo frames i) (cores i) m → Each (SendsRight m) (sends_of (cores i) m)
-    sends_right (Idles state gathering shown queue sends) h = each-weaker (IsRepeated (cores i).shown) _ (repeated_right (Idles state gathering shown queue sends)) sends h.sent
+    sends_right (Idles state gathering shown queue sends) h = each-weaker
+        (IsRepeated (cores i).shown) _ (repeated_right (Idles state gathering shown queue sends)) sends h.sent
     sends_right (Enters k) h = (entered_right k h, tt)
     sends_right (Learns k) h = (learned_right k h, tt)
     sends_right (Visits t fresh requests again queue) h = visit_right t fresh requests again queue h
@@ -174,7 +189,8 @@ module _ {A : Type 0} (visits : Chains A) (cores : ℕ → Core A) (frames : Lis
     shown_right (Enters k) h = some_right (Enters k) (passed (hopped k (own_entry (cores i) ∷ []))) (entered_right k h)
     shown_right (Learns k) h = some_right (Learns k) (passed (hopped k [])) (learned_right k h)
     shown_right (Visits t fresh requests again queue) h =
-        some_right (Visits t fresh requests again queue) (to_next (cores i) (went_with (cores i) t fresh requests)) (went_right visits cores frames i low sent.right are chains turned t fresh requests again queue h)
+        some_right (Visits t fresh requests again queue) (to_next (cores i) (went_with (cores i) t fresh requests))
+        (went_right visits cores frames i low sent.right are chains turned t fresh requests again queue h)
     shown_right (Takes x) h = shown_again (Takes x) i
     shown_right Installs h = shown_again Installs i
 
@@ -189,6 +205,7 @@ module _ {A : Type 0} (visits : Chains A) (cores : ℕ → Core A) (frames : Lis
         record {
           right = each-append are_right frames (carried_from i sends)
               (all_right_grow visits vs cores (after m) (visits_grow visits i (cores i) m) g frames sent.right)
-              (each-map are_right (λ (s : Sent A). record { from = i; to = s.to; frame = s.frame }) (filter test sends) (each-filter (SendsRight m) test sends (sends_right m h)));
+              (each-map are_right (λ (s : Sent A). record { from = i; to = s.to; frame = s.frame })
+              (filter test sends) (each-filter (SendsRight m) test sends (sends_right m h)));
           shown = put-each (λ q (x : Core A). ShowsRight vs (after m) q x.shown) cores i (moved (cores i) m) (λ q n. shown_again m q) (shown_right m h);
         }

@@ -1,4 +1,6 @@
--- Spacing: on a ring of m members a member's visits are m token numbers apart, from the number that is its position on. As the visits go on, its next one is due at one number among the next m, and no two numbers among these are the same member's.
+-- Spacing: on a ring of m members a member's visits are m token numbers apart, from the number that is its position on.
+-- As the visits go on, its next one is due at one number among the next m, and no two numbers among these are the same
+-- member's.
 use Rattle.std.proofs.Common.{◌≡◌, ℕ, suc, ◌+◌, ◌-◌, ◌<◌, ◌≤◌, inl, inr, ◌==◌, List, [], ◌∷◌, length, ap, sym, ◌∙◌, subst, arith, eqb-true, mod-eq_of_lt}
 use Rattle.std.proofs.lemmas.Bool.{cond_both, cases_lt, eqb-false}
 use Rattle.ring_base.specs.Processors.{IsProc, IsMember, at, size, position_of}

@@ -1,4 +1,5 @@
--- What is told with a number, as agreed or as the rest of an old ring, is the message held under that number: a step finds it there, what is held stays, and a number of a ring is held with one message.
+-- What is told with a number, as agreed or as the rest of an old ring, is the message held under that number: a step
+-- finds it there, what is held stays, and a number of a ring is held with one message.
 use Rattle.std.proofs.Common.{◌≡◌, ℕ, ◌+◌, ◌-◌, ◌≤◌, inl, inr, Bool, true, false, ◌==◌, List, [], ◌∷◌, ◌++◌, map, Some, refl, ap, sym, ◌∙◌, subst}
 use Rattle.std.specs.Prelude.{nat_lt, filter, filter_map, find}
 use Rattle.std.specs.List.{AllByRecursion as Each}

@@ -1,4 +1,5 @@
--- Text: each number of a ring has one sender and payload. What is held was numbered by its sender in one of the ring's visits, and these number without overlap. What a message wraps was held by who wrapped it, so it is genuine too.
+-- Text: each number of a ring has one sender and payload. What is held was numbered by its sender in one of the ring's
+-- visits, and these number without overlap. What a message wraps was held by who wrapped it, so it is genuine too.
 use Rattle.std.proofs.Common.{◌≡◌, ℕ, suc, ◌+◌, ◌<◌, ◌≤◌, ◌⊎◌, inl, inr, true, ◌&&◌, List, [], ◌∷◌, length, refl, ap, sym, ◌∙◌, subst, arith}
 use Rattle.std.specs.Prelude.{reverse}
 use Rattle.std.specs.List.{AllByRecursion as Each}
@@ -24,7 +25,8 @@ use Rattle.ring_core.specs.Views.{mark}
 use Rattle.ring_core.specs.Acting.{gives_old}
 use Rattle.ring_moves.specs.Facts.{IsIn, SomeIs}
 use Rattle.ring_moves.specs.Worlds.{Carried, put}
-use Rattle.ring_moves.specs.Moves.{Move, Idles, Enters, Learns, Visits, Takes, Installs, turn_with, moved, AllAreUsers, IsWrapping, MayEnd, MayVisit, MayMove, CameTo}
+use Rattle.ring_moves.specs.Moves.{Move, Idles, Enters, Learns, Visits, Takes, Installs, turn_with, moved, AllAreUsers}
+use Rattle.ring_moves.specs.Moves.{IsWrapping, MayEnd, MayVisit, MayMove, CameTo}
 use Rattle.ring_moves.proofs.Lists.{in-each, each-in, each-reverse, some-each}
 use Rattle.ring_moves.proofs.Wraps.{found_in}
 use Rattle.ring_chain.specs.Words.{Chains, IsGenuine, inner_message, WrapsGenuine}
@@ -48,7 +50,13 @@ pub numbered_in : {A : Type 0} → (ring : RingId) (me seq : ℕ) (ps : List (Pa
 numbered_in ring me seq [] x h = absurd h
 numbered_in {A} ring me seq (p ∷ ps) x (inl e) =
     let n : x.number ≡ suc seq = ap (λ (y : Message A). y.number) e in
-    record { above = omega arith; within = omega arith; ring_is = ap (λ (y : Message A). y.ring) e; sender_is = ap (λ (y : Message A). y.sender) e; payload_in = inl (ap (λ (y : Message A). y.payload) e) }
+    record {
+      above = omega arith;
+      within = omega arith;
+      ring_is = ap (λ (y : Message A). y.ring) e;
+      sender_is = ap (λ (y : Message A). y.sender) e;
+      payload_in = inl (ap (λ (y : Message A). y.payload) e);
+    }
 numbered_in ring me seq (p ∷ ps) x (inr h) =
     let r = numbered_in ring me (suc seq) ps x h in
     let a : suc seq < x.number = r.above in
@@ -60,9 +68,11 @@ numbered_one : {A : Type 0} → (ring : RingId) (me seq : ℕ) (ps : List (Paylo
 numbered_one ring me seq [] x y hx hy e = absurd hx
 numbered_one ring me seq (p ∷ ps) x y (inl ex) (inl ey) e = ex ∙ sym ey
 numbered_one {A} ring me seq (p ∷ ps) x y (inl ex) (inr hy) e =
-    (let a : suc seq < y.number = (numbered_in ring me (suc seq) ps y hy).above in let b : x.number ≡ suc seq = ap (λ (z : Message A). z.number) ex in absurd (omega arith))
+    (let a : suc seq < y.number = (numbered_in ring me (suc seq) ps y hy).above in let b : x.number ≡ suc seq = ap
+    (λ (z : Message A). z.number) ex in absurd (omega arith))
 numbered_one {A} ring me seq (p ∷ ps) x y (inr hx) (inl ey) e =
-    (let a : suc seq < x.number = (numbered_in ring me (suc seq) ps x hx).above in let b : y.number ≡ suc seq = ap (λ (z : Message A). z.number) ey in absurd (omega arith))
+    (let a : suc seq < x.number = (numbered_in ring me (suc seq) ps x hx).above in let b : y.number ≡ suc seq = ap
+    (λ (z : Message A). z.number) ey in absurd (omega arith))
 numbered_one ring me seq (p ∷ ps) x y (inr hx) (inr hy) e = numbered_one ring me (suc seq) ps x y hx hy e
 
 -- The numbers of all visits
@@ -81,17 +91,23 @@ seq_before members ring v vs h = ap (λ (t : Token). t.seq) h.0.comes
 pub numbered_below : {A : Type 0} → (members : ℕ) (ring : RingId) (vs : List (VisitBy A)) → AreVisits members ring vs → (x : Message A) →
     NumberedIn ring x vs → x.number ≤ (arrived ring vs).seq
 numbered_below members ring [] h x n = absurd n
-numbered_below members ring (v ∷ vs) h x (inl n) = (let a = (numbered_in ring v.who v.turn.came.seq v.turn.fresh x n).within in let b = seq_after members ring v vs h in omega (arith, a, b))
-numbered_below members ring (v ∷ vs) h x (inr n) = (let a = numbered_below members ring vs h.1 x n in let b = seq_after members ring v vs h in let c = seq_before members ring v vs h in omega (arith, a, b, c))
+numbered_below members ring (v ∷ vs) h x (inl n) =
+    (let a = (numbered_in ring v.who v.turn.came.seq v.turn.fresh x n).within in let b = seq_after members ring v vs
+    h in omega (arith, a, b))
+numbered_below members ring (v ∷ vs) h x (inr n) =
+    (let a = numbered_below members ring vs h.1 x n in let b = seq_after members ring v vs h in let c = seq_before
+    members ring v vs h in omega (arith, a, b, c))
 
 numbers_one : {A : Type 0} → (members : ℕ) (ring : RingId) (vs : List (VisitBy A)) → AreVisits members ring vs → (x y : Message A) → NumberedIn ring x vs →
     NumberedIn ring y vs → x.number ≡ y.number → x ≡ y
 numbers_one members ring [] h x y hx hy e = absurd hx
 numbers_one members ring (v ∷ vs) h x y (inl hx) (inl hy) e = numbered_one ring v.who v.turn.came.seq v.turn.fresh x y hx hy e
 numbers_one members ring (v ∷ vs) h x y (inl hx) (inr hy) e =
-    (let a = (numbered_in ring v.who v.turn.came.seq v.turn.fresh x hx).above in let b = numbered_below members ring vs h.1 y hy in let c = seq_before members ring v vs h in absurd (omega (arith, a, b, c, e)))
+    (let a = (numbered_in ring v.who v.turn.came.seq v.turn.fresh x hx).above in let b = numbered_below members ring
+    vs h.1 y hy in let c = seq_before members ring v vs h in absurd (omega (arith, a, b, c, e)))
 numbers_one members ring (v ∷ vs) h x y (inr hx) (inl hy) e =
-    (let a = (numbered_in ring v.who v.turn.came.seq v.turn.fresh y hy).above in let b = numbered_below members ring vs h.1 x hx in let c = seq_before members ring v vs h in absurd (omega (arith, a, b, c, e)))
+    (let a = (numbered_in ring v.who v.turn.came.seq v.turn.fresh y hy).above in let b = numbered_below members ring
+    vs h.1 x hx in let c = seq_before members ring v vs h in absurd (omega (arith, a, b, c, e)))
 numbers_one members ring (v ∷ vs) h x y (inr hx) (inr hy) e = numbers_one members ring vs h.1 x y hx hy e
 
 -- genuine messages of one ring and number are one
@@ -116,16 +132,19 @@ genuine_inner : {A : Type 0} → (visits : Chains A) (cores : ℕ → Core A) �
     IsGenuine visits x → x.payload ≡ Wrapped w → IsGenuine visits (inner_message w)
 genuine_inner {A} visits cores texts x w g e =
     some-each _ _ (IsGenuine visits (inner_message w))
-    (λ (v : VisitBy A) each i. in-each (WrapsGenuine visits) x.payload v.turn.fresh each (numbered_in x.ring v.who v.turn.came.seq v.turn.fresh x i).payload_in w e)
+    (λ (v : VisitBy A) each i. in-each (WrapsGenuine visits) x.payload v.turn.fresh each
+    (numbered_in x.ring v.who v.turn.came.seq v.turn.fresh x i).payload_in w e)
     (visits x.ring) (texts.wraps x.ring) g
 
-module _ {A : Type 0} (visits : Chains A) (cores : ℕ → Core A) (frames : List (Carried A)) (i : ℕ) (right : AreRight visits cores frames) (are : AreRings cores) (texts : AreTexts visits cores) where
+module _ {A : Type 0} (visits : Chains A) (cores : ℕ → Core A) (frames : List (Carried A)) (i : ℕ)
+    (right : AreRight visits cores frames) (are : AreRings cores) (texts : AreTexts visits cores) where
   -- Taking
 
   gives_inner : (old : RingId) (m : ℕ) (held : List (Message A)) (x : Message A) (p : Payload A) → IsGenuine visits x → x.payload ≡ p →
       Each (IsGenuine visits) (unwrapped old m held p)
   gives_inner old m held x (Wrapped w) g e =
-      cond_both (same_ring w.ring old && is_new held m old w.number) (inner_message w ∷ []) [] (Each (IsGenuine visits)) (λ t. (genuine_inner visits cores texts x w g e, tt)) (λ t. tt)
+      cond_both (same_ring w.ring old && is_new held m old w.number) (inner_message w ∷ []) []
+      (Each (IsGenuine visits)) (λ t. (genuine_inner visits cores texts x w g e, tt)) (λ t. tt)
   gives_inner old m held x (Call call) g e = tt
   gives_inner old m held x End g e = tt
   gives_inner old m held x (Head head) g e = tt
@@ -158,7 +177,9 @@ module _ {A : Type 0} (visits : Chains A) (cores : ℕ → Core A) (frames : Lis
     new_in : (x : Message A) (r : RingId) → r ≡ t.ring → IsIn x (numbered t.ring i t.seq fresh) → NumberedIn r x (after r)
     new_in x r e h =
         let P : List (VisitBy A) → Type 0 = λ vs. NumberedIn t.ring x vs in
-        subst (λ r. NumberedIn r x (after r)) (sym e) (subst P (sym (cond-true (same_ring t.ring t.ring) (new_visit ∷ visits t.ring) (visits t.ring) (same-self t.ring))) (inl h))
+        subst (λ r. NumberedIn r x (after r)) (sym e)
+        (subst P (sym (cond-true (same_ring t.ring t.ring) (new_visit ∷ visits t.ring) (visits t.ring)
+        (same-self t.ring))) (inl h))
 
     pub new_genuine : Each (IsGenuine after) (numbered t.ring (cores i).me t.seq fresh)
     new_genuine =
@@ -195,7 +216,8 @@ module _ {A : Type 0} (visits : Chains A) (cores : ℕ → Core A) (frames : Lis
     wraps_grow : ChainsGrow visits after → (vs : List (VisitBy A)) → Each (λ (v : VisitBy A). Each (WrapsGenuine visits) v.turn.fresh) vs →
         Each (λ (v : VisitBy A). Each (WrapsGenuine after) v.turn.fresh) vs
     wraps_grow g vs h =
-        each-weaker _ _ (λ (v : VisitBy A) each. each-weaker (WrapsGenuine visits) (WrapsGenuine after) (λ p k w e. g.genuine (inner_message w) (k w e)) v.turn.fresh each) vs h
+        each-weaker _ _ (λ (v : VisitBy A) each. each-weaker (WrapsGenuine visits) (WrapsGenuine after)
+        (λ p k w e. g.genuine (inner_message w) (k w e)) v.turn.fresh each) vs h
 
   -- Moves
 
@@ -203,7 +225,8 @@ module _ {A : Type 0} (visits : Chains A) (cores : ℕ → Core A) (frames : Lis
   held_moved (Visits t fresh requests again queue) h =
       let g = visits_grow visits i (cores i) (Visits t fresh requests again queue) in
       let new = numbered t.ring (cores i).me t.seq fresh in
-      each-append (IsGenuine (after t fresh requests)) (reverse new) (cores i).held (each-reverse (IsGenuine (after t fresh requests)) new (new_genuine t fresh requests))
+      each-append (IsGenuine (after t fresh requests)) (reverse new) (cores i).held
+      (each-reverse (IsGenuine (after t fresh requests)) new (new_genuine t fresh requests))
       (each-weaker (IsGenuine visits) (IsGenuine (after t fresh requests)) g.genuine (cores i).held (texts.held i))
   held_moved (Takes x) h = took_genuine x h.from
   held_moved (Idles state gathering shown queue sends) h = texts.held i
@@ -224,7 +247,9 @@ module _ {A : Type 0} (visits : Chains A) (cores : ℕ → Core A) (frames : Lis
   wraps_moved (Visits t fresh requests again queue) h r =
       let g = visits_grow visits i (cores i) (Visits t fresh requests again queue) in
       let old = wraps_grow t fresh requests g (visits r) (texts.wraps r) in
-      cond_both (same_ring t.ring r) (new_visit t fresh requests ∷ visits r) (visits r) (Each (λ (v : VisitBy A). Each (WrapsGenuine (after t fresh requests)) v.turn.fresh)) (λ e. (fresh_wraps t fresh requests g again queue h, old)) (λ e. old)
+      cond_both (same_ring t.ring r) (new_visit t fresh requests ∷ visits r) (visits r)
+      (Each (λ (v : VisitBy A). Each (WrapsGenuine (after t fresh requests)) v.turn.fresh))
+      (λ e. (fresh_wraps t fresh requests g again queue h, old)) (λ e. old)
   wraps_moved (Idles state gathering shown queue sends) h r = texts.wraps r
   wraps_moved (Enters k) h r = texts.wraps r
   wraps_moved (Learns k) h r = texts.wraps r
@@ -237,6 +262,7 @@ module _ {A : Type 0} (visits : Chains A) (cores : ℕ → Core A) (frames : Lis
       let d = moved (cores i) m in
       record {
         queued = put-each (λ q (x : Core A). AllAreUsers x.queue) cores i d (λ q n. texts.queued q) (queued_moved m h);
-        held = put-each (λ q (x : Core A). Each (IsGenuine (visits_after visits i (cores i) m)) x.held) cores i d (λ q n. each-weaker (IsGenuine visits) _ g.genuine (cores q).held (texts.held q)) (held_moved m h);
+        held = put-each (λ q (x : Core A). Each (IsGenuine (visits_after visits i (cores i) m)) x.held) cores i d
+            (λ q n. each-weaker (IsGenuine visits) _ g.genuine (cores q).held (texts.held q)) (held_moved m h);
         wraps = wraps_moved m h;
       }

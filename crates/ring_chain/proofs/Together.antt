@@ -1,4 +1,5 @@
--- A ring of all that is formed from the start is the only one that its processors take part in: so the members that a safe mark speaks of are all of them, and what is told is of that ring alone.
+-- A ring of all that is formed from the start is the only one that its processors take part in: so the members that a
+-- safe mark speaks of are all of them, and what is told is of that ring alone.
 use Rattle.std.proofs.Common.{◌≡◌, ℕ, ◌≤◌, ◌⊎◌, inl, inr, Bool, true, false, List, [], ◌∷◌, ◌++◌, map, refl, ap, sym, ◌∙◌, subst, arith}
 use Rattle.std.specs.Prelude.{◌&&◌, nat_lt, filter}
 use Rattle.std.specs.List.{AllByRecursion as Each}
@@ -15,7 +16,8 @@ use Rattle.ring_core.specs.declared.out.Out.TheVariants.{Send as SendOut, Agreed
 use Rattle.ring_core.specs.State.{Core, Did, all_of}
 use Rattle.ring_core.specs.Views.{front, mark}
 use Rattle.ring_core.specs.Giving.{may_install, addressed, sent, users, agreed_from, safe_from, given, settle}
-use Rattle.ring_core.specs.Deciding.{Act, Ignore, Enqueue, Repeat, Announce, Invite, GiveUp, Regather, Agree, Widen, RegatherAndAgree, RegatherAndWiden, Take, Visit, Fill, Learn, decide}
+use Rattle.ring_core.specs.Deciding.{Act, Ignore, Enqueue, Repeat, Announce, Invite, GiveUp, Regather, Agree, Widen}
+use Rattle.ring_core.specs.Deciding.{RegatherAndAgree, RegatherAndWiden, Take, Visit, Fill, Learn, decide}
 use Rattle.ring_core.specs.Acting.{act, may_follow, proposed_after, done}
 use Rattle.ring_core.specs.Joining.{proposes}
 use Rattle.ring_core.specs.Stepping.{ring_step}

@@ -60,4 +60,5 @@ newest {A} members ring t i (v ∷ vs) some h (inr a) here below =
     let came : v.turn.came.number ≡ t.number = ap (λ (t : Token). t.number) (h.0.comes ∙ before) in
     let mine : picked i (v ∷ vs) ≡ v.turn ∷ picked i vs = cond-true (v.who == i) _ _ (eq-eqb v.who i who) in
     let k = subst (λ (ts : List (Turn A)). AllBelow t.number ts) mine below in
-    absurd (let l : v.turn.came.number < t.number = ltb-true _ _ (and_parts (nat_lt v.turn.came.number t.number) (list_all (λ (v : Turn A). nat_lt v.came.number t.number) (picked i vs)) k).0 in omega arith)
+    absurd (let l : v.turn.came.number < t.number = ltb-true _ _ (and_parts (nat_lt v.turn.came.number t.number)
+    (list_all (λ (v : Turn A). nat_lt v.came.number t.number) (picked i vs)) k).0 in omega arith)

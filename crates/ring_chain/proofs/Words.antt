@@ -1,4 +1,6 @@
--- What is said of every frame ever sent, by the visits of each ring: a message was numbered in one of them, a token was sent on by one, and a commit token is a hop with the reports of the members up to there. And how a move adds to the visits.
+-- What is said of every frame ever sent, by the visits of each ring: a message was numbered in one of them, a token was
+-- sent on by one, and a commit token is a hop with the reports of the members up to there. And how a move adds to the
+-- visits.
 use Rattle.std.specs.Prelude.{◌≡◌, ℕ, ◌-◌, ◌*◌, ◌%◌, min, ◌<◌, ◌≤◌, ◌⊎◌, if◌then◌else◌, List, [], ◌∷◌, length}
 use Rattle.std.specs.List.{AllByRecursion}
 use Rattle.ring_base.specs.Rings.{same_ring}

@@ -1,4 +1,6 @@
--- What a caller gets of every run: who takes part in a ring, one chain of visits, one plan, safe marks and what is told. Rings and states, rules 2 and 14, Token and window, rule 13, The commit token, rule 10, Recovery, rule 1, and Outputs, rules 3 to 5 of docs/PROTOCOL.md.
+-- What a caller gets of every run: who takes part in a ring, one chain of visits, one plan, safe marks and what is
+-- told. Rings and states, rules 2 and 14, Token and window, rule 13, The commit token, rule 10, Recovery, rule 1, and
+-- Outputs, rules 3 to 5 of docs/PROTOCOL.md.
 use Rattle.std.specs.Prelude.{◌≡◌, ℕ, ◌+◌, ◌≤◌, true, ◌⊎◌, ◌==◌, if◌then◌else◌, List, [], ◌∷◌, filter_map, length, Option, Some, None}
 use Rattle.std.specs.List.{AllByRecursion}
 use Rattle.ring_base.specs.Processors.{IsProc, IsMember, at, size, position_of}

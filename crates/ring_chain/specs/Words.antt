@@ -1,4 +1,6 @@
--- What is said of all cores together: who took part in a ring with which members, the visits of its token, what was numbered there, what was reported, and what is safe. Rings and states, rule 14, Token and window, rule 13, and The commit token, rule 1 of docs/PROTOCOL.md.
+-- What is said of all cores together: who took part in a ring with which members, the visits of its token, what was
+-- numbered there, what was reported, and what is safe. Rings and states, rule 14, Token and window, rule 13, and The
+-- commit token, rule 1 of docs/PROTOCOL.md.
 use Rattle.std.specs.Prelude.{◌≡◌, ℕ, ◌<◌, ◌==◌, ◌⊎◌, if◌then◌else◌, List, [], ◌∷◌, Some, slice_get}
 use Rattle.ring_base.specs.Processors.{at, size}
 use Rattle.ring_base.specs.declared.ring_id.RingId.{RingId}

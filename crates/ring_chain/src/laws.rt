@@ -13,7 +13,9 @@ ghost use Rattle.ring_moves.specs.CommitRounds.{CommitRounds};
 ghost use Rattle.ring_moves.specs.Texts.{HasOneText};
 ghost use Rattle.ring_local.specs.Local.{LocalFacts};
 ghost use Rattle.ring_chain.specs.Words.{SharesRings};
-ghost use Rattle.ring_chain.specs.Told.{AllHoldMarks, AllIsOfFormed, AllTakePart, ArePlans, HasChains, HasNumbered, HaveOnePlan, MarksAreSafe, NameSameMembers, ReportsAreSafe, SafeIsSafe, ToldIsHeld, VisitInTurn, agreed_numbers};
+ghost use Rattle.ring_chain.specs.Told.{AllHoldMarks, AllIsOfFormed, AllTakePart, ArePlans, HasChains, HasNumbered};
+ghost use Rattle.ring_chain.specs.Told.{HaveOnePlan, MarksAreSafe, NameSameMembers, ReportsAreSafe, SafeIsSafe};
+ghost use Rattle.ring_chain.specs.Told.{ToldIsHeld, VisitInTurn, agreed_numbers};
 
 use std::alloc::{Allocator, Global};
 
@@ -81,7 +83,8 @@ pub fn one_plan_law<A: Allocator + Copy>()
 pub fn agreed_law<A: Allocator + Copy>()
     ensures unformed { (n : ℕ) (events : List (RingEvent A)) → ToldIsHeld (run (unformed n) events) }
     ensures formed { (n : ℕ) (events : List (RingEvent A)) → 1 ≤ n → ToldIsHeld (run_formed n events) }
-    ensures numbers { (n i : ℕ) (events : List (RingEvent A)) → agreed_numbers (run_formed n events) i ≡ numbers_from 1 (front ((run_formed n events).cores i) (all_of n).ring) }
+    ensures numbers { (n i : ℕ) (events : List (RingEvent A)) → agreed_numbers (run_formed n events) i
+        ≡ numbers_from 1 (front ((run_formed n events).cores i) (all_of n).ring) }
 {}
 
 /// What `Safe` told at any processor, each of the members holds that the ring's representative took part in it with:

@@ -47,16 +47,20 @@ found_ascend : {A : Type 0} → (held : List (Message A)) (ring : RingId) (ns : 
 found_ascend held ring [] h = tt
 found_ascend {A} held ring (n ∷ ns) h = more (found held ring n) (λ x e. (found_as held ring n x e).number_is) (found_ascend held ring ns h.1)
   where
-    more : (o : Option (Message A)) → ((x : Message A) → o ≡ Some x → x.number ≡ n) → Ascend (filter_map (found held ring) ns) → Ascend (cons_option o (filter_map (found held ring) ns))
+    more : (o : Option (Message A)) → ((x : Message A) → o ≡ Some x → x.number ≡ n)
+        → Ascend (filter_map (found held ring) ns) → Ascend (cons_option o (filter_map (found held ring) ns))
     more None f a = a
     more (Some x) f a = (
-      each-filter_map (λ m. n < m) (IsBefore x) (found held ring) (λ m y l e r. (let p = f x refl in let q = (found_as held ring m y e).number_is in omega (arith, p, q, l))) ns h.0,
+      each-filter_map (λ m. n < m) (IsBefore x) (found held ring)
+          (λ m y l e r. (let p = f x refl in let q = (found_as held ring m y e).number_is in omega (arith, p, q, l)))
+          ns h.0,
       a,
     )
 
 pub heard_ascends : {A : Type 0} → (held : List (Message A)) (ring : RingId) (first count : ℕ) → Ascend (heard (found held ring) first count)
 heard_ascends {A} held ring first count =
-    filter_ascends (λ (x : Message A). is_user x.payload) (filter_map (found held ring) (numbers_from first count)) (found_ascend held ring (numbers_from first count) (numbers_rise first count))
+    filter_ascends (λ (x : Message A). is_user x.payload) (filter_map (found held ring) (numbers_from first count))
+    (found_ascend held ring (numbers_from first count) (numbers_rise first count))
 
 -- The rest
 
@@ -68,7 +72,8 @@ rest_ascends {A} p held =
     let cross : Each (λ m. Each (λ n. m < n) (past_gap_part p held)) (transitional_part p) =
     each-in (λ m. Each (λ n. m < n) (past_gap_part p held)) (transitional_part p) (λ m i. each-in (λ n. m < n) (past_gap_part p held) (λ n j.
     let a = ltb-true m (gap p) (in_filter (λ n. nat_lt n (gap p)) m (known_above_safe p) i).1 in
-    let b = ltb-true (gap p) n (in_filter (nat_lt (gap p)) n (known_above_safe p) (in_filter (is_from_mate p held) n (filter (nat_lt (gap p)) (known_above_safe p)) j).0).1 in
+    let b = ltb-true (gap p) n (in_filter (nat_lt (gap p)) n (known_above_safe p)
+    (in_filter (is_from_mate p held) n (filter (nat_lt (gap p)) (known_above_safe p)) j).0).1 in
     omega (arith, a, b))) in
     filter_ascends (λ (x : Message A). is_user x.payload) (filter_map (found held p.old) (transitional_part p ++ past_gap_part p held))
     (found_ascend held p.old (transitional_part p ++ past_gap_part p held) (append_rise (transitional_part p) (past_gap_part p held) low high cross))
@@ -77,10 +82,14 @@ rest_ascends {A} p held =
 pub rest_above : {A : Type 0} → (p : Plan) (held : List (Message A)) → Each (λ (x : Message A). (x.ring ≡ p.old) × (safe p < x.number)) (rests p held)
 rest_above {A} p held =
     let ns = transitional_part p ++ past_gap_part p held in
-    let known : Each (λ n. safe p < n) (known_above_safe p) = each-filter (λ n. safe p < n) (is_known p) (numbers_from (safe p + 1) window_size) (each-weaker (λ n. safe p + 1 ≤ n) (λ n. safe p < n) (λ n l. omega (arith, l)) (numbers_from (safe p + 1) window_size) (numbers-above (safe p + 1) window_size)) in
+    let known : Each (λ n. safe p < n) (known_above_safe p) = each-filter (λ n. safe p < n) (is_known p)
+    (numbers_from (safe p + 1) window_size) (each-weaker (λ n. safe p + 1 ≤ n) (λ n. safe p < n)
+    (λ n l. omega (arith, l)) (numbers_from (safe p + 1) window_size) (numbers-above (safe p + 1) window_size)) in
     let all : Each (λ n. safe p < n) ns =
-    each-append (λ n. safe p < n) (transitional_part p) (past_gap_part p held) (each-filter (λ n. safe p < n) (λ n. nat_lt n (gap p)) (known_above_safe p) known)
-    (each-filter (λ n. safe p < n) (is_from_mate p held) (filter (nat_lt (gap p)) (known_above_safe p)) (each-filter (λ n. safe p < n) (nat_lt (gap p)) (known_above_safe p) known)) in
+    each-append (λ n. safe p < n) (transitional_part p) (past_gap_part p held)
+    (each-filter (λ n. safe p < n) (λ n. nat_lt n (gap p)) (known_above_safe p) known)
+    (each-filter (λ n. safe p < n) (is_from_mate p held) (filter (nat_lt (gap p)) (known_above_safe p))
+    (each-filter (λ n. safe p < n) (nat_lt (gap p)) (known_above_safe p) known)) in
     each-filter (λ (x : Message A). (x.ring ≡ p.old) × (safe p < x.number)) (λ (x : Message A). is_user x.payload) (filter_map (found held p.old) ns)
     (each-filter_map (λ n. safe p < n) (λ (x : Message A). (x.ring ≡ p.old) × (safe p < x.number)) (found held p.old)
     (λ n x l e. (let f = found_as held p.old n x e in let q = f.number_is in (f.ring_is, omega (arith, l, q)))) ns all)

@@ -1,4 +1,5 @@
--- Three of the facts of virtual synchrony: lives alternate and each processor is in its configurations; who goes on together delivers the same; and each delivers its own.
+-- Three of the facts of virtual synchrony: lives alternate and each processor is in its configurations; who goes on
+-- together delivers the same; and each delivers its own.
 use Rattle.std.proofs.Common.{◌≡◌, ℕ, ◌-◌, ◌<◌, ◌≤◌, ◌⊎◌, inl, inr, true, List, [], ◌∷◌, ◌++◌, Some, refl, ap, sym, ◌∙◌, subst, arith}
 use Rattle.std.specs.Prelude.{filter, filter_map, nat_le}
 use Rattle.std.specs.List.{AllByRecursion as Each}
@@ -51,13 +52,20 @@ abbrev pub stages_tale : {A : Type 0} → Core A → Configuration → List Conf
 stages_tale c next older = regular_of c next ∷ before_of c next older
 
 abbrev pub change_of : {A : Type 0} → Core A → Configuration → Configuration → Change A
-change_of c next old = record { old = old; regular = delivered_in (regular_of c old); mates = (plan_into c next old).mates; rest = rests (plan_into c next old) c.held; new = next }
+change_of c next old = record {
+  old = old;
+  regular = delivered_in (regular_of c old);
+  mates = (plan_into c next old).mates;
+  rest = rests (plan_into c next old) c.held;
+  new = next;
+}
 
 abbrev changes_tale : {A : Type 0} → Core A → Configuration → List Configuration → List (Change A)
 changes_tale c next [] = []
 changes_tale c next (old ∷ older) = change_of c next old ∷ changes_tale c old older
 
-changes_are : {A : Type 0} → (c : Core A) (next : Configuration) (older : List Configuration) → changes_of (stages_tale c next older) ≡ changes_tale c next older
+changes_are : {A : Type 0} → (c : Core A) (next : Configuration) (older : List Configuration)
+    → changes_of (stages_tale c next older) ≡ changes_tale c next older
 changes_are c next [] = refl
 changes_are {A} c next (old ∷ older) = ap (λ (xs : List (Change A)). change_of c next old ∷ xs) (changes_are c old older)
 
@@ -78,14 +86,23 @@ pub record IsChangeOf {A : Type 0} (c : Core A) (a : Change A) : Type 0 where
   pub next_in : IsIn next c.installs
   pub old_in : IsIn old c.installs
 
-change_in : {A : Type 0} → (c : Core A) (next : Configuration) (older : List Configuration) → ((x : Configuration) → IsIn x (next ∷ older) → IsIn x c.installs) →
+change_in : {A : Type 0} → (c : Core A) (next : Configuration) (older : List Configuration)
+    → ((x : Configuration) → IsIn x (next ∷ older) → IsIn x c.installs) →
     HaveChanged c next older → (a : Change A) → IsIn a (changes_tale c next older) → IsChangeOf c a
 change_in c next [] f h a i = absurd i
-change_in c next (old ∷ older) f h a (inl e) = record { next = next; old = old; is = e; changed = h.0; next_in = f next (inl refl); old_in = f old (inr (inl refl)) }
+change_in c next (old ∷ older) f h a (inl e) = record {
+  next = next;
+  old = old;
+  is = e;
+  changed = h.0;
+  next_in = f next (inl refl);
+  old_in = f old (inr (inl refl));
+}
 change_in c next (old ∷ older) f h a (inr i) = change_in c old older (λ x j. f x (inr j)) h.1 a i
 
 -- the members of each stage
-stage_own : {A : Type 0} → (c : Core A) (next : Configuration) (older : List Configuration) → ((x : Configuration) → IsIn x (next ∷ older) → has x.members c.me ≡ true) →
+stage_own : {A : Type 0} → (c : Core A) (next : Configuration) (older : List Configuration)
+    → ((x : Configuration) → IsIn x (next ∷ older) → has x.members c.me ≡ true) →
     HaveChanged c next older → (s : Stage A) → IsIn s (stages_tale c next older) → has (members_in s) c.me ≡ true
 stage_own {A} c next older f h s (inl e) = subst (λ (s : Stage A). has (members_in s) c.me ≡ true) (sym e) (f next (inl refl))
 stage_own c next [] f h s (inr i) = absurd i
@@ -125,13 +142,15 @@ module _ {A : Type 0} (w : World A) (r : Recovered w.cores w.frames) where
       λ k. record { ring = e k; members = m k }
 
   -- in a regular configuration is delivered what is heard up to the mark
-  pub regular_is : (i : ℕ) (old : Configuration) → delivered_in (regular_of (w.cores i) old) ≡ heard (found (w.cores i).held old.ring) 1 (mark (w.cores i) old.ring)
+  pub regular_is : (i : ℕ) (old : Configuration) → delivered_in (regular_of (w.cores i) old) ≡ heard
+      (found (w.cores i).held old.ring) 1 (mark (w.cores i) old.ring)
   regular_is i old =
       let c = w.cores i in
       let f = front c old.ring in
       let low : mark c old.ring ≤ f = mark_below c old.ring ((r.local i).fit) in
       let same : f - 0 ≡ f = omega arith in
-      ap (λ n. filter (λ (x : Message A). nat_le x.number (mark c old.ring)) (heard (found c.held old.ring) 1 n)) same ∙ heard_upto c.held old.ring (mark c old.ring) f low
+      ap (λ n. filter (λ (x : Message A). nat_le x.number (mark c old.ring)) (heard (found c.held old.ring) 1 n)) same
+      ∙ heard_upto c.held old.ring (mark c old.ring) f low
 
   -- up to the mark all is held
   marked_held : (i : ℕ) (ring : RingId) (n : ℕ) → 1 ≤ n → n ≤ mark (w.cores i) ring → holds (w.cores i).held ring n ≡ true
@@ -160,13 +179,16 @@ module _ {A : Type 0} (w : World A) (r : Recovered w.cores w.frames) where
         let m = mark (w.cores i) old.ring in
         let one : filter_map (found (w.cores i).held old.ring) (numbers_from 1 m) ≡ filter_map (found (w.cores j).held old.ring) (numbers_from 1 m) =
         found_alike (found (w.cores i).held old.ring) (found (w.cores j).held old.ring) 1 m
-        (λ n low up. found_both i j old.ring n (marked_held i old.ring n low (omega (arith, up))) (marked_held j old.ring n low (omega (arith, up, marks_same)))) in
-        regular_is i old ∙ ap (filter (λ (x : Message A). is_user x.payload)) one ∙ ap (heard (found (w.cores j).held old.ring) 1) marks_same ∙ sym (regular_is j old)
+        (λ n low up. found_both i j old.ring n (marked_held i old.ring n low (omega (arith, up)))
+        (marked_held j old.ring n low (omega (arith, up, marks_same)))) in
+        regular_is i old ∙ ap (filter (λ (x : Message A). is_user x.payload)) one
+        ∙ ap (heard (found (w.cores j).held old.ring) 1) marks_same ∙ sym (regular_is j old)
 
     rests_same : rests (plan_into (w.cores i) next old) (w.cores i).held ≡ rests (plan_into (w.cores j) next old) (w.cores j).held
     rests_same =
         let p = plan_into (w.cores i) next old in
-        same_rests p (w.cores i).held (w.cores j).held (text_same i j old.ring) a.complete (subst (λ (q : Plan). is_complete q (w.cores j).held ≡ true) (sym plans_same) b.complete)
+        same_rests p (w.cores i).held (w.cores j).held (text_same i j old.ring) a.complete
+        (subst (λ (q : Plan). is_complete q (w.cores j).held ≡ true) (sym plans_same) b.complete)
         ∙ ap (λ (q : Plan). rests q (w.cores j).held) plans_same
 
     change_same : change_of (w.cores i) next old ≡ change_of (w.cores j) next old
@@ -174,9 +196,12 @@ module _ {A : Type 0} (w : World A) (r : Recovered w.cores w.frames) where
 
   alike : (i j : ℕ) (a b : Change A) → IsChangeOf (w.cores i) a → IsChangeOf (w.cores j) b → a.old.ring ≡ b.old.ring → a.new.ring ≡ b.new.ring → a ≡ b
   alike i j a b p q e f =
-      let old : p.old ≡ q.old = one_configuration i j p.old q.old p.old_in q.old_in (sym (ap (λ (x : Change A). x.old.ring) p.is) ∙ e ∙ ap (λ (x : Change A). x.old.ring) q.is) in
-      let next : p.next ≡ q.next = one_configuration i j p.next q.next p.next_in q.next_in (sym (ap (λ (x : Change A). x.new.ring) p.is) ∙ f ∙ ap (λ (x : Change A). x.new.ring) q.is) in
-      let there : HasChanged (w.cores j) p.next p.old = subst (λ n. HasChanged (w.cores j) n p.old) (sym next) (subst (λ o. HasChanged (w.cores j) q.next o) (sym old) q.changed) in
+      let old : p.old ≡ q.old = one_configuration i j p.old q.old p.old_in q.old_in
+      (sym (ap (λ (x : Change A). x.old.ring) p.is) ∙ e ∙ ap (λ (x : Change A). x.old.ring) q.is) in
+      let next : p.next ≡ q.next = one_configuration i j p.next q.next p.next_in q.next_in
+      (sym (ap (λ (x : Change A). x.new.ring) p.is) ∙ f ∙ ap (λ (x : Change A). x.new.ring) q.is) in
+      let there : HasChanged (w.cores j) p.next p.old = subst (λ n. HasChanged (w.cores j) n p.old) (sym next)
+      (subst (λ o. HasChanged (w.cores j) q.next o) (sym old) q.changed) in
       p.is ∙ change_same i j p.next p.old p.changed there ∙ ap (λ n. change_of (w.cores j) n p.old) next ∙ ap (change_of (w.cores j) q.next) old ∙ sym q.is
 
   -- an own message
@@ -186,8 +211,11 @@ module _ {A : Type 0} (w : World A) (r : Recovered w.cores w.frames) where
       let b = numbered_by w.cores w.frames h x (genuine a.0 x a.1) in
       let c = w.cores x.sender in
       let me : c.me ≡ x.sender = (h.rings).me x.sender in
-      let all = in-each (λ (v : Turn A). Each (λ (x : Message A). IsIn x c.held) (numbered v.came.ring c.me v.came.seq v.fresh)) b.turn c.turns ((r.local x.sender).sent) b.there in
-      let mine : IsIn x c.held = in-each (λ (x : Message A). IsIn x c.held) x (numbered b.turn.came.ring c.me b.turn.came.seq b.turn.fresh) all (subst (λ q. IsIn x (numbered b.turn.came.ring q b.turn.came.seq b.turn.fresh)) (sym me) b.numbered_there) in
+      let all = in-each (λ (v : Turn A). Each (λ (x : Message A). IsIn x c.held)
+      (numbered v.came.ring c.me v.came.seq v.fresh)) b.turn c.turns ((r.local x.sender).sent) b.there in
+      let mine : IsIn x c.held = in-each (λ (x : Message A). IsIn x c.held) x
+      (numbered b.turn.came.ring c.me b.turn.came.seq b.turn.fresh) all
+      (subst (λ q. IsIn x (numbered b.turn.came.ring q b.turn.came.seq b.turn.fresh)) (sym me) b.numbered_there) in
       (subst (λ q. IsIn x (w.cores q).held) s mine, a.2)
 
   -- a number that is held is at least 1
@@ -217,13 +245,17 @@ module _ {A : Type 0} (w : World A) (r : Recovered w.cores w.frames) where
         | inr within ↦
             in-left x (delivered_in (regular_of c old)) (rests p c.held)
             (subst (λ (xs : List (Message A)). IsIn x xs) (sym (regular_is i old))
-            (in_heard (found c.held old.ring) (numbers_from 1 (mark c old.ring)) x.number x (in_numbers x.number 1 (mark c old.ring) low (let m : mark c old.ring ≡ safe p = q.marked in omega (arith, within, m))) is u))
+            (in_heard (found c.held old.ring) (numbers_from 1 (mark c old.ring)) x.number x
+            (in_numbers x.number 1 (mark c old.ring) low
+            (let m : mark c old.ring ≡ safe p = q.marked in omega (arith, within, m))) is u))
       ]
 
-  own_delivered : (i : ℕ) (next old : Configuration) → HasChanged (w.cores i) next old → (x : Message A) → IsIn x (w.cores i).held → x.ring ≡ old.ring → x.sender ≡ i →
+  own_delivered : (i : ℕ) (next old : Configuration) → HasChanged (w.cores i) next old → (x : Message A)
+      → IsIn x (w.cores i).held → x.ring ≡ old.ring → x.sender ≡ i →
       is_user x.payload ≡ true → IsIn x (delivered_in (regular_of (w.cores i) old) ++ rests (plan_into (w.cores i) next old) (w.cores i).held)
   own_delivered i next old a x there ring s u =
-      let me : has (plan_into (w.cores i) next old).mates x.sender ≡ true = subst (λ k. has (plan_into (w.cores i) next old).mates k ≡ true) ((h.rings).me i ∙ sym s) (a.plan).mate in
+      let me : has (plan_into (w.cores i) next old).mates x.sender ≡ true =
+      subst (λ k. has (plan_into (w.cores i) next old).mates k ≡ true) ((h.rings).me i ∙ sym s) (a.plan).mate in
       delivered_at i next old a x there ring u (inr me)
 
 -- In every run
@@ -251,7 +283,8 @@ module _ {A : Type 0} (n : ℕ) (events : List (RingEvent A)) where
   change_is i a j =
       let c = w.cores i in
       let o = (r.local i).ordered in
-      let there : IsIn a (changes_tale c c.installed o.older) = subst (λ (xs : List (Change A)). IsIn a xs) (ap changes_of (stages_are i) ∙ changes_are c c.installed o.older) j in
+      let there : IsIn a (changes_tale c c.installed o.older) = subst (λ (xs : List (Change A)). IsIn a xs)
+      (ap changes_of (stages_are i) ∙ changes_are c c.installed o.older) j in
       change_in c c.installed o.older (among i) (went_through i) a there
 
   pub deliver_alike : DeliversAlike w
@@ -273,7 +306,8 @@ module _ {A : Type 0} (n : ℕ) (events : List (RingEvent A)) where
       record {
         told = all_well_told n events i;
         own = λ s k. subst (λ q. has (members_in s) q ≡ true) me
-            (stage_own c c.installed o.older (λ x j. (r.local i).member x ((r.local i).among x (among i x j))) (went_through i) s (subst (λ (xs : List (Stage A)). IsIn s xs) (stages_are i) k));
+            (stage_own c c.installed o.older (λ x j. (r.local i).member x ((r.local i).among x (among i x j)))
+            (went_through i) s (subst (λ (xs : List (Stage A)). IsIn s xs) (stages_are i) k));
         alternating = ap alternate (stages_are i) ∙ alternates c c.installed o.older;
         rising = ap (all_pairs is_above) (ap regulars_of (stages_are i) ∙ regulars_are c c.installed o.older) ∙ pairs_fall (c.installed ∷ o.older) o.falls;
       }

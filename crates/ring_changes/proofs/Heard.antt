@@ -1,5 +1,6 @@
 -- Lists of what is heard of a ring: up to a number, and what a plan's rest has.
-use Rattle.std.proofs.Common.{◌≡◌, ℕ, zero, suc, ◌+◌, ◌-◌, ◌<◌, ◌≤◌, ◌⊎◌, inl, inr, Bool, true, false, ◌==◌, List, [], ◌∷◌, ◌++◌, Option, Some, None, refl, ap, sym, ◌∙◌, subst, arith, append-nil}
+use Rattle.std.proofs.Common.{◌≡◌, ℕ, zero, suc, ◌+◌, ◌-◌, ◌<◌, ◌≤◌, ◌⊎◌, inl, inr, Bool, true, false, ◌==◌, List, []}
+use Rattle.std.proofs.Common.{◌∷◌, ◌++◌, Option, Some, None, refl, ap, sym, ◌∙◌, subst, arith, append-nil}
 use Rattle.std.specs.Prelude.{filter, filter_map, nat_le, nat_lt}
 use Rattle.std.specs.List.{AllByRecursion as Each, cons_option, prefix_len}
 use Rattle.std.proofs.lemmas.Bool.{cond_both, cond-true, cond-false, cases_Bool, cases_order, and_parts, both_ways, eqb-true, eq-eqb, le-leb, lt-leb, lt-ltb}
@@ -38,7 +39,8 @@ found_as held ring n x e =
 pub held_is : {A : Type 0} → (held : List (Message A)) (x : Message A) → IsIn x held → holds held x.ring x.number ≡ true
 held_is [] x h = absurd h
 held_is {A} (y ∷ held) x (inl e) =
-    let t : is_numbered x.ring x.number y ≡ true = subst (λ (z : Message A). is_numbered x.ring x.number z ≡ true) e (rw (same-self x.ring, eq-eqb x.number x.number refl) refl) in
+    let t : is_numbered x.ring x.number y ≡ true = subst (λ (z : Message A). is_numbered x.ring x.number z ≡ true) e
+    (rw (same-self x.ring, eq-eqb x.number x.number refl) refl) in
     rw t refl
 held_is {A} (y ∷ held) x (inr h) = elim (cases_Bool (is_numbered x.ring x.number y)) [ inl t ↦ rw t refl | inr f ↦ rw (f, held_is held x h) refl ]
 
@@ -47,7 +49,8 @@ held_is {A} (y ∷ held) x (inr h) = elim (cases_Bool (is_numbered x.ring x.numb
 abbrev Between : {A : Type 0} → ℕ → ℕ → Message A → Type 0
 Between first count x = (first ≤ x.number) × (x.number < first + count)
 
-heard_between : {A : Type 0} → (held : List (Message A)) (ring : RingId) (first count : ℕ) → Each (λ (x : Message A). Between first count x) (heard (found held ring) first count)
+heard_between : {A : Type 0} → (held : List (Message A)) (ring : RingId) (first count : ℕ)
+    → Each (λ (x : Message A). Between first count x) (heard (found held ring) first count)
 heard_between {A} held ring first count =
     each-filter (λ (x : Message A). Between first count x) (λ (x : Message A). is_user x.payload) (filter_map (found held ring) (numbers_from first count))
     (each-filter_map (λ n. (first ≤ n) × (n < first + count)) (λ (x : Message A). Between first count x) (found held ring)
@@ -70,10 +73,14 @@ heard_upto {A} held ring m f l =
     let test : Message A → Bool = λ x. nat_le x.number m in
     let parts : m + (f - m) ≡ f = omega (arith, l) in
     let low : filter test (heard get 1 m) ≡ heard get 1 m =
-    filter_all test (heard get 1 m) (each-weaker (λ (x : Message A). Between 1 m x) (λ (x : Message A). test x ≡ true) (λ x b. le-leb x.number m (omega (arith, b.1))) (heard get 1 m) (heard_between held ring 1 m)) in
+    filter_all test (heard get 1 m) (each-weaker (λ (x : Message A). Between 1 m x) (λ (x : Message A). test x ≡ true)
+    (λ x b. le-leb x.number m (omega (arith, b.1))) (heard get 1 m) (heard_between held ring 1 m)) in
     let high : filter test (heard get (1 + m) (f - m)) ≡ [] =
-    filter_none test (heard get (1 + m) (f - m)) (each-weaker (λ (x : Message A). Between (1 + m) (f - m) x) (λ (x : Message A). test x ≡ false) (λ x b. lt-leb x.number m (omega (arith, b.0))) (heard get (1 + m) (f - m)) (heard_between held ring (1 + m) (f - m))) in
-    ap (λ n. filter test (heard get 1 n)) (sym parts) ∙ ap (filter test) (sym (heard_more get m (f - m))) ∙ filter-append test (heard get 1 m) (heard get (1 + m) (f - m))
+    filter_none test (heard get (1 + m) (f - m)) (each-weaker (λ (x : Message A). Between (1 + m) (f - m) x)
+    (λ (x : Message A). test x ≡ false) (λ x b. lt-leb x.number m (omega (arith, b.0))) (heard get (1 + m) (f - m))
+    (heard_between held ring (1 + m) (f - m))) in
+    ap (λ n. filter test (heard get 1 n)) (sym parts) ∙ ap (filter test) (sym (heard_more get m (f - m)))
+    ∙ filter-append test (heard get 1 m) (heard get (1 + m) (f - m))
     ∙ ap (λ xs. xs ++ filter test (heard get (1 + m) (f - m))) low ∙ ap (λ xs. heard get 1 m ++ xs) high ∙ append-nil (heard get 1 m)
 
 -- What stands there
@@ -81,7 +88,8 @@ heard_upto {A} held ring m f l =
 map_in : {A : Type 0} → (get : ℕ → Option (Message A)) (ns : List ℕ) (n : ℕ) (x : Message A) → IsIn n ns → get n ≡ Some x → IsIn x (filter_map get ns)
 map_in get [] n x h e = absurd h
 map_in {A} get (m ∷ ns) n x (inl s) e =
-    (let o : get m ≡ Some x = subst (λ k. get k ≡ Some x) s e in subst (λ (o : Option (Message A)). IsIn x (cons_option o (filter_map get ns))) (sym o) (inl refl))
+    (let o : get m ≡ Some x = subst (λ k. get k ≡ Some x) s e in subst
+    (λ (o : Option (Message A)). IsIn x (cons_option o (filter_map get ns))) (sym o) (inl refl))
 map_in {A} get (m ∷ ns) n x (inr h) e = more (get m) (map_in get ns n x h e)
   where
     more : (o : Option (Message A)) → IsIn x (filter_map get ns) → IsIn x (cons_option o (filter_map get ns))
@@ -99,7 +107,8 @@ prefix_stops p first zero h = omega arith
 prefix_stops p first (suc count) h =
     let rest = prefix_len p (numbers_from (suc first) count) in
     cond_both (p first) (1 + rest) 0 (λ n. p (first + n) ≡ true → suc count ≤ n)
-    (λ t k. (let e : first + (1 + rest) ≡ suc first + rest = omega arith in let l : count ≤ rest = prefix_stops p (suc first) count (subst (λ n. p n ≡ true) e k) in omega (arith, l)))
+    (λ t k. (let e : first + (1 + rest) ≡ suc first + rest = omega arith in let l : count ≤ rest = prefix_stops p
+    (suc first) count (subst (λ n. p n ≡ true) e k) in omega (arith, l)))
     (λ f k. (let e : first + 0 ≡ first = omega arith in absurd (both_ways (p first) f (subst (λ n. p n ≡ true) e k)))) h
 
 pub gap_unknown : (p : Plan) → ((n : ℕ) → is_known p n ≡ true → n ≤ safe p + window_size) → safe p ≤ low p → is_known p (gap p) ≡ true → ⊥
@@ -112,11 +121,14 @@ gap_unknown p reach sound h =
 -- In the rest
 
 known_there : (p : Plan) (n : ℕ) → safe p < n → n ≤ safe p + window_size → is_known p n ≡ true → IsIn n (known_above_safe p)
-known_there p n above within k = filter_in (is_known p) n (numbers_from (safe p + 1) window_size) (in_numbers n (safe p + 1) window_size (omega (arith, above)) (omega (arith, within))) k
+known_there p n above within k = filter_in (is_known p) n (numbers_from (safe p + 1) window_size)
+    (in_numbers n (safe p + 1) window_size (omega (arith, above)) (omega (arith, within))) k
 
 -- what is known above the mark is in the rest, if it lies below the gap or a mate sent it
-pub in_rest : {A : Type 0} → (p : Plan) (held : List (Message A)) → ((n : ℕ) → is_known p n ≡ true → n ≤ safe p + window_size) → safe p ≤ low p → (x : Message A) →
-    found held p.old x.number ≡ Some x → is_user x.payload ≡ true → safe p < x.number → is_known p x.number ≡ true → (x.number < gap p) ⊎ (has p.mates x.sender ≡ true) → IsIn x (rests p held)
+pub in_rest : {A : Type 0} → (p : Plan) (held : List (Message A))
+    → ((n : ℕ) → is_known p n ≡ true → n ≤ safe p + window_size) → safe p ≤ low p → (x : Message A) →
+    found held p.old x.number ≡ Some x → is_user x.payload ≡ true → safe p < x.number → is_known p x.number ≡ true
+    → (x.number < gap p) ⊎ (has p.mates x.sender ≡ true) → IsIn x (rests p held)
 in_rest {A} p held reach sound x f u above k side =
     let n = x.number in
     let there = known_there p n above (reach n k) k in
@@ -124,7 +136,8 @@ in_rest {A} p held reach sound x f u above k side =
     λ l. in-left n (transitional_part p) (past_gap_part p held) (filter_in (λ m. nat_lt m (gap p)) n (known_above_safe p) there (lt-ltb n (gap p) l)) in
     let past : gap p < n → has p.mates x.sender ≡ true → IsIn n (transitional_part p ++ past_gap_part p held) =
     λ l m. in-right n (transitional_part p) (past_gap_part p held)
-    (filter_in (is_from_mate p held) n (filter (nat_lt (gap p)) (known_above_safe p)) (filter_in (nat_lt (gap p)) n (known_above_safe p) there (lt-ltb (gap p) n l))
+    (filter_in (is_from_mate p held) n (filter (nat_lt (gap p)) (known_above_safe p))
+    (filter_in (nat_lt (gap p)) n (known_above_safe p) there (lt-ltb (gap p) n l))
     (subst (λ (o : Option (Message A)). sent_by_mate p o ≡ true) (sym f) m)) in
     in_heard (found held p.old) (transitional_part p ++ past_gap_part p held) n x
     (elim (side) [

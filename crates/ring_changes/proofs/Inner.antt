@@ -1,4 +1,5 @@
--- In Recovery what is wrapped of the old ring is held there: it is taken with what wraps it, since what is known lies within the window after the greatest mark.
+-- In Recovery what is wrapped of the old ring is held there: it is taken with what wraps it, since what is known lies
+-- within the window after the greatest mark.
 use Rattle.std.proofs.Common.{◌≡◌, ℕ, ◌+◌, ◌-◌, ◌<◌, ◌≤◌, ◌⊎◌, inl, inr, true, false, ◌&&◌, List, [], ◌∷◌, ◌++◌, refl, ap, sym, ◌∙◌, subst, arith}
 use Rattle.std.specs.Prelude.{reverse, nat_lt, nat_le}
 use Rattle.std.specs.List.{list_any, AllByRecursion as Each}
@@ -69,13 +70,16 @@ moved_low {A} came c (Enters k) may l p =
     let up : floor c < k.ring.seq = may.above in
     record {
       low = each-weaker (λ (x : Message A). x.ring.seq ≤ floor c) (λ (x : Message A). x.ring.seq ≤ k.ring.seq) (λ x a. omega (arith, a, up)) c.held p.low;
-      fresh = λ s. each-weaker (λ (x : Message A). x.ring.seq ≤ floor c) (λ (x : Message A). x.ring.seq < k.ring.seq) (λ x a. omega (arith, a, up)) c.held p.low;
+      fresh = λ s. each-weaker (λ (x : Message A). x.ring.seq ≤ floor c) (λ (x : Message A). x.ring.seq < k.ring.seq)
+          (λ x a. omega (arith, a, up)) c.held p.low;
     }
 moved_low came c (Learns k) may l p = record { low = p.low; fresh = λ s. absurd (let q : Recovery ≡ Commit = s in let n : ⊥ = cc in n) }
 moved_low {A} came c (Visits t fresh requests again queue) may l p =
     let ns = numbered t.ring c.me t.seq fresh in
     let at : t.ring.seq ≡ floor c = ap (λ (r : RingId). r.seq) may.ring in
-    let new : Each (λ (x : Message A). x.ring.seq ≤ floor c) ns = each-in (λ (x : Message A). x.ring.seq ≤ floor c) ns (λ x i. (let q : x.ring.seq ≡ t.ring.seq = ap (λ (r : RingId). r.seq) (numbered_in t.ring c.me t.seq fresh x i).ring_is in omega (arith, q, at))) in
+    let new : Each (λ (x : Message A). x.ring.seq ≤ floor c) ns = each-in (λ (x : Message A). x.ring.seq ≤ floor c) ns
+    (λ x i. (let q : x.ring.seq ≡ t.ring.seq = ap (λ (r : RingId). r.seq)
+    (numbered_in t.ring c.me t.seq fresh x i).ring_is in omega (arith, q, at))) in
     record {
       low = each-append (λ (x : Message A). x.ring.seq ≤ floor c) (reverse ns) c.held (each-reverse (λ (x : Message A). x.ring.seq ≤ floor c) ns new) p.low;
       fresh = λ s. absurd (runs_not c.state may.state s);
@@ -107,7 +111,9 @@ reported_low : (n : ℕ) (e : CommitEntry) → is_reported n e ≡ true → 1 �
 reported_low n e h =
     elim (or_cases (nat_lt 0 n && nat_le n e.front) ((nat_lt e.front n && nat_le n (e.front + window_size)) && bit_of e.held (n - e.front - 1)) h) [
       | inl a ↦ (let l = ltb-true 0 n (and_parts (nat_lt 0 n) (nat_le n e.front) a).0 in omega (arith, l))
-      | inr b ↦ (let l = ltb-true e.front n (and_parts (nat_lt e.front n) (nat_le n (e.front + window_size)) (and_parts (nat_lt e.front n && nat_le n (e.front + window_size)) (bit_of e.held (n - e.front - 1)) b).0).0 in omega (arith, l))
+      | inr b ↦ (let l = ltb-true e.front n (and_parts (nat_lt e.front n) (nat_le n (e.front + window_size))
+          (and_parts (nat_lt e.front n && nat_le n (e.front + window_size)) (bit_of e.held (n - e.front - 1))
+          b).0).0 in omega (arith, l))
     ]
 
 known_low : (n : ℕ) (reports : List CommitEntry) → list_any (is_reported n) reports ≡ true → 1 ≤ n
@@ -137,8 +143,10 @@ old_held {A} c l p n low known old =
 inner_given : {A : Type 0} → (old : RingId) (m : ℕ) (held : List (Message A)) (w : WrappedMessage A) → w.ring ≡ old → is_new held m old w.number ≡ true →
     IsIn (inner_message w) (unwrapped old m held (Wrapped w))
 inner_given {A} old m held w e new =
-    let t : (same_ring w.ring old && is_new held m old w.number) ≡ true = and_from (same_ring w.ring old) (is_new held m old w.number) (subst (λ r. same_ring w.ring r ≡ true) e (same-self w.ring)) new in
-    subst (λ (xs : List (Message A)). IsIn (inner_message w) xs) (sym (cond-true (same_ring w.ring old && is_new held m old w.number) (inner_message w ∷ []) [] t)) (inl refl)
+    let t : (same_ring w.ring old && is_new held m old w.number) ≡ true = and_from (same_ring w.ring old)
+    (is_new held m old w.number) (subst (λ r. same_ring w.ring r ≡ true) e (same-self w.ring)) new in
+    subst (λ (xs : List (Message A)). IsIn (inner_message w) xs)
+    (sym (cond-true (same_ring w.ring old && is_new held m old w.number) (inner_message w ∷ []) [] t)) (inl refl)
 
 module _ {A : Type 0} (cores : ℕ → Core A) (frames : List (Carried A)) (r : Recovered cores frames) (i : ℕ) (low : 1 ≤ i) where
   abbrev h : Holds cores frames
@@ -150,29 +158,38 @@ module _ {A : Type 0} (cores : ℕ → Core A) (frames : List (Carried A)) (r : 
   holds_more : (xs : List (Message A)) (n : ℕ) → holds c.held c.installed.ring n ≡ true → holds (xs ++ c.held) c.installed.ring n ≡ true
   holds_more xs n t = holds-more xs c.held c.installed.ring n t
 
-  took_inner : (x : Message A) → MayTake (CameTo frames i) c x → c.state ≡ Recovery → (w : WrappedMessage A) → x.payload ≡ Wrapped w → w.ring ≡ c.installed.ring →
+  took_inner : (x : Message A) → MayTake (CameTo frames i) c x → c.state ≡ Recovery → (w : WrappedMessage A)
+      → x.payload ≡ Wrapped w → w.ring ≡ c.installed.ring →
       holds (took c x).held c.installed.ring w.number ≡ true
   took_inner x may s w e old =
       let p = r.recovers i s in
       let f = came_right h.visits cores frames i (MessageFrame x) ((h.sent).right) may.from in
-      let from : x.ring ≡ c.running.ring = elim (may.ring) [ inl t ↦ t.ring | inr l ↦ absurd (let q : Gather ≡ Recovery = sym l.state ∙ s in let n : ⊥ = cc in n) ] in
+      let from : x.ring ≡ c.running.ring = elim (may.ring)
+      [ inl t ↦ t.ring | inr l ↦ absurd (let q : Gather ≡ Recovery = sym l.state ∙ s in let n : ⊥ = cc in n) ] in
       let known = wrapped_known cores frames r i low p x f.3 from w e old in
       let some : 1 ≤ w.number = known_low w.number (plan_into c c.running c.installed).reports known in
       elim (cases_Bool (is_new c.held (mark c c.installed.ring) c.installed.ring w.number)) [
         | inl new ↦ (let given : IsIn (inner_message w) (gives_old c.state c x) =
-            subst (λ t. IsIn (inner_message w) (gives_old t c x)) (sym s) (subst (λ (q : Payload A). IsIn (inner_message w) (unwrapped c.installed.ring (mark c c.installed.ring) c.held q)) (sym e) (inner_given c.installed.ring (mark c c.installed.ring) c.held w old new)) in
+            subst (λ t. IsIn (inner_message w) (gives_old t c x)) (sym s)
+            (subst (λ (q : Payload A). IsIn (inner_message w)
+            (unwrapped c.installed.ring (mark c c.installed.ring) c.held q)) (sym e)
+            (inner_given c.installed.ring (mark c c.installed.ring) c.held w old new)) in
             let t = held_is (took c x).held (inner_message w) (in-left (inner_message w) (gives_old c.state c x) (x ∷ c.held) given) in
             subst (λ (q : RingId). holds (took c x).held q w.number ≡ true) old t)
-        | inr not_new ↦ holds-more (gives_old c.state c x) (x ∷ c.held) c.installed.ring w.number (holds_more (x ∷ []) w.number (old_held c (r.local i) p w.number some known not_new))
+        | inr not_new ↦ holds-more (gives_old c.state c x) (x ∷ c.held) c.installed.ring w.number
+            (holds_more (x ∷ []) w.number (old_held c (r.local i) p w.number some known not_new))
       ]
 
-  visited_inner : (t : Token) (fresh : List (Payload A)) (again : List (Message A)) (queue : List (Payload A)) → MayVisit (CameTo frames i) c t fresh again queue → c.state ≡ Recovery →
+  visited_inner : (t : Token) (fresh : List (Payload A)) (again : List (Message A)) (queue : List (Payload A))
+      → MayVisit (CameTo frames i) c t fresh again queue → c.state ≡ Recovery →
       (x : Message A) → IsIn x (reverse (numbered t.ring c.me t.seq fresh)) → (w : WrappedMessage A) → x.payload ≡ Wrapped w → w.ring ≡ c.installed.ring →
       holds c.held c.installed.ring w.number ≡ true
   visited_inner t fresh again queue may s x k w e old =
       let ns = numbered t.ring c.me t.seq fresh in
       let Carries : Message A → Type 0 = λ x. IsIn x.payload fresh in
-      let there : IsIn x.payload fresh = in-each Carries x (reverse ns) (each-reverse Carries ns (each-in Carries ns (λ x i. (numbered_in t.ring c.me t.seq fresh x i).payload_in))) k in
+      let there : IsIn x.payload fresh = in-each Carries x (reverse ns)
+      (each-reverse Carries ns (each-in Carries ns (λ x i. (numbered_in t.ring c.me t.seq fresh x i).payload_in)))
+      k in
       let ws = may.wraps s in
       elim (in-parts x.payload ws.wraps ws.ends (subst (λ (ps : List (Payload A)). IsIn x.payload ps) ws.parts there)) [
         | inl wrapped ↦ (let (v, f, on) = in-each (IsWrapping c) x.payload ws.wraps ws.handed wrapped in
@@ -182,7 +199,8 @@ module _ {A : Type 0} (cores : ℕ → Core A) (frames : List (Carried A)) (r : 
             subst (λ (q : RingId). holds c.held q w.number ≡ true) old (subst (λ (z : WrappedMessage A). holds c.held z.ring z.number ≡ true) same t))
         | inr ended ↦ elim (ws.ended) [
           | inl none ↦ absurd (subst (λ (ps : List (Payload A)). IsIn x.payload ps) none ended)
-          | inr end ↦ elim (subst (λ (ps : List (Payload A)). IsIn x.payload ps) end.one ended) [ inl q ↦ absurd (let both : End ≡ Wrapped w = sym q ∙ e in let n : ⊥ = cc in n) | inr none ↦ absurd none ]
+          | inr end ↦ elim (subst (λ (ps : List (Payload A)). IsIn x.payload ps) end.one ended)
+              [ inl q ↦ absurd (let both : End ≡ Wrapped w = sym q ∙ e in let n : ⊥ = cc in n) | inr none ↦ absurd none ]
         ]
       ]
 
@@ -195,7 +213,8 @@ module _ {A : Type 0} (cores : ℕ → Core A) (frames : List (Carried A)) (r : 
       ]
   moved_unwraps (Enters k) may l u s x j ring w e old = absurd (let q : Commit ≡ Recovery = s in let n : ⊥ = cc in n)
   moved_unwraps (Learns k) may l u s x j ring w e old =
-      (let a : x.ring.seq < floor c = in-each (λ (x : Message A). x.ring.seq < floor c) x c.held (l.fresh may.state) j in let b : x.ring.seq ≡ floor c = ap (λ (r : RingId). r.seq) ring in absurd (omega (arith, a, b)))
+      (let a : x.ring.seq < floor c = in-each (λ (x : Message A). x.ring.seq < floor c) x c.held (l.fresh may.state)
+      j in let b : x.ring.seq ≡ floor c = ap (λ (r : RingId). r.seq) ring in absurd (omega (arith, a, b)))
   moved_unwraps (Visits t fresh requests again queue) may l u s x j ring w e old =
       let ns = numbered t.ring c.me t.seq fresh in
       elim (in-parts x (reverse ns) c.held j) [
@@ -219,7 +238,8 @@ pub record AllUnwrap {A : Type 0} (cores : ℕ → Core A) (frames : List (Carri
   pub low : (q : ℕ) → IsLow (cores q)
   pub unwraps : (q : ℕ) → Unwraps (cores q)
 
-pub unwrap_moved : {A : Type 0} → (cores : ℕ → Core A) (frames : List (Carried A)) (i : ℕ) (m : Move A) → 1 ≤ i → MayMove (CameTo frames i) (cores i) m → AllUnwrap cores frames →
+pub unwrap_moved : {A : Type 0} → (cores : ℕ → Core A) (frames : List (Carried A)) (i : ℕ) (m : Move A) → 1 ≤ i
+    → MayMove (CameTo frames i) (cores i) m → AllUnwrap cores frames →
     AllUnwrap (put cores i (moved (cores i) m)) (frames ++ carried_from i (sends_of (cores i) m))
 unwrap_moved {A} cores frames i m low may a =
     let d = moved (cores i) m in
@@ -234,7 +254,8 @@ all_unwrap {A} n events =
     kept_run AllUnwrap (record { moves = unwrap_moved }) (unformed n) events
     (record { rec = opening_recovered A n; low = λ q. record { low = tt; fresh = λ s. tt }; unwraps = λ q s x j. absurd j })
 
-pub all_recover : {A : Type 0} → (n : ℕ) (events : List (RingEvent A)) (q : ℕ) → ((run (unformed n) events).cores q).state ≡ Recovery → IsRecovering ((run (unformed n) events).cores q)
+pub all_recover : {A : Type 0} → (n : ℕ) (events : List (RingEvent A)) (q : ℕ)
+    → ((run (unformed n) events).cores q).state ≡ Recovery → IsRecovering ((run (unformed n) events).cores q)
 all_recover n events q s =
     let a = all_unwrap n events in
     let p = (a.rec).recovers q s in

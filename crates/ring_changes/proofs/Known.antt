@@ -1,5 +1,7 @@
--- Reports are exact: a core's own report says what it holds of its last installed ring and nothing past the window; and of what mates report, what is known reaches no further, and the greatest mark is below each front.
-use Rattle.std.proofs.Common.{◌≡◌, ℕ, ◌+◌, ◌-◌, ◌<◌, ◌≤◌, inl, inr, Bool, true, ◌&&◌, ◌==◌, List, [], ◌∷◌, map, Option, Some, None, refl, ap, sym, ◌∙◌, subst, arith}
+-- Reports are exact: a core's own report says what it holds of its last installed ring and nothing past the window; and
+-- of what mates report, what is known reaches no further, and the greatest mark is below each front.
+use Rattle.std.proofs.Common.{◌≡◌, ℕ, ◌+◌, ◌-◌, ◌<◌, ◌≤◌, inl, inr, Bool, true, ◌&&◌, ◌==◌, List, [], ◌∷◌, map, Option}
+use Rattle.std.proofs.Common.{Some, None, refl, ap, sym, ◌∙◌, subst, arith}
 use Rattle.std.specs.Prelude.{filter, nat_lt, nat_le, nat_eq, max}
 use Rattle.std.specs.List.{list_any, AllByRecursion as Each}
 use Rattle.std.specs.Cmp.Lexicographic.{pointwise, bytes_decides}
@@ -62,17 +64,22 @@ module _ {A : Type 0} (c : Core A) (fit : Fit c) where
       let below : mark c ring ≤ front c ring = mark_below c ring fit in
       elim (cases_lt (front c ring) n) [
         | inl above ↦ (let within : n ≤ front c ring + window_size = omega (arith, reach, below) in
-            or_right (nat_lt 0 n && nat_le n (front c ring)) ((nat_lt (front c ring) n && nat_le n (front c ring + window_size)) && bit_of (held_bits c.held ring) (n - front c ring - 1))
+            or_right (nat_lt 0 n && nat_le n (front c ring))
+            ((nat_lt (front c ring) n && nat_le n (front c ring + window_size)) && bit_of (held_bits c.held ring)
+            (n - front c ring - 1))
             (rw (lt-ltb (front c ring) n above, le-leb n (front c ring + window_size) within, bit_is n above within, h) refl))
         | inr inside ↦ rw (lt-ltb 0 n low, le-leb n (front c ring) inside) refl
       ]
 
   pub own_reach : IsReach (own_entry c)
   own_reach n h =
-      elim (or_cases (nat_lt 0 n && nat_le n (front c ring)) ((nat_lt (front c ring) n && nat_le n (front c ring + window_size)) && bit_of (held_bits c.held ring) (n - front c ring - 1)) h) [
+      elim (or_cases (nat_lt 0 n && nat_le n (front c ring))
+      ((nat_lt (front c ring) n && nat_le n (front c ring + window_size)) && bit_of (held_bits c.held ring)
+      (n - front c ring - 1)) h) [
         | inl a ↦ (let p = and_parts (nat_lt 0 n) (nat_le n (front c ring)) a in
             held_below c ring n fit ((front_is c.held ring).below n (ltb-true 0 n p.0) (leb-true n (front c ring) p.1)))
-        | inr b ↦ (let p = and_parts (nat_lt (front c ring) n && nat_le n (front c ring + window_size)) (bit_of (held_bits c.held ring) (n - front c ring - 1)) b in
+        | inr b ↦ (let p = and_parts (nat_lt (front c ring) n && nat_le n (front c ring + window_size))
+            (bit_of (held_bits c.held ring) (n - front c ring - 1)) b in
             let q = and_parts (nat_lt (front c ring) n) (nat_le n (front c ring + window_size)) p.0 in
             held_below c ring n fit (sym (bit_is n (ltb-true (front c ring) n q.0) (leb-true n (front c ring + window_size) q.1)) ∙ p.1))
       ]
@@ -99,7 +106,8 @@ in_reports old e (x ∷ xs) (inl s) t =
     (let y : same_ring x.old old ≡ true = subst (λ (z : CommitEntry). same_ring z.old old ≡ true) s t in
     subst (λ es. IsIn e es) (sym (cond-true (same_ring x.old old) (x ∷ reports_of old xs) (reports_of old xs) y)) (inl s))
 in_reports old e (x ∷ xs) (inr h) t =
-    cond_both (same_ring x.old old) (x ∷ reports_of old xs) (reports_of old xs) (λ es. IsIn e es) (λ y. inr (in_reports old e xs h t)) (λ y. in_reports old e xs h t)
+    cond_both (same_ring x.old old) (x ∷ reports_of old xs) (reports_of old xs) (λ es. IsIn e es)
+    (λ y. inr (in_reports old e xs h t)) (λ y. in_reports old e xs h t)
 
 pub reports_in : (old : RingId) (e : CommitEntry) (entries : List CommitEntry) → IsIn e (reports_of old entries) → IsIn e entries
 reports_in old e [] h = absurd h
@@ -136,7 +144,8 @@ safe_low p h = go p.reports (safe_of p.reports) (λ e. ap safe_of e) h
     go (e ∷ es) s z h = (let b = behind_each s (e ∷ es) h in least_above s e.front (map (λ (e : CommitEntry). e.front) es) b.0 b.1)
 
 -- a raise that no mark is above is the mark
-pub raised_is : {A : Type 0} → (x : Raise) (turns : List (Turn A)) (raises : List Raise) → safe_mark turns raises x.ring ≤ x.mark → safe_mark turns (x ∷ raises) x.ring ≡ x.mark
+pub raised_is : {A : Type 0} → (x : Raise) (turns : List (Turn A)) (raises : List Raise)
+    → safe_mark turns raises x.ring ≤ x.mark → safe_mark turns (x ∷ raises) x.ring ≡ x.mark
 raised_is {A} x turns raises l =
     let rest = filter (λ (y : Raise). same_ring y.ring x.ring) raises in
     let same : same_ring x.ring x.ring ≡ true = same-self x.ring in

@@ -26,7 +26,11 @@ filter_up : (p : ℕ → Bool) (first count : ℕ) → 1 ≤ first → AreUp (fi
 filter_up p first zero low = tt
 filter_up p first (suc count) low =
     cond_both (p first) (first ∷ filter p (numbers_from (suc first) count)) (filter p (numbers_from (suc first) count)) AreUp
-    (λ e. (low, each-filter (λ j. first < j) p (numbers_from (suc first) count) (numbers-above (suc first) count), filter_up p (suc first) count (omega arith))) (λ e. filter_up p (suc first) count (omega arith))
+    (λ e. (
+      low,
+      each-filter (λ j. first < j) p (numbers_from (suc first) count) (numbers-above (suc first) count),
+      filter_up p (suc first) count (omega arith),
+    )) (λ e. filter_up p (suc first) count (omega arith))
 
 elements_up : (set : ℕ) → AreUp (elements set)
 unfolding elements
@@ -53,7 +57,8 @@ mates_in old (m ∷ ms) (e ∷ es) up i h =
     let none : IsMember rest m → ⊥ = λ k. (let l : m < m = in-each (λ j. m < j) m ms up.1 (mates_in old ms es up.2 m k) in omega arith) in
     cond_both (same_ring e.old old) (only m) 0 (λ x. IsMember (x + rest) i → IsIn i (m ∷ ms))
     (λ t k. (let sum : only m + rest ≡ union rest (only m) = (let u = union_apart rest m up.0 none in omega (arith, u)) in
-    elim ((union_members rest (only m) i).0 (subst (λ s. IsMember s i) sum k)) [ inl a ↦ inr (mates_in old ms es up.2 i a) | inr b ↦ inl ((only_members m i up.0).0 b) ]))
+    elim ((union_members rest (only m) i).0 (subst (λ s. IsMember s i) sum k))
+    [ inl a ↦ inr (mates_in old ms es up.2 i a) | inr b ↦ inl ((only_members m i up.0).0 b) ]))
     (λ t k. inr (mates_in old ms es up.2 i (subst (λ s. IsMember s i) none_more k))) h
   where
     none_more : 0 + mates_among old ms es ≡ mates_among old ms es
@@ -72,13 +77,17 @@ mate_at old (m ∷ ms) (x ∷ es) up zero i e a b t =
     let sum : only m + rest ≡ union rest (only m) = (let u = union_apart rest m up.0 none in omega (arith, u)) in
     let own : IsMember (union rest (only m)) m = (union_members rest (only m) m).1 (inr ((only_members m m up.0).1 refl)) in
     let yes : same_ring x.old old ≡ true = subst (λ (z : CommitEntry). same_ring z.old old ≡ true) (sym there) t in
-    subst (λ j. IsMember ((if same_ring x.old old then only m else 0) + rest) j) here (subst (λ s. IsMember (s + rest) m) (sym (cond-true (same_ring x.old old) (only m) 0 yes)) (subst (λ s. IsMember s m) (sym sum) own))
+    subst (λ j. IsMember ((if same_ring x.old old then only m else 0) + rest) j) here
+    (subst (λ s. IsMember (s + rest) m) (sym (cond-true (same_ring x.old old) (only m) 0 yes))
+    (subst (λ s. IsMember s m) (sym sum) own))
 mate_at old (m ∷ ms) (x ∷ es) up (suc k) i e a b t =
     let rest = mates_among old ms es in
     let none : IsMember rest m → ⊥ = λ k. (let l : m < m = in-each (λ j. m < j) m ms up.1 (mates_in old ms es up.2 m k) in omega arith) in
     let sum : only m + rest ≡ union rest (only m) = (let u = union_apart rest m up.0 none in omega (arith, u)) in
     let own : IsMember rest i = mate_at old ms es up.2 k i e a b t in
-    cond_both (same_ring x.old old) (only m) 0 (λ s. IsMember (s + rest) i) (λ y. subst (λ s. IsMember s i) (sym sum) ((union_members rest (only m) i).1 (inl own))) (λ y. (let more : 0 + rest ≡ rest = omega arith in subst (λ s. IsMember s i) (sym more) own))
+    cond_both (same_ring x.old old) (only m) 0 (λ s. IsMember (s + rest) i) (λ y. subst (λ s. IsMember s i) (sym sum)
+    ((union_members rest (only m) i).1 (inl own)))
+    (λ y. (let more : 0 + rest ≡ rest = omega arith in subst (λ s. IsMember s i) (sym more) own))
 
 -- the member at a position
 pub placed : (xs : List ℕ) (k i : ℕ) → slice_index xs k ≡ i → 1 ≤ i → slice_get xs k ≡ Some i
@@ -105,4 +114,5 @@ has_at set k i e low = filter_passes (has set) i (numbers_from 1 most_processors
 pub is_mate : (old : RingId) (members : ℕ) (entries : List CommitEntry) (k i : ℕ) (e : CommitEntry) → at members k ≡ i → 1 ≤ i → slice_get entries k ≡ Some e →
     same_ring e.old old ≡ true → has (mates_among old (elements members) entries) i ≡ true
 is_mate old members entries k i e a low b t =
-    has_member (mates_among old (elements members) entries) i (mate_at old (elements members) entries (elements_up members) k i e (placed (elements members) k i a low) b t)
+    has_member (mates_among old (elements members) entries) i
+    (mate_at old (elements members) entries (elements_up members) k i e (placed (elements members) k i a low) b t)

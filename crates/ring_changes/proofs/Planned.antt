@@ -1,4 +1,5 @@
--- The plan by which a core goes from one ring to another: it is among the core's plans, the core is one of its mates, the core's mark of the old ring is the greatest reported, and what the core holds of it one of the mates reported.
+-- The plan by which a core goes from one ring to another: it is among the core's plans, the core is one of its mates,
+-- the core's mark of the old ring is the greatest reported, and what the core holds of it one of the mates reported.
 use Rattle.std.proofs.Common.{◌≡◌, ℕ, ◌+◌, ◌≤◌, inl, inr, Bool, true, ◌&&◌, ◌==◌, List, [], ◌∷◌, Some, refl, ap, sym, ◌∙◌, subst, arith}
 use Rattle.std.specs.Prelude.{slice_get, is_some, nat_le}
 use Rattle.std.specs.List.{list_all}
@@ -60,7 +61,8 @@ module _ {A : Type 0} (c : Core A) (came : Frame A → Type 0) (k : CommitToken)
   own_in = in_reports c.installed.ring own k.entries (got_in k.entries (position_of_hop k) own own_there) (same-self c.installed.ring)
 
   newest_entries : entries_for c.running.ring (k ∷ c.plans) ≡ k.entries
-  newest_entries = cond-true (same_ring k.ring c.running.ring) k.entries (entries_for c.running.ring c.plans) (subst (λ r. same_ring k.ring r ≡ true) h.ring (same-self k.ring))
+  newest_entries = cond-true (same_ring k.ring c.running.ring) k.entries (entries_for c.running.ring c.plans)
+      (subst (λ r. same_ring k.ring r ≡ true) h.ring (same-self k.ring))
 
   plan_is : plan_into d c.running c.installed ≡ p
   plan_is = ap (plan_of c.installed.ring c.running.members) newest_entries
@@ -76,10 +78,14 @@ module _ {A : Type 0} (c : Core A) (came : Frame A → Type 0) (k : CommitToken)
         ring = h.ring;
         members = h.members;
         entries = newest_entries;
-        mate = subst (λ (q : Plan). has q.mates c.me ≡ true) (sym plan_is) (is_mate c.installed.ring c.running.members k.entries (position_of_hop k) c.me own (subst (λ m. at m (position_of_hop k) ≡ c.me) h.members h.here) me own_there (same-self c.installed.ring));
+        mate = subst (λ (q : Plan). has q.mates c.me ≡ true) (sym plan_is)
+            (is_mate c.installed.ring c.running.members k.entries (position_of_hop k) c.me own
+            (subst (λ m. at m (position_of_hop k) ≡ c.me) h.members h.here) me own_there (same-self c.installed.ring));
         marked = mark_is ∙ ap safe (sym plan_is);
-        within = λ n t. subst (λ (q : Plan). is_known q n ≡ true) (sym plan_is) (known_by p n own own_in (held_reported c fit n (held_low c.held c.installed.ring n positive t) t));
-        reach = subst (λ (q : Plan). (n : ℕ) → is_known q n ≡ true → n ≤ safe q + window_size) (sym plan_is) (known_reach p (λ e i. reaches e (reports_in c.installed.ring e k.entries i)));
+        within = λ n t. subst (λ (q : Plan). is_known q n ≡ true) (sym plan_is)
+            (known_by p n own own_in (held_reported c fit n (held_low c.held c.installed.ring n positive t) t));
+        reach = subst (λ (q : Plan). (n : ℕ) → is_known q n ≡ true → n ≤ safe q + window_size) (sym plan_is)
+            (known_reach p (λ e i. reaches e (reports_in c.installed.ring e k.entries i)));
         sound = subst (λ (q : Plan). safe q ≤ low q) (sym plan_is) (safe_low p h.sound);
       }
     where
@@ -87,7 +93,9 @@ module _ {A : Type 0} (c : Core A) (came : Frame A → Type 0) (k : CommitToken)
       held_low [] ring n f t = absurd (false≢true t)
       held_low (x ∷ held) ring n f t =
           elim (or_cases (is_numbered ring n x) (holds held ring n) t) [
-            | inl e ↦ (let q = eqb-true x.number n (and_parts (same_ring x.ring ring) (x.number == n) e).1 in let l : 1 ≤ x.number = f x (inl refl) in omega (arith, q, l))
+            | inl e ↦ (let q = eqb-true x.number n
+                (and_parts (same_ring x.ring ring) (x.number == n) e).1 in let l : 1 ≤ x.number =
+                f x (inl refl) in omega (arith, q, l))
             | inr e ↦ held_low held ring n (λ y i. f y (inr i)) e
           ]
 
@@ -99,10 +107,12 @@ holds_is [] ring n = refl
 holds_is {A} (x ∷ held) ring n =
     elim (cases_Bool (is_numbered ring n x)) [ inl t ↦ rw t refl | inr f ↦ rw (f, holds_is held ring n) refl ]
 
-pub holds_same : {A : Type 0} → (a b : List (Message A)) (ring : RingId) → ((n : ℕ) → found a ring n ≡ found b ring n) → (n : ℕ) → holds a ring n ≡ holds b ring n
+pub holds_same : {A : Type 0} → (a b : List (Message A)) (ring : RingId) → ((n : ℕ) → found a ring n ≡ found b ring n)
+    → (n : ℕ) → holds a ring n ≡ holds b ring n
 holds_same a b ring h n = holds_is a ring n ∙ ap is_some (h n) ∙ sym (holds_is b ring n)
 
-pub plan_same : {A : Type 0} → (c d : Core A) (next old : Configuration) → entries_for next.ring d.plans ≡ entries_for next.ring c.plans → plan_into d next old ≡ plan_into c next old
+pub plan_same : {A : Type 0} → (c d : Core A) (next old : Configuration) → entries_for next.ring d.plans
+    ≡ entries_for next.ring c.plans → plan_into d next old ≡ plan_into c next old
 plan_same c d next old e = ap (plan_of old.ring next.members) e
 
 -- of a ring of which nothing changes, the plan stays
@@ -123,7 +133,8 @@ plan_stays {A} c d next old me more e s h =
       sound = subst (λ (p : Plan). safe p ≤ low p) (sym q) h.sound;
     }
 
-pub complete_stays : {A : Type 0} → (c d : Core A) (next old : Configuration) → entries_for next.ring d.plans ≡ entries_for next.ring c.plans → IsSameOf old.ring c d →
+pub complete_stays : {A : Type 0} → (c d : Core A) (next old : Configuration) → entries_for next.ring d.plans
+    ≡ entries_for next.ring c.plans → IsSameOf old.ring c d →
     is_complete (plan_into c next old) c.held ≡ true → is_complete (plan_into d next old) d.held ≡ true
 complete_stays {A} c d next old e s h =
     let q : plan_into d next old ≡ plan_into c next old = plan_same c d next old e in

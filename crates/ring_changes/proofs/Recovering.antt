@@ -1,4 +1,6 @@
--- Recovery and the changes of rings in every world: in Recovery a core has a plan, what it holds of the old ring one of the mates reported, and what is wrapped was planned; and of each change that a core went through that stays so, with all that was reported held.
+-- Recovery and the changes of rings in every world: in Recovery a core has a plan, what it holds of the old ring one of
+-- the mates reported, and what is wrapped was planned; and of each change that a core went through that stays so, with
+-- all that was reported held.
 use Rattle.std.proofs.Common.{◌≡◌, ℕ, zero, suc, ◌<◌, ◌≤◌, ◌⊎◌, inl, inr, true, ◌&&◌, ◌==◌, List, [], ◌∷◌, ◌++◌, Option, Some, refl, ap, sym, ◌∙◌, subst, arith}
 use Rattle.std.specs.Prelude.{slice_get, reverse}
 use Rattle.ring_base.specs.Members.{has_member, only_members}
@@ -37,7 +39,8 @@ use Rattle.ring_moves.specs.Facts.{IsIn, SomeIs}
 use Rattle.ring_moves.specs.Laws.{IsFalling}
 use Rattle.ring_moves.specs.Worlds.{Carried, put, carried_from, run, unformed}
 use Rattle.ring_moves.specs.declared.event.RingEvent.{RingEvent}
-use Rattle.ring_moves.specs.Moves.{Move, Idles, Enters, Learns, Visits, Takes, Installs, moved, sends_of, MayMove, MayVisit, MayTake, CameTo, AllAreUsers, IsWrapping}
+use Rattle.ring_moves.specs.Moves.{Move, Idles, Enters, Learns, Visits, Takes, Installs, moved, sends_of, MayMove}
+use Rattle.ring_moves.specs.Moves.{MayVisit, MayTake, CameTo, AllAreUsers, IsWrapping}
 use Rattle.ring_moves.proofs.Lists.{in-each, each-in, in-left, in-right, in-reverse}
 use Rattle.ring_moves.proofs.Rises.{Rising, moved_rises, runs_in, alone_rises}
 use Rattle.ring_moves.proofs.Fits.{Fit, moved_fits}
@@ -74,23 +77,45 @@ held_more : {A : Type 0} → (me : ℕ) (more held : List (Message A)) (turns : 
     Each (λ (v : Turn A). Each (λ (x : Message A). IsIn x held) (numbered v.came.ring me v.came.seq v.fresh)) turns →
     Each (λ (v : Turn A). Each (λ (x : Message A). IsIn x (more ++ held)) (numbered v.came.ring me v.came.seq v.fresh)) turns
 held_more {A} me more held turns h =
-    each-weaker _ _ (λ (v : Turn A) k. each-weaker (λ (x : Message A). IsIn x held) (λ (x : Message A). IsIn x (more ++ held)) (λ x i. in-right x more held i) (numbered v.came.ring me v.came.seq v.fresh) k) turns h
+    each-weaker _ _ (λ (v : Turn A) k. each-weaker (λ (x : Message A). IsIn x held)
+    (λ (x : Message A). IsIn x (more ++ held)) (λ x i. in-right x more held i)
+    (numbered v.came.ring me v.came.seq v.fresh) k) turns h
 
 moved_local : {A : Type 0} → (came : Frame A → Type 0) (c : Core A) (m : Move A) → MayMove came c m → 1 ≤ c.me → IsLocal c → IsLocal (moved c m)
 moved_local came c (Idles state gathering shown queue sends) h me p =
-    record { fit = p.fit; ordered = moved_ordered came c (Idles state gathering shown queue sends) h p.ordered; rises = p.rises; among = p.among; member = p.member; reports = p.reports; sent = p.sent }
+    record {
+      fit = p.fit;
+      ordered = moved_ordered came c (Idles state gathering shown queue sends) h p.ordered;
+      rises = p.rises;
+      among = p.among;
+      member = p.member;
+      reports = p.reports;
+      sent = p.sent;
+    }
 moved_local came c (Enters k) h me p =
     record {
       fit = moved_fits came c (Enters k) h p.fit;
       ordered = moved_ordered came c (Enters k) h p.ordered;
       rises = moved_rises came c (Enters k) h p.rises;
       among = λ x i. inr (p.among x i);
-      member = λ x i. elim i [ inl e ↦ subst (λ (x : Configuration). has x.members c.me ≡ true) (sym e) (has_at k.members (position_of_hop k) c.me h.here me) | inr j ↦ p.member x j ];
+      member = λ x i. elim i [
+        | inl e ↦ subst (λ (x : Configuration). has x.members c.me ≡ true) (sym e)
+            (has_at k.members (position_of_hop k) c.me h.here me)
+        | inr j ↦ p.member x j
+      ];
       reports = (own_reach c p.fit, p.reports);
       sent = p.sent;
     }
 moved_local came c (Learns k) h me p =
-    record { fit = moved_fits came c (Learns k) h p.fit; ordered = moved_ordered came c (Learns k) h p.ordered; rises = p.rises; among = p.among; member = p.member; reports = p.reports; sent = p.sent }
+    record {
+      fit = moved_fits came c (Learns k) h p.fit;
+      ordered = moved_ordered came c (Learns k) h p.ordered;
+      rises = p.rises;
+      among = p.among;
+      member = p.member;
+      reports = p.reports;
+      sent = p.sent;
+    }
 moved_local {A} came c (Visits t fresh requests again queue) h me p =
     let ns = numbered t.ring c.me t.seq fresh in
     record {
@@ -100,7 +125,11 @@ moved_local {A} came c (Visits t fresh requests again queue) h me p =
       among = p.among;
       member = p.member;
       reports = p.reports;
-      sent = (each-in (λ (x : Message A). IsIn x (reverse ns ++ c.held)) ns (λ x i. in-left x (reverse ns) c.held (in-reverse x ns i)), held_more c.me (reverse ns) c.held c.turns p.sent);
+      sent = (
+        each-in (λ (x : Message A). IsIn x (reverse ns ++ c.held)) ns
+            (λ x i. in-left x (reverse ns) c.held (in-reverse x ns i)),
+        held_more c.me (reverse ns) c.held c.turns p.sent,
+      );
     }
 moved_local came c (Takes x) h me p =
     record {
@@ -128,7 +157,8 @@ moved_local came c Installs h me p =
 -- what a payload of the ring wraps is known by a plan of the core
 abbrev pub IsPlannedIn : {A : Type 0} → Core A → RingId → Payload A → Type 0
 IsPlannedIn {A} c ring p =
-    (w : WrappedMessage A) → p ≡ Wrapped w → (k : CommitToken) × IsIn k c.plans × (k.ring ≡ ring) × (is_known (plan_of w.ring k.members k.entries) w.number ≡ true)
+    (w : WrappedMessage A) → p ≡ Wrapped w → (k : CommitToken) × IsIn k c.plans × (k.ring ≡ ring)
+    × (is_known (plan_of w.ring k.members k.entries) w.number ≡ true)
 
 abbrev pub Planned : {A : Type 0} → Core A → Type 0
 Planned {A} c = Each (λ (v : Turn A). Each (IsPlannedIn c v.came.ring) v.fresh) c.turns
@@ -148,33 +178,45 @@ found-held {A} (y ∷ held) ring n x e =
     cond_both (is_numbered ring n y) (Some y) (found held ring n) (λ (o : Option (Message A)). o ≡ Some x → holds (y ∷ held) ring n ≡ true)
     (λ t k. rw t refl) (λ t k. rw (t, found-held held ring n x k) refl) e
 
-wrapping_planned : {A : Type 0} → (c : Core A) (t : Token) → t.ring ≡ c.running.ring → HasPlan c c.running c.installed → (p : Payload A) → IsWrapping c p → IsPlannedIn c t.ring p
+wrapping_planned : {A : Type 0} → (c : Core A) (t : Token) → t.ring ≡ c.running.ring → HasPlan c c.running c.installed
+    → (p : Payload A) → IsWrapping c p → IsPlannedIn c t.ring p
 wrapping_planned {A} c t ring h p (w, e, on) v f =
     let same : w ≡ v = cc in
-    let held : holds c.held c.installed.ring w.number ≡ true = subst (λ (r : RingId). holds c.held r w.number ≡ true) on.ring (found-held c.held w.ring w.number _ on.held) in
+    let held : holds c.held c.installed.ring w.number ≡ true = subst (λ (r : RingId). holds c.held r w.number ≡ true)
+    on.ring (found-held c.held w.ring w.number _ on.held) in
     let known : is_known (plan_into c c.running c.installed) w.number ≡ true = h.within w.number held in
     let k = h.commit in
     let plan_is : plan_into c c.running c.installed ≡ plan_of w.ring k.members k.entries =
-    ap (plan_of c.installed.ring c.running.members) h.entries ∙ ap (λ m. plan_of c.installed.ring m k.entries) (sym h.members) ∙ ap (λ (r : RingId). plan_of r k.members k.entries) (sym on.ring) in
+    ap (plan_of c.installed.ring c.running.members) h.entries ∙ ap (λ m. plan_of c.installed.ring m k.entries)
+    (sym h.members) ∙ ap (λ (r : RingId). plan_of r k.members k.entries) (sym on.ring) in
     let there : is_known (plan_of w.ring k.members k.entries) w.number ≡ true = subst (λ (q : Plan). is_known q w.number ≡ true) plan_is known in
     (k, h.there, h.ring ∙ sym ring, subst (λ (v : WrappedMessage A). is_known (plan_of v.ring k.members k.entries) v.number ≡ true) same there)
 
-visit_planned : {A : Type 0} → (came : Frame A → Type 0) (c : Core A) (t : Token) (fresh : List (Payload A)) (again : List (Message A)) (queue : List (Payload A)) →
+visit_planned : {A : Type 0} → (came : Frame A → Type 0) (c : Core A) (t : Token) (fresh : List (Payload A))
+    (again : List (Message A)) (queue : List (Payload A)) →
     MayVisit came c t fresh again queue → AllAreUsers c.queue → Recovers c → Each (IsPlannedIn c t.ring) fresh
 visit_planned {A} came c t fresh again queue h users rec =
     elim (h.state) [
       | inl r ↦ (let ws = h.wraps r in
           subst (Each (IsPlannedIn c t.ring)) (sym ws.parts)
-          (each-append (IsPlannedIn c t.ring) ws.wraps ws.ends (each-weaker (IsWrapping c) (IsPlannedIn c t.ring) (wrapping_planned c t h.ring (rec r)) ws.wraps ws.handed)
-          (elim (ws.ended) [ inl none ↦ subst (Each (IsPlannedIn c t.ring)) (sym none) tt | inr end ↦ subst (Each (IsPlannedIn c t.ring)) (sym end.one) (end_planned c t.ring, tt) ])))
+          (each-append (IsPlannedIn c t.ring) ws.wraps ws.ends (each-weaker (IsWrapping c) (IsPlannedIn c t.ring)
+          (wrapping_planned c t h.ring (rec r)) ws.wraps ws.handed)
+          (elim (ws.ended) [
+            | inl none ↦ subst (Each (IsPlannedIn c t.ring)) (sym none) tt
+            | inr end ↦ subst
+                (Each (IsPlannedIn c t.ring)) (sym end.one) (end_planned c t.ring, tt)
+          ])))
       | inr o ↦ each-weaker (λ (p : Payload A). is_user p ≡ true) (IsPlannedIn c t.ring) (user_planned c t.ring) fresh (h.users o users)
     ]
 
-moved_planned : {A : Type 0} → (came : Frame A → Type 0) (c : Core A) (m : Move A) → MayMove came c m → AllAreUsers c.queue → Recovers c → Planned c → Planned (moved c m)
+moved_planned : {A : Type 0} → (came : Frame A → Type 0) (c : Core A) (m : Move A) → MayMove came c m
+    → AllAreUsers c.queue → Recovers c → Planned c → Planned (moved c m)
 moved_planned came c (Idles state gathering shown queue sends) h u r p = p
 moved_planned came c (Enters k) h u r p = p
 moved_planned {A} came c (Learns k) h u r p =
-    each-weaker _ _ (λ (v : Turn A) e. each-weaker (IsPlannedIn c v.came.ring) (IsPlannedIn (moved c (Learns k)) v.came.ring) (λ q f w g. (let s = f w g in (s.0, inr s.1, s.2, s.3))) v.fresh e) c.turns p
+    each-weaker _ _ (λ (v : Turn A) e. each-weaker (IsPlannedIn c v.came.ring)
+    (IsPlannedIn (moved c (Learns k)) v.came.ring) (λ q f w g. (let s = f w g in (s.0, inr s.1, s.2, s.3)))
+    v.fresh e) c.turns p
 moved_planned came c (Visits t fresh requests again queue) h u r p = (visit_planned came c t fresh again queue h u r, p)
 moved_planned came c (Takes x) h u r p = p
 moved_planned came c Installs h u r p = p
@@ -190,7 +232,16 @@ pub record IsInner {A : Type 0} (ring : RingId) (payload : Payload A) (y : Messa
 inner_of : {A : Type 0} → (old : RingId) (m : ℕ) (held : List (Message A)) (p : Payload A) → Each (IsInner old p) (unwrapped old m held p)
 inner_of {A} old m held (Wrapped w) =
     cond_both (same_ring w.ring old && is_new held m old w.number) (inner_message w ∷ []) [] (Each (IsInner old (Wrapped w)))
-    (λ e. (record { wrapped = w; payload_is = refl; ring_is = ring_same w.ring old (and_parts (same_ring w.ring old) (is_new held m old w.number) e).0; inner_is = refl }, tt)) (λ e. tt)
+    (λ e. (
+      record {
+        wrapped = w;
+        payload_is = refl;
+        ring_is = ring_same w.ring old
+            (and_parts (same_ring w.ring old) (is_new held m old w.number) e).0;
+        inner_is = refl;
+      },
+      tt,
+    )) (λ e. tt)
 inner_of old m held (Call call) = tt
 inner_of old m held End = tt
 inner_of old m held (Head head) = tt
@@ -227,19 +278,23 @@ pub record IsNumberedBy {A : Type 0} (cores : ℕ → Core A) (x : Message A) : 
   pub ring_is : turn.came.ring ≡ x.ring
   pub numbered_there : IsIn x (numbered turn.came.ring x.sender turn.came.seq turn.fresh)
 
-pub numbered_by : {A : Type 0} → (cores : ℕ → Core A) (frames : List (Carried A)) (h : Holds cores frames) (x : Message A) → IsGenuine h.visits x → IsNumberedBy cores x
+pub numbered_by : {A : Type 0} → (cores : ℕ → Core A) (frames : List (Carried A)) (h : Holds cores frames)
+    (x : Message A) → IsGenuine h.visits x → IsNumberedBy cores x
 numbered_by {A} cores frames h x g =
     let s = some_of (λ (v : VisitBy A). IsIn x (numbered x.ring v.who v.turn.came.seq v.turn.fresh)) (h.visits x.ring) g in
     let v = s.0 in
     let f = numbered_in x.ring v.who v.turn.came.seq v.turn.fresh x s.2 in
-    let picked_there : IsIn v.turn (turns_of x.ring (cores v.who).turns) = subst (λ (ts : List (Turn A)). IsIn v.turn ts) (sym (h.chains.turns v.who x.ring)) (in_picked v (h.visits x.ring) s.1) in
+    let picked_there : IsIn v.turn (turns_of x.ring (cores v.who).turns) =
+    subst (λ (ts : List (Turn A)). IsIn v.turn ts) (sym (h.chains.turns v.who x.ring))
+    (in_picked v (h.visits x.ring) s.1) in
     let own = in_filter (λ (u : Turn A). same_ring u.came.ring x.ring) v.turn (cores v.who).turns picked_there in
     let ring_is : v.turn.came.ring ≡ x.ring = ring_same v.turn.came.ring x.ring own.1 in
     record {
       turn = v.turn;
       there = subst (λ q. IsIn v.turn (cores q).turns) (sym f.sender_is) own.0;
       ring_is = ring_is;
-      numbered_there = subst (λ (r : RingId). IsIn x (numbered r x.sender v.turn.came.seq v.turn.fresh)) (sym ring_is) (subst (λ q. IsIn x (numbered x.ring q v.turn.came.seq v.turn.fresh)) (sym f.sender_is) s.2);
+      numbered_there = subst (λ (r : RingId). IsIn x (numbered r x.sender v.turn.came.seq v.turn.fresh)) (sym ring_is)
+          (subst (λ q. IsIn x (numbered x.ring q v.turn.came.seq v.turn.fresh)) (sym f.sender_is) s.2);
     }
 
 -- All cores
@@ -262,18 +317,22 @@ module _ {A : Type 0} (cores : ℕ → Core A) (frames : List (Carried A)) (r : 
   me = (let e : c.me ≡ i = (h.rings).me i in omega (arith, e, low))
 
   -- a genuine message of the running ring wraps what the own plan knows
-  pub wrapped_known : HasPlan c c.running c.installed → (x : Message A) → IsGenuine h.visits x → x.ring ≡ c.running.ring → (w : WrappedMessage A) → x.payload ≡ Wrapped w →
+  pub wrapped_known : HasPlan c c.running c.installed → (x : Message A) → IsGenuine h.visits x
+      → x.ring ≡ c.running.ring → (w : WrappedMessage A) → x.payload ≡ Wrapped w →
       w.ring ≡ c.installed.ring → is_known (plan_into c c.running c.installed) w.number ≡ true
   wrapped_known p x g ring w e old =
       let b = numbered_by cores frames h x g in
       let f = numbered_in b.turn.came.ring x.sender b.turn.came.seq b.turn.fresh x b.numbered_there in
-      let q = in-each (IsPlannedIn (cores x.sender) b.turn.came.ring) x.payload b.turn.fresh (in-each _ b.turn (cores x.sender).turns (r.planned x.sender) b.there) f.payload_in w e in
+      let q = in-each (IsPlannedIn (cores x.sender) b.turn.came.ring) x.payload b.turn.fresh
+      (in-each _ b.turn (cores x.sender).turns (r.planned x.sender) b.there) f.payload_in w e in
       let k = q.0 in
       let m = p.commit in
       let same_name : k.ring ≡ m.ring = q.2 ∙ b.ring_is ∙ ring ∙ sym p.ring in
-      let one = one_plan cores h.rings h.filed k m (in-each (IsPlan cores) k (cores x.sender).plans ((r.all).plans x.sender) q.1) (in-each (IsPlan cores) m c.plans ((r.all).plans i) p.there) same_name in
+      let one = one_plan cores h.rings h.filed k m (in-each (IsPlan cores) k (cores x.sender).plans
+      ((r.all).plans x.sender) q.1) (in-each (IsPlan cores) m c.plans ((r.all).plans i) p.there) same_name in
       let plan_is : plan_of w.ring k.members k.entries ≡ plan_into c c.running c.installed =
-      ap (λ (s : RingId). plan_of s k.members k.entries) old ∙ ap (λ n. plan_of c.installed.ring n k.entries) (one.0 ∙ p.members) ∙ ap (plan_of c.installed.ring c.running.members) (one.1 ∙ sym p.entries) in
+      ap (λ (s : RingId). plan_of s k.members k.entries) old ∙ ap (λ n. plan_of c.installed.ring n k.entries)
+      (one.0 ∙ p.members) ∙ ap (plan_of c.installed.ring c.running.members) (one.1 ∙ sym p.entries) in
       subst (λ (s : Plan). is_known s w.number ≡ true) plan_is q.3
 
   pub not_installed : c.state ≡ Recovery → c.running.ring ≡ c.installed.ring → ⊥
@@ -286,7 +345,8 @@ module _ {A : Type 0} (cores : ℕ → Core A) (frames : List (Carried A)) (r : 
   take_plan x may s =
       let p = r.recovers i s in
       let f = came_right h.visits cores frames i (MessageFrame x) ((h.sent).right) may.from in
-      let from : x.ring ≡ c.running.ring = elim (may.ring) [ inl t ↦ t.ring | inr l ↦ absurd (let q : Gather ≡ Recovery = sym l.state ∙ s in let n : ⊥ = cc in n) ] in
+      let from : x.ring ≡ c.running.ring = elim (may.ring)
+      [ inl t ↦ t.ring | inr l ↦ absurd (let q : Gather ≡ Recovery = sym l.state ∙ s in let n : ⊥ = cc in n) ] in
       record {
         commit = p.commit;
         there = p.there;
@@ -320,17 +380,30 @@ module _ {A : Type 0} (cores : ℕ → Core A) (frames : List (Carried A)) (r : 
   entry_reach : (k : CommitToken) → IsPlan cores k → (e : CommitEntry) → IsIn e k.entries → IsReach e
   entry_reach k p e j =
       let g = in_got k.entries e j in
-      in-each (λ (x : Report). IsReach x.entry) (record { ring = k.ring; entry = e }) (cores (at k.members g.0)).reports ((r.local (at k.members g.0)).reports) (p.reports g.0 e g.1)
+      in-each (λ (x : Report). IsReach x.entry) (record { ring = k.ring; entry = e })
+      (cores (at k.members g.0)).reports ((r.local (at k.members g.0)).reports) (p.reports g.0 e g.1)
     where
       in_got : (xs : List CommitEntry) (e : CommitEntry) → IsIn e xs → (n : ℕ) × (slice_get xs n ≡ Some e)
       in_got [] e j = absurd j
       in_got (x ∷ xs) e (inl q) = (0, ap Some (sym q))
       in_got (x ∷ xs) e (inr j) = (let t = in_got xs e j in (suc t.0, t.1))
 
-  moved_recovers : (m : Move A) → MayMove (CameTo frames i) c m → (came_plan : (k : CommitToken) → MayMove (CameTo frames i) c (Learns k) → IsPlan cores k) → Recovers (moved c m)
+  moved_recovers : (m : Move A) → MayMove (CameTo frames i) c m
+      → (came_plan : (k : CommitToken) → MayMove (CameTo frames i) c (Learns k) → IsPlan cores k) → Recovers (moved c m)
   moved_recovers (Idles state gathering shown queue sends) may cp s =
       elim (may.leaves) [
-        | inl e ↦ (let p = r.recovers i (sym e ∙ s) in record { commit = p.commit; there = p.there; ring = p.ring; members = p.members; entries = p.entries; mate = p.mate; marked = p.marked; within = p.within; reach = p.reach; sound = p.sound })
+        | inl e ↦ (let p = r.recovers i (sym e ∙ s) in record {
+          commit = p.commit;
+          there = p.there;
+          ring = p.ring;
+          members = p.members;
+          entries = p.entries;
+          mate = p.mate;
+          marked = p.marked;
+          within = p.within;
+          reach = p.reach;
+          sound = p.sound;
+        })
         | inr (inl e) ↦ absurd (let q : Gather ≡ Recovery = sym e ∙ s in let n : ⊥ = cc in n)
         | inr (inr e) ↦ absurd (let q : Stopped ≡ Recovery = sym e ∙ s in let n : ⊥ = cc in n)
       ]
@@ -343,7 +416,8 @@ module _ {A : Type 0} (cores : ℕ → Core A) (frames : List (Carried A)) (r : 
   moved_recovers Installs may cp s = absurd (let q : Operational ≡ Recovery = s in let n : ⊥ = cc in n)
 
   -- changes that were gone through stay as they are
-  changes_stay : (d : Core A) → Keeps c d → d.me ≡ c.me → ((k : CommitToken) → IsIn k c.plans → IsIn k d.plans) → (next : Configuration) (older : List Configuration) →
+  changes_stay : (d : Core A) → Keeps c d → d.me ≡ c.me → ((k : CommitToken) → IsIn k c.plans → IsIn k d.plans)
+      → (next : Configuration) (older : List Configuration) →
       next.ring.seq ≤ c.installed.ring.seq → IsFalling (next ∷ older) → HaveChanged c next older → HaveChanged d next older
   changes_stay d k e more next [] l f x = tt
   changes_stay d k e more next (old ∷ older) l f x =
@@ -378,7 +452,8 @@ module _ {A : Type 0} (cores : ℕ → Core A) (frames : List (Carried A)) (r : 
       let first : HasChanged d c.running c.installed = same c.running c.installed (record { plan = r.recovers i may.state; complete = may.complete }) in
       subst (λ xs. HaveChanged d c.running xs) (sym o.newest) (first, all_so same c.installed o.older (subst (AllChanged c) o.newest (r.changed i)))
     where
-      all_so : ((next old : Configuration) → HasChanged c next old → HasChanged (install c) next old) → (next : Configuration) (older : List Configuration) → HaveChanged c next older →
+      all_so : ((next old : Configuration) → HasChanged c next old → HasChanged (install c) next old)
+          → (next : Configuration) (older : List Configuration) → HaveChanged c next older →
           HaveChanged (install c) next older
       all_so f next [] x = tt
       all_so f next (old ∷ older) x = (f next old x.0, all_so f old older x.1)
@@ -389,8 +464,10 @@ module _ {A : Type 0} (cores : ℕ → Core A) (frames : List (Carried A)) (r : 
       record {
         all = plans_moved cores frames i m low may r.all;
         local = put-each (λ q (x : Core A). IsLocal x) cores i d (λ q n. r.local q) (moved_local (CameTo frames i) c m may me (r.local i));
-        planned = put-each (λ q (x : Core A). Planned x) cores i d (λ q n. r.planned q) (moved_planned (CameTo frames i) c m may ((h.texts).queued i) (r.recovers i) (r.planned i));
-        recovers = put-each (λ q (x : Core A). Recovers x) cores i d (λ q n. r.recovers q) (moved_recovers m may (λ k learns. learned_plan_is cores frames i k h learns));
+        planned = put-each (λ q (x : Core A). Planned x) cores i d (λ q n. r.planned q)
+            (moved_planned (CameTo frames i) c m may ((h.texts).queued i) (r.recovers i) (r.planned i));
+        recovers = put-each (λ q (x : Core A). Recovers x) cores i d (λ q n. r.recovers q)
+            (moved_recovers m may (λ k learns. learned_plan_is cores frames i k h learns));
         changed = put-each (λ q (x : Core A). AllChanged x x.installs) cores i d (λ q n. r.changed q) (moved_changed m may);
       }
 

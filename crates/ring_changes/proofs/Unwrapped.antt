@@ -1,4 +1,5 @@
--- Each ring is installed behind every member's End; and in Recovery what is wrapped of the old ring is held there: it is taken with what wraps it, since what is known lies within the window after the greatest mark.
+-- Each ring is installed behind every member's End; and in Recovery what is wrapped of the old ring is held there: it
+-- is taken with what wraps it, since what is known lies within the window after the greatest mark.
 use Rattle.std.proofs.Common.{◌≡◌, ℕ, ◌+◌, ◌<◌, ◌≤◌, inl, inr, Bool, true, ◌||◌, ◌==◌, List, [], ◌∷◌, refl, ap, sym, subst, arith}
 use Rattle.std.specs.Prelude.{reverse}
 use Rattle.std.specs.List.{list_any, AllByRecursion as Each}
@@ -42,15 +43,27 @@ end_stays : {A : Type 0} → (c : Core A) (m : Move A) (ring : RingId) (i : ℕ)
 end_stays c m ring i e =
     let g = (moved_grows c m).fronts ring in
     let w = e.within in
-    record { message = e.message; held = held_stays c m e.message e.held; ring_is = e.ring_is; sender = e.sender; ended = e.ended; within = omega (arith, g, w) }
+    record {
+      message = e.message;
+      held = held_stays c m e.message e.held;
+      ring_is = e.ring_is;
+      sender = e.sender;
+      ended = e.ended;
+      within = omega (arith, g, w);
+    }
 
 any_some : {X : Type 0} (p : X → Bool) (xs : List X) → list_any p xs ≡ true → (x : X) × IsIn x xs × (p x ≡ true)
 any_some p [] h = absurd (false≢true h)
 any_some p (x ∷ xs) h =
-    elim (cases_Bool (p x)) [ inl t ↦ (x, inl refl, t) | inr f ↦ (let r = any_some p xs (let e : (p x || list_any p xs) ≡ true = h in rw f at e) in (r.0, inr r.1, r.2)) ]
+    elim (cases_Bool (p x)) [
+      | inl t ↦ (x, inl refl, t)
+      | inr f ↦
+          (let r = any_some p xs (let e : (p x || list_any p xs) ≡ true = h in rw f at e) in (r.0, inr r.1, r.2))
+    ]
 
 -- what stands in the front is held there
-front_held : {A : Type 0} → (held : List (Message A)) (ring : RingId) → Each (λ (x : Message A). IsIn x held × (x.ring ≡ ring) × (x.number ≤ front_of held ring)) (in_front held ring)
+front_held : {A : Type 0} → (held : List (Message A)) (ring : RingId)
+    → Each (λ (x : Message A). IsIn x held × (x.ring ≡ ring) × (x.number ≤ front_of held ring)) (in_front held ring)
 front_held {A} held ring =
     let f = front_of held ring in
     each-filter_map (λ n. n < 1 + f) (λ (x : Message A). IsIn x held × (x.ring ≡ ring) × (x.number ≤ f)) (found held ring)
@@ -61,11 +74,14 @@ pub ready_ends : {A : Type 0} → (c : Core A) → is_ready c.held c.running.rin
     IsIn i (elements c.running.members) → HoldsEnd c c.running.ring i
 ready_ends {A} c ready i j =
     let xs = in_front c.held c.running.ring in
-    let all : all_ended xs c.running.members ≡ true = (and_parts (all_ended xs c.running.members) (is_covered xs (mark c c.running.ring) || has_user xs) ready).0 in
-    let one : has_end_of xs i ≡ true = (all_decides (has_end_of xs) (λ k. has_end_of xs k ≡ true) (λ k. (λ h. h, λ h. h)) (elements c.running.members)).0 all i j in
+    let all : all_ended xs c.running.members ≡ true =
+    (and_parts (all_ended xs c.running.members) (is_covered xs (mark c c.running.ring) || has_user xs) ready).0 in
+    let one : has_end_of xs i ≡ true = (all_decides (has_end_of xs) (λ k. has_end_of xs k ≡ true)
+    (λ k. (λ h. h, λ h. h)) (elements c.running.members)).0 all i j in
     let s = any_some (λ (x : Message A). x.sender == i) (ends xs) one in
     let e = in_filter (λ (x : Message A). is_end x.payload) s.0 xs s.1 in
-    let h = in-each (λ (x : Message A). IsIn x c.held × (x.ring ≡ c.running.ring) × (x.number ≤ front c c.running.ring)) s.0 xs (front_held c.held c.running.ring) e.0 in
+    let h = in-each (λ (x : Message A). IsIn x c.held × (x.ring ≡ c.running.ring)
+    × (x.number ≤ front c c.running.ring)) s.0 xs (front_held c.held c.running.ring) e.0 in
     record { message = s.0; held = h.0; ring_is = h.1; sender = eqb-true (s.0).sender i s.2; ended = e.1; within = h.2 }
 
 pub moved_ends : {A : Type 0} → (came : Frame A → Type 0) (c : Core A) (m : Move A) → MayMove came c m → HoldsEnds c → HoldsEnds (moved c m)

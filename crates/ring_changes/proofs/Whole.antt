@@ -1,5 +1,6 @@
 -- All of virtual synchrony, from one fact more: who holds a users' message of a ring within its front has installed the ring.
-use Rattle.std.proofs.Common.{◌≡◌, ℕ, zero, suc, ◌+◌, ◌-◌, ◌<◌, ◌≤◌, ◌⊎◌, inl, inr, Bool, true, false, List, [], ◌∷◌, ◌++◌, map, Some, refl, ap, sym, ◌∙◌, subst, arith, append-nil}
+use Rattle.std.proofs.Common.{◌≡◌, ℕ, zero, suc, ◌+◌, ◌-◌, ◌<◌, ◌≤◌, ◌⊎◌, inl, inr, Bool, true, false, List, [], ◌∷◌}
+use Rattle.std.proofs.Common.{◌++◌, map, Some, refl, ap, sym, ◌∙◌, subst, arith, append-nil}
 use Rattle.std.specs.Prelude.{filter, filter_map, nat_le, Contains}
 use Rattle.std.specs.List.{list_any, AllByRecursion as Each}
 use Rattle.std.proofs.lemmas.Bool.{cond_both, cond-true, cond-false, cases_lt, cases_Bool, and_parts, false≢true, leb-true}
@@ -45,7 +46,9 @@ use Rattle.ring_changes.proofs.Planned.{HaveChanged}
 use Rattle.ring_changes.proofs.Recovering.{Recovered}
 use Rattle.ring_changes.proofs.Heard.{found_as, held_is, gap_unknown}
 use Rattle.ring_changes.proofs.Ascending.{heard_ascends, rest_ascends, rest_above, append_ascends}
-use Rattle.ring_changes.proofs.Facts.{r as recovered, stages_tale, same_held, one_configuration, regular_is, delivered_at, positive, stages_are, went_through, among, change_is, regulars_are, deliver_alike, deliver_own, have_configurations}
+use Rattle.ring_changes.proofs.Facts.{r as recovered, stages_tale, same_held, one_configuration, regular_is}
+use Rattle.ring_changes.proofs.Facts.{delivered_at, positive, stages_are, went_through, among, change_is, regulars_are}
+use Rattle.ring_changes.proofs.Facts.{deliver_alike, deliver_own, have_configurations}
 
 -- Stages of a tale
 
@@ -81,7 +84,8 @@ module _ {A : Type 0} (c : Core A) where
   told at = users c at.ring 0 (front c at.ring)
 
   not_at : (ring : RingId) (at : Configuration) → (at.ring ≡ ring → ⊥) → agreed_at ring (regular_of c at) ≡ []
-  not_at ring at f = cond_both (same_ring at.ring ring) (told at) [] (λ (xs : List (Message A)). xs ≡ []) (λ e. absurd (f (ring_same at.ring ring e))) (λ e. refl)
+  not_at ring at f = cond_both (same_ring at.ring ring) (told at) [] (λ (xs : List (Message A)). xs ≡ [])
+      (λ e. absurd (f (ring_same at.ring ring e))) (λ e. refl)
 
   is_at : (at : Configuration) → agreed_at at.ring (regular_of c at) ≡ told at
   is_at at = cond-true (same_ring at.ring at.ring) (told at) [] (same-self at.ring)
@@ -90,21 +94,29 @@ module _ {A : Type 0} (c : Core A) where
       agreed_of ring (stages_tale c next older) ≡ []
   none_of ring next [] f = not_at ring next (f next (inl refl))
   none_of ring next (old ∷ older) f =
-      ap (λ (xs : List (Message A)). (xs ++ []) ++ agreed_at ring (regular_of c next)) (none_of ring old older (λ x i. f x (inr i))) ∙ not_at ring next (f next (inl refl))
+      ap (λ (xs : List (Message A)). (xs ++ []) ++ agreed_at ring (regular_of c next))
+      (none_of ring old older (λ x i. f x (inr i))) ∙ not_at ring next (f next (inl refl))
 
   newest_of : (next : Configuration) (older : List Configuration) → IsFalling (next ∷ older) → agreed_of next.ring (stages_tale c next older) ≡ told next
   newest_of next [] f = is_at next
   newest_of next (old ∷ older) f =
       let none : agreed_of next.ring (stages_tale c old older) ≡ [] =
-      none_of next.ring old older (λ x i e. (let l : x.ring.seq < next.ring.seq = all_under next (old ∷ older) f x i in let q : x.ring.seq ≡ next.ring.seq = ap (λ (r : RingId). r.seq) e in omega (arith, l, q))) in
+      none_of next.ring old older (λ x i e. (let l : x.ring.seq < next.ring.seq = all_under next
+      (old ∷ older) f x i in let q : x.ring.seq ≡ next.ring.seq = ap (λ (r : RingId). r.seq) e in omega (
+        arith,
+        l,
+        q,
+      ))) in
       ap (λ (xs : List (Message A)). (xs ++ []) ++ agreed_at next.ring (regular_of c next)) none ∙ is_at next
 
-  agreed_is : (at next : Configuration) (older : List Configuration) → IsFalling (next ∷ older) → IsIn at (next ∷ older) → agreed_of at.ring (stages_tale c next older) ≡ told at
+  agreed_is : (at next : Configuration) (older : List Configuration) → IsFalling (next ∷ older)
+      → IsIn at (next ∷ older) → agreed_of at.ring (stages_tale c next older) ≡ told at
   agreed_is at next older f (inl e) = subst (λ (x : Configuration). agreed_of x.ring (stages_tale c next older) ≡ told x) (sym e) (newest_of next older f)
   agreed_is at next [] f (inr i) = absurd i
   agreed_is at next (old ∷ older) f (inr i) =
       let l : at.ring.seq < next.ring.seq = all_under next (old ∷ older) f at i in
-      let none : agreed_at at.ring (regular_of c next) ≡ [] = not_at at.ring next (λ e. (let q : next.ring.seq ≡ at.ring.seq = ap (λ (r : RingId). r.seq) e in omega (arith, l, q))) in
+      let none : agreed_at at.ring (regular_of c next) ≡ [] = not_at at.ring next
+      (λ e. (let q : next.ring.seq ≡ at.ring.seq = ap (λ (r : RingId). r.seq) e in omega (arith, l, q))) in
       let all = agreed_of at.ring (stages_tale c old older) in
       ap (λ (xs : List (Message A)). (all ++ []) ++ xs) none ∙ append-nil (all ++ []) ∙ append-nil all ∙ agreed_is at old older f.1 i
 
@@ -117,7 +129,8 @@ module _ {A : Type 0} (w : World A) (r : Recovered w.cores w.frames) (i : ℕ) w
   abbrev c : Core A
   c = w.cores i
 
-  regular_held : (next : Configuration) → Each (λ (x : Message A). IsIn x c.held × (x.ring ≡ next.ring) × (x.number ≤ mark c next.ring)) (delivered_in (regular_of c next))
+  regular_held : (next : Configuration) → Each (λ (x : Message A). IsIn x c.held × (x.ring ≡ next.ring)
+      × (x.number ≤ mark c next.ring)) (delivered_in (regular_of c next))
   regular_held next =
       let m = mark c next.ring in
       let Q : Message A → Type 0 = λ x. IsIn x c.held × (x.ring ≡ next.ring) × (x.number ≤ m) in
@@ -129,14 +142,20 @@ module _ {A : Type 0} (w : World A) (r : Recovered w.cores w.frames) (i : ℕ) w
 
   regular_under : (next : Configuration) → Each (λ (x : Message A). (x.ring ≡ next.ring) × (x.number ≤ mark c next.ring)) (delivered_in (regular_of c next))
   regular_under next =
-      each-weaker (λ (x : Message A). IsIn x c.held × (x.ring ≡ next.ring) × (x.number ≤ mark c next.ring)) (λ (x : Message A). (x.ring ≡ next.ring) × (x.number ≤ mark c next.ring)) (λ x q. (q.1, q.2)) (delivered_in (regular_of c next)) (regular_held next)
+      each-weaker (λ (x : Message A). IsIn x c.held × (x.ring ≡ next.ring) × (x.number ≤ mark c next.ring))
+      (λ (x : Message A). (x.ring ≡ next.ring) × (x.number ≤ mark c next.ring)) (λ x q. (q.1, q.2))
+      (delivered_in (regular_of c next)) (regular_held next)
 
   regular_ascends : (next : Configuration) → Ascend (delivered_in (regular_of c next))
   regular_ascends next = subst Ascend (sym (regular_is w r i next)) (heard_ascends c.held next.ring 1 (mark c next.ring))
 
   all_ascend : (next : Configuration) (older : List Configuration) → IsFalling (next ∷ older) → HaveChanged c next older →
       Ascend (deliveries_of (stages_tale c next older)) × Each (λ (x : Message A). IsUnder c next x) (deliveries_of (stages_tale c next older))
-  all_ascend next [] f h = (regular_ascends next, each-weaker _ (λ (x : Message A). IsUnder c next x) (λ x u. inr u) (delivered_in (regular_of c next)) (regular_under next))
+  all_ascend next [] f h = (
+    regular_ascends next,
+    each-weaker _ (λ (x : Message A). IsUnder c next x) (λ x u. inr u)
+        (delivered_in (regular_of c next)) (regular_under next),
+  )
   all_ascend next (old ∷ older) f h =
       let before = all_ascend old older f.1 h.1 in
       let p = plan_into c next old in
@@ -145,21 +164,36 @@ module _ {A : Type 0} (w : World A) (r : Recovered w.cores w.frames) (i : ℕ) w
       let marked : mark c old.ring ≡ safe p = ((h.0).plan).marked in
       let xs = deliveries_of (stages_tale c old older) in
       let first : Each (λ (x : Message A). Each (IsBefore x) rest) xs =
-      each-weaker (λ (x : Message A). IsUnder c old x) (λ (x : Message A). Each (IsBefore x) rest) (λ x u. each-weaker (λ (y : Message A). (y.ring ≡ old.ring) × (safe p < y.number)) (IsBefore x) (λ y v e. under_rest x y u v marked e) rest above) xs before.1 in
+      each-weaker (λ (x : Message A). IsUnder c old x) (λ (x : Message A). Each (IsBefore x) rest)
+      (λ x u. each-weaker (λ (y : Message A). (y.ring ≡ old.ring) × (safe p < y.number)) (IsBefore x)
+      (λ y v e. under_rest x y u v marked e) rest above) xs before.1 in
       let left = append_ascends xs rest before.0 (rest_ascends p c.held) first in
       let low : Each (λ (x : Message A). x.ring.seq < next.ring.seq) (xs ++ rest) =
       each-append (λ (x : Message A). x.ring.seq < next.ring.seq) xs rest
       (each-weaker (λ (x : Message A). IsUnder c old x) (λ (x : Message A). x.ring.seq < next.ring.seq) (λ x u. under_next x u f.0) xs before.1)
-      (each-weaker (λ (y : Message A). (y.ring ≡ old.ring) × (safe p < y.number)) (λ (x : Message A). x.ring.seq < next.ring.seq) (λ y v. (let q : y.ring.seq ≡ old.ring.seq = ap (λ (r : RingId). r.seq) v.0 in let l = f.0 in omega (arith, q, l))) rest above) in
+      (each-weaker (λ (y : Message A). (y.ring ≡ old.ring) × (safe p < y.number))
+      (λ (x : Message A). x.ring.seq < next.ring.seq)
+      (λ y v. (let q : y.ring.seq ≡ old.ring.seq = ap (λ (r : RingId). r.seq) v.0 in let l = f.0 in omega (
+        arith,
+        q,
+        l,
+      ))) rest above) in
       let regular = delivered_in (regular_of c next) in
       let second : Each (λ (x : Message A). Each (IsBefore x) regular) (xs ++ rest) =
       each-weaker (λ (x : Message A). x.ring.seq < next.ring.seq) (λ (x : Message A). Each (IsBefore x) regular)
-      (λ x l. each-weaker (λ (y : Message A). (y.ring ≡ next.ring) × (y.number ≤ mark c next.ring)) (IsBefore x) (λ y v e. (let q : x.ring.seq ≡ next.ring.seq = ap (λ (r : RingId). r.seq) (e ∙ v.0) in absurd (omega (arith, q, l)))) regular (regular_under next)) (xs ++ rest) low in (
+      (λ x l. each-weaker (λ (y : Message A). (y.ring ≡ next.ring) × (y.number ≤ mark c next.ring)) (IsBefore x)
+      (λ y v e. (let q : x.ring.seq ≡ next.ring.seq = ap (λ (r : RingId). r.seq) (e ∙ v.0) in absurd
+      (omega (arith, q, l)))) regular (regular_under next)) (xs ++ rest) low in (
         append_ascends (xs ++ rest) regular left (regular_ascends next) second,
-        each-append (λ (x : Message A). IsUnder c next x) (xs ++ rest) regular (each-weaker (λ (x : Message A). x.ring.seq < next.ring.seq) (λ (x : Message A). IsUnder c next x) (λ x l. inl l) (xs ++ rest) low) (each-weaker _ (λ (x : Message A). IsUnder c next x) (λ x u. inr u) regular (regular_under next)),
+        each-append (λ (x : Message A). IsUnder c next x) (xs ++ rest) regular
+            (each-weaker (λ (x : Message A). x.ring.seq < next.ring.seq) (λ (x : Message A). IsUnder c next x)
+            (λ x l. inl l) (xs ++ rest) low) (each-weaker _ (λ (x : Message A). IsUnder c next x) (λ x u. inr u) regular
+            (regular_under next)),
       )
     where
-      under_rest : (x y : Message A) → IsUnder c old x → (y.ring ≡ old.ring) × (safe (plan_into c next old) < y.number) → mark c old.ring ≡ safe (plan_into c next old) → x.ring ≡ y.ring → x.number < y.number
+      under_rest : (x y : Message A) → IsUnder c old x → (y.ring ≡ old.ring)
+          × (safe (plan_into c next old) < y.number) → mark c old.ring ≡ safe (plan_into c next old) → x.ring ≡ y.ring
+          → x.number < y.number
       under_rest x y (inl l) v m e = absurd (let q : x.ring.seq ≡ old.ring.seq = ap (λ (r : RingId). r.seq) (e ∙ v.0) in omega (arith, q, l))
       under_rest x y (inr u) v m e = (let a = u.1 in let b = v.1 in omega (arith, a, b, m))
 
@@ -172,7 +206,9 @@ module _ {A : Type 0} (w : World A) (r : Recovered w.cores w.frames) (i : ℕ) w
 text_has : {A : Type 0} → (cores : ℕ → Core A) (is : List ℕ) (i : ℕ) (x : Message A) → IsIn i is → IsIn x (cores i).held → IsIn x (held_by cores x.ring is)
 text_has cores [] i x h k = absurd h
 text_has {A} cores (j ∷ is) i x (inl e) k =
-    in-left x (of_ring x.ring (cores j).held) (held_by cores x.ring is) (filter_in (λ (y : Message A). same_ring y.ring x.ring) x (cores j).held (subst (λ q. IsIn x (cores q).held) e k) (same-self x.ring))
+    in-left x (of_ring x.ring (cores j).held) (held_by cores x.ring is)
+    (filter_in (λ (y : Message A). same_ring y.ring x.ring) x (cores j).held
+    (subst (λ q. IsIn x (cores q).held) e k) (same-self x.ring))
 text_has {A} cores (j ∷ is) i x (inr h) k = in-right x (of_ring x.ring (cores j).held) (held_by cores x.ring is) (text_has cores is i x h k)
 
 in-contains : {X : Type 0} (xs : List X) (x : X) → IsIn x xs → Contains xs x
@@ -180,9 +216,11 @@ in-contains [] x h = absurd h
 in-contains (y ∷ xs) x (inl e) = (zero, omega arith, sym e)
 in-contains (y ∷ xs) x (inr h) = (let r = in-contains xs x h in let l = r.1 in (suc r.0, omega (arith, l), r.2))
 
-none_user : {A : Type 0} → (xs : List (Message A)) → Each (λ (x : Message A). is_user x.payload ≡ false) xs → filter (λ (x : Message A). is_user x.payload) xs ≡ []
+none_user : {A : Type 0} → (xs : List (Message A)) → Each (λ (x : Message A). is_user x.payload ≡ false) xs
+    → filter (λ (x : Message A). is_user x.payload) xs ≡ []
 none_user [] h = refl
-none_user {A} (x ∷ xs) h = cond-false (is_user x.payload) (x ∷ filter (λ (x : Message A). is_user x.payload) xs) (filter (λ (x : Message A). is_user x.payload) xs) h.0 ∙ none_user xs h.1
+none_user {A} (x ∷ xs) h = cond-false (is_user x.payload) (x ∷ filter (λ (x : Message A). is_user x.payload) xs)
+    (filter (λ (x : Message A). is_user x.payload) xs) h.0 ∙ none_user xs h.1
 
 -- The two facts that are left
 
@@ -225,33 +263,41 @@ module _ {A : Type 0} (n : ℕ) (events : List (RingEvent A)) (heard_in : HeardI
   in_text i k x h = text_has w.cores (numbers_from 1 w.total) i x (node_in w i k) h
 
   -- what one holds is found in the text
-  found_text : (i : ℕ) → IsNode w i → (ring : RingId) (m : ℕ) → holds (w.cores i).held ring m ≡ true → found (w.cores i).held ring m ≡ found (text_of w ring) ring m
+  found_text : (i : ℕ) → IsNode w i → (ring : RingId) (m : ℕ) → holds (w.cores i).held ring m ≡ true
+      → found (w.cores i).held ring m ≡ found (text_of w ring) ring m
   found_text i k ring m h =
       let x = holds-found (w.cores i).held ring m h in
       let f = found_as (w.cores i).held ring m x.0 x.1 in
       let there : IsIn x.0 (text_of w ring) = subst (λ r. IsIn x.0 (text_of w r)) f.ring_is (in_text i k x.0 f.there) in
       let held : holds (text_of w ring) ring m ≡ true =
-      subst (λ j. holds (text_of w ring) ring j ≡ true) f.number_is (subst (λ r. holds (text_of w ring) r (x.0).number ≡ true) f.ring_is (held_is (text_of w ring) x.0 there)) in
+      subst (λ j. holds (text_of w ring) ring j ≡ true) f.number_is
+      (subst (λ r. holds (text_of w ring) r (x.0).number ≡ true) f.ring_is (held_is (text_of w ring) x.0 there)) in
       let y = holds-found (text_of w ring) ring m held in
       let g = found_as (text_of w ring) ring m y.0 y.1 in
-      let same : x.0 ≡ y.0 = unformed_text n events ring x.0 y.0 (in-contains (text_of w ring) x.0 there) (in-contains (text_of w ring) y.0 g.there) (f.number_is ∙ sym g.number_is) in
+      let same : x.0 ≡ y.0 = unformed_text n events ring x.0 y.0 (in-contains (text_of w ring) x.0 there)
+      (in-contains (text_of w ring) y.0 g.there) (f.number_is ∙ sym g.number_is) in
       x.1 ∙ ap Some same ∙ sym y.1
 
-  told_is : (i : ℕ) → IsNode w i → (ring : RingId) → users (w.cores i) ring 0 (front (w.cores i) ring) ≡ users_upto (text_of w ring) ring (front (w.cores i) ring)
+  told_is : (i : ℕ) → IsNode w i → (ring : RingId) → users (w.cores i) ring 0 (front (w.cores i) ring) ≡ users_upto
+      (text_of w ring) ring (front (w.cores i) ring)
   told_is i k ring =
       let c = w.cores i in
       let f = front c ring in
       let same : f - 0 ≡ f = omega arith in
       ap (heard (found c.held ring) 1) same
-      ∙ ap (filter (λ (x : Message A). is_user x.payload)) (found_alike (found c.held ring) (found (text_of w ring) ring) 1 f (λ m a b. found_text i k ring m ((front_is c.held ring).below m a (omega (arith, b)))))
+      ∙ ap (filter (λ (x : Message A). is_user x.payload))
+      (found_alike (found c.held ring) (found (text_of w ring) ring) 1 f
+      (λ m a b. found_text i k ring m ((front_is c.held ring).below m a (omega (arith, b)))))
 
-  nothing_told : (i : ℕ) (ring : RingId) → ((x : Configuration) → IsIn x (w.cores i).installs → x.ring ≡ ring → ⊥) → users_upto (text_of w ring) ring (front (w.cores i) ring) ≡ []
+  nothing_told : (i : ℕ) (ring : RingId) → ((x : Configuration) → IsIn x (w.cores i).installs → x.ring ≡ ring → ⊥)
+      → users_upto (text_of w ring) ring (front (w.cores i) ring) ≡ []
   nothing_told i ring none =
       let f = front (w.cores i) ring in
       none_user (filter_map (found (text_of w ring) ring) (numbers_from 1 f))
       (each-filter_map (λ m. m < 1 + f) (λ (x : Message A). is_user x.payload ≡ false) (found (text_of w ring) ring)
       (λ m x l e. elim (cases_Bool (is_user x.payload)) [
-        | inl u ↦ (let g = found_as (text_of w ring) ring m x e in let q = g.number_is in let at = heard_in i ring x g.there u (omega (arith, q, l)) in absurd (none at.0 at.1 at.2))
+        | inl u ↦ (let g = found_as (text_of w ring) ring m x e in let q = g.number_is in let at = heard_in i ring x
+            g.there u (omega (arith, q, l)) in absurd (none at.0 at.1 at.2))
         | inr u ↦ u
       ])
       (numbers_from 1 f) (each-in (λ m. m < 1 + f) (numbers_from 1 f) (λ m j. (numbers_in m 1 f j).1)))
@@ -265,13 +311,19 @@ module _ {A : Type 0} (n : ℕ) (events : List (RingEvent A)) (heard_in : HeardI
       by_test : (b : Bool) → list_any (same_ring ring) (map (λ (at : Configuration). at.ring) ((w.cores i).installed ∷ older i)) ≡ b →
           agreed_of ring (stages_in w i) ≡ users_upto (text_of w ring) ring (front (w.cores i) ring)
       by_test true e =
-          let m = in_map (λ (at : Configuration). at.ring) ring ((w.cores i).installed ∷ older i) ((in_decides same_ring ring_decides ring (map (λ (at : Configuration). at.ring) ((w.cores i).installed ∷ older i))).0 e) in
+          let m = in_map (λ (at : Configuration). at.ring) ring ((w.cores i).installed ∷ older i)
+          ((in_decides same_ring ring_decides ring
+          (map (λ (at : Configuration). at.ring) ((w.cores i).installed ∷ older i))).0 e) in
           let one : agreed_of (m.0).ring (stages_in w i) ≡ users_upto (text_of w (m.0).ring) (m.0).ring (front (w.cores i) (m.0).ring) =
-          ap (agreed_of (m.0).ring) (stages_are n events i) ∙ agreed_is (w.cores i) m.0 (w.cores i).installed (older i) (falls i) m.1 ∙ told_is i k (m.0).ring in
+          ap (agreed_of (m.0).ring) (stages_are n events i) ∙ agreed_is (w.cores i) m.0 (w.cores i).installed
+          (older i) (falls i) m.1 ∙ told_is i k (m.0).ring in
           subst (λ (r : RingId). agreed_of r (stages_in w i) ≡ users_upto (text_of w r) r (front (w.cores i) r)) m.2 one
       by_test false e =
           let none : (x : Configuration) → IsIn x ((w.cores i).installed ∷ older i) → x.ring ≡ ring → ⊥ =
-          λ x j q. false≢true (sym e ∙ (in_decides same_ring ring_decides ring (map (λ (at : Configuration). at.ring) ((w.cores i).installed ∷ older i))).1 (subst (λ (r : RingId). IsIn r (map (λ (at : Configuration). at.ring) ((w.cores i).installed ∷ older i))) q (map_has (λ (at : Configuration). at.ring) x ((w.cores i).installed ∷ older i) j))) in
+          λ x j q. false≢true (sym e ∙ (in_decides same_ring ring_decides ring
+          (map (λ (at : Configuration). at.ring) ((w.cores i).installed ∷ older i))).1
+          (subst (λ (r : RingId). IsIn r (map (λ (at : Configuration). at.ring) ((w.cores i).installed ∷ older i)))
+          q (map_has (λ (at : Configuration). at.ring) x ((w.cores i).installed ∷ older i) j))) in
           ap (agreed_of ring) (stages_are n events i) ∙ none_of (w.cores i) ring (w.cores i).installed (older i) none
           ∙ sym (nothing_told i ring (λ x j q. none x (subst (λ xs. IsIn x xs) ((((recovered n events).local i)).ordered).newest j) q))
 
@@ -279,14 +331,18 @@ module _ {A : Type 0} (n : ℕ) (events : List (RingEvent A)) (heard_in : HeardI
       (x : Message A) → IsIn x rest → IsIn x (text_of w old) × (is_user x.payload ≡ true)
   rest_in i k old new members rest s x j =
       let c = w.cores i in
-      let way = way_in c c.installed (older i) old new members rest (subst (λ (xs : List (Stage A)). IsIn (InTransitional old new members rest) xs) (stages_are n events i) s) in
+      let way = way_in c c.installed (older i) old new members rest
+      (subst (λ (xs : List (Stage A)). IsIn (InTransitional old new members rest) xs) (stages_are n events i) s) in
       let p = plan_into c way.next way.left in
       let e = way.is in
       let there : rest ≡ rests p c.held = cc in
       let ring : old ≡ (way.left).ring = cc in
       let here : IsIn x (rests p c.held) = subst (λ (xs : List (Message A)). IsIn x xs) there j in
-      let held = in-each (λ (x : Message A). IsIn x c.held × (x.ring ≡ p.old)) x (rests p c.held) (rests_held p c.held) here in
-      (subst (λ r. IsIn x (text_of w r)) (held.1 ∙ sym ring) (in_text i k x held.0), (in_filter (λ (x : Message A). is_user x.payload) x (filter_map (found c.held p.old) (transitional_part p ++ past_gap_part p c.held)) here).1)
+      let held = in-each (λ (x : Message A). IsIn x c.held × (x.ring ≡ p.old)) x (rests p c.held) (rests_held p c.held) here in (
+        subst (λ r. IsIn x (text_of w r)) (held.1 ∙ sym ring) (in_text i k x held.0),
+        (in_filter (λ (x : Message A). is_user x.payload) x
+            (filter_map (found c.held p.old) (transitional_part p ++ past_gap_part p c.held)) here).1,
+      )
 
   pub same_text : HasSameText w
   same_text =
@@ -294,9 +350,11 @@ module _ {A : Type 0} (n : ℕ) (events : List (RingEvent A)) (heard_in : HeardI
         text = unformed_text n events;
         agreed = agreed;
         rest = rest_in;
-        ascending = λ i k. subst (λ (xs : List (Stage A)). Ascend (deliveries_of xs)) (sym (stages_are n events i)) (all_ascend w (recovered n events) i (w.cores i).installed (older i) (falls i) (went_through n events i)).0;
+        ascending = λ i k. subst (λ (xs : List (Stage A)). Ascend (deliveries_of xs)) (sym (stages_are n events i))
+            (all_ascend w (recovered n events) i (w.cores i).installed (older i) (falls i) (went_through n events i)).0;
         safe = λ i k at agreed safe s. (let c = w.cores i in
-            let e = (regular_in c c.installed (older i) at agreed safe (subst (λ (xs : List (Stage A)). IsIn (InRegular at agreed safe) xs) (stages_are n events i) s)).1 in
+            let e = (regular_in c c.installed (older i) at agreed safe
+            (subst (λ (xs : List (Stage A)). IsIn (InRegular at agreed safe) xs) (stages_are n events i) s)).1 in
             let q : safe ≡ mark c at.ring = cc in
             let m : mark c at.ring ≤ front c at.ring = mark_below c at.ring ((recovered n events).local i).fit in
             omega (arith, q, m));
@@ -304,14 +362,18 @@ module _ {A : Type 0} (n : ℕ) (events : List (RingEvent A)) (heard_in : HeardI
 
   -- Safe delivery
 
-  module _ (i : ℕ) (at : Configuration) (inside : IsIn at (w.cores i).installs) (x : Message A) (held : IsIn x (w.cores i).held) (ring : x.ring ≡ at.ring) (user : is_user x.payload ≡ true) (marked : x.number ≤ mark (w.cores i) at.ring) (node : IsNode w i) where
+  module _ (i : ℕ) (at : Configuration) (inside : IsIn at (w.cores i).installs) (x : Message A)
+      (held : IsIn x (w.cores i).held) (ring : x.ring ≡ at.ring) (user : is_user x.payload ≡ true)
+      (marked : x.number ≤ mark (w.cores i) at.ring) (node : IsNode w i) where
     reached : (q : ℕ) → IsIn q (elements at.members) → x.number ≤ front (w.cores q) at.ring
     reached q m =
         let h = (((recovered n events).all)).all in
         let low : 1 ≤ x.number = positive w (recovered n events) i x held in
         elim (mark_safe h.visits w.cores h.chains h.turned h.safe i at.ring) [
           | inl z ↦ absurd (omega (arith, z, low, marked))
-          | inr (members, known, safe) ↦ (let same : members ≡ at.members = one_members w.cores h.rings at.ring members at.members known ((h.rings).shared i at.ring at.members (((recovered n events).local i).among at inside)) in
+          | inr (members, known, safe) ↦ (let same : members ≡ at.members = one_members w.cores h.rings at.ring
+              members at.members known ((h.rings).shared i at.ring at.members
+              (((recovered n events).local i).among at inside)) in
               let p = (elements_members at.members q).0 (in-contains (elements at.members) q m) in
               let s = safe q p.0 (subst (λ k. IsMember k q) (sym same) p.1) in
               omega (arith, s, marked))
@@ -325,7 +387,8 @@ module _ {A : Type 0} (n : ℕ) (events : List (RingEvent A)) (heard_in : HeardI
         let there = heard_in q at.ring x in_ring user (reached q m) in
         let same : there.0 ≡ at = one_configuration w (recovered n events) q i there.0 at there.1 inside there.2 in
         let o = ((recovered n events).local q).ordered in
-        let all : regulars_of (stages_in w q) ≡ (w.cores q).installs = ap regulars_of (stages_are n events q) ∙ regulars_are (w.cores q) (w.cores q).installed o.older ∙ sym o.newest in
+        let all : regulars_of (stages_in w q) ≡ (w.cores q).installs = ap regulars_of (stages_are n events q)
+        ∙ regulars_are (w.cores q) (w.cores q).installed o.older ∙ sym o.newest in
         subst (λ xs. IsIn at xs) (sym all) (subst (λ a. IsIn a (w.cores q).installs) same there.1)
 
     delivered : (q : ℕ) → IsIn q (elements at.members) → (c : Change A) → IsIn c (changes_in w q) → c.old.ring ≡ at.ring → IsIn x (delivered_by c)
@@ -344,19 +407,25 @@ module _ {A : Type 0} (n : ℕ) (events : List (RingEvent A)) (heard_in : HeardI
         let below : x.number < gap p =
         elim (cases_lt x.number (gap p)) [
           | inl l ↦ l
-          | inr l ↦ (let some : 1 ≤ gap p = omega arith in absurd (gap_unknown p plan.reach plan.sound (plan.within (gap p) ((front_is d.held (a.old).ring).below (gap p) some (omega (arith, l, up))))))
+          | inr l ↦ (let some : 1 ≤ gap p = omega arith in absurd
+              (gap_unknown p plan.reach plan.sound
+              (plan.within (gap p) ((front_is d.held (a.old).ring).below (gap p) some (omega (arith, l, up))))))
         ] in
-        subst (λ (z : Change A). IsIn x (delivered_by z)) (sym a.is) (delivered_at w (recovered n events) q a.next a.old a.changed x mine (ring ∙ old) user (inl below))
+        subst (λ (z : Change A). IsIn x (delivered_by z)) (sym a.is)
+        (delivered_at w (recovered n events) q a.next a.old a.changed x mine (ring ∙ old) user (inl below))
 
   pub deliver_safely : DeliversSafely w
   deliver_safely i node at agreed safe s x j q m =
       let c = w.cores i in
-      let g = regular_in c c.installed (older i) at agreed safe (subst (λ (xs : List (Stage A)). IsIn (InRegular at agreed safe) xs) (stages_are n events i) s) in
+      let g = regular_in c c.installed (older i) at agreed safe
+      (subst (λ (xs : List (Stage A)). IsIn (InRegular at agreed safe) xs) (stages_are n events i) s) in
       let inside : IsIn at c.installs = among n events i at g.0 in
       let there : IsIn x (delivered_in (regular_of c at)) = subst (λ (z : Stage A). IsIn x (delivered_in z)) g.1 j in
-      let there_heard : IsIn x (heard (found c.held at.ring) 1 (mark c at.ring)) = subst (λ (xs : List (Message A)). IsIn x xs) (regular_is w (recovered n events) i at) there in
+      let there_heard : IsIn x (heard (found c.held at.ring) 1 (mark c at.ring)) =
+      subst (λ (xs : List (Message A)). IsIn x xs) (regular_is w (recovered n events) i at) there in
       let u = (in_filter (λ (x : Message A). is_user x.payload) x (filter_map (found c.held at.ring) (numbers_from 1 (mark c at.ring))) there_heard).1 in
-      let b = in-each (λ (x : Message A). IsIn x c.held × (x.ring ≡ at.ring) × (x.number ≤ mark c at.ring)) x (delivered_in (regular_of c at)) (regular_held w (recovered n events) i at) there in
+      let b = in-each (λ (x : Message A). IsIn x c.held × (x.ring ≡ at.ring) × (x.number ≤ mark c at.ring)) x
+      (delivered_in (regular_of c at)) (regular_held w (recovered n events) i at) there in
       record {
         reached = reached i at inside x b.0 b.1 u b.2 node q m;
         through = through i at inside x b.0 b.1 u b.2 node q m;

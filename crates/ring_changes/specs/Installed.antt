@@ -1,4 +1,5 @@
--- The fact by which virtual synchrony is whole: who holds a users' message of a ring within its front has installed that ring. Recovery, rule 7 of docs/PROTOCOL.md, asks for it in the very step.
+-- The fact by which virtual synchrony is whole: who holds a users' message of a ring within its front has installed
+-- that ring. Recovery, rule 7 of docs/PROTOCOL.md, asks for it in the very step.
 use Rattle.std.specs.Prelude.{◌≡◌, ℕ, ◌≤◌, true}
 use Rattle.ring_base.specs.declared.ring_id.RingId.{RingId}
 use Rattle.ring_payload.specs.Kinds.{is_user}

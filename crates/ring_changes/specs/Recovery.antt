@@ -1,4 +1,6 @@
--- What holds of recovery in every run: Recovery, rules 1, 3, 6 and 7 of docs/PROTOCOL.md. Each installed ring was installed behind every member's End; and in Recovery the safe mark of the old ring is the greatest reported, what is held of it one of the mates reported, and what was wrapped of it is held there.
+-- What holds of recovery in every run: Recovery, rules 1, 3, 6 and 7 of docs/PROTOCOL.md. Each installed ring was
+-- installed behind every member's End; and in Recovery the safe mark of the old ring is the greatest reported, what is
+-- held of it one of the mates reported, and what was wrapped of it is held there.
 use Rattle.std.specs.Prelude.{◌≡◌, ℕ, ◌<◌, ◌≤◌, true}
 use Rattle.ring_base.specs.Processors.{has, elements}
 use Rattle.ring_base.specs.declared.ring_id.RingId.{RingId}

@@ -19,7 +19,8 @@ use std::alloc::{Allocator, Global};
 /// own users' messages of a ring are delivered before its next regular configuration.
 pub fn changes_law<A: Allocator + Copy>()
     ensures same_deliveries { (n : ℕ) (events : List (RingEvent A)) → DeliversAlike (run (unformed n) events) }
-    ensures configurations { (n : ℕ) (events : List (RingEvent A)) (i : ℕ) → IsNode (run (unformed n) events) i → HasConfigurations (run (unformed n) events) i }
+    ensures configurations { (n : ℕ) (events : List (RingEvent A)) (i : ℕ) → IsNode (run (unformed n) events) i
+        → HasConfigurations (run (unformed n) events) i }
     ensures own_delivery { (n : ℕ) (events : List (RingEvent A)) → DeliversOwn (run (unformed n) events) }
 {}
 
@@ -28,7 +29,8 @@ pub fn changes_law<A: Allocator + Copy>()
 /// one of the mates reported, and what the new ring's messages wrap of it is held there.
 pub fn recovery_law<A: Allocator + Copy>()
     ensures ends { (n : ℕ) (events : List (RingEvent A)) (q : ℕ) → HoldsEnds ((run (unformed n) events).cores q) }
-    ensures recovers { (n : ℕ) (events : List (RingEvent A)) (q : ℕ) → ((run (unformed n) events).cores q).state ≡ Recovery → IsRecovering ((run (unformed n) events).cores q) }
+    ensures recovers { (n : ℕ) (events : List (RingEvent A)) (q : ℕ) → ((run (unformed n) events).cores q).state
+        ≡ Recovery → IsRecovering ((run (unformed n) events).cores q) }
 {}
 
 /// Virtual synchrony is whole where one fact more holds: who holds a users' message of a ring within its front has

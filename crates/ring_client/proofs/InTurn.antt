@@ -1,5 +1,7 @@
 -- One more poll of a port, and one more port.
-use Rattle.std.proofs.Common.{◌≡◌, ℕ, zero, suc, ◌+◌, ◌-◌, ◌^◌, ◌<◌, min, List, [], ◌∷◌, length, take, drop, Option, Some, None, IfSome, All, slice_get, slice_set, refl, ap, sym, subst, ◌∙◌, arith, length-set, drop-drop, drop-set-lt}
+use Rattle.std.proofs.Common.{◌≡◌, ℕ, zero, suc, ◌+◌, ◌-◌, ◌^◌, ◌<◌, min, List, [], ◌∷◌, length, take, drop, Option}
+use Rattle.std.proofs.Common.{Some, None, IfSome, All, slice_get, slice_set, refl, ap, sym, subst, ◌∙◌, arith}
+use Rattle.std.proofs.Common.{length-set, drop-drop, drop-set-lt}
 use Rattle.std.proofs.lemmas.List.{take-set, take_more_set}
 use Rattle.std.proofs.lemmas.List.Elements.{All-push}
 use Rattle.ring_session.specs.declared.answer.Answer.{Answer}
@@ -28,7 +30,8 @@ module _ {P : Type 0} (asked : P → Asked) (call : Asked) (turns : ℕ) (old po
   pub asked_more : (submit : Asked) → submit ≡ call → AreAsked asked call turns old ports i → i < length ports → IsInVain submit turns (asked port)
       → AreAsked asked call turns old (slice_set ports i port) (i + 1)
   asked_more submit same are within in_vain = record {
-    in_vain = subst (All (λ p. IsInVain call turns (asked p))) (sym (take_more_set ports i port within)) (All-push (λ p. IsInVain call turns (asked p)) (take i ports) port are.in_vain (rw (← same) in_vain));
+    in_vain = subst (All (λ p. IsInVain call turns (asked p))) (sym (take_more_set ports i port within))
+        (All-push (λ p. IsInVain call turns (asked p)) (take i ports) port are.in_vain (rw (← same) in_vain));
     untouched = untouched_behind are.untouched;
     same_length = length-set ports i port ∙ are.same_length;
   }

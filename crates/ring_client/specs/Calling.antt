@@ -47,7 +47,8 @@ module _ {P : Type 0} (asked : P → Asked) (old new : ClientOf P) (op : List �
 
   -- there was no memory for a port's call: for the first one's, and the client is as it was, or for a later one's, and the call is open
   abbrev pub IsCutOff : Type 0
-  IsCutOff = ((1 ≤ length old.ports) × (new ≡ old)) ⊎ (AreCutOff asked next_call old.turns old.ports new.ports × (new ≡ record (old) { open_call = Some op; ports = new.ports }))
+  IsCutOff = ((1 ≤ length old.ports) × (new ≡ old)) ⊎ (AreCutOff asked next_call old.turns old.ports new.ports
+      × (new ≡ record (old) { open_call = Some op; ports = new.ports }))
 
   -- why the ports gave no reply
   abbrev pub AskingRefused : Fault → Type 0

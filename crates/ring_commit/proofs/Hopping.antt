@@ -10,7 +10,8 @@ use Rattle.ring_commit.specs.Reports.{Configuration}
 use Rattle.ring_commit.specs.Rounds.{is_first_round, is_second_round}
 
 -- in the first round there is room for an entry
-pub first_round_room : (floor candidates : ℕ) (k : CommitToken) → is_first_round floor candidates k ≡ true → length k.entries ≡ entries_at k.hop (size k.members) → length k.entries < 16
+pub first_round_room : (floor candidates : ℕ) (k : CommitToken) → is_first_round floor candidates k ≡ true
+    → length k.entries ≡ entries_at k.hop (size k.members) → length k.entries < 16
 first_round_room floor candidates k h e =
     let below : k.hop < size k.members = ltb-true k.hop (size k.members) (and_parts _ _ (and_parts _ _ h).0).0 in
     let few : size k.members ≤ 16 = size_le k.members in

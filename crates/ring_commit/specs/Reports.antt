@@ -1,4 +1,5 @@
--- The reports in a commit token, what each member wrote of its last installed ring: The commit token, rule 2 of docs/PROTOCOL.md. Members that come from one old ring share its messages: Recovery, rule 1.
+-- The reports in a commit token, what each member wrote of its last installed ring: The commit token, rule 2 of
+-- docs/PROTOCOL.md. Members that come from one old ring share its messages: Recovery, rule 1.
 use Rattle.std.specs.Prelude.{ℕ, Bool, ◌&&◌, ◌==◌, nat_eq, nat_le, List, map, filter}
 use Rattle.std.specs.List.{list_all}
 use Rattle.std.specs.Cmp.Lexicographic.{pointwise}

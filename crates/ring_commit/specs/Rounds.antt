@@ -1,4 +1,6 @@
--- The two rounds of a commit token: The commit token, rules 1 and 4 to 7 of docs/PROTOCOL.md. Among m members, hop h goes to position h mod m: hops 1 to m - 1 collect the reports, hops m to 2m - 1 hand them to all, hop 2m starts the token.
+-- The two rounds of a commit token: The commit token, rules 1 and 4 to 7 of docs/PROTOCOL.md. Among m members, hop h
+-- goes to position h mod m: hops 1 to m - 1 collect the reports, hops m to 2m - 1 hand them to all, hop 2m starts the
+-- token.
 use Rattle.std.specs.Prelude.{ℕ, suc, ◌*◌, ◌%◌, Bool, false, ◌&&◌, ◌==◌, nat_lt, nat_le, List, [], ◌∷◌, ◌++◌, Option, Some, None, slice_get}
 use Rattle.ring_base.specs.Rings.{same_ring}
 use Rattle.ring_base.specs.Processors.{at, size}
@@ -35,10 +37,12 @@ abbrev pub is_own : CommitEntry → Option CommitEntry → Bool
 is_own own None = false
 is_own own (Some e) = same_entry e own
 
--- rule 6, the second round: of the ring that the node takes part in, its own report still stands, and no member from its old ring is behind what one of them reported safe
+-- rule 6, the second round: of the ring that the node takes part in, its own report still stands, and no member from
+-- its old ring is behind what one of them reported safe
 abbrev pub is_second_round : Configuration → CommitEntry → CommitToken → Bool
 is_second_round running own k =
-    nat_le (size k.members) k.hop && nat_lt k.hop (2 * size k.members) && is_of running k && is_own own (slice_get k.entries (position_of_hop k)) && is_sound own.old k.entries
+    nat_le (size k.members) k.hop && nat_lt k.hop (2 * size k.members) && is_of running k && is_own own
+    (slice_get k.entries (position_of_hop k)) && is_sound own.old k.entries
 
 -- rule 7, its end: the token returned to the representative
 abbrev pub is_start : Configuration → CommitToken → Bool

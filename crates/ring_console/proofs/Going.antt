@@ -1,5 +1,6 @@
 -- What one event and one turn do to a run.
-use Rattle.std.proofs.Common.{◌≡◌, ℕ, zero, suc, ◌+◌, ◌<◌, ◌≤◌, Bool, true, false, inl, inr, List, [], ◌∷◌, length, take, Option, Result, Ok, Err, OnOk, OnErr, refl, sym, ap, subst, ◌∙◌, arith, add-one}
+use Rattle.std.proofs.Common.{◌≡◌, ℕ, zero, suc, ◌+◌, ◌<◌, ◌≤◌, Bool, true, false, inl, inr, List, [], ◌∷◌, length}
+use Rattle.std.proofs.Common.{take, Option, Result, Ok, Err, OnOk, OnErr, refl, sym, ap, subst, ◌∙◌, arith, add-one}
 use Rattle.ring_base.specs.Fronts.{IsFront, front_self, front_trans, front_append}
 use Rattle.ring_object.specs.Operations.{Sequential}
 use Rattle.ring_history.specs.declared.event.Event.{Event}
@@ -19,8 +20,27 @@ module _ {O A : Type 0} (object : Sequential O) where
 
   goes_on : (e : Event A) (p m q : Played A) → Goes object e p m → IsSame m q → Goes object e p q
   goes_on e p m q (inl d) s = inl (record { kept = d.kept; copy = d.copy; group = s.0 ∙ d.group; events = s.1 ∙ d.events; told = s.2 ∙ d.told })
-  goes_on e p m q (inr (inl d)) s = inr (inl (record { node = d.node; steps = d.steps; known = d.known; group = s.0 ∙ d.group; events = s.1 ∙ d.events; told = s.2 ∙ d.told }))
-  goes_on e p m q (inr (inr d)) s = inr (inr (record { node = d.node; call = d.call; issues = d.issues; known = d.known; taken = d.taken; group = s.0 ∙ d.group; events = s.1 ∙ d.events; told = s.2 ∙ d.told }))
+  goes_on e p m q (inr (inl d)) s = inr
+      (inl (record {
+        node = d.node;
+        steps = d.steps;
+        known = d.known;
+        group = s.0 ∙ d.group;
+        events = s.1 ∙ d.events;
+        told = s.2 ∙ d.told;
+      }))
+  goes_on e p m q (inr (inr d)) s = inr
+      (inr (record {
+        node = d.node;
+        call = d.call;
+        issues = d.issues;
+        known = d.known;
+        taken = d.taken;
+        group = s.0
+            ∙ d.group;
+        events = s.1 ∙ d.events;
+        told = s.2 ∙ d.told;
+      }))
 
   one_done : (e : Event A) (p q : Played A) (done : ℕ) → Plays object (take done (e ∷ [])) p q → done ≡ 1 → Goes object e p q
   one_done e p q zero plays is = absurd (omega (arith, is))
@@ -36,7 +56,9 @@ module _ {O A : Type 0} (object : Sequential O) where
   same_frames p q s = ap (λ w. w.frames) (world_same object p q s.0 s.1)
 
   -- an event that the world ran, or did not
-  module _ (e : Event A) (p q : Played A) (pairs : Pairs) (groups : Option (List ℕ)) (es : List (Event A)) (one : es ≡ e ∷ []) (reached : IsReached pairs (frames_of object p)) (plays : Plays object (take q.done es) p q) where
+  module _ (e : Event A) (p q : Played A) (pairs : Pairs) (groups : Option (List ℕ)) (es : List (Event A))
+      (one : es ≡ e ∷ []) (reached : IsReached pairs (frames_of object p))
+      (plays : Plays object (take q.done es) p q) where
     alone : Plays object (take q.done (e ∷ [])) p q
     alone = subst (λ (xs : List (Event A)). Plays object (take q.done xs) p q) one plays
 
@@ -50,14 +72,34 @@ module _ {O A : Type 0} (object : Sequential O) where
     same less = none_done e p q q.done alone (omega (arith, less, counted))
 
     pub happened : {T E : Type 0} (r : Result T E) → OnOk r (q.done ≡ length es)
-        → OnOk r (Happens object e (record { played = p; open_pairs = pairs_from pairs (frames_of object p); groups = groups }) (record { played = q; open_pairs = pairs_from pairs (frames_of object q); groups = groups }))
-    happened (Ok x) is = record { goes = goes is; open_pairs = open_later pairs (frames_of object p) (frames_of object q) (goes_frames object e p q (goes is)) reached; groups = refl }
+        → OnOk r (Happens object e (record {
+          played = p;
+          open_pairs = pairs_from pairs (frames_of object p);
+          groups = groups;
+        }) (record {
+          played = q;
+          open_pairs = pairs_from pairs (frames_of object q);
+          groups = groups;
+        }))
+    happened (Ok x) is = record {
+      goes = goes is;
+      open_pairs = open_later pairs (frames_of object p)
+          (frames_of object q) (goes_frames object e p q (goes is)) reached;
+      groups = refl;
+    }
     happened (Err x) is = tt
 
     pub rested : {T E : Type 0} (r : Result T E) → OnErr r (q.done < length es)
-        → OnErr r (Rests (record { played = p; open_pairs = pairs_from pairs (frames_of object p); groups = groups }) (record { played = q; open_pairs = pairs_from pairs (frames_of object q); groups = groups }))
+        → OnErr r (Rests (record { played = p; open_pairs = pairs_from pairs (frames_of object p); groups = groups })
+        (record { played = q; open_pairs = pairs_from pairs (frames_of object q); groups = groups }))
     rested (Ok x) less = tt
-    rested (Err x) less = let s = same less in record { group = s.0; events = s.1; told = s.2; open_pairs = ap (λ fs. pairs_from pairs fs) (same_frames p q s); groups = refl }
+    rested (Err x) less = let s = same less in record {
+      group = s.0;
+      events = s.1;
+      told = s.2;
+      open_pairs = ap (λ fs. pairs_from pairs fs) (same_frames p q s);
+      groups = refl;
+    }
 
     -- what is reached stays so, whether the event was run or not
     pub still_reached : {T E : Type 0} (r : Result T E) → OnOk r (q.done ≡ length es) → OnErr r (q.done < length es) → IsReached pairs (frames_of object q)
@@ -77,8 +119,14 @@ module _ {O A : Type 0} (object : Sequential O) where
   }
 
   -- a turn broke off
-  pub turn_broken : (pair : Pair) (mid closed new : RunView A) → mid.open_pairs ≡ pair ∷ closed.open_pairs → closed ≡ record mid { open_pairs = closed.open_pairs } → Rests closed new → BreaksTurn object mid new
-  turn_broken pair mid closed new first same rests = record { pair = pair; others = closed.open_pairs; first = first; rests = subst (λ (r : RunView A). Rests r new) same rests }
+  pub turn_broken : (pair : Pair) (mid closed new : RunView A) → mid.open_pairs ≡ pair ∷ closed.open_pairs
+      → closed ≡ record mid { open_pairs = closed.open_pairs } → Rests closed new → BreaksTurn object mid new
+  turn_broken pair mid closed new first same rests = record {
+    pair = pair;
+    others = closed.open_pairs;
+    first = first;
+    rests = subst (λ (r : RunView A). Rests r new) same rests;
+  }
 
   -- one turn more
   pub one_more : (n : ℕ) (old mid new : RunView A) → TurnsTimes object n old mid → Turns object mid new → TurnsTimes object (n + 1) old new

@@ -1,5 +1,7 @@
 -- Frames only come: those of a world stay as it goes on, and so the copies that are open.
-use Rattle.std.proofs.Common.{◌≡◌, ℕ, zero, suc, ◌+◌, ◌-◌, ◌^◌, Bool, true, false, inl, inr, List, [], ◌∷◌, ◌++◌, length, take, drop, Option, Some, None, refl, sym, ap, subst, ◌∙◌, arith, append_assoc, zero-add}
+use Rattle.std.proofs.Common.{◌≡◌, ℕ, zero, suc, ◌+◌, ◌-◌, ◌^◌, Bool, true, false, inl, inr, List, [], ◌∷◌, ◌++◌}
+use Rattle.std.proofs.Common.{length, take, drop, Option, Some, None, refl, sym, ap, subst, ◌∙◌, arith, append_assoc}
+use Rattle.std.proofs.Common.{zero-add}
 use Rattle.std.proofs.lemmas.List.{drop-append-le, drop_at, length-drop}
 use Rattle.ring_base.specs.Fronts.{IsFront, front_self, front_length}
 use Rattle.ring_base.specs.Group.{Group}
@@ -13,7 +15,8 @@ use Rattle.ring_machine.specs.declared.input.Input.TheVariants.{Frame as FrameIn
 use Rattle.ring_machine.specs.Stepping.{node_step, submit_fault}
 use Rattle.ring_history.specs.declared.event.Event.{Event}
 use Rattle.ring_history.specs.declared.event.Event.TheVariants.{Issue, Deliver, Noise, Timeout, Stop}
-use Rattle.ring_history.specs.Worlds.{World, world_opening, carried, issued_or, issued_if, stopped_if, stepped_if, handed_if, handed, frame_at, is_node, happens, run}
+use Rattle.ring_history.specs.Worlds.{World, world_opening, carried, issued_or, issued_if, stopped_if, stepped_if}
+use Rattle.ring_history.specs.Worlds.{handed_if, handed, frame_at, is_node, happens, run}
 use Rattle.ring_console.specs.declared.pairs.Pairs.{Pairs}
 use Rattle.ring_console.specs.Pairs.{frames_of, pairs_of, pairs_behind, within_reach, all_pairs, opened_since, pairs_from, IsReached}
 use Rattle.ring_world.specs.Played.{Played, world_of, Goes}
@@ -61,13 +64,17 @@ module _ {O A : Type 0} (object : Sequential O) where
   run-append w (x ∷ xs) ys = run-append (happens object w x) xs ys
 
   -- the world after more events
-  pub world_after : (p q : Played A) (more : List (Event A)) → q.group ≡ p.group → q.events ≡ p.events ++ more → world_of object q ≡ run object (world_of object p) more
+  pub world_after : (p q : Played A) (more : List (Event A)) → q.group ≡ p.group → q.events ≡ p.events ++ more
+      → world_of object q ≡ run object (world_of object p) more
   world_after p q more group events =
-      ap (λ (g : Group). run object (world_opening g) q.events) group ∙ (ap (λ (es : List (Event A)). run object (world_opening p.group) es) events ∙ run-append (world_opening p.group) p.events more)
+      ap (λ (g : Group). run object (world_opening g) q.events) group
+      ∙ (ap (λ (es : List (Event A)). run object (world_opening p.group) es) events
+      ∙ run-append (world_opening p.group) p.events more)
 
   -- the same world
   pub world_same : (p q : Played A) → q.group ≡ p.group → q.events ≡ p.events → world_of object q ≡ world_of object p
-  world_same p q group events = ap (λ (g : Group). run object (world_opening g) q.events) group ∙ ap (λ (es : List (Event A)). run object (world_opening p.group) es) events
+  world_same p q group events = ap (λ (g : Group). run object (world_opening g) q.events) group
+      ∙ ap (λ (es : List (Event A)). run object (world_opening p.group) es) events
 
   one_more : (p q : Played A) (e : Event A) → q.group ≡ p.group → q.events ≡ p.events ++ e ∷ [] → IsFront (frames_of object p) (frames_of object q)
   one_more p q e group events =
@@ -78,7 +85,8 @@ module _ {O A : Type 0} (object : Sequential O) where
   goes_frames e p q (inl done) = one_more p q done.kept done.group done.events
   goes_frames e p q (inr (inl stopped)) = one_more p q (Stop stopped.node) stopped.group stopped.events
   goes_frames e p q (inr (inr refused)) =
-      subst (λ (w : World A). IsFront (world_of object p).frames w.frames) (sym (world_same p q refused.group refused.events)) (front_self (world_of object p).frames)
+      subst (λ (w : World A). IsFront (world_of object p).frames w.frames)
+      (sym (world_same p q refused.group refused.events)) (front_self (world_of object p).frames)
 
 -- ---- copies
 
@@ -98,9 +106,12 @@ pairs-append n (x ∷ xs) ys =
     ∙ sym (append_assoc (pairs_of (suc n) x.from x.to) (pairs_behind (suc n) xs) (pairs_behind (n + length (x ∷ xs)) ys))
 
 -- what more frames open
-opened_by : {A : Type 0} (xs ys more : List (Carried A)) → within_reach ys ≡ within_reach xs ++ more → opened_since xs ys ≡ pairs_behind (length (within_reach xs)) more
+opened_by : {A : Type 0} (xs ys more : List (Carried A)) → within_reach ys ≡ within_reach xs ++ more
+    → opened_since xs ys ≡ pairs_behind (length (within_reach xs)) more
 opened_by xs ys more is =
-    let all : all_pairs ys ≡ all_pairs xs ++ pairs_behind (length (within_reach xs)) more = ap (λ fs. pairs_behind 0 fs) is ∙ (pairs-append 0 (within_reach xs) more ∙ ap (λ k. all_pairs xs ++ pairs_behind k more) (zero-add (length (within_reach xs)))) in
+    let all : all_pairs ys ≡ all_pairs xs ++ pairs_behind (length (within_reach xs)) more =
+    ap (λ fs. pairs_behind 0 fs) is ∙ (pairs-append 0 (within_reach xs) more
+    ∙ ap (λ k. all_pairs xs ++ pairs_behind k more) (zero-add (length (within_reach xs)))) in
     ap (λ ps. drop (length (all_pairs xs)) ps) all ∙ drop_at (all_pairs xs) (pairs_behind (length (within_reach xs)) more) (length (all_pairs xs)) refl
 
 -- the open copies, once more frames were sent
@@ -109,13 +120,16 @@ open_later p xs ys f reached =
     let whole = reach_front xs ys f in
     let reach = within_reach xs in
     let place : p.frame + length (drop p.frame reach) ≡ length reach = omega (arith, length-drop p.frame reach, reached) in
-    let left : drop p.frame (within_reach ys) ≡ drop p.frame reach ++ whole.0 = ap (λ fs. drop p.frame fs) (sym whole.1) ∙ drop-append-le p.frame reach whole.0 reached in
+    let left : drop p.frame (within_reach ys) ≡ drop p.frame reach ++ whole.0 = ap (λ fs. drop p.frame fs)
+    (sym whole.1) ∙ drop-append-le p.frame reach whole.0 reached in
     let behind : pairs_behind p.frame (drop p.frame (within_reach ys)) ≡ pairs_behind p.frame (drop p.frame reach) ++ opened_since xs ys =
     ap (λ fs. pairs_behind p.frame fs) left
     ∙ (pairs-append p.frame (drop p.frame reach) whole.0
     ∙ (ap (λ k. pairs_behind p.frame (drop p.frame reach) ++ pairs_behind k whole.0) place
     ∙ ap (λ ps. pairs_behind p.frame (drop p.frame reach) ++ ps) (sym (opened_by xs ys whole.0 (sym whole.1))))) in
-    ap (λ ps. pairs_of p.frame p.sender p.left ++ ps) behind ∙ sym (append_assoc (pairs_of p.frame p.sender p.left) (pairs_behind p.frame (drop p.frame reach)) (opened_since xs ys))
+    ap (λ ps. pairs_of p.frame p.sender p.left ++ ps) behind
+    ∙ sym (append_assoc (pairs_of p.frame p.sender p.left) (pairs_behind p.frame (drop p.frame reach))
+    (opened_since xs ys))
 
 pub reached_later : {A : Type 0} (p : Pairs) (xs ys : List (Carried A)) → IsFront xs ys → IsReached p xs → IsReached p ys
 reached_later p xs ys f reached = omega (arith, reached, front_length (within_reach xs) (within_reach ys) (reach_front xs ys f))

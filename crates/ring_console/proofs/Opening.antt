@@ -1,5 +1,6 @@
 -- The copies of the next frame, and the first copy that is open.
-use Rattle.std.proofs.Common.{◌≡◌, ℕ, zero, suc, ◌+◌, ◌-◌, ◌^◌, ◌<◌, ◌≤◌, List, [], ◌∷◌, ◌++◌, map, length, take, drop, Option, Some, None, slice_get, refl, sym, ap, ◌∙◌, arith, add-one}
+use Rattle.std.proofs.Common.{◌≡◌, ℕ, zero, suc, ◌+◌, ◌-◌, ◌^◌, ◌<◌, ◌≤◌, List, [], ◌∷◌, ◌++◌, map, length, take, drop}
+use Rattle.std.proofs.Common.{Option, Some, None, slice_get, refl, sym, ap, ◌∙◌, arith, add-one}
 use Rattle.std.proofs.lemmas.List.{drop_all}
 use Rattle.std.specs.Prelude.{option_map}
 use Rattle.std.specs.Option.{SomeIff}
@@ -47,10 +48,17 @@ take_less (suc n) (x ∷ xs) = let rest = take_less n xs in omega arith
 -- ---- frames
 
 none_of : (number sender left : ℕ) → left ≡ nobody → pairs_of number sender left ≡ []
-none_of number sender left none = ap (λ s. map (λ (receiver : ℕ). record { frame = number; sender = sender; receiver = receiver }) (elements s)) none ∙ ap (λ xs. map (λ (receiver : ℕ). record { frame = number; sender = sender; receiver = receiver }) xs) elements-nobody
+none_of number sender left none = ap
+    (λ s. map (λ (receiver : ℕ). record { frame = number; sender = sender; receiver = receiver }) (elements s)) none
+    ∙ ap (λ xs. map (λ (receiver : ℕ). record { frame = number; sender = sender; receiver = receiver }) xs)
+    elements-nobody
 
 -- no copy is open before the first frame
-pub none_open : {A : Type 0} (p : Pairs) (frames : List (Carried A)) → p ≡ record { frame = 0; sender = 1; left = nobody } → frames ≡ [] → pairs_from p frames ≡ []
+pub none_open : {A : Type 0} (p : Pairs) (frames : List (Carried A)) → p ≡ record {
+  frame = 0;
+  sender = 1;
+  left = nobody;
+} → frames ≡ [] → pairs_from p frames ≡ []
 none_open {A} p frames first none =
     ap (λ (q : Pairs). pairs_from q frames) first
     ∙ (ap (λ (fs : List (Carried A)). pairs_from (record { frame = 0; sender = 1; left = nobody }) fs) none
@@ -72,36 +80,45 @@ module _ {A : Type 0} (p : Pairs) (frames : List (Carried A)) where
   none_sent none lost = nothing_behind none (omega (arith, take_less (2 ^ 64 - 1) frames, get_past frames p.frame lost))
 
   -- the next frame was sent
-  pub next_sent : (q : Pairs) (f : Carried A) → p.left ≡ nobody → p.frame < 2 ^ 64 - 1 → frame_at frames (suc p.frame) ≡ Some f → q ≡ record { frame = suc p.frame; sender = f.from; left = f.to }
+  pub next_sent : (q : Pairs) (f : Carried A) → p.left ≡ nobody → p.frame < 2 ^ 64 - 1 → frame_at frames (suc p.frame)
+      ≡ Some f → q ≡ record { frame = suc p.frame; sender = f.from; left = f.to }
       → (pairs_from q frames ≡ pairs_from p frames) × IsReached q frames
   next_sent q f none small sent is =
       let there = get_take (2 ^ 64 - 1) frames p.frame f small sent in
       let inside = get_inside (within_reach frames) p.frame f there in (
-        ap (λ (x : Pairs). pairs_from x frames) is ∙ sym (only_behind none ∙ ap (λ fs. pairs_behind p.frame fs) (drop_get (within_reach frames) p.frame f there)),
+        ap (λ (x : Pairs). pairs_from x frames) is ∙ sym (only_behind none ∙ ap (λ fs. pairs_behind p.frame fs)
+            (drop_get (within_reach frames) p.frame f there)),
         omega (arith, inside, ap (λ (x : Pairs). x.frame) is),
       )
 
   -- the first of those that are open is closed
-  pub closes : (q : Pairs) (receiver alone : ℕ) → receiver ≡ smallest p.left → IsProc receiver × IsMember p.left receiver → alone ≡ only receiver → q ≡ record p { left = less p.left alone }
+  pub closes : (q : Pairs) (receiver alone : ℕ) → receiver ≡ smallest p.left → IsProc receiver
+      × IsMember p.left receiver → alone ≡ only receiver → q ≡ record p { left = less p.left alone }
       → pairs_from p frames ≡ record { frame = p.frame; sender = p.sender; receiver = receiver } ∷ pairs_from q frames
   closes q receiver alone least m one is =
       let taken = elements-taken p.left receiver alone (less p.left alone) least m one refl in
-      ap (λ xs. map (λ (r : ℕ). record { frame = p.frame; sender = p.sender; receiver = r }) xs ++ pairs_behind p.frame (drop p.frame (within_reach frames))) taken
+      ap (λ xs. map (λ (r : ℕ). record { frame = p.frame; sender = p.sender; receiver = r }) xs
+      ++ pairs_behind p.frame (drop p.frame (within_reach frames))) taken
       ∙ ap (λ (x : Pairs). record { frame = p.frame; sender = p.sender; receiver = receiver } ∷ pairs_from x frames) (sym is)
 
 -- ---- what a world tells of a frame
 
-pub is_not_sent : {A : Type 0} (o : Option (Carried A)) (n m : ℕ) (frames : List (Carried A)) → n ≡ suc m → frame_at frames n ≡ o → None ≡ option_map {U = ℕ × ℕ} (λ (f : Carried A). (f.from, f.to)) o → frame_at frames (suc m) ≡ None
+pub is_not_sent : {A : Type 0} (o : Option (Carried A)) (n m : ℕ) (frames : List (Carried A)) → n ≡ suc m
+    → frame_at frames n ≡ o → None ≡ option_map {U = ℕ × ℕ} (λ (f : Carried A). (f.from, f.to)) o
+    → frame_at frames (suc m) ≡ None
 is_not_sent None n m frames is at e = ap (frame_at frames) (sym is) ∙ at
 is_not_sent (Some f) n m frames is at e = absurd cc
 
-pub is_sent : {A : Type 0} (o : Option (Carried A)) (n m : ℕ) (frames : List (Carried A)) (sent : ℕ × ℕ) → n ≡ suc m → frame_at frames n ≡ o → Some sent ≡ option_map {U = ℕ × ℕ} (λ (f : Carried A). (f.from, f.to)) o
+pub is_sent : {A : Type 0} (o : Option (Carried A)) (n m : ℕ) (frames : List (Carried A)) (sent : ℕ × ℕ) → n ≡ suc m
+    → frame_at frames n ≡ o → Some sent ≡ option_map {U = ℕ × ℕ} (λ (f : Carried A). (f.from, f.to)) o
     → (f : Carried A) × ((frame_at frames (suc m) ≡ Some f) × (sent.0 ≡ f.from) × (sent.1 ≡ f.to))
 is_sent None n m frames sent is at e = absurd cc
-is_sent (Some f) n m frames sent is at e = let same : sent ≡ (f.from, f.to) = cc in (f, (ap (frame_at frames) (sym is) ∙ at, ap (λ (p : ℕ × ℕ). p.0) same, ap (λ (p : ℕ × ℕ). p.1) same))
+is_sent (Some f) n m frames sent is at e = let same : sent ≡ (f.from, f.to) =
+    cc in (f, (ap (frame_at frames) (sym is) ∙ at, ap (λ (p : ℕ × ℕ). p.0) same, ap (λ (p : ℕ × ℕ). p.1) same))
 
 -- the world tells of the frame of the next number
-pub went_on : {A : Type 0} (p : Pairs) (frames : List (Carried A)) (number sender receivers : ℕ) → p.left ≡ nobody → number ≡ p.frame + 1 → p.frame + 1 < 18446744073709551616
+pub went_on : {A : Type 0} (p : Pairs) (frames : List (Carried A)) (number sender receivers : ℕ) → p.left ≡ nobody
+    → number ≡ p.frame + 1 → p.frame + 1 < 18446744073709551616
     → ◌≡◌ {A = Option (ℕ × ℕ)} (Some (sender, receivers)) (option_map {U = ℕ × ℕ} (λ (f : Carried A). (f.from, f.to)) (frame_at frames number))
     → let q : Pairs = record { frame = number; sender = sender; left = receivers } in (pairs_from q frames ≡ pairs_from p frames) × IsReached q frames
 went_on p frames number sender receivers none is small told =
@@ -109,7 +126,8 @@ went_on p frames number sender receivers none is small told =
     let s = is_sent (frame_at frames number) number p.frame frames (sender, receivers) next refl told in
     next_sent p frames (record { frame = number; sender = sender; left = receivers }) s.0 none (omega (arith, small)) s.1.0
     (ap (λ (n : ℕ). record { frame = n; sender = sender; left = receivers }) next
-    ∙ (ap (λ (n : ℕ). record { frame = suc p.frame; sender = n; left = receivers }) s.1.1 ∙ ap (λ (n : ℕ). record { frame = suc p.frame; sender = s.0.from; left = n }) s.1.2))
+    ∙ (ap (λ (n : ℕ). record { frame = suc p.frame; sender = n; left = receivers }) s.1.1
+    ∙ ap (λ (n : ℕ). record { frame = suc p.frame; sender = s.0.from; left = n }) s.1.2))
 
 -- it tells that there is none
 pub ended : {A : Type 0} (p : Pairs) (frames : List (Carried A)) (number : ℕ) → p.left ≡ nobody → number ≡ p.frame + 1

@@ -1,5 +1,7 @@
 -- What is printed, one line of a script after another.
-use Rattle.std.proofs.Common.{◌≡◌, ℕ, zero, suc, ◌+◌, ◌<◌, add-one, slice_get, Option, Some, take, drop, get_or, length, ◌++◌, List, [], ◌∷◌, inl, inr, Result, Ok, Err, OnErr, refl, sym, ap, subst, ◌∙◌, append-nil, append_assoc}
+use Rattle.std.proofs.Common.{◌≡◌, ℕ, zero, suc, ◌+◌, ◌<◌, add-one, slice_get, Option, Some, take, drop, get_or, length}
+use Rattle.std.proofs.Common.{◌++◌, List, [], ◌∷◌, inl, inr, Result, Ok, Err, OnErr, refl, sym, ap, subst, ◌∙◌}
+use Rattle.std.proofs.Common.{append-nil, append_assoc}
 use Rattle.std.specs.Prelude.{IfOk, Bool, true}
 use Rattle.ring_base.specs.Group.{Group}
 use Rattle.std.specs.Io.KnownBytes.{Appends}
@@ -23,8 +25,13 @@ pub printed_as : (old new : Option (List ℕ)) (P Q : List ℕ → Type 0) → (
 printed_as old new P Q f p = record { text = p.text; appended = p.appended; holds = f p.text p.holds }
 
 -- one text was printed after the other
-pub printed_then : (old mid new : Option (List ℕ)) (text : List ℕ) (P R : List ℕ → Type 0) → ((a : List ℕ) → P a → R (a ++ text)) → Prints old mid P → Appends mid new text → Prints old new R
-printed_then old mid new text P R f p q = record { text = p.text ++ text; appended = Appends-trans old mid new p.text text p.appended q; holds = f p.text p.holds }
+pub printed_then : (old mid new : Option (List ℕ)) (text : List ℕ) (P R : List ℕ → Type 0)
+    → ((a : List ℕ) → P a → R (a ++ text)) → Prints old mid P → Appends mid new text → Prints old new R
+printed_then old mid new text P R f p q = record {
+  text = p.text ++ text;
+  appended = Appends-trans old mid new p.text text p.appended q;
+  holds = f p.text p.holds;
+}
 
 module _ {O A : Type 0} (object : Sequential O) where
   -- a line that does not ask for the state prints what was told since
@@ -48,7 +55,9 @@ module _ {O A : Type 0} (object : Sequential O) where
     (
       subst (λ (s : RunView A). Does object l.line s new) h.0 does,
       (refl, refl),
-      ap (λ t. t ++ text_of object l.line mid.played new.played) h.1 ∙ (ap (λ (s : RunView A). text_of object l.line s.played new.played) h.0 ∙ sym (append-nil (text_of object l.line old.played new.played))),
+      ap (λ t. t ++ text_of object l.line mid.played new.played) h.1
+          ∙ (ap (λ (s : RunView A). text_of object l.line s.played new.played) h.0
+          ∙ sym (append-nil (text_of object l.line old.played new.played))),
     ),
   )
   Runs-snoc (x ∷ ls) l old mid new a h does = (
@@ -57,15 +66,21 @@ module _ {O A : Type 0} (object : Sequential O) where
     (
       h.2.0,
       Runs-snoc ls l h.0 mid new h.1 h.2.1 does,
-      ap (λ t. t ++ text_of object l.line mid.played new.played) h.2.2 ∙ append_assoc (text_of object x.line old.played h.0.played) h.1 (text_of object l.line mid.played new.played),
+      ap (λ t. t ++ text_of object l.line mid.played new.played) h.2.2
+          ∙ append_assoc (text_of object x.line old.played h.0.played) h.1 (text_of object l.line mid.played new.played),
     ),
   )
 
   -- some lines are done, and the next breaks off
-  breaks_behind : (done : List (Numbered A)) (line : Numbered A) (others : List (Numbered A)) (old mid new : RunView A) (a : List ℕ) → Runs object done old mid a → Breaks object line.line mid new
+  breaks_behind : (done : List (Numbered A)) (line : Numbered A) (others : List (Numbered A))
+      (old mid new : RunView A) (a : List ℕ) → Runs object done old mid a → Breaks object line.line mid new
       → BreaksRun object (done ++ line ∷ others) old new (a ++ text_of object line.line mid.played new.played)
   breaks_behind [] line others old mid new a h breaks =
-      inl (subst (λ (s : RunView A). Breaks object line.line s new) h.0 breaks, ap (λ t. t ++ text_of object line.line mid.played new.played) h.1 ∙ ap (λ (s : RunView A). text_of object line.line s.played new.played) h.0)
+      inl (
+        subst (λ (s : RunView A). Breaks object line.line s new) h.0 breaks,
+        ap (λ t. t ++ text_of object line.line mid.played new.played) h.1
+            ∙ ap (λ (s : RunView A). text_of object line.line s.played new.played) h.0,
+      )
   breaks_behind (x ∷ ls) line others old mid new a h breaks =
       inr (
         h.0,
@@ -73,27 +88,37 @@ module _ {O A : Type 0} (object : Sequential O) where
         (
           h.2.0,
           breaks_behind ls line others h.0 mid new h.1 h.2.1 breaks,
-          ap (λ t. t ++ text_of object line.line mid.played new.played) h.2.2 ∙ append_assoc (text_of object x.line old.played h.0.played) h.1 (text_of object line.line mid.played new.played),
+          ap (λ t. t ++ text_of object line.line mid.played new.played) h.2.2
+              ∙ append_assoc (text_of object x.line old.played h.0.played) h.1
+              (text_of object line.line mid.played new.played),
         ),
       )
 
   -- the line after these breaks off
-  pub broken_run : (lines done : List (Numbered A)) (line : Numbered A) (old mid new : RunView A) (a : List ℕ) → done ≡ take (length done) lines → length done < length lines → line ≡ get_or lines (length done) line
+  pub broken_run : (lines done : List (Numbered A)) (line : Numbered A) (old mid new : RunView A) (a : List ℕ)
+      → done ≡ take (length done) lines → length done < length lines → line ≡ get_or lines (length done) line
       → Runs object done old mid a → Breaks object line.line mid new → BreaksRun object lines old new (a ++ text_of object line.line mid.played new.played)
   broken_run lines done line old mid new a first within at h breaks =
       let whole : lines ≡ done ++ line ∷ drop (length done + 1) lines =
-      sym (ap (λ (ls : List (Numbered A)). ls ++ line ∷ drop (length done + 1) lines) first ∙ (ap (λ (ls : List (Numbered A)). take (length done) lines ++ ls) (sym (drop-next lines (length done) line within at)) ∙ take-append-drop (length done) lines)) in
-      subst (λ (ls : List (Numbered A)). BreaksRun object ls old new (a ++ text_of object line.line mid.played new.played)) (sym whole) (breaks_behind done line (drop (length done + 1) lines) old mid new a h breaks)
+      sym (ap (λ (ls : List (Numbered A)). ls ++ line ∷ drop (length done + 1) lines) first
+      ∙ (ap (λ (ls : List (Numbered A)). take (length done) lines ++ ls)
+      (sym (drop-next lines (length done) line within at)) ∙ take-append-drop (length done) lines)) in
+      subst (λ (ls : List (Numbered A)). BreaksRun object ls old new
+      (a ++ text_of object line.line mid.played new.played)) (sym whole)
+      (breaks_behind done line (drop (length done + 1) lines) old mid new a h breaks)
 
 -- ---- what was told
 
-one_told : {A : Type 0} (told : List (Told A)) (k : ℕ) (x : Told A) → slice_get told k ≡ Some x → told_text (take k told) ++ line_of (one_text x) ≡ told_text (take (suc k) told)
+one_told : {A : Type 0} (told : List (Told A)) (k : ℕ) (x : Told A) → slice_get told k ≡ Some x
+    → told_text (take k told) ++ line_of (one_text x) ≡ told_text (take (suc k) told)
 one_told [] k x e = absurd cc
 one_told (y ∷ ys) zero x e = let same : y ≡ x = cc in ap (λ z. line_of (one_text z)) (sym same) ∙ sym (append-nil (line_of (one_text y)))
-one_told (y ∷ ys) (suc k) x e = append_assoc (line_of (one_text y)) (told_text (take k ys)) (line_of (one_text x)) ∙ ap (λ t. line_of (one_text y) ++ t) (one_told ys k x e)
+one_told (y ∷ ys) (suc k) x e = append_assoc (line_of (one_text y)) (told_text (take k ys)) (line_of (one_text x))
+    ∙ ap (λ t. line_of (one_text y) ++ t) (one_told ys k x e)
 
 -- one more was told
-pub told_more : {A : Type 0} (old mid new : Option (List ℕ)) (told : List (Told A)) (k : ℕ) (x : Told A) → slice_get told k ≡ Some x → Appends old mid (told_text (take k told)) → Appends mid new (line_of (one_text x))
+pub told_more : {A : Type 0} (old mid new : Option (List ℕ)) (told : List (Told A)) (k : ℕ) (x : Told A)
+    → slice_get told k ≡ Some x → Appends old mid (told_text (take k told)) → Appends mid new (line_of (one_text x))
     → Appends old new (told_text (take (k + 1) told))
 told_more old mid new told k x e first then =
     let all = Appends-trans old mid new (told_text (take k told)) (line_of (one_text x)) first then in
@@ -125,10 +150,21 @@ at_true (Ok b) P h e = let same : b ≡ true = cc in h same
 at_true (Err x) P h e = absurd cc
 
 -- a text of a run, and whether it is legal
-pub whole_text : {O A : Type 0} (object : Sequential O) (group : Group) (is_checked : Bool) (lines : List (Numbered A)) (old mid new : Option (List ℕ)) (opening ran : RunView A) (verdict : List ℕ) → opening ≡ run_opening group
-    → Prints old mid (λ text. Runs object lines opening ran text) → Appends mid new verdict → verdict ≡ legal_line is_checked → (is_checked ≡ true → IsLegal object ran.played) → Prints old new (IsTextOf object group is_checked lines)
+pub whole_text : {O A : Type 0} (object : Sequential O) (group : Group) (is_checked : Bool)
+    (lines : List (Numbered A)) (old mid new : Option (List ℕ)) (opening ran : RunView A) (verdict : List ℕ)
+    → opening ≡ run_opening group
+    → Prints old mid (λ text. Runs object lines opening ran text) → Appends mid new verdict
+    → verdict ≡ legal_line is_checked → (is_checked ≡ true → IsLegal object ran.played)
+    → Prints old new (IsTextOf object group is_checked lines)
 whole_text object group is_checked lines old mid new opening ran verdict first p q is legal = record {
   text = p.text ++ verdict;
   appended = Appends-trans old mid new p.text verdict p.appended q;
-  holds = record { ran = ran; told = p.text; runs = subst (λ (r : RunView _). Runs object lines r ran p.text) first p.holds; legal = legal; whole = ap (λ v. p.text ++ v) is };
+  holds = record {
+    ran = ran;
+    told = p.text;
+    runs = subst (λ (r : RunView _). Runs object lines r ran p.text)
+        first p.holds;
+    legal = legal;
+    whole = ap (λ v. p.text ++ v) is;
+  };
 }

@@ -59,4 +59,5 @@ state_text Stopped = codes "stopped"
 -- a node's state, its last installed ring, and how much of its log is committed
 abbrev pub node_text : ℕ → State → RingId → ℕ → ℕ → List ℕ
 node_text number state ring committed log =
-    codes "node " ++ decimal number ++ codes " " ++ state_text state ++ codes " " ++ ring_text ring ++ codes " committed " ++ decimal committed ++ codes " log " ++ decimal log
+    codes "node " ++ decimal number ++ codes " " ++ state_text state ++ codes " " ++ ring_text ring
+    ++ codes " committed " ++ decimal committed ++ codes " log " ++ decimal log

@@ -1,6 +1,7 @@
 -- What the lines of a script do to a run, and what they print.
 -- Scripts, and What a script prints, of docs/FORMATS.md.
-use Rattle.std.specs.Prelude.{◌≡◌, ℕ, zero, suc, ◌<◌, ◌≤◌, ◌⊎◌, Bool, true, false, List, [], ◌∷◌, ◌++◌, length, drop, Option, Some, None, unwrap_or, Result, Ok, Err, ⊤}
+use Rattle.std.specs.Prelude.{◌≡◌, ℕ, zero, suc, ◌<◌, ◌≤◌, ◌⊎◌, Bool, true, false, List, [], ◌∷◌, ◌++◌, length, drop}
+use Rattle.std.specs.Prelude.{Option, Some, None, unwrap_or, Result, Ok, Err, ⊤}
 use Rattle.std.specs.Io.KnownBytes.{Appends}
 use Rattle.ring_base.specs.Group.{Group}
 use Rattle.ring_object.specs.Operations.{Sequential}
@@ -170,7 +171,8 @@ module _ {O : Type 0} (object : Sequential O) where
   -- what the lines of a script ask for is done, one after another, and printed
   abbrev pub Runs : {A : Type 0} → List (Numbered A) → RunView A → RunView A → List ℕ → Type 0
   Runs [] old new text = (new ≡ old) × (text ≡ [])
-  Runs {A} (l ∷ ls) old new text = (mid : RunView A) × (others : List ℕ) × (Does l.line old mid × Runs ls mid new others × (text ≡ text_of l.line old.played mid.played ++ others))
+  Runs {A} (l ∷ ls) old new text = (mid : RunView A) × (others : List ℕ)
+      × (Does l.line old mid × Runs ls mid new others × (text ≡ text_of l.line old.played mid.played ++ others))
 
   -- some of the lines are done and printed, and the next breaks off
   abbrev pub BreaksRun : {A : Type 0} → List (Numbered A) → RunView A → RunView A → List ℕ → Type 0

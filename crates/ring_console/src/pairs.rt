@@ -66,7 +66,8 @@ impl Pairs {
         ensures same { pairs_from self.new (frames_of O.sequential world.now) ≡ pairs_from self.old (frames_of O.sequential world.now) }
         ensures reached { IsReached self.new (frames_of O.sequential world.now) }
         ensures next { result ≡ true → self.new.frame ≡ self.old.frame + 1 }
-        ensures last { result ≡ false → Takes (pairs_from self.old (frames_of O.sequential world.now)) None (pairs_from self.new (frames_of O.sequential world.now)) }
+        ensures last { result ≡ false → Takes (pairs_from self.old (frames_of O.sequential world.now)) None
+            (pairs_from self.new (frames_of O.sequential world.now)) }
     {
         let Some(number) = self.frame.checked_add(1) else {
             return false;

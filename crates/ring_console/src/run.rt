@@ -9,7 +9,8 @@ ghost use Rattle.ring_report.specs.declared.failure.Failure.TheVariants.{Output}
 ghost use Rattle.ring_script.specs.Fits.{IsFit, AreFit};
 ghost use Rattle.ring_console.specs.Pairs.{hears, Takes};
 ghost use Rattle.ring_console.specs.Printed.{told_text};
-ghost use Rattle.ring_console.specs.Running.{run_opening, Prints, UnlessOutput, Rests, Happens, Turns, BreaksTurn, Comes, Pumps, BreaksPump, Ends, EndsRun, text_of, show_text};
+ghost use Rattle.ring_console.specs.Running.{run_opening, Prints, UnlessOutput, Rests, Happens, Turns, BreaksTurn};
+ghost use Rattle.ring_console.specs.Running.{Comes, Pumps, BreaksPump, Ends, EndsRun, text_of, show_text};
 
 use crate::pairs::{Pair, Pairs};
 use crate::printed::{print_node, print_order, print_told};
@@ -73,7 +74,8 @@ impl<O: Object> Run<O> {
     /// `Refused` with `Memory`, where that is refused to the world itself: what was done before stays done, and is printed.
     pub fn take<W: Write>(&mut self, script: Script<O::Alloc>, out: &mut W) -> Result<(), Failure>
         requires { AreFit script.lines.items }
-        ensures { UnlessOutput result (Prints (W.contents out.old) (W.contents out.new) (λ text. EndsRun O.sequential result script.lines.items self.old self.new text)) }
+        ensures { UnlessOutput result (Prints (W.contents out.old) (W.contents out.new)
+            (λ text. EndsRun O.sequential result script.lines.items self.old self.new text)) }
     {
         for numbered in script.lines {
             self.take_line(numbered.line, out)?;

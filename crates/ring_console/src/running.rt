@@ -109,7 +109,8 @@ fn run_script<A: Allocator + Copy + Drop, W: Write>(
 ) -> Result<bool, Failure>
     requires { AreFit script.lines.items }
     ensures { let object = ⟦<Things<A> as Object>⟧ in
-        IfOk result (λ is_legal. is_legal ≡ true → Prints (W.contents out.old) (W.contents out.new) (IsTextOf object.sequential script.nodes is_checked script.lines.items)) }
+        IfOk result (λ is_legal. is_legal ≡ true → Prints (W.contents out.old) (W.contents out.new)
+        (IsTextOf object.sequential script.nodes is_checked script.lines.items)) }
 {
     let mut run = Run::<Things<A>>::new(alloc, script.nodes)?;
     run.take(script, out)?;

@@ -10,7 +10,8 @@ use Rattle.ring_core.specs.Views.{mark}
 use Rattle.ring_core.specs.Visiting.{visited}
 use Rattle.ring_core.specs.Joining.{regathered, with_gathering, announced, invited, proposes}
 use Rattle.ring_core.specs.Handing.{proposed, filled, learned}
-use Rattle.ring_core.specs.Deciding.{Act, Ignore, Enqueue, Repeat, Announce, Invite, GiveUp, Regather, Agree, Widen, RegatherAndAgree, RegatherAndWiden, Take, Visit, Fill, Learn}
+use Rattle.ring_core.specs.Deciding.{Act, Ignore, Enqueue, Repeat, Announce, Invite, GiveUp, Regather, Agree, Widen}
+use Rattle.ring_core.specs.Deciding.{RegatherAndAgree, RegatherAndWiden, Take, Visit, Fill, Learn}
 
 -- nothing is sent
 abbrev pub silently : {A : Type 0} → Core A → Did A

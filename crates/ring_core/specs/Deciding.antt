@@ -1,4 +1,5 @@
--- The rule book's tests, what an input comes to by state: Rings and states, rule 8, and Timeouts, rule 2 of docs/PROTOCOL.md. What is done about it stands in `Acting`, which tests no input any more.
+-- The rule book's tests, what an input comes to by state: Rings and states, rule 8, and Timeouts, rule 2 of
+-- docs/PROTOCOL.md. What is done about it stands in `Acting`, which tests no input any more.
 use Rattle.std.specs.Prelude.{ℕ, Bool, true, false, ◌&&◌, ◌==◌, if◌then◌else◌}
 use Rattle.ring_base.specs.Rings.{same_ring}
 use Rattle.ring_base.specs.Processors.{has}

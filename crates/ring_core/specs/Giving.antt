@@ -1,4 +1,5 @@
--- What a step gives, in the order of Outputs, rule 1 of docs/PROTOCOL.md: what is sent, what is agreed and safe of the ring installed as the step began, and then, where a ring is installed, the two configurations with what they give.
+-- What a step gives, in the order of Outputs, rule 1 of docs/PROTOCOL.md: what is sent, what is agreed and safe of the
+-- ring installed as the step began, and then, where a ring is installed, the two configurations with what they give.
 use Rattle.std.specs.Prelude.{ℕ, ◌+◌, ◌-◌, Bool, true, false, not, ◌==◌, nat_lt, if◌then◌else◌, List, [], ◌∷◌, ◌++◌, map, filter, filter_map}
 use Rattle.ring_base.specs.Numbers.{numbers_from}
 use Rattle.ring_base.specs.Processors.{nobody}

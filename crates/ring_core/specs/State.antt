@@ -1,4 +1,6 @@
--- A processor's ring core, what it is now and all that ever happened to it: Rings and states, rules 3 to 6 of docs/PROTOCOL.md. Each list of facts is newest first, and nothing ever leaves it: what the program forgets is never looked at again.
+-- A processor's ring core, what it is now and all that ever happened to it: Rings and states, rules 3 to 6 of
+-- docs/PROTOCOL.md. Each list of facts is newest first, and nothing ever leaves it: what the program forgets is never
+-- looked at again.
 use Rattle.std.specs.Prelude.{ℕ, List, [], ◌∷◌, Option, None}
 use Rattle.ring_base.specs.Processors.{only, everybody}
 use Rattle.ring_base.specs.declared.ring_id.RingId.{RingId}

@@ -1,5 +1,6 @@
 -- What is due by what a core tells of a ring: Parts of the log that the node had before the ring, and calls; and nothing but in a primary ring that runs.
-use Rattle.std.proofs.Common.{◌≡◌, ℕ, zero, suc, ◌*◌, ◌-◌, true, ◌==◌, ◌⊎◌, inl, inr, List, [], ◌∷◌, ◌++◌, map, take, drop, Option, Some, None, refl, ap, ◌∙◌, subst}
+use Rattle.std.proofs.Common.{◌≡◌, ℕ, zero, suc, ◌*◌, ◌-◌, true, ◌==◌, ◌⊎◌, inl, inr, List, [], ◌∷◌, ◌++◌, map, take}
+use Rattle.std.proofs.Common.{drop, Option, Some, None, refl, ap, ◌∙◌, subst}
 use Rattle.std.specs.List.{AllByRecursion as Each}
 use Rattle.std.proofs.lemmas.Bool.{cond_both}
 use Rattle.std.proofs.lemmas.List.{drop-drop, take-append-drop}
@@ -80,7 +81,8 @@ stated_follows me own old new = cond_both _ (parts_due me own (wanted new)) [] (
 calls_follow : {A : Type 0} → (own committed base : List (OneCall A)) (tickets : List (Asked A)) → Each (FollowsHead own) (calls_due tickets committed base)
 calls_follow own committed base tickets = any_each (FollowsHead own) _ _ (λ t. tt)
 
-whole_follows : {A : Type 0} → (own : List (OneCall A)) (n : Node A) (life : List (Stay A)) (old new : Exchange A) → Each (FollowsHead own) (due_when_whole n life old new)
+whole_follows : {A : Type 0} → (own : List (OneCall A)) (n : Node A) (life : List (Stay A)) (old new : Exchange A)
+    → Each (FollowsHead own) (due_when_whole n life old new)
 whole_follows own n life old new =
     cond_both _ (calls_due n.tickets (node_committed n) (log_of n.group life)) [] (Each (FollowsHead own))
     (λ e. calls_follow own (node_committed n) (log_of n.group life) n.tickets) (λ e. tt)

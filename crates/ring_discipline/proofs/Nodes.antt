@@ -40,7 +40,8 @@ use Rattle.ring_moves.proofs.Everywhere.{kept_step, kept_stop}
 use Rattle.ring_projection.proofs.Quiet.{queued, installs_same, quiet_send, stepped_is}
 use Rattle.ring_discipline.proofs.Telling.{events-append, may-append}
 use Rattle.ring_discipline.proofs.Dues.{IsDue, none_due}
-use Rattle.ring_discipline.proofs.Steps.{may_after, left_nil, Stands, rings_of, installed_rings, IsStep, stays_step, installs_step, installs_recovering, done_operates, operates}
+use Rattle.ring_discipline.proofs.Steps.{may_after, left_nil, Stands, rings_of, installed_rings, IsStep, stays_step}
+use Rattle.ring_discipline.proofs.Steps.{installs_step, installs_recovering, done_operates, operates}
 
 -- Payloads handed to a core change its queue alone
 
@@ -83,10 +84,13 @@ core_step {A} n s older input h rings o =
     let c = n.core in
     let d = done c (decide c input) in
     let k = keeps_done c input o in
-    by_install n s older d h k.keeps.installed k.keeps.installs rings (k.keeps.marks c.installed.ring) (λ e. done_operates c (decide c input) e) k.ordered (may_install d.core) refl
+    by_install n s older d h k.keeps.installed k.keeps.installs rings (k.keeps.marks c.installed.ring)
+    (λ e. done_operates c (decide c input) e) k.ordered (may_install d.core) refl
   where
     by_install : (n : Node A) (s : Stay A) (older : List (Stay A)) (d : Did A) → Stands n.group n.core s s.sent → d.core.installed ≡ n.core.installed →
-        d.core.installs ≡ n.core.installs → rings_of (s ∷ older) ≡ installed_rings n.core.installs → mark n.core n.core.installed.ring ≤ mark d.core n.core.installed.ring → (d.core.state ≡ Operational → n.core.state ≡ Operational) → Ordered d.core →
+        d.core.installs ≡ n.core.installs → rings_of (s ∷ older) ≡ installed_rings n.core.installs
+        → mark n.core n.core.installed.ring ≤ mark d.core n.core.installed.ring
+        → (d.core.state ≡ Operational → n.core.state ≡ Operational) → Ordered d.core →
         (b : Bool) → may_install d.core ≡ b →
         IsStep n (settle b d.core (sent d.sends ++ given n.core d.core)).core (s ∷ older) (settle b d.core (sent d.sends ++ given n.core d.core)).outs
     by_install n s older d h same kept rings rises operated o false e = stays_step n s older d.core d.sends h rises same kept rings operated
@@ -154,7 +158,8 @@ settles : {O A : Type 0} → (object : Sequential O) (n : Node A) (t : Bool) (co
 settles object n false core outs o b = stops_orderly n o
 settles object n true core outs o b = b
 
-after_input : {O A : Type 0} → (object : Sequential O) (n : Node A) (input : Input A) → IsOrderlyNode n → Becomes n (after_core object n (ring_step n.core input)).node
+after_input : {O A : Type 0} → (object : Sequential O) (n : Node A) (input : Input A) → IsOrderlyNode n
+    → Becomes n (after_core object n (ring_step n.core input)).node
 after_input {O} {A} object n input o =
     let s = ring_step n.core input in
     let t : IsStep n s.core n.life s.outs =
@@ -218,7 +223,8 @@ last_primary {A} group s older h ring e r = cond_both (is_primary group s.member
 
 -- where an adopted ring runs, something was handed over there
 adopted_opened : {A : Type 0} → (n : Node A) (o : IsOrderlyNode n) → runs_adopted n ≡ true → o.stay.sent ≡ [] → ⊥
-adopted_opened {A} n o e none = by_last (last_of n.group (o.stay ∷ o.older)) refl (subst (λ (l : List (Stay A)). runs_some n.core (last_of n.group l) ≡ true) o.life e)
+adopted_opened {A} n o e none = by_last (last_of n.group (o.stay ∷ o.older)) refl
+    (subst (λ (l : List (Stay A)). runs_some n.core (last_of n.group l) ≡ true) o.life e)
   where
     apart : Each (λ (t : Stay A). t.ring.seq < o.stay.ring.seq) o.older
     apart =

@@ -19,7 +19,8 @@ use Rattle.ring_core.specs.declared.out.Out.TheVariants.{Send as SendOut, Rest, 
 use Rattle.ring_core.specs.State.{Core, Sent, Did}
 use Rattle.ring_core.specs.Joining.{is_operational, proposes}
 use Rattle.ring_core.specs.Views.{front, mark, plan}
-use Rattle.ring_core.specs.Deciding.{Act, Ignore, Enqueue, Repeat, Announce, Invite, GiveUp, Regather, Agree, Widen, RegatherAndAgree, RegatherAndWiden, Take, Visit, Fill, Learn}
+use Rattle.ring_core.specs.Deciding.{Act, Ignore, Enqueue, Repeat, Announce, Invite, GiveUp, Regather, Agree, Widen}
+use Rattle.ring_core.specs.Deciding.{RegatherAndAgree, RegatherAndWiden, Take, Visit, Fill, Learn}
 use Rattle.ring_core.specs.Acting.{act, may_follow, proposed_after, done}
 use Rattle.ring_core.specs.Giving.{installs_in, install, addressed, sent, given, delivered_from, configured}
 use Rattle.ring_log.specs.Stays.{Stay, stay_in}
@@ -269,7 +270,8 @@ module _ {A : Type 0} (n : Node A) (s : Stay A) (older : List (Stay A)) (d : Cor
         lived_on = events-append (s ∷ older) t.events (Regular d.running.ring d.running.members ∷ u.events)
             ∙ ap (λ l. all_lived l (Regular d.running.ring d.running.members ∷ u.events)) t.lived_on ∙ u.lived_on;
         hand = subst (λ said. MayHandAfter n.group u.stay (t.stay ∷ older) said (due_by n (install d) (s ∷ older) (outs ++ configured d))) (sym u.sent_is)
-            (subst (λ x. MayHandFirst n.group u.stay (t.stay ∷ older) x) (sym due) (first_same n.group new u.stay (t.stay ∷ older) (first ++ more) (sym u.members_is) may));
+            (subst (λ x. MayHandFirst n.group u.stay (t.stay ∷ older) x) (sym due)
+            (first_same n.group new u.stay (t.stay ∷ older) (first ++ more) (sym u.members_is) may));
         stands = record {
           ring = u.ring_is;
           members = u.members_is;
@@ -286,5 +288,6 @@ module _ {A : Type 0} (n : Node A) (s : Stay A) (older : List (Stay A)) (d : Cor
 
       opens : (before : List (Stay A)) → is_primary n.group d.running.members ≡ true → due_at_regular n.group d.running.members before ≡ [] → ⊥
       opens before p e =
-          let f : Head (head_of_life n.group before) ∷ [] ≡ [] = sym (cond-true (is_primary n.group d.running.members) (Head (head_of_life n.group before) ∷ []) [] p) ∙ e in
+          let f : Head (head_of_life n.group before) ∷ [] ≡ [] = sym (cond-true (is_primary n.group d.running.members)
+          (Head (head_of_life n.group before) ∷ []) [] p) ∙ e in
           let x : ⊥ = cc in x

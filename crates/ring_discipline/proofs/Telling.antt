@@ -127,7 +127,8 @@ safe_by n core ring s older m upto below rises =
     (λ e. (safe_outs_told n core ring s older upto high, le_refl upto))
     (λ e. (none_told n core ring s older, high))
 
-safe_told : {A : Type 0} → (n : Node A) (core : Core A) (c : Core A) (ring : RingId) (s : Stay A) (older : List (Stay A)) (m : ℕ) → s.mark ≤ m → m ≤ mark c ring →
+safe_told : {A : Type 0} → (n : Node A) (core : Core A) (c : Core A) (ring : RingId) (s : Stay A)
+    (older : List (Stay A)) (m : ℕ) → s.mark ≤ m → m ≤ mark c ring →
     (t : IsTold n core ring s older (safe_from c ring m)) × (t.stay.mark ≤ mark c ring)
 safe_told n core c ring s older m below rises = safe_by n core ring s older m (mark c ring) below rises
 

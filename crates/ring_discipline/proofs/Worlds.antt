@@ -16,7 +16,8 @@ use Rattle.ring_machine.specs.Nodes.{Node, node_opening}
 use Rattle.ring_machine.specs.Stepping.{submit_fault}
 use Rattle.ring_history.specs.declared.event.Event.{Event}
 use Rattle.ring_history.specs.declared.event.Event.TheVariants.{Issue, Deliver, Noise, Timeout, Stop}
-use Rattle.ring_history.specs.Worlds.{World, put, world_opening, is_node, issued_or, issued_if, stopped_if, frame_at, stepped_if, handed_if, handed, happens, run}
+use Rattle.ring_history.specs.Worlds.{World, put, world_opening, is_node, issued_or, issued_if, stopped_if, frame_at}
+use Rattle.ring_history.specs.Worlds.{stepped_if, handed_if, handed, happens, run}
 use Rattle.ring_order.specs.Discipline.{KeepsDiscipline}
 use Rattle.ring_order.specs.Time.{AllMayHappen, LivesOn}
 use Rattle.ring_order.proofs.Living.{on-self, on-trans, events-on, events-orderly}
@@ -111,7 +112,8 @@ then_on group a b c f g =
       nodes = λ i. record { kept = (g.nodes i).kept; on = on-trans (a.nodes i).life (b.nodes i).life (c.nodes i).life (f.nodes i).on (g.nodes i).on };
     }
 
-pub run_on : {O A : Type 0} → (object : Sequential O) (group : Group) (w : World A) → AllKept group w → (events : List (Event A)) → AllGoOn group w (run object w events)
+pub run_on : {O A : Type 0} → (object : Sequential O) (group : Group) (w : World A) → AllKept group w
+    → (events : List (Event A)) → AllGoOn group w (run object w events)
 run_on object group w k [] = all_same group w k
 run_on object group w k (e ∷ events) =
     let one = event_on object group w k e in
@@ -136,15 +138,18 @@ opening_kept {A} group me =
       keeps = λ s older i. elim (i) [ inl e ↦ inl (ap (λ (t : Stay A). t.sent) (sym e.0)) | inr n ↦ absurd n ];
     }
 
-pub opened_on : {O A : Type 0} → (object : Sequential O) (group : Group) (events : List (Event A)) → AllGoOn group (world_opening group) (run object (world_opening group) events)
+pub opened_on : {O A : Type 0} → (object : Sequential O) (group : Group) (events : List (Event A))
+    → AllGoOn group (world_opening group) (run object (world_opening group) events)
 opened_on object group events = run_on object group (world_opening group) (opening_kept group) events
 
 -- The lives of the group's processors
 
-pub lives_keep : {O A : Type 0} → (object : Sequential O) (group : Group) (events : List (Event A)) → KeepsDiscipline group (lives_of (run object (world_opening group) events))
+pub lives_keep : {O A : Type 0} → (object : Sequential O) (group : Group) (events : List (Event A))
+    → KeepsDiscipline group (lives_of (run object (world_opening group) events))
 lives_keep {O} {A} object group events p =
     let w = run object (world_opening group) events in
-    cond_both (is_node w p) (w.nodes p).life [] (λ (l : List (Stay A)). IsOrderly group l) (λ e. ((opened_on object group events).nodes p).kept.keeps) (λ e s older i. absurd i)
+    cond_both (is_node w p) (w.nodes p).life [] (λ (l : List (Stay A)). IsOrderly group l)
+    (λ e. ((opened_on object group events).nodes p).kept.keeps) (λ e s older i. absurd i)
 
 pub lives_on : {O A : Type 0} → (object : Sequential O) (group : Group) (before later : List (Event A)) (i : ℕ) →
     LivesOn (lives_of (run object (world_opening group) before) i) (lives_of (run object (run object (world_opening group) before) later) i)

@@ -16,5 +16,6 @@ use ring_object::Object;
 pub fn discipline_law<O: Object>()
     ensures discipline { (group : Group) (events : List (Event O.Alloc)) → KeepsDiscipline group (lives_of (run O.sequential (world_opening group) events)) }
     ensures goes_on { (group : Group) (before later : List (Event O.Alloc)) (i : ℕ) →
-        LivesOn (lives_of (run O.sequential (world_opening group) before) i) (lives_of (run O.sequential (run O.sequential (world_opening group) before) later) i) }
+        LivesOn (lives_of (run O.sequential (world_opening group) before) i)
+        (lives_of (run O.sequential (run O.sequential (world_opening group) before) later) i) }
 {}

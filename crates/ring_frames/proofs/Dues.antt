@@ -26,7 +26,8 @@ use Rattle.ring_order.specs.Facts.{IsStay}
 use Rattle.ring_ticket.specs.Tickets.{Asked, unanswered}
 use Rattle.ring_machine.specs.Lives.{lived_through}
 use Rattle.ring_machine.specs.Nodes.{Node, node_committed, runs}
-use Rattle.ring_machine.specs.Dues.{due_at_regular, parts_due, due_when_stated, stands_in, calls_due, due_when_whole, due_between, due_in_stay, due_at_agreed, due_by}
+use Rattle.ring_machine.specs.Dues.{due_at_regular, parts_due, due_when_stated, stands_in, calls_due, due_when_whole}
+use Rattle.ring_machine.specs.Dues.{due_between, due_in_stay, due_at_agreed, due_by}
 use Rattle.ring_moves.proofs.Lists.{each-filter}
 use Rattle.ring_frames.proofs.Committed.{sound_stay}
 use Rattle.ring_frames.proofs.Logs.{HeardFits, StayFits, ExchangeFits, stay_exchange, WantedFits, wanted_fits, log_fits, head_fits, parts_fit}

@@ -20,7 +20,8 @@ use Rattle.ring_history.specs.declared.event.Event.{Event}
 use Rattle.ring_history.specs.declared.event.Event.TheVariants.{Issue, Deliver, Noise, Timeout, Stop}
 use Rattle.ring_history.specs.declared.told.Told.TheVariants.{Answer as ToldAnswer}
 use Rattle.ring_history.specs.Limits.{EventFits}
-use Rattle.ring_history.specs.Worlds.{World, world_opening, carried, replied, items_of, told_by, is_node, issued_or, issued_if, stopped_if, frame_at, stepped_if, handed_if, handed, happens, run}
+use Rattle.ring_history.specs.Worlds.{World, world_opening, carried, replied, items_of, told_by, is_node, issued_or}
+use Rattle.ring_history.specs.Worlds.{issued_if, stopped_if, frame_at, stepped_if, handed_if, handed, happens, run}
 use Rattle.ring_frames.proofs.Sends.{same_length, few_sends}
 use Rattle.ring_frames.proofs.Answers.{few_answers}
 use Rattle.ring_frames.proofs.Pending.{HasFew, pending_few}

@@ -1,5 +1,6 @@
 -- What was heard keeps the limits: so does each call of the log that it makes, and the Head and the Parts that state this log.
-use Rattle.std.proofs.Common.{◌≡◌, ℕ, zero, suc, ◌+◌, ◌-◌, ◌*◌, ◌/◌, ◌<◌, ◌≤◌, true, ◌==◌, List, [], ◌∷◌, ◌++◌, length, take, drop, Option, Some, None, refl, sym, subst, arith, length-take, length-drop}
+use Rattle.std.proofs.Common.{◌≡◌, ℕ, zero, suc, ◌+◌, ◌-◌, ◌*◌, ◌/◌, ◌<◌, ◌≤◌, true, ◌==◌, List, [], ◌∷◌, ◌++◌, length}
+use Rattle.std.proofs.Common.{take, drop, Option, Some, None, refl, sym, subst, arith, length-take, length-drop}
 use Rattle.std.specs.List.{AllByRecursion as Each}
 use Rattle.std.proofs.lemmas.Bool.{cond_both, leb-true}
 use Rattle.ring_base.specs.Fronts.{front_length}
@@ -22,7 +23,8 @@ use Rattle.ring_wire.specs.declared.message.Message.{Message}
 use Rattle.ring_log.specs.declared.stated.Stated.{Stated}
 use Rattle.ring_log.specs.declared.wanted.Wanted.{Wanted}
 use Rattle.ring_log.specs.Exchanges.{Exchange, opened, wanted_by, wanted, is_wanted, heard}
-use Rattle.ring_log.specs.Lives.{Whole, whole_from, after_all, exchanged, calls_in, base_on, own_base, log_by, log_of, last_by, last_of, committed_of, head_of_life, is_sound}
+use Rattle.ring_log.specs.Lives.{Whole, whole_from, after_all, exchanged, calls_in, base_on, own_base, log_by, log_of}
+use Rattle.ring_log.specs.Lives.{last_by, last_of, committed_of, head_of_life, is_sound}
 use Rattle.ring_log.specs.Parts.{nth_part, parts_between}
 use Rattle.ring_log.specs.Stays.{Stay}
 use Rattle.ring_order.proofs.Choosing.{chosen-is}

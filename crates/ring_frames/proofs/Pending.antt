@@ -1,5 +1,6 @@
 -- In every run a node has at most 64 tickets without an answer: a submit is refused at 64, and what is committed only grows.
-use Rattle.std.proofs.Common.{◌≡◌, ℕ, suc, ◌<◌, ◌≤◌, Bool, true, false, ◌==◌, List, [], ◌∷◌, ◌++◌, length, Option, Some, None, is_none, refl, ap, ◌∙◌, subst, arith}
+use Rattle.std.proofs.Common.{◌≡◌, ℕ, suc, ◌<◌, ◌≤◌, Bool, true, false, ◌==◌, List, [], ◌∷◌, ◌++◌, length, Option, Some}
+use Rattle.std.proofs.Common.{None, is_none, refl, ap, ◌∙◌, subst, arith}
 use Rattle.std.specs.Prelude.{nat_le, if◌then◌else◌}
 use Rattle.std.proofs.lemmas.Bool.{cond_both, eqb-true, leb-false}
 use Rattle.ring_base.specs.Fronts.{IsFront}
@@ -27,7 +28,8 @@ use Rattle.ring_machine.specs.Dues.{due_by}
 use Rattle.ring_machine.specs.Stepping.{walked, settled, node_step, submit_fault, due_by_submit, submitted}
 use Rattle.ring_history.specs.declared.event.Event.{Event}
 use Rattle.ring_history.specs.declared.event.Event.TheVariants.{Issue, Deliver, Noise, Timeout, Stop}
-use Rattle.ring_history.specs.Worlds.{World, put, world_opening, is_node, issued_or, issued_if, stopped_if, frame_at, stepped_if, handed_if, handed, happens, run}
+use Rattle.ring_history.specs.Worlds.{World, put, world_opening, is_node, issued_or, issued_if, stopped_if, frame_at}
+use Rattle.ring_history.specs.Worlds.{stepped_if, handed_if, handed, happens, run}
 use Rattle.ring_order.specs.Time.{LivesOn}
 use Rattle.ring_discipline.proofs.Worlds.{AllKept, run_on, opened_on}
 use Rattle.ring_frames.proofs.Answers.{few_more}

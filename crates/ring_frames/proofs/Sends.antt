@@ -1,5 +1,6 @@
 -- How many frames one step gives: what a visit sends again, its new messages and the token, or one frame, and perhaps a proposal.
-use Rattle.std.proofs.Common.{◌≡◌, ℕ, suc, ◌≤◌, inl, inr, Bool, true, false, ◌==◌, List, [], ◌∷◌, ◌++◌, length, Option, Some, None, refl, ap, sym, ◌∙◌, subst, arith, append_assoc}
+use Rattle.std.proofs.Common.{◌≡◌, ℕ, suc, ◌≤◌, inl, inr, Bool, true, false, ◌==◌, List, [], ◌∷◌, ◌++◌, length, Option}
+use Rattle.std.proofs.Common.{Some, None, refl, ap, sym, ◌∙◌, subst, arith, append_assoc}
 use Rattle.std.specs.Prelude.{filter, filter_map, map, not, nat_lt, ◌&&◌}
 use Rattle.std.specs.List.{AllByRecursion as Each, cons_option}
 use Rattle.std.proofs.lemmas.Bool.{cond_both}
@@ -23,7 +24,8 @@ use Rattle.ring_core.specs.declared.out.Out.TheVariants.{Send as SendOut, Agreed
 use Rattle.ring_core.specs.State.{Core, Sent, Did}
 use Rattle.ring_core.specs.Views.{mark}
 use Rattle.ring_core.specs.Visiting.{repeated, new_payloads, new_messages, forwarded, to_next, visited}
-use Rattle.ring_core.specs.Deciding.{Act, Ignore, Enqueue, Repeat, Announce, Invite, GiveUp, Regather, Agree, Widen, RegatherAndAgree, RegatherAndWiden, Take, Visit, Fill, Learn, decide}
+use Rattle.ring_core.specs.Deciding.{Act, Ignore, Enqueue, Repeat, Announce, Invite, GiveUp, Regather, Agree, Widen}
+use Rattle.ring_core.specs.Deciding.{RegatherAndAgree, RegatherAndWiden, Take, Visit, Fill, Learn, decide}
 use Rattle.ring_core.specs.Acting.{shown_again, may_follow, act, proposed_after, done}
 use Rattle.ring_core.specs.Joining.{proposes}
 use Rattle.ring_core.specs.Handing.{proposed}

@@ -21,7 +21,8 @@ use Rattle.ring_machine.specs.Stepping.{node_step, submit_fault, submitted}
 use Rattle.ring_history.specs.declared.event.Event.{Event}
 use Rattle.ring_history.specs.declared.event.Event.TheVariants.{Issue, Deliver, Noise, Timeout, Stop}
 use Rattle.ring_history.specs.Limits.{EventFits}
-use Rattle.ring_history.specs.Worlds.{World, put, world_opening, carried, is_node, issued_or, issued_if, stopped_if, frame_at, stepped_if, handed_if, handed, happens, run}
+use Rattle.ring_history.specs.Worlds.{World, put, world_opening, carried, is_node, issued_or, issued_if, stopped_if}
+use Rattle.ring_history.specs.Worlds.{frame_at, stepped_if, handed_if, handed, happens, run}
 use Rattle.ring_frames.proofs.Nodes.{NodeFits, node_opens, node_halts, stepped_fits, submitted_fits}
 
 -- the frame that was sent

@@ -1,5 +1,7 @@
 -- What the checker finds holds exactly of an order that explains the history.
-use Rattle.std.proofs.Common.{◌≡◌, ℕ, zero, suc, ◌+◌, ◌<◌, ◌≤◌, ◌==◌, ◌&&◌, ◌↔◌, Bool, true, false, List, [], ◌∷◌, ◌++◌, length, take, Option, Some, None, slice_get, slice_index_or, IsTrue, refl, ap, sym, subst, ◌∙◌, arith, add-one, length-append, inl, inr}
+use Rattle.std.proofs.Common.{◌≡◌, ℕ, zero, suc, ◌+◌, ◌<◌, ◌≤◌, ◌==◌, ◌&&◌, ◌↔◌, Bool, true, false, List, [], ◌∷◌, ◌++◌}
+use Rattle.std.proofs.Common.{length, take, Option, Some, None, slice_get, slice_index_or, IsTrue, refl, ap, sym, subst}
+use Rattle.std.proofs.Common.{◌∙◌, arith, add-one, length-append, inl, inr}
 use Rattle.std.specs.Str.{bytes_eq}
 use Rattle.std.proofs.lemmas.Bool.{eq-eqb}
 use Rattle.std.proofs.lemmas.Option.{slice_get_within}
@@ -64,10 +66,14 @@ pub right_at-replied : (places : List Place) (at k : ℕ) (r : List ℕ) (place 
     → (IsTrue issued ↔ AreIssuedBefore (take (at + 1) places) k) → IsTrue issued ↔ IsRightAt places at k r
 right_at-replied places at k r place issued is same before = (λ so. (place, is, same, before.0 so), λ right. before.1 right.3)
 
-pub right_at-other : (places : List Place) (at k : ℕ) (r : List ℕ) (place : Place) (same : Bool) → slice_get places at ≡ Some place → same ≡ false → (place.reply ≡ r → ⊥)
+pub right_at-other : (places : List Place) (at k : ℕ) (r : List ℕ) (place : Place) (same : Bool)
+    → slice_get places at ≡ Some place → same ≡ false → (place.reply ≡ r → ⊥)
     → IsTrue same ↔ IsRightAt places at k r
-right_at-other places at k r place same is not_same other =
-    (λ so. absurd (cc (so, not_same)), λ right. let found : Some place ≡ Some right.0 = sym is ∙ right.1 in let one : place ≡ right.0 = cc found in absurd (other (ap (λ (w : Place). w.reply) one ∙ right.2)))
+right_at-other places at k r place same is not_same other = (
+  λ so. absurd (cc (so, not_same)),
+  λ right. let found : Some place ≡ Some right.0 = sym is
+      ∙ right.1 in let one : place ≡ right.0 = cc found in absurd (other (ap (λ (w : Place). w.reply) one ∙ right.2)),
+)
 
 pub right_at-none : (places : List Place) (at k : ℕ) (r : List ℕ) → slice_get places at ≡ None → IsTrue false ↔ IsRightAt places at k r
 right_at-none places at k r is = (λ so. absurd (cc so), λ right. absurd (cc (is, right.1)))
@@ -82,9 +88,11 @@ content-next object o (d ∷ ds) (suc n) c at = content-next object (object.next
 
 -- the content after one more call
 pub content-step : {O A : Type 0} (object : Sequential O) (o more : O) (order : List (Call A)) (n : ℕ) (c : Call A) → StandsAt order n c
-    → o ≡ content_after object object.initial (take n (operations order)) → more ≡ object.next o c.op → more ≡ content_after object object.initial (take (n + 1) (operations order))
+    → o ≡ content_after object object.initial (take n (operations order)) → more ≡ object.next o c.op
+    → more ≡ content_after object object.initial (take (n + 1) (operations order))
 content-step object o more order n c at is done =
-    done ∙ ap (λ w. object.next w c.op) is ∙ sym (content-next object object.initial order n c at) ∙ ap (λ m. content_after object object.initial (take m (operations order))) (sym (add-one n))
+    done ∙ ap (λ w. object.next w c.op) is ∙ sym (content-next object object.initial order n c at)
+    ∙ ap (λ m. content_after object object.initial (take m (operations order))) (sym (add-one n))
 
 operation-at : {A : Type 0} (order : List (Call A)) (n : ℕ) (c : Call A) → StandsAt order n c → slice_index_or (operations order) n [] ≡ c.op
 operation-at [] n c at = absurd (cc at)
@@ -92,7 +100,8 @@ operation-at {A} (d ∷ ds) zero c at = let is : d ≡ c = cc at in ap (λ (w : 
 operation-at (d ∷ ds) (suc n) c at = operation-at ds n c at
 
 -- a place is what it has
-place-is : (place : Place) (issued : Option ℕ) (reply : List ℕ) → place.issued ≡ issued → place.reply ≡ reply → place ≡ record { issued = issued; reply = reply }
+place-is : (place : Place) (issued : Option ℕ) (reply : List ℕ) → place.issued ≡ issued → place.reply ≡ reply
+    → place ≡ record { issued = issued; reply = reply }
 place-is place issued reply first told =
     let of_issued : Option ℕ → Place = λ w. record { issued = w; reply = place.reply } in
     let of_reply : List ℕ → Place = λ w. record { issued = issued; reply = w } in
@@ -100,39 +109,49 @@ place-is place issued reply first told =
 
 module _ {O A : Type 0} (object : Sequential O) where
   -- one more place
-  pub places-push : (order : List (Call A)) (history : List (Item A)) (n : ℕ) (places : List Place) (o : O) (c : Call A) (place : Place) → ArePlaces object order history n places → StandsAt order n c
+  pub places-push : (order : List (Call A)) (history : List (Item A)) (n : ℕ) (places : List Place) (o : O)
+      (c : Call A) (place : Place) → ArePlaces object order history n places → StandsAt order n c
       → o ≡ content_after object object.initial (take n (operations order)) → place.issued ≡ first_issue history c → place.reply ≡ object.reply o c.op
       → ArePlaces object order history (n + 1) (places ++ place ∷ [])
   places-push order history n places o c place are at is issued replied = record {
     many = length-append places (place ∷ []) ∙ ap (λ m. m + 1) are.many;
-    each = λ q d within there. elim (below_or_not q n) as (λ _. slice_get (places ++ place ∷ []) q ≡ Some (record { issued = first_issue history d; reply = call_reply object order q })) [
-      | inl before ↦ front_get places (places ++ place ∷ []) q (record { issued = first_issue history d; reply = call_reply object order q }) (front_append places (place ∷ [])) (are.each q d before there)
-      | inr last ↦
-          let same : n ≡ q = omega (arith, within, last) in
-          let one : Some c ≡ Some d = sym at ∙ ap (slice_get order) same ∙ there in
-          let call : c ≡ d = cc one in
-          let told : place.reply ≡ call_reply object order n =
-          replied ∙ ap (λ w. object.reply w c.op) is ∙ ap (object.reply (content_after object object.initial (take n (operations order)))) (sym (operation-at order n c at)) in
-          let kept : place.reply ≡ call_reply object order q = told ∙ ap (call_reply object order) same in
-          let first : place.issued ≡ first_issue history d = issued ∙ ap (first_issue history) call in
-          let count : length places ≡ q = are.many ∙ same in
-          ap (slice_get (places ++ place ∷ [])) (sym count) ∙ get-push_last places place ∙ ap Some (place-is place (first_issue history d) (call_reply object order q) first kept)
-    ];
+    each = λ q d within there. elim (below_or_not q n) as (λ _. slice_get (places ++ place ∷ []) q ≡ Some
+        (record { issued = first_issue history d; reply = call_reply object order q })) [
+          | inl before ↦ front_get places (places ++ place ∷ []) q
+              (record { issued = first_issue history d; reply = call_reply object order q })
+              (front_append places (place ∷ [])) (are.each q d before there)
+          | inr last ↦
+              let same : n ≡ q = omega (arith, within, last) in
+              let one : Some c ≡ Some d = sym at ∙ ap (slice_get order) same ∙ there in
+              let call : c ≡ d = cc one in
+              let told : place.reply ≡ call_reply object order n =
+              replied ∙ ap (λ w. object.reply w c.op) is
+              ∙ ap (object.reply (content_after object object.initial (take n (operations order))))
+              (sym (operation-at order n c at)) in
+              let kept : place.reply ≡ call_reply object order q = told ∙ ap (call_reply object order) same in
+              let first : place.issued ≡ first_issue history d = issued ∙ ap (first_issue history) call in
+              let count : length places ≡ q = are.many ∙ same in
+              ap (slice_get (places ++ place ∷ [])) (sym count) ∙ get-push_last places place
+              ∙ ap Some (place-is place (first_issue history d) (call_reply object order q) first kept)
+        ];
   }
 
   -- ---- both ways
 
   -- the place of a call of the order
-  place-at : (order : List (Call A)) (history : List (Item A)) (places : List Place) (q : ℕ) (c : Call A) → ArePlaces object order history (length order) places → StandsAt order q c
+  place-at : (order : List (Call A)) (history : List (Item A)) (places : List Place) (q : ℕ) (c : Call A)
+      → ArePlaces object order history (length order) places → StandsAt order q c
       → slice_get places q ≡ Some (record { issued = first_issue history c; reply = call_reply object order q })
   place-at order history places q c are stands = are.each q c (slice_get_within order q c stands) stands
 
   -- a call that was issued before k
-  issued-at : (order : List (Call A)) (history : List (Item A)) (places : List Place) (n k q : ℕ) (c : Call A) → ArePlaces object order history (length order) places → StandsAt order q c → q < n
+  issued-at : (order : List (Call A)) (history : List (Item A)) (places : List Place) (n k q : ℕ) (c : Call A)
+      → ArePlaces object order history (length order) places → StandsAt order q c → q < n
       → AreIssuedBefore (take n places) k → (j : ℕ) × IsIssuedAt history c j × (j < k)
   issued-at order history places n k q c are stands within before =
       let place : Place = record { issued = first_issue history c; reply = call_reply object order q } in
-      let here = all-at (λ (w : Place). IsIssuedBefore w k) (take n places) q place before (get-take n places q place within (place-at order history places q c are stands)) in
+      let here = all-at (λ (w : Place). IsIssuedBefore w k) (take n places) q place before
+      (get-take n places q place within (place-at order history places q c are stands)) in
       let found = option-some (first_issue history c) (λ j. j < k) here in
       (found.0, first_issue-issued history c found.0 found.1, found.2)
 
@@ -144,7 +163,8 @@ module _ {O A : Type 0} (object : Sequential O) where
       (found.0, place_in-stands order c found.0 found.1, found.2)
 
   -- what passes the checks explains the history
-  pub checked-linear : (order : List (Call A)) (history : List (Item A)) (places : List Place) → IsNumbered order → ArePlaces object order history (length order) places
+  pub checked-linear : (order : List (Call A)) (history : List (Item A)) (places : List Place) → IsNumbered order
+      → ArePlaces object order history (length order) places
       → AreIssuedBefore places (length history) → AreRight order places history → IsLinearization object order history
   checked-linear order history places numbered are issued right = record {
     numbered = numbered;
@@ -155,7 +175,11 @@ module _ {O A : Type 0} (object : Sequential O) where
         (found.0, first_issue-issued history c found.0 found.1);
     replied = λ k c r at.
         let there = right-place order places k c r (right k (Reply c r) at) in
-        let found : Some there.2.0 ≡ Some (record { issued = first_issue history c; reply = call_reply object order there.0 }) = sym there.2.1 ∙ place-at order history places there.0 c are there.1 in
+        let found : Some there.2.0 ≡ Some (record {
+          issued = first_issue history c;
+          reply = call_reply object order there.0;
+        }) = sym there.2.1
+        ∙ place-at order history places there.0 c are there.1 in
         let place : there.2.0 ≡ record { issued = first_issue history c; reply = call_reply object order there.0 } = cc found in
         (there.0, there.1, sym (ap (λ (w : Place). w.reply) place) ∙ there.2.2);
     ordered = λ k a b r q at late stands.
@@ -173,12 +197,14 @@ module _ {O A : Type 0} (object : Sequential O) where
       → IsLinearization object order history → AreIssuedBefore places (length history)
   linear-issued order history places are linear = all-from_places (λ (w : Place). IsIssuedBefore w (length history)) places (λ k place at.
       let stands = has-place order k (omega (arith, slice_get_within places k place at, are.many)) in
-      let found : Some (record { issued = first_issue history stands.0; reply = call_reply object order k }) ≡ Some place = sym (place-at order history places k stands.0 are stands.1) ∙ at in
+      let found : Some (record { issued = first_issue history stands.0; reply = call_reply object order k })
+      ≡ Some place = sym (place-at order history places k stands.0 are stands.1) ∙ at in
       let is : record { issued = first_issue history stands.0; reply = call_reply object order k } ≡ place = cc found in
       let issued = linear.issued k stands.0 stands.1 in
       let least = first_issue-least history stands.0 issued.0 issued.1 in
       let within = slice_get_within history issued.0 (Issue stands.0) issued.1 in
-      subst (λ (w : Place). IsIssuedBefore w (length history)) is (some-option (first_issue history stands.0) (λ j. j < length history) least.0 least.1 (omega (arith, least.2, within))))
+      subst (λ (w : Place). IsIssuedBefore w (length history)) is (some-option (first_issue history stands.0)
+      (λ j. j < length history) least.0 least.1 (omega (arith, least.2, within))))
 
   -- a call up to the place of a replied one was issued before the reply
   linear-early : (order : List (Call A)) (history : List (Item A)) (k p q : ℕ) (c b : Call A) (r : List ℕ) → IsLinearization object order history
@@ -218,21 +244,28 @@ module _ {O A : Type 0} (object : Sequential O) where
       let there = take-get (p + 1) places q other here in
       let upto = take-within (p + 1) places q other here in
       let stands = has-place order q (omega (arith, slice_get_within places q other there, are.many)) in
-      let found : Some (record { issued = first_issue history stands.0; reply = call_reply object order q }) ≡ Some other = sym (place-at order history places q stands.0 are stands.1) ∙ there in
+      let found : Some (record { issued = first_issue history stands.0; reply = call_reply object order q })
+      ≡ Some other = sym (place-at order history places q stands.0 are stands.1) ∙ there in
       let is : record { issued = first_issue history stands.0; reply = call_reply object order q } ≡ other = cc found in
       let early = linear-early order history k p q c stands.0 r linear at replied.1 stands.1 (omega (arith, upto)) in
       subst (λ (w : Place). IsIssuedBefore w k) is (some-option (first_issue history stands.0) (λ j. j < k) early.0 early.1 early.2)) in
-      some-option (place_in order c) (λ at. IsRightAt places at k r) p (place_in-numbered order c p linear.numbered replied.1) (place, place-at order history places p c are replied.1, replied.2, before)
+      some-option (place_in order c) (λ at. IsRightAt places at k r) p
+      (place_in-numbered order c p linear.numbered replied.1)
+      (place, place-at order history places p c are replied.1, replied.2, before)
 
   -- where the calls were issued, the last check decides
-  pub explains-issued : (order : List (Call A)) (history : List (Item A)) (places : List Place) (issued right : Bool) → IsNumbered order → ArePlaces object order history (length order) places
+  pub explains-issued : (order : List (Call A)) (history : List (Item A)) (places : List Place) (issued right : Bool)
+      → IsNumbered order → ArePlaces object order history (length order) places
       → (IsTrue issued ↔ AreIssuedBefore places (length history)) → issued ≡ true → (IsTrue right ↔ AreRight order places history)
       → IsTrue right ↔ IsLinearization object order history
-  explains-issued order history places issued right numbered are before so rights =
-      (λ is. checked-linear order history places numbered are (before.0 so) (rights.0 is), λ linear. rights.1 (linear-right_items order history places are linear))
+  explains-issued order history places issued right numbered are before so rights = (
+    λ is. checked-linear order history places numbered are (before.0 so) (rights.0 is),
+    λ linear. rights.1 (linear-right_items order history places are linear),
+  )
 
   -- and where one was not, nothing else matters
-  pub explains-not_issued : (order : List (Call A)) (history : List (Item A)) (places : List Place) (issued : Bool) → ArePlaces object order history (length order) places
+  pub explains-not_issued : (order : List (Call A)) (history : List (Item A)) (places : List Place) (issued : Bool)
+      → ArePlaces object order history (length order) places
       → (IsTrue issued ↔ AreIssuedBefore places (length history)) → issued ≡ false
       → IsTrue issued ↔ IsLinearization object order history
   explains-not_issued order history places issued are before not_so =

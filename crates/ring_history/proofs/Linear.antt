@@ -30,7 +30,8 @@ pub below_or_not : (m n : ℕ) → (m < n) ⊎ (n ≤ m)
 below_or_not zero zero = inr (omega arith)
 below_or_not zero (suc n) = inl (omega arith)
 below_or_not (suc m) zero = inr (omega arith)
-below_or_not (suc m) (suc n) = elim (below_or_not m n) as (λ _. (suc m < suc n) ⊎ (suc n ≤ suc m)) [ inl l ↦ inl (omega (arith, l)) | inr l ↦ inr (omega (arith, l)) ]
+below_or_not (suc m) (suc n) = elim (below_or_not m n) as (λ _. (suc m < suc n) ⊎ (suc n ≤ suc m))
+    [ inl l ↦ inl (omega (arith, l)) | inr l ↦ inr (omega (arith, l)) ]
 
 -- calls that were issued stay issued
 issued-more : {A : Type 0} (history more : List (Item A)) (calls : List (Call A)) → AreIssued history calls → AreIssued (history ++ more) calls
@@ -71,13 +72,16 @@ module _ {O A : Type 0} (object : Sequential O) where
       → IsLinearization object order (history ++ Issue i ∷ [])
   linear-issue order history i linear =
       let before : (k : ℕ) (c : Call A) (r : List ℕ) → IsRepliedAt (history ++ Issue i ∷ []) c r k → IsRepliedAt history c r k =
-      λ k c r at. elim (get-push history (Issue i) k (Reply c r) at) as (λ _. IsRepliedAt history c r k) [ inl there ↦ there | inr last ↦ absurd (cc (last.1)) ] in
+      λ k c r at. elim (get-push history (Issue i) k (Reply c r) at) as (λ _. IsRepliedAt history c r k)
+      [ inl there ↦ there | inr last ↦ absurd (cc (last.1)) ] in
       record {
         numbered = linear.numbered;
         issued = issued-more history (Issue i ∷ []) order linear.issued;
         replied = λ k c r at. linear.replied k c r (before k c r at);
         ordered = λ k a b r q at late stands.
-            linear.ordered k a b r q (before k a r at) (λ j there. late j (front_get history (history ++ Issue i ∷ []) j (Issue b) (front_append history (Issue i ∷ [])) there)) stands;
+            linear.ordered k a b r q (before k a r at)
+            (λ j there. late j (front_get history (history ++ Issue i ∷ []) j (Issue b)
+            (front_append history (Issue i ∷ [])) there)) stands;
       }
 
   -- a call of the order may be replied with the object's reply there
@@ -94,7 +98,8 @@ module _ {O A : Type 0} (object : Sequential O) where
           subst (λ w. IsReplyIn object order d w) told (subst (λ w. IsReplyIn object order w r) call right)
     ];
     ordered = λ k a b s q at late stands.
-        let late_before : (j : ℕ) → IsIssuedAt history b j → k < j = λ j there. late j (front_get history (history ++ Reply c r ∷ []) j (Issue b) (front_append history (Reply c r ∷ [])) there) in
+        let late_before : (j : ℕ) → IsIssuedAt history b j → k < j = λ j there. late j
+        (front_get history (history ++ Reply c r ∷ []) j (Issue b) (front_append history (Reply c r ∷ [])) there) in
         elim (get-push history (Reply c r) k (Reply a s) at) as (λ _. (p : ℕ) × StandsAt order p a × (p < q)) [
           | inl there ↦ linear.ordered k a b s q there late_before stands
           | inr last ↦
@@ -120,4 +125,6 @@ module _ {O A : Type 0} (object : Sequential O) where
   linear-replies order history [] linear right = subst (IsLinearization object order) (sym (append-nil history)) linear
   linear-replies order history (item ∷ items) linear right =
       subst (IsLinearization object order) (append_assoc history (item ∷ []) items)
-      (linear-replies order (history ++ item ∷ []) items (linear-right order history item linear (All-head (IsRight order) item items right)) (All-tail (IsRight order) item items right))
+      (linear-replies order (history ++ item ∷ []) items
+      (linear-right order history item linear (All-head (IsRight order) item items right))
+      (All-tail (IsRight order) item items right))

@@ -1,5 +1,6 @@
 -- A run whose steps keep to the rules has one order, which only grows and explains the run's history at each moment.
-use Rattle.std.proofs.Common.{◌≡◌, ℕ, zero, suc, ◌≤◌, nat_lt, Bool, true, false, List, [], ◌∷◌, ◌++◌, length, Some, slice_get, All, refl, ap, sym, subst, arith, inl, inr, if◌then◌else◌}
+use Rattle.std.proofs.Common.{◌≡◌, ℕ, zero, suc, ◌≤◌, nat_lt, Bool, true, false, List, [], ◌∷◌, ◌++◌, length, Some}
+use Rattle.std.proofs.Common.{slice_get, All, refl, ap, sym, subst, arith, inl, inr, if◌then◌else◌}
 use Rattle.std.proofs.lemmas.Bool.Decides.{nat_tests}
 use Rattle.std.proofs.lemmas.List.Elements.{All-nil, All-cons, All-head, All-tail, All-replicate, All-weaker}
 use Rattle.ring_base.specs.Fronts.{IsFront, front_self, front_trans, front_shorter, front_length}
@@ -20,7 +21,8 @@ use Rattle.ring_history.proofs.Linear.{all-at, linear-nothing, linear-grows, lin
 longer-either : {X : Type 0} (P : List X → Type 0) (xs ys : List X) → P xs → P ys → P (longer xs ys)
 longer-either P xs ys at_first at_second = elim (nat_lt (length xs) (length ys)) as (λ b. P (if b then ys else xs)) [ true ↦ at_second | false ↦ at_first ]
 
-longer-cases : {X : Type 0} (xs ys : List X) (b : Bool) → nat_lt (length xs) (length ys) ≡ b → (length xs ≤ length (if b then ys else xs)) × (length ys ≤ length (if b then ys else xs))
+longer-cases : {X : Type 0} (xs ys : List X) (b : Bool) → nat_lt (length xs) (length ys) ≡ b
+    → (length xs ≤ length (if b then ys else xs)) × (length ys ≤ length (if b then ys else xs))
 longer-cases xs ys true is = (grind (arith, nat_tests), grind (arith, nat_tests))
 longer-cases xs ys false is = (grind (arith, nat_tests), grind (arith, nat_tests))
 
@@ -28,7 +30,8 @@ length-longer : {X : Type 0} (xs ys : List X) → (length xs ≤ length (longer 
 length-longer xs ys = longer-cases xs ys (nat_lt (length xs) (length ys)) refl
 
 -- the order has no more than the log, of which all committed calls are fronts
-order_of-front : {A : Type 0} (log : List (Call A)) (committed : List (List (Call A))) → All (λ calls. IsFront calls log) committed → IsFront (order_of committed) (deduplicated log)
+order_of-front : {A : Type 0} (log : List (Call A)) (committed : List (List (Call A)))
+    → All (λ calls. IsFront calls log) committed → IsFront (order_of committed) (deduplicated log)
 order_of-front log [] fronts = (deduplicated log, refl)
 order_of-front {A} log (calls ∷ rest) fronts =
     let IsFrontOf : List (Call A) → Type 0 = λ w. IsFront w log in
@@ -36,7 +39,8 @@ order_of-front {A} log (calls ∷ rest) fronts =
     (deduplicated-front calls log (All-head IsFrontOf calls rest fronts)) (order_of-front log rest (All-tail IsFrontOf calls rest fronts))
 
 -- the order is at least as long as what takes effect of each node's committed calls
-order_of-length : {A : Type 0} (committed : List (List (Call A))) (node : ℕ) (calls : List (Call A)) → slice_get committed node ≡ Some calls → length (deduplicated calls) ≤ length (order_of committed)
+order_of-length : {A : Type 0} (committed : List (List (Call A))) (node : ℕ) (calls : List (Call A))
+    → slice_get committed node ≡ Some calls → length (deduplicated calls) ≤ length (order_of committed)
 order_of-length [] node calls at = absurd (cc at)
 order_of-length (first ∷ rest) zero calls at =
     let same : first ≡ calls = cc at in
@@ -51,7 +55,8 @@ order_of-numbered [] = λ p c at. absurd (cc at)
 order_of-numbered (calls ∷ rest) = longer-either IsNumbered (deduplicated calls) (order_of rest) (deduplicated-numbered calls) (order_of-numbered rest)
 
 -- each call of the order was issued, where each committed call was
-order_of-issued : {A : Type 0} (history : List (Item A)) (committed : List (List (Call A))) → All (AreIssued history) committed → AreIssued history (order_of committed)
+order_of-issued : {A : Type 0} (history : List (Item A)) (committed : List (List (Call A)))
+    → All (AreIssued history) committed → AreIssued history (order_of committed)
 order_of-issued history [] issued = λ p c at. absurd (cc at)
 order_of-issued {A} history (calls ∷ rest) issued =
     let first : AreIssued history calls = All-head (AreIssued history) calls rest issued in
@@ -60,7 +65,8 @@ order_of-issued {A} history (calls ∷ rest) issued =
     (order_of-issued history rest (All-tail (AreIssued history) calls rest issued))
 
 -- of what a node committed, the calls that take effect are a front of the order
-pub order_of-fronts : {A : Type 0} (committed : List (List (Call A))) (node : ℕ) (calls : List (Call A)) → AreOneLog committed → slice_get committed node ≡ Some calls
+pub order_of-fronts : {A : Type 0} (committed : List (List (Call A))) (node : ℕ) (calls : List (Call A))
+    → AreOneLog committed → slice_get committed node ≡ Some calls
     → IsFront (deduplicated calls) (order_of committed)
 order_of-fronts {A} committed node calls one at =
     front_shorter (deduplicated calls) (order_of committed) (deduplicated one.0)
@@ -69,7 +75,8 @@ order_of-fronts {A} committed node calls one at =
 
 -- ---- the order grows
 
-fronts-before : {A : Type 0} (log : List (Call A)) (committed after : List (List (Call A))) → EachGrows committed after → All (λ calls. IsFront calls log) after → All (λ calls. IsFront calls log) committed
+fronts-before : {A : Type 0} (log : List (Call A)) (committed after : List (List (Call A)))
+    → EachGrows committed after → All (λ calls. IsFront calls log) after → All (λ calls. IsFront calls log) committed
 fronts-before {A} log [] after grows fronts = All-nil (λ (w : List (Call A)). IsFront w log)
 fronts-before log (calls ∷ rest) [] grows fronts = absurd grows
 fronts-before {A} log (calls ∷ rest) (more ∷ others) grows fronts =
@@ -88,7 +95,8 @@ length-grows (calls ∷ rest) (more ∷ others) grows =
     (omega (arith, first, most.0)) (omega (arith, later, most.1))
 
 -- the order grows as the committed calls of the nodes do
-pub order_of-grows : {A : Type 0} (committed after : List (List (Call A))) → EachGrows committed after → AreOneLog after → IsFront (order_of committed) (order_of after)
+pub order_of-grows : {A : Type 0} (committed after : List (List (Call A))) → EachGrows committed after
+    → AreOneLog after → IsFront (order_of committed) (order_of after)
 order_of-grows committed after grows one =
     front_shorter (order_of committed) (order_of after) (deduplicated one.0)
     (order_of-front one.0 committed (fronts-before one.0 committed after grows one.1)) (order_of-front one.0 after one.1) (length-grows committed after grows)
@@ -106,22 +114,26 @@ opening-agrees {A} n = ([], All-replicate (λ (w : List (Call A)). IsFront w [])
 
 module _ {O A : Type 0} (object : Sequential O) where
   -- a reply that a node gave is the object's at the call's place in the order
-  pub told-right : (committed : List (List (Call A))) (c : Call A) (r : List ℕ) → AreOneLog committed → IsToldAt object committed c r → IsReplyIn object (order_of committed) c r
+  pub told-right : (committed : List (List (Call A))) (c : Call A) (r : List ℕ) → AreOneLog committed
+      → IsToldAt object committed c r → IsReplyIn object (order_of committed) c r
   told-right committed c r one told =
       replied_front object (deduplicated told.calls) (order_of committed) c r (order_of-fronts committed told.node told.calls one told.committed_there)
       (answered object told.calls told.place c told.answer r told.stands told.answered told.brings)
 
-  given-right : (committed : List (List (Call A))) (item : Item A) → AreOneLog committed → IsGiven object committed item → IsRight object (order_of committed) item
+  given-right : (committed : List (List (Call A))) (item : Item A) → AreOneLog committed
+      → IsGiven object committed item → IsRight object (order_of committed) item
   given-right committed (Issue c) one given = absurd given
   given-right committed (Reply c r) one given = told-right committed c r one given
 
   -- where only replies came, what is issued was issued before
-  issued_before : (committed : List (List (Call A))) (history items : List (Item A)) (c : Call A) (k : ℕ) → All (IsGiven object committed) items → IsIssuedAt (history ++ items) c k → IsIssuedAt history c k
+  issued_before : (committed : List (List (Call A))) (history items : List (Item A)) (c : Call A) (k : ℕ)
+      → All (IsGiven object committed) items → IsIssuedAt (history ++ items) c k → IsIssuedAt history c k
   issued_before committed [] items c k given at = absurd (all-at (IsGiven object committed) items k (Issue c) given at)
   issued_before committed (item ∷ history) items c zero given at = at
   issued_before committed (item ∷ history) items c (suc k) given at = issued_before committed history items c k given at
 
-  step-added : (order more : List (Call A)) (committed : List (List (Call A))) (history items : List (Item A)) → IsLinearization object order history → IsFront order more → IsNumbered more
+  step-added : (order more : List (Call A)) (committed : List (List (Call A))) (history items : List (Item A))
+      → IsLinearization object order history → IsFront order more → IsNumbered more
       → AreIssued (history ++ items) more → ((item : Item A) → IsGiven object committed item → IsRight object more item)
       → IsAdded object committed items → IsLinearization object more (history ++ items)
   step-added order more committed history items linear front numbered issued right added = elim added [
@@ -147,7 +159,8 @@ module _ {O A : Type 0} (object : Sequential O) where
       (λ item given. given-right after.committed item step.agrees given) step.added.2)
 
   -- a run keeps it too
-  pub linear-run : (moment : Moment A) (rest : List (Moment A)) → IsOrderRun object moment rest → IsLinearization object (order_of moment.committed) moment.history
+  pub linear-run : (moment : Moment A) (rest : List (Moment A)) → IsOrderRun object moment rest
+      → IsLinearization object (order_of moment.committed) moment.history
       → IsLinearization object (order_of (last_moment moment rest).committed) (last_moment moment rest).history
   linear-run moment [] run linear = linear
   linear-run moment (after ∷ rest) run linear = linear-run after rest run.1 (linear-step moment after run.0 linear)
@@ -157,13 +170,15 @@ module _ {O A : Type 0} (object : Sequential O) where
   linear-opening n = subst (λ w. IsLinearization object w []) (sym (order_of-opening n)) (linear-nothing object)
 
   -- the order grows along a run
-  pub order-run : (moment : Moment A) (rest : List (Moment A)) → IsOrderRun object moment rest → IsFront (order_of moment.committed) (order_of (last_moment moment rest).committed)
+  pub order-run : (moment : Moment A) (rest : List (Moment A)) → IsOrderRun object moment rest
+      → IsFront (order_of moment.committed) (order_of (last_moment moment rest).committed)
   order-run moment [] run = front_self (order_of moment.committed)
   order-run moment (after ∷ rest) run =
       front_trans (order_of moment.committed) (order_of after.committed) (order_of (last_moment after rest).committed)
       (order_of-grows moment.committed after.committed run.0.grows run.0.agrees) (order-run after rest run.1)
 
   -- the nodes go on agreeing along a run
-  pub agrees-run : (moment : Moment A) (rest : List (Moment A)) → IsOrderRun object moment rest → AreOneLog moment.committed → AreOneLog (last_moment moment rest).committed
+  pub agrees-run : (moment : Moment A) (rest : List (Moment A)) → IsOrderRun object moment rest
+      → AreOneLog moment.committed → AreOneLog (last_moment moment rest).committed
   agrees-run moment [] run agrees = agrees
   agrees-run moment (after ∷ rest) run agrees = agrees-run after rest run.1 run.0.agrees

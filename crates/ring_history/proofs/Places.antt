@@ -1,5 +1,7 @@
 -- Where the first element that passes a test stands, and what of a list its front keeps.
-use Rattle.std.proofs.Common.{◌≡◌, ℕ, zero, suc, ◌<◌, ◌≤◌, nat_lt, Bool, true, false, List, [], ◌∷◌, length, take, All, Option, Some, None, MatchOption, position, slice_get, get_or, refl, sym, subst, ap, ◌∙◌, arith, inl, inr}
+use Rattle.std.proofs.Common.{◌≡◌, ℕ, zero, suc, ◌<◌, ◌≤◌, nat_lt, Bool, true, false, List, [], ◌∷◌, length, take, All}
+use Rattle.std.proofs.Common.{Option, Some, None, MatchOption, position, slice_get, get_or, refl, sym, subst, ap, ◌∙◌}
+use Rattle.std.proofs.Common.{arith, inl, inr}
 use Rattle.std.specs.List.{position_or_len}
 use Rattle.std.proofs.lemmas.Bool.{cond-true}
 use Rattle.std.proofs.lemmas.Bool.Decides.{nat_tests}
@@ -52,7 +54,8 @@ position-found p (x ∷ xs) i is =
     (get_or (x ∷ xs) i x, slice_get-get_or (x ∷ xs) i x found.0, found.1)
 
 -- an element that passes stands no earlier than what the test finds
-pub position-least : {X : Type 0} (p : X → Bool) (xs : List X) (k : ℕ) (x : X) → slice_get xs k ≡ Some x → p x ≡ true → (i : ℕ) × (position p xs ≡ Some i) × (i ≤ k)
+pub position-least : {X : Type 0} (p : X → Bool) (xs : List X) (k : ℕ) (x : X) → slice_get xs k ≡ Some x → p x ≡ true
+    → (i : ℕ) × (position p xs ≡ Some i) × (i ≤ k)
 position-least p xs k x at passes =
     let within = slice_get_within xs k x at in
     let first = position_or_len p xs in

@@ -34,7 +34,8 @@ module _ {O : Type 0} (object : Sequential O) where
   -- Each place of the order, up to the nth, has where its call was first issued and the object's reply there.
   pub record ArePlaces {A : Type 0} (order : List (Call A)) (history : List (Item A)) (n : ℕ) (places : List Place) : Type 0 where
     pub many : length places ≡ n
-    pub each : (q : ℕ) (c : Call A) → q < n → StandsAt order q c → slice_get places q ≡ Some (record { issued = first_issue history c; reply = call_reply object order q })
+    pub each : (q : ℕ) (c : Call A) → q < n → StandsAt order q c → slice_get places q ≡ Some
+        (record { issued = first_issue history c; reply = call_reply object order q })
 
 -- the reply at place k of the history is the object's at this place of the order, and each call up to there was issued
 -- before

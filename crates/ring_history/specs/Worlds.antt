@@ -1,4 +1,5 @@
--- Worlds of nodes: the nodes, all frames ever sent, the history and what was told; how an event changes a world; and the order that it shows. Rings and states, rules 14 and 15, of docs/PROTOCOL.md.
+-- Worlds of nodes: the nodes, all frames ever sent, the history and what was told; how an event changes a world; and
+-- the order that it shows. Rings and states, rules 14 and 15, of docs/PROTOCOL.md.
 use Rattle.std.specs.Prelude.{ℕ, zero, suc, Bool, true, false, ◌&&◌, ◌==◌, nat_le, if◌then◌else◌, List, [], ◌∷◌, ◌++◌, map, Option, Some, None, slice_get}
 use Rattle.ring_base.specs.Fault.{fault_number}
 use Rattle.ring_base.specs.Group.{Group}

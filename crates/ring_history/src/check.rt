@@ -4,7 +4,8 @@ ghost use Rattle.std.specs.Prelude.{◌≡◌, ℕ, ◌+◌, ◌↔◌, IsTrue, 
 ghost use Rattle.ring_base.specs.declared.fault.Fault.TheVariants.{Memory};
 ghost use Rattle.ring_session.specs.Deduplicated.{count_of, IsNumbered};
 ghost use Rattle.ring_session.specs.SessionAnswer.{is_same};
-ghost use Rattle.ring_history.specs.Checks.{is_issue_of, first_issue, place_in, ArePlaces, IsIssuedBefore, AreIssuedBefore, IsRightAt, IsRightReply, IsRightItem, AreRight};
+ghost use Rattle.ring_history.specs.Checks.{is_issue_of, first_issue, place_in, ArePlaces, IsIssuedBefore};
+ghost use Rattle.ring_history.specs.Checks.{AreIssuedBefore, IsRightAt, IsRightReply, IsRightItem, AreRight};
 ghost use Rattle.ring_history.specs.Histories.{IsLinearization};
 
 use crate::item::Item;

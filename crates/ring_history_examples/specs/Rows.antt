@@ -1,4 +1,5 @@
--- Worked runs of worlds of nodes: a call in a ring of one, nine calls that are packed, and a call in a ring of three that forms by itself. The replicated log, rules 2 to 14, of docs/PROTOCOL.md.
+-- Worked runs of worlds of nodes: a call in a ring of one, nine calls that are packed, and a call in a ring of three
+-- that forms by itself. The replicated log, rules 2 to 14, of docs/PROTOCOL.md.
 use Rattle.std.specs.Prelude.{ℕ, zero, suc, ◌-◌, List, [], ◌∷◌, ◌++◌, length, map, drop, replicate}
 use Rattle.std.specs.declared.alloc.Global.{Global}
 use Rattle.ring_base.specs.Numbers.{numbers_from}

@@ -5,7 +5,9 @@ ghost use Rattle.std.specs.Prelude.{◌≡◌, length, [], ◌∷◌, None, Some
 ghost use Rattle.ring_session.specs.declared.answer.Answer.TheVariants.{Done};
 ghost use Rattle.ring_machine.specs.Nodes.{node_reply};
 ghost use Rattle.ring_history.specs.Worlds.{order};
-ghost use Rattle.ring_history_examples.specs.Rows.{world_of, counter, call_of_seven, done_at, refused_at, one_too_many, late_submit, strange_events, shown, sent_one, answered_one, sent_nine, answered_nine, answered_three};
+ghost use Rattle.ring_history_examples.specs.Rows.{world_of, counter, call_of_seven, done_at, refused_at, one_too_many};
+ghost use Rattle.ring_history_examples.specs.Rows.{late_submit, strange_events, shown, sent_one, answered_one};
+ghost use Rattle.ring_history_examples.specs.Rows.{sent_nine, answered_nine, answered_three};
 
 /// One node alone: a call is appended to its log at a visit, and committed and answered at the next.
 pub fn ring_of_one()

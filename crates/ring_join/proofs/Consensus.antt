@@ -18,7 +18,8 @@ any-later P x xs a = (suc a.0, a.1, (let l = a.2 in omega arith), a.3, a.4)
 abbrev Said : Gathering → ℕ → Join → Type 0
 Said g i j = (j.sender ≡ i) × SaysSame g j
 
-sender_said : (g : Gathering) (i : ℕ) (js : List Join) → AllByRecursion (λ (j : Join). 1 ≤ j.sender) js → AllByRecursion (SaysSame g) js → IsMember (senders js) i → Any (Said g i) js
+sender_said : (g : Gathering) (i : ℕ) (js : List Join) → AllByRecursion (λ (j : Join). 1 ≤ j.sender) js
+    → AllByRecursion (SaysSame g) js → IsMember (senders js) i → Any (Said g i) js
 sender_said g i [] p h m = absurd (nobody_member i m)
 sender_said g i (j ∷ js) p h m =
     elim ((union_members (only j.sender) (senders js) i).0 m) [
@@ -27,9 +28,11 @@ sender_said g i (j ∷ js) p h m =
     ]
 
 -- whose join stands at a place is among the senders
-sender_at : (g : Gathering) (i : ℕ) (js : List Join) (k : ℕ) (x : Join) → AllByRecursion (λ (j : Join). 1 ≤ j.sender) js → k < length js → slice_index_or js k x ≡ x → Said g i x → IsMember (senders js) i
+sender_at : (g : Gathering) (i : ℕ) (js : List Join) (k : ℕ) (x : Join) → AllByRecursion (λ (j : Join). 1 ≤ j.sender)
+    js → k < length js → slice_index_or js k x ≡ x → Said g i x → IsMember (senders js) i
 sender_at g i [] k x p l e q = absurd (omega arith)
-sender_at g i (j ∷ js) zero x p l e q = (union_members (only j.sender) (senders js) i).1 (inl ((only_members j.sender i p.0).1 (sym q.0 ∙ ap (λ (y : Join). y.sender) (sym e))))
+sender_at g i (j ∷ js) zero x p l e q = (union_members (only j.sender) (senders js) i).1
+    (inl ((only_members j.sender i p.0).1 (sym q.0 ∙ ap (λ (y : Join). y.sender) (sym e))))
 sender_at g i (j ∷ js) (suc k) x p l e q = (union_members (only j.sender) (senders js) i).1 (inr (sender_at g i js k x p.1 (omega arith) e q))
 
 pub consensus : (me : ℕ) (g : Gathering) → 1 ≤ me → AllAreProcs g → AllSaySame g → (has_consensus me g ≡ true) ↔ HasConsensus me g

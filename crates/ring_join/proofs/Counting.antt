@@ -17,7 +17,8 @@ says_same g j same =
     let both = and_parts _ _ same in
     record { proc_set = eqb-true _ _ both.0; fail_set = eqb-true _ _ both.1 }
 
-pub counted_more : (g : Gathering) (j : Join) (said counted : ℕ) → 1 ≤ j.sender → has_same_sets g j ≡ true → IsCounted g said counted → IsCounted (agreed g j) (union (only j.sender) said) (max counted j.number)
+pub counted_more : (g : Gathering) (j : Join) (said counted : ℕ) → 1 ≤ j.sender → has_same_sets g j ≡ true
+    → IsCounted g said counted → IsCounted (agreed g j) (union (only j.sender) said) (max counted j.number)
 counted_more g j said counted low same c =
     record {
       said_by = ap (union (only j.sender)) c.said_by;

@@ -56,4 +56,5 @@ widening me g j h =
 pub widens_changes : (me : ℕ) (g : Gathering) (j : Join) → hearing me g j ≡ Widens → HasSetsOf g (widened me g j) → ⊥
 widens_changes me g j h =
     let w = widening me g j h in
-    cond_both (has_same_sets (widened_sets me g j) j) (agreed (widened_sets me g j) j) (widened_sets me g j) (λ (k : Gathering). HasSetsOf g k → ⊥) (λ e. wider me g j w.heard w.large) (λ e. wider me g j w.heard w.large)
+    cond_both (has_same_sets (widened_sets me g j) j) (agreed (widened_sets me g j) j) (widened_sets me g j)
+    (λ (k : Gathering). HasSetsOf g k → ⊥) (λ e. wider me g j w.heard w.large) (λ e. wider me g j w.heard w.large)

@@ -3,7 +3,9 @@
 ghost use Rattle.std.specs.Prelude.{◌≡◌, ◌↔◌, true, [], IsTrue, IsSome, IfSome};
 ghost use Rattle.ring_base.specs.Processors.{IsMember};
 ghost use Rattle.ring_join.specs.declared.hearing.Hearing.TheVariants.{Widens};
-ghost use Rattle.ring_join.specs.Gathering.{entered, hearing, has_same_sets, agreed, widened_sets, widened, heard_as, given_up, candidates, agreeing, has_consensus, HasConsensus, greatest_known, own_join};
+ghost use Rattle.ring_join.specs.Gathering.{entered, hearing, has_same_sets, agreed, widened_sets, widened, heard_as};
+ghost use Rattle.ring_join.specs.Gathering.{given_up, candidates, agreeing, has_consensus, HasConsensus};
+ghost use Rattle.ring_join.specs.Gathering.{greatest_known, own_join};
 ghost use Rattle.ring_join.specs.Gatherers.{HasSetsOf};
 
 use crate::hearing::Hearing;

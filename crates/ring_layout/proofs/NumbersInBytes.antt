@@ -1,5 +1,6 @@
 -- Numbers that lie in bytes one after the other are those that are read there.
-use Rattle.std.proofs.Common.{◌≡◌, ℕ, zero, suc, ◌+◌, ◌-◌, ◌*◌, ◌<◌, ◌≤◌, Bool, false, true, cond, ltb, List, ◌++◌, length, take, drop, Some, None, refl, sym, ap, subst, ◌∙◌, arith, inl, inr}
+use Rattle.std.proofs.Common.{◌≡◌, ℕ, zero, suc, ◌+◌, ◌-◌, ◌*◌, ◌<◌, ◌≤◌, Bool, false, true, cond, ltb, List, ◌++◌}
+use Rattle.std.proofs.Common.{length, take, drop, Some, None, refl, sym, ap, subst, ◌∙◌, arith, inl, inr}
 use Rattle.std.specs.Prelude.{slice_index}
 use Rattle.std.proofs.lemmas.Bool.{cases_lt, le-ltb, lt-ltb, ltb-true, ltb-false}
 use Rattle.std.proofs.lemmas.List.{length-append, length-drop, length-take, drop-append-le, drop-drop, nil_from_length, take_all, take-append-drop}
@@ -60,7 +61,8 @@ word_inside n i bytes words are whole lt = omega (arith, count_words n bytes wor
 pub word_of : (n i : ℕ) (bytes words : List ℕ) → words_in n bytes ≡ words → length bytes ≡ 8 * n → i < length words
     → big_number 8 (take (length bytes - 8 * i) (drop (8 * i) bytes)) ≡ slice_index words i
 word_of n i bytes words are whole lt =
-    let all : take (length bytes - 8 * i) (drop (8 * i) bytes) ≡ drop (8 * i) bytes = take_all (length bytes - 8 * i) (drop (8 * i) bytes) (omega (arith, length-drop (8 * i) bytes)) in
+    let all : take (length bytes - 8 * i) (drop (8 * i) bytes) ≡ drop (8 * i) bytes = take_all (length bytes - 8 * i)
+    (drop (8 * i) bytes) (omega (arith, length-drop (8 * i) bytes)) in
     ap (big_number 8) all ∙ sym (word_at n i bytes (omega (arith, count_words n bytes words are))) ∙ ap (λ (ws : List ℕ). slice_index ws i) are
 
 -- the numbers are in the bytes that were taken for them

@@ -90,8 +90,10 @@ pub record IsToldBy {A B : Type 0} (fields : Format A) (make : A → B) (spellin
   pub fits : (a : A) → fields.Fits a → Fits (make a)
   pub back : (b : B) → Fits b → (a : A) × fields.Fits a × (make a ≡ b)
 
-pub told_format : {A B : Type 0} (fields : Format A) (make : A → B) (spelling : B → List ℕ) (Fits : B → Type 0) → IsToldBy fields make spelling Fits → IsFormat spelling Fits (made_at make fields.at)
-told_format fields make spelling Fits told = made_format fields.spelling fields.Fits fields.at spelling Fits make (λ a f. (told.spelled a f, told.fits a f)) told.back fields.exact
+pub told_format : {A B : Type 0} (fields : Format A) (make : A → B) (spelling : B → List ℕ) (Fits : B → Type 0)
+    → IsToldBy fields make spelling Fits → IsFormat spelling Fits (made_at make fields.at)
+told_format fields make spelling Fits told = made_format fields.spelling fields.Fits fields.at spelling Fits make
+    (λ a f. (told.spelled a f, told.fits a f)) told.back fields.exact
 
 -- A value is made of its fields, passes the test exactly where they keep the limits that join them, and is made of nothing else.
 pub record IsTestedBy {A B : Type 0} (fields : Format A) (make : A → B) (test : B → Bool) (spelling : B → List ℕ) (Fits : B → Type 0) : Type 0 where
@@ -104,7 +106,8 @@ pub record IsTestedBy {A B : Type 0} (fields : Format A) (make : A → B) (test 
 abbrev pub Made : {A B : Type 0} → Format A → (A → B) → B → Type 0
 Made {A} fields make b = (a : A) × fields.Fits a × (make a ≡ b)
 
-pub tested_format : {A B : Type 0} (fields : Format A) (make : A → B) (test : B → Bool) (spelling : B → List ℕ) (Fits : B → Type 0) → IsTestedBy fields make test spelling Fits
+pub tested_format : {A B : Type 0} (fields : Format A) (make : A → B) (test : B → Bool) (spelling : B → List ℕ)
+    (Fits : B → Type 0) → IsTestedBy fields make test spelling Fits
     → IsFormat spelling Fits (such_at test (made_at make fields.at))
 tested_format {A} {B} fields make test spelling Fits tested =
     such_format spelling (Made fields make) Fits (made_at make fields.at) test

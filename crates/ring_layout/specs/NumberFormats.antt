@@ -1,6 +1,7 @@
 -- Numbers and bytes are read exactly.
 -- Numbers and parts, of docs/FORMATS.md.
-use Rattle.std.proofs.Common.{◌≡◌, ℕ, suc, ◌+◌, ◌<◌, ◌≤◌, Bool, true, false, cond, ltb, List, [], ◌∷◌, ◌++◌, length, take, drop, Some, None, refl, sym, ap, subst, ◌∙◌, arith, inl, inr}
+use Rattle.std.proofs.Common.{◌≡◌, ℕ, suc, ◌+◌, ◌<◌, ◌≤◌, Bool, true, false, cond, ltb, List, [], ◌∷◌, ◌++◌, length}
+use Rattle.std.proofs.Common.{take, drop, Some, None, refl, sym, ap, subst, ◌∙◌, arith, inl, inr}
 use Rattle.std.proofs.lemmas.Bool.{cases_lt, ltb-false, le-ltb}
 use Rattle.std.proofs.lemmas.List.{drop_at, take-append-drop, length-append, length-take, get_or-drop, get_or-take, get_or_past}
 use Rattle.std.proofs.lemmas.Nat.{be_bytes_2, be_bytes_4, be_bytes_8}
@@ -43,7 +44,8 @@ number_format n wide = record {
       let long : n ≤ length bytes = ltb-false _ _ g.0 in
       let len : length (take n bytes) ≡ n = omega (arith, length-take n bytes) in
       let whole = take-append-drop n bytes in
-      let same : big_number n bytes ≡ big_number n (take n bytes) = ap (big_number n) (sym whole) ∙ big_from-append n (take n bytes) (drop n bytes) (omega arith) in
+      let same : big_number n bytes ≡ big_number n (take n bytes) = ap (big_number n) (sym whole) ∙ big_from-append n
+      (take n bytes) (drop n bytes) (omega arith) in
       let front : big_bytes n (big_number n bytes) ≡ take n bytes = ap (big_bytes n) same ∙ wide (take n bytes) len (IsBytes-take n bytes fits) in
       let P : ℕ × List ℕ → Type 0 = λ y. Takes bytes (big_bytes n y.0) y.1 × IsWord n y.0 in
       subst P g.1 (record { parts = rw front (sym whole); rest_fits = IsBytes-drop n bytes fits }, big_from-lt 0 n bytes fits);

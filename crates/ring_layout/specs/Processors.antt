@@ -29,7 +29,8 @@ proc_at bytes = such_at is_proc byte_at bytes
 
 pub proc_format : IsFormat proc_spelling IsProc proc_at
 unfolding proc_at
-proc_format = such_format proc_spelling (λ n. n < 256) IsProc byte_at is_proc (λ n f h. is_proc-true n h) (λ n f. (omega (arith, f), true-is_proc n f)) byte_format
+proc_format = such_format proc_spelling (λ n. n < 256) IsProc byte_at is_proc (λ n f h. is_proc-true n h)
+    (λ n f. (omega (arith, f), true-is_proc n f)) byte_format
 
 abbrev pub proc : Format ℕ
 proc = record { spelling = proc_spelling; Fits = IsProc; at = proc_at; exact = proc_format }

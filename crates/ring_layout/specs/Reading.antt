@@ -1,6 +1,7 @@
 -- What it means to read a value from the front of bytes, and how such readings are put together.
 -- Numbers and parts, of docs/FORMATS.md.
-use Rattle.std.specs.Prelude.{◌≡◌, ℕ, zero, suc, ◌+◌, ◌≤◌, ◌^◌, ◌<◌, Bool, List, [], ◌∷◌, ◌++◌, length, take, drop, slice_index, Option, Some, None, Result, Ok, Err, nat_lt, ◌==◌, if◌then◌else◌}
+use Rattle.std.specs.Prelude.{◌≡◌, ℕ, zero, suc, ◌+◌, ◌≤◌, ◌^◌, ◌<◌, Bool, List, [], ◌∷◌, ◌++◌, length, take, drop}
+use Rattle.std.specs.Prelude.{slice_index, Option, Some, None, Result, Ok, Err, nat_lt, ◌==◌, if◌then◌else◌}
 use Rattle.bytes.specs.Filled.{Filled}
 use Rattle.byteorder.specs.Endian.{big_number}
 use Rattle.ring_base.specs.declared.fault.Fault.{Fault}

@@ -1,11 +1,14 @@
 -- What is put together of exact readings is exact.
-use Rattle.std.proofs.Common.{◌≡◌, ℕ, zero, suc, ◌^◌, ◌<◌, ◌≤◌, Bool, true, false, cond, ltb, eqb, List, [], ◌∷◌, ◌++◌, length, take, drop, Option, Some, None, refl, sym, ap, subst, ◌∙◌, append_assoc, arith, inl, inr}
+use Rattle.std.proofs.Common.{◌≡◌, ℕ, zero, suc, ◌^◌, ◌<◌, ◌≤◌, Bool, true, false, cond, ltb, eqb, List, [], ◌∷◌, ◌++◌}
+use Rattle.std.proofs.Common.{length, take, drop, Option, Some, None, refl, sym, ap, subst, ◌∙◌, append_assoc, arith}
+use Rattle.std.proofs.Common.{inl, inr}
 use Rattle.std.proofs.lemmas.Bool.{ltb-false, le-ltb, eqb-true, eqb-false, cases_Bool}
 use Rattle.std.proofs.lemmas.List.{append-nil, take_at, drop_at, take-append-drop, length-append, length-take, nil_from_length}
 use Rattle.std.proofs.lemmas.List.Concat.{flat_map-cons}
 use Rattle.std.specs.List.{flat_map, AllByRecursion}
 use Rattle.byteorder.specs.Endian.{big_bytes}
-use Rattle.ring_layout.specs.Reading.{◌>>=◌, IsBytes, Takes, IsFormat, IsWord, number_at, text_at, times_at, nothing_at, then_at, such_at, made_at, tagged_at, sized_at, sized_with, empty_at}
+use Rattle.ring_layout.specs.Reading.{◌>>=◌, IsBytes, Takes, IsFormat, IsWord, number_at, text_at, times_at, nothing_at}
+use Rattle.ring_layout.specs.Reading.{then_at, such_at, made_at, tagged_at, sized_at, sized_with, empty_at}
 use Rattle.ring_layout.specs.NumberFormats.{IsBytes-drop, IsBytes-take, guard_some, number_format4}
 
 -- the value of a step that did not fail
@@ -51,7 +54,8 @@ nothing_format s F none = record {
   again = λ v rest f. absurd (none v f);
 }
 
-pub then_format : {A B : Type 0} (sa : A → List ℕ) (FA : A → Type 0) (ra : List ℕ → Option (A × List ℕ)) (sb : A → B → List ℕ) (FB : A → B → Type 0) (rb : A → List ℕ → Option (B × List ℕ))
+pub then_format : {A B : Type 0} (sa : A → List ℕ) (FA : A → Type 0) (ra : List ℕ → Option (A × List ℕ))
+    (sb : A → B → List ℕ) (FB : A → B → Type 0) (rb : A → List ℕ → Option (B × List ℕ))
     → IsFormat sa FA ra → ((a : A) → FA a → IsFormat (sb a) (FB a) (rb a)) → IsFormat (λ p. sa p.0 ++ sb p.0 p.1) (λ p. FA p.0 × FB p.0 p.1) (then_at ra rb)
 then_format {A} {B} sa FA ra sb FB rb p q = record {
   takes = λ bytes x fits e.
@@ -82,7 +86,8 @@ such_format {A} s F G at test to from p = record {
 }
 
 pub made_format : {A B : Type 0} (sa : A → List ℕ) (FA : A → Type 0) (at : List ℕ → Option (A × List ℕ)) (sb : B → List ℕ) (FB : B → Type 0) (make : A → B)
-    → ((a : A) → FA a → (sb (make a) ≡ sa a) × FB (make a)) → ((b : B) → FB b → (a : A) × FA a × (make a ≡ b)) → IsFormat sa FA at → IsFormat sb FB (made_at make at)
+    → ((a : A) → FA a → (sb (make a) ≡ sa a) × FB (make a)) → ((b : B) → FB b → (a : A) × FA a × (make a ≡ b))
+    → IsFormat sa FA at → IsFormat sb FB (made_at make at)
 made_format {A} {B} sa FA at sb FB make to from p = record {
   takes = λ bytes x fits e.
       let a = bind_some (at bytes) (λ u. Some (make u.0, u.1)) x e in
@@ -100,7 +105,8 @@ made_format {A} {B} sa FA at sb FB make to from p = record {
 }
 
 take_tagged : {A : Type 0} (tag : A → ℕ) (s : A → List ℕ) (F : A → Type 0) (at : ℕ → List ℕ → Option (A × List ℕ))
-    → ((b : ℕ) → IsFormat s (λ a. F a × (tag a ≡ b)) (at b)) → (bytes : List ℕ) (x : A × List ℕ) → IsBytes bytes → tagged_at at bytes ≡ Some x → Takes bytes (tag x.0 ∷ s x.0) x.1 × F x.0
+    → ((b : ℕ) → IsFormat s (λ a. F a × (tag a ≡ b)) (at b)) → (bytes : List ℕ) (x : A × List ℕ) → IsBytes bytes
+    → tagged_at at bytes ≡ Some x → Takes bytes (tag x.0 ∷ s x.0) x.1 × F x.0
 take_tagged tag s F at p [] x fits e = absurd cc
 take_tagged tag s F at p (b ∷ bytes) x fits e =
     let t = (p b).takes bytes x (λ i. fits (suc i)) e in
@@ -112,7 +118,8 @@ tagged_format {A} tag s F at p = record { takes = take_tagged tag s F at p; agai
 
 -- the values, one after the other
 take_times : {A : Type 0} (s : A → List ℕ) (F : A → Type 0) (at : List ℕ → Option (A × List ℕ)) → IsFormat s F at
-    → (n : ℕ) (bytes : List ℕ) (x : List A × List ℕ) → IsBytes bytes → times_at n at bytes ≡ Some x → Takes bytes (flat_map s x.0) x.1 × ((length x.0 ≡ n) × AllByRecursion F x.0)
+    → (n : ℕ) (bytes : List ℕ) (x : List A × List ℕ) → IsBytes bytes → times_at n at bytes ≡ Some x
+    → Takes bytes (flat_map s x.0) x.1 × ((length x.0 ≡ n) × AllByRecursion F x.0)
 unfolding times_at
 take_times {A} s F at p zero bytes x fits e =
     let P : List A × List ℕ → Type 0 = λ y. Takes bytes (flat_map s y.0) y.1 × ((length y.0 ≡ 0) × AllByRecursion F y.0) in
@@ -132,7 +139,8 @@ again_times : {A : Type 0} (s : A → List ℕ) (F : A → Type 0) (at : List �
 unfolding times_at
 again_times s F at p [] rest fits = refl
 again_times s F at p (x ∷ xs) rest fits =
-    let regrouped : flat_map s (x ∷ xs) ++ rest ≡ s x ++ (flat_map s xs ++ rest) = ap (λ (w : List ℕ). w ++ rest) (flat_map-cons s x xs) ∙ append_assoc (s x) (flat_map s xs) rest in
+    let regrouped : flat_map s (x ∷ xs) ++ rest ≡ s x ++ (flat_map s xs ++ rest) = ap (λ (w : List ℕ). w ++ rest)
+    (flat_map-cons s x xs) ∙ append_assoc (s x) (flat_map s xs) rest in
     ap (times_at (suc (length xs)) at) regrouped ∙ rw (p.again x (flat_map s xs ++ rest) fits.0, again_times s F at p xs rest fits.1) refl
 
 pub times_format : {A : Type 0} (s : A → List ℕ) (F : A → Type 0) (at : List ℕ → Option (A × List ℕ)) → IsFormat s F at
@@ -143,7 +151,9 @@ times_format {A} s F at p n = record {
 }
 
 -- a length, and a text of that length
-sized_by : {A : Type 0} (sn : ℕ → List ℕ) (FN : ℕ → Type 0) (rn : List ℕ → Option (ℕ × List ℕ)) (s : A → List ℕ) (F : A → Type 0) (at : List ℕ → Option (A × List ℕ)) → IsFormat sn FN rn → ((a : A) → F a → FN (length (s a))) → IsFormat s F at
+sized_by : {A : Type 0} (sn : ℕ → List ℕ) (FN : ℕ → Type 0) (rn : List ℕ → Option (ℕ × List ℕ)) (s : A → List ℕ)
+    (F : A → Type 0) (at : List ℕ → Option (A × List ℕ)) → IsFormat sn FN rn → ((a : A) → F a → FN (length (s a)))
+    → IsFormat s F at
     → IsFormat (λ a. sn (length (s a)) ++ s a) F (sized_with rn at)
 sized_by {A} sn FN rn s F at q short p = record {
   takes = λ bytes x fits e.
@@ -166,13 +176,20 @@ sized_by {A} sn FN rn s F at q short p = record {
       rw (e, q.again (length (s v)) (s v ++ rest) (short v f), (text_format (length (s v))).again (s v) rest refl, whole) refl;
 }
 
-pub sized_format : {A : Type 0} (s : A → List ℕ) (F : A → Type 0) (at : List ℕ → Option (A × List ℕ)) → ((a : A) → F a → length (s a) < 256 ^ 4) → IsFormat s F at
+pub sized_format : {A : Type 0} (s : A → List ℕ) (F : A → Type 0) (at : List ℕ → Option (A × List ℕ))
+    → ((a : A) → F a → length (s a) < 256 ^ 4) → IsFormat s F at
     → IsFormat (λ a. big_bytes 4 (length (s a)) ++ s a) F (sized_at at)
 sized_format s F at short p = sized_by (λ v. big_bytes 4 v) (IsWord 4) (number_at 4) s F at number_format4 short p
 
 -- the value of no bytes
 pub empty_format : IsFormat (λ (u : Unit {0}). []) (λ u. Unit {0}) (empty_at tt)
 empty_format = record {
-  takes = λ bytes x fits e. (record { parts = ap (λ (o : Unit {0} × List ℕ). o.1) (some_is (tt, bytes) x e); rest_fits = subst (λ (o : Unit {0} × List ℕ). IsBytes o.1) (some_is (tt, bytes) x e) fits }, tt);
+  takes = λ bytes x fits e. (
+    record {
+      parts = ap (λ (o : Unit {0} × List ℕ). o.1) (some_is (tt, bytes) x e);
+      rest_fits = subst (λ (o : Unit {0} × List ℕ). IsBytes o.1) (some_is (tt, bytes) x e) fits;
+    },
+    tt,
+  );
   again = λ v rest f. refl;
 }

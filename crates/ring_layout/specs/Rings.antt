@@ -99,8 +99,20 @@ of_pair p f = elim (cases_Bool (is_none_pair p)) [
 back : (o : Option RingId) → SomeRingFits o → (p : ℕ × ℕ) × pair.Fits p × (some_ring_of p ≡ o)
 back None f = ((0, 0), ((omega arith, omega arith), refl), refl)
 back (Some r) f =
-    let n : (r.seq == 0) ≡ false = elim (cases_Bool (r.seq == 0)) [ inl e ↦ absurd (omega (arith, eqb-true _ _ e, f.1)) | inr e ↦ e ] in
-    ((r.seq, r.rep), ((omega (arith, f.0.seq), omega (arith, f.0.rep)), rw (n, le-leb _ _ f.1, le-leb _ _ f.0.seq, le-leb _ _ f.0.rep.0, le-leb _ _ f.0.rep.1) refl), rw n refl)
+    let n : (r.seq == 0) ≡ false = elim (cases_Bool (r.seq == 0)) [ inl e ↦ absurd (omega (arith, eqb-true _ _ e, f.1)) | inr e ↦ e ] in (
+      (r.seq, r.rep),
+      (
+        (omega (arith, f.0.seq), omega (arith, f.0.rep)),
+        rw (
+          n,
+          le-leb _ _ f.1,
+          le-leb _ _ f.0.seq,
+          le-leb _ _ f.0.rep.0,
+          le-leb _ _ f.0.rep.1,
+        ) refl,
+      ),
+      rw n refl,
+    )
 
 pub some_ring_format : IsFormat some_ring_spelling SomeRingFits some_ring_at
 unfolding some_ring_at

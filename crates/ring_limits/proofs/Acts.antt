@@ -1,5 +1,6 @@
 -- Each act of a core keeps the limits, where what came keeps them; so does a proposal, and an installation; and so a step.
-use Rattle.std.proofs.Common.{◌≡◌, ◌+◌, ◌%◌, ◌^◌, ◌<◌, ◌≤◌, min, inl, inr, Bool, true, false, ◌&&◌, ◌==◌, List, [], ◌∷◌, ◌++◌, length, Option, Some, None, refl, ap, sym, subst, arith, length-take, mod-lt}
+use Rattle.std.proofs.Common.{◌≡◌, ◌+◌, ◌%◌, ◌^◌, ◌<◌, ◌≤◌, min, inl, inr, Bool, true, false, ◌&&◌, ◌==◌, List, [], ◌∷◌}
+use Rattle.std.proofs.Common.{◌++◌, length, Option, Some, None, refl, ap, sym, subst, arith, length-take, mod-lt}
 use Rattle.std.specs.Prelude.{nat_lt, nat_le, reverse, not, take}
 use Rattle.std.specs.List.{AllByRecursion as Each}
 use Rattle.std.proofs.lemmas.Bool.{cond_both, and_parts, eqb-true, ltb-true, leb-true}
@@ -41,7 +42,8 @@ use Rattle.ring_core.specs.Visiting.{offers, room_at, new_payloads, new_messages
 use Rattle.ring_core.specs.Joining.{first_procs, regathered, with_gathering, announced, proposes, proposes_in}
 use Rattle.ring_core.specs.Handing.{passed, joined, proposed}
 use Rattle.ring_core.specs.Giving.{addressed, sent, may_install, install, given, configured, settle}
-use Rattle.ring_core.specs.Deciding.{Act, Ignore, Enqueue, Repeat, Announce, Invite, GiveUp, Regather, Agree, Widen, RegatherAndAgree, RegatherAndWiden, Take, Visit, Fill, Learn, decide}
+use Rattle.ring_core.specs.Deciding.{Act, Ignore, Enqueue, Repeat, Announce, Invite, GiveUp, Regather, Agree, Widen}
+use Rattle.ring_core.specs.Deciding.{RegatherAndAgree, RegatherAndWiden, Take, Visit, Fill, Learn, decide}
 use Rattle.ring_core.specs.Acting.{gives_old, shown_again, act, may_follow, proposed_after, done}
 use Rattle.ring_core.specs.Stepping.{ring_step}
 use Rattle.ring_moves.specs.Facts.{IsIn}
@@ -54,7 +56,8 @@ use Rattle.ring_moves.proofs.Fits.{moved_fits}
 use Rattle.ring_moves.proofs.Guards.{guarded}
 use Rattle.ring_moves.proofs.Lifting.{IsTold, told_from, told_configured}
 use Rattle.ring_moves.proofs.Lists.{in-each, each-filter, each-reverse}
-use Rattle.ring_moves.proofs.Steps.{move_of, IsAsked, asked_by, may_act, may_propose, may_installs, proposed_token, some_member, fresh_few, queue_each, all_repeats}
+use Rattle.ring_moves.proofs.Steps.{move_of, IsAsked, asked_by, may_act, may_propose, may_installs, proposed_token}
+use Rattle.ring_moves.proofs.Steps.{some_member, fresh_few, queue_each, all_repeats}
 use Rattle.ring_moves.proofs.Turned.{front_within}
 use Rattle.ring_limits.specs.Limits.{InputFits, OutFits, GatheringFits, QueueFits, CoreFits}
 use Rattle.ring_limits.proofs.Sets.{everybody_lt, less_le, entered_fits, agreed_fits, given_up_fits, widened_fits, widens_other, join_fits, invite_fits}

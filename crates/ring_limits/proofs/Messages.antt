@@ -14,7 +14,9 @@ use Rattle.ring_payload.specs.Contents.{ContentFits, WrappedFits}
 use Rattle.ring_payload.specs.Kinds.{is_user, payload_of}
 use Rattle.ring_payload.specs.Payloads.{PayloadFits}
 use Rattle.ring_payload.specs.declared.content.Content.{Content}
-use Rattle.ring_payload.specs.declared.content.Content.TheVariants.{Call as CallContent, Head as HeadContent, Part as PartContent, Pack as PackContent, Snap as SnapContent}
+use Rattle.ring_payload.specs.declared.content.Content.TheVariants.{Call as CallContent, Head as HeadContent}
+use Rattle.ring_payload.specs.declared.content.Content.TheVariants.{Part as PartContent, Pack as PackContent}
+use Rattle.ring_payload.specs.declared.content.Content.TheVariants.{Snap as SnapContent}
 use Rattle.ring_payload.specs.declared.content.Payload.{Payload}
 use Rattle.ring_payload.specs.declared.content.Payload.TheVariants.{Call, Wrapped, End, Head, Part, Pack, Snap}
 use Rattle.ring_payload.specs.declared.content.Wrapped.{Wrapped as WrappedMessage}

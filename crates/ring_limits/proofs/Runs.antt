@@ -24,7 +24,8 @@ use Rattle.ring_core.specs.Stepping.{ring_step}
 use Rattle.ring_moves.specs.declared.event.RingEvent.{RingEvent}
 use Rattle.ring_moves.specs.declared.event.RingEvent.TheVariants.{Send, Deliver, Timeout, Stop}
 use Rattle.ring_moves.specs.Moves.{MayMove}
-use Rattle.ring_moves.specs.Worlds.{Carried, World, put, carried_by, is_node, stepped_if, stopped_if, handed_if, handed, frame_at, happens, run, unformed, ring_formed, acts_on_formed, run_formed}
+use Rattle.ring_moves.specs.Worlds.{Carried, World, put, carried_by, is_node, stepped_if, stopped_if, handed_if, handed}
+use Rattle.ring_moves.specs.Worlds.{frame_at, happens, run, unformed, ring_formed, acts_on_formed, run_formed}
 use Rattle.ring_moves.proofs.Ended.{installed_below}
 use Rattle.ring_moves.proofs.Lists.{each-filter}
 use Rattle.ring_moves.proofs.Steps.{move_of, fresh_short, fresh_users, all_repeats, queue_kept}

@@ -1,5 +1,6 @@
 -- Each event of a run is a step by the rules of the one order, where the lives before and after it are orderly.
-use Rattle.std.proofs.Common.{◌≡◌, ℕ, suc, zero, ◌+◌, ◌-◌, ◌≤◌, ◌<◌, ◌==◌, Bool, true, false, List, [], ◌∷◌, ◌++◌, length, drop, Option, Some, None, refl, ap, sym}
+use Rattle.std.proofs.Common.{◌≡◌, ℕ, suc, zero, ◌+◌, ◌-◌, ◌≤◌, ◌<◌, ◌==◌, Bool, true, false, List, [], ◌∷◌, ◌++◌}
+use Rattle.std.proofs.Common.{length, drop, Option, Some, None, refl, ap, sym}
 use Rattle.std.proofs.Common.{subst, ◌∙◌, inl, inr, arith, append-nil, All}
 use Rattle.std.specs.Prelude.{slice_get, map}
 use Rattle.std.specs.List.{AllByRecursion as Each}
@@ -33,7 +34,8 @@ use Rattle.ring_history.specs.declared.item.Item.{Item}
 use Rattle.ring_history.specs.declared.item.Item.TheVariants.{Issue as IssuedItem}
 use Rattle.ring_history.specs.Histories.{AreIssued}
 use Rattle.ring_history.specs.Orders.{EachGrows, AreOneLog, IsGiven, IsAdded, IsOrderStep}
-use Rattle.ring_history.specs.Worlds.{World, put, is_node, items_of, after_step, issued_or, issued_if, stopped_if, frame_at, stepped_if, handed_if, handed, happens, committed_in, moment_of}
+use Rattle.ring_history.specs.Worlds.{World, put, is_node, items_of, after_step, issued_or, issued_if, stopped_if}
+use Rattle.ring_history.specs.Worlds.{frame_at, stepped_if, handed_if, handed, happens, committed_in, moment_of}
 use Rattle.ring_order.specs.Facts.{IsStay}
 use Rattle.ring_order.specs.Discipline.{OrderlyLives}
 use Rattle.ring_order.specs.Time.{LivesOn, IsKnownCall, OnlyHandsOver}

@@ -25,7 +25,8 @@ use Rattle.ring_history.specs.declared.item.Item.{Item}
 use Rattle.ring_history.specs.declared.item.Item.TheVariants.{Issue as IssuedItem}
 use Rattle.ring_history.specs.declared.told.Told.{Told}
 use Rattle.ring_history.specs.Histories.{IsIssuedAt}
-use Rattle.ring_history.specs.Worlds.{World, world_opening, put, is_node, items_of, after_step, issued_or, issued_if, stopped_if, frame_at, stepped_if, handed_if, handed, happens, run}
+use Rattle.ring_history.specs.Worlds.{World, world_opening, put, is_node, items_of, after_step, issued_or, issued_if}
+use Rattle.ring_history.specs.Worlds.{stopped_if, frame_at, stepped_if, handed_if, handed, happens, run}
 use Rattle.ring_order.specs.Facts.{IsStay}
 use Rattle.ring_order.specs.Time.{IsKnownCall}
 use Rattle.std.specs.List.{AllByRecursion as Each}

@@ -145,7 +145,8 @@ module _ {O A : Type 0} (object : Sequential O) (group : Group) where
   -- the frame that comes was sent in the world
   comes : (o : Option (Carried A)) (w : World A) (node : ℕ) (f : Frame A) (s : Carried A) → o ≡ Some s → s.frame ≡ f → has s.to node ≡ true
       → is_node w node ≡ true
-      → (handed object w node o ≡ after_step w node (node_step object (w.nodes node) (Comes f))) × IsSomeAnd o (λ (x : Carried A). (x.frame ≡ f) × (has x.to node ≡ true))
+      → (handed object w node o ≡ after_step w node (node_step object (w.nodes node) (Comes f)))
+      × IsSomeAnd o (λ (x : Carried A). (x.frame ≡ f) × (has x.to node ≡ true))
   comes None w node f s e is to known = absurd cc
   comes (Some x) w node f s e is to known =
       let one : x ≡ s = cc in

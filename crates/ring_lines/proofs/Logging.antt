@@ -1,6 +1,7 @@
 -- The longest committed log, line by line.
 use Rattle.std.proofs.Common.{◌≡◌, ℕ, zero, suc, ◌+◌, ◌-◌, ◌≤◌, ◌<◌, ◌==◌, Bool, true, false, List, [], ◌∷◌, ◌++◌, length, drop}
-use Rattle.std.proofs.Common.{Option, None, Some, slice_get, All, refl, inl, inr, ap, subst, sym, ◌∙◌, arith, append-nil, append_assoc, length-append, nat_lt, eq-eqb, if◌then◌else◌}
+use Rattle.std.proofs.Common.{Option, None, Some, slice_get, All, refl, inl, inr, ap, subst, sym, ◌∙◌, arith}
+use Rattle.std.proofs.Common.{append-nil, append_assoc, length-append, nat_lt, eq-eqb, if◌then◌else◌}
 use Rattle.std.specs.Prelude.{take, map, ◌⊎◌}
 use Rattle.std.specs.List.{AllByRecursion as Each}
 use Rattle.std.proofs.Math.Seq.{drop-append_seam}

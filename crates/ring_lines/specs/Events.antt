@@ -82,7 +82,8 @@ module _ {O : Type 0} (object : Sequential O) where
   IsDone w before node (Called c) l = (submit_fault (w.nodes node) ≡ None) × (l.frames ≡ []) × (l.answers ≡ []) × (l.calls ≡ [])
   IsDone w before node (Came input at) l =
       let did = node_step object (w.nodes node) input in
-      (is_stopped (w.nodes node).core.state ≡ false) × (l.frames ≡ did.sends) × (l.answers ≡ did.answers) × (l.calls ≡ did.committed) × IsSent w before node at input
+      (is_stopped (w.nodes node).core.state ≡ false) × (l.frames ≡ did.sends) × (l.answers ≡ did.answers)
+      × (l.calls ≡ did.committed) × IsSent w before node at input
 
   -- line by line, from this world on
   abbrev pub AreDone : {A : Type 0} → World A → List (LineView A) → List (LineView A) → Type 0

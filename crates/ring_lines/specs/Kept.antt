@@ -27,7 +27,8 @@ abbrev pub some_step : {A : Type 0} → StepView A
 some_step = record { node = 1; input = Came Noise (record { line = 0; place = 0 }); frames = []; answers = []; calls = []; committed = 0 }
 
 -- all but the frame that came, and how many places were committed
-pub record IsKept {A : Type 0} (s : StepView A) (node : ℕ) (cause : Cause A) (frames : List (Sent A)) (answers : List (Answered A)) (calls : List (Call A)) : Type 0 where
+pub record IsKept {A : Type 0} (s : StepView A) (node : ℕ) (cause : Cause A) (frames : List (Sent A))
+    (answers : List (Answered A)) (calls : List (Call A)) : Type 0 where
   pub node_is : s.node ≡ node
   pub cause_is : cause_of s.input ≡ cause
   pub frames_are : s.frames ≡ frames

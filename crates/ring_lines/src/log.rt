@@ -22,7 +22,8 @@ pub fn note<A: Allocator + Copy + Drop>(
     step: &Step<A>,
 )
     requires { vec_len segments.old < vec_capacity segments.old }
-    ensures log { record { total = total.new; segments = segments.new.items } ≡ logged_by number (record { total = total.old; segments = segments.old.items }) step.now }
+    ensures log { record { total = total.new; segments = segments.new.items } ≡ logged_by number
+        (record { total = total.old; segments = segments.old.items }) step.now }
     ensures capacity { vec_capacity segments.new ≡ vec_capacity segments.old }
 {
     if *total < step.committed {

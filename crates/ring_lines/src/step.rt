@@ -34,7 +34,14 @@ impl<A: Allocator + Copy + Drop> Model for Step<A> {
 
     ghost Value = { StepView A };
 
-    ghost view = { λ s. record { node = s.node; input = s.input; frames = s.frames; answers = s.answers.items; calls = s.calls.items; committed = s.committed } };
+    ghost view = { λ s. record {
+      node = s.node;
+      input = s.input;
+      frames = s.frames;
+      answers = s.answers.items;
+      calls = s.calls.items;
+      committed = s.committed;
+    } };
 
     ghost invariant = { λ s. LineFits s.input };
 }

@@ -1,5 +1,6 @@
 -- How frames are taken from the front of an input, and how a listing goes on.
-use Rattle.std.proofs.Common.{◌≡◌, ℕ, ◌+◌, ◌-◌, ◌≤◌, true, false, List, [], ◌∷◌, ◌++◌, length, take, drop, Option, Some, None, Result, Ok, Err, refl, sym, ap, subst, ◌∙◌, arith, append_assoc}
+use Rattle.std.proofs.Common.{◌≡◌, ℕ, ◌+◌, ◌-◌, ◌≤◌, true, false, List, [], ◌∷◌, ◌++◌, length, take, drop, Option, Some}
+use Rattle.std.proofs.Common.{None, Result, Ok, Err, refl, sym, ap, subst, ◌∙◌, arith, append_assoc}
 use Rattle.std.specs.Prelude.{IsSome, IfSome, OnOk, IfErr, IsErrAnd}
 use Rattle.std.specs.Io.Iter.{u64_saturate}
 use Rattle.std.specs.Io.KnownBytes.{Keeps, Appends, Consumes, IsAtEnd, prepend_known}
@@ -26,7 +27,8 @@ pub from_place : (bytes : List ℕ) (start : ℕ) → take (length bytes - start
 from_place bytes start = let long = length-drop start bytes in take_all (length bytes - start) (drop start bytes) (omega arith)
 
 -- what was got stood at the front of the bytes from a place on
-pub got_front : {A : Type 0} (bytes : List ℕ) (start n : ℕ) (frame : Frame A) → IsGot spelling_of FrameFits (take (length bytes - start) (drop start bytes)) frame n
+pub got_front : {A : Type 0} (bytes : List ℕ) (start n : ℕ) (frame : Frame A) → IsGot spelling_of FrameFits
+    (take (length bytes - start) (drop start bytes)) frame n
     → (drop start bytes ≡ spelling_of frame ++ drop (start + n) bytes) × (length (spelling_of frame) ≡ n)
 got_front bytes start n frame got =
     let rest = drop start bytes in
@@ -61,7 +63,8 @@ none_longer A bytes more long none frame rest fits e =
 -- ---- what was read ahead, and what can still be read
 
 -- the next of what was read ahead is the next of all that is left
-pub next_of_all : {A : Type 0} (bytes bytes' : List ℕ) (rest : Option (List ℕ)) (from to : ℕ) (next : Option (Frame A)) → IsNext (Some bytes) (Some bytes') from to next
+pub next_of_all : {A : Type 0} (bytes bytes' : List ℕ) (rest : Option (List ℕ)) (from to : ℕ)
+    (next : Option (Frame A)) → IsNext (Some bytes) (Some bytes') from to next
     → (next ≡ None → IsAtEnd rest) → IsNext (prepend_known bytes rest) (prepend_known bytes' rest) from to next
 next_of_all bytes bytes' None from to None (same, none) end = (tt, tt)
 next_of_all bytes bytes' (Some xs) from to None (same, none) end =
@@ -71,7 +74,8 @@ next_of_all bytes bytes' (Some xs) from to (Some frame) (fits, taken, passed) en
     (fits, ap (λ (t : List ℕ). t ++ xs) taken ∙ append_assoc (spelling_of frame) bytes' xs, passed)
 
 -- where enough was read ahead, or nothing more can be read, a stop there is a stop of all that is left
-pub stop_of_all : (A : Type 0) (bytes : List ℕ) (rest : Option (List ℕ)) (from : ℕ) (state : State) (failure : Failure) → IsStop A (Some bytes) from state failure
+pub stop_of_all : (A : Type 0) (bytes : List ℕ) (rest : Option (List ℕ)) (from : ℕ) (state : State)
+    (failure : Failure) → IsStop A (Some bytes) from state failure
     → (state ≡ Open → 8192 ≤ length bytes) → (state ≡ Ended → IsAtEnd rest) → IsStop A (prepend_known bytes rest) from state failure
 stop_of_all A bytes rest from state (Refused fault) stop enough ended = stop
 stop_of_all A bytes rest from Failed (BadFrame byte) stop enough ended = stop
@@ -84,14 +88,16 @@ stop_of_all A bytes rest from state (BadScript line) stop enough ended = absurd 
 stop_of_all A bytes rest from state Output stop enough ended = absurd stop
 
 -- where reading did not fail, and no frame begins there, the next frame's place is the one that is told
-pub stop_here : (A : Type 0) (bytes : List ℕ) (from : ℕ) (state : State) → (state ≡ Failed → ⊥) → BeginsWithNone A bytes → IsStop A (Some bytes) from state (BadFrame from)
+pub stop_here : (A : Type 0) (bytes : List ℕ) (from : ℕ) (state : State) → (state ≡ Failed → ⊥)
+    → BeginsWithNone A bytes → IsStop A (Some bytes) from state (BadFrame from)
 stop_here A bytes from Open unfailed none = (refl, none)
 stop_here A bytes from Ended unfailed none = (refl, none)
 stop_here A bytes from Failed unfailed none = absurd (unfailed refl)
 
 -- ---- after a step that keeps what is left
 
-pub next_after : {A : Type 0} (old mid new : Option (List ℕ)) (from to : ℕ) (next : Option (Frame A)) → Keeps old mid → IsNext mid new from to next → IsNext old new from to next
+pub next_after : {A : Type 0} (old mid new : Option (List ℕ)) (from to : ℕ) (next : Option (Frame A)) → Keeps old mid
+    → IsNext mid new from to next → IsNext old new from to next
 next_after None mid new from to None kept (same, end) = (tt, end)
 next_after (Some xs) (Some ys) (Some zs) from to None kept (same, end) = (same ∙ kept, end)
 next_after (Some xs) (Some ys) None from to None kept (same, end) = absurd same
@@ -101,7 +107,8 @@ next_after (Some xs) (Some ys) (Some zs) from to (Some frame) kept (fits, taken,
 next_after (Some xs) (Some ys) None from to (Some frame) kept (fits, taken, passed) = absurd taken
 next_after (Some xs) None new from to (Some frame) kept next = absurd kept
 
-pub stop_after : (A : Type 0) (old mid : Option (List ℕ)) (from : ℕ) (state : State) (failure : Failure) → Keeps old mid → IsStop A mid from state failure → IsStop A old from state failure
+pub stop_after : (A : Type 0) (old mid : Option (List ℕ)) (from : ℕ) (state : State) (failure : Failure)
+    → Keeps old mid → IsStop A mid from state failure → IsStop A old from state failure
 stop_after A old mid from state (Refused fault) kept stop = stop
 stop_after A old mid from Failed (BadFrame byte) kept stop = stop
 stop_after A None mid from Open (BadFrame byte) kept stop = (stop.0, tt)
@@ -152,7 +159,8 @@ appends_none None = tt
 appends_none (Some xs) = sym (append-nil xs)
 
 -- nothing is read yet
-pub so_far_none : {A : Type 0} (ahead : Ahead A) (input out : Option (List ℕ)) → untaken ahead ≡ [] → ahead.position ≡ 0 → ahead.state ≡ Open → IsSoFar ahead input input out out
+pub so_far_none : {A : Type 0} (ahead : Ahead A) (input out : Option (List ℕ)) → untaken ahead ≡ []
+    → ahead.position ≡ 0 → ahead.state ≡ Open → IsSoFar ahead input input out out
 so_far_none ahead input out empty first fresh = record {
   frames = [];
   lists = record { fit = λ k d low. absurd (omega arith); read = consumes_none (untaken ahead) input empty; printed = appends_none out };
@@ -173,23 +181,31 @@ saturated p p' m n all e f sum = omega arith
 -- nothing is listed where memory is refused at once
 pub none_cut : (A : Type 0) (input out : Option (List ℕ)) (failure : Failure) → failure ≡ Refused Memory → IsCut A input out out failure
 none_cut A input out failure e =
-    let nothing : Lists {A = A} input input out out [] = record { fit = λ k d low. absurd (omega arith); read = consumes_same input; printed = appends_none out } in
+    let nothing : Lists {A = A} input input out out [] = record {
+      fit = λ k d low. absurd (omega arith);
+      read = consumes_same input;
+      printed = appends_none out;
+    } in
     subst (IsCut A input out out) (sym e) ([], input, Open, nothing, refl)
 
 -- one more frame is taken, and its line is printed
-pub so_far_more : {A : Type 0} (ahead ahead' : Ahead A) (input mid last out printed out' : Option (List ℕ)) (frame : Frame A) → IsSoFar ahead input mid out printed
-    → IsNext (left_of ahead mid) (left_of ahead' last) ahead.position ahead'.position (Some frame) → Appends printed out' (line_of (frame_text frame)) → IsEndRight ahead' last
+pub so_far_more : {A : Type 0} (ahead ahead' : Ahead A) (input mid last out printed out' : Option (List ℕ))
+    (frame : Frame A) → IsSoFar ahead input mid out printed
+    → IsNext (left_of ahead mid) (left_of ahead' last) ahead.position ahead'.position (Some frame)
+    → Appends printed out' (line_of (frame_text frame)) → IsEndRight ahead' last
     → IsSoFar ahead' input last out out'
 so_far_more {A} ahead ahead' input mid last out printed out' frame so (fits, taken, passed) line ended =
     let spelled : spellings_of so.frames ++ spelling_of frame ≡ spellings_of (so.frames ++ frame ∷ []) = flat_map_more spelling_of [] so.frames frame in
-    let lines : listing_of so.frames ++ line_of (frame_text frame) ≡ listing_of (so.frames ++ frame ∷ []) = flat_map_more (λ (one : Frame A). line_of (frame_text one)) [] so.frames frame in
+    let lines : listing_of so.frames ++ line_of (frame_text frame) ≡ listing_of (so.frames ++ frame ∷ []) =
+    flat_map_more (λ (one : Frame A). line_of (frame_text one)) [] so.frames frame in
     let before = so.position in
     let sizes = sym (ap length spelled) ∙ length-append (spellings_of so.frames) (spelling_of frame) in
     record {
       frames = so.frames ++ frame ∷ [];
       lists = record {
         fit = All-push FrameFits so.frames frame so.lists.fit fits;
-        read = subst (Consumes input (left_of ahead' last)) spelled (consumes_more input (left_of ahead mid) (left_of ahead' last) (spellings_of so.frames) (spelling_of frame) so.lists.read taken);
+        read = subst (Consumes input (left_of ahead' last)) spelled (consumes_more input (left_of ahead mid)
+            (left_of ahead' last) (spellings_of so.frames) (spelling_of frame) so.lists.read taken);
         printed = subst (Appends out out') lines (Appends-trans out printed out' (listing_of so.frames) (line_of (frame_text frame)) so.lists.printed line);
       };
       position = saturated _ _ _ _ _ before passed sizes;
@@ -200,7 +216,8 @@ nil_right : (a b : List ℕ) → a ++ b ≡ [] → b ≡ []
 nil_right [] b e = e
 nil_right (x ∷ xs) b e = cc
 
-all_consumed : (input mid last : Option (List ℕ)) (bytes spelled : List ℕ) → Consumes input mid spelled → Keeps mid (prepend_known bytes last) → IsAtEnd (prepend_known bytes last)
+all_consumed : (input mid last : Option (List ℕ)) (bytes spelled : List ℕ) → Consumes input mid spelled
+    → Keeps mid (prepend_known bytes last) → IsAtEnd (prepend_known bytes last)
     → Consumes input last spelled × IsAtEnd last
 all_consumed None mid None bytes spelled read kept end = (tt, tt)
 all_consumed None mid (Some zs) bytes spelled read kept end = (tt, nil_right bytes zs end)

@@ -46,7 +46,8 @@ trimmed_text n = if n == 0 then [] else codes " trimmed " ++ decimal n
 -- a head: the last primary ring, the log's length, its committed length and, where it isn't 0, its trimmed length
 abbrev pub head_text : Head → List ℕ
 head_text head =
-    codes "head last " ++ primary_text head.last ++ codes " length " ++ decimal head.length ++ codes " committed " ++ decimal head.committed ++ trimmed_text head.trimmed
+    codes "head last " ++ primary_text head.last ++ codes " length " ++ decimal head.length ++ codes " committed "
+    ++ decimal head.committed ++ trimmed_text head.trimmed
 
 -- a part of a log: the place of its first call, and how many calls there are
 abbrev pub part_text : {A : Type 0} → Part A → List ℕ
@@ -58,7 +59,8 @@ pack_text pack = codes "pack count " ++ decimal (length pack.calls)
 
 -- a piece of a snapshot: the length that it is of, its bytes in all, how many stand before the piece, and how many are in it
 abbrev pub snap_text : {A : Type 0} → Snap A → List ℕ
-snap_text snap = codes "snap at " ++ decimal snap.at ++ codes " total " ++ decimal snap.total ++ codes " offset " ++ decimal snap.offset ++ codes " count " ++ decimal (length snap.bytes)
+snap_text snap = codes "snap at " ++ decimal snap.at ++ codes " total " ++ decimal snap.total ++ codes " offset "
+    ++ decimal snap.offset ++ codes " count " ++ decimal (length snap.bytes)
 
 -- what is sent once more on a later ring
 abbrev pub content_text : {A : Type 0} → Content A → List ℕ
@@ -71,7 +73,8 @@ content_text (content.Snap snap) = snap_text snap
 -- a message of an old ring: its ring, number and sender there, and what it carried
 abbrev pub wrapped_text : {A : Type 0} → Wrapped A → List ℕ
 wrapped_text wrapped =
-    codes "wrapped " ++ ring_text wrapped.ring ++ codes " seq " ++ decimal wrapped.number ++ codes " from " ++ decimal wrapped.sender ++ codes " " ++ content_text wrapped.payload
+    codes "wrapped " ++ ring_text wrapped.ring ++ codes " seq " ++ decimal wrapped.number ++ codes " from "
+    ++ decimal wrapped.sender ++ codes " " ++ content_text wrapped.payload
 
 -- what a message carries
 abbrev pub payload_text : {A : Type 0} → Payload A → List ℕ
@@ -86,7 +89,8 @@ payload_text (payload.Snap snap) = snap_text snap
 -- a message: its ring, number and sender, and what it carries
 abbrev pub message_text : {A : Type 0} → Message A → List ℕ
 message_text message =
-    codes "message " ++ ring_text message.ring ++ codes " seq " ++ decimal message.number ++ codes " from " ++ decimal message.sender ++ codes " " ++ payload_text message.payload
+    codes "message " ++ ring_text message.ring ++ codes " seq " ++ decimal message.number ++ codes " from "
+    ++ decimal message.sender ++ codes " " ++ payload_text message.payload
 
 -- who lowered what is held, 0 for none
 abbrev pub lowered_text : Option ℕ → List ℕ

@@ -4,7 +4,9 @@ ghost use Rattle.std.specs.Prelude.{ℕ, List, Some};
 ghost use Rattle.std.specs.Fmt.{WritesOnOk};
 ghost use Rattle.std.specs.Iterator.{IsFinite, AlwaysYields};
 ghost use Rattle.ring_base.specs.Processors.{elements};
-ghost use Rattle.ring_listing.specs.Listed.{numbers_text, call_text, primary_text, trimmed_text, head_text, part_text, pack_text, snap_text, content_text, wrapped_text, payload_text, message_text, lowered_text, token_text, join_text, commit_text, frame_text};
+ghost use Rattle.ring_listing.specs.Listed.{numbers_text, call_text, primary_text, trimmed_text, head_text, part_text};
+ghost use Rattle.ring_listing.specs.Listed.{pack_text, snap_text, content_text, wrapped_text, payload_text};
+ghost use Rattle.ring_listing.specs.Listed.{message_text, lowered_text, token_text, join_text, commit_text, frame_text};
 
 use ring_base::{Proc, ProcSet, RingId};
 use ring_payload::{Call, Content, Head, Pack, Part, Payload, Snap, Wrapped};

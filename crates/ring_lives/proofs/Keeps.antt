@@ -1,4 +1,5 @@
--- What a move that installs nothing keeps of what was told: what was found is found, of a ring left all stays as it is, and of the others fronts and marks only rise.
+-- What a move that installs nothing keeps of what was told: what was found is found, of a ring left all stays as it is,
+-- and of the others fronts and marks only rise.
 use Rattle.std.proofs.Common.{◌≡◌, ℕ, ◌<◌, ◌≤◌, inl, inr, true, false, ◌&&◌, ◌==◌, List, [], ◌∷◌, ◌++◌, Option, Some, refl, ap, sym, ◌∙◌, subst, arith}
 use Rattle.std.specs.Prelude.{not, reverse}
 use Rattle.std.specs.List.{AllByRecursion as Each}
@@ -42,31 +43,38 @@ found_past [] held ring n h = refl
 found_past (x ∷ xs) held ring n h = cond-false (is_numbered ring n x) (Some x) (found (xs ++ held) ring n) h.0 ∙ found_past xs held ring n h.1
 
 -- of another ring none has any number
-pub other_not : {A : Type 0} → (ring : RingId) (n : ℕ) (xs : List (Message A)) → Each (λ (x : Message A). IsOther ring x) xs → Each (λ (x : Message A). IsNot ring n x) xs
-other_not {A} ring n xs h = each-weaker (λ (x : Message A). IsOther ring x) (λ (x : Message A). IsNot ring n x) (λ x k. ap (λ b. b && (x.number == n)) (other_ring x.ring ring k)) xs h
+pub other_not : {A : Type 0} → (ring : RingId) (n : ℕ) (xs : List (Message A))
+    → Each (λ (x : Message A). IsOther ring x) xs → Each (λ (x : Message A). IsNot ring n x) xs
+other_not {A} ring n xs h = each-weaker (λ (x : Message A). IsOther ring x) (λ (x : Message A). IsNot ring n x)
+    (λ x k. ap (λ b. b && (x.number == n)) (other_ring x.ring ring k)) xs h
 
 -- a number that was new was not held
-new_not : {A : Type 0} → (held : List (Message A)) (m : ℕ) (ring : RingId) (n : ℕ) (x : Message A) → holds held ring n ≡ true → is_new held m x.ring x.number ≡ true → IsNot ring n x
+new_not : {A : Type 0} → (held : List (Message A)) (m : ℕ) (ring : RingId) (n : ℕ) (x : Message A)
+    → holds held ring n ≡ true → is_new held m x.ring x.number ≡ true → IsNot ring n x
 new_not {A} held m ring n x h new =
     false_from_ne_true (is_numbered ring n x) (λ e.
     let p = and_parts (same_ring x.ring ring) (x.number == n) e in
     let r : x.ring ≡ ring = ring_same x.ring ring p.0 in
     let k : x.number ≡ n = eqb-true x.number n p.1 in
     let q = (and_parts (in_window m x.number) (not (holds held x.ring x.number)) new).1 in
-    let t : holds held x.ring x.number ≡ true = subst (λ (r : RingId). holds held r x.number ≡ true) (sym r) (subst (λ (k : ℕ). holds held ring k ≡ true) (sym k) h) in
+    let t : holds held x.ring x.number ≡ true = subst (λ (r : RingId). holds held r x.number ≡ true) (sym r)
+    (subst (λ (k : ℕ). holds held ring k ≡ true) (sym k) h) in
     false≢true (ap not (sym t) ∙ q))
 
 -- what is unwrapped was new
 abbrev pub WasNew : {A : Type 0} → List (Message A) → Message A → Type 0
 WasNew held x = (m : ℕ) × (is_new held m x.ring x.number ≡ true)
 
-inner_new : {A : Type 0} → (old : RingId) (m : ℕ) (held : List (Message A)) (w : WrappedMessage A) → Each (λ (x : Message A). WasNew held x) (inner_if_new old m held w)
+inner_new : {A : Type 0} → (old : RingId) (m : ℕ) (held : List (Message A)) (w : WrappedMessage A)
+    → Each (λ (x : Message A). WasNew held x) (inner_if_new old m held w)
 inner_new {A} old m held w =
     cond_both (same_ring w.ring old && is_new held m old w.number) _ [] (Each (λ (x : Message A). WasNew held x))
-    (λ e. (let p = and_parts (same_ring w.ring old) (is_new held m old w.number) e in ((m, subst (λ (r : RingId). is_new held m r w.number ≡ true) (sym (ring_same w.ring old p.0)) p.1), tt)))
+    (λ e. (let p = and_parts (same_ring w.ring old) (is_new held m old w.number)
+    e in ((m, subst (λ (r : RingId). is_new held m r w.number ≡ true) (sym (ring_same w.ring old p.0)) p.1), tt)))
     (λ e. tt)
 
-unwrapped_new : {A : Type 0} → (old : RingId) (m : ℕ) (held : List (Message A)) (p : Payload A) → Each (λ (x : Message A). WasNew held x) (unwrapped old m held p)
+unwrapped_new : {A : Type 0} → (old : RingId) (m : ℕ) (held : List (Message A)) (p : Payload A)
+    → Each (λ (x : Message A). WasNew held x) (unwrapped old m held p)
 unwrapped_new old m held (Wrapped w) = inner_new old m held w
 unwrapped_new old m held (Call call) = tt
 unwrapped_new old m held End = tt
@@ -84,10 +92,12 @@ gives_new Stopped c x = tt
 
 pub were_not : {A : Type 0} → (held : List (Message A)) (ring : RingId) (n : ℕ) → holds held ring n ≡ true → (xs : List (Message A)) →
     Each (λ (x : Message A). WasNew held x) xs → Each (λ (x : Message A). IsNot ring n x) xs
-were_not {A} held ring n h xs e = each-weaker (λ (x : Message A). WasNew held x) (λ (x : Message A). IsNot ring n x) (λ x w. new_not held w.0 ring n x h w.1) xs e
+were_not {A} held ring n h xs e = each-weaker (λ (x : Message A). WasNew held x) (λ (x : Message A). IsNot ring n x)
+    (λ x w. new_not held w.0 ring n x h w.1) xs e
 
 -- what is numbered in a visit is above all that is held of the ring
-numbered_not : {A : Type 0} → (held : List (Message A)) (t : Token) (me : ℕ) (fresh : List (Payload A)) → highest held t.ring ≤ t.seq → (ring : RingId) (n : ℕ) →
+numbered_not : {A : Type 0} → (held : List (Message A)) (t : Token) (me : ℕ) (fresh : List (Payload A))
+    → highest held t.ring ≤ t.seq → (ring : RingId) (n : ℕ) →
     holds held ring n ≡ true → Each (λ (x : Message A). IsNot ring n x) (reverse (numbered t.ring me t.seq fresh))
 numbered_not {A} held t me fresh ahead ring n h =
     each-reverse (λ (x : Message A). IsNot ring n x) (numbered t.ring me t.seq fresh)
@@ -138,12 +148,15 @@ all_same {A} ring c d e m =
     record { found_is = λ n. ap (λ (xs : List (Message A)). found xs ring n) e; front_is = ap (λ (xs : List (Message A)). front_of xs ring) e; mark_is = m }
 
 -- a visit adds nothing of another ring
-pub visited_same : {A : Type 0} → (c : Core A) (t : Token) (fresh : List (Payload A)) (requests : List ℕ) (again : List (Message A)) (queue : List (Payload A)) (r : RingId) →
+pub visited_same : {A : Type 0} → (c : Core A) (t : Token) (fresh : List (Payload A)) (requests : List ℕ)
+    (again : List (Message A)) (queue : List (Payload A)) (r : RingId) →
     (t.ring ≡ r → ⊥) → IsSameOf r c (moved c (Visits t fresh requests again queue))
 visited_same {A} c t fresh requests again queue r other =
     let new = reverse (numbered t.ring c.me t.seq fresh) in
     let others : Each (λ (x : Message A). IsOther r x) new =
-    each-reverse (λ (x : Message A). IsOther r x) (numbered t.ring c.me t.seq fresh) (each-in (λ (x : Message A). IsOther r x) (numbered t.ring c.me t.seq fresh) (λ x i e. other (sym (numbered_in t.ring c.me t.seq fresh x i).ring_is ∙ e))) in
+    each-reverse (λ (x : Message A). IsOther r x) (numbered t.ring c.me t.seq fresh)
+    (each-in (λ (x : Message A). IsOther r x) (numbered t.ring c.me t.seq fresh)
+    (λ x i e. other (sym (numbered_in t.ring c.me t.seq fresh x i).ring_is ∙ e))) in
     record {
       found_is = λ n. found_past new c.held r n (other_not r n new others);
       front_is = front_other new c.held r others;
@@ -180,11 +193,26 @@ moved_keeps {A} came c (Learns k) h o s =
       marks = λ r. safe_mark-raise _ c.turns c.raises r;
       left = λ r l. all_same r c _ refl (raises_other {A = A} _ c.turns c.raises r (λ e. below_other r c.installed.ring l (sym e)));
       entries = λ r l. (let a : c.installed.ring.seq < floor c = o.apart (inl h.state) in let b : k.ring.seq ≡ floor c = ap (λ (r : RingId). r.seq) h.ring in
-          cond-false (same_ring k.ring r) k.entries (entries_for r c.plans) (other_ring k.ring r (λ e. (let q : k.ring.seq ≡ r.seq = ap (λ (r : RingId). r.seq) e in omega (arith, a, b, l, q)))));
+          cond-false (same_ring k.ring r) k.entries (entries_for r c.plans)
+          (other_ring k.ring r (λ e. (let q : k.ring.seq ≡ r.seq = ap (λ (r : RingId). r.seq) e in omega (
+            arith,
+            a,
+            b,
+            l,
+            q,
+          )))));
     }
 moved_keeps {A} came c (Visits t fresh requests again queue) h o s =
     let new = reverse (numbered t.ring c.me t.seq fresh) in
-    let other : (r : RingId) → r.seq < c.installed.ring.seq → t.ring ≡ r → ⊥ = λ r l e. (let a : c.installed.ring.seq ≤ floor c = o.below in let b : t.ring.seq ≡ floor c = ap (λ (r : RingId). r.seq) h.ring in let q : t.ring.seq ≡ r.seq = ap (λ (r : RingId). r.seq) e in omega (arith, a, b, l, q)) in
+    let other : (r : RingId) → r.seq < c.installed.ring.seq → t.ring ≡ r
+    → ⊥ = λ r l e. (let a : c.installed.ring.seq ≤ floor c = o.below in let b : t.ring.seq ≡ floor c = ap
+    (λ (r : RingId). r.seq) h.ring in let q : t.ring.seq ≡ r.seq = ap (λ (r : RingId). r.seq) e in omega (
+      arith,
+      a,
+      b,
+      l,
+      q,
+    )) in
     record {
       installed = refl;
       installs = refl;
@@ -198,18 +226,28 @@ moved_keeps {A} came c (Takes x) h o s =
     let more = gives_old c.state c x in
     let other : (r : RingId) → r.seq < c.installed.ring.seq → x.ring ≡ r → ⊥ =
     λ r l e. elim (h.ring) [
-      | inl f ↦ (let a : c.installed.ring.seq ≤ floor c = o.below in let b : x.ring.seq ≡ floor c = ap (λ (r : RingId). r.seq) f.ring in let q : x.ring.seq ≡ r.seq = ap (λ (r : RingId). r.seq) e in omega (arith, a, b, l, q))
+      | inl f ↦ (let a : c.installed.ring.seq ≤ floor c = o.below in let b : x.ring.seq ≡ floor c = ap
+          (λ (r : RingId). r.seq) f.ring in let q : x.ring.seq ≡ r.seq = ap (λ (r : RingId). r.seq) e in omega (
+            arith,
+            a,
+            b,
+            l,
+            q,
+          ))
       | inr f ↦ below_other r c.installed.ring l (sym e ∙ f.ring)
     ] in
-    let others : (r : RingId) → r.seq < c.installed.ring.seq → Each (λ (x : Message A). IsOther r x) more = λ r l. gives_other c.state c x r (below_other r c.installed.ring l) in
+    let others : (r : RingId) → r.seq < c.installed.ring.seq → Each (λ (x : Message A). IsOther r x) more =
+    λ r l. gives_other c.state c x r (below_other r c.installed.ring l) in
     record {
       installed = refl;
       installs = refl;
-      finds = λ r n k. found_past more (x ∷ c.held) r n (were_not c.held r n k more (gives_new c.state c x)) ∙ found_past (x ∷ []) c.held r n (new_not c.held (mark c x.ring) r n x k h.new, tt);
+      finds = λ r n k. found_past more (x ∷ c.held) r n (were_not c.held r n k more (gives_new c.state c x))
+          ∙ found_past (x ∷ []) c.held r n (new_not c.held (mark c x.ring) r n x k h.new, tt);
       fronts = (moved_grows c (Takes x)).fronts;
       marks = λ r. omega arith;
       left = λ r l. record {
-        found_is = λ n. found_past more (x ∷ c.held) r n (other_not r n more (others r l)) ∙ found_past (x ∷ []) c.held r n (other_not r n (x ∷ []) (other r l, tt));
+        found_is = λ n. found_past more (x ∷ c.held) r n (other_not r n more (others r l))
+            ∙ found_past (x ∷ []) c.held r n (other_not r n (x ∷ []) (other r l, tt));
         front_is = front_other more (x ∷ c.held) r (others r l) ∙ front_other (x ∷ []) c.held r (other r l, tt);
         mark_is = refl;
       };
@@ -235,7 +273,8 @@ holds-found [] ring n h = absurd (false≢true h)
 holds-found {A} (y ∷ held) ring n h =
     elim (cases_Bool (is_numbered ring n y)) [
       | inl e ↦ (y, cond-true (is_numbered ring n y) (Some y) (found held ring n) e)
-      | inr e ↦ (let r = holds-found held ring n (elim (or_cases (is_numbered ring n y) (holds held ring n) h) [ inl t ↦ absurd (both_ways (is_numbered ring n y) e t) | inr t ↦ t ]) in
+      | inr e ↦ (let r = holds-found held ring n (elim (or_cases (is_numbered ring n y) (holds held ring n) h)
+          [ inl t ↦ absurd (both_ways (is_numbered ring n y) e t) | inr t ↦ t ]) in
           (r.0, cond-false (is_numbered ring n y) (Some y) (found held ring n) e ∙ r.1))
     ]
 

@@ -1,4 +1,5 @@
--- The rings that a core installed: the last one first, their numbers fall, none is above the ring that runs; on the way into a ring that one is above all of them.
+-- The rings that a core installed: the last one first, their numbers fall, none is above the ring that runs; on the way
+-- into a ring that one is above all of them.
 use Rattle.std.proofs.Common.{◌≡◌, ℕ, ◌<◌, ◌≤◌, ◌⊎◌, inl, inr, List, [], ◌∷◌, refl, ap, sym, ◌∙◌, subst, arith}
 use Rattle.ring_base.specs.declared.state.State.{State}
 use Rattle.ring_base.specs.declared.state.State.TheVariants.{Gather, Commit, Recovery, Operational, Stopped}
@@ -51,7 +52,13 @@ moved_ordered came c (Enters k) h o =
     let b : floor c < k.ring.seq = h.above in
     record { older = o.older; newest = o.newest; falls = o.falls; below = omega (arith, a, b); apart = λ w. omega (arith, a, b) }
 moved_ordered came c (Learns k) h o = record { older = o.older; newest = o.newest; falls = o.falls; below = o.below; apart = λ w. o.apart (inl h.state) }
-moved_ordered came c (Visits t fresh requests again queue) h o = record { older = o.older; newest = o.newest; falls = o.falls; below = o.below; apart = o.apart }
+moved_ordered came c (Visits t fresh requests again queue) h o = record {
+  older = o.older;
+  newest = o.newest;
+  falls = o.falls;
+  below = o.below;
+  apart = o.apart;
+}
 moved_ordered came c (Takes x) h o = record { older = o.older; newest = o.newest; falls = o.falls; below = o.below; apart = o.apart }
 moved_ordered came c Installs h o =
     record {

@@ -1,5 +1,6 @@
 -- What a step gives makes of the life that a core's facts tell the life that they tell after it.
-use Rattle.std.proofs.Common.{◌≡◌, ℕ, zero, suc, ◌+◌, ◌-◌, ◌<◌, ◌≤◌, Bool, true, false, ◌&&◌, ◌==◌, List, [], ◌∷◌, ◌++◌, map, Option, refl, ap, sym, ◌∙◌, subst, arith, append_assoc, append-nil}
+use Rattle.std.proofs.Common.{◌≡◌, ℕ, zero, suc, ◌+◌, ◌-◌, ◌<◌, ◌≤◌, Bool, true, false, ◌&&◌, ◌==◌, List, [], ◌∷◌, ◌++◌}
+use Rattle.std.proofs.Common.{map, Option, refl, ap, sym, ◌∙◌, subst, arith, append_assoc, append-nil}
 use Rattle.std.specs.Prelude.{filter, filter_map, nat_lt}
 use Rattle.std.specs.List.{AllByRecursion as Each, cons_option}
 use Rattle.std.proofs.Math.Path.{fun_ext}
@@ -25,7 +26,8 @@ use Rattle.ring_core.specs.State.{Core, Sent, Did}
 use Rattle.ring_core.specs.Views.{front, mark, plan, entries_for}
 use Rattle.ring_core.specs.Giving.{may_install, install, addressed, sent, users, agreed_from, safe_from, delivered_from, given, configured, settle}
 use Rattle.ring_core.specs.Joining.{proposes}
-use Rattle.ring_core.specs.Deciding.{Act, Ignore, Enqueue, Repeat, Announce, Invite, GiveUp, Regather, Agree, Widen, RegatherAndAgree, RegatherAndWiden, Take, Visit, Fill, Learn, decide}
+use Rattle.ring_core.specs.Deciding.{Act, Ignore, Enqueue, Repeat, Announce, Invite, GiveUp, Regather, Agree, Widen}
+use Rattle.ring_core.specs.Deciding.{RegatherAndAgree, RegatherAndWiden, Take, Visit, Fill, Learn, decide}
 use Rattle.ring_core.specs.Acting.{done, may_follow, proposed_after}
 use Rattle.ring_core.specs.Stepping.{ring_step}
 use Rattle.ring_core.specs.declared.input.Input.TheVariants.{Frame as FrameInput}
@@ -74,24 +76,36 @@ tells_sends l (s ∷ sends) = tells_one l l (SendOut s.to s.frame) _ refl (tells
 
 tells_agreed : {A : Type 0} → (at : Configuration) (safe : ℕ) (earlier : List (Stage A)) (xs ys : List (Message A)) →
     Tells (living (InRegular at xs safe) earlier) (map (λ (x : Message A). Agreed at.ring x.number x) ys) (living (InRegular at (xs ++ ys) safe) earlier)
-tells_agreed {A} at safe earlier xs [] = tells_to _ _ _ [] (ap (λ (zs : List (Message A)). living (InRegular at zs safe) earlier) (sym (append-nil xs))) (tells_none _)
+tells_agreed {A} at safe earlier xs [] = tells_to _ _ _ []
+    (ap (λ (zs : List (Message A)). living (InRegular at zs safe) earlier) (sym (append-nil xs))) (tells_none _)
 tells_agreed {A} at safe earlier xs (y ∷ ys) =
     tells_one _ _ (Agreed at.ring y.number y) _ (same-self at.ring)
-    (tells_to _ _ _ _ (ap (λ (zs : List (Message A)). living (InRegular at zs safe) earlier) (append_assoc xs (y ∷ []) ys)) (tells_agreed at safe earlier (xs ++ y ∷ []) ys))
+    (tells_to _ _ _ _ (ap (λ (zs : List (Message A)). living (InRegular at zs safe) earlier)
+    (append_assoc xs (y ∷ []) ys)) (tells_agreed at safe earlier (xs ++ y ∷ []) ys))
 
 tells_safe : {A : Type 0} → (d : Core A) (at : Configuration) (m : ℕ) (earlier : List (Stage A)) (xs : List (Message A)) → m ≤ mark d at.ring →
     Tells (living (InRegular at xs m) earlier) (safe_from d at.ring m) (living (InRegular at xs (mark d at.ring)) earlier)
 tells_safe {A} d at m earlier xs low =
-    cond_both (nat_lt m (mark d at.ring)) (Safe at.ring (mark d at.ring) ∷ []) [] (λ (outs : List (Out A)). Tells (living (InRegular at xs m) earlier) outs (living (InRegular at xs (mark d at.ring)) earlier))
+    cond_both (nat_lt m (mark d at.ring)) (Safe at.ring (mark d at.ring) ∷ []) []
+    (λ (outs : List (Out A)). Tells (living (InRegular at xs m) earlier) outs
+    (living (InRegular at xs (mark d at.ring)) earlier))
     (λ e. tells_one _ _ (Safe at.ring (mark d at.ring)) [] (same-self at.ring) (tells_none _))
-    (λ e. (let same : m ≡ mark d at.ring = (let up = ltb-false m (mark d at.ring) e in omega (arith, low, up)) in tells_to _ _ _ [] (ap (λ n. living (InRegular at xs n) earlier) same) (tells_none _)))
+    (λ e. (let same : m ≡ mark d at.ring = (let up = ltb-false m (mark d at.ring) e in omega (
+      arith,
+      low,
+      up,
+    )) in tells_to _ _ _ [] (ap (λ n. living (InRegular at xs n) earlier) same) (tells_none _)))
 
 tells_rest : {A : Type 0} → (old new : RingId) (members : ℕ) (earlier : List (Stage A)) (xs ys : List (Message A)) → Each (λ (x : Message A). x.ring ≡ old) ys →
-    Tells (living (InTransitional old new members xs) earlier) (map (λ (x : Message A). Rest x.ring x.number x) ys) (living (InTransitional old new members (xs ++ ys)) earlier)
-tells_rest {A} old new members earlier xs [] h = tells_to _ _ _ [] (ap (λ (zs : List (Message A)). living (InTransitional old new members zs) earlier) (sym (append-nil xs))) (tells_none _)
+    Tells (living (InTransitional old new members xs) earlier) (map (λ (x : Message A). Rest x.ring x.number x) ys)
+    (living (InTransitional old new members (xs ++ ys)) earlier)
+tells_rest {A} old new members earlier xs [] h = tells_to _ _ _ []
+    (ap (λ (zs : List (Message A)). living (InTransitional old new members zs) earlier) (sym (append-nil xs)))
+    (tells_none _)
 tells_rest {A} old new members earlier xs (y ∷ ys) h =
     tells_one _ _ (Rest y.ring y.number y) _ (subst (λ r. same_ring old r ≡ true) (sym h.0) (same-self old))
-    (tells_to _ _ _ _ (ap (λ (zs : List (Message A)). living (InTransitional old new members zs) earlier) (append_assoc xs (y ∷ []) ys)) (tells_rest old new members earlier (xs ++ y ∷ []) ys h.1))
+    (tells_to _ _ _ _ (ap (λ (zs : List (Message A)). living (InTransitional old new members zs) earlier)
+    (append_assoc xs (y ∷ []) ys)) (tells_rest old new members earlier (xs ++ y ∷ []) ys h.1))
 
 -- What a front covers
 
@@ -112,7 +126,8 @@ heard_more {A} get m k =
     let b = filter-append user (filter_map get (numbers_from 1 m)) (filter_map get (numbers_from (1 + m) k)) in
     sym b ∙ ap (filter user) (sym a) ∙ ap (λ ns. filter user (filter_map get ns)) (numbers-append 1 m k)
 
-users_then : {A : Type 0} → (c d : Core A) (ring : RingId) → Keeps c d → users c ring 0 (front c ring) ++ users d ring (front c ring) (front d ring) ≡ users d ring 0 (front d ring)
+users_then : {A : Type 0} → (c d : Core A) (ring : RingId) → Keeps c d → users c ring 0 (front c ring) ++ users d ring
+    (front c ring) (front d ring) ≡ users d ring 0 (front d ring)
 users_then {A} c d ring k =
     let user : Message A → Bool = λ x. is_user x.payload in
     let f = front c ring in
@@ -127,14 +142,17 @@ users_then {A} c d ring k =
     let one : f + 1 ≡ 1 + f = omega arith in
     let second : users d ring f g ≡ heard get (1 + f) (g - f) = ap (λ n. heard get n (g - f)) one in
     let whole : f + (g - f) ≡ g = omega (arith, up) in
-    ap (λ (xs : List (Message A)). xs ++ users d ring f g) first ∙ ap (λ (xs : List (Message A)). heard get 1 f ++ xs) second ∙ heard_more get f (g - f) ∙ ap (heard get 1) whole ∙ sym (ap (heard get 1) all_less)
+    ap (λ (xs : List (Message A)). xs ++ users d ring f g) first ∙ ap (λ (xs : List (Message A)). heard get 1 f ++ xs)
+    second ∙ heard_more get f (g - f) ∙ ap (heard get 1) whole ∙ sym (ap (heard get 1) all_less)
 
 -- What was told before stays told
 
 rests_same : {A : Type 0} → (p : Plan) (a b : List (Message A)) → ((n : ℕ) → found a p.old n ≡ found b p.old n) → rests p a ≡ rests p b
 rests_same {A} p a b h =
     let rest : (ℕ → Option (Message A)) → List (Message A) =
-    λ get. filter (λ (x : Message A). is_user x.payload) (filter_map get (transitional_part p ++ filter (λ n. sent_by_mate p (get n)) (filter (nat_lt (gap p)) (known_above_safe p)))) in
+    λ get. filter (λ (x : Message A). is_user x.payload)
+    (filter_map get (transitional_part p ++ filter (λ n. sent_by_mate p (get n))
+    (filter (nat_lt (gap p)) (known_above_safe p)))) in
     let same : found a p.old ≡ found b p.old = fun_ext h in
     ap rest same
 
@@ -145,14 +163,17 @@ regular_same {A} c d at s =
     ∙ ap (λ n. InRegular at (heard (found c.held at.ring) 1 (n - 0)) (mark d at.ring)) s.front_is
     ∙ ap (λ n. InRegular at (users c at.ring 0 (front c at.ring)) n) s.mark_is
 
-between_same : {A : Type 0} → (c d : Core A) (next old : Configuration) → entries_for next.ring d.plans ≡ entries_for next.ring c.plans → IsSameOf old.ring c d →
+between_same : {A : Type 0} → (c d : Core A) (next old : Configuration) → entries_for next.ring d.plans
+    ≡ entries_for next.ring c.plans → IsSameOf old.ring c d →
     between d next old ≡ between c next old
 between_same {A} c d next old e s =
-    let way : List CommitEntry → List (Message A) → Stage A = λ entries held. InTransitional old.ring next.ring (plan_of old.ring next.members entries).mates (rests (plan_of old.ring next.members entries) held) in
+    let way : List CommitEntry → List (Message A) → Stage A = λ entries held. InTransitional old.ring next.ring
+    (plan_of old.ring next.members entries).mates (rests (plan_of old.ring next.members entries) held) in
     ap (λ entries. way entries d.held) e
     ∙ ap (InTransitional old.ring next.ring (plan_into c next old).mates) (rests_same (plan_into c next old) d.held c.held s.found_is)
 
-before_same : {A : Type 0} → (c d : Core A) → Keeps c d → (next : Configuration) (older : List Configuration) → next.ring.seq ≤ c.installed.ring.seq → IsFalling (next ∷ older) →
+before_same : {A : Type 0} → (c d : Core A) → Keeps c d → (next : Configuration) (older : List Configuration)
+    → next.ring.seq ≤ c.installed.ring.seq → IsFalling (next ∷ older) →
     before_of d next older ≡ before_of c next older
 before_same c d k next [] l f = refl
 before_same {A} c d k next (old ∷ older) l f =
@@ -171,8 +192,10 @@ tells_given {A} c d older k f =
     let before = before_of c at older in
     let all = users c at.ring 0 (front c at.ring) ++ users d at.ring (front c at.ring) (front d at.ring) in
     tells_to _ (living (InRegular at all (mark d at.ring)) before) _ (given c d)
-    (ap (λ (xs : List (Message A)). living (InRegular at xs (mark d at.ring)) before) (users_then c d at.ring k) ∙ ap (living (regular_of d at)) (sym (before_same c d k at older (omega arith) f)))
-    (tells_then (tale_in c at older) (living (InRegular at all (mark c at.ring)) before) _ (agreed_from d at.ring (front c at.ring)) (safe_from d at.ring (mark c at.ring))
+    (ap (λ (xs : List (Message A)). living (InRegular at xs (mark d at.ring)) before) (users_then c d at.ring k)
+    ∙ ap (living (regular_of d at)) (sym (before_same c d k at older (omega arith) f)))
+    (tells_then (tale_in c at older) (living (InRegular at all (mark c at.ring)) before) _ (agreed_from d at.ring
+    (front c at.ring)) (safe_from d at.ring (mark c at.ring))
     (tells_agreed at (mark c at.ring) before (users c at.ring 0 (front c at.ring)) (users d at.ring (front c at.ring) (front d at.ring)))
     (tells_safe d at (mark c at.ring) before all (k.marks at.ring)))
 
@@ -181,12 +204,15 @@ tells_given {A} c d older k f =
 found_ring : {A : Type 0} → (held : List (Message A)) (ring : RingId) (ns : List ℕ) → Each (λ (x : Message A). x.ring ≡ ring) (filter_map (found held ring) ns)
 found_ring {A} held ring ns =
     each-filter_map (λ (n : ℕ). Unit {0}) (λ (x : Message A). x.ring ≡ ring) (found held ring)
-    (λ n x u e. ring_same x.ring ring (and_parts (same_ring x.ring ring) (x.number == n) (find-in (is_numbered ring n) x held e).1).0) ns (each-in (λ (n : ℕ). Unit {0}) ns (λ n i. tt))
+    (λ n x u e. ring_same x.ring ring (and_parts (same_ring x.ring ring) (x.number == n)
+    (find-in (is_numbered ring n) x held e).1).0) ns (each-in (λ (n : ℕ). Unit {0}) ns (λ n i. tt))
 
 rests_ring : {A : Type 0} → (p : Plan) (held : List (Message A)) → Each (λ (x : Message A). x.ring ≡ p.old) (rests p held)
-rests_ring {A} p held = each-filter (λ (x : Message A). x.ring ≡ p.old) (λ (x : Message A). is_user x.payload) _ (found_ring held p.old (transitional_part p ++ past_gap_part p held))
+rests_ring {A} p held = each-filter (λ (x : Message A). x.ring ≡ p.old)
+    (λ (x : Message A). is_user x.payload) _ (found_ring held p.old (transitional_part p ++ past_gap_part p held))
 
-tells_configured : {A : Type 0} → (d : Core A) (older : List Configuration) → Tells (tale_in d d.installed older) (configured d) (tale_in (install d) d.running (d.installed ∷ older))
+tells_configured : {A : Type 0} → (d : Core A) (older : List Configuration) → Tells (tale_in d d.installed older)
+    (configured d) (tale_in (install d) d.running (d.installed ∷ older))
 tells_configured {A} d older =
     let old = d.installed in
     let next = d.running in
@@ -194,7 +220,8 @@ tells_configured {A} d older =
     let rest = rests (plan d) d.held in
     let way = between d next old ∷ before in
     tells_one (tale_in d old older) _ (Trans old.ring next.ring (plan d).mates) _ (same-self old.ring)
-    (tells_then _ (living (between d next old) before) _ (map (λ (x : Message A). Rest x.ring x.number x) rest) (Regular next.ring next.members ∷ delivered_from d next.ring 0 0)
+    (tells_then _ (living (between d next old) before) _ (map (λ (x : Message A). Rest x.ring x.number x) rest)
+    (Regular next.ring next.members ∷ delivered_from d next.ring 0 0)
     (tells_rest old.ring next.ring (plan d).mates before [] rest (rests_ring (plan d) d.held))
     (tells_one _ _ (Regular next.ring next.members) (delivered_from d next.ring 0 0) (same-self next.ring)
     (tells_then _ (living (InRegular next (users d next.ring 0 (front d next.ring)) 0) way) _ (agreed_from d next.ring 0) (safe_from d next.ring 0)
@@ -255,7 +282,8 @@ settled_tells : {A : Type 0} → (c : Core A) (b : Bool) (d : Core A) (outs : Li
 settled_tells c false d outs older e t = tells_to (tale c) (tale_in d d.installed older) (tale d) outs (sym (ap (tale_by d) e)) t
 settled_tells c true d outs older e t =
     tells_then (tale c) (tale_in d d.installed older) (tale (install d)) outs (configured d) t
-    (tells_to _ (tale_in (install d) d.running (d.installed ∷ older)) (tale (install d)) (configured d) (ap (tale_in (install d) d.running) (sym e)) (tells_configured d older))
+    (tells_to _ (tale_in (install d) d.running (d.installed ∷ older)) (tale (install d)) (configured d)
+    (ap (tale_in (install d) d.running) (sym e)) (tells_configured d older))
 
 pub step_tells : {A : Type 0} → (c : Core A) (input : Input A) → Ordered c → Tells (tale c) (ring_step c input).outs (tale (ring_step c input).core)
 unfolding ring_step
@@ -263,8 +291,11 @@ step_tells {A} c input o =
     let d = done c (decide c input) in
     let k = (keeps_done c input o).keeps in
     let told : Tells (tale_in c c.installed o.older) (sent d.sends ++ given c d.core) (tale_in d.core c.installed o.older) =
-    tells_then _ (tale_in c c.installed o.older) _ (sent d.sends) (given c d.core) (tells_sends (tale_in c c.installed o.older) (addressed d.sends)) (tells_given c d.core o.older k o.falls) in
-    let from : Tells (tale c) (sent d.sends ++ given c d.core) (tale_in d.core c.installed o.older) = subst (λ (l : Life A). Tells l (sent d.sends ++ given c d.core) (tale_in d.core c.installed o.older)) (sym (tale_is c o)) told in
+    tells_then _ (tale_in c c.installed o.older) _ (sent d.sends) (given c d.core)
+    (tells_sends (tale_in c c.installed o.older) (addressed d.sends)) (tells_given c d.core o.older k o.falls) in
+    let from : Tells (tale c) (sent d.sends ++ given c d.core) (tale_in d.core c.installed o.older) =
+    subst (λ (l : Life A). Tells l (sent d.sends ++ given c d.core) (tale_in d.core c.installed o.older))
+    (sym (tale_is c o)) told in
     let to : Tells (tale c) (sent d.sends ++ given c d.core) (tale_in d.core (d.core).installed o.older) =
     tells_to (tale c) _ _ (sent d.sends ++ given c d.core) (ap (λ at. tale_in d.core at o.older) (sym k.installed)) from in
     settled_tells c (may_install d.core) d.core (sent d.sends ++ given c d.core) o.older (k.installs ∙ o.newest ∙ ap (λ at. at ∷ o.older) (sym k.installed)) to

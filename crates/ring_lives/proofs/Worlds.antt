@@ -25,7 +25,8 @@ use Rattle.ring_lives.proofs.Telling.{Tells, tells_then, step_tells}
 picked_own : {A : Type 0} → (i : ℕ) (outs : List (Out A)) → filter_map (given_if i) (map (λ (o : Out A). (i, o)) outs) ≡ outs
 picked_own i [] = refl
 picked_own {A} i (o ∷ outs) =
-    ap (λ b. cons_option (cond b (Some o) None) (filter_map (given_if i) (map (λ (o : Out A). (i, o)) outs))) (eq-eqb i i refl) ∙ ap (λ (xs : List (Out A)). o ∷ xs) (picked_own i outs)
+    ap (λ b. cons_option (cond b (Some o) None) (filter_map (given_if i) (map (λ (o : Out A). (i, o)) outs)))
+    (eq-eqb i i refl) ∙ ap (λ (xs : List (Out A)). o ∷ xs) (picked_own i outs)
 
 picked_other : {A : Type 0} → (i j : ℕ) → (i ≡ j → ⊥) → (outs : List (Out A)) → filter_map (given_if j) (map (λ (o : Out A). (i, o)) outs) ≡ []
 picked_other i j n [] = refl
@@ -54,13 +55,15 @@ stepped_told {A} true w i input h j =
     cond_both (j == i) s.core (w.cores j) (λ (c : Core A). IsTold j c there)
     (λ e. (let same : i ≡ j = sym (eqb-true j i e) in subst (λ (j : ℕ). IsTold j s.core (filter_map (given_if j) (w.outs ++ new))) same own))
     (λ e. (let other : i ≡ j → ⊥ = λ k. eqb-false j i e (sym k) in
-    told_same j (w.cores j) (outs_of w j) there (parts ∙ ap (λ (xs : List (Out A)). outs_of w j ++ xs) (picked_other i j other s.outs) ∙ append-nil (outs_of w j)) (h j)))
+    told_same j (w.cores j) (outs_of w j) there (parts ∙ ap (λ (xs : List (Out A)). outs_of w j ++ xs)
+    (picked_other i j other s.outs) ∙ append-nil (outs_of w j)) (h j)))
   where
     own : IsTold i (ring_step (w.cores i) input).core (filter_map (given_if i) (w.outs ++ map (λ (o : Out A). (i, o)) (ring_step (w.cores i) input).outs))
     own =
         let s = ring_step (w.cores i) input in
         let new : List (ℕ × Out A) = map (λ (o : Out A). (i, o)) s.outs in
-        told_same i s.core (outs_of w i ++ s.outs) _ (filter_map-append (given_if i) w.outs new ∙ ap (λ (xs : List (Out A)). outs_of w i ++ xs) (picked_own i s.outs))
+        told_same i s.core (outs_of w i ++ s.outs) _ (filter_map-append (given_if i) w.outs new
+        ∙ ap (λ (xs : List (Out A)). outs_of w i ++ xs) (picked_own i s.outs))
         (record {
           ordered = kept_step Ordered ordering (w.cores i) input (h i).ordered;
           tells = tells_then (begun i) (tale (w.cores i)) (tale s.core) (outs_of w i) s.outs (h i).tells (step_tells (w.cores i) input (h i).ordered);
@@ -70,7 +73,11 @@ stopped_told : {A : Type 0} → (b : Bool) (w : World A) (i : ℕ) → AllTold w
 stopped_told false w i h j = h j
 stopped_told {A} true w i h j =
     cond_both (j == i) (halted (w.cores i)) (w.cores j) (λ (c : Core A). IsTold j c (outs_of w j))
-    (λ e. subst (λ (i : ℕ). IsTold j (halted (w.cores i)) (outs_of w j)) (eqb-true j i e) (record { ordered = kept_stop Ordered ordering (w.cores j) (h j).ordered; tells = record { after = ((h j).tells).after; belong = ((h j).tells).belong } }))
+    (λ e. subst (λ (i : ℕ). IsTold j (halted (w.cores i)) (outs_of w j)) (eqb-true j i e)
+    (record {
+      ordered = kept_stop Ordered ordering (w.cores j) (h j).ordered;
+      tells = record { after = ((h j).tells).after; belong = ((h j).tells).belong };
+    }))
     (λ e. h j)
 
 if_told : {A : Type 0} → (b : Bool) (w : World A) (i : ℕ) (frame : Frame A) → AllTold w → AllTold (handed_if b w i frame)

@@ -1,4 +1,5 @@
--- The life that a core's facts tell: each ring that it installed with the users' messages up to its front there and its safe mark, and between two of them what the plan of the newer one gave of the older one.
+-- The life that a core's facts tell: each ring that it installed with the users' messages up to its front there and its
+-- safe mark, and between two of them what the plan of the newer one gave of the older one.
 -- Outputs, rules 9 and 10 of docs/PROTOCOL.md.
 use Rattle.std.specs.Prelude.{List, [], ◌∷◌}
 use Rattle.ring_commit.specs.declared.configuration.Configuration.{Configuration}

@@ -1,4 +1,5 @@
--- Each fact is of a ring that the core takes part in, since a move adds facts of the running ring, of the installed one, or of the one that it enters; and a ring above all before has none yet.
+-- Each fact is of a ring that the core takes part in, since a move adds facts of the running ring, of the installed
+-- one, or of the one that it enters; and a ring above all before has none yet.
 use Rattle.std.proofs.Common.{◌≡◌, ℕ, ◌<◌, ◌≤◌, ◌⊎◌, inl, inr, suc, ◌&&◌, List, [], ◌∷◌, refl, ap, sym, ◌∙◌, subst, arith}
 use Rattle.std.specs.Prelude.{reverse}
 use Rattle.std.specs.List.{AllByRecursion as Each}

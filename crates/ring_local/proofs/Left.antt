@@ -1,4 +1,6 @@
--- What is known of a ring that was left stays as it is: each fact that a move adds is of the ring that runs, of the one installed or of a new one, which is above all before. And nothing is added of the installed ring between the report of it and the plan.
+-- What is known of a ring that was left stays as it is: each fact that a move adds is of the ring that runs, of the one
+-- installed or of a new one, which is above all before. And nothing is added of the installed ring between the report
+-- of it and the plan.
 use Rattle.std.proofs.Common.{◌≡◌, ℕ, ◌<◌, ◌≤◌, ◌⊎◌, max, inl, inr, false, List, [], ◌∷◌, ◌++◌, map, length, refl, ap, sym, ◌∙◌, arith}
 use Rattle.std.specs.Prelude.{filter, reverse}
 use Rattle.std.specs.List.{AllByRecursion as Each}

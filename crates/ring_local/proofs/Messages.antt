@@ -1,4 +1,5 @@
--- What is held: numbers begin at 1, and one of a ring is held with one message, since a message is taken only where its number is new, and a visit's new numbers are above the highest held.
+-- What is held: numbers begin at 1, and one of a ring is held with one message, since a message is taken only where its
+-- number is new, and a visit's new numbers are above the highest held.
 use Rattle.std.proofs.Common.{◌≡◌, ℕ, suc, ◌+◌, ◌<◌, ◌≤◌, inl, inr, true, not, ◌&&◌, ◌==◌, List, [], ◌∷◌, ◌++◌, refl, ap, sym, ◌∙◌, subst, arith}
 use Rattle.std.specs.Prelude.{nat_lt, nat_le, reverse}
 use Rattle.std.specs.List.{AllByRecursion as Each}

@@ -1,4 +1,5 @@
--- Reports: what a core would report is exact, since all that is held lies within the 256 numbers after its front; and what it reported stays true, since fronts and marks only rise, and what is held stays.
+-- Reports: what a core would report is exact, since all that is held lies within the 256 numbers after its front; and
+-- what it reported stays true, since fronts and marks only rise, and what is held stays.
 use Rattle.std.proofs.Common.{◌≡◌, ℕ, ◌+◌, ◌-◌, ◌<◌, ◌≤◌, inl, inr, Bool, true, false, ◌&&◌, ◌==◌, List, [], ◌∷◌, ◌++◌, refl, ap, sym, ◌∙◌, arith}
 use Rattle.std.specs.Prelude.{nat_lt, nat_le, reverse}
 use Rattle.std.specs.List.{AllByRecursion as Each}

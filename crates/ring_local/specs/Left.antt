@@ -1,4 +1,5 @@
--- What a core knows of one ring, which rings it left, and when it is between two of them: Rings and states, rules 3 and 7, and The commit token, rules 5 and 6 of docs/PROTOCOL.md.
+-- What a core knows of one ring, which rings it left, and when it is between two of them: Rings and states, rules 3 and
+-- 7, and The commit token, rules 5 and 6 of docs/PROTOCOL.md.
 use Rattle.std.specs.Prelude.{◌≡◌, ◌<◌, ◌≤◌, ◌⊎◌, List, filter}
 use Rattle.ring_base.specs.Rings.{same_ring}
 use Rattle.ring_base.specs.declared.ring_id.RingId.{RingId}

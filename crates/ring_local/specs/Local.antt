@@ -1,4 +1,7 @@
--- What every core knows of itself, whatever comes in, forged frames among it: its rings and its state fit each other, each fact is of a ring that it takes part in, a number of a ring is held with one message, the tokens of a ring are visited in the order of their numbers, and reports tell what is held. Rings and states, rules 2 to 7, Token and window, rules 1, 4 and 6, and The commit token, rules 2 and 3 of docs/PROTOCOL.md.
+-- What every core knows of itself, whatever comes in, forged frames among it: its rings and its state fit each other,
+-- each fact is of a ring that it takes part in, a number of a ring is held with one message, the tokens of a ring are
+-- visited in the order of their numbers, and reports tell what is held. Rings and states, rules 2 to 7, Token and
+-- window, rules 1, 4 and 6, and The commit token, rules 2 and 3 of docs/PROTOCOL.md.
 use Rattle.std.specs.Prelude.{◌≡◌, ℕ, ◌<◌, ◌≤◌, ◌⊎◌, true, List, [], ◌∷◌}
 use Rattle.std.specs.List.{AllByRecursion}
 use Rattle.ring_base.specs.Processors.{IsProc, IsMember}

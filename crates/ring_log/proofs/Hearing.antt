@@ -1,5 +1,6 @@
 -- An exchange that is whole changes no more, so what a member keeps of it hands out the base at one message: that with which the exchange ends.
-use Rattle.std.proofs.Common.{◌≡◌, ℕ, ◌+◌, ◌-◌, ◌≤◌, nat_le, ◌==◌, ◌&&◌, Bool, true, false, List, [], ◌∷◌, ◌++◌, length, Option, Some, None, refl, ap, sym, ◌∙◌, arith, add-zero, if◌then◌else◌}
+use Rattle.std.proofs.Common.{◌≡◌, ℕ, ◌+◌, ◌-◌, ◌≤◌, nat_le, ◌==◌, ◌&&◌, Bool, true, false, List, [], ◌∷◌, ◌++◌, length}
+use Rattle.std.proofs.Common.{Option, Some, None, refl, ap, sym, ◌∙◌, arith, add-zero, if◌then◌else◌}
 use Rattle.std.proofs.lemmas.Bool.{and_parts, cond-true, cond-false, eqb-true, leb-true}
 use Rattle.std.proofs.lemmas.List.{append-nil}
 use Rattle.std.proofs.lemmas.Nat.Bits.{bit_at-zero}
@@ -13,7 +14,8 @@ use Rattle.ring_payload.specs.declared.content.Payload.TheVariants.{Call, Wrappe
 use Rattle.ring_wire.specs.declared.message.Message.{Message}
 use Rattle.ring_log.specs.declared.base.Base.{Base}
 use Rattle.ring_log.specs.declared.wanted.Wanted.{Wanted}
-use Rattle.ring_log.specs.Exchanges.{Exchange, opened, wanted_by, wanted, hear_head, is_wanted, hear_part, heard, is_brought, is_whole, base_from, handed_out, base_at, relieved, based}
+use Rattle.ring_log.specs.Exchanges.{Exchange, opened, wanted_by, wanted, hear_head, is_wanted, hear_part, heard}
+use Rattle.ring_log.specs.Exchanges.{is_brought, is_whole, base_from, handed_out, base_at, relieved, based}
 use Rattle.ring_log.specs.Lives.{Whole, heard_by, whole_from, after_all, heard_on, exchanged, base_ending, base_on, own_base}
 
 -- ---- a whole exchange

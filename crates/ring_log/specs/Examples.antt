@@ -1,4 +1,5 @@
--- Worked heads: which log an exchange goes by, what is wanted of it, and in which Parts it comes; and a worked life, with the logs that it makes. The replicated log, rules 2 to 6, 11 and 12 of docs/PROTOCOL.md.
+-- Worked heads: which log an exchange goes by, what is wanted of it, and in which Parts it comes; and a worked life,
+-- with the logs that it makes. The replicated log, rules 2 to 6, 11 and 12 of docs/PROTOCOL.md.
 use Rattle.std.specs.Prelude.{ℕ, List, [], ◌∷◌, map, Option, Some, None}
 use Rattle.std.specs.declared.alloc.Global.{Global}
 use Rattle.ring_base.specs.Group.{Group}
@@ -55,7 +56,8 @@ after_one_part = heard unequal 1 (Part (part_at 9 7))
 abbrev pub unequal_base : Option (Base Global)
 unequal_base = Some (record { from = 9; calls = calls_from 9 11 })
 
--- A life of processor 2 in a group of three: in its first ring a call is heard after the three Heads; then it is alone; then its next primary ring brings the log of processor 1, which has a call more
+-- A life of processor 2 in a group of three: in its first ring a call is heard after the three Heads; then it is alone;
+-- then its next primary ring brings the log of processor 1, which has a call more
 
 abbrev pub group_of_three : Group
 group_of_three = record { count = 3; votes = 1 ∷ 1 ∷ 1 ∷ [] }

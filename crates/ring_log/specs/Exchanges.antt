@@ -1,4 +1,5 @@
--- The exchange of a primary ring, by what is heard there in order: every member's Head, and then the chosen owner's places from the least committed length on. The replicated log, rules 3, 4 and 6 of docs/PROTOCOL.md.
+-- The exchange of a primary ring, by what is heard there in order: every member's Head, and then the chosen owner's
+-- places from the least committed length on. The replicated log, rules 3, 4 and 6 of docs/PROTOCOL.md.
 use Rattle.std.specs.Prelude.{ℕ, ◌+◌, Bool, false, ◌&&◌, ◌==◌, nat_le, if◌then◌else◌, List, [], ◌∷◌, ◌++◌, length, take, Option, Some, None}
 use Rattle.ring_base.specs.Processors.{has, nobody, only, less}
 use Rattle.ring_payload.specs.declared.call.Call.{Call as OneCall}
@@ -11,7 +12,8 @@ use Rattle.ring_log.specs.declared.stated.Stated.{Stated}
 use Rattle.ring_log.specs.declared.wanted.Wanted.{Wanted}
 use Rattle.ring_log.specs.Heads.{chosen_head, least_committed}
 
--- what was heard of an exchange: the members whose Head wasn't, the Heads of the others in the order heard, how many places the Parts brought, and the calls of these places that weren't handed out
+-- what was heard of an exchange: the members whose Head wasn't, the Heads of the others in the order heard, how many
+-- places the Parts brought, and the calls of these places that weren't handed out
 pub record Exchange (A : Type 0) : Type 0 where
   pub unheard : ℕ
   pub heads : List Stated

@@ -1,4 +1,5 @@
--- Whose log an exchange goes by: The replicated log, rules 4 and 5 of docs/PROTOCOL.md. Of the Heads the one with the greatest last primary is chosen, of these the one with the greatest length, of these the one of the smallest sender.
+-- Whose log an exchange goes by: The replicated log, rules 4 and 5 of docs/PROTOCOL.md. Of the Heads the one with the
+-- greatest last primary is chosen, of these the one with the greatest length, of these the one of the smallest sender.
 use Rattle.std.specs.Prelude.{ℕ, min, Bool, if◌then◌else◌, List, [], ◌∷◌}
 use Rattle.std.specs.declared.cmp.Ordering.{Ordering}
 use Rattle.std.specs.Ordering.{nat_cmp, ordering_then, is_lt}

@@ -1,4 +1,5 @@
--- The Parts in which the owner of an exchange sends places of its log: 7 places in each, the last perhaps shorter. The replicated log, rule 2 of docs/PROTOCOL.md.
+-- The Parts in which the owner of an exchange sends places of its log: 7 places in each, the last perhaps shorter. The
+-- replicated log, rule 2 of docs/PROTOCOL.md.
 use Rattle.std.specs.Prelude.{ℕ, ◌+◌, ◌-◌, ◌*◌, ◌/◌, List, length, map, take, drop}
 use Rattle.ring_base.specs.Numbers.{numbers_from}
 use Rattle.ring_payload.specs.declared.call.Call.{Call as OneCall}

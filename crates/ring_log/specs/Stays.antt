@@ -1,11 +1,13 @@
--- The life of a node, as far as its log reads it: the rings that it installed, newest first, with what was heard there. The replicated log, rule 1, and Outputs, rule 9, of docs/PROTOCOL.md.
+-- The life of a node, as far as its log reads it: the rings that it installed, newest first, with what was heard there.
+-- The replicated log, rule 1, and Outputs, rule 9, of docs/PROTOCOL.md.
 use Rattle.std.specs.Prelude.{ℕ, List, [], ◌∷◌, ◌++◌}
 use Rattle.ring_base.specs.Processors.{only}
 use Rattle.ring_base.specs.declared.ring_id.RingId.{RingId}
 use Rattle.ring_payload.specs.declared.content.Payload.{Payload}
 use Rattle.ring_wire.specs.declared.message.Message.{Message}
 
--- a node's time in a ring that it installed: what was agreed there, in order; up to which number it was safe; and the payloads that the node handed to its core since
+-- a node's time in a ring that it installed: what was agreed there, in order; up to which number it was safe; and the
+-- payloads that the node handed to its core since
 pub record Stay (A : Type 0) : Type 0 where
   pub ring : RingId
   pub members : ℕ

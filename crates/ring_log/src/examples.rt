@@ -5,7 +5,9 @@ ghost use Rattle.std.specs.declared.alloc.Global.{Global};
 ghost use Rattle.ring_payload.specs.declared.content.Payload.TheVariants.{Part};
 ghost use Rattle.ring_log.specs.Exchanges.{wanted, heard, base_at};
 ghost use Rattle.ring_log.specs.Parts.{parts_of};
-ghost use Rattle.ring_log.specs.Examples.{three, longer_but_older, unequal, wanted_places, calls_from, part_at, after_one_part, unequal_base, group_of_three, ring_of, head_at, first_heard, first_life, alone, second_heard, second_life};
+ghost use Rattle.ring_log.specs.Examples.{three, longer_but_older, unequal, wanted_places, calls_from, part_at};
+ghost use Rattle.ring_log.specs.Examples.{after_one_part, unequal_base, group_of_three, ring_of, head_at, first_heard};
+ghost use Rattle.ring_log.specs.Examples.{first_life, alone, second_heard, second_life};
 ghost use Rattle.ring_log.specs.Lives.{exchange_end, log_of, last_of, has_adopted, committed_of, head_of_life, is_sound};
 
 /// Processor 1 has three places of ring 4.1, processors 2 and 3 have two of ring 8.1: the longer log of the older

@@ -1,4 +1,5 @@
--- What a node hands to its core to be sent, as its life goes on: a Head, the owner's Parts, and the calls that wait. The replicated log, rules 2, 7 and 10 of docs/PROTOCOL.md.
+-- What a node hands to its core to be sent, as its life goes on: a Head, the owner's Parts, and the calls that wait.
+-- The replicated log, rules 2, 7 and 10 of docs/PROTOCOL.md.
 use Rattle.std.specs.Prelude.{ℕ, Bool, not, ◌&&◌, ◌==◌, if◌then◌else◌, List, [], ◌∷◌, ◌++◌, length, map, filter, drop, Option, Some, None}
 use Rattle.std.specs.List.{list_any}
 use Rattle.ring_base.specs.Group.{Group, is_primary}

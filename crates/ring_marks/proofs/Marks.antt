@@ -16,7 +16,8 @@ use Rattle.ring_core.specs.declared.out.Out.TheVariants.{Send as SendOut, Agreed
 use Rattle.ring_core.specs.State.{Core, Sent, Did}
 use Rattle.ring_core.specs.Joining.{proposes}
 use Rattle.ring_core.specs.Views.{front, mark, plan}
-use Rattle.ring_core.specs.Deciding.{Act, Ignore, Enqueue, Repeat, Announce, Invite, GiveUp, Regather, Agree, Widen, RegatherAndAgree, RegatherAndWiden, Take, Visit, Fill, Learn, decide}
+use Rattle.ring_core.specs.Deciding.{Act, Ignore, Enqueue, Repeat, Announce, Invite, GiveUp, Regather, Agree, Widen}
+use Rattle.ring_core.specs.Deciding.{RegatherAndAgree, RegatherAndWiden, Take, Visit, Fill, Learn, decide}
 use Rattle.ring_core.specs.Acting.{act, may_follow, proposed_after, done}
 use Rattle.ring_core.specs.Giving.{may_install, addressed, sent, users, agreed_from, safe_from, delivered_from, given, configured, settle}
 use Rattle.ring_core.specs.Stepping.{ring_step}
@@ -135,7 +136,13 @@ goes_given : {A : Type 0} → (c d : Core A) (sends : List (Sent A)) (s : Stay A
 goes_given c d sends s older low high =
     let ring = c.installed.ring in
     let g = goes_delivered d ring s older (front c ring) (mark c ring) low high in
-    record { stay = g.stay; leads = leads_then _ _ _ (sent sends) (given c d) (leads_sends (s ∷ older) (addressed sends)) g.leads; ring = g.ring; marked = g.marked }
+    record {
+      stay = g.stay;
+      leads = leads_then _ _ _ (sent sends) (given c d)
+          (leads_sends (s ∷ older) (addressed sends)) g.leads;
+      ring = g.ring;
+      marked = g.marked;
+    }
 
 -- a ring is installed
 
@@ -192,7 +199,8 @@ stepped : {A : Type 0} → (c : Core A) (life : List (Stay A)) (input : Input A)
 unfolding ring_step
 stepped {A} c life input h =
     let d = done c (decide c input) in
-    subst (λ (l : List (Stay A)). Steps (settle (may_install d.core) d.core (sent d.sends ++ given c d.core)).core l (settle (may_install d.core) d.core (sent d.sends ++ given c d.core)).outs)
+    subst (λ (l : List (Stay A)). Steps (settle (may_install d.core) d.core (sent d.sends ++ given c d.core)).core l
+    (settle (may_install d.core) d.core (sent d.sends ++ given c d.core)).outs)
     (sym h.parts) (steps_by (may_install d.core) c d h.stay h.older (done_kept c (decide c input)) h.ring h.marked)
 
 pub rises_step : {A : Type 0} → (c : Core A) (life : List (Stay A)) (input : Input A) → IsMarked c life → rises life (ring_step c input).outs ≡ true

@@ -50,7 +50,8 @@ queued_act Commit c p h = queued_with c h c.queue
 queued_act Recovery c p h = queued_with c h c.queue
 queued_act Stopped c p h = queued_with c h c.queue
 queued_act Operational c p h =
-    cond_both (is_queued p) (Enqueue p) Ignore (λ a. IsQueued c (delivered c (done c a)).core) (λ e. queued_with c h (c.queue ++ p ∷ [])) (λ e. queued_with c h c.queue)
+    cond_both (is_queued p) (Enqueue p) Ignore (λ a. IsQueued c (delivered c (done c a)).core)
+    (λ e. queued_with c h (c.queue ++ p ∷ [])) (λ e. queued_with c h c.queue)
 
 pub queued_send : {A : Type 0} → (c : Core A) (p : Payload A) → may_install c ≡ false → IsQueued c (ring_step c (SendInput p)).core
 unfolding ring_step

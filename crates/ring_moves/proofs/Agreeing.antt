@@ -17,12 +17,20 @@ agrees_same : (me : ℕ) (g : Gathering) (j : Join) → hearing me g j ≡ Agree
 agrees_same me g j h =
     cond_both (is_unheard me g j) _ _ (λ (x : Hearing). x ≡ Agrees → has_same_sets g j ≡ true) (λ e k. absurd (let q : ⊥ = cc in q)) (λ e.
     cond_both (has_same_sets g j) _ _ (λ (x : Hearing). x ≡ Agrees → has_same_sets g j ≡ true) (λ f k. f) (λ f.
-    cond_both (has_smaller_sets g j) _ _ (λ (x : Hearing). x ≡ Agrees → has_same_sets g j ≡ true) (λ i k. absurd (let q : ⊥ = cc in q)) (λ i k. absurd (let q : ⊥ = cc in q)))) h
+    cond_both (has_smaller_sets g j) _ _ (λ (x : Hearing). x ≡ Agrees → has_same_sets g j ≡ true)
+    (λ i k. absurd (let q : ⊥ = cc in q)) (λ i k. absurd (let q : ⊥ = cc in q)))) h
 
 pub agreed_same : (me : ℕ) (g : Gathering) (j : Join) → hearing me g j ≡ Agrees → AllSaySame g → AllSaySame (agreed g j)
-agreed_same me g j h a = (record { proc_set = (says_same g j (agrees_same me g j h)).proc_set; fail_set = (says_same g j (agrees_same me g j h)).fail_set }, same_of g j a)
+agreed_same me g j h a = (
+  record {
+    proc_set = (says_same g j (agrees_same me g j h)).proc_set;
+    fail_set = (says_same g j (agrees_same me g j h)).fail_set;
+  },
+  same_of g j a,
+)
   where
-    each : (g h : Gathering) → g.proc_set ≡ h.proc_set → g.fail_set ≡ h.fail_set → (js : List Join) → AllByRecursion (SaysSame g) js → AllByRecursion (SaysSame h) js
+    each : (g h : Gathering) → g.proc_set ≡ h.proc_set → g.fail_set ≡ h.fail_set → (js : List Join)
+        → AllByRecursion (SaysSame g) js → AllByRecursion (SaysSame h) js
     each g h p f [] a = tt
     each g h p f (x ∷ js) a = (record { proc_set = (a.0).proc_set ∙ p; fail_set = (a.0).fail_set ∙ f }, each g h p f js a.1)
 

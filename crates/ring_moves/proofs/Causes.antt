@@ -24,7 +24,9 @@ use Rattle.ring_core.specs.Naming.{is_named}
 use Rattle.ring_core.specs.Visiting.{accepts}
 use Rattle.ring_core.specs.Joining.{regathered, hears, disturbs}
 use Rattle.ring_core.specs.Handing.{takes_first_round, takes_second_round, takes_start}
-use Rattle.ring_core.specs.Deciding.{Ignore, Enqueue, Take, Visit, Fill, Learn, is_taken, decide_message, decide_token, heard_in_gather, heard_elsewhere, overhear, decide_join, decide_round, decide_commit, decide_frame, decide_if_named, decide_time, decide_payload, decide}
+use Rattle.ring_core.specs.Deciding.{Ignore, Enqueue, Take, Visit, Fill, Learn, is_taken, decide_message, decide_token}
+use Rattle.ring_core.specs.Deciding.{heard_in_gather, heard_elsewhere, overhear, decide_join, decide_round}
+use Rattle.ring_core.specs.Deciding.{decide_commit, decide_frame, decide_if_named, decide_time, decide_payload, decide}
 use Rattle.ring_moves.specs.Laws.{IsAway, CameWith}
 
 by_message : {A : Type 0} → (c : Core A) (x : Message A) → CameWith c (FrameInput (MessageFrame x)) (decide_message c x)
@@ -42,7 +44,8 @@ heard_there c j Ignored = tt
 heard_there c j Agrees = refl
 heard_there c j Widens = refl
 
-heard_away : {A : Type 0} → (c : Core A) (j : Join) (x : Hearing) → IsAway c.state → disturbs c j ≡ true → hears (regathered c) j ≡ x → CameWith c (FrameInput (JoinFrame j)) (heard_elsewhere x j)
+heard_away : {A : Type 0} → (c : Core A) (j : Join) (x : Hearing) → IsAway c.state → disturbs c j ≡ true
+    → hears (regathered c) j ≡ x → CameWith c (FrameInput (JoinFrame j)) (heard_elsewhere x j)
 heard_away c j Ignored a d e = inr (record { join = j; came = refl; leads = record { state = a; passes = d; heard = e } })
 heard_away c j Agrees a d e = refl
 heard_away c j Widens a d e = refl
@@ -57,7 +60,8 @@ by_join Commit c j h = by_overheard c j (inl h)
 by_join Recovery c j h = by_overheard c j (inr (inl h))
 by_join Operational c j h = by_overheard c j (inr (inr h))
 
-by_round : {A : Type 0} → (s : State) (c : Core A) (k : CommitToken) → c.state ≡ s → is_at c.me k ≡ true → CameWith c (FrameInput (CommitFrame k)) (decide_round s c k)
+by_round : {A : Type 0} → (s : State) (c : Core A) (k : CommitToken) → c.state ≡ s → is_at c.me k ≡ true
+    → CameWith c (FrameInput (CommitFrame k)) (decide_round s c k)
 by_round Gather c k h at = cond_both (takes_first_round c k) (Fill k) Ignore (CameWith c (FrameInput (CommitFrame k))) (λ e. refl) (λ e. tt)
 by_round Commit c k h at = cond_both (takes_second_round c k) (Learn k) Ignore (CameWith c (FrameInput (CommitFrame k))) (λ e. refl) (λ e. tt)
 by_round Recovery c k h at =

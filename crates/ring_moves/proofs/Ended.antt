@@ -1,4 +1,5 @@
--- In Recovery nothing is left to wrap once one of a core's own visits of the running ring sent an End: what it takes of the old ring from then on comes with what wraps it.
+-- In Recovery nothing is left to wrap once one of a core's own visits of the running ring sent an End: what it takes of
+-- the old ring from then on comes with what wraps it.
 use Rattle.std.proofs.Common.{◌≡◌, ℕ, suc, ◌<◌, ◌≤◌, ◌⊎◌, inl, inr, true, ◌&&◌, ◌==◌, List, [], ◌∷◌, ◌++◌, Some, refl, ap, sym, ◌∙◌, subst, arith}
 use Rattle.std.specs.Prelude.{reverse}
 use Rattle.std.specs.List.{AllByRecursion as Each}
@@ -124,7 +125,8 @@ module _ {A : Type 0} (c : Core A) (more : List (Message A)) where
         | inr f ↦ elim (last n x l f u) [
           | inl s ↦ inl (seen_grows n s)
           | inr w ↦
-              inl (some-each (IsCarried c.running.ring more) (λ p. is_wrap_of c.installed.ring n p ≡ true) (is_seen grown n ≡ true) (carried_seen n) wraps carried w)
+              inl (some-each (IsCarried c.running.ring more) (λ p. is_wrap_of c.installed.ring n p ≡ true)
+              (is_seen grown n ≡ true) (carried_seen n) wraps carried w)
         ]
       ]
 
@@ -209,7 +211,11 @@ take_after {A} c x below ring last =
     let given = gives_old c.state c x in
     let IsInner : Message A → Type 0 = λ y. is_wrap_of c.installed.ring y.number x.payload ≡ true in
     let other : x.ring ≡ c.installed.ring → ⊥ = λ e. (let s : floor c ≡ c.installed.ring.seq = ap (λ (r : RingId). r.seq) (sym ring ∙ e) in omega arith) in
-    let one = none_after c (x ∷ []) [] tt (λ y i e. elim i [ inl same ↦ absurd (other (ap (λ (z : Message A). z.ring) (sym same) ∙ e)) | inr none ↦ absurd none ]) last in
+    let one = none_after c (x ∷ []) [] tt
+    (λ y i e. elim i [
+      | inl same ↦ absurd (other (ap (λ (z : Message A). z.ring) (sym same) ∙ e))
+      | inr none ↦ absurd none
+    ]) last in
     none_after (grown c (x ∷ [])) given [] tt
     (λ y i e. seen_by (given ++ x ∷ c.held) c.running.ring c.installed.ring y.number x (in-right x given (x ∷ c.held) (inl refl)) ring
     (in-each IsInner y given (gives_wrapped c.state c x) i))

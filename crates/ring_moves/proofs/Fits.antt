@@ -1,5 +1,6 @@
 -- After any inputs: a safe mark is at most its front, and what is held lies within the window after its mark.
-use Rattle.std.proofs.Common.{◌≡◌, ℕ, zero, suc, ◌+◌, ◌-◌, ◌≤◌, true, ◌&&◌, cond, ltb, leb, eqb, List, [], ◌∷◌, ◌++◌, length, Option, Some, None, slice_get, refl, sym, subst, inl, inr, arith}
+use Rattle.std.proofs.Common.{◌≡◌, ℕ, zero, suc, ◌+◌, ◌-◌, ◌≤◌, true, ◌&&◌, cond, ltb, leb, eqb, List, [], ◌∷◌, ◌++◌}
+use Rattle.std.proofs.Common.{length, Option, Some, None, slice_get, refl, sym, subst, inl, inr, arith}
 use Rattle.std.specs.Cmp.Lexicographic.{pointwise}
 use Rattle.std.specs.List.{AllByRecursion}
 use Rattle.std.proofs.lemmas.Bool.{cond_both, cond-true, and_parts, or_parts, or_cases, or_right, ltb-false, leb-true, eqb-true}
@@ -50,26 +51,34 @@ front-append xs ys r = front_grows ys (xs ++ ys) r (λ n h. holds-append xs ys r
 
 -- The invariant, over the facts alone
 
-more_held : {A : Type 0} → (xs held : List (Message A)) (turns : List (Turn A)) (raises : List Raise) → AllByRecursion (λ (x : Message A). Within turns raises x) xs → IsFit held turns raises → IsFit (xs ++ held) turns raises
+more_held : {A : Type 0} → (xs held : List (Message A)) (turns : List (Turn A)) (raises : List Raise)
+    → AllByRecursion (λ (x : Message A). Within turns raises x) xs → IsFit held turns raises
+    → IsFit (xs ++ held) turns raises
 more_held {A} xs held turns raises h f =
     record {
       window = each-append (λ (x : Message A). Within turns raises x) xs held h f.window;
-      visits = each-weaker _ _ (λ (v : Turn A) h. (let i : front_of held v.came.ring ≤ front_of (xs ++ held) v.came.ring = front-append xs held v.came.ring in omega arith)) turns f.visits;
-      raised = each-weaker _ _ (λ (x : Raise) h. (let i : front_of held x.ring ≤ front_of (xs ++ held) x.ring = front-append xs held x.ring in omega arith)) raises f.raised;
+      visits = each-weaker _ _ (λ (v : Turn A) h. (let i : front_of held v.came.ring ≤ front_of
+          (xs ++ held) v.came.ring = front-append xs held v.came.ring in omega arith)) turns f.visits;
+      raised = each-weaker _ _ (λ (x : Raise) h. (let i : front_of held x.ring ≤ front_of
+          (xs ++ held) x.ring = front-append xs held x.ring in omega arith)) raises f.raised;
     }
 
-more_turns : {A : Type 0} → (v : Turn A) (held : List (Message A)) (turns : List (Turn A)) (raises : List Raise) → v.went.aru ≤ front_of held v.came.ring → IsFit held turns raises → IsFit held (v ∷ turns) raises
+more_turns : {A : Type 0} → (v : Turn A) (held : List (Message A)) (turns : List (Turn A)) (raises : List Raise)
+    → v.went.aru ≤ front_of held v.came.ring → IsFit held turns raises → IsFit held (v ∷ turns) raises
 more_turns {A} v held turns raises h f =
     record {
-      window = each-weaker _ _ (λ (x : Message A) k. (let i : safe_mark turns raises x.ring ≤ safe_mark (v ∷ turns) raises x.ring = safe_mark-turn v turns raises x.ring in omega arith)) held f.window;
+      window = each-weaker _ _ (λ (x : Message A) k. (let i : safe_mark turns raises x.ring ≤ safe_mark
+          (v ∷ turns) raises x.ring = safe_mark-turn v turns raises x.ring in omega arith)) held f.window;
       visits = (h, f.visits);
       raised = f.raised;
     }
 
-more_raises : {A : Type 0} → (x : Raise) (held : List (Message A)) (turns : List (Turn A)) (raises : List Raise) → x.mark ≤ front_of held x.ring → IsFit held turns raises → IsFit held turns (x ∷ raises)
+more_raises : {A : Type 0} → (x : Raise) (held : List (Message A)) (turns : List (Turn A)) (raises : List Raise)
+    → x.mark ≤ front_of held x.ring → IsFit held turns raises → IsFit held turns (x ∷ raises)
 more_raises {A} y held turns raises h f =
     record {
-      window = each-weaker _ _ (λ (x : Message A) k. (let i : safe_mark turns raises x.ring ≤ safe_mark turns (y ∷ raises) x.ring = safe_mark-raise y turns raises x.ring in omega arith)) held f.window;
+      window = each-weaker _ _ (λ (x : Message A) k. (let i : safe_mark turns raises x.ring ≤ safe_mark turns
+          (y ∷ raises) x.ring = safe_mark-raise y turns raises x.ring in omega arith)) held f.window;
       visits = f.visits;
       raised = (h, f.raised);
     }
@@ -79,9 +88,13 @@ more_raises {A} y held turns raises h f =
 new_within : {A : Type 0} → (held : List (Message A)) (m : ℕ) (r : RingId) (n : ℕ) → is_new held m r n ≡ true → n ≤ m + window_size
 new_within held m r n h = leb-true _ _ (and_parts _ (leb n (m + window_size)) (and_parts (in_window m n) _ h).0).1
 
-inner_within : {A : Type 0} → (c : Core A) (w : WrappedMessage A) → AllByRecursion (λ (x : Message A). Within c.turns c.raises x) (inner_if_new c.installed.ring (mark c c.installed.ring) c.held w)
+inner_within : {A : Type 0} → (c : Core A) (w : WrappedMessage A)
+    → AllByRecursion (λ (x : Message A). Within c.turns c.raises x)
+    (inner_if_new c.installed.ring (mark c c.installed.ring) c.held w)
 inner_within {A} c w =
-    cond_both (same_ring w.ring c.installed.ring && is_new c.held (mark c c.installed.ring) c.installed.ring w.number) (record { ring = w.ring; number = w.number; sender = w.sender; payload = payload_of w.payload } ∷ []) [] (λ (xs : List (Message A)). AllByRecursion (λ (x : Message A). Within c.turns c.raises x) xs)
+    cond_both (same_ring w.ring c.installed.ring && is_new c.held (mark c c.installed.ring) c.installed.ring w.number)
+    (record { ring = w.ring; number = w.number; sender = w.sender; payload = payload_of w.payload } ∷ []) []
+    (λ (xs : List (Message A)). AllByRecursion (λ (x : Message A). Within c.turns c.raises x) xs)
     (λ e. (
       let p = and_parts (same_ring w.ring c.installed.ring) (is_new c.held (mark c c.installed.ring) c.installed.ring w.number) e in
           let i : w.number ≤ mark c c.installed.ring + window_size = new_within c.held (mark c c.installed.ring) c.installed.ring w.number p.1 in
@@ -90,7 +103,9 @@ inner_within {A} c w =
     ))
     (λ e. tt)
 
-payload_within : {A : Type 0} → (c : Core A) (p : Payload A) → AllByRecursion (λ (x : Message A). Within c.turns c.raises x) (unwrapped c.installed.ring (mark c c.installed.ring) c.held p)
+payload_within : {A : Type 0} → (c : Core A) (p : Payload A)
+    → AllByRecursion (λ (x : Message A). Within c.turns c.raises x)
+    (unwrapped c.installed.ring (mark c c.installed.ring) c.held p)
 payload_within c (Wrapped w) = inner_within c w
 payload_within c (Call call) = tt
 payload_within c End = tt
@@ -106,21 +121,27 @@ gives_within Commit c x = tt
 gives_within Operational c x = tt
 gives_within Stopped c x = tt
 
-taken_fits : {A : Type 0} → (c : Core A) (x : Message A) → takes_number c x.ring x.number ≡ true → Fit c → IsFit (gives_old c.state c x ++ x ∷ c.held) c.turns c.raises
+taken_fits : {A : Type 0} → (c : Core A) (x : Message A) → takes_number c x.ring x.number ≡ true → Fit c
+    → IsFit (gives_old c.state c x ++ x ∷ c.held) c.turns c.raises
 taken_fits c x h f =
     more_held (gives_old c.state c x) (x ∷ c.held) c.turns c.raises (gives_within c.state c x)
     (more_held (x ∷ []) c.held c.turns c.raises (new_within c.held (mark c x.ring) x.ring x.number h, tt) f)
 
 -- Visiting
 
-numbered_below : {A : Type 0} → (turns : List (Turn A)) (raises : List Raise) (r : RingId) (me seq : ℕ) (ps : List (Payload A)) → length ps ≤ safe_mark turns raises r + window_size - seq → AllByRecursion (λ (x : Message A). Within turns raises x) (numbered r me seq ps)
+numbered_below : {A : Type 0} → (turns : List (Turn A)) (raises : List Raise) (r : RingId) (me seq : ℕ)
+    (ps : List (Payload A)) → length ps ≤ safe_mark turns raises r + window_size - seq
+    → AllByRecursion (λ (x : Message A). Within turns raises x) (numbered r me seq ps)
 numbered_below turns raises r me seq [] h = tt
 numbered_below turns raises r me seq (p ∷ ps) h = (omega arith, numbered_below turns raises r me (suc seq) ps (omega arith))
 
 aru_below : (me f : ℕ) (t : Token) → aru_after me f t ≤ f
-aru_below me f t = cond_both (may_set me f t) f t.aru (λ a. a ≤ f) (λ e. omega arith) (λ e. ltb-false f t.aru (or_parts (ltb f t.aru) (is_mine me t.aru_id) e).0)
+aru_below me f t = cond_both (may_set me f t) f t.aru (λ a. a ≤ f) (λ e. omega arith)
+    (λ e. ltb-false f t.aru (or_parts (ltb f t.aru) (is_mine me t.aru_id) e).0)
 
-visited_fits : {A : Type 0} → (c : Core A) (t : Token) (fresh : List (Payload A)) (requests : List ℕ) → length fresh ≤ mark c t.ring + window_size - t.seq → Fit c → IsFit (held_in c t fresh) (turn_with c t fresh requests ∷ c.turns) c.raises
+visited_fits : {A : Type 0} → (c : Core A) (t : Token) (fresh : List (Payload A)) (requests : List ℕ)
+    → length fresh ≤ mark c t.ring + window_size - t.seq → Fit c → IsFit (held_in c t fresh)
+    (turn_with c t fresh requests ∷ c.turns) c.raises
 visited_fits c t fresh requests h f =
     more_turns (turn_with c t fresh requests) (held_in c t fresh) c.turns c.raises (aru_below c.me (front_of (held_in c t fresh) t.ring) t)
     (more_held (reverse (numbered t.ring c.me t.seq fresh)) c.held c.turns c.raises
@@ -128,20 +149,28 @@ visited_fits c t fresh requests h f =
 
 -- Learning
 
-ahead_kept : (old : RingId) (safe : ℕ) (x : CommitEntry) (ys : List CommitEntry) → same_ring x.old old ≡ true → none_behind safe (cond (same_ring x.old old) (x ∷ ys) ys) ≡ true → safe ≤ x.front
+ahead_kept : (old : RingId) (safe : ℕ) (x : CommitEntry) (ys : List CommitEntry) → same_ring x.old old ≡ true
+    → none_behind safe (cond (same_ring x.old old) (x ∷ ys) ys) ≡ true → safe ≤ x.front
 ahead_kept old safe x ys s h =
-    leb-true safe x.front (and_parts _ (none_behind safe ys) (subst (λ (zs : List CommitEntry). none_behind safe zs ≡ true) (cond-true (same_ring x.old old) (x ∷ ys) ys s) h)).0
+    leb-true safe x.front (and_parts _ (none_behind safe ys)
+    (subst (λ (zs : List CommitEntry). none_behind safe zs ≡ true) (cond-true (same_ring x.old old) (x ∷ ys) ys s)
+    h)).0
 
-ahead_rest : (old : RingId) (safe : ℕ) (x : CommitEntry) (ys : List CommitEntry) → none_behind safe (cond (same_ring x.old old) (x ∷ ys) ys) ≡ true → none_behind safe ys ≡ true
+ahead_rest : (old : RingId) (safe : ℕ) (x : CommitEntry) (ys : List CommitEntry)
+    → none_behind safe (cond (same_ring x.old old) (x ∷ ys) ys) ≡ true → none_behind safe ys ≡ true
 ahead_rest old safe x ys h =
-    cond_both (same_ring x.old old) (x ∷ ys) ys (λ (zs : List CommitEntry). none_behind safe zs ≡ true → none_behind safe ys ≡ true) (λ e k. (and_parts (leb safe x.front) (none_behind safe ys) k).1) (λ e k. k) h
+    cond_both (same_ring x.old old) (x ∷ ys) ys (λ (zs : List CommitEntry). none_behind safe zs ≡ true
+    → none_behind safe ys ≡ true) (λ e k. (and_parts (leb safe x.front) (none_behind safe ys) k).1) (λ e k. k) h
 
 -- the greatest reported mark is at most the front of each that comes from the old ring
-ahead : (old : RingId) (safe : ℕ) (entries : List CommitEntry) (i : ℕ) (e : CommitEntry) → none_behind safe (reports_of old entries) ≡ true → slice_get entries i ≡ Some e → same_ring e.old old ≡ true → safe ≤ e.front
+ahead : (old : RingId) (safe : ℕ) (entries : List CommitEntry) (i : ℕ) (e : CommitEntry)
+    → none_behind safe (reports_of old entries) ≡ true → slice_get entries i ≡ Some e → same_ring e.old old ≡ true
+    → safe ≤ e.front
 ahead old safe [] i e h g s = absurd (let q : ⊥ = cc in q)
 ahead old safe (x ∷ entries) zero e h g s =
     let q : x ≡ e = cc in
-    subst (λ (y : CommitEntry). safe ≤ y.front) q (ahead_kept old safe x (reports_of old entries) (subst (λ (y : CommitEntry). same_ring y.old old ≡ true) (sym q) s) h)
+    subst (λ (y : CommitEntry). safe ≤ y.front) q (ahead_kept old safe x (reports_of old entries)
+    (subst (λ (y : CommitEntry). same_ring y.old old ≡ true) (sym q) s) h)
 ahead old safe (x ∷ entries) (suc i) e h g s = ahead old safe entries i e (ahead_rest old safe x (reports_of old entries) h) g s
 
 -- the own entry stands in the token
@@ -149,15 +178,24 @@ stands : (own : CommitEntry) (o : Option CommitEntry) → is_own own o ≡ true 
 stands own None h = absurd (let q : ⊥ = cc in q)
 stands own (Some e) h = (e, refl, h)
 
-learned_front : {A : Type 0} → (c : Core A) (k : CommitToken) → is_own (own_entry c) (slice_get k.entries (position_of_hop k)) ≡ true → is_sound c.installed.ring k.entries ≡ true → safe_of (reports_of c.installed.ring k.entries) ≤ front c c.installed.ring
+learned_front : {A : Type 0} → (c : Core A) (k : CommitToken) → is_own (own_entry c)
+    (slice_get k.entries (position_of_hop k)) ≡ true → is_sound c.installed.ring k.entries ≡ true
+    → safe_of (reports_of c.installed.ring k.entries) ≤ front c c.installed.ring
 learned_front c k h g =
     let (e, at, same) = stands (own_entry c) (slice_get k.entries (position_of_hop k)) h in
-    let ring_and_front : (same_ring e.old c.installed.ring && eqb e.front (front c c.installed.ring)) ≡ true = (and_parts _ (eqb e.mark (mark c c.installed.ring)) (and_parts _ (pointwise nat_eq e.held (own_entry c).held) same).0).0 in
-    let i : safe_of (reports_of c.installed.ring k.entries) ≤ e.front = ahead c.installed.ring (safe_of (reports_of c.installed.ring k.entries)) k.entries (position_of_hop k) e g at (and_parts _ (eqb e.front (front c c.installed.ring)) ring_and_front).0 in
+    let ring_and_front : (same_ring e.old c.installed.ring && eqb e.front (front c c.installed.ring)) ≡ true =
+    (and_parts _ (eqb e.mark (mark c c.installed.ring)) (and_parts _ (pointwise nat_eq e.held (own_entry c).held)
+    same).0).0 in
+    let i : safe_of (reports_of c.installed.ring k.entries) ≤ e.front = ahead c.installed.ring
+    (safe_of (reports_of c.installed.ring k.entries)) k.entries (position_of_hop k) e g at
+    (and_parts _ (eqb e.front (front c c.installed.ring)) ring_and_front).0 in
     let j : e.front ≡ front c c.installed.ring = eqb-true _ _ (and_parts (same_ring e.old c.installed.ring) _ ring_and_front).1 in
     subst (λ n. safe_of (reports_of c.installed.ring k.entries) ≤ n) j i
 
-learned_fits : {A : Type 0} → (c : Core A) (k : CommitToken) → is_own (own_entry c) (slice_get k.entries (position_of_hop k)) ≡ true → is_sound c.installed.ring k.entries ≡ true → Fit c → IsFit c.held c.turns (record { ring = c.installed.ring; mark = safe_of (reports_of c.installed.ring k.entries) } ∷ c.raises)
+learned_fits : {A : Type 0} → (c : Core A) (k : CommitToken) → is_own (own_entry c)
+    (slice_get k.entries (position_of_hop k)) ≡ true → is_sound c.installed.ring k.entries ≡ true → Fit c
+    → IsFit c.held c.turns (record { ring = c.installed.ring; mark = safe_of (reports_of c.installed.ring k.entries) }
+    ∷ c.raises)
 learned_fits c k o s f =
     more_raises (record { ring = c.installed.ring; mark = safe_of (reports_of c.installed.ring k.entries) }) c.held c.turns c.raises (learned_front c k o s) f
 
@@ -182,16 +220,20 @@ opening_fits n me inputs = always Fit fitting (opening n me) inputs (record { wi
 pub mark_below : {A : Type 0} → (c : Core A) (r : RingId) → Fit c → mark c r ≤ front c r
 mark_below c r f = safe_mark-below (front c) r _ _ f.visits f.raised
 
-pub marks_within : {A : Type 0} → (n me : ℕ) (inputs : List (Input A)) (r : RingId) → mark (after_inputs (opening n me) inputs) r ≤ front (after_inputs (opening n me) inputs) r
+pub marks_within : {A : Type 0} → (n me : ℕ) (inputs : List (Input A)) (r : RingId)
+    → mark (after_inputs (opening n me) inputs) r ≤ front (after_inputs (opening n me) inputs) r
 marks_within n me inputs r = mark_below (after_inputs (opening n me) inputs) r (opening_fits n me inputs)
 
 -- each message held, of any ring
-in_window_of : {A : Type 0} → (turns : List (Turn A)) (raises : List Raise) (held : List (Message A)) (r : RingId) (n : ℕ) → AllByRecursion (λ (x : Message A). Within turns raises x) held → holds held r n ≡ true → n ≤ safe_mark turns raises r + window_size
+in_window_of : {A : Type 0} → (turns : List (Turn A)) (raises : List Raise) (held : List (Message A)) (r : RingId)
+    (n : ℕ) → AllByRecursion (λ (x : Message A). Within turns raises x) held → holds held r n ≡ true
+    → n ≤ safe_mark turns raises r + window_size
 in_window_of turns raises [] r n f h = absurd (let q : ⊥ = cc in q)
 in_window_of turns raises (x ∷ held) r n f h =
     elim (or_cases (is_numbered r n x) (holds held r n) h) [
       | inl e ↦ (let p : (same_ring x.ring r ≡ true) × (eqb x.number n ≡ true) = and_parts _ (eqb x.number n) e in
-          let a : x.number ≤ safe_mark turns raises r + window_size = subst (λ (q : RingId). x.number ≤ safe_mark turns raises q + window_size) (ring_same x.ring r p.0) f.0 in
+          let a : x.number ≤ safe_mark turns raises r + window_size =
+          subst (λ (q : RingId). x.number ≤ safe_mark turns raises q + window_size) (ring_same x.ring r p.0) f.0 in
           subst (λ m. m ≤ safe_mark turns raises r + window_size) (eqb-true x.number n p.1) a)
       | inr e ↦ in_window_of turns raises held r n f.1 e
     ]
@@ -199,5 +241,7 @@ in_window_of turns raises (x ∷ held) r n f h =
 pub held_below : {A : Type 0} → (c : Core A) (r : RingId) (k : ℕ) → Fit c → holds c.held r k ≡ true → k ≤ mark c r + window_size
 held_below c r k f h = in_window_of _ _ _ r k f.window h
 
-pub held_within : {A : Type 0} → (n me : ℕ) (inputs : List (Input A)) (r : RingId) (k : ℕ) → holds (after_inputs (opening n me) inputs).held r k ≡ true → k ≤ mark (after_inputs (opening n me) inputs) r + window_size
+pub held_within : {A : Type 0} → (n me : ℕ) (inputs : List (Input A)) (r : RingId) (k : ℕ)
+    → holds (after_inputs (opening n me) inputs).held r k ≡ true → k ≤ mark (after_inputs (opening n me) inputs) r
+    + window_size
 held_within n me inputs r k h = held_below (after_inputs (opening n me) inputs) r k (opening_fits n me inputs) h

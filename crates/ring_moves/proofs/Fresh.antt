@@ -20,7 +20,8 @@ use Rattle.ring_core.specs.Views.{plan}
 use Rattle.ring_core.specs.Visiting.{accepts, room_at, offers, new_payloads, new_messages, held_after, turn_of}
 use Rattle.ring_core.specs.Joining.{proposes}
 use Rattle.ring_core.specs.Giving.{settle}
-use Rattle.ring_core.specs.Deciding.{Act, Ignore, Enqueue, Repeat, Announce, Invite, GiveUp, Regather, Agree, Widen, RegatherAndAgree, RegatherAndWiden, Take, Visit, Fill, Learn, decide}
+use Rattle.ring_core.specs.Deciding.{Act, Ignore, Enqueue, Repeat, Announce, Invite, GiveUp, Regather, Agree, Widen}
+use Rattle.ring_core.specs.Deciding.{RegatherAndAgree, RegatherAndWiden, Take, Visit, Fill, Learn, decide}
 use Rattle.ring_core.specs.Acting.{gives_old, act, may_follow, proposed_after}
 use Rattle.ring_core.specs.Stepping.{ring_step, after_inputs}
 use Rattle.ring_moves.specs.Laws.{HasPassed, AreOfQueue, AreOfRecovery, IsFreshOf, AreFreshOf}
@@ -41,7 +42,14 @@ Made c = IsMade c.me c.held c.queue c.turns
 still_recovered : {A : Type 0} → (me : ℕ) (ring : RingId) (xs held : List (Message A)) (fresh : List (Payload A)) → AreOfRecovery me ring held fresh →
     AreOfRecovery me ring (xs ++ held) fresh
 still_recovered me ring xs held fresh r =
-    record { count = r.count; plan = r.plan; later = xs ++ r.later; before = r.before; grown = append_assoc xs r.later r.before ∙ ap (λ ys. xs ++ ys) r.grown; made = r.made }
+    record {
+      count = r.count;
+      plan = r.plan;
+      later = xs ++ r.later;
+      before = r.before;
+      grown = append_assoc xs r.later r.before ∙ ap (λ ys. xs ++ ys) r.grown;
+      made = r.made;
+    }
 
 still_either : {A : Type 0} → (me : ℕ) (ring : RingId) (xs held : List (Message A)) (fresh : List (Payload A)) →
     AreOfQueue fresh ⊎ AreOfRecovery me ring held fresh → AreOfQueue fresh ⊎ AreOfRecovery me ring (xs ++ held) fresh
@@ -72,7 +80,9 @@ fresh_of {A} c t a q =
     record {
       few = omega arith;
       numbered = omega arith;
-      made = subst (λ (r : RingId). AreOfQueue (new_payloads c t) ⊎ AreOfRecovery c.me r (held_after c t) (new_payloads c t)) (sym (accepted_ring c t a)) (offered c.state c (reverse (new_messages c t)) (room_at c t) q);
+      made = subst (λ (r : RingId). AreOfQueue (new_payloads c t) ⊎ AreOfRecovery c.me r (held_after c t)
+          (new_payloads c t)) (sym (accepted_ring c t a)) (offered c.state c (reverse (new_messages c t))
+          (room_at c t) q);
     }
 
 -- Each act, and a step
@@ -92,7 +102,10 @@ act_made c (RegatherAndWiden j) g m = record { queued = tt; fresh = m.fresh }
 act_made c (Take x) g m =
     record { queued = m.queued; fresh = still_fresh c.me (gives_old c.state c x) (x ∷ c.held) c.turns (still_fresh c.me (x ∷ []) c.held c.turns m.fresh) }
 act_made c (Visit t) g m =
-    record { queued = queue_each (λ (p : Payload _). is_queued p ≡ true) c.state (room_at c t) c.queue m.queued; fresh = (fresh_of c t g.1 m.queued, still_fresh c.me (reverse (new_messages c t)) c.held c.turns m.fresh) }
+    record {
+      queued = queue_each (λ (p : Payload _). is_queued p ≡ true) c.state (room_at c t) c.queue m.queued;
+      fresh = (fresh_of c t g.1 m.queued, still_fresh c.me (reverse (new_messages c t)) c.held c.turns m.fresh);
+    }
 act_made c (Fill k) g m = m
 act_made c (Learn k) g m = m
 
@@ -107,7 +120,8 @@ settled_made true c outs m = m
 step_made : {A : Type 0} → (c : Core A) (input : Input A) → Made c → Made (ring_step c input).core
 unfolding ring_step
 step_made c input m =
-    settled_made _ _ _ (proposed_made (may_follow (decide c input) && proposes (act c (decide c input)).core) _ (act_made c (decide c input) (guarded c input) m))
+    settled_made _ _ _ (proposed_made (may_follow (decide c input) && proposes
+    (act c (decide c input)).core) _ (act_made c (decide c input) (guarded c input) m))
 
 pub making : {A : Type 0} → IsStepKept (Made {A = A})
 making = record { steps = step_made; stops = λ c m. m }

@@ -25,7 +25,10 @@ use Rattle.ring_core.specs.Naming.{is_named}
 use Rattle.ring_core.specs.Visiting.{accepts}
 use Rattle.ring_core.specs.Joining.{regathered, hears, disturbs}
 use Rattle.ring_core.specs.Handing.{takes_first_round, takes_second_round, takes_start}
-use Rattle.ring_core.specs.Deciding.{Ignore, Enqueue, Take, Visit, Fill, Learn, is_taken, decide_message, decide_token, heard_in_gather, heard_elsewhere, overhear, decide_join, decide_round, decide_commit, decide_frame, decide_if_named, decide_time, decide_user, decide_payload, decide}
+use Rattle.ring_core.specs.Deciding.{Ignore, Enqueue, Take, Visit, Fill, Learn, is_taken, decide_message, decide_token}
+use Rattle.ring_core.specs.Deciding.{heard_in_gather, heard_elsewhere, overhear, decide_join, decide_round}
+use Rattle.ring_core.specs.Deciding.{decide_commit, decide_frame, decide_if_named, decide_time, decide_user}
+use Rattle.ring_core.specs.Deciding.{decide_payload, decide}
 use Rattle.ring_moves.specs.Laws.{IsAway, HasPassed, TakesCommit}
 
 in_message : {A : Type 0} → (c : Core A) (x : Message A) → HasPassed c (decide_message c x)
@@ -43,7 +46,8 @@ in_gather c j Ignored h e = tt
 in_gather c j Agrees h e = (h, e)
 in_gather c j Widens h e = (h, e)
 
-in_other : {A : Type 0} → (c : Core A) (j : Join) (x : Hearing) → (c.state ≡ Stopped → ⊥) → IsAway c.state → disturbs c j ≡ true → hears (regathered c) j ≡ x → HasPassed c (heard_elsewhere x j)
+in_other : {A : Type 0} → (c : Core A) (j : Join) (x : Hearing) → (c.state ≡ Stopped → ⊥) → IsAway c.state
+    → disturbs c j ≡ true → hears (regathered c) j ≡ x → HasPassed c (heard_elsewhere x j)
 in_other c j Ignored h a d e = h
 in_other c j Agrees h a d e = record { state = a; passes = d; heard = e }
 in_other c j Widens h a d e = record { state = a; passes = d; heard = e }
@@ -61,7 +65,8 @@ in_join Operational c j h = in_overhear c j (λ e. (let q : Operational ≡ Stop
 in_round : {A : Type 0} → (s : State) (c : Core A) (k : CommitToken) → c.state ≡ s → is_at c.me k ≡ true → HasPassed c (decide_round s c k)
 in_round Gather c k h at = cond_both (takes_first_round c k) (Fill k) Ignore (HasPassed c) (λ e. record { state = h; here = at; passes = e }) (λ e. tt)
 in_round Commit c k h at = cond_both (takes_second_round c k) (Learn k) Ignore (HasPassed c) (λ e. record { state = h; here = at; passes = e }) (λ e. tt)
-in_round Recovery c k h at = cond_both (takes_start c k) (Visit (first_token k.ring)) Ignore (HasPassed c) (λ e. (inl h, (and_parts _ (accepts c (first_token k.ring)) e).1)) (λ e. tt)
+in_round Recovery c k h at = cond_both (takes_start c k) (Visit (first_token k.ring)) Ignore (HasPassed c)
+    (λ e. (inl h, (and_parts _ (accepts c (first_token k.ring)) e).1)) (λ e. tt)
 in_round Operational c k h at = tt
 in_round Stopped c k h at = tt
 

@@ -1,5 +1,6 @@
 -- What each move of one core keeps of all cores and all frames sent, holds in every world after all events.
-use Rattle.std.proofs.Common.{◌≡◌, ℕ, ◌≤◌, Bool, true, false, ◌==◌, cond, List, [], ◌∷◌, ◌++◌, map, Option, Some, None, inl, inr, refl, ap, sym, ◌∙◌, subst, append-nil, append_assoc}
+use Rattle.std.proofs.Common.{◌≡◌, ℕ, ◌≤◌, Bool, true, false, ◌==◌, cond, List, [], ◌∷◌, ◌++◌, map, Option, Some, None}
+use Rattle.std.proofs.Common.{inl, inr, refl, ap, sym, ◌∙◌, subst, append-nil, append_assoc}
 use Rattle.std.specs.Prelude.{not, filter, filter_map, nat_le, nat_lt, suc, zero}
 use Rattle.std.specs.List.{AllByRecursion as Each, cons_option}
 use Rattle.std.proofs.Math.Path.{fun_ext}
@@ -22,8 +23,10 @@ use Rattle.ring_core.specs.Views.{front, mark, plan}
 use Rattle.ring_recover.specs.Deliveries.{rests}
 use Rattle.ring_moves.specs.declared.event.RingEvent.{RingEvent}
 use Rattle.ring_moves.specs.declared.event.RingEvent.TheVariants.{Send, Deliver, Timeout, Stop}
-use Rattle.ring_moves.specs.Worlds.{Carried, World, put, carried_by, carried_from, after_step, is_node, stepped_if, stopped_if, handed_if, handed, frame_at, happens, run}
-use Rattle.ring_moves.specs.Moves.{Move, Idles, Enters, Learns, Visits, Takes, Installs, moved, sends_of, MayInstall, MayMove, after_moves, all_sends, MayAll, CameTo}
+use Rattle.ring_moves.specs.Worlds.{Carried, World, put, carried_by, carried_from, after_step, is_node, stepped_if}
+use Rattle.ring_moves.specs.Worlds.{stopped_if, handed_if, handed, frame_at, happens, run}
+use Rattle.ring_moves.specs.Moves.{Move, Idles, Enters, Learns, Visits, Takes, Installs, moved, sends_of, MayInstall}
+use Rattle.ring_moves.specs.Moves.{MayMove, after_moves, all_sends, MayAll, CameTo}
 use Rattle.ring_moves.proofs.Lists.{each-in, some-left, some-get}
 use Rattle.ring_moves.proofs.Everywhere.{may_halt}
 use Rattle.ring_moves.proofs.Steps.{step_moves}
@@ -81,7 +84,8 @@ told_from c ring f m =
 pub told_configured : {A : Type 0} → (c : Core A) → Each IsTold (configured c)
 told_configured c = (
   λ i. refl,
-  each-append IsTold (map (λ x. Rest x.ring x.number x) (rests (plan c) c.held)) (Regular c.running.ring c.running.members ∷ delivered_from c c.running.ring 0 0)
+  each-append IsTold (map (λ x. Rest x.ring x.number x) (rests (plan c) c.held))
+      (Regular c.running.ring c.running.members ∷ delivered_from c c.running.ring 0 0)
       (each-map IsTold (λ x. Rest x.ring x.number x) (rests (plan c) c.held) (each-in _ _ (λ x k i. refl)))
       (λ i. refl, told_from c c.running.ring 0 0),
 )
@@ -89,7 +93,8 @@ told_configured c = (
 pub outs_carried : {A : Type 0} → (i : ℕ) (sends : List (Sent A)) (told : List (Out A)) → Each IsTold told →
     filter_map (carried_by i) (sent sends ++ told) ≡ carried_from i sends
 outs_carried i sends told h =
-    filter_map-append (carried_by i) (sent sends) told ∙ ap (λ xs. filter_map (carried_by i) (sent sends) ++ xs) (none_carried i told h) ∙ append-nil _ ∙ sends_carried i (addressed sends)
+    filter_map-append (carried_by i) (sent sends) told ∙ ap (λ xs. filter_map (carried_by i) (sent sends) ++ xs)
+    (none_carried i told h) ∙ append-nil _ ∙ sends_carried i (addressed sends)
 
 -- a frame that was sent to a processor came to it
 pub came_at : {A : Type 0} → (frames : List (Carried A)) (i n : ℕ) (f : Carried A) → frame_at frames n ≡ Some f → has f.to i ≡ true → CameTo frames i f.frame
@@ -101,11 +106,38 @@ came_at {A} frames i (suc n) f e h = some-get (λ (g : Carried A). (has g.to i �
 may_when : {A : Type 0} → (came came' : Frame A → Type 0) → ((f : Frame A) → came f → came' f) → (c : Core A) (m : Move A) → MayMove came c m →
     MayMove came' c m
 may_when came came' f c (Idles state gathering shown queue sends) h = h
-may_when came came' f c (Enters k) h = record { state = h.state; above = h.above; first = h.first; here = h.here; from = elim (h.from) [ inl p ↦ inl p | inr q ↦ inr (f _ q) ] }
+may_when came came' f c (Enters k) h = record {
+  state = h.state;
+  above = h.above;
+  first = h.first;
+  here = h.here;
+  from = elim (h.from) [ inl p ↦ inl p | inr q ↦ inr (f _ q) ];
+}
 may_when came came' f c (Learns k) h =
-    record { state = h.state; ring = h.ring; members = h.members; second = h.second; last = h.last; here = h.here; own = h.own; sound = h.sound; from = f _ h.from }
+    record {
+      state = h.state;
+      ring = h.ring;
+      members = h.members;
+      second = h.second;
+      last = h.last;
+      here = h.here;
+      own = h.own;
+      sound = h.sound;
+      from = f _ h.from;
+    }
 may_when came came' f c (Visits t fresh requests again queue) h =
-    record { state = h.state; ring = h.ring; newer = h.newer; ahead = h.ahead; room = h.room; users = h.users; wraps = h.wraps; repeats = h.repeats; queued = h.queued; from = elim (h.from) [ inl p ↦ inl p | inr q ↦ inr (f _ q) ] }
+    record {
+      state = h.state;
+      ring = h.ring;
+      newer = h.newer;
+      ahead = h.ahead;
+      room = h.room;
+      users = h.users;
+      wraps = h.wraps;
+      repeats = h.repeats;
+      queued = h.queued;
+      from = elim (h.from) [ inl p ↦ inl p | inr q ↦ inr (f _ q) ];
+    }
 may_when came came' f c (Takes x) h = record { ring = h.ring; new = h.new; from = f _ h.from }
 may_when came came' f c Installs h = h
 
@@ -120,11 +152,18 @@ module _ {A : Type 0} (P : (ℕ → Core A) → List (Carried A) → Type 0) (k 
       let first : P (put cores i (moved c m)) (frames ++ carried_from i (sends_of c m)) =
       subst (λ x. P (put cores i (moved x m)) (frames ++ carried_from i (sends_of x m))) e
       (k.moves cores frames i m low (subst (λ x. MayMove (CameTo frames i) x m) (sym e) (may_when came (CameTo frames i) f c m h.0)) p) in
-      let rest : P (put (put cores i (moved c m)) i (after_moves (moved c m) ms)) ((frames ++ carried_from i (sends_of c m)) ++ carried_from i (all_sends (moved c m) ms)) =
-      kept_all came (put cores i (moved c m)) (frames ++ carried_from i (sends_of c m)) i (moved c m) ms (put-here cores i (moved c m)) low (λ x q. some-left _ frames (carried_from i (sends_of c m)) (f x q)) h.1 first in
-      let both : (frames ++ carried_from i (sends_of c m)) ++ carried_from i (all_sends (moved c m) ms) ≡ frames ++ carried_from i (sends_of c m ++ all_sends (moved c m) ms) =
-      append_assoc frames (carried_from i (sends_of c m)) (carried_from i (all_sends (moved c m) ms)) ∙ ap (λ xs. frames ++ xs) (sym (carried-append i (sends_of c m) (all_sends (moved c m) ms))) in
-      subst (λ fs. P (put cores i (after_moves (moved c m) ms)) fs) both (subst (λ cs. P cs ((frames ++ carried_from i (sends_of c m)) ++ carried_from i (all_sends (moved c m) ms))) (put-put cores i (moved c m) (after_moves (moved c m) ms)) rest)
+      let rest : P (put (put cores i (moved c m)) i (after_moves (moved c m) ms))
+      ((frames ++ carried_from i (sends_of c m)) ++ carried_from i (all_sends (moved c m) ms)) =
+      kept_all came (put cores i (moved c m)) (frames ++ carried_from i (sends_of c m)) i (moved c m) ms
+      (put-here cores i (moved c m)) low (λ x q. some-left _ frames (carried_from i (sends_of c m)) (f x q))
+      h.1 first in
+      let both : (frames ++ carried_from i (sends_of c m)) ++ carried_from i (all_sends (moved c m) ms) ≡ frames
+      ++ carried_from i (sends_of c m ++ all_sends (moved c m) ms) =
+      append_assoc frames (carried_from i (sends_of c m)) (carried_from i (all_sends (moved c m) ms))
+      ∙ ap (λ xs. frames ++ xs) (sym (carried-append i (sends_of c m) (all_sends (moved c m) ms))) in
+      subst (λ fs. P (put cores i (after_moves (moved c m) ms)) fs) both
+      (subst (λ cs. P cs ((frames ++ carried_from i (sends_of c m)) ++ carried_from i (all_sends (moved c m) ms)))
+      (put-put cores i (moved c m) (after_moves (moved c m) ms)) rest)
 
   kept_settled : (cores : ℕ → Core A) (frames : List (Carried A)) (i : ℕ) (old c : Core A) (sends : List (Sent A)) (b : Bool) → 1 ≤ i →
       (b ≡ true → MayInstall c) → P (put cores i c) (frames ++ carried_from i sends) →
@@ -136,9 +175,14 @@ module _ {A : Type 0} (P : (ℕ → Core A) → List (Carried A) → Type 0) (k 
       let q : P (put (put cores i c) i (moved (put cores i c i) Installs)) (fs ++ []) =
       k.moves (put cores i c) fs i Installs low (subst (λ x. MayInstall x) (sym (put-here cores i c)) (h refl)) p in
       let r : P (put (put cores i c) i (install c)) (fs ++ []) = subst (λ x. P (put (put cores i c) i (install x)) (fs ++ [])) (put-here cores i c) q in
-      let s : P (put cores i (install c)) (frames ++ carried_from i sends) = subst (λ gs. P (put cores i (install c)) gs) (append-nil fs) (subst (λ cs. P cs (fs ++ [])) (put-put cores i c (install c)) r) in
-      let told : Each IsTold (given old c ++ configured c) = each-append IsTold (given old c) (configured c) (told_from c old.installed.ring _ _) (told_configured c) in
-      let outs : filter_map (carried_by i) ((sent sends ++ given old c) ++ configured c) ≡ carried_from i sends = ap (filter_map (carried_by i)) (append_assoc (sent sends) (given old c) (configured c)) ∙ outs_carried i sends (given old c ++ configured c) told in
+      let s : P (put cores i (install c)) (frames ++ carried_from i sends) =
+      subst (λ gs. P (put cores i (install c)) gs) (append-nil fs)
+      (subst (λ cs. P cs (fs ++ [])) (put-put cores i c (install c)) r) in
+      let told : Each IsTold (given old c ++ configured c) = each-append IsTold (given old c) (configured c)
+      (told_from c old.installed.ring _ _) (told_configured c) in
+      let outs : filter_map (carried_by i) ((sent sends ++ given old c) ++ configured c) ≡ carried_from i sends =
+      ap (filter_map (carried_by i)) (append_assoc (sent sends) (given old c) (configured c)) ∙ outs_carried i sends
+      (given old c ++ configured c) told in
       subst (λ gs. P (put cores i (install c)) (frames ++ gs)) (sym outs) s
 
   kept_after : (w : World A) (i : ℕ) (input : Input A) → 1 ≤ i → ((f : Frame A) → input ≡ FrameInput f → CameTo w.frames i f) → P w.cores w.frames →
@@ -166,7 +210,8 @@ module _ {A : Type 0} (P : (ℕ → Core A) → List (Carried A) → Type 0) (k 
   kept_stopped false w i low p = p
   kept_stopped true w i low p =
       let c = w.cores i in
-      subst (λ fs. P (put w.cores i (halted c)) fs) (append-nil w.frames) (k.moves w.cores w.frames i (Idles Stopped c.gathering c.shown c.queue []) (low refl) (may_halt c) p)
+      subst (λ fs. P (put w.cores i (halted c)) fs) (append-nil w.frames)
+      (k.moves w.cores w.frames i (Idles Stopped c.gathering c.shown c.queue []) (low refl) (may_halt c) p)
 
   kept_handed : (b : Bool) (w : World A) (i : ℕ) (frame : Frame A) → (b ≡ true → CameTo w.frames i frame) → Kept w → Kept (handed_if b w i frame)
   kept_handed false w i frame came p = p

@@ -1,5 +1,6 @@
 -- Lists of facts: what stands in them, and what is so of each.
-use Rattle.std.proofs.Common.{◌≡◌, ℕ, zero, suc, ◌+◌, ◌-◌, ◌<◌, ◌≤◌, ◌⊎◌, inl, inr, Bool, true, List, [], ◌∷◌, ◌++◌, length, Option, Some, None, slice_get, refl, ap, sym, ◌∙◌, subst, arith}
+use Rattle.std.proofs.Common.{◌≡◌, ℕ, zero, suc, ◌+◌, ◌-◌, ◌<◌, ◌≤◌, ◌⊎◌, inl, inr, Bool, true, List, [], ◌∷◌, ◌++◌}
+use Rattle.std.proofs.Common.{length, Option, Some, None, slice_get, refl, ap, sym, ◌∙◌, subst, arith}
 use Rattle.std.specs.Prelude.{filter, filter_map, find, reverse, take}
 use Rattle.std.specs.List.{AllByRecursion as Each, cons_option, list_any}
 use Rattle.std.proofs.lemmas.Bool.{cond_both, cases_lt, or_left, or_right, or_cases, both_ways, false≢true}
@@ -137,7 +138,12 @@ each-filter_map P Q f g (x ∷ xs) h = each-cons_option Q (f x) (filter_map f xs
 
 pub numbers-above : (first count : ℕ) → Each (λ n. first ≤ n) (numbers_from first count)
 numbers-above first zero = tt
-numbers-above first (suc count) = (omega arith, each-in (λ n. first ≤ n) (numbers_from (suc first) count) (λ n i. (let a : suc first ≤ n = in-each (λ m. suc first ≤ m) n (numbers_from (suc first) count) (numbers-above (suc first) count) i in omega arith)))
+numbers-above first (suc count) = (
+  omega arith,
+  each-in (λ n. first ≤ n) (numbers_from (suc first) count)
+      (λ n i. (let a : suc first ≤ n = in-each (λ m. suc first ≤ m) n (numbers_from (suc first) count)
+      (numbers-above (suc first) count) i in omega arith)),
+)
 
 -- the front of two lists
 pub take-append : {X : Type 0} (n : ℕ) (xs ys : List X) → take n (xs ++ ys) ≡ take n xs ++ take (n - length xs) ys

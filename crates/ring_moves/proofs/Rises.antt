@@ -21,7 +21,12 @@ Rising c = IsRising c.rings c.running
 
 entered_rises : {A : Type 0} → (c : Core A) (next : Configuration) → floor c < next.ring.seq → Rising c → IsRising (next ∷ c.rings) next
 entered_rises c next h r =
-    record { older = c.rings; newest = refl; falls = (let P : List Configuration → Type 0 = λ rings. IsFalling (next ∷ rings) in subst P (sym r.newest) (h, r.falls)) }
+    record {
+      older = c.rings;
+      newest = refl;
+      falls = (let P : List Configuration → Type 0 = λ rings. IsFalling
+          (next ∷ rings) in subst P (sym r.newest) (h, r.falls));
+    }
 
 pub moved_rises : {A : Type 0} → (came : Frame A → Type 0) (c : Core A) (m : Move A) → MayMove came c m → Rising c → Rising (moved c m)
 moved_rises came c (Enters k) h r = entered_rises c (record { ring = k.ring; members = k.members }) h.above r
@@ -55,9 +60,11 @@ falling_one : (rings : List Configuration) → IsFalling rings → (x y : Config
 falling_one [] f x y h k e = absurd h
 falling_one (z ∷ rest) f x y (inl h) (inl k) e = h ∙ sym k
 falling_one (z ∷ rest) f x y (inl h) (inr k) e =
-    (let l : y.ring.seq < z.ring.seq = all_below z rest f y k in let s : x.ring.seq ≡ z.ring.seq = ap (λ (c : Configuration). c.ring.seq) h in absurd (omega arith))
+    (let l : y.ring.seq < z.ring.seq = all_below z rest f y k in let s : x.ring.seq ≡ z.ring.seq = ap
+    (λ (c : Configuration). c.ring.seq) h in absurd (omega arith))
 falling_one (z ∷ rest) f x y (inr h) (inl k) e =
-    (let l : x.ring.seq < z.ring.seq = all_below z rest f x h in let s : y.ring.seq ≡ z.ring.seq = ap (λ (c : Configuration). c.ring.seq) k in absurd (omega arith))
+    (let l : x.ring.seq < z.ring.seq = all_below z rest f x h in let s : y.ring.seq ≡ z.ring.seq = ap
+    (λ (c : Configuration). c.ring.seq) k in absurd (omega arith))
 falling_one (z ∷ []) f x y (inr h) (inr k) e = absurd h
 falling_one (z ∷ w ∷ rest) f x y (inr h) (inr k) e = falling_one (w ∷ rest) f.1 x y h k e
 

@@ -28,7 +28,9 @@ use Rattle.ring_moves.specs.declared.event.RingEvent.{RingEvent}
 use Rattle.ring_moves.specs.declared.event.RingEvent.TheVariants.{Send, Deliver, Timeout, Stop}
 use Rattle.ring_moves.specs.Worlds.{Carried, World, is_node, frame_at, happens, run, unformed}
 use Rattle.ring_moves.specs.Laws.{IsFalling}
-use Rattle.ring_moves.specs.CommitRounds.{all_pairs, is_above, has_rising_rings, Taking, is_ignored, taken_unless, taken_at, taken_if, taken_of, taken_in, takings, is_second, still_reports, is_taken}
+use Rattle.ring_moves.specs.CommitRounds.{all_pairs, is_above, has_rising_rings, Taking, is_ignored, taken_unless}
+use Rattle.ring_moves.specs.CommitRounds.{taken_at, taken_if, taken_of, taken_in, takings, is_second, still_reports}
+use Rattle.ring_moves.specs.CommitRounds.{is_taken}
 use Rattle.ring_moves.proofs.Guards.{one_position}
 use Rattle.ring_moves.proofs.Rises.{Rising, rising, alone_rises, falls_of}
 use Rattle.ring_moves.proofs.Everywhere.{Everywhere, everywhere}
@@ -102,7 +104,8 @@ is_taken_by {A} c k h =
     and_from (receiver k == c.me) (not (is_second k) || still_reports (taking_of c k)) (eq-eqb (receiver k) c.me (one_position c k h))
     (if_then (is_second k) (still_reports (taking_of c k)) (in_named (is_named {A = A} c.total (CommitFrame k)) c k h))
 
-taken_unless-all : {A : Type 0} → (b : Bool) (c : Core A) (k : CommitToken) → (b ≡ false → is_taken (taking_of c k) ≡ true) → list_all is_taken (taken_unless b c k) ≡ true
+taken_unless-all : {A : Type 0} → (b : Bool) (c : Core A) (k : CommitToken)
+    → (b ≡ false → is_taken (taking_of c k) ≡ true) → list_all is_taken (taken_unless b c k) ≡ true
 taken_unless-all true c k h = refl
 taken_unless-all false c k h = and_from (is_taken (taking_of c k)) true (h refl) refl
 
@@ -147,7 +150,8 @@ above_all x y (z ∷ rest) h f =
 pub pairs_fall : (rings : List Configuration) → IsFalling rings → all_pairs is_above rings ≡ true
 pairs_fall [] f = refl
 pairs_fall (x ∷ []) f = refl
-pairs_fall (x ∷ y ∷ rest) f = and_from (list_all (is_above x) (y ∷ rest)) (all_pairs is_above (y ∷ rest)) (above_all x y rest f.0 f.1) (pairs_fall (y ∷ rest) f.1)
+pairs_fall (x ∷ y ∷ rest) f = and_from (list_all (is_above x) (y ∷ rest)) (all_pairs is_above (y ∷ rest))
+    (above_all x y rest f.0 f.1) (pairs_fall (y ∷ rest) f.1)
 
 all_numbers : (test : ℕ → Bool) → ((i : ℕ) → test i ≡ true) → (numbers : List ℕ) → list_all test numbers ≡ true
 all_numbers test h [] = refl
@@ -156,7 +160,8 @@ all_numbers test h (i ∷ numbers) = and_from (test i) (list_all test numbers) (
 pub rises_everywhere : {A : Type 0} → (n : ℕ) (events : List (RingEvent A)) → Everywhere Rising (run (unformed n) events)
 rises_everywhere n events = everywhere Rising rising (unformed n) events (λ i. alone_rises (alone i))
 
-pub all_rise : {A : Type 0} → (n : ℕ) (events : List (RingEvent A)) → list_all (λ i. has_rising_rings ((run (unformed n) events).cores i)) (numbers_from 1 n) ≡ true
+pub all_rise : {A : Type 0} → (n : ℕ) (events : List (RingEvent A))
+    → list_all (λ i. has_rising_rings ((run (unformed n) events).cores i)) (numbers_from 1 n) ≡ true
 all_rise n events =
     let core : ℕ → Core _ = λ i. (run (unformed n) events).cores i in
     all_numbers (λ i. has_rising_rings (core i)) (λ i. pairs_fall (core i).rings (falls_of (core i) (rises_everywhere n events i))) (numbers_from 1 n)

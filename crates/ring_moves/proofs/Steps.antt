@@ -1,5 +1,7 @@
 -- Each step of the definition is moves: the act is one, a proposal after it is another, and an installation the last.
-use Rattle.std.proofs.Common.{◌≡◌, ℕ, suc, ◌+◌, ◌-◌, ◌*◌, ◌%◌, ◌<◌, ◌≤◌, min, ◌⊎◌, inl, inr, Bool, true, false, ◌&&◌, ◌==◌, eqb, List, [], ◌∷◌, ◌++◌, length, Option, Some, None, refl, ap, sym, ◌∙◌, subst, arith, length-take, append-nil}
+use Rattle.std.proofs.Common.{◌≡◌, ℕ, suc, ◌+◌, ◌-◌, ◌*◌, ◌%◌, ◌<◌, ◌≤◌, min, ◌⊎◌, inl, inr, Bool, true, false, ◌&&◌}
+use Rattle.std.proofs.Common.{◌==◌, eqb, List, [], ◌∷◌, ◌++◌, length, Option, Some, None, refl, ap, sym, ◌∙◌, subst}
+use Rattle.std.proofs.Common.{arith, length-take, append-nil}
 use Rattle.std.specs.Prelude.{nat_lt, nat_le, filter, filter_map, take, slice_get, not}
 use Rattle.std.specs.List.{AllByRecursion as Each}
 use Rattle.std.proofs.lemmas.Bool.{cond_both, and_parts, eqb-true, ltb-true, leb-true, false≢true}
@@ -35,12 +37,16 @@ use Rattle.ring_core.specs.Views.{mark, own_entry, plan, takes_number}
 use Rattle.ring_core.specs.Visiting.{repeated, room_at, offers, new_payloads, held_after, requests_of, queue_after}
 use Rattle.ring_core.specs.Joining.{regathered, with_gathering, announced, invited, proposes, proposes_in}
 use Rattle.ring_core.specs.Giving.{ready_then_complete, installs_in, may_install, delivered}
-use Rattle.ring_core.specs.Deciding.{Act, Ignore, Enqueue, Repeat, Announce, Invite, GiveUp, Regather, Agree, Widen, RegatherAndAgree, RegatherAndWiden, Take, Visit, Fill, Learn, takes_of, members_of, decide_user, decide_payload, decide}
+use Rattle.ring_core.specs.Deciding.{Act, Ignore, Enqueue, Repeat, Announce, Invite, GiveUp, Regather, Agree, Widen}
+use Rattle.ring_core.specs.Deciding.{RegatherAndAgree, RegatherAndWiden, Take, Visit, Fill, Learn, takes_of, members_of}
+use Rattle.ring_core.specs.Deciding.{decide_user, decide_payload, decide}
 use Rattle.ring_core.specs.Acting.{shown_again, act, may_follow, proposed_after, done}
 use Rattle.ring_core.specs.Stepping.{ring_step}
 use Rattle.ring_moves.specs.Laws.{HasPassed, CameWith}
 use Rattle.ring_moves.specs.Facts.{IsIn}
-use Rattle.ring_moves.specs.Moves.{Move, Idles, Enters, Learns, Visits, Takes, moved, did, AllAreUsers, IsRepeated, MayIdle, MayEnter, AreWraps, IsStart, TakesFrom, TakesLate, MayInstall, MayMove, after_moves, all_sends, MayAll, IsMoved}
+use Rattle.ring_moves.specs.Moves.{Move, Idles, Enters, Learns, Visits, Takes, moved, did, AllAreUsers, IsRepeated}
+use Rattle.ring_moves.specs.Moves.{MayIdle, MayEnter, AreWraps, IsStart, TakesFrom, TakesLate, MayInstall, MayMove}
+use Rattle.ring_moves.specs.Moves.{after_moves, all_sends, MayAll, IsMoved}
 use Rattle.ring_moves.proofs.Guards.{guarded}
 use Rattle.ring_moves.proofs.Causes.{caused}
 use Rattle.ring_moves.proofs.Wraps.{found_in, are_wraps}
@@ -68,7 +74,9 @@ move_of c (Widen j) = idle c (widened c.me c.gathering j) (announced (with_gathe
 move_of c (RegatherAndAgree j) = leave c (agreed (regathered c).gathering j)
 move_of c (RegatherAndWiden j) = leave c (widened c.me (regathered c).gathering j)
 move_of c (Take x) = Takes x
-move_of c (Visit t) = Visits t (new_payloads c t) (requests_of c t (held_after c t) (t.seq + length (new_payloads c t))) (repeated c t) (queue_after c.state (room_at c t) c.queue)
+move_of c (Visit t) = Visits t (new_payloads c t)
+    (requests_of c t (held_after c t) (t.seq + length (new_payloads c t))) (repeated c t)
+    (queue_after c.state (room_at c t) c.queue)
 move_of c (Fill k) = Enters k
 move_of c (Learn k) = Learns k
 
@@ -139,7 +147,8 @@ leaves c g h = record { leaves = inr (inl refl); joins = λ a. h; shows = inl re
 
 offers_few : {A : Type 0} → (s : State) (c : Core A) (count : ℕ) → length (offers s c count) ≤ count
 offers_few Operational c count = length-packed count c.queue
-offers_few Recovery c count = (let xs = wraps_and_end c.me (plan c) c.running.ring c.held in let e : length (take count xs) ≡ min count (length xs) = length-take count xs in omega arith)
+offers_few Recovery c count = (let xs = wraps_and_end c.me (plan c) c.running.ring c.held in let e : length
+    (take count xs) ≡ min count (length xs) = length-take count xs in omega arith)
 offers_few Gather c count = omega arith
 offers_few Commit c count = omega arith
 offers_few Stopped c count = omega arith
@@ -263,14 +272,21 @@ takes c input x g h =
 pub may_act : {A : Type 0} → (c : Core A) (input : Input A) (a : Act A) → HasPassed c a → CameWith c input a → IsAsked a →
     MayMove (λ frame. input ≡ FrameInput frame) c (move_of c a)
 may_act c input Ignore g h u = idles c c.gathering [] (λ a. a) tt
-may_act {A} c input (Enqueue p) g h u = record { leaves = inl refl; joins = λ a. a; shows = inr refl; queued = λ q. each-push (λ (p : Payload A). is_user p ≡ true) c.queue p q u; sent = tt }
+may_act {A} c input (Enqueue p) g h u = record {
+  leaves = inl refl;
+  joins = λ a. a;
+  shows = inr refl;
+  queued = λ q. each-push (λ (p : Payload A). is_user p ≡ true) c.queue p q u;
+  sent = tt;
+}
 may_act c input Repeat g h u = idles c c.gathering (shown_again c.shown) (λ a. a) (shown_repeats c.shown)
 may_act c input Announce g h u = idles c c.gathering (announced c ∷ []) (λ a. a) (inr (own_join c.me (floor c) c.gathering, refl), tt)
 may_act c input Invite g h u = idles c c.gathering (invited c ∷ []) (λ a. a) (inr (_, refl), tt)
 may_act c input GiveUp g h u = idles c (given_up c.me c.gathering) _ (λ a. tt) (inr (own_join c.me (floor c) (given_up c.me c.gathering), refl), tt)
 may_act c input Regather g h u = leaves c (regathered c).gathering tt
 may_act c input (Agree j) g h u = idles c (agreed c.gathering j) [] (agreed_same c.me c.gathering j g.1) tt
-may_act c input (Widen j) g h u = idles c (widened c.me c.gathering j) _ (λ a. widened_same c.me c.gathering j) (inr (own_join c.me (floor c) (widened c.me c.gathering j), refl), tt)
+may_act c input (Widen j) g h u = idles c (widened c.me c.gathering j) _ (λ a. widened_same c.me c.gathering j)
+    (inr (own_join c.me (floor c) (widened c.me c.gathering j), refl), tt)
 may_act c input (RegatherAndAgree j) g h u = leaves c (agreed (regathered c).gathering j) (agreed_same c.me (regathered c).gathering j g.heard tt)
 may_act c input (RegatherAndWiden j) g h u = leaves c (widened c.me (regathered c).gathering j) (widened_same c.me (regathered c).gathering j)
 may_act c input (Take x) g h u = takes c input x g h
@@ -301,7 +317,8 @@ pub may_propose : {A : Type 0} → (came : Frame A → Type 0) (c : Core A) → 
 may_propose came c h =
     let s = in_gather c.state c h in
     let k = subst (λ s. proposes_in s c ≡ true) s h in
-    let p = and_parts (has_consensus c.me c.gathering && (smallest (candidates c.gathering) == c.me)) (nat_le (new_number (floor c) c.gathering) max_number) k in
+    let p = and_parts (has_consensus c.me c.gathering && (smallest (candidates c.gathering) == c.me))
+    (nat_le (new_number (floor c) c.gathering) max_number) k in
     let q = and_parts (has_consensus c.me c.gathering) (smallest (candidates c.gathering) == c.me) p.0 in
     let me : smallest (candidates c.gathering) ≡ c.me = eqb-true _ _ q.1 in
     let none : 0 % size (candidates c.gathering) ≡ 0 = grind arith in

@@ -38,15 +38,18 @@ numbered_within ring me seq bound [] h = tt
 numbered_within ring me seq bound (p ∷ ps) h = (omega arith, numbered_within ring me (suc seq) bound ps (omega arith))
 
 -- where no message is past a number, none is held past it
-held_within : {A : Type 0} → (xs : List (Message A)) (r : RingId) (n bound : ℕ) → Each (λ (x : Message A). x.number ≤ bound) xs → holds xs r n ≡ true → n ≤ bound
+held_within : {A : Type 0} → (xs : List (Message A)) (r : RingId) (n bound : ℕ)
+    → Each (λ (x : Message A). x.number ≤ bound) xs → holds xs r n ≡ true → n ≤ bound
 held_within [] r n bound f h = absurd (false≢true h)
 held_within (x ∷ xs) r n bound f h =
     elim (or_cases (is_numbered r n x) (holds xs r n) h) [
-      | inl e ↦ (let q : x.number ≡ n = eqb-true x.number n (and_parts (same_ring x.ring r) (x.number == n) e).1 in let k : x.number ≤ bound = f.0 in omega arith)
+      | inl e ↦ (let q : x.number ≡ n = eqb-true x.number n
+          (and_parts (same_ring x.ring r) (x.number == n) e).1 in let k : x.number ≤ bound = f.0 in omega arith)
       | inr e ↦ held_within xs r n bound f.1 e
     ]
 
-held-append : {A : Type 0} → (xs ys : List (Message A)) (r : RingId) (n bound : ℕ) → (holds xs r n ≡ true → n ≤ bound) → (holds ys r n ≡ true → n ≤ bound) → holds (xs ++ ys) r n ≡ true → n ≤ bound
+held-append : {A : Type 0} → (xs ys : List (Message A)) (r : RingId) (n bound : ℕ) → (holds xs r n ≡ true → n ≤ bound)
+    → (holds ys r n ≡ true → n ≤ bound) → holds (xs ++ ys) r n ≡ true → n ≤ bound
 held-append [] ys r n bound f g h = g h
 held-append (x ∷ xs) ys r n bound f g h =
     elim (or_cases (is_numbered r n x) (holds (xs ++ ys) r n) h) [
@@ -54,12 +57,14 @@ held-append (x ∷ xs) ys r n bound f g h =
       | inr e ↦ held-append xs ys r n bound (λ k. f (or_right (is_numbered r n x) (holds xs r n) k)) g e
     ]
 
-pub front_within : {A : Type 0} → (c : Core A) (t : Token) (fresh : List (Payload A)) → highest c.held t.ring ≤ t.seq → front_of (held_in c t fresh) t.ring ≤ t.seq + length fresh
+pub front_within : {A : Type 0} → (c : Core A) (t : Token) (fresh : List (Payload A)) → highest c.held t.ring ≤ t.seq
+    → front_of (held_in c t fresh) t.ring ≤ t.seq + length fresh
 front_within c t fresh top =
     let new = numbered t.ring c.me t.seq fresh in
     let bound = t.seq + length fresh in
     let within = each-reverse (λ (x : Message _). x.number ≤ bound) new (numbered_within t.ring c.me t.seq bound fresh (omega arith)) in
-    front_below (held_in c t fresh) t.ring bound (λ n k. held-append (reverse new) c.held t.ring n bound (λ e. held_within (reverse new) t.ring n bound within e)
+    front_below (held_in c t fresh) t.ring bound (λ n k. held-append (reverse new) c.held t.ring n bound
+    (λ e. held_within (reverse new) t.ring n bound within e)
     (λ e. (let q : n ≤ highest c.held t.ring = highest_covers c.held t.ring n e in omega arith)) k)
 
 -- with messages more, the fronts of the visits are still reached
@@ -73,7 +78,9 @@ still me xs held (v ∷ turns) h =
 abbrev pub Turned : {A : Type 0} → Core A → Type 0
 Turned c = AreTurnsOf c.me c.held c.turns
 
-visited_turned : {A : Type 0} → (c : Core A) (t : Token) (fresh : List (Payload A)) (requests : List ℕ) → highest c.held t.ring ≤ t.seq → Turned c → AreTurnsOf c.me (held_in c t fresh) (turn_with c t fresh requests ∷ c.turns)
+visited_turned : {A : Type 0} → (c : Core A) (t : Token) (fresh : List (Payload A)) (requests : List ℕ)
+    → highest c.held t.ring ≤ t.seq → Turned c → AreTurnsOf c.me (held_in c t fresh)
+    (turn_with c t fresh requests ∷ c.turns)
 visited_turned c t fresh requests a h =
     (record { goes = refl; within = front_within c t fresh a; grown = omega arith }, still c.me (reverse (numbered t.ring c.me t.seq fresh)) c.held c.turns h)
 

@@ -18,10 +18,13 @@ use Rattle.ring_moves.proofs.Everywhere.{Everywhere, everywhere, kept_run}
 fits : {A : Type 0} → (n : ℕ) (events : List (RingEvent A)) → Everywhere Fit (run (unformed n) events)
 fits n events = everywhere Fit fitting (unformed n) events (λ i. record { window = tt; visits = tt; raised = tt })
 
-pub marks_below : {A : Type 0} → (n i : ℕ) (events : List (RingEvent A)) (ring : RingId) → mark ((run (unformed n) events).cores i) ring ≤ front ((run (unformed n) events).cores i) ring
+pub marks_below : {A : Type 0} → (n i : ℕ) (events : List (RingEvent A)) (ring : RingId)
+    → mark ((run (unformed n) events).cores i) ring ≤ front ((run (unformed n) events).cores i) ring
 marks_below n i events ring = mark_below ((run (unformed n) events).cores i) ring (fits n events i)
 
-pub all_held_below : {A : Type 0} → (n i : ℕ) (events : List (RingEvent A)) (ring : RingId) (k : ℕ) → holds ((run (unformed n) events).cores i).held ring k ≡ true → k ≤ mark ((run (unformed n) events).cores i) ring + window_size
+pub all_held_below : {A : Type 0} → (n i : ℕ) (events : List (RingEvent A)) (ring : RingId) (k : ℕ)
+    → holds ((run (unformed n) events).cores i).held ring k ≡ true → k ≤ mark ((run (unformed n) events).cores i) ring
+    + window_size
 all_held_below n i events ring k h = held_below ((run (unformed n) events).cores i) ring k (fits n events i) h
 
 pub all_turns : {A : Type 0} → (n i : ℕ) (events : List (RingEvent A)) →

@@ -1,5 +1,7 @@
--- What a core in Recovery sends: the users' messages of the installed ring above the least front that it holds and did not see wrapped, ascending, and behind the last of them, once, its End.
-use Rattle.std.proofs.Common.{◌≡◌, ℕ, zero, suc, ◌+◌, ◌-◌, ◌<◌, ◌≤◌, ◌⊎◌, inl, inr, Bool, true, false, ◌==◌, cond, eqb, List, [], ◌∷◌, length, Option, Some, None, refl, ap, sym, ◌∙◌, subst, arith}
+-- What a core in Recovery sends: the users' messages of the installed ring above the least front that it holds and did
+-- not see wrapped, ascending, and behind the last of them, once, its End.
+use Rattle.std.proofs.Common.{◌≡◌, ℕ, zero, suc, ◌+◌, ◌-◌, ◌<◌, ◌≤◌, ◌⊎◌, inl, inr, Bool, true, false, ◌==◌, cond, eqb}
+use Rattle.std.proofs.Common.{List, [], ◌∷◌, length, Option, Some, None, refl, ap, sym, ◌∙◌, subst, arith}
 use Rattle.std.specs.Prelude.{filter, filter_map, not, take}
 use Rattle.std.specs.List.{AllByRecursion as Each, cons_option}
 use Rattle.std.proofs.lemmas.Bool.{cond_both, cases_Bool, and_parts, and_from, eqb-true, eq-eqb, not-true, not_from_false}
@@ -9,7 +11,9 @@ use Rattle.ring_base.specs.Rings.{same_ring}
 use Rattle.ring_base.specs.declared.ring_id.RingId.{RingId}
 use Rattle.ring_payload.specs.Kinds.{is_user, payload_of, content_of}
 use Rattle.ring_payload.specs.declared.content.Content.{Content}
-use Rattle.ring_payload.specs.declared.content.Content.TheVariants.{Call as CallContent, Head as HeadContent, Part as PartContent, Pack as PackContent, Snap as SnapContent}
+use Rattle.ring_payload.specs.declared.content.Content.TheVariants.{Call as CallContent, Head as HeadContent}
+use Rattle.ring_payload.specs.declared.content.Content.TheVariants.{Part as PartContent, Pack as PackContent}
+use Rattle.ring_payload.specs.declared.content.Content.TheVariants.{Snap as SnapContent}
 use Rattle.ring_payload.specs.declared.content.Payload.{Payload}
 use Rattle.ring_payload.specs.declared.content.Payload.TheVariants.{Call, Wrapped, End, Head, Part, Pack, Snap}
 use Rattle.ring_wire.specs.declared.message.Message.{Message}
@@ -22,7 +26,8 @@ use Rattle.ring_core.specs.State.{Core}
 use Rattle.ring_core.specs.Views.{plan}
 use Rattle.ring_moves.specs.Facts.{IsIn, SomeIs}
 use Rattle.ring_moves.specs.Moves.{is_seen, IsWrapping, AreRising, AreLast, MayEnd, AreWraps}
-use Rattle.ring_moves.proofs.Lists.{in-filter, in-filtered, any-some, in-filter_map, in-numbers, some-in, any-in, each-filtered, each-take, each-filter_map, numbers-above, take-append, find-in}
+use Rattle.ring_moves.proofs.Lists.{in-filter, in-filtered, any-some, in-filter_map, in-numbers, some-in, any-in}
+use Rattle.ring_moves.proofs.Lists.{each-filtered, each-take, each-filter_map, numbers-above, take-append, find-in}
 
 -- a ring is itself
 pub same-self : (r : RingId) → same_ring r r ≡ true

@@ -1,4 +1,5 @@
--- Two form a ring, one message reaches its sender alone, both lose the token, and they go on in a second ring: all frames, all that is given, and the lives of both.
+-- Two form a ring, one message reaches its sender alone, both lose the token, and they go on in a second ring: all
+-- frames, all that is given, and the lives of both.
 use Rattle.std.specs.Prelude.{ℕ, List, [], ◌∷◌, ◌++◌, None}
 use Rattle.std.specs.declared.alloc.Global.{Global}
 use Rattle.ring_base.specs.Processors.{only}
@@ -16,7 +17,8 @@ use Rattle.ring_moves.specs.Worlds.{Carried, World, run, unformed}
 use Rattle.ring_moves.specs.CommitRounds.{Taking}
 use Rattle.ring_moves.specs.Lives.{Stage, InRegular, InTransitional}
 use Rattle.ring_moves.specs.FirstRings.{frame_of, silent_events}
-use Rattle.ring_moves.specs.Samples.{ring_of, first_ring, second_ring, add_five, call_at, wrapped_call, message_of, token_frame, join_frame, commit_frame, report_of, empty_report}
+use Rattle.ring_moves.specs.Samples.{ring_of, first_ring, second_ring, add_five, call_at, wrapped_call, message_of}
+use Rattle.ring_moves.specs.Samples.{token_frame, join_frame, commit_frame, report_of, empty_report}
 
 -- both gather, hand the commit token round twice, and install the first ring: frames 1 to 13
 abbrev pub forming : List (RingEvent Global)

@@ -1,5 +1,8 @@
--- The two rounds of the commit tokens of a run: who sent each hop, what it says, who took it, and that none is taken twice. The commit token, rules 1 and 10 of docs/PROTOCOL.md. All of it are tests, so that it is computed of a worked run.
-use Rattle.std.specs.Prelude.{◌≡◌, ℕ, ◌-◌, ◌*◌, ◌%◌, min, Bool, true, false, not, ◌&&◌, ◌||◌, ◌==◌, nat_lt, nat_le, if◌then◌else◌, List, [], ◌∷◌, ◌++◌, filter_map, length, Option, Some, None, slice_get}
+-- The two rounds of the commit tokens of a run: who sent each hop, what it says, who took it, and that none is taken
+-- twice. The commit token, rules 1 and 10 of docs/PROTOCOL.md. All of it are tests, so that it is computed of a worked
+-- run.
+use Rattle.std.specs.Prelude.{◌≡◌, ℕ, ◌-◌, ◌*◌, ◌%◌, min, Bool, true, false, not, ◌&&◌, ◌||◌, ◌==◌, nat_lt, nat_le}
+use Rattle.std.specs.Prelude.{if◌then◌else◌, List, [], ◌∷◌, ◌++◌, filter_map, length, Option, Some, None, slice_get}
 use Rattle.std.specs.List.{list_all}
 use Rattle.ring_base.specs.Numbers.{numbers_from}
 use Rattle.ring_base.specs.Rings.{same_ring}
@@ -53,7 +56,8 @@ is_handed_on f k = (f.from == at k.members ((k.hop - 1) % size k.members)) && (f
 -- a hop from 1 to 2m, with the reports of the members up to there
 abbrev pub is_hop : {A : Type 0} → (ℕ → Core A) → CommitToken → Bool
 is_hop cores k =
-    nat_le 1 k.hop && nat_le k.hop (2 * size k.members) && (length k.entries == min k.hop (size k.members)) && are_reports cores k.ring (elements k.members) k.entries
+    nat_le 1 k.hop && nat_le k.hop (2 * size k.members) && (length k.entries == min k.hop (size k.members))
+    && are_reports cores k.ring (elements k.members) k.entries
 
 -- a frame, if it is a commit token, is such a hop
 abbrev pub is_hop_if_commit : {A : Type 0} → (ℕ → Core A) → Carried A → Frame A → Bool

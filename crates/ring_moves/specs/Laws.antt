@@ -30,7 +30,8 @@ use Rattle.ring_core.specs.State.{Core}
 use Rattle.ring_core.specs.Visiting.{accepts}
 use Rattle.ring_core.specs.Joining.{regathered, hears, disturbs}
 use Rattle.ring_core.specs.Handing.{takes_first_round, takes_second_round}
-use Rattle.ring_core.specs.Deciding.{Act, Ignore, Enqueue, Repeat, Announce, Invite, GiveUp, Regather, Agree, Widen, RegatherAndAgree, RegatherAndWiden, Take, Visit, Fill, Learn, is_taken, decide}
+use Rattle.ring_core.specs.Deciding.{Act, Ignore, Enqueue, Repeat, Announce, Invite, GiveUp, Regather, Agree, Widen}
+use Rattle.ring_core.specs.Deciding.{RegatherAndAgree, RegatherAndWiden, Take, Visit, Fill, Learn, is_taken, decide}
 use Rattle.ring_moves.specs.Facts.{IsIn}
 use Rattle.ring_moves.specs.Moves.{AreLast}
 
@@ -154,7 +155,8 @@ pub record IsFreshOf {A : Type 0} (me : ℕ) (held : List (Message A)) (v : Turn
 abbrev pub AreFreshOf : {A : Type 0} → ℕ → List (Message A) → List (Turn A) → Type 0
 AreFreshOf me held turns = AllByRecursion (IsFreshOf me held) turns
 
--- a visit of the running ring that sent an End left nothing to wrap: each users' message of the installed ring that is held above the least front is seen wrapped
+-- a visit of the running ring that sent an End left nothing to wrap: each users' message of the installed ring that is
+-- held above the least front is seen wrapped
 abbrev pub EndsWrapping : {A : Type 0} → Core A → Turn A → Type 0
 EndsWrapping c v = v.came.ring ≡ c.running.ring → IsIn End v.fresh → AreLast c []
 

@@ -32,7 +32,8 @@ abbrev pub leads_to : {A : Type 0} → RingId → Stage A → Bool
 leads_to ring (InRegular at agreed safe) = false
 leads_to ring (InTransitional old new members rest) = same_ring new ring
 
--- an output stands where it belongs: what is agreed and safe in the regular configuration of its ring, the rest in a transitional one from it; and the two kinds follow each other
+-- an output stands where it belongs: what is agreed and safe in the regular configuration of its ring, the rest in a
+-- transitional one from it; and the two kinds follow each other
 abbrev pub belongs : {A : Type 0} → Out A → Stage A → Bool
 belongs (SendOut to frame) stage = true
 belongs (Agreed ring n x) stage = is_regular_of ring stage

@@ -1,4 +1,7 @@
--- All that can happen to a ring core. Each step of the definition is at most three of these six moves, and then its outputs: Rings and states, rule 13 of docs/PROTOCOL.md. What a move has passed asks less than the definition's tests do, so that what is proved of moves rests on no more than stands here: how a core comes to its sets in Gather, whom it hears and when a time is over play no part.
+-- All that can happen to a ring core. Each step of the definition is at most three of these six moves, and then its
+-- outputs: Rings and states, rule 13 of docs/PROTOCOL.md. What a move has passed asks less than the definition's tests
+-- do, so that what is proved of moves rests on no more than stands here: how a core comes to its sets in Gather, whom
+-- it hears and when a time is over play no part.
 use Rattle.std.specs.Prelude.{◌≡◌, ℕ, ◌+◌, ◌-◌, ◌*◌, ◌<◌, ◌≤◌, ◌⊎◌, Bool, true, false, List, [], ◌∷◌, ◌++◌, reverse, length, Option, Some, None, slice_get}
 use Rattle.std.specs.List.{AllByRecursion}
 use Rattle.ring_base.specs.Numbers.{window_size}
@@ -70,7 +73,12 @@ moved c (Idles state gathering shown queue sends) = record c { state = state; ga
 moved c (Enters k) = (joined c (hopped k (own_entry c ∷ []))).core
 moved c (Learns k) = (learned c k).core
 moved c (Visits t fresh requests again queue) =
-    record c { held = held_in c t fresh; turns = turn_with c t fresh requests ∷ c.turns; queue = queue; shown = Some (to_next c (went_with c t fresh requests)) }
+    record c {
+      held = held_in c t fresh;
+      turns = turn_with c t fresh requests ∷ c.turns;
+      queue = queue;
+      shown = Some (to_next c (went_with c t fresh requests));
+    }
 moved c (Takes x) = took c x
 moved c Installs = install c
 
@@ -96,7 +104,8 @@ abbrev pub IsRepeated : {A : Type 0} → Option (Sent A) → Sent A → Type 0
 IsRepeated shown s = (shown ≡ Some s) ⊎ ((j : Join) × (s.frame ≡ JoinFrame j))
 
 -- to Gather, or to a stop, or nowhere; only joins go out and what went out before; what was true of the queue and of the joins heard stays so
-pub record MayIdle {A : Type 0} (c : Core A) (state : State) (gathering : Gathering) (shown : Option (Sent A)) (queue : List (Payload A)) (sends : List (Sent A)) : Type 0 where
+pub record MayIdle {A : Type 0} (c : Core A) (state : State) (gathering : Gathering) (shown : Option (Sent A))
+    (queue : List (Payload A)) (sends : List (Sent A)) : Type 0 where
   pub leaves : (state ≡ c.state) ⊎ ((state ≡ Gather) ⊎ (state ≡ Stopped))
   pub joins : AllSaySame c.gathering → AllSaySame gathering
   pub shows : (shown ≡ None) ⊎ (shown ≡ c.shown)
@@ -117,7 +126,8 @@ pub record MayEnter {A : Type 0} (came : Frame A → Type 0) (c : Core A) (k : C
   pub here : receiver k ≡ c.me
   pub from : IsProposal c.me k ⊎ came (CommitFrame k)
 
--- in Commit, at the position of the hop in the second round, of the ring that runs; the own report still stands there, and no front from the own old ring is below a safe mark of it
+-- in Commit, at the position of the hop in the second round, of the ring that runs; the own report still stands there,
+-- and no front from the own old ring is below a safe mark of it
 pub record MayLearn {A : Type 0} (came : Frame A → Type 0) (c : Core A) (k : CommitToken) : Type 0 where
   pub state : c.state ≡ Commit
   pub ring : k.ring ≡ c.running.ring
@@ -149,7 +159,8 @@ abbrev pub AreRising : {A : Type 0} → ℕ → List (Payload A) → Type 0
 AreRising below [] = Unit {0}
 AreRising {A} below (p ∷ ps) = (w : WrappedMessage A) × (p ≡ Wrapped w) × (below < w.number) × AreRising w.number ps
 
--- nothing but these is left to wrap: where a users' message of the installed ring is held above the least front, its number is seen wrapped, or one of these wraps it
+-- nothing but these is left to wrap: where a users' message of the installed ring is held above the least front, its
+-- number is seen wrapped, or one of these wraps it
 abbrev pub AreLast : {A : Type 0} → Core A → List (Payload A) → Type 0
 AreLast {A} c wraps =
     (n : ℕ) (x : Message A) → low (plan c) < n → found c.held c.installed.ring n ≡ Some x → is_user x.payload ≡ true →
@@ -175,8 +186,10 @@ pub record IsStart {A : Type 0} (c : Core A) (t : Token) : Type 0 where
   pub token : t ≡ first_token c.running.ring
   pub first : at c.running.members 0 ≡ c.me
 
--- of the ring that runs, newer than each visited, not behind what is held; what is new is within the window after the safe mark, in Operational users' alone; what goes out again is held
-pub record MayVisit {A : Type 0} (came : Frame A → Type 0) (c : Core A) (t : Token) (fresh : List (Payload A)) (again : List (Message A)) (queue : List (Payload A)) : Type 0 where
+-- of the ring that runs, newer than each visited, not behind what is held; what is new is within the window after the
+-- safe mark, in Operational users' alone; what goes out again is held
+pub record MayVisit {A : Type 0} (came : Frame A → Type 0) (c : Core A) (t : Token) (fresh : List (Payload A))
+    (again : List (Message A)) (queue : List (Payload A)) : Type 0 where
   pub state : (c.state ≡ Recovery) ⊎ (c.state ≡ Operational)
   pub ring : t.ring ≡ c.running.ring
   pub newer : is_newer c.turns t ≡ true

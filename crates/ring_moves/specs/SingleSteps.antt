@@ -15,7 +15,8 @@ use Rattle.ring_base.specs.declared.state.State.{State}
 use Rattle.ring_base.specs.declared.state.State.TheVariants.{Gather, Commit}
 use Rattle.ring_core.specs.State.{Core, Stepped, opening, formed}
 use Rattle.ring_core.specs.Stepping.{ring_step}
-use Rattle.ring_moves.specs.Samples.{first_ring, second_ring, commit_of, commit_frame, report_of, empty_report, ring_of, empty_head, call_at, token_of, token_frame, join_frame, holding}
+use Rattle.ring_moves.specs.Samples.{first_ring, second_ring, commit_of, commit_frame, report_of, empty_report, ring_of}
+use Rattle.ring_moves.specs.Samples.{empty_head, call_at, token_of, token_frame, join_frame, holding}
 
 -- a frame comes
 abbrev pub comes : Core Global → Frame Global → Stepped Global

@@ -1,4 +1,6 @@
--- What holds of one core after any inputs, forged ones too: where its two rings and its visits stand, that no safe mark passes its front, and that all that is held lies within the window after its mark. Rings and states, rule 4, and Token and window, rules 3 and 4 of docs/PROTOCOL.md.
+-- What holds of one core after any inputs, forged ones too: where its two rings and its visits stand, that no safe mark
+-- passes its front, and that all that is held lies within the window after its mark. Rings and states, rule 4, and
+-- Token and window, rules 3 and 4 of docs/PROTOCOL.md.
 use Rattle.std.specs.Prelude.{◌≡◌, ◌+◌, ◌<◌, ◌≤◌, List}
 use Rattle.std.specs.List.{AllByRecursion}
 use Rattle.ring_base.specs.Numbers.{window_size}

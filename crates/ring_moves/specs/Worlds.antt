@@ -1,5 +1,7 @@
--- Worlds of ring cores, Rings and states, rule 14 of docs/PROTOCOL.md: the cores, all frames ever sent, and all that the cores gave; and how an event changes a world.
-use Rattle.std.specs.Prelude.{ℕ, zero, suc, Bool, true, false, ◌&&◌, ◌==◌, nat_le, if◌then◌else◌, List, [], ◌∷◌, ◌++◌, map, filter, filter_map, Option, Some, None, slice_get}
+-- Worlds of ring cores, Rings and states, rule 14 of docs/PROTOCOL.md: the cores, all frames ever sent, and all that
+-- the cores gave; and how an event changes a world.
+use Rattle.std.specs.Prelude.{ℕ, zero, suc, Bool, true, false, ◌&&◌, ◌==◌, nat_le, if◌then◌else◌, List, [], ◌∷◌, ◌++◌}
+use Rattle.std.specs.Prelude.{map, filter, filter_map, Option, Some, None, slice_get}
 use Rattle.ring_base.specs.Processors.{has}
 use Rattle.ring_base.specs.declared.kind.Kind.{Kind}
 use Rattle.ring_base.specs.declared.kind.Kind.TheVariants.{Retransmit, Join as JoinTime, Consensus, Loss}

@@ -21,11 +21,22 @@ ghost use Rattle.ring_core.specs.Giving.{may_install};
 ghost use Rattle.ring_core.specs.Deciding.{decide, Ignore, Take, Regather, Agree, Widen, RegatherAndAgree, RegatherAndWiden, Visit, Fill, Learn};
 ghost use Rattle.ring_core.specs.Stepping.{ring_step};
 ghost use Rattle.ring_moves.specs.Worlds.{run, run_formed, unformed};
-ghost use Rattle.ring_moves.specs.Samples.{first_ring, second_ring, ring_of, add_five, message_of, call_at, wrapped_call, empty_head, token_of, token_frame, token_at, join_of, join_frame, report_of, empty_report, commit_of, commit_frame, holding};
+ghost use Rattle.ring_moves.specs.Samples.{first_ring, second_ring, ring_of, add_five, message_of, call_at};
+ghost use Rattle.ring_moves.specs.Samples.{wrapped_call, empty_head, token_of, token_frame, token_at, join_of};
+ghost use Rattle.ring_moves.specs.Samples.{join_frame, report_of, empty_report, commit_of, commit_frame, holding};
 ghost use Rattle.ring_moves.specs.FormedRing.{loss_events, loss_outs, idle_timeouts, repeat_timeout, first_token_again};
-ghost use Rattle.ring_moves.specs.FirstRings.{three_after, three_frames, states_of_three, configurations_of, first_configurations, silent_events, silent_frames, lone_events, lone_outs, lone_hop, three_reports, join_to_others, stop_events, idle_events};
-ghost use Rattle.ring_moves.specs.SingleSteps.{comes, lacking, having, token_of_ten, asking_token, asks, sends_again, holed, marked, sending, near_greatest, floored, stranger, marked_at_five, asks_three_and_seven, gathering_from, formed_three, opened_three, in_ring_of_two, invitation, gathering_alone, gave_up_two, gives_up_and_proposes, hop_at_three, committing, returned};
-ghost use Rattle.ring_moves.specs.PackedCalls.{calls_from, calls_of_size, seven_and, waiting, pack_of, queueing, around_head, two_and_head, five_times, nine_events, nine_outs, packed_message, with_pack, wrapped_pack, handed_on, piece};
+ghost use Rattle.ring_moves.specs.FirstRings.{three_after, three_frames, states_of_three, configurations_of};
+ghost use Rattle.ring_moves.specs.FirstRings.{first_configurations, silent_events, silent_frames, lone_events};
+ghost use Rattle.ring_moves.specs.FirstRings.{lone_outs, lone_hop, three_reports, join_to_others, stop_events};
+ghost use Rattle.ring_moves.specs.FirstRings.{idle_events};
+ghost use Rattle.ring_moves.specs.SingleSteps.{comes, lacking, having, token_of_ten, asking_token, asks, sends_again};
+ghost use Rattle.ring_moves.specs.SingleSteps.{holed, marked, sending, near_greatest, floored, stranger};
+ghost use Rattle.ring_moves.specs.SingleSteps.{marked_at_five, asks_three_and_seven, gathering_from, formed_three};
+ghost use Rattle.ring_moves.specs.SingleSteps.{opened_three, in_ring_of_two, invitation, gathering_alone, gave_up_two};
+ghost use Rattle.ring_moves.specs.SingleSteps.{gives_up_and_proposes, hop_at_three, committing, returned};
+ghost use Rattle.ring_moves.specs.PackedCalls.{calls_from, calls_of_size, seven_and, waiting, pack_of, queueing};
+ghost use Rattle.ring_moves.specs.PackedCalls.{around_head, two_and_head, five_times, nine_events, nine_outs};
+ghost use Rattle.ring_moves.specs.PackedCalls.{packed_message, with_pack, wrapped_pack, handed_on, piece};
 ghost use Rattle.ring_moves.specs.Recoveries.{with_four, with_three, with_all, with_ends, past_gap, mixed};
 
 /// Two in a formed ring: a message that is lost once is asked for, sent again, agreed and then safe.
@@ -218,8 +229,12 @@ pub fn messages()
     ensures past { decide (holding 3 2 []) (FrameInput (MessageFrame (call_at 1 257))) ≡ Ignore }
     ensures in_commit { decide ((three_after 6).cores 1) (FrameInput (MessageFrame (call_at 2 1))) ≡ Ignore }
     ensures of_old_ring { decide with_four (FrameInput (MessageFrame (call_at 1 3))) ≡ Ignore }
-    ensures unwraps { (ring_step with_four (FrameInput (MessageFrame (message_of second_ring 1 2 (wrapped_call 1 3))))).core.held ≡ call_at 1 3 ∷ message_of second_ring 1 2 (wrapped_call 1 3) ∷ with_four.held }
-    ensures agreed { (ring_step with_four (FrameInput (MessageFrame (message_of second_ring 1 2 (wrapped_call 1 3))))).outs ≡ Agreed first_ring 3 (call_at 1 3) ∷ Agreed first_ring 4 (call_at 1 4) ∷ [] }
+    ensures unwraps { (ring_step with_four
+        (FrameInput (MessageFrame (message_of second_ring 1 2 (wrapped_call 1 3))))).core.held ≡ call_at 1 3
+        ∷ message_of second_ring 1 2 (wrapped_call 1 3) ∷ with_four.held }
+    ensures agreed { (ring_step with_four
+        (FrameInput (MessageFrame (message_of second_ring 1 2 (wrapped_call 1 3))))).outs ≡ Agreed first_ring 3
+        (call_at 1 3) ∷ Agreed first_ring 4 (call_at 1 4) ∷ [] }
 {}
 
 /// Commit tokens, round by round.
@@ -227,11 +242,13 @@ pub fn commit_tokens()
     ensures first { decide (opening 3 2) (FrameInput (hop_at_three 1 (empty_report 1 ∷ []))) ≡ Fill (commit_of first_ring 7 1 (empty_report 1 ∷ [])) }
     ensures elsewhere { decide (opening 3 3) (FrameInput (hop_at_three 1 (empty_report 1 ∷ []))) ≡ Ignore }
     ensures other_members { decide (opening 3 2) (FrameInput (commit_frame first_ring 3 1 (empty_report 1 ∷ []))) ≡ Ignore }
-    ensures not_above_floor { decide (record (opening 3 2) { running = record { ring = ring_of 1 2; members = 2 } }) (FrameInput (hop_at_three 1 (empty_report 1 ∷ []))) ≡ Ignore }
+    ensures not_above_floor { decide (record (opening 3 2) { running = record { ring = ring_of 1 2; members = 2 } })
+        (FrameInput (hop_at_three 1 (empty_report 1 ∷ []))) ≡ Ignore }
     ensures too_late { decide (opening 3 1) (FrameInput (hop_at_three 3 three_reports)) ≡ Ignore }
     ensures again { decide ((three_after 7).cores 2) (FrameInput (hop_at_three 1 (empty_report 1 ∷ []))) ≡ Ignore }
     ensures second { decide ((three_after 8).cores 1) (FrameInput (hop_at_three 3 three_reports)) ≡ Learn (commit_of first_ring 7 3 three_reports) }
-    ensures report_changed { decide ((three_after 8).cores 1) (FrameInput (hop_at_three 3 (report_of (ring_of 0 1) 1 0 0 ∷ empty_report 2 ∷ empty_report 3 ∷ []))) ≡ Ignore }
+    ensures report_changed { decide ((three_after 8).cores 1)
+        (FrameInput (hop_at_three 3 (report_of (ring_of 0 1) 1 0 0 ∷ empty_report 2 ∷ empty_report 3 ∷ []))) ≡ Ignore }
     ensures second_members { decide ((three_after 8).cores 1) (FrameInput (commit_frame first_ring 3 2 (empty_report 1 ∷ empty_report 2 ∷ []))) ≡ Ignore }
     ensures sound { decide committing (FrameInput (CommitFrame (returned 2))) ≡ Learn (returned 2) }
     ensures behind { decide committing (FrameInput (CommitFrame (returned 3))) ≡ Ignore }

@@ -56,12 +56,15 @@ pub fn rings_law<A: Allocator + Copy>()
 
 /// A safe mark is at most the front of its ring.
 pub fn mark_law<A: Allocator + Copy>()
-    ensures { (n me : ℕ) (inputs : List (Input A)) (ring : RingId) → mark (after_inputs (opening n me) inputs) ring ≤ front (after_inputs (opening n me) inputs) ring }
+    ensures { (n me : ℕ) (inputs : List (Input A)) (ring : RingId) → mark (after_inputs (opening n me) inputs)
+        ring ≤ front (after_inputs (opening n me) inputs) ring }
 {}
 
 /// No number is held that lies past the window.
 pub fn window_law<A: Allocator + Copy>()
-    ensures { (n me : ℕ) (inputs : List (Input A)) (ring : RingId) (k : ℕ) → holds (after_inputs (opening n me) inputs).held ring k ≡ true → k ≤ mark (after_inputs (opening n me) inputs) ring + window_size }
+    ensures { (n me : ℕ) (inputs : List (Input A)) (ring : RingId) (k : ℕ)
+        → holds (after_inputs (opening n me) inputs).held ring k ≡ true
+        → k ≤ mark (after_inputs (opening n me) inputs) ring + window_size }
 {}
 
 /// Each join that a core keeps as heard says exactly its sets. So consensus, as `ring_join` tests it, is of
@@ -76,8 +79,10 @@ pub fn agreement_law<A: Allocator + Copy>()
 /// that stands in `ring_chain`, and with it the visits of a ring are those of which `ring_token` says how far they
 /// make it safe.
 pub fn visit_law<A: Allocator + Copy>()
-    ensures turns { (n me : ℕ) (inputs : List (Input A)) → AreTurnsOf (after_inputs (opening n me) inputs).me (after_inputs (opening n me) inputs).held (after_inputs (opening n me) inputs).turns }
-    ensures fresh { (n me : ℕ) (inputs : List (Input A)) → AreFreshOf (after_inputs (opening n me) inputs).me (after_inputs (opening n me) inputs).held (after_inputs (opening n me) inputs).turns }
+    ensures turns { (n me : ℕ) (inputs : List (Input A)) → AreTurnsOf (after_inputs (opening n me) inputs).me
+        (after_inputs (opening n me) inputs).held (after_inputs (opening n me) inputs).turns }
+    ensures fresh { (n me : ℕ) (inputs : List (Input A)) → AreFreshOf (after_inputs (opening n me) inputs).me
+        (after_inputs (opening n me) inputs).held (after_inputs (opening n me) inputs).turns }
 {}
 
 /// In Recovery nothing is left to wrap once one of the core's own visits of the running ring sent an End: the number of
@@ -94,17 +99,23 @@ pub fn packing_law<A: Allocator + Copy>()
     ensures few { (count : ℕ) (queue : List (Payload A)) → length (packed count queue) ≤ count }
     ensures units { (count : ℕ) (queue : List (Payload A)) → AreQueued queue → flat_map units (packed count queue) ++ left_behind count queue ≡ queue }
     ensures fits { (count : ℕ) (queue : List (Payload A)) → AllByRecursion PayloadFits queue → AllByRecursion PayloadFits (packed count queue) }
-    ensures users { (count : ℕ) (queue : List (Payload A)) → AllByRecursion (λ (p : Payload A). is_user p ≡ true) queue → AllByRecursion (λ (p : Payload A). is_user p ≡ true) (packed count queue) }
+    ensures users { (count : ℕ) (queue : List (Payload A)) → AllByRecursion (λ (p : Payload A). is_user p ≡ true)
+        queue → AllByRecursion (λ (p : Payload A). is_user p ≡ true) (packed count queue) }
 {}
 
 /// The same of each processor of every world: marks never pass fronts, nothing is held past the window, each
 /// visit went by the rules with new messages made by them, each join kept as heard says exactly the sets, and nothing
 /// is left to wrap behind an End.
 pub fn world_law<A: Allocator + Copy>()
-    ensures marks { (n i : ℕ) (events : List (RingEvent A)) (ring : RingId) → mark ((run (unformed n) events).cores i) ring ≤ front ((run (unformed n) events).cores i) ring }
-    ensures window { (n i : ℕ) (events : List (RingEvent A)) (ring : RingId) (k : ℕ) → holds ((run (unformed n) events).cores i).held ring k ≡ true → k ≤ mark ((run (unformed n) events).cores i) ring + window_size }
-    ensures visits { (n i : ℕ) (events : List (RingEvent A)) → AreTurnsOf ((run (unformed n) events).cores i).me ((run (unformed n) events).cores i).held ((run (unformed n) events).cores i).turns }
-    ensures fresh { (n i : ℕ) (events : List (RingEvent A)) → AreFreshOf ((run (unformed n) events).cores i).me ((run (unformed n) events).cores i).held ((run (unformed n) events).cores i).turns }
+    ensures marks { (n i : ℕ) (events : List (RingEvent A)) (ring : RingId) → mark ((run (unformed n) events).cores i)
+        ring ≤ front ((run (unformed n) events).cores i) ring }
+    ensures window { (n i : ℕ) (events : List (RingEvent A)) (ring : RingId) (k : ℕ)
+        → holds ((run (unformed n) events).cores i).held ring k ≡ true → k ≤ mark ((run (unformed n) events).cores i)
+        ring + window_size }
+    ensures visits { (n i : ℕ) (events : List (RingEvent A)) → AreTurnsOf ((run (unformed n) events).cores i).me
+        ((run (unformed n) events).cores i).held ((run (unformed n) events).cores i).turns }
+    ensures fresh { (n i : ℕ) (events : List (RingEvent A)) → AreFreshOf ((run (unformed n) events).cores i).me
+        ((run (unformed n) events).cores i).held ((run (unformed n) events).cores i).turns }
     ensures joins { (n i : ℕ) (events : List (RingEvent A)) → AllSaySame ((run (unformed n) events).cores i).gathering }
     ensures ends { (n i : ℕ) (events : List (RingEvent A)) → HasEnded ((run (unformed n) events).cores i) }
 {}
@@ -119,7 +130,8 @@ pub fn rounds_law<A: Allocator + Copy>()
 
 /// The laws at the allocator that programs use; of one of them it says what it gives.
 pub fn laws_at_global()
-    ensures { (n me : ℕ) (inputs : List (Input Heap)) (ring : RingId) → mark (after_inputs (opening n me) inputs) ring ≤ front (after_inputs (opening n me) inputs) ring }
+    ensures { (n me : ℕ) (inputs : List (Input Heap)) (ring : RingId) → mark (after_inputs (opening n me) inputs)
+        ring ≤ front (after_inputs (opening n me) inputs) ring }
 {
     front_law::<Global>();
     bits_law::<Global>();

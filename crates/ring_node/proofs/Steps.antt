@@ -1,5 +1,6 @@
 -- A node's step and submit, by its core and its replica.
-use Rattle.std.proofs.Common.{◌≡◌, ℕ, inl, inr, nat_le, Result, Ok, Err, OnOk, IfErr, if◌then◌else◌, Bool, true, false, List, [], ◌∷◌, ◌++◌, length, drop, Option, Some, None, refl, ap, sym, ◌∙◌, subst}
+use Rattle.std.proofs.Common.{◌≡◌, ℕ, inl, inr, nat_le, Result, Ok, Err, OnOk, IfErr, if◌then◌else◌, Bool, true, false}
+use Rattle.std.proofs.Common.{List, [], ◌∷◌, ◌++◌, length, drop, Option, Some, None, refl, ap, sym, ◌∙◌, subst}
 use Rattle.std.proofs.lemmas.Bool.{cases_Bool, cond-true}
 use Rattle.ring_base.specs.Numbers.{max_number}
 use Rattle.ring_base.specs.declared.fault.Fault.TheVariants.{PendingFull, Stopped as StoppedFault}
@@ -20,7 +21,9 @@ use Rattle.ring_machine.specs.Lives.{lived_through}
 use Rattle.ring_machine.specs.Nodes.{Node, node_pending, node_stopped, is_stopped}
 use Rattle.ring_machine.specs.Stepping.{NodeStepped, handed_over, after_core, submit_fault}
 use Rattle.ring_replica.specs.Courses.{handed_if, dues_by}
-use Rattle.ring_replica.specs.Replicas.{Replica, ReplicaStepped, replica_committed, replica_stopped, replica_done, replica_settled, replica_step, replica_of, running_of, moment_of, node_unless, submit_refusal, has_adopted_running, replica_given}
+use Rattle.ring_replica.specs.Replicas.{Replica, ReplicaStepped, replica_committed, replica_stopped, replica_done}
+use Rattle.ring_replica.specs.Replicas.{replica_settled, replica_step, replica_of, running_of, moment_of, node_unless}
+use Rattle.ring_replica.specs.Replicas.{submit_refusal, has_adopted_running, replica_given}
 use Rattle.ring_replica.proofs.Going.{hands-committed}
 use Rattle.ring_replica.proofs.Nodes.{step-is, refused-is}
 use Rattle.ring_marks.specs.Marks.{IsMarked}
@@ -29,7 +32,8 @@ use Rattle.ring_node.specs.Kept.{core_told, told_node, Runs, IsNode, stepped_by}
 
 -- Handing over one payload more
 
-pub handed-next : {A : Type 0} → (c : Core A) (ps : List (Payload A)) (p : Payload A) → handed_over c (ps ++ p ∷ []) ≡ (ring_step (handed_over c ps) (SendInput p)).core
+pub handed-next : {A : Type 0} → (c : Core A) (ps : List (Payload A)) (p : Payload A) → handed_over c (ps ++ p ∷ [])
+    ≡ (ring_step (handed_over c ps) (SendInput p)).core
 handed-next c [] p = refl
 handed-next c (q ∷ ps) p = handed-next (ring_step c (SendInput q)).core ps p
 
@@ -72,7 +76,8 @@ module _ {O A : Type 0} (object : Sequential O) (running : Option RingId) (r : R
       answers ≡ answers_after object new.tickets (replica_committed new) (drop (length (replica_committed new)) (committed_of new.group new.ahead))
   ends-as new answers e a h =
       a ∙ ends-by object r outs (lived_through r.life outs) due_now is (ap (λ (x : Replica A). x.stopped) (sym e) ∙ h)
-      ∙ ap (λ (x : Replica A). answers_after object x.tickets (replica_committed x) (drop (length (replica_committed x)) (committed_of x.group x.ahead))) (sym e)
+      ∙ ap (λ (x : Replica A). answers_after object x.tickets (replica_committed x)
+      (drop (length (replica_committed x)) (committed_of x.group x.ahead))) (sym e)
 
   -- ended or stopped, it is what ends the step
   pub stopped-as : (new : Replica A) → r.stopped ≡ false → new ≡ step.replica → new.stopped ≡ true → new ≡ replica_done step.replica
@@ -83,7 +88,8 @@ module _ {O A : Type 0} (object : Sequential O) (running : Option RingId) (r : R
 
 -- the step's outputs, of the core as it is then
 pub step-as : {O A : Type 0} → (object : Sequential O) (core new : Core A) (r : Replica A) (input : Input A) (running : Option RingId) (outs : List (Out A)) →
-    running ≡ running_of new → new ≡ (ring_step core input).core → outs ≡ (ring_step core input).outs → replica_step object running r outs ≡ stepped_by object core r input
+    running ≡ running_of new → new ≡ (ring_step core input).core → outs ≡ (ring_step core input).outs
+    → replica_step object running r outs ≡ stepped_by object core r input
 step-as {O} {A} object core new r input running outs er en eo =
     ap (λ x. replica_step object x r outs) er ∙ ap (λ (x : Core A). replica_step object (running_of x) r outs) en
     ∙ ap (replica_step object (running_of (ring_step core input).core) r) eo
@@ -93,7 +99,14 @@ step-as {O} {A} object core new r input running outs er en eo =
 pub same-replica : {A : Type 0} → (core : Core A) (r : Replica A) (ended : Core A) → r.stopped ≡ false → Runs core r → r ≡ replica_of (told_node core r ended)
 same-replica {A} core r ended s k =
     let of_me : ℕ → Replica A = λ x. record { group = r.group; me = x; life = r.life; ahead = r.ahead; tickets = r.tickets; stopped = r.stopped } in
-    let of_ahead : List (Stay A) → Replica A = λ x. record { group = r.group; me = core.me; life = r.life; ahead = x; tickets = r.tickets; stopped = r.stopped } in
+    let of_ahead : List (Stay A) → Replica A = λ x. record {
+      group = r.group;
+      me = core.me;
+      life = r.life;
+      ahead = x;
+      tickets = r.tickets;
+      stopped = r.stopped;
+    } in
     let of_stopped : Bool → Replica A = λ x. record { group = r.group; me = core.me; life = r.life; ahead = r.life; tickets = r.tickets; stopped = x } in
     let of_core : Core A → Replica A = λ x. record { group = r.group; me = x.me; life = r.life; ahead = r.life; tickets = r.tickets; stopped = false } in
     ap of_me k.me ∙ ap of_ahead k.done ∙ ap of_stopped s ∙ ap of_core (sym (ap (λ b. core_told b core ended) s))
@@ -143,7 +156,8 @@ module _ {O A : Type 0} (object : Sequential O) (n : Node A) (core : Core A) (ou
   runs-by true m g e s =
       record { done = refl; me = e ∙ sym (me_handed core due); going = going_handed core due g; marked = marked_handed core life due m }
 
-module _ {O A : Type 0} (object : Sequential O) (core : Core A) (r : Replica A) (ended : Core A) (input : Input A) (halts : r.stopped ≡ false) (k : Runs core r) where
+module _ {O A : Type 0} (object : Sequential O) (core : Core A) (r : Replica A) (ended : Core A) (input : Input A)
+    (halts : r.stopped ≡ false) (k : Runs core r) where
   abbrev n : Node A
   n = told_node core r ended
 
@@ -152,7 +166,8 @@ module _ {O A : Type 0} (object : Sequential O) (core : Core A) (r : Replica A) 
 
   -- the step as its replica's
   by-replica : (P : Replica A → Core A → Type 0) → P (replica_of n) n.core → P r core
-  by-replica P h = subst (λ (x : Replica A). P x core) (sym (same-replica core r ended halts k)) (subst (λ (c : Core A). P (replica_of n) c) (told-core core r ended halts) h)
+  by-replica P h = subst (λ (x : Replica A). P x core) (sym (same-replica core r ended halts k))
+      (subst (λ (c : Core A). P (replica_of n) c) (told-core core r ended halts) h)
 
   abbrev out : List (Out A)
   out = (ring_step n.core input).outs
@@ -169,22 +184,28 @@ module _ {O A : Type 0} (object : Sequential O) (core : Core A) (r : Replica A) 
   pub sends-are : (stepped_by object core r input).sends ≡ after.sends
   sends-are =
       by-replica (λ x c. (stepped_by object c x input).sends ≡ after.sends)
-      (sends-by object n (ring_step n.core input).core out lives dues sound ∙ ap (λ (x : NodeStepped A). x.sends) (sym (step-is object n (ring_step n.core input))))
+      (sends-by object n (ring_step n.core input).core out lives dues sound ∙ ap (λ (x : NodeStepped A). x.sends)
+      (sym (step-is object n (ring_step n.core input))))
 
   pub answers-are : (stepped_by object core r input).answers ≡ after.answers
   answers-are =
       by-replica (λ x c. (stepped_by object c x input).answers ≡ after.answers)
-      (answers-by object n (ring_step n.core input).core out lives dues sound ∙ ap (λ (x : NodeStepped A). x.answers) (sym (step-is object n (ring_step n.core input))))
+      (answers-by object n (ring_step n.core input).core out lives dues sound ∙ ap (λ (x : NodeStepped A). x.answers)
+      (sym (step-is object n (ring_step n.core input))))
 
   pub committed-are : (stepped_by object core r input).committed ≡ after.committed
   committed-are =
       by-replica (λ x c. (stepped_by object c x input).committed ≡ after.committed)
-      (committed-by object n (ring_step n.core input).core out lives dues sound ∙ ap (λ (x : NodeStepped A). x.committed) (sym (step-is object n (ring_step n.core input))))
+      (committed-by object n (ring_step n.core input).core out lives dues sound
+      ∙ ap (λ (x : NodeStepped A). x.committed) (sym (step-is object n (ring_step n.core input))))
 
-  pub node-is : told_node (handed_over (ring_step core input).core (stepped_by object core r input).due) (replica_done (stepped_by object core r input).replica) core ≡ after.node
+  pub node-is : told_node (handed_over (ring_step core input).core (stepped_by object core r input).due)
+      (replica_done (stepped_by object core r input).replica) core ≡ after.node
   node-is =
-      by-replica (λ x c. told_node (handed_over (ring_step c input).core (stepped_by object c x input).due) (replica_done (stepped_by object c x input).replica) c ≡ after.node)
-      (node-by object n (ring_step n.core input).core out lives dues sound ∙ ap (λ (x : NodeStepped A). x.node) (sym (step-is object n (ring_step n.core input))))
+      by-replica (λ x c. told_node (handed_over (ring_step c input).core (stepped_by object c x input).due)
+      (replica_done (stepped_by object c x input).replica) c ≡ after.node)
+      (node-by object n (ring_step n.core input).core out lives dues sound ∙ ap (λ (x : NodeStepped A). x.node)
+      (sym (step-is object n (ring_step n.core input))))
 
   pub runs-on : (replica_done (stepped_by object core r input).replica).stopped ≡ false →
       Runs (handed_over (ring_step core input).core (stepped_by object core r input).due) (replica_done (stepped_by object core r input).replica)
@@ -197,7 +218,8 @@ module _ {O A : Type 0} (object : Sequential O) (core : Core A) (r : Replica A) 
       (sym (me_step n.core input)))
 
 -- and what the code keeps then
-pub stepped-node : {O A : Type 0} → (object : Sequential O) (core : Core A) (r : Replica A) (ended : Core A) (input : Input A) (halts : r.stopped ≡ false) (k : Runs core r)
+pub stepped-node : {O A : Type 0} → (object : Sequential O) (core : Core A) (r : Replica A) (ended : Core A)
+    (input : Input A) (halts : r.stopped ≡ false) (k : Runs core r)
     (new : Core A) (given : Replica A) (last : RingId) (ended' : Core A) → new ≡ handed_over (ring_step core input).core (stepped_by object core r input).due →
     given ≡ replica_done (stepped_by object core r input).replica → last ≡ ended'.installed.ring → IsNode new given last ended'
 stepped-node {O} {A} object core r ended input halts k new given last ended' en eg el =
@@ -208,7 +230,8 @@ stepped-node {O} {A} object core r ended input halts k new given last ended' en 
       left = λ s. el;
     }
 
-pub told-as : {O A : Type 0} → (object : Sequential O) (core : Core A) (r : Replica A) (ended : Core A) (input : Input A) (halts : r.stopped ≡ false) (k : Runs core r)
+pub told-as : {O A : Type 0} → (object : Sequential O) (core : Core A) (r : Replica A) (ended : Core A)
+    (input : Input A) (halts : r.stopped ≡ false) (k : Runs core r)
     (new : Core A) (given : Replica A) (ended' : Core A) → new ≡ handed_over (ring_step core input).core (stepped_by object core r input).due →
     given ≡ replica_done (stepped_by object core r input).replica → ended' ≡ core →
     told_node new given ended' ≡ (after_core object (told_node core r ended) (ring_step (told_node core r ended).core input)).node
@@ -220,10 +243,12 @@ told-as {O} {A} object core r ended input halts k new given ended' en eg ee =
 
 -- A submit
 
-pub going-told : {A : Type 0} → (core : Core A) (r : Replica A) (ended : Core A) → r.stopped ≡ false → Runs core r → is_stopped (told_node core r ended).core.state ≡ false
+pub going-told : {A : Type 0} → (core : Core A) (r : Replica A) (ended : Core A) → r.stopped ≡ false → Runs core r
+    → is_stopped (told_node core r ended).core.state ≡ false
 going-told core r ended s k = ap (λ b. is_stopped (core_told b core ended).state) s ∙ k.going
 
-pub fault-is : {A : Type 0} → (core : Core A) (r : Replica A) (last : RingId) (ended : Core A) → IsNode core r last ended → submit_fault (told_node core r ended) ≡ submit_refusal r
+pub fault-is : {A : Type 0} → (core : Core A) (r : Replica A) (last : RingId) (ended : Core A)
+    → IsNode core r last ended → submit_fault (told_node core r ended) ≡ submit_refusal r
 fault-is {A} core r last ended k =
     let n = told_node core r ended in
     elim (cases_Bool r.stopped) [
@@ -231,7 +256,8 @@ fault-is {A} core r last ended k =
           (if nat_le 64 (length (node_pending n)) then Some PendingFull else if nat_le max_number (length n.tickets) then Some PendingFull else None)
           (stops-told core r ended t)
           ∙ sym (cond-true r.stopped (Some StoppedFault)
-          (if nat_le 64 (length (unanswered (replica_committed r) r.tickets)) then Some PendingFull else if nat_le max_number (length r.tickets) then Some PendingFull else None) t)
+          (if nat_le 64 (length (unanswered (replica_committed r) r.tickets)) then Some PendingFull else if nat_le
+          max_number (length r.tickets) then Some PendingFull else None) t)
       | inr f ↦ refused-is n (going-told core r ended f (k.runs f)) ∙ ap submit_refusal (sym (same-replica core r ended f (k.runs f)))
     ]
 
@@ -244,7 +270,8 @@ err-as (Ok x) P Q f h = h
 err-as (Err e) P Q f h = f e h
 
 -- a call is handed to the core, or isn't, and the replica gives it a ticket
-pub given-node : {A : Type 0} → (core new : Core A) (r old given : Replica A) (last last' : RingId) (ended ended' : Core A) (running : Option RingId) (c : OneCall A) (b : Bool) →
+pub given-node : {A : Type 0} → (core new : Core A) (r old given : Replica A) (last last' : RingId)
+    (ended ended' : Core A) (running : Option RingId) (c : OneCall A) (b : Bool) →
     IsNode core r last ended → old ≡ r → last' ≡ last → ended' ≡ ended → has_adopted_running running r ≡ b → new ≡ handed_over core (handed_if b c) →
     given ≡ replica_given running old c → IsNode new given last' ended'
 given-node {A} core new r old given last last' ended ended' running c b k eo el ee eb en eg =
@@ -267,7 +294,8 @@ given-node {A} core new r old given last last' ended ended' running c b k eo el 
 
 -- A stop
 
-pub stopped-node : {A : Type 0} → (core core' : Core A) (r r' : Replica A) (ended ended' : Core A) → r.stopped ≡ false → ended' ≡ core → replica_stopped r' ≡ replica_stopped r →
+pub stopped-node : {A : Type 0} → (core core' : Core A) (r r' : Replica A) (ended ended' : Core A) → r.stopped ≡ false
+    → ended' ≡ core → replica_stopped r' ≡ replica_stopped r →
     told_node core' (replica_stopped r') ended' ≡ node_stopped (told_node core r ended)
 stopped-node {A} core core' r r' ended ended' s e t =
     let of : Replica A → Core A → Node A = λ x c. record { group = x.group; core = halted c; life = x.life; tickets = x.tickets } in

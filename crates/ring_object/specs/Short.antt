@@ -13,8 +13,10 @@ pub record IsFilled (n len : ℕ) (places : List ℕ) : Type 0 where
   pub zeros : filled n (take len places) ≡ places
 
 -- zeros whose front was overwritten
-pub IsFilled-overwritten : (n : ℕ) (bytes places : List ℕ) → length bytes ≤ n → places ≡ bytes ++ drop (length bytes) (replicate {A = ℕ} n 0) → IsFilled n (length bytes) places
+pub IsFilled-overwritten : (n : ℕ) (bytes places : List ℕ) → length bytes ≤ n → places ≡ bytes ++ drop (length bytes)
+    (replicate {A = ℕ} n 0) → IsFilled n (length bytes) places
 IsFilled-overwritten n bytes places le is =
     let rest : drop {A = ℕ} (length bytes) (replicate {A = ℕ} n 0) ≡ replicate (n - length bytes) 0 = drop-replicate (length bytes) n 0 in
-    let front : take (length bytes) (bytes ++ replicate (n - length bytes) 0) ≡ bytes = take_at bytes (replicate (n - length bytes) 0) (length bytes) (λ i. length bytes) in
+    let front : take (length bytes) (bytes ++ replicate (n - length bytes) 0) ≡ bytes = take_at bytes
+    (replicate (n - length bytes) 0) (length bytes) (λ i. length bytes) in
     rw (is, rest) (record { fits = le; exact = rw front (λ i. length bytes); zeros = rw front (λ i. bytes ++ replicate (n - length bytes) 0) })

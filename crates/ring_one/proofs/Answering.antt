@@ -1,5 +1,7 @@
 -- Each answer that a step gives is the session table's at a committed place at which its call stands.
-use Rattle.std.proofs.Common.{◌≡◌, ℕ, suc, ◌+◌, ◌-◌, ◌&&◌, nat_le, ◌≤◌, Bool, true, false, List, [], ◌∷◌, ◌++◌, length, Option, Some, None, slice_get, refl, ap, sym, subst, ◌∙◌, arith, append_assoc, All, if◌then◌else◌}
+use Rattle.std.proofs.Common.{◌≡◌, ℕ, suc, ◌+◌, ◌-◌, ◌&&◌, nat_le, ◌≤◌, Bool, true, false, List, [], ◌∷◌, ◌++◌, length}
+use Rattle.std.proofs.Common.{Option, Some, None, slice_get, refl, ap, sym, subst, ◌∙◌, arith, append_assoc, All}
+use Rattle.std.proofs.Common.{if◌then◌else◌}
 use Rattle.std.proofs.lemmas.Bool.{eqb-true, and_parts}
 use Rattle.std.proofs.lemmas.List.Elements.{All-nil, All-cons, All-append}
 use Rattle.ring_base.specs.Fronts.{IsFront, front_get}
@@ -16,7 +18,9 @@ use Rattle.ring_ticket.specs.declared.answered.Answered.{Answered}
 use Rattle.ring_ticket.specs.Tickets.{Asked, first_place, place_of, is_place, answered, answers_at, answers_after}
 use Rattle.ring_one.specs.Runs.{replied, replies}
 
-first_at : {A : Type 0} (c d : Call A) (since at : ℕ) (ds : List (Call A)) (p : ℕ) → ((q : ℕ) → first_place c since (at + 1) ds ≡ Some q → (at + 1 ≤ q) × (slice_get ds (q - (at + 1)) ≡ Some c)) → (b : Bool) → nat_le since at && is_same c d ≡ b
+first_at : {A : Type 0} (c d : Call A) (since at : ℕ) (ds : List (Call A)) (p : ℕ)
+    → ((q : ℕ) → first_place c since (at + 1) ds ≡ Some q → (at + 1 ≤ q) × (slice_get ds (q - (at + 1)) ≡ Some c))
+    → (b : Bool) → nat_le since at && is_same c d ≡ b
     → (if b then Some at else first_place c since (at + 1) ds) ≡ Some p → (at ≤ p) × (slice_get (d ∷ ds) (p - at) ≡ Some c)
 first_at c d since at ds p later true same e =
     let here : at ≡ p = cc e in
@@ -29,9 +33,11 @@ first_at c d since at ds p later false same e =
     (omega (arith, there.0), rw off there.1)
 
 -- the call stands at its place
-pub first_place-stands : {A : Type 0} (c : Call A) (since at : ℕ) (ds : List (Call A)) (p : ℕ) → first_place c since at ds ≡ Some p → (at ≤ p) × (slice_get ds (p - at) ≡ Some c)
+pub first_place-stands : {A : Type 0} (c : Call A) (since at : ℕ) (ds : List (Call A)) (p : ℕ)
+    → first_place c since at ds ≡ Some p → (at ≤ p) × (slice_get ds (p - at) ≡ Some c)
 first_place-stands c since at [] p e = absurd (cc e)
-first_place-stands c since at (d ∷ ds) p e = first_at c d since at ds p (λ q h. first_place-stands c since (at + 1) ds q h) (nat_le since at && is_same c d) refl e
+first_place-stands c since at (d ∷ ds) p e = first_at c d since at ds p
+    (λ q h. first_place-stands c since (at + 1) ds q h) (nat_le since at && is_same c d) refl e
 
 pub place_of-stands : {A : Type 0} (committed : List (Call A)) (t : Asked A) (p : ℕ) → place_of committed t ≡ Some p → StandsAt committed p t.call
 place_of-stands {A} committed t p e =
@@ -47,17 +53,37 @@ module _ {O A : Type 0} (object : Sequential O) (all : List (Call A)) where
   abbrev IsRight : Item A → Type 0
   IsRight item = IsGiven object (all ∷ []) item
 
-  told-one : (place ticket : ℕ) (c : Call A) (o : Option Answer) → StandsAt all place c → session_answer object all place ≡ o → All IsRight (replies (answered ticket c o))
+  told-one : (place ticket : ℕ) (c : Call A) (o : Option Answer) → StandsAt all place c
+      → session_answer object all place ≡ o → All IsRight (replies (answered ticket c o))
   told-one place ticket c None at is = All-nil IsRight
   told-one place ticket c (Some (Refused n)) at is = All-nil IsRight
   told-one place ticket c (Some (Done r)) at is =
-      All-cons IsRight _ [] (record { node = 0; calls = all; committed_there = refl; place = place; stands = at; answer = Done r; answered = is; brings = refl }) (All-nil IsRight)
+      All-cons IsRight _ [] (record {
+        node = 0;
+        calls = all;
+        committed_there = refl;
+        place = place;
+        stands = at;
+        answer = Done r;
+        answered = is;
+        brings = refl;
+      }) (All-nil IsRight)
   told-one place ticket c (Some (Kept r)) at is =
-      All-cons IsRight _ [] (record { node = 0; calls = all; committed_there = refl; place = place; stands = at; answer = Kept r; answered = is; brings = refl }) (All-nil IsRight)
+      All-cons IsRight _ [] (record {
+        node = 0;
+        calls = all;
+        committed_there = refl;
+        place = place;
+        stands = at;
+        answer = Kept r;
+        answered = is;
+        brings = refl;
+      }) (All-nil IsRight)
 
   replies-append : (xs ys : List (Answered A)) → replies (xs ++ ys) ≡ replies xs ++ replies ys
   replies-append [] ys = refl
-  replies-append (x ∷ xs) ys = ap (λ w. replied x.call (reply_in x.answer) ++ w) (replies-append xs ys) ∙ sym (append_assoc (replied x.call (reply_in x.answer)) (replies xs) (replies ys))
+  replies-append (x ∷ xs) ys = ap (λ w. replied x.call (reply_in x.answer) ++ w) (replies-append xs ys)
+      ∙ sym (append_assoc (replied x.call (reply_in x.answer)) (replies xs) (replies ys))
 
   right-append : (xs ys : List (Answered A)) → All IsRight (replies xs) → All IsRight (replies ys) → All IsRight (replies (xs ++ ys))
   right-append xs ys h k = rw (replies-append xs ys) (All-append IsRight (replies xs) (replies ys) h k)
@@ -67,16 +93,21 @@ module _ {O A : Type 0} (object : Sequential O) (all : List (Call A)) where
   told-if committed place ticket t front false e = All-nil IsRight
   told-if committed place ticket t front true e =
       let at : StandsAt committed place t.call = place_of-stands committed t place (is_place-true place (place_of committed t) e) in
-      told-one place ticket t.call (session_answer object committed place) (front_get committed all place t.call front at) (session_answer-front object committed all place t.call at front)
+      told-one place ticket t.call (session_answer object committed place)
+      (front_get committed all place t.call front at)
+      (session_answer-front object committed all place t.call at front)
 
-  told-at : (committed : List (Call A)) (place ticket : ℕ) (ts : List (Asked A)) → IsFront committed all → All IsRight (replies (answers_at object committed place ticket ts))
+  told-at : (committed : List (Call A)) (place ticket : ℕ) (ts : List (Asked A)) → IsFront committed all
+      → All IsRight (replies (answers_at object committed place ticket ts))
   told-at committed place ticket [] front = All-nil IsRight
   told-at committed place ticket (t ∷ ts) front =
-      right-append (if is_place place (place_of committed t) then answered ticket t.call (session_answer object committed place) else []) (answers_at object committed place (ticket + 1) ts)
+      right-append (if is_place place (place_of committed t) then answered ticket t.call
+      (session_answer object committed place) else []) (answers_at object committed place (ticket + 1) ts)
       (told-if committed place ticket t front (is_place place (place_of committed t)) refl) (told-at committed place (ticket + 1) ts front)
 
   -- the answers that come as all is committed
-  pub told-after : (tickets : List (Asked A)) (committed more : List (Call A)) → committed ++ more ≡ all → All IsRight (replies (answers_after object tickets committed more))
+  pub told-after : (tickets : List (Asked A)) (committed more : List (Call A)) → committed ++ more ≡ all
+      → All IsRight (replies (answers_after object tickets committed more))
   told-after tickets committed [] e = All-nil IsRight
   told-after tickets committed (c ∷ more) e =
       let whole : (committed ++ c ∷ []) ++ more ≡ all = append_assoc committed (c ∷ []) more ∙ e in

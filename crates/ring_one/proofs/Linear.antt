@@ -1,5 +1,6 @@
 -- Along every run of a ring of one: the order explains the history, and grows.
-use Rattle.std.proofs.Common.{◌≡◌, ℕ, zero, suc, ◌&&◌, ◌≤◌, Bool, true, false, List, [], ◌∷◌, ◌++◌, length, take, drop, Option, Some, None, refl, ap, sym, subst, ◌∙◌, All, if◌then◌else◌, inl, inr}
+use Rattle.std.proofs.Common.{◌≡◌, ℕ, zero, suc, ◌&&◌, ◌≤◌, Bool, true, false, List, [], ◌∷◌, ◌++◌, length, take, drop}
+use Rattle.std.proofs.Common.{Option, Some, None, refl, ap, sym, subst, ◌∙◌, All, if◌then◌else◌, inl, inr}
 use Rattle.std.specs.List.{AllByRecursion as Each}
 use Rattle.std.proofs.lemmas.Bool.{cond_both}
 use Rattle.std.proofs.lemmas.List.Elements.{All-nil, All-cons}
@@ -50,7 +51,8 @@ issued-more history more c h = (h.0, front_get history (history ++ more) h.0 (Is
 weaker : {A : Type 0} (history more : List (Item A)) (calls : List (Call A)) → Each (IsIssued history) calls → Each (IsIssued (history ++ more)) calls
 weaker history more calls h = each-weaker (IsIssued history) (IsIssued (history ++ more)) (λ c k. issued-more history more c k) calls h
 
-stands-issued : {A : Type 0} (history : List (Item A)) (calls : List (Call A)) (p : ℕ) (c : Call A) → Each (IsIssued history) calls → StandsAt calls p c → IsIssued history c
+stands-issued : {A : Type 0} (history : List (Item A)) (calls : List (Call A)) (p : ℕ) (c : Call A)
+    → Each (IsIssued history) calls → StandsAt calls p c → IsIssued history c
 stands-issued history [] p c h at = absurd (cc at)
 stands-issued history (d ∷ calls) zero c h at = let e : d ≡ c = cc at in subst (IsIssued history) e h.0
 stands-issued history (d ∷ calls) (suc p) c h at = stands-issued history calls p c h.1 at
@@ -97,7 +99,8 @@ module _ {O A : Type 0} (object : Sequential O) where
       record {
         good = good;
         linear = linear-step object (moment_of w) (moment_of after) step;
-        grows = order_of-grows (committed_of w.node ∷ []) (committed_of after.node ∷ []) (front, tt) (committed_of after.node, one-log (committed_of after.node));
+        grows = order_of-grows (committed_of w.node ∷ []) (committed_of after.node ∷ []) (front, tt)
+            (committed_of after.node, one-log (committed_of after.node));
       }
 
   right-did : (w : World A) (input : Input A) → Good w → Right w (did w (one_step object w.node input))
@@ -105,16 +108,29 @@ module _ {O A : Type 0} (object : Sequential O) where
       let new = (move_on w.node input).new in
       let items : List (Item A) = replies (new_answers object w.node new) in
       let g : Goes (IsIssued (w.history ++ items)) w.node new = goes-on (IsIssued (w.history ++ items)) w.node input in
-      let calls = g.calls (weaker w.history items (calls_in w.node.text) good.text) (weaker w.history items (calls_in w.node.queue) good.queue) (weaker w.history items (asked_calls w.node.tickets) good.tickets) in
+      let calls = g.calls (weaker w.history items (calls_in w.node.text) good.text)
+      (weaker w.history items (calls_in w.node.queue) good.queue)
+      (weaker w.history items (asked_calls w.node.tickets) good.tickets) in
       let front = committed-front w.node new g.text g.mark in
       right-step w (did w (one_step object w.node input))
-      (record { text = calls.0; queue = calls.1; tickets = subst (λ (ts : List (Asked A)). Each (IsIssued (w.history ++ items)) (asked_calls ts)) (sym g.tickets) (weaker w.history items (asked_calls w.node.tickets) good.tickets); ring = g.ring good.ring }) front items refl
-      (inr (told-after object (committed_of new) new.tickets (committed_of w.node) (drop (length (committed_of w.node)) (committed_of new)) (drop-front (committed_of w.node) (committed_of new) front)))
+      (record {
+        text = calls.0;
+        queue = calls.1;
+        tickets = subst (λ (ts : List (Asked A)). Each (IsIssued (w.history ++ items)) (asked_calls ts))
+            (sym g.tickets) (weaker w.history items (asked_calls w.node.tickets) good.tickets);
+        ring = g.ring good.ring;
+      })
+      front items refl
+      (inr (told-after object (committed_of new) new.tickets (committed_of w.node)
+      (drop (length (committed_of w.node)) (committed_of new))
+      (drop-front (committed_of w.node) (committed_of new) front)))
 
   right-steps : (w : World A) (input : Input A) → Good w → Right w (steps object w input)
-  right-steps w input good = cond_both (is_stopped w.node.state) w (did w (one_step object w.node input)) (λ (after : World A). Right w after) (λ e. right-same w good) (λ e. right-did w input good)
+  right-steps w input good = cond_both (is_stopped w.node.state) w (did w (one_step object w.node input))
+      (λ (after : World A). Right w after) (λ e. right-same w good) (λ e. right-did w input good)
 
-  queued : (P : Call A → Type 0) (b : Bool) (queue : List (Payload A)) (c : Call A) → EachCall P queue → P c → EachCall P (if b then queue ++ OneCall c ∷ [] else queue)
+  queued : (P : Call A → Type 0) (b : Bool) (queue : List (Payload A)) (c : Call A) → EachCall P queue → P c
+      → EachCall P (if b then queue ++ OneCall c ∷ [] else queue)
   queued P true queue c h k = call-append P queue (OneCall c ∷ []) h (k, tt)
   queued P false queue c h k = h
 
@@ -127,8 +143,10 @@ module _ {O A : Type 0} (object : Sequential O) where
       right-step w (issues w c None)
       (record {
         text = weaker w.history (Issued c ∷ []) (calls_in w.node.text) good.text;
-        queue = queued P (is_operational w.node.state && is_adopted w.node.text) w.node.queue c (weaker w.history (Issued c ∷ []) (calls_in w.node.queue) good.queue) here;
-        tickets = asked-append P w.node.tickets (record { call = c; since = length (committed_of w.node) } ∷ []) (weaker w.history (Issued c ∷ []) (asked_calls w.node.tickets) good.tickets) (here, tt);
+        queue = queued P (is_operational w.node.state && is_adopted w.node.text) w.node.queue c
+            (weaker w.history (Issued c ∷ []) (calls_in w.node.queue) good.queue) here;
+        tickets = asked-append P w.node.tickets (record { call = c; since = length (committed_of w.node) } ∷ [])
+            (weaker w.history (Issued c ∷ []) (asked_calls w.node.tickets) good.tickets) (here, tt);
         ring = good.ring;
       }) (front_self (committed_of w.node)) (Issued c ∷ []) refl (inl (c, refl))
 
@@ -152,7 +170,12 @@ module _ {O A : Type 0} (object : Sequential O) where
       let after = happens object w event in
       let last = run_from object after events in
       let rest = right-run after events first.good in
-      record { good = rest.good; linear = λ h. rest.linear (first.linear h); grows = front_trans (order_in w) (order_in after) (order_in last) first.grows rest.grows }
+      record {
+        good = rest.good;
+        linear = λ h. rest.linear (first.linear h);
+        grows = front_trans (order_in w)
+            (order_in after) (order_in last) first.grows rest.grows;
+      }
 
   pub good-opening : Good (world_opening {A = A})
   good-opening = record { text = tt; queue = tt; tickets = tt; ring = inl refl }

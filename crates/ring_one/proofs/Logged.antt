@@ -1,6 +1,7 @@
 -- Along every run of a ring of one the ring's numbers stand for the node's state. So the committed log is a front of the
 -- calls that were submitted.
-use Rattle.std.proofs.Common.{◌≡◌, ℕ, ◌+◌, ◌<◌, ◌≤◌, ◌==◌, ◌&&◌, nat_le, true, false, List, [], ◌∷◌, ◌++◌, length, take, drop, Option, Some, None, refl, ap, sym, subst, ◌∙◌, arith, length-append}
+use Rattle.std.proofs.Common.{◌≡◌, ℕ, ◌+◌, ◌<◌, ◌≤◌, ◌==◌, ◌&&◌, nat_le, true, false, List, [], ◌∷◌, ◌++◌, length, take}
+use Rattle.std.proofs.Common.{drop, Option, Some, None, refl, ap, sym, subst, ◌∙◌, arith, length-append}
 use Rattle.std.proofs.lemmas.Bool.{and_parts, cond_both, leb-false, ltb-true}
 use Rattle.std.proofs.lemmas.List.{take-append-drop}
 use Rattle.ring_base.specs.Fronts.{IsFront}
@@ -20,7 +21,9 @@ use Rattle.ring_one.specs.declared.event.Event.TheVariants.{Issue, Deliver, Nois
 use Rattle.ring_one.specs.declared.input.Input.{Input}
 use Rattle.ring_one.specs.declared.input.Input.TheVariants.{Frame as Comes, Noise as NoiseComes, Timeout as TimeIsOver, Stop as IsToStop}
 use Rattle.ring_one.specs.declared.ring.Ring.{Ring}
-use Rattle.ring_one.specs.Machine.{One, Move, accepts, commit_token, committed_of, is_commit_token, is_operational, is_own_report, is_running, is_stopped, move_on, on_commit_token, on_join_timeout, one_step, stays, submit_fault, submitted, visits}
+use Rattle.ring_one.specs.Machine.{One, Move, accepts, commit_token, committed_of, is_commit_token, is_operational}
+use Rattle.ring_one.specs.Machine.{is_own_report, is_running, is_stopped, move_on, on_commit_token, on_join_timeout}
+use Rattle.ring_one.specs.Machine.{one_step, stays, submit_fault, submitted, visits}
 use Rattle.ring_one.specs.Numbers.{IsRing, committed_length, one_of, ring_opening, ring_visited}
 use Rattle.ring_one.specs.Runs.{World, frame_of, issues, did, world_opening, steps, delivers, happens, run_from, run}
 use Rattle.ring_ticket.specs.Tickets.{asked_calls}
@@ -54,7 +57,8 @@ module _ {A : Type 0} (r : Ring) (calls : List (Call A)) (sinces : List ℕ) (ri
   same-counted = record { numbers = r; calls = calls; sinces = sinces; is = refl; kept = ring; counted = counted }
 
   -- the ring in another state that is not installed
-  state-counted : (state : State) → is_operational r.state ≡ false → is_stopped r.state ≡ false → is_operational state ≡ false → IsCounted (record before { state = state })
+  state-counted : (state : State) → is_operational r.state ≡ false → is_stopped r.state ≡ false
+      → is_operational state ≡ false → IsCounted (record before { state = state })
   state-counted state uninstalled runs after = record {
     numbers = record r { state = state };
     calls = calls;
@@ -86,10 +90,13 @@ module _ {A : Type 0} (r : Ring) (calls : List (Call A)) (sinces : List ℕ) (ri
 
   commit-counted : (state : State) (token : CommitToken) → r.state ≡ state → IsCounted (on_commit_token state before token).new
   commit-counted Commit token e =
-      cond_both (is_commit_token 1 token && is_own_report token.entries) (record { new = record before { state = Recovery }; frames = OneCommit (commit_token 2) ∷ [] }) (stays before) (λ (d : Move A). IsCounted d.new)
+      cond_both (is_commit_token 1 token && is_own_report token.entries)
+      (record { new = record before { state = Recovery }; frames = OneCommit (commit_token 2) ∷ [] }) (stays before)
+      (λ (d : Move A). IsCounted d.new)
       (λ h. state-counted Recovery (ap is_operational e) (ap is_stopped e) refl) (λ h. same-counted)
   commit-counted Recovery token e =
-      cond_both (is_commit_token 2 token && (before.next == 0)) (visits before 0) (stays before) (λ (d : Move A). IsCounted d.new) (λ h. visit-counted 0 (ap is_running e) (omega arith)) (λ h. same-counted)
+      cond_both (is_commit_token 2 token && (before.next == 0)) (visits before 0) (stays before)
+      (λ (d : Move A). IsCounted d.new) (λ h. visit-counted 0 (ap is_running e) (omega arith)) (λ h. same-counted)
   commit-counted Gather token e = same-counted
   commit-counted Operational token e = same-counted
   commit-counted Stopped token e = same-counted
@@ -104,7 +111,8 @@ module _ {A : Type 0} (r : Ring) (calls : List (Call A)) (sinces : List ℕ) (ri
   move-counted : (input : Input A) → IsCounted (move_on before input).new
   move-counted (Comes (OneToken token)) =
       cond_both (accepts before token) (visits before token.number) (stays before) (λ (d : Move A). IsCounted d.new)
-      (λ h. (let below = and_parts _ _ (and_parts _ _ h).0 in visit-counted token.number (and_parts _ _ (and_parts _ _ below.0).0).0 (ltb-true token.number max_number below.1))) (λ h. same-counted)
+      (λ h. (let below = and_parts _ _ (and_parts _ _ h).0 in visit-counted token.number
+      (and_parts _ _ (and_parts _ _ below.0).0).0 (ltb-true token.number max_number below.1))) (λ h. same-counted)
   move-counted (Comes (OneCommit token)) = commit-counted r.state token refl
   move-counted (Comes (OneMessage message)) = same-counted
   move-counted (Comes (OneJoin join)) = same-counted
@@ -156,7 +164,8 @@ issued {A} w c None e h =
 
 module _ {O A : Type 0} (object : Sequential O) where
   stepped : (w : World A) (input : Input A) → IsCounted w.node → IsCounted (steps object w input).node
-  stepped w input h = cond_both (is_stopped w.node.state) w (did w (one_step object w.node input)) (λ (after : World A). IsCounted after.node) (λ e. h) (λ e. moved w.node input h)
+  stepped w input h = cond_both (is_stopped w.node.state) w (did w (one_step object w.node input))
+      (λ (after : World A). IsCounted after.node) (λ e. h) (λ e. moved w.node input h)
 
   delivered : (w : World A) (frame : Option (Frame A)) → IsCounted w.node → IsCounted (delivers object w frame).node
   delivered w None h = h

@@ -16,7 +16,10 @@ use Rattle.ring_base.specs.declared.state.State.TheVariants.{Gather, Commit, Rec
 use Rattle.ring_one.specs.declared.input.Input.{Input}
 use Rattle.ring_one.specs.declared.input.Input.TheVariants.{Frame as Comes, Noise, Timeout, Stop}
 use Rattle.ring_ticket.specs.Tickets.{Asked, asked_calls, place_of, unanswered}
-use Rattle.ring_one.specs.Machine.{One, Move, ring_before, ring_of_one, empty_head, is_operational, committed_of, room, end_after, new_messages, installs, adopts, due, visited, stays, visits, accepts, on_commit_token, on_join_timeout, move_on, is_commit_token, is_own_report, commit_token}
+use Rattle.ring_one.specs.Machine.{One, Move, ring_before, ring_of_one, empty_head, is_operational, committed_of, room}
+use Rattle.ring_one.specs.Machine.{end_after, new_messages, installs, adopts, due, visited, stays, visits, accepts}
+use Rattle.ring_one.specs.Machine.{on_commit_token, on_join_timeout, move_on, is_commit_token, is_own_report}
+use Rattle.ring_one.specs.Machine.{commit_token}
 use Rattle.ring_one.proofs.Each.{EachCall, call-append, call-take, call-drop, call-map, asked-filter}
 
 -- a node of a ring of one has installed no ring but that one
@@ -31,7 +34,8 @@ pub record Goes {A : Type 0} (P : Call A → Type 0) (s new : One A) : Type 0 wh
   pub ring : IsRingOfOne s.ring → IsRingOfOne new.ring
   pub calls : EachCall P s.text → EachCall P s.queue → Each P (asked_calls s.tickets) → EachCall P new.text × EachCall P new.queue
 
-pub goes-nowhere : {A : Type 0} (P : Call A → Type 0) (s new : One A) → new.text ≡ s.text → new.mark ≡ s.mark → new.tickets ≡ s.tickets → new.ring ≡ s.ring → new.queue ≡ s.queue → Goes P s new
+pub goes-nowhere : {A : Type 0} (P : Call A → Type 0) (s new : One A) → new.text ≡ s.text → new.mark ≡ s.mark
+    → new.tickets ≡ s.tickets → new.ring ≡ s.ring → new.queue ≡ s.queue → Goes P s new
 goes-nowhere P s new text mark tickets ring queue = record {
   text = rw text (front_self s.text);
   mark = omega arith;
@@ -41,7 +45,8 @@ goes-nowhere P s new text mark tickets ring queue = record {
 }
 
 module _ {A : Type 0} (P : Call A → Type 0) (s : One A) where
-  new-calls : (state : State) (text : List (Payload A)) (n : ℕ) → EachCall P s.queue → EachCall P (if is_operational state then take n s.queue else end_after text)
+  new-calls : (state : State) (text : List (Payload A)) (n : ℕ) → EachCall P s.queue
+      → EachCall P (if is_operational state then take n s.queue else end_after text)
   new-calls Operational text n h = call-take P n s.queue h
   new-calls Gather [] n h = tt
   new-calls Commit [] n h = tt
@@ -75,7 +80,8 @@ module _ {A : Type 0} (P : Call A → Type 0) (s : One A) where
     calls = λ h k l. (
       call-append P s.text (new_messages s) h (new-calls s.state s.text (room s) k),
       call-append P (if is_operational s.state then drop (room s) s.queue else s.queue) (due s) (rest-calls (is_operational s.state) (room s) k)
-          (due-calls (installs s) (adopts s) (asked_calls (unanswered (committed_of s) s.tickets)) (asked-filter P (λ (t : Asked A). is_none (place_of (committed_of s) t)) s.tickets l)),
+          (due-calls (installs s) (adopts s) (asked_calls (unanswered (committed_of s) s.tickets))
+          (asked-filter P (λ (t : Asked A). is_none (place_of (committed_of s) t)) s.tickets l)),
     );
   }
 
@@ -88,8 +94,11 @@ module _ {A : Type 0} (P : Call A → Type 0) (s : One A) where
 
   commit-goes : (state : State) (token : CommitToken) → Goes P s (on_commit_token state s token).new
   commit-goes Commit token =
-      cond_both (is_commit_token 1 token && is_own_report token.entries) (record { new = record s { state = Recovery }; frames = OneCommit (commit_token 2) ∷ [] }) (stays s) (λ (d : Move A). Goes P s d.new) (λ e. goes-state Recovery) (λ e. goes-same)
-  commit-goes Recovery token = cond_both (is_commit_token 2 token && (s.next == 0)) (visits s 0) (stays s) (λ (d : Move A). Goes P s d.new) (λ e. goes-visited 0) (λ e. goes-same)
+      cond_both (is_commit_token 1 token && is_own_report token.entries)
+      (record { new = record s { state = Recovery }; frames = OneCommit (commit_token 2) ∷ [] }) (stays s)
+      (λ (d : Move A). Goes P s d.new) (λ e. goes-state Recovery) (λ e. goes-same)
+  commit-goes Recovery token = cond_both (is_commit_token 2 token && (s.next == 0)) (visits s 0) (stays s)
+      (λ (d : Move A). Goes P s d.new) (λ e. goes-visited 0) (λ e. goes-same)
   commit-goes Gather token = goes-same
   commit-goes Operational token = goes-same
   commit-goes Stopped token = goes-same
@@ -103,7 +112,8 @@ module _ {A : Type 0} (P : Call A → Type 0) (s : One A) where
 
   -- each input
   pub goes-on : (input : Input A) → Goes P s (move_on s input).new
-  goes-on (Comes (OneToken token)) = cond_both (accepts s token) (visits s token.number) (stays s) (λ (d : Move A). Goes P s d.new) (λ e. goes-visited token.number) (λ e. goes-same)
+  goes-on (Comes (OneToken token)) = cond_both (accepts s token) (visits s token.number) (stays s)
+      (λ (d : Move A). Goes P s d.new) (λ e. goes-visited token.number) (λ e. goes-same)
   goes-on (Comes (OneCommit token)) = commit-goes s.state token
   goes-on (Comes (OneMessage message)) = goes-same
   goes-on (Comes (OneJoin join)) = goes-same

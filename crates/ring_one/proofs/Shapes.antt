@@ -1,6 +1,7 @@
 -- The numbers of a node's ring stand for the machine's state: its text, its log, and what a visit and a submit make of
 -- them.
-use Rattle.std.proofs.Common.{◌≡◌, ℕ, zero, suc, ◌+◌, ◌-◌, ◌≤◌, min, nat_lt, ◌==◌, Bool, true, false, not, List, [], ◌∷◌, ◌++◌, length, take, drop, map, refl, ap, sym, ◌∙◌, arith, if◌then◌else◌, inl, inr}
+use Rattle.std.proofs.Common.{◌≡◌, ℕ, zero, suc, ◌+◌, ◌-◌, ◌≤◌, min, nat_lt, ◌==◌, Bool, true, false, not, List, []}
+use Rattle.std.proofs.Common.{◌∷◌, ◌++◌, length, take, drop, map, refl, ap, sym, ◌∙◌, arith, if◌then◌else◌, inl, inr}
 use Rattle.std.proofs.lemmas.Bool.{cond-false, cases_lt, and_right, le-ltb, ne_eqb}
 use Rattle.std.proofs.lemmas.List.{append-nil, take-take, take_all, length-take}
 use Rattle.ring_base.specs.declared.ring_id.RingId.{RingId}
@@ -13,7 +14,8 @@ use Rattle.ring_base.specs.declared.state.State.{State}
 use Rattle.ring_base.specs.declared.state.State.TheVariants.{Gather, Commit, Recovery, Operational, Stopped}
 use Rattle.ring_one.specs.Texts.{calls_in, is_adopted, log_of}
 use Rattle.ring_ticket.specs.Tickets.{Asked, asked_calls, unanswered}
-use Rattle.ring_one.specs.Machine.{One, is_running, ring_before, ring_of_one, committed_of, room, new_messages, text_after, mark_after, adopts, due, queue_after, visited}
+use Rattle.ring_one.specs.Machine.{One, is_running, ring_before, ring_of_one, committed_of, room, new_messages}
+use Rattle.ring_one.specs.Machine.{text_after, mark_after, adopts, due, queue_after, visited}
 use Rattle.ring_one.specs.Numbers.{IsRing, waits, ring_room, sent, ring_visited, messages_of, asked_of, one_of}
 use Rattle.ring_one.specs.Kept.{committed_calls}
 
@@ -83,7 +85,8 @@ drop-taken j k m xs = drop-take_less j k (drop m xs) ∙ ap (take (k - j)) (drop
 pub drop-least : {X : Type 0} (j k m : ℕ) (xs : List X) → drop j (take k (drop m xs)) ≡ take (k - min j k) (drop (m + min j k) xs)
 drop-least j k m xs =
     elim (cases_lt k j) as (λ _. drop j (take k (drop m xs)) ≡ take (k - min j k) (drop (m + min j k) xs)) [
-      | inl more ↦ drop-taken j k m xs ∙ take-of (drop (m + j) xs) (k - j) 0 (omega (arith, more)) ∙ take-of (drop (m + min j k) xs) 0 (k - min j k) (omega (arith, more))
+      | inl more ↦ drop-taken j k m xs ∙ take-of (drop (m + j) xs) (k - j) 0 (omega (arith, more))
+          ∙ take-of (drop (m + min j k) xs) 0 (k - min j k) (omega (arith, more))
       | inr less ↦ drop-taken j k m xs ∙ (let e : j ≡ min j k = omega (arith, less) in ap (λ i. take (k - i) (drop (m + i) xs)) e)
     ]
 
@@ -101,7 +104,8 @@ adopted-late (suc zero) calls le = absurd (omega arith)
 adopted-late (suc (suc k)) calls le = refl
 
 -- the committed places
-pub committed_of-one_of : {A : Type 0} (r : Ring) (calls : List (Call A)) (sinces : List ℕ) → r.mark ≤ r.messages → committed_of (one_of r calls sinces) ≡ committed_calls r calls
+pub committed_of-one_of : {A : Type 0} (r : Ring) (calls : List (Call A)) (sinces : List ℕ) → r.mark ≤ r.messages
+    → committed_of (one_of r calls sinces) ≡ committed_calls r calls
 committed_of-one_of r calls sinces le = ap log_of (take-take r.mark r.messages (messages_of calls) le) ∙ log_of-messages r.mark calls
 
 -- ---- tickets
@@ -116,7 +120,8 @@ pub asked_of-push : {A : Type 0} (calls : List (Call A)) (sinces : List ℕ) (c 
 asked_of-push [] [] c n e = refl
 asked_of-push [] (k ∷ sinces) c n e = absurd (omega arith)
 asked_of-push (d ∷ calls) [] c n e = absurd (omega arith)
-asked_of-push {A} (d ∷ calls) (k ∷ sinces) c n e = ap (λ (w : List (Asked A)). record { call = d; since = k } ∷ w) (asked_of-push calls sinces c n (omega arith))
+asked_of-push {A} (d ∷ calls) (k ∷ sinces) c n e = ap (λ (w : List (Asked A)). record { call = d; since = k } ∷ w)
+    (asked_of-push calls sinces c n (omega arith))
 
 -- where nothing is committed no ticket is answered
 pub unanswered-nothing : {A : Type 0} (tickets : List (Asked A)) → unanswered [] tickets ≡ tickets
@@ -147,7 +152,8 @@ visited-adopts : {A : Type 0} (next number : ℕ) (calls : List (Call A)) (since
     one_of (ring_visited r (length calls) number) calls sinces ≡ visited (one_of r calls sinces) number
 visited-adopts {A} next number calls sinces =
     let r : Ring = record { state = Operational; messages = 1; mark = 1; next = next } in
-    let all : take (length calls + 2 - 2) (payloads calls) ≡ payloads calls = take_all (length calls + 2 - 2) (payloads calls) (omega (arith, length-map_calls calls)) in
+    let all : take (length calls + 2 - 2) (payloads calls) ≡ payloads calls = take_all (length calls + 2 - 2)
+    (payloads calls) (omega (arith, length-map_calls calls)) in
     let waiting : payloads (asked_calls (unanswered [] (asked_of calls sinces))) ≡ payloads calls =
     ap (λ (w : List (Asked A)). payloads (asked_calls w)) (unanswered-nothing (asked_of calls sinces)) ∙ ap payloads (asked_calls-asked_of calls sinces) in
     ap (λ (w : List (Payload A)). record (one_of (ring_visited r (length calls) number) calls sinces) { queue = w }) (all ∙ sym waiting)
@@ -187,9 +193,11 @@ visited-late {A} m k next number calls sinces late marked least called =
     let none : adopts s ≡ false = and_right (is_adopted (text_after s)) (not (is_adopted (take m all))) (ap not (adopted-late m calls late)) in
     let nothing : due s ≡ [] = ap (λ (b : Bool). if b then payloads (asked_calls (unanswered (committed_of s) s.tickets)) else []) none in
     let e6 : queue_after s ≡ take (waits (ring_visited r n number) n) (drop (m + j) all) =
-    ap (λ i. drop i (take (waits r n) (drop m all)) ++ due s) r1 ∙ ap (λ (d : List (Payload A)). drop (ring_room r) (take (waits r n) (drop m all)) ++ d) nothing
+    ap (λ i. drop i (take (waits r n) (drop m all)) ++ due s) r1
+    ∙ ap (λ (d : List (Payload A)). drop (ring_room r) (take (waits r n) (drop m all)) ++ d) nothing
     ∙ append-nil (drop (ring_room r) (take (waits r n) (drop m all))) ∙ drop-least (ring_room r) (waits r n) m all
-    ∙ take-of (drop (m + j) all) (waits r n - j) (waits (ring_visited r n number) n) (omega (arith, w, waits-late m (m + j) n (n + 2 - (m + j)) (omega arith) (omega arith))) in
+    ∙ take-of (drop (m + j) all) (waits r n - j) (waits (ring_visited r n number) n)
+    (omega (arith, w, waits-late m (m + j) n (n + 2 - (m + j)) (omega arith) (omega arith))) in
     let rings : (if m == 0 then ring_before else ring_of_one) ≡ s.ring = one-ring m (omega arith) ∙ sym (one-ring k marked) in
     ap (λ (x : RingId). built (number + 1) tickets x (take (m + j) all) m (m + j) (take (waits (ring_visited r n number) n) (drop (m + j) all))) rings
     ∙ ap (λ (x : List (Payload A)). built (number + 1) tickets s.ring x m (m + j) (take (waits (ring_visited r n number) n) (drop (m + j) all))) (sym e3)

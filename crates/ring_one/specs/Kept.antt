@@ -17,7 +17,8 @@ use Rattle.ring_ticket.specs.Waiting.{waiting_from}
 abbrev pub committed_calls : {A : Type 0} → Ring → List (Call A) → List (Call A)
 committed_calls r calls = take (committed_length r) calls
 
-pub record IsNode {O A : Type 0} (object : Sequential O) (r : Ring) (calls : List (Call A)) (sinces : List ℕ) (waits : List ℕ) (kept : List Kept) (sessions : Table O) (effects : ℕ) : Type 0 where
+pub record IsNode {O A : Type 0} (object : Sequential O) (r : Ring) (calls : List (Call A)) (sinces : List ℕ)
+    (waits : List ℕ) (kept : List Kept) (sessions : Table O) (effects : ℕ) : Type 0 where
   pub ring : IsRing r (length calls)
   -- each call was submitted when no more was committed than now
   pub counted : length sinces ≡ length calls

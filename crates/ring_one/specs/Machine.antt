@@ -1,7 +1,9 @@
 -- The node of a ring of one as a machine: its state, one step, and one submit. Rings of one have the name (1, 1). No
 -- message of theirs is a frame, since it would go to nobody; the tokens go to the node itself.
 -- Rings and states, and The replicated log, of docs/PROTOCOL.md, for a ring of one.
-use Rattle.std.specs.Prelude.{◌≡◌, ℕ, ◌+◌, ◌-◌, ◌==◌, ◌&&◌, ◌||◌, nat_le, nat_lt, min, max, Bool, true, false, not, List, [], ◌∷◌, ◌++◌, length, take, drop, map, replicate, Option, Some, None, Result, Ok, Err, if◌then◌else◌}
+use Rattle.std.specs.Prelude.{◌≡◌, ℕ, ◌+◌, ◌-◌, ◌==◌, ◌&&◌, ◌||◌, nat_le, nat_lt, min, max, Bool, true, false, not}
+use Rattle.std.specs.Prelude.{List, [], ◌∷◌, ◌++◌, length, take, drop, map, replicate, Option, Some, None, Result, Ok}
+use Rattle.std.specs.Prelude.{Err, if◌then◌else◌}
 use Rattle.std.specs.Str.{bytes_eq}
 use Rattle.ring_base.specs.declared.fault.Fault.{Fault}
 use Rattle.ring_base.specs.declared.fault.Fault.TheVariants.{Memory, PendingFull, Stopped as StoppedFault}
@@ -193,7 +195,8 @@ visits s number = record { new = visited s number; frames = OneToken (token_of (
 -- The token is accepted: it is of the running ring, above each one accepted, below the greatest number, and its greatest
 -- message is the greatest held. (In a ring of one none is missing.)
 abbrev pub accepts : {A : Type 0} → One A → Token → Bool
-accepts s token = is_running s.state && is_ring_of_one token.ring && nat_le s.next token.number && nat_lt token.number max_number && (token.seq == length s.text)
+accepts s token = is_running s.state && is_ring_of_one token.ring && nat_le s.next token.number
+    && nat_lt token.number max_number && (token.seq == length s.text)
 
 -- hop 1 is the second round, since the only member proposed the ring; hop 2 starts the token, once
 abbrev pub on_commit_token : {A : Type 0} → State → One A → CommitToken → Move A

@@ -1,5 +1,6 @@
 -- The ring of one by numbers: what a node keeps in place of its text and its send queue.
-use Rattle.std.specs.Prelude.{◌≡◌, ℕ, ◌+◌, ◌-◌, ◌≤◌, ◌==◌, ◌&&◌, nat_le, nat_lt, min, Bool, true, false, not, List, [], ◌∷◌, length, take, drop, map, if◌then◌else◌}
+use Rattle.std.specs.Prelude.{◌≡◌, ℕ, ◌+◌, ◌-◌, ◌≤◌, ◌==◌, ◌&&◌, nat_le, nat_lt, min, Bool, true, false, not, List, []}
+use Rattle.std.specs.Prelude.{◌∷◌, length, take, drop, map, if◌then◌else◌}
 use Rattle.ring_base.specs.Numbers.{max_number, visit_limit, window_size}
 use Rattle.ring_payload.specs.declared.call.Call.{Call}
 use Rattle.ring_payload.specs.declared.content.Payload.{Payload}
@@ -20,7 +21,8 @@ abbrev pub logged_length : Ring → ℕ
 logged_length r = r.messages - 2
 
 abbrev pub ring_accepts : Ring → Token → Bool
-ring_accepts r token = is_running r.state && is_ring_of_one token.ring && nat_le r.next token.number && nat_lt token.number max_number && (token.seq == r.messages)
+ring_accepts r token = is_running r.state && is_ring_of_one token.ring && nat_le r.next token.number
+    && nat_lt token.number max_number && (token.seq == r.messages)
 
 -- how many payloads wait to be sent, where so many calls were submitted
 abbrev pub waits : Ring → ℕ → ℕ

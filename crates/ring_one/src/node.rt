@@ -1,13 +1,16 @@
 //! The node of a ring of one, and the calls on it.
 
-ghost use Rattle.std.specs.Prelude.{◌≡◌, ◌<◌, ◌≤◌, [], ◌∷◌, true, false, length, All, fold, Some, None, IsOk, IfOk, IfErr, OnOk, OnErr, MatchOption, if◌then◌else◌};
+ghost use Rattle.std.specs.Prelude.{◌≡◌, ◌<◌, ◌≤◌, [], ◌∷◌, true, false, length, All, fold, Some, None, IsOk, IfOk};
+ghost use Rattle.std.specs.Prelude.{IfErr, OnOk, OnErr, MatchOption, if◌then◌else◌};
 ghost use Rattle.ring_base.specs.Numbers.{max_number};
 ghost use Rattle.ring_base.specs.declared.fault.Fault.TheVariants.{Memory, Stopped as StoppedFault};
 ghost use Rattle.ring_wire.specs.declared.frame.Frame.TheVariants.{Token as OneToken, Commit as OneCommit};
 ghost use Rattle.ring_session.specs.Deduplicated.{deduplicated};
 ghost use Rattle.ring_session.specs.Table.{table_next};
 ghost use Rattle.ring_ticket.specs.Waiting.{waiting_after, given_after, done_after};
-ghost use Rattle.ring_one.specs.Machine.{one_opening, one_stopped, one_step, one_reply, is_stopped, is_operational, is_running, committed_of, submit_fault, submitted, on_frame, on_commit_token, on_join_timeout, on_timeout, visits, IsMove};
+ghost use Rattle.ring_one.specs.Machine.{one_opening, one_stopped, one_step, one_reply, is_stopped, is_operational};
+ghost use Rattle.ring_one.specs.Machine.{is_running, committed_of, submit_fault, submitted, on_frame, on_commit_token};
+ghost use Rattle.ring_one.specs.Machine.{on_join_timeout, on_timeout, visits, IsMove};
 ghost use Rattle.ring_one.specs.Texts.{log_of};
 
 use crate::frames::{

@@ -1,5 +1,6 @@
 -- A queue's first messages are taken off it one by one: the run at its front is measured, and its Calls are moved.
-use Rattle.std.proofs.Common.{◌≡◌, ℕ, zero, suc, ◌+◌, ◌-◌, ◌<◌, ◌≤◌, max, List, [], ◌∷◌, ◌++◌, length, take, drop, Option, Some, None, IsSome, get_or, refl, sym, ap, subst, ◌∙◌, arith, append_assoc}
+use Rattle.std.proofs.Common.{◌≡◌, ℕ, zero, suc, ◌+◌, ◌-◌, ◌<◌, ◌≤◌, max, List, [], ◌∷◌, ◌++◌, length, take, drop}
+use Rattle.std.proofs.Common.{Option, Some, None, IsSome, get_or, refl, sym, ap, subst, ◌∙◌, arith, append_assoc}
 use Rattle.std.specs.Prelude.{nat_le, option_to_list, Result, Ok, Err, OnErr}
 use Rattle.std.proofs.lemmas.Bool.{cond-true, cond-false, le-leb, lt-leb}
 use Rattle.std.proofs.lemmas.List.{drop_more, at_drop_all, append-nil}
@@ -30,7 +31,8 @@ run-other (suc more) bytes (Part part) queue e = refl
 run-other (suc more) bytes (Pack pack) queue e = refl
 run-other (suc more) bytes (Snap snap) queue e = refl
 
-run-long : {A : Type 0} (more bytes b : ℕ) (x : Payload A) (queue : List (Payload A)) → bytes_of x ≡ Some b → bytes < b → length (run_within more bytes (x ∷ queue)) ≡ 0
+run-long : {A : Type 0} (more bytes b : ℕ) (x : Payload A) (queue : List (Payload A)) → bytes_of x ≡ Some b
+    → bytes < b → length (run_within more bytes (x ∷ queue)) ≡ 0
 run-long zero bytes b x queue e l = refl
 run-long (suc more) bytes b (Call c) queue e l =
     let same : call_bytes c ≡ b = cc in
@@ -42,7 +44,8 @@ run-long (suc more) bytes b (Part part) queue e l = refl
 run-long (suc more) bytes b (Pack pack) queue e l = refl
 run-long (suc more) bytes b (Snap snap) queue e l = refl
 
-run-more : {A : Type 0} (more bytes b : ℕ) (x : Payload A) (queue : List (Payload A)) → bytes_of x ≡ Some b → b ≤ bytes → length (run_within (suc more) bytes (x ∷ queue)) ≡ suc (length (run_within more (bytes - b) queue))
+run-more : {A : Type 0} (more bytes b : ℕ) (x : Payload A) (queue : List (Payload A)) → bytes_of x ≡ Some b
+    → b ≤ bytes → length (run_within (suc more) bytes (x ∷ queue)) ≡ suc (length (run_within more (bytes - b) queue))
 run-more more bytes b (Call c) queue e l =
     let same : call_bytes c ≡ b = cc in
     ap length (cond-true (nat_le (call_bytes c) bytes) (c ∷ run_within more (bytes - call_bytes c) queue) [] (le-leb (call_bytes c) bytes (omega arith)))
@@ -61,26 +64,35 @@ IsCounted queue count left = count + length (run_within (most_pack - count) left
 module _ {A : Type 0} (queue : List (Payload A)) (count left : ℕ) where
   pub counted-nil : length queue ≤ count → IsCounted queue count left → count ≡ length (front_run queue)
   counted-nil l i =
-      let e : length (run_within (most_pack - count) left (drop count queue)) ≡ 0 = run-none (most_pack - count) left (drop count queue) (at_drop_all (λ q. q) queue count l) in
+      let e : length (run_within (most_pack - count) left (drop count queue)) ≡ 0 = run-none (most_pack - count) left
+      (drop count queue) (at_drop_all (λ q. q) queue count l) in
       omega arith
 
-  pub counted-other : (x : Payload A) → count < length queue → x ≡ get_or queue count x → bytes_of x ≡ None → IsCounted queue count left → count ≡ length (front_run queue)
+  pub counted-other : (x : Payload A) → count < length queue → x ≡ get_or queue count x → bytes_of x ≡ None
+      → IsCounted queue count left → count ≡ length (front_run queue)
   counted-other x l at b i =
       let d : drop count queue ≡ x ∷ drop (count + 1) queue = drop_more queue count x l ∙ ap (λ y. y ∷ drop (count + 1) queue) (sym at) in
-      let e : length (run_within (most_pack - count) left (drop count queue)) ≡ 0 = ap (λ q. length (run_within (most_pack - count) left q)) d ∙ run-other (most_pack - count) left x (drop (count + 1) queue) b in
+      let e : length (run_within (most_pack - count) left (drop count queue)) ≡ 0 =
+      ap (λ q. length (run_within (most_pack - count) left q)) d ∙ run-other (most_pack - count) left x
+      (drop (count + 1) queue) b in
       omega arith
 
-  pub counted-long : (x : Payload A) (b : ℕ) → count < length queue → x ≡ get_or queue count x → bytes_of x ≡ Some b → left < b → IsCounted queue count left → count ≡ length (front_run queue)
+  pub counted-long : (x : Payload A) (b : ℕ) → count < length queue → x ≡ get_or queue count x → bytes_of x ≡ Some b
+      → left < b → IsCounted queue count left → count ≡ length (front_run queue)
   counted-long x b l at s far i =
       let d : drop count queue ≡ x ∷ drop (count + 1) queue = drop_more queue count x l ∙ ap (λ y. y ∷ drop (count + 1) queue) (sym at) in
-      let e : length (run_within (most_pack - count) left (drop count queue)) ≡ 0 = ap (λ q. length (run_within (most_pack - count) left q)) d ∙ run-long (most_pack - count) left b x (drop (count + 1) queue) s far in
+      let e : length (run_within (most_pack - count) left (drop count queue)) ≡ 0 =
+      ap (λ q. length (run_within (most_pack - count) left q)) d ∙ run-long (most_pack - count) left b x
+      (drop (count + 1) queue) s far in
       omega arith
 
-  pub counted-more : (x : Payload A) (b : ℕ) → count < most_pack → count < length queue → x ≡ get_or queue count x → bytes_of x ≡ Some b → b ≤ left → IsCounted queue count left → IsCounted queue (count + 1) (left - b)
+  pub counted-more : (x : Payload A) (b : ℕ) → count < most_pack → count < length queue → x ≡ get_or queue count x
+      → bytes_of x ≡ Some b → b ≤ left → IsCounted queue count left → IsCounted queue (count + 1) (left - b)
   counted-more x b few l at s near i =
       let d : drop count queue ≡ x ∷ drop (count + 1) queue = drop_more queue count x l ∙ ap (λ y. y ∷ drop (count + 1) queue) (sym at) in
       let n : most_pack - count ≡ suc (most_pack - (count + 1)) = omega arith in
-      let e : length (run_within (most_pack - count) left (drop count queue)) ≡ suc (length (run_within (most_pack - (count + 1)) (left - b) (drop (count + 1) queue))) =
+      let e : length (run_within (most_pack - count) left (drop count queue)) ≡ suc
+      (length (run_within (most_pack - (count + 1)) (left - b) (drop (count + 1) queue))) =
       ap (λ q. length (run_within (most_pack - count) left q)) d
       ∙ ap (λ m. length (run_within m left (x ∷ drop (count + 1) queue))) n
       ∙ run-more (most_pack - (count + 1)) left b x (drop (count + 1) queue) s near in
@@ -116,7 +128,8 @@ some-left queue now i l e z =
     let n : length now ≡ suc (length (drop (suc i) queue)) = ap length (e ∙ c.1) in
     absurd (omega arith)
 
-pub call-left : {A : Type 0} (queue now after : List (Payload A)) (p : Payload A) (i : ℕ) → i < length (front_run queue) → now ≡ drop i queue → now ≡ p ∷ after → call_of p ≡ None → ⊥
+pub call-left : {A : Type 0} (queue now after : List (Payload A)) (p : Payload A) (i : ℕ)
+    → i < length (front_run queue) → now ≡ drop i queue → now ≡ p ∷ after → call_of p ≡ None → ⊥
 call-left queue now after p i l e n none =
     let c = call-at queue i l in
     let front : p ∷ after ≡ Call c.0 ∷ drop (suc i) queue = sym n ∙ e ∙ c.1 in
@@ -124,7 +137,8 @@ call-left queue now after p i l e n none =
     let some : Some c.0 ≡ None = ap call_of (sym same) ∙ none in
     absurd cc
 
-pub call-moved : {A : Type 0} (queue now after : List (Payload A)) (calls : List (OneCall A)) (p : Payload A) (c : OneCall A) (i : ℕ) → i < length (front_run queue) →
+pub call-moved : {A : Type 0} (queue now after : List (Payload A)) (calls : List (OneCall A)) (p : Payload A)
+    (c : OneCall A) (i : ℕ) → i < length (front_run queue) →
     calls ≡ take i (front_run queue) → now ≡ drop i queue → now ≡ p ∷ after → call_of p ≡ Some c →
     (calls ++ c ∷ [] ≡ take (i + 1) (front_run queue)) × (after ≡ drop (i + 1) queue)
 call-moved queue now after calls p c i l t e n some =
@@ -134,8 +148,11 @@ call-moved queue now after calls p c i l t e n some =
     let rest : after ≡ drop (suc i) queue = cc in
     let told : Some c ≡ Some a.0 = sym some ∙ ap call_of first in
     let same : c ≡ a.0 = cc in
-    let one : suc i ≡ i + 1 = omega arith in
-    (ap (λ xs. xs ++ c ∷ []) t ∙ ap (λ x. take i (front_run queue) ++ x ∷ []) same ∙ sym a.2 ∙ ap (λ n. take n (front_run queue)) one, rest ∙ ap (λ n. drop n queue) one)
+    let one : suc i ≡ i + 1 = omega arith in (
+      ap (λ xs. xs ++ c ∷ []) t ∙ ap (λ x. take i (front_run queue) ++ x ∷ []) same ∙ sym a.2
+          ∙ ap (λ n. take n (front_run queue)) one,
+      rest ∙ ap (λ n. drop n queue) one,
+    )
 
 -- The first message
 
@@ -150,7 +167,8 @@ made-pack first (c ∷ []) l = absurd (omega (arith, l))
 made-pack first (c ∷ d ∷ run) l = refl
 
 -- where the run is none or of one call, the first payload goes as it is
-pub first-alone : {A : Type 0} (queue after : List (Payload A)) (o : Option (Payload A)) → queue ≡ option_to_list o ++ after → (0 < length queue → IsSome o) → length (front_run queue) < 2 →
+pub first-alone : {A : Type 0} (queue after : List (Payload A)) (o : Option (Payload A)) → queue ≡ option_to_list o
+    ++ after → (0 < length queue → IsSome o) → length (front_run queue) < 2 →
     (option_to_list o ≡ packed 1 queue) × (after ≡ behind queue)
 first-alone [] after None e s l = (refl, sym e)
 first-alone {A} (x ∷ queue) after None e s l =
@@ -179,7 +197,8 @@ behind-packed queue count e l =
 one-less : (most counter : ℕ) → counter < most → most - counter ≡ suc (most - (counter + 1))
 one-less most counter l = omega arith
 
-packed-first : {A : Type 0} (more : ℕ) (queue : List (Payload A)) (m : Payload A) → m ∷ [] ≡ packed 1 queue → packed (suc more) queue ≡ m ∷ packed more (behind queue)
+packed-first : {A : Type 0} (more : ℕ) (queue : List (Payload A)) (m : Payload A) → m ∷ [] ≡ packed 1 queue
+    → packed (suc more) queue ≡ m ∷ packed more (behind queue)
 packed-first more [] m e = absurd cc
 packed-first more (first ∷ queue) m e =
     let same : m ≡ made_of first (front_run (first ∷ queue)) = cc in
@@ -208,7 +227,8 @@ left-begun most all =
     ap (λ m. left_behind m all) n
 
 -- one message more was taken
-pub taken-more : {A : Type 0} (most counter : ℕ) (taken now after all : List (Payload A)) (m : Payload A) → counter < most → m ∷ [] ≡ packed 1 now → after ≡ behind now →
+pub taken-more : {A : Type 0} (most counter : ℕ) (taken now after all : List (Payload A)) (m : Payload A)
+    → counter < most → m ∷ [] ≡ packed 1 now → after ≡ behind now →
     taken ++ packed (most - counter) now ≡ all → (taken ++ m ∷ []) ++ packed (most - (counter + 1)) after ≡ all
 taken-more most counter taken now after all m l e b i =
     append_assoc taken (m ∷ []) (packed (most - (counter + 1)) after)

@@ -1,5 +1,7 @@
 -- What a visit sends in Recovery, found number by number.
-use Rattle.std.proofs.Common.{◌≡◌, ℕ, suc, ◌+◌, ◌-◌, ◌<◌, ◌≤◌, Bool, true, false, List, [], ◌∷◌, ◌++◌, filter, filter_map, length, take, Option, Some, None, refl, ap, ◌∙◌, sym, arith, append_assoc, length-append}
+use Rattle.std.proofs.Common.{◌≡◌, ℕ, suc, ◌+◌, ◌-◌, ◌<◌, ◌≤◌, Bool, true, false, List, [], ◌∷◌, ◌++◌, filter}
+use Rattle.std.proofs.Common.{filter_map, length, take, Option, Some, None, refl, ap, ◌∙◌, sym, arith, append_assoc}
+use Rattle.std.proofs.Common.{length-append}
 use Rattle.std.specs.Prelude.{not, if◌then◌else◌}
 use Rattle.std.specs.List.{cons_option}
 use Rattle.std.proofs.lemmas.Bool.{cond-true, cond-false}

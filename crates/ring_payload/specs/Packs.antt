@@ -72,7 +72,11 @@ pack_format {A} = told_format (pack_fields {A = A}) told pack_spelling PackFits 
   fits = λ p f.
       let count = is_count-true p.0 f.0.0.1 in
       record { some = omega (arith, count, f.0.1.0); few = omega (arith, count, f.0.1.0); each = f.0.1.1; short = leb-true _ _ f.1 };
-  back = λ p f. ((length p.calls, p.calls), (((omega (arith, f.few), true-is_count (length p.calls) (f.some, f.few)), (refl, f.each)), le-leb _ _ f.short), refl);
+  back = λ p f. (
+    (length p.calls, p.calls),
+    (((omega (arith, f.few), true-is_count (length p.calls) (f.some, f.few)), (refl, f.each)), le-leb _ _ f.short),
+    refl,
+  );
 })
 
 abbrev pub pack : {A : Type 0} → Format (Pack A)

@@ -56,7 +56,14 @@ part_format {A} = told_format (part_fields {A = A}) told part_spelling PartFits 
   fits = λ p f.
       let count = is_count-true p.1.0 f.1.0.1 in
       record { first = leb-true _ _ f.0.1; some = omega (arith, count, f.1.1.0); few = omega (arith, count, f.1.1.0); each = f.1.1.1 };
-  back = λ p f. ((p.first, (length p.calls, p.calls)), ((omega (arith, f.first), le-leb _ _ f.first), ((omega (arith, f.few), true-is_count (length p.calls) (f.some, f.few)), (refl, f.each))), refl);
+  back = λ p f. (
+    (p.first, (length p.calls, p.calls)),
+    (
+      (omega (arith, f.first), le-leb _ _ f.first),
+      ((omega (arith, f.few), true-is_count (length p.calls) (f.some, f.few)), (refl, f.each)),
+    ),
+    refl,
+  );
 })
 
 abbrev pub part : {A : Type 0} → Format (Part A)

@@ -12,7 +12,10 @@ use Rattle.ring_machine.specs.declared.input.Input.TheVariants.{Frame as NodeFra
 use Rattle.ring_machine.specs.Stepping.{due_by_submit, submit_fault, submitted}
 use Rattle.ring_history.specs.declared.event.Event.{Event}
 use Rattle.ring_history.specs.declared.event.Event.TheVariants.{Issue, Deliver, Noise, Timeout, Stop}
-use Rattle.ring_history.specs.Worlds.{World, world_opening, is_node as is_world_node, issued_or, issued_if, stopped_if as node_stopped_if, frame_at as world_frame_at, stepped_if as node_stepped_if, handed_if as node_handed_if, handed as node_handed, happens as node_happens, run as node_run}
+use Rattle.ring_history.specs.Worlds.{World, world_opening, is_node as is_world_node, issued_or, issued_if}
+use Rattle.ring_history.specs.Worlds.{stopped_if as node_stopped_if, frame_at as world_frame_at}
+use Rattle.ring_history.specs.Worlds.{stepped_if as node_stepped_if, handed_if as node_handed_if, handed as node_handed}
+use Rattle.ring_history.specs.Worlds.{happens as node_happens, run as node_run}
 use Rattle.ring_moves.specs.declared.event.RingEvent.TheVariants.{Deliver as RingDeliver, Timeout as RingTimeout}
 use Rattle.ring_moves.specs.Worlds.{put, stepped_if, handed_if, handed, frame_at, run}
 use Rattle.ring_projection.specs.Projection.{ring_part, IsRingRun}
@@ -85,7 +88,8 @@ module _ {O A : Type 0} (object : Sequential O) (w : World A) (outs : List (ℕ 
   event_leads (Stop i) = stops i (is_world_node w i) refl
 
 -- one after another
-leads_on : {A : Type 0} → (w : World A) (outs : List (ℕ × Out A)) (between : World A) (a : Leads w outs between) (after : World A) → Leads between a.more after →
+leads_on : {A : Type 0} → (w : World A) (outs : List (ℕ × Out A)) (between : World A) (a : Leads w outs between)
+    (after : World A) → Leads between a.more after →
     Leads w outs after
 leads_on w outs between a after b =
     record {
@@ -102,7 +106,8 @@ events_lead object w outs over (e ∷ events) =
     let a = event_leads object w outs over e in
     leads_on w outs (node_happens object w e) a _ (events_lead object (node_happens object w e) a.more a.over events)
 
-pub ring_run : {O A : Type 0} → (object : Sequential O) (group : Group) (events : List (Event A)) → IsRingRun group (node_run object (world_opening group) events)
+pub ring_run : {O A : Type 0} → (object : Sequential O) (group : Group) (events : List (Event A))
+    → IsRingRun group (node_run object (world_opening group) events)
 ring_run {O} {A} object group events =
     let w : World A = world_opening group in
     let start : IsOver w [] = record { lives = λ i. refl; settled = λ i. refl } in

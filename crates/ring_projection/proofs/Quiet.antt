@@ -47,7 +47,8 @@ installs_same Stopped c q = refl
 none_agreed : {A : Type 0} → (c : Core A) (ring : RingId) → agreed_from c ring (front c ring) ≡ []
 none_agreed {A} c ring =
     let f = front c ring in
-    ap (λ ns. map (λ (x : Message A). Agreed ring x.number x) (filter (λ (x : Message A). is_user x.payload) (filter_map (found c.held ring) (numbers_from (f + 1) ns)))) (sub_self f)
+    ap (λ ns. map (λ (x : Message A). Agreed ring x.number x) (filter (λ (x : Message A). is_user x.payload)
+    (filter_map (found c.held ring) (numbers_from (f + 1) ns)))) (sub_self f)
 
 none_safe : {A : Type 0} → (c : Core A) (ring : RingId) → safe_from c ring (mark c ring) ≡ []
 none_safe c ring = ap (λ b. if b then Safe ring (mark c ring) ∷ [] else []) (le-ltb (mark c ring) (mark c ring) (le_refl (mark c ring)))

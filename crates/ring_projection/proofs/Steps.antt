@@ -1,4 +1,5 @@
--- An event of a world of nodes, as events of a world of ring cores: the core's own, and what is handed over after it; or, where the log stops the node, the core's stop.
+-- An event of a world of nodes, as events of a world of ring cores: the core's own, and what is handed over after it;
+-- or, where the log stops the node, the core's stop.
 use Rattle.std.proofs.Common.{◌≡◌, ℕ, Bool, true, false, ◌==◌, cond, List, [], ◌∷◌, ◌++◌, map, Some, None, inl, inr, ◌≢◌, refl, ap, sym, ◌∙◌, subst, append-nil}
 use Rattle.std.specs.Prelude.{filter_map}
 use Rattle.std.specs.List.{cons_option}
@@ -161,10 +162,22 @@ module _ {A : Type 0} (w : World A) (outs : List (ℕ × Out A)) (i : ℕ) (n : 
       (after.group ≡ w.group) × (after.nodes ≡ put_node w.nodes i n) × (after.frames ≡ w.frames ++ filter_map (carried_by i) more)
 
   pub becomes_part : (after : World A) → Becomes after →
-      with_cores (after_step (ring_part w outs) i (record { core = n.core; outs = more })) (put (cores_of w.nodes) i n.core) ≡ ring_part after (outs ++ by i more)
+      with_cores (after_step (ring_part w outs) i (record { core = n.core; outs = more }))
+      (put (cores_of w.nodes) i n.core) ≡ ring_part after (outs ++ by i more)
   becomes_part after b =
-      ap (λ cores. record { total = w.group.count; cores = cores; frames = w.frames ++ filter_map (carried_by i) more; outs = outs ++ by i more }) (put_core w.nodes i n)
-      ∙ ap (λ nodes. record { total = w.group.count; cores = cores_of nodes; frames = w.frames ++ filter_map (carried_by i) more; outs = outs ++ by i more }) (sym b.1)
+      ap (λ cores. record {
+        total = w.group.count;
+        cores = cores;
+        frames = w.frames ++ filter_map (carried_by i) more;
+        outs = outs ++ by i more;
+      }) (put_core w.nodes i n)
+      ∙ ap (λ nodes. record {
+        total = w.group.count;
+        cores = cores_of nodes;
+        frames = w.frames ++ filter_map
+            (carried_by i) more;
+        outs = outs ++ by i more;
+      }) (sym b.1)
       ∙ ap (λ frames. record { total = w.group.count; cores = cores_of after.nodes; frames = frames; outs = outs ++ by i more }) (sym b.2)
       ∙ ap (λ (group : Group). record { total = group.count; cores = cores_of after.nodes; frames = after.frames; outs = outs ++ by i more }) (sym b.0)
 
@@ -200,7 +213,13 @@ module _ {O A : Type 0} (object : Sequential O) (w : World A) (outs : List (ℕ 
         more = outs ++ [];
         part =
             ap (λ t. stopped_if t (ring_part w outs) i) member
-            ∙ ap-both (λ frames more. record { total = w.group.count; cores = put (cores_of w.nodes) i (halted (w.nodes i).core); frames = frames; outs = more })
+            ∙ ap-both (λ frames more. record {
+              total = w.group.count;
+              cores = put (cores_of w.nodes) i
+                  (halted (w.nodes i).core);
+              frames = frames;
+              outs = more;
+            })
             (sym (append-nil w.frames)) (sym (append-nil outs))
             ∙ becomes_part w outs i (node_stopped (w.nodes i)) [] after b;
         over = becomes_over w outs i (node_stopped (w.nodes i)) [] after b over refl refl;
@@ -224,14 +243,17 @@ module _ {O A : Type 0} (object : Sequential O) (w : World A) (outs : List (ℕ 
 
   settles : (input : Input A) (event : RingEvent A) → happens (ring_part w outs) event ≡ after_step (ring_part w outs) i (ring_step (w.nodes i).core input) →
       (t : Bool) → (life : List (Stay A)) (due : List (Payload A)) → life ≡ lived_through (w.nodes i).life (ring_step (w.nodes i).core input).outs →
-      Leads w outs (after_node w i (settled object t (w.nodes i) (walked (w.nodes i) (ring_step (w.nodes i).core input).core life due) (ring_step (w.nodes i).core input).outs life))
+      Leads w outs (after_node w i (settled object t (w.nodes i)
+      (walked (w.nodes i) (ring_step (w.nodes i).core input).core life due)
+      (ring_step (w.nodes i).core input).outs life))
   settles input event e false life due l = halts _ (refl, refl, refl)
   settles input event e true life due l =
       goes_on input event e life due (ap heard_life l) _
       (refl, refl, ap (λ frames. w.frames ++ frames) (sym (sends_carried i (ring_step (w.nodes i).core input).outs)))
 
   -- a frame or a timeout
-  pub steps : (input : Input A) (event : RingEvent A) (given : NodeInput A) → happens (ring_part w outs) event ≡ after_step (ring_part w outs) i (ring_step (w.nodes i).core input) →
+  pub steps : (input : Input A) (event : RingEvent A) (given : NodeInput A) → happens (ring_part w outs) event
+      ≡ after_step (ring_part w outs) i (ring_step (w.nodes i).core input) →
       node_step object (w.nodes i) given ≡ after_core object (w.nodes i) (ring_step (w.nodes i).core input) →
       Leads w outs (after_node w i (node_step object (w.nodes i) given))
   steps input event given e g =

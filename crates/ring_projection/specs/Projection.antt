@@ -1,4 +1,5 @@
--- A world of nodes, seen as a world of ring cores: what the nodes keep beside their cores is left out. Rings and states, rule 14, and The replicated log, rule 1, of docs/PROTOCOL.md.
+-- A world of nodes, seen as a world of ring cores: what the nodes keep beside their cores is left out. Rings and
+-- states, rule 14, and The replicated log, rule 1, of docs/PROTOCOL.md.
 use Rattle.std.specs.Prelude.{◌≡◌, ℕ, List, [], map}
 use Rattle.ring_base.specs.Group.{Group}
 use Rattle.ring_core.specs.declared.out.Out.{Out}

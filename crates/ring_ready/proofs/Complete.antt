@@ -1,5 +1,7 @@
--- Where every member's End of the running ring is within the front, all is held that one of the old ring's members reported: above the least front stand users' messages alone, and each was handed on before its reporter's End.
-use Rattle.std.proofs.Common.{◌≡◌, ℕ, zero, suc, ◌+◌, ◌%◌, ◌<◌, ◌≤◌, inl, inr, true, ◌==◌, List, [], ◌∷◌, length, map, Some, refl, ap, sym, ◌∙◌, subst, arith, mod-lt}
+-- Where every member's End of the running ring is within the front, all is held that one of the old ring's members
+-- reported: above the least front stand users' messages alone, and each was handed on before its reporter's End.
+use Rattle.std.proofs.Common.{◌≡◌, ℕ, zero, suc, ◌+◌, ◌%◌, ◌<◌, ◌≤◌, inl, inr, true, ◌==◌, List, [], ◌∷◌, length, map}
+use Rattle.std.proofs.Common.{Some, refl, ap, sym, ◌∙◌, subst, arith, mod-lt}
 use Rattle.std.specs.Prelude.{slice_get, slice_index, nat_le}
 use Rattle.std.specs.List.{list_all}
 use Rattle.std.proofs.lemmas.Bool.{cases_Bool, cases_lt, and_parts, and_from, false≢true, le-leb, eqb-true}
@@ -268,7 +270,8 @@ module _ {A : Type 0} (cores : ℕ → Core A) (frames : List (Carried A)) (a : 
 
   -- Recovery
 
-  module _ (i : ℕ) (s : (cores i).state ≡ Recovery) (ready : is_ready (cores i).held (cores i).running.ring (cores i).running.members (mark (cores i) (cores i).running.ring) ≡ true) where
+  module _ (i : ℕ) (s : (cores i).state ≡ Recovery) (ready : is_ready (cores i).held (cores i).running.ring
+      (cores i).running.members (mark (cores i) (cores i).running.ring) ≡ true) where
     abbrev c : Core A
     c = cores i
 

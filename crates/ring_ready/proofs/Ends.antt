@@ -109,7 +109,14 @@ visit_users {A} came c t fresh again queue h rings ends begun x i u =
             ring_is = sym ring;
             ends = λ j k. (let e = ends c.installed there (omega (arith, low, seq)) j k in
                 let under : (e.message).number ≤ t.seq = held_under came c t fresh again queue h e.message e.held (e.ring_is ∙ sym ring) in
-                record { message = e.message; held = e.held; ring_is = e.ring_is ∙ sym ring; sender = e.sender; ended = e.ended; within = omega (arith, under, above) });
+                record {
+                  message = e.message;
+                  held = e.held;
+                  ring_is = e.ring_is ∙ sym ring;
+                  sender = e.sender;
+                  ended = e.ended;
+                  within = omega (arith, under, above);
+                });
           })
     ]
 

@@ -1,4 +1,5 @@
--- Before its End a core has handed on all that it reported of the old ring above the least front: each users' message is wrapped in what it held of the new ring, or in the same visit.
+-- Before its End a core has handed on all that it reported of the old ring above the least front: each users' message
+-- is wrapped in what it held of the new ring, or in the same visit.
 use Rattle.std.proofs.Common.{◌≡◌, ℕ, suc, ◌+◌, ◌<◌, ◌≤◌, inl, inr, true, List, [], ◌∷◌, length, Some, refl, sym, ◌∙◌, subst, arith}
 use Rattle.std.specs.Prelude.{reverse}
 use Rattle.std.specs.List.{AllByRecursion as Each}
@@ -61,7 +62,9 @@ carried P ring me seq [] h = absurd h
 carried P ring me seq (p ∷ ps) (inl h) = (record { ring = ring; number = suc seq; sender = me; payload = p }, inl refl, h)
 carried P ring me seq (p ∷ ps) (inr h) = (let (y, i, k) = carried P ring me (suc seq) ps h in (y, inr i, k))
 
-module _ {A : Type 0} (came : Frame A → Type 0) (c : Core A) (t : Token) (fresh : List (Payload A)) (requests : List ℕ) (again : List (Message A)) (queue : List (Payload A)) (h : MayVisit came c t fresh again queue) where
+module _ {A : Type 0} (came : Frame A → Type 0) (c : Core A) (t : Token) (fresh : List (Payload A))
+    (requests : List ℕ) (again : List (Message A)) (queue : List (Payload A))
+    (h : MayVisit came c t fresh again queue) where
   abbrev d : Core A
   d = moved c (Visits t fresh requests again queue)
 

@@ -1,5 +1,7 @@
--- In every run a ring that is ready is installed; and a users' message within the front makes it ready, since each member's End stands before it: so who holds it has installed the ring.
-use Rattle.std.proofs.Common.{◌≡◌, ℕ, ◌≤◌, ◌⊎◌, inl, inr, Bool, true, false, ◌||◌, ◌==◌, List, [], ◌∷◌, ◌++◌, Option, Some, None, refl, ap, sym, ◌∙◌, subst, arith}
+-- In every run a ring that is ready is installed; and a users' message within the front makes it ready, since each
+-- member's End stands before it: so who holds it has installed the ring.
+use Rattle.std.proofs.Common.{◌≡◌, ℕ, ◌≤◌, ◌⊎◌, inl, inr, Bool, true, false, ◌||◌, ◌==◌, List, [], ◌∷◌, ◌++◌, Option}
+use Rattle.std.proofs.Common.{Some, None, refl, ap, sym, ◌∙◌, subst, arith}
 use Rattle.std.specs.Prelude.{nat_le}
 use Rattle.std.proofs.lemmas.Bool.{cond_both, and_parts, and_from, or_right, eq-eqb, eqb-true, leb-true}
 use Rattle.ring_base.specs.Numbers.{numbers_from}

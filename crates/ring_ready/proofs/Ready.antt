@@ -23,7 +23,8 @@ use Rattle.ring_core.specs.declared.out.Out.{Out}
 use Rattle.ring_core.specs.State.{Core, Did, floor}
 use Rattle.ring_core.specs.Views.{mark, plan}
 use Rattle.ring_core.specs.Acting.{gives_old, done, may_follow, proposed_after}
-use Rattle.ring_core.specs.Deciding.{Act, Ignore, Enqueue, Repeat, Announce, Invite, GiveUp, Regather, Agree, Widen, RegatherAndAgree, RegatherAndWiden, Take, Visit, Fill, Learn, decide}
+use Rattle.ring_core.specs.Deciding.{Act, Ignore, Enqueue, Repeat, Announce, Invite, GiveUp, Regather, Agree, Widen}
+use Rattle.ring_core.specs.Deciding.{RegatherAndAgree, RegatherAndWiden, Take, Visit, Fill, Learn, decide}
 use Rattle.ring_core.specs.Giving.{may_install, installs_in, ready_then_complete, settle, sent, given}
 use Rattle.ring_core.specs.Joining.{proposes}
 use Rattle.ring_core.specs.Stepping.{ring_step}

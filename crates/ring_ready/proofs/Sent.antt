@@ -1,5 +1,6 @@
 -- Behind its own End in a ring a core sends users' messages alone: it sends no second End, and nothing was left to wrap.
-use Rattle.std.proofs.Common.{◌≡◌, ℕ, suc, ◌+◌, ◌≤◌, ◌⊎◌, inl, inr, true, false, ◌&&◌, ◌==◌, List, [], ◌∷◌, ◌++◌, length, Some, refl, ap, sym, ◌∙◌, subst, arith}
+use Rattle.std.proofs.Common.{◌≡◌, ℕ, suc, ◌+◌, ◌≤◌, ◌⊎◌, inl, inr, true, false, ◌&&◌, ◌==◌, List, [], ◌∷◌, ◌++◌}
+use Rattle.std.proofs.Common.{length, Some, refl, ap, sym, ◌∙◌, subst, arith}
 use Rattle.std.proofs.lemmas.Bool.{and_from, eq-eqb, false≢true}
 use Rattle.ring_base.specs.Rings.{same_ring}
 use Rattle.ring_base.specs.declared.ring_id.RingId.{RingId}
@@ -18,7 +19,8 @@ use Rattle.ring_recover.specs.Wrapping.{has_ended}
 use Rattle.ring_core.specs.State.{Core}
 use Rattle.ring_moves.specs.Facts.{IsIn}
 use Rattle.ring_moves.specs.Laws.{EndsWrapping, HasEnded}
-use Rattle.ring_moves.specs.Moves.{Move, Idles, Enters, Learns, Visits, Takes, Installs, moved, MayMove, MayVisit, MayEnd, AreWraps, AreLast, IsWrapping, AllAreUsers}
+use Rattle.ring_moves.specs.Moves.{Move, Idles, Enters, Learns, Visits, Takes, Installs, moved, MayMove, MayVisit}
+use Rattle.ring_moves.specs.Moves.{MayEnd, AreWraps, AreLast, IsWrapping, AllAreUsers}
 use Rattle.ring_moves.proofs.Lists.{in-each, in-parts, in-filter, any-in}
 use Rattle.ring_moves.proofs.Wraps.{same-self}
 use Rattle.ring_changes.specs.Words.{inner_message}
@@ -59,7 +61,8 @@ end_no_user {A} p h u = false≢true (subst (λ (q : Payload A). is_user q ≡ t
 
 -- A visit
 
-module _ {A : Type 0} (came : Frame A → Type 0) (c : Core A) (t : Token) (fresh : List (Payload A)) (again : List (Message A)) (queue : List (Payload A)) (h : MayVisit came c t fresh again queue) where
+module _ {A : Type 0} (came : Frame A → Type 0) (c : Core A) (t : Token) (fresh : List (Payload A))
+    (again : List (Message A)) (queue : List (Payload A)) (h : MayVisit came c t fresh again queue) where
   abbrev pub news : List (Message A)
   news = numbered t.ring c.me t.seq fresh
 
@@ -174,7 +177,8 @@ module _ {A : Type 0} (came : Frame A → Type 0) (c : Core A) (t : Token) (fres
                     (after_end x y b.turn jb b.numbered_there (sym ring ∙ (numbered_in t.ring c.me t.seq fresh x i).ring_is ∙ h.ring) ended i user)
               ])
           | inr ja ↦ elim (b.there) [
-            | inl eb ↦ (let f = numbered_in t.ring c.me t.seq fresh y (subst (λ (v : Turn A). IsIn y (numbered v.came.ring c.me v.came.seq v.fresh)) eb b.numbered_there) in
+            | inl eb ↦ (let f = numbered_in t.ring c.me t.seq fresh y
+                (subst (λ (v : Turn A). IsIn y (numbered v.came.ring c.me v.came.seq v.fresh)) eb b.numbered_there) in
                 let under : x.number ≤ t.seq = held_under x (own_held x a.turn ja a.numbered_there) (ring ∙ f.ring_is) in
                 let above = f.above in
                 omega (arith, under, above))

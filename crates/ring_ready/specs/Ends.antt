@@ -1,4 +1,6 @@
--- What every core knows of the messages that it sent and of the Ends that it holds: Recovery, rules 4 to 7 of docs/PROTOCOL.md. Behind its own End in a ring it sends users' messages alone; each of these, and each report of a ring, stands behind every member's End; and before its End stands what it had to wrap.
+-- What every core knows of the messages that it sent and of the Ends that it holds: Recovery, rules 4 to 7 of
+-- docs/PROTOCOL.md. Behind its own End in a ring it sends users' messages alone; each of these, and each report of a
+-- ring, stands behind every member's End; and before its End stands what it had to wrap.
 use Rattle.std.specs.Prelude.{◌≡◌, ℕ, ◌<◌, ◌≤◌, true, false, List, Some, slice_get}
 use Rattle.std.specs.List.{AllByRecursion}
 use Rattle.ring_base.specs.Processors.{at, elements}

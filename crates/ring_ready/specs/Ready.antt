@@ -1,4 +1,5 @@
--- When a ring is installed: where recovery is ready nothing is missing, and a ring that is ready is installed in that very step. Recovery, rules 7 and 8 of docs/PROTOCOL.md.
+-- When a ring is installed: where recovery is ready nothing is missing, and a ring that is ready is installed in that
+-- very step. Recovery, rules 7 and 8 of docs/PROTOCOL.md.
 use Rattle.std.specs.Prelude.{◌≡◌, ◌<◌, true}
 use Rattle.ring_base.specs.declared.state.State.TheVariants.{Recovery}
 use Rattle.ring_commit.specs.declared.configuration.Configuration.{Configuration}

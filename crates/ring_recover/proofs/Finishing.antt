@@ -1,5 +1,6 @@
 -- Two members that come from one old ring make one plan, and then deliver the same.
-use Rattle.std.proofs.Common.{◌≡◌, ℕ, Bool, true, ◌&&◌, List, [], ◌∷◌, ◌++◌, filter, filter_map, length, Option, Some, None, slice_get, refl, sym, ap, subst, ◌∙◌, inl, inr, leb}
+use Rattle.std.proofs.Common.{◌≡◌, ℕ, Bool, true, ◌&&◌, List, [], ◌∷◌, ◌++◌, filter, filter_map, length, Option, Some}
+use Rattle.std.proofs.Common.{None, slice_get, refl, sym, ap, subst, ◌∙◌, inl, inr, leb}
 use Rattle.std.specs.List.{list_all, AllByRecursion}
 use Rattle.std.proofs.lemmas.Bool.{cond_both, cond-true, cond-false, cases_Bool, and_parts, or_cases}
 use Rattle.std.specs.Prelude.{nat_lt}
@@ -21,14 +22,17 @@ use Rattle.ring_recover.specs.Deliveries.{is_complete, is_from_mate, transitiona
 plan_is : (k : CommitToken) (o : Option CommitEntry) (p : Plan) → plan_if_sound k o ≡ Some p → p ≡ plan_of p.old k.members k.entries
 plan_is k None p e = absurd (let q : ⊥ = cc in q)
 plan_is k (Some own) p e =
-    cond_both (is_sound own.old k.entries) (Some (plan_of own.old k.members k.entries)) None (λ (o : Option Plan). o ≡ Some p → p ≡ plan_of p.old k.members k.entries)
+    cond_both (is_sound own.old k.entries) (Some (plan_of own.old k.members k.entries)) None
+    (λ (o : Option Plan). o ≡ Some p → p ≡ plan_of p.old k.members k.entries)
     (λ h f. (let q : plan_of own.old k.members k.entries ≡ p = cc in subst (λ (r : Plan). r ≡ plan_of r.old k.members k.entries) q refl))
     (λ h f. absurd (let q : ⊥ = cc in q))
     e
 
 plan_from_is : (k : CommitToken) (i : ℕ) (p : Plan) → plan_from i k ≡ Some p → p ≡ plan_of p.old k.members k.entries
 plan_from_is k i p e =
-    cond_both (has k.members i && leb (size k.members) (length k.entries)) (plan_if_sound k (slice_get k.entries (position_of k.members i))) None (λ (o : Option Plan). o ≡ Some p → p ≡ plan_of p.old k.members k.entries)
+    cond_both (has k.members i && leb (size k.members) (length k.entries))
+    (plan_if_sound k (slice_get k.entries (position_of k.members i))) None (λ (o : Option Plan). o ≡ Some p
+    → p ≡ plan_of p.old k.members k.entries)
     (λ h f. plan_is k (slice_get k.entries (position_of k.members i)) p f)
     (λ h f. absurd (let q : ⊥ = cc in q))
     e
@@ -44,7 +48,8 @@ holds-found [] ring n h = absurd (let q : ⊥ = cc in q)
 holds-found {A} (y ∷ held) ring n h =
     elim (cases_Bool (is_numbered ring n y)) [
       | inl e ↦ (y, cond-true (is_numbered ring n y) (Some y) (found held ring n) e)
-      | inr e ↦ (let r = holds-found held ring n (elim (or_cases (is_numbered ring n y) (holds held ring n) h) [ inl t ↦ absurd (let q : ⊥ = cc in q) | inr t ↦ t ]) in
+      | inr e ↦ (let r = holds-found held ring n (elim (or_cases (is_numbered ring n y) (holds held ring n) h)
+          [ inl t ↦ absurd (let q : ⊥ = cc in q) | inr t ↦ t ]) in
           (r.0, cond-false (is_numbered ring n y) (Some y) (found held ring n) e ∙ r.1))
     ]
 
@@ -53,13 +58,15 @@ abbrev Both : {A : Type 0} → RingId → List (Message A) → List (Message A) 
 Both ring a b n = found a ring n ≡ found b ring n
 
 -- where both hold it and have the same text, they find the same
-found_same : {A : Type 0} → (ring : RingId) (a b : List (Message A)) → SameText ring a b → (n : ℕ) → holds a ring n ≡ true → holds b ring n ≡ true → found a ring n ≡ found b ring n
+found_same : {A : Type 0} → (ring : RingId) (a b : List (Message A)) → SameText ring a b → (n : ℕ)
+    → holds a ring n ≡ true → holds b ring n ≡ true → found a ring n ≡ found b ring n
 found_same {A} ring a b same n h k =
     let x = holds-found a ring n h in
     let y = holds-found b ring n k in
     x.1 ∙ ap (λ (z : Message A). Some z) (same n x.0 y.0 x.1 y.1) ∙ sym y.1
 
-each_found : {A : Type 0} → (ring : RingId) (a b : List (Message A)) → SameText ring a b → (ns : List ℕ) → list_all (holds a ring) ns ≡ true → list_all (holds b ring) ns ≡ true → AllByRecursion (Both ring a b) ns
+each_found : {A : Type 0} → (ring : RingId) (a b : List (Message A)) → SameText ring a b → (ns : List ℕ)
+    → list_all (holds a ring) ns ≡ true → list_all (holds b ring) ns ≡ true → AllByRecursion (Both ring a b) ns
 each_found ring a b same [] h k = tt
 each_found ring a b same (n ∷ ns) h k =
     let p = and_parts (holds a ring n) (list_all (holds a ring) ns) h in
@@ -69,33 +76,41 @@ each_found ring a b same (n ∷ ns) h k =
 -- what a filter leaves has it too
 each-filter : {X : Type 0} (P : X → Type 0) (t : X → Bool) (xs : List X) → AllByRecursion P xs → AllByRecursion P (filter t xs)
 each-filter P t [] h = tt
-each-filter P t (x ∷ xs) h = cond_both (t x) (x ∷ filter t xs) (filter t xs) (λ (ys : List _). AllByRecursion P ys) (λ e. (h.0, each-filter P t xs h.1)) (λ e. each-filter P t xs h.1)
+each-filter P t (x ∷ xs) h = cond_both (t x) (x ∷ filter t xs) (filter t xs) (λ (ys : List _). AllByRecursion P ys)
+    (λ e. (h.0, each-filter P t xs h.1)) (λ e. each-filter P t xs h.1)
 
 -- so the same senders come from the old ring, and the same messages stand there
-mates_same : {A : Type 0} → (p : Plan) (a b : List (Message A)) (ns : List ℕ) → AllByRecursion (Both p.old a b) ns → filter (is_from_mate p a) ns ≡ filter (is_from_mate p b) ns
+mates_same : {A : Type 0} → (p : Plan) (a b : List (Message A)) (ns : List ℕ) → AllByRecursion (Both p.old a b) ns
+    → filter (is_from_mate p a) ns ≡ filter (is_from_mate p b) ns
 mates_same p a b [] h = refl
 mates_same p a b (n ∷ ns) h = rw (h.0, mates_same p a b ns h.1) refl
 
-messages_same : {A : Type 0} → (ring : RingId) (a b : List (Message A)) (ns : List ℕ) → AllByRecursion (Both ring a b) ns → filter_map (found a ring) ns ≡ filter_map (found b ring) ns
+messages_same : {A : Type 0} → (ring : RingId) (a b : List (Message A)) (ns : List ℕ)
+    → AllByRecursion (Both ring a b) ns → filter_map (found a ring) ns ≡ filter_map (found b ring) ns
 messages_same ring a b [] h = refl
 messages_same ring a b (n ∷ ns) h = rw (h.0, messages_same ring a b ns h.1) refl
 
-both_known : {A : Type 0} → (p : Plan) (a b : List (Message A)) → SameText p.old a b → is_complete p a ≡ true → is_complete p b ≡ true → AllByRecursion (Both p.old a b) (known_above_safe p)
+both_known : {A : Type 0} → (p : Plan) (a b : List (Message A)) → SameText p.old a b → is_complete p a ≡ true
+    → is_complete p b ≡ true → AllByRecursion (Both p.old a b) (known_above_safe p)
 both_known p a b same h k =
     each_found p.old a b same (known_above_safe p)
     (and_parts (leb (safe p) (front_of a p.old)) (list_all (holds a p.old) (known_above_safe p)) h).1
     (and_parts (leb (safe p) (front_of b p.old)) (list_all (holds b p.old) (known_above_safe p)) k).1
 
-past_gap_same : {A : Type 0} → (p : Plan) (a b : List (Message A)) → SameText p.old a b → is_complete p a ≡ true → is_complete p b ≡ true → past_gap_part p a ≡ past_gap_part p b
+past_gap_same : {A : Type 0} → (p : Plan) (a b : List (Message A)) → SameText p.old a b → is_complete p a ≡ true
+    → is_complete p b ≡ true → past_gap_part p a ≡ past_gap_part p b
 past_gap_same p a b same h k = mates_same p a b _ (each-filter (Both p.old a b) (nat_lt (gap p)) (known_above_safe p) (both_known p a b same h k))
 
-pub same_parts : {A : Type 0} → (p : Plan) (a b : List (Message A)) → SameText p.old a b → is_complete p a ≡ true → is_complete p b ≡ true → finish p a ≡ finish p b
+pub same_parts : {A : Type 0} → (p : Plan) (a b : List (Message A)) → SameText p.old a b → is_complete p a ≡ true
+    → is_complete p b ≡ true → finish p a ≡ finish p b
 same_parts p a b same h k = rw (h, k, past_gap_same p a b same h k) refl
 
-pub same_rests : {A : Type 0} → (p : Plan) (a b : List (Message A)) → SameText p.old a b → is_complete p a ≡ true → is_complete p b ≡ true → rests p a ≡ rests p b
+pub same_rests : {A : Type 0} → (p : Plan) (a b : List (Message A)) → SameText p.old a b → is_complete p a ≡ true
+    → is_complete p b ≡ true → rests p a ≡ rests p b
 same_rests {A} p a b same h k =
     let ks = both_known p a b same h k in
     let later = each-filter (Both p.old a b) (is_from_mate p a) _ (each-filter (Both p.old a b) (nat_lt (gap p)) (known_above_safe p) ks) in
-    let all = each-append (Both p.old a b) (transitional_part p) (past_gap_part p a) (each-filter (Both p.old a b) (λ n. nat_lt n (gap p)) (known_above_safe p) ks) later in
+    let all = each-append (Both p.old a b) (transitional_part p) (past_gap_part p a)
+    (each-filter (Both p.old a b) (λ n. nat_lt n (gap p)) (known_above_safe p) ks) later in
     ap (λ (xs : List (Message A)). filter (λ (x : Message A). is_user x.payload) xs)
     (messages_same p.old a b _ all ∙ ap (λ (ns : List ℕ). filter_map (found b p.old) (transitional_part p ++ ns)) (past_gap_same p a b same h k))

@@ -1,4 +1,5 @@
--- When recovery is over, Recovery, rule 7 of docs/PROTOCOL.md: every member's End is in the front, and either the safe mark covers the last End or the front holds what a member sent after installing.
+-- When recovery is over, Recovery, rule 7 of docs/PROTOCOL.md: every member's End is in the front, and either the safe
+-- mark covers the last End or the front holds what a member sent after installing.
 use Rattle.std.specs.Prelude.{ℕ, Bool, ◌&&◌, ◌||◌, ◌==◌, nat_le, List, map, filter, filter_map}
 use Rattle.std.specs.List.{list_any, list_all}
 use Rattle.ring_base.specs.Numbers.{numbers_from, greatest}

@@ -1,5 +1,7 @@
--- What the members that come from one old ring make of the full commit token: who they are, and what they hold of that ring. Recovery, rules 1 and 2 of docs/PROTOCOL.md, where T is `mates`, S `safe`, low `low`, U `is_known` and g `gap`.
-use Rattle.std.specs.Prelude.{ℕ, ◌+◌, ◌-◌, min, Bool, ◌&&◌, ◌||◌, nat_lt, nat_le, if◌then◌else◌, List, [], ◌∷◌, map, filter, Option, Some, None, slice_get, length}
+-- What the members that come from one old ring make of the full commit token: who they are, and what they hold of that
+-- ring. Recovery, rules 1 and 2 of docs/PROTOCOL.md, where T is `mates`, S `safe`, low `low`, U `is_known` and g `gap`.
+use Rattle.std.specs.Prelude.{ℕ, ◌+◌, ◌-◌, min, Bool, ◌&&◌, ◌||◌, nat_lt, nat_le, if◌then◌else◌, List, [], ◌∷◌, map}
+use Rattle.std.specs.Prelude.{filter, Option, Some, None, slice_get, length}
 use Rattle.std.specs.List.{list_any, prefix_len}
 use Rattle.ring_base.specs.Rings.{same_ring}
 use Rattle.ring_base.specs.Numbers.{window_size, numbers_from}
@@ -32,7 +34,8 @@ plan_if_sound k None = None
 plan_if_sound k (Some own) = if is_sound own.old k.entries then Some (plan_of own.old k.members k.entries) else None
 
 abbrev pub plan_from : ℕ → CommitToken → Option Plan
-plan_from me k = if has k.members me && nat_le (size k.members) (length k.entries) then plan_if_sound k (slice_get k.entries (position_of k.members me)) else None
+plan_from me k = if has k.members me && nat_le (size k.members) (length k.entries) then plan_if_sound k
+    (slice_get k.entries (position_of k.members me)) else None
 
 -- What they hold
 

@@ -1,5 +1,7 @@
 -- What a message, a safe mark and a new ring make of what a node keeps, by the life that they make.
-use Rattle.std.proofs.Common.{◌≡◌, ℕ, zero, suc, ◌≤◌, ◌&&◌, nat_le, min, max, Bool, true, false, List, [], ◌∷◌, ◌++◌, length, take, drop, Option, Some, None, ◌⊎◌, inl, inr, refl, ap, sym, ◌∙◌, subst, arith, append_assoc, if◌then◌else◌}
+use Rattle.std.proofs.Common.{◌≡◌, ℕ, zero, suc, ◌≤◌, ◌&&◌, nat_le, min, max, Bool, true, false, List, [], ◌∷◌, ◌++◌}
+use Rattle.std.proofs.Common.{length, take, drop, Option, Some, None, ◌⊎◌, inl, inr, refl, ap, sym, ◌∙◌, subst, arith}
+use Rattle.std.proofs.Common.{append_assoc, if◌then◌else◌}
 use Rattle.std.specs.Prelude.{nat_lt}
 use Rattle.std.proofs.lemmas.Bool.{cond_both, cond-true, and_parts, leb-true, le-leb, ltb-true, ltb-false}
 use Rattle.std.proofs.lemmas.List.{append-nil}
@@ -11,7 +13,8 @@ use Rattle.ring_wire.specs.declared.message.Message.{Message}
 use Rattle.ring_log.specs.Exchanges.{opened}
 use Rattle.ring_log.specs.Logs.{Log, begins, is_log_length, committed_upto}
 use Rattle.ring_log.specs.Stays.{Stay}
-use Rattle.ring_log.specs.Lives.{Whole, whole_from, exchanged, calls_in, own_base, log_by, log_of, last_of, upto, longer, committed_by, committed_of, kept_of, keeps_committed, is_sound}
+use Rattle.ring_log.specs.Lives.{Whole, whole_from, exchanged, calls_in, own_base, log_by, log_of, last_of, upto}
+use Rattle.ring_log.specs.Lives.{longer, committed_by, committed_of, kept_of, keeps_committed, is_sound}
 use Rattle.ring_log.proofs.Calls.{begins-Decides}
 use Rattle.ring_order.proofs.Wholes.{grown, exchanged-front, log_on, log-front, base-front}
 use Rattle.ring_order.proofs.Committed.{upto-front}
@@ -39,7 +42,10 @@ longer-front : {A : Type 0} (old new log : List (OneCall A)) → IsFront old log
 longer-front old new log f g = cond_both (nat_lt (length old) (length new)) new old (λ l. IsFront l log) (λ t. g) (λ e. f)
 
 begins-front : {A : Type 0} (front calls : List (OneCall A)) → begins front calls ≡ true → IsFront front calls
-begins-front front calls t = let e = (begins-Decides front calls).0 t in (drop (length front) calls, ap (λ w. w ++ drop (length front) calls) e ∙ back (length front) calls)
+begins-front front calls t = let e = (begins-Decides front calls).0 t in (
+  drop (length front) calls,
+  ap (λ w. w ++ drop (length front) calls) e ∙ back (length front) calls,
+)
   where
     back : {X : Type 0} (n : ℕ) (xs : List X) → take n xs ++ drop n xs ≡ xs
     back zero xs = refl
@@ -53,7 +59,8 @@ front-step : {A : Type 0} (group : Group) (s : Stay A) (older : List (Stay A)) (
     → IsFront (committed_by (log_of group older) (committed_of group older) safe) (log_by (log_of group older) whole)
 front-step group s older None None e k t f = f
 front-step group s older None (Some v) e k t f =
-    absurd (some-none (grown v (upto-front s.mark s.heard).0) (sym (exchanged-front group s.members (upto s.mark s.heard) s.heard v k (upto-front s.mark s.heard)) ∙ e))
+    absurd (some-none (grown v (upto-front s.mark s.heard).0)
+    (sym (exchanged-front group s.members (upto s.mark s.heard) s.heard v k (upto-front s.mark s.heard)) ∙ e))
 front-step group s older (Some w) None e k t f =
     let own = own_base (log_of group older) in
     front_trans (committed_of group older) (own w.exchange) (log_on own w) (begins-front (committed_of group older) (own w.exchange) t) (base-front own w)
@@ -68,7 +75,8 @@ sound-front group [] t = ([], refl)
 sound-front group (s ∷ older) t =
     let outer = and_parts (is_sound group older && keeps_committed (log_of group older) (committed_of group older) (exchanged group s.members s.heard))
     (is_log_length (length (log_of group (s ∷ older)))) t in
-    let inner = and_parts (is_sound group older) (keeps_committed (log_of group older) (committed_of group older) (exchanged group s.members s.heard)) outer.0 in
+    let inner = and_parts (is_sound group older) (keeps_committed (log_of group older) (committed_of group older)
+    (exchanged group s.members s.heard)) outer.0 in
     front-step group s older (exchanged group s.members s.heard) (exchanged group s.members (upto s.mark s.heard)) refl refl inner.1
     (sound-front group older inner.0)
 
@@ -198,7 +206,9 @@ settled {A} group s older front xs log all is calls last committed =
     reach-grows group m own front safe (subst (λ l. IsFront front l) (sym safe_is) (front_append front (upto s.mark xs))) in
     let len : length log.calls ≡ length (log_of group (s ∷ older)) = ap length calls in
     let n : max log.committed (min (covered s.mark 0 rs) (length log.calls)) ≡ length (committed_of group (s ∷ older)) =
-    elim (covered-is group m own s.mark 0 front xs) as (λ _. max log.committed (min (covered s.mark 0 rs) (length log.calls)) ≡ length (committed_of group (s ∷ older))) [
+    elim (covered-is group m own s.mark 0 front xs) as
+    (λ _. max log.committed (min (covered s.mark 0 rs) (length log.calls)) ≡ length
+    (committed_of group (s ∷ older))) [
       | inl none ↦
           (let same : reach_of group m own safe ≡ reach_of group m own front =
           ap (reach_of group m own) (safe_is ∙ ap (λ l. front ++ l) none.0 ∙ append-nil front) in
@@ -209,12 +219,14 @@ settled {A} group s older front xs log all is calls last committed =
     ] in
     made log.calls (max log.committed (min (covered s.mark 0 rs) (length log.calls))) log.last calls n last
   where
-    made : (cs : List (OneCall A)) (k : ℕ) (r : Option RingId) → cs ≡ log_of group (s ∷ older) → k ≡ length (committed_of group (s ∷ older)) → r ≡ last_of group (s ∷ older)
+    made : (cs : List (OneCall A)) (k : ℕ) (r : Option RingId) → cs ≡ log_of group (s ∷ older)
+        → k ≡ length (committed_of group (s ∷ older)) → r ≡ last_of group (s ∷ older)
         → record { calls = cs; committed = k; last = r } ≡ kept_of group (s ∷ older)
     made cs k r a b c = cc (a, b, c)
 
 -- and what it leaves
-pub left-settled : {A : Type 0} (group : Group) (s : Stay A) (own : List (OneCall A)) (front xs : List (Message A)) → front ++ xs ≡ s.heard → IsCovered s.mark front
+pub left-settled : {A : Type 0} (group : Group) (s : Stay A) (own : List (OneCall A)) (front xs : List (Message A))
+    → front ++ xs ≡ s.heard → IsCovered s.mark front
     → left s.mark (reaches_from group s.members own front xs) ≡ reaches_from group s.members own (upto s.mark s.heard) (behind s.mark s.heard)
 left-settled group s own front xs all is =
     left-is group s.members own s.mark front xs

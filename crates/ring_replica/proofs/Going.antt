@@ -1,5 +1,6 @@
 -- A course goes on: what is kept of a life by a message, by a safe mark, by a new ring and by what is handed over; and a life that is not sound stays so.
-use Rattle.std.proofs.Common.{◌≡◌, ℕ, zero, suc, ◌≤◌, ◌&&◌, max, Bool, true, false, List, [], ◌∷◌, ◌++◌, length, take, Option, Some, None, refl, ap, sym, ◌∙◌, subst, arith, append_assoc}
+use Rattle.std.proofs.Common.{◌≡◌, ℕ, zero, suc, ◌≤◌, ◌&&◌, max, Bool, true, false, List, [], ◌∷◌, ◌++◌, length, take}
+use Rattle.std.proofs.Common.{Option, Some, None, refl, ap, sym, ◌∙◌, subst, arith, append_assoc}
 use Rattle.std.specs.Prelude.{filter_map, slice_get}
 use Rattle.std.specs.List.{cons_option}
 use Rattle.std.proofs.lemmas.Bool.{and_parts, and_from, leb-true, le-leb}
@@ -16,20 +17,23 @@ use Rattle.ring_core.specs.declared.out.Out.{Out}
 use Rattle.ring_core.specs.declared.out.Out.TheVariants.{Send, Agreed, Safe, Trans, Rest, Regular}
 use Rattle.ring_log.specs.Logs.{Log, empty, is_log_length, committed_upto}
 use Rattle.ring_log.specs.Stays.{Stay, born, stay_in, hears, marks, hands}
-use Rattle.ring_log.specs.Lives.{Whole, exchanged, own_base, log_by, log_of, last_by, last_of, upto, committed_by, committed_of, kept_of, keeps_committed, is_sound}
+use Rattle.ring_log.specs.Lives.{Whole, exchanged, own_base, log_by, log_of, last_by, last_of, upto, committed_by}
+use Rattle.ring_log.specs.Lives.{committed_of, kept_of, keeps_committed, is_sound}
 use Rattle.ring_order.proofs.Wholes.{grown, exchanged-front, log_on, log-front}
 use Rattle.ring_ticket.specs.declared.pending.Pending.{Pending}
 use Rattle.ring_machine.specs.Lives.{lived, lived_through}
 use Rattle.ring_replica.specs.declared.reach.Reach.{Reach}
 use Rattle.ring_replica.specs.declared.setting.Setting.{Setting}
 use Rattle.ring_replica.specs.declared.stage.Stage.{Stage}
-use Rattle.ring_replica.specs.Courses.{stage_in, reach_of, reach_at, reaches_from, behind, left, covered, took, Moment, dues_heard, dues_at, dues_by, is_risen, rises_at, rises, IsKept}
+use Rattle.ring_replica.specs.Courses.{stage_in, reach_of, reach_at, reaches_from, behind, left, covered, took, Moment}
+use Rattle.ring_replica.specs.Courses.{dues_heard, dues_at, dues_by, is_risen, rises_at, rises, IsKept}
 use Rattle.ring_machine.specs.Stepping.{send_of}
 use Rattle.ring_replica.proofs.Courses.{exchanged-nothing, covers-upto, upto-behind, reaches-push, committed-reach, settled, left-settled}
 use Rattle.ring_replica.proofs.Messages.{with_message, Hears, hears-is}
 
 -- the same, by equal parts
-pub kept-as : {A : Type 0} (group : Group) (life life' : List (Stay A)) (log log' : Log A) (ring : RingId) (stage stage' : Stage A) (mark : ℕ) (reaches reaches' : List Reach)
+pub kept-as : {A : Type 0} (group : Group) (life life' : List (Stay A)) (log log' : Log A) (ring : RingId)
+    (stage stage' : Stage A) (mark : ℕ) (reaches reaches' : List Reach)
     → IsKept group life log ring stage mark reaches → life' ≡ life → log' ≡ log → stage' ≡ stage → reaches' ≡ reaches
     → IsKept group life' log' ring stage' mark reaches'
 kept-as group life life' log log' ring stage stage' mark reaches reaches' k a b c d =
@@ -45,12 +49,14 @@ module _ {A : Type 0} (group : Group) (life : List (Stay A)) (log : Log A) (ring
   the_moment = record { group = group; me = setting.me; running = None; pending = pending; committed = setting.committed }
 
   heard : (k : IsKept group life log ring stage mark reaches) → setting.ring ≡ ring
-      → Hears group k.stay k.older x log (took setting pending log stage x) (dues_heard the_moment setting.runs (k.stay ∷ k.older) x (with_message k.stay x ∷ k.older))
+      → Hears group k.stay k.older x log (took setting pending log stage x)
+      (dues_heard the_moment setting.runs (k.stay ∷ k.older) x (with_message k.stay x ∷ k.older))
   heard k same =
       hears-is group k.stay k.older x setting pending log stage k.stands (ap (is_sound group) (sym k.parts) ∙ k.sound) (k.logged ∙ ap (kept_of group) k.parts)
       (same ∙ k.in_ring)
 
-  pub sound-hears : IsKept group life log ring stage mark reaches → setting.ring ≡ ring → (took setting pending log stage x).fits ≡ is_sound group (hears x life)
+  pub sound-hears : IsKept group life log ring stage mark reaches → setting.ring ≡ ring
+      → (took setting pending log stage x).fits ≡ is_sound group (hears x life)
   sound-hears k same = (heard k same).sound ∙ ap (λ l. is_sound group (hears x l)) (sym k.parts)
 
   pub due-hears : IsKept group life log ring stage mark reaches → setting.ring ≡ ring → (took setting pending log stage x).fits ≡ true
@@ -155,7 +161,11 @@ kept-enters {A} group older log ring members t is =
     let own = log_of group older in
     let kept = committed_of group older in
     let logged : kept_of group older ≡ kept_of group (stay_in ring members ∷ older) =
-    ap (λ (o : Option (Whole A)). record { calls = log_by own o; committed = length (committed_by own kept o); last = last_by ring (last_of group older) o }) (sym none) in
+    ap (λ (o : Option (Whole A)). record {
+      calls = log_by own o;
+      committed = length (committed_by own kept o);
+      last = last_by ring (last_of group older) o;
+    }) (sym none) in
     record {
       stay = stay_in ring members;
       older = older;
@@ -175,7 +185,8 @@ kept-born group me = kept-enters group [] empty (record { seq = 0; rep = me }) (
 
 -- ---- what is handed over
 
-pub kept-hands : {A : Type 0} (group : Group) (life : List (Stay A)) (log : Log A) (ring : RingId) (stage : Stage A) (mark : ℕ) (reaches : List Reach) (due : List (Payload A))
+pub kept-hands : {A : Type 0} (group : Group) (life : List (Stay A)) (log : Log A) (ring : RingId) (stage : Stage A)
+    (mark : ℕ) (reaches : List Reach) (due : List (Payload A))
     → IsKept group life log ring stage mark reaches → IsKept group (hands due life) log ring stage mark reaches
 kept-hands {A} group life log ring stage mark reaches due k =
     let s' : Stay A = record k.stay { sent = k.stay.sent ++ due } in
@@ -195,13 +206,15 @@ pub hands-log : {A : Type 0} (group : Group) (due : List (Payload A)) (life : Li
 hands-log group due [] = refl
 hands-log group due (s ∷ older) = refl
 
-pub hands-committed : {A : Type 0} (group : Group) (due : List (Payload A)) (life : List (Stay A)) → committed_of group (hands due life) ≡ committed_of group life
+pub hands-committed : {A : Type 0} (group : Group) (due : List (Payload A)) (life : List (Stay A))
+    → committed_of group (hands due life) ≡ committed_of group life
 hands-committed group due [] = refl
 hands-committed group due (s ∷ older) = refl
 
 -- ---- a life that is not sound stays so
 
-unsound-step : {A : Type 0} (group : Group) (s : Stay A) (older : List (Stay A)) (x : Message A) (o p : Option (Whole A)) → exchanged group s.members s.heard ≡ o
+unsound-step : {A : Type 0} (group : Group) (s : Stay A) (older : List (Stay A)) (x : Message A)
+    (o p : Option (Whole A)) → exchanged group s.members s.heard ≡ o
     → exchanged group s.members (s.heard ++ x ∷ []) ≡ p → is_sound group older ≡ true
     → keeps_committed (log_of group older) (committed_of group older) p ≡ true → is_log_length (length (log_by (log_of group older) p)) ≡ true
     → (keeps_committed (log_of group older) (committed_of group older) o ≡ true) × (is_log_length (length (log_by (log_of group older) o)) ≡ true)
@@ -214,7 +227,11 @@ unsound-step {A} group s older x (Some v) (Some w) e k t a b =
     let same : grown v (x ∷ []) ≡ w = cc grows in
     let front = log-front own group s.members s.heard (s.heard ++ x ∷ []) v w e k (x ∷ [], refl) in (
       ap (λ (u : Whole A). keeps_committed (log_of group older) (committed_of group older) (Some u)) same ∙ a,
-      le-leb (length (log_on own v)) max_number (omega (arith, front_length (log_on own v) (log_on own w) front, leb-true (length (log_on own w)) max_number b)),
+      le-leb (length (log_on own v)) max_number (omega (
+        arith,
+        front_length (log_on own v) (log_on own w) front,
+        leb-true (length (log_on own w)) max_number b,
+      )),
     )
 
 sound-before : {A : Type 0} (group : Group) (x : Message A) (life : List (Stay A)) → is_sound group (hears x life) ≡ true → is_sound group life ≡ true
@@ -223,7 +240,8 @@ sound-before group x (s ∷ older) t =
     let own = log_of group older in
     let kept = committed_of group older in
     let s' = with_message s x in
-    let outer = and_parts (is_sound group older && keeps_committed own kept (exchanged group s'.members s'.heard)) (is_log_length (length (log_of group (s' ∷ older)))) t in
+    let outer = and_parts (is_sound group older && keeps_committed own kept (exchanged group s'.members s'.heard))
+    (is_log_length (length (log_of group (s' ∷ older)))) t in
     let inner = and_parts (is_sound group older) (keeps_committed own kept (exchanged group s'.members s'.heard)) outer.0 in
     let both = unsound-step group s older x (exchanged group s.members s.heard) (exchanged group s'.members s'.heard) refl refl inner.0 inner.1 outer.1 in
     and_from (is_sound group older && keeps_committed own kept (exchanged group s.members s.heard)) (is_log_length (length (log_of group (s ∷ older))))
@@ -313,7 +331,14 @@ walked-more {A} m first ys o true fine' life life' sends-before sends sends' due
     }
 
 pub moment-same : {A : Type 0} (a b : Group) (p q : ℕ) (running : Option RingId) (pending : List (Pending A)) (committed : ℕ) → a ≡ b → p ≡ q
-    → record { group = a; me = p; running = running; pending = pending; committed = committed } ≡ (let m : Moment A = record { group = b; me = q; running = running; pending = pending; committed = committed } in m)
+    → record { group = a; me = p; running = running; pending = pending; committed = committed }
+    ≡ (let m : Moment A = record {
+      group = b;
+      me = q;
+      running = running;
+      pending = pending;
+      committed = committed;
+    } in m)
 moment-same {A} a b p q running pending committed e f =
     let by_group : Group → Moment A = λ x. record { group = x; me = p; running = running; pending = pending; committed = committed } in
     let by_me : ℕ → Moment A = λ x. record { group = b; me = x; running = running; pending = pending; committed = committed } in

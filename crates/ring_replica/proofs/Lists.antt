@@ -1,5 +1,6 @@
 -- Lists as loops go over them, and the committed places of a log that changes.
-use Rattle.std.proofs.Common.{◌≡◌, ℕ, zero, suc, ◌≤◌, min, max, Bool, true, false, not, List, [], ◌∷◌, ◌++◌, length, take, map, Option, Some, refl, ap, sym, ◌∙◌, subst, arith, append_assoc, if◌then◌else◌}
+use Rattle.std.proofs.Common.{◌≡◌, ℕ, zero, suc, ◌≤◌, min, max, Bool, true, false, not, List, [], ◌∷◌, ◌++◌, length}
+use Rattle.std.proofs.Common.{take, map, Option, Some, refl, ap, sym, ◌∙◌, subst, arith, append_assoc, if◌then◌else◌}
 use Rattle.std.specs.List.{filter}
 use Rattle.std.specs.Prelude.{Result, Ok, Err, OnOk, OnErr, IfErr}
 use Rattle.std.proofs.lemmas.Bool.{and_parts}
@@ -29,7 +30,8 @@ pub on-err : {X E : Type 0} (r : Result X E) (P : Type 0) → P → OnErr r P
 on-err (Ok x) P h = tt
 on-err (Err e) P h = h
 
-pub if-err : {X E : Type 0} (r : Result X E) (P : Type 0) (o : Option E) (e : E) → (P → o ≡ Some e) → IfErr r (λ _. P) → IfErr r (λ f. f ≡ e) → IfErr r (λ f. o ≡ Some f)
+pub if-err : {X E : Type 0} (r : Result X E) (P : Type 0) (o : Option E) (e : E) → (P → o ≡ Some e) → IfErr r (λ _. P)
+    → IfErr r (λ f. f ≡ e) → IfErr r (λ f. o ≡ Some f)
 if-err (Ok x) P o e f h k = h
 if-err (Err f') P o e f h k = f h ∙ ap (λ x. Some x) (sym k)
 

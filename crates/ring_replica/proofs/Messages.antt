@@ -1,5 +1,6 @@
 -- What a message makes of the log, its exchange and what is due is what the definitions make of the longer life.
-use Rattle.std.proofs.Common.{◌≡◌, ℕ, ◌+◌, ◌==◌, ◌&&◌, Bool, true, false, not, List, [], ◌∷◌, ◌++◌, length, take, drop, Option, Some, None, refl, ap, sym, ◌∙◌, subst, append_assoc, length-append, if◌then◌else◌}
+use Rattle.std.proofs.Common.{◌≡◌, ℕ, ◌+◌, ◌==◌, ◌&&◌, Bool, true, false, not, List, [], ◌∷◌, ◌++◌, length, take, drop}
+use Rattle.std.proofs.Common.{Option, Some, None, refl, ap, sym, ◌∙◌, subst, append_assoc, length-append, if◌then◌else◌}
 use Rattle.std.proofs.lemmas.Bool.{cond_both, cond-true, cond-false, and_parts, eqb-true, eq-eqb}
 use Rattle.std.proofs.lemmas.List.{append-nil}
 use Rattle.ring_base.specs.Fronts.{IsFront}
@@ -14,10 +15,12 @@ use Rattle.ring_payload.specs.declared.content.Payload.TheVariants.{Call, Wrappe
 use Rattle.ring_wire.specs.declared.message.Message.{Message}
 use Rattle.ring_log.specs.declared.base.Base.{Base}
 use Rattle.ring_log.specs.declared.wanted.Wanted.{Wanted}
-use Rattle.ring_log.specs.Exchanges.{Exchange, opened, wanted_by, wanted, hear_head, is_wanted, hear_part, heard, is_brought, is_whole, base_from, handed_out, base_at, relieved, based}
+use Rattle.ring_log.specs.Exchanges.{Exchange, opened, wanted_by, wanted, hear_head, is_wanted, hear_part, heard}
+use Rattle.ring_log.specs.Exchanges.{is_brought, is_whole, base_from, handed_out, base_at, relieved, based}
 use Rattle.ring_log.specs.Logs.{Log, begins, is_log_length, is_adoptable, committed_calls}
 use Rattle.ring_log.specs.Stays.{Stay}
-use Rattle.ring_log.specs.Lives.{Whole, heard_by, whole_from, after_all, exchanged, calls_in, own_base, log_by, log_of, last_by, last_of, upto, committed_by, committed_of, kept_of, keeps_committed, is_sound}
+use Rattle.ring_log.specs.Lives.{Whole, heard_by, whole_from, after_all, exchanged, calls_in, own_base, log_by, log_of}
+use Rattle.ring_log.specs.Lives.{last_by, last_of, upto, committed_by, committed_of, kept_of, keeps_committed, is_sound}
 use Rattle.ring_log.proofs.Hearing.{stated, has-nobody, relieved-open, opened-open, push-none, push-some, none-open, some-whole, handed-based}
 use Rattle.ring_order.proofs.Wholes.{calls_in-append}
 use Rattle.ring_order.proofs.Committed.{upto-front}
@@ -26,7 +29,8 @@ use Rattle.ring_replica.specs.declared.setting.Setting.{Setting}
 use Rattle.ring_replica.specs.declared.stage.Stage.{Stage}
 use Rattle.ring_replica.specs.declared.stage.Stage.TheVariants.{Apart, Exchanging, Adopted}
 use Rattle.ring_machine.specs.Dues.{is_stated, parts_due, due_when_stated}
-use Rattle.ring_replica.specs.Courses.{staged, stage_in, reached, reach_of, reach_at, calls_left, parts_asked, if_runs, Took, took_base, took, Moment, dues_heard}
+use Rattle.ring_replica.specs.Courses.{staged, stage_in, reached, reach_of, reach_at, calls_left, parts_asked, if_runs}
+use Rattle.ring_replica.specs.Courses.{Took, took_base, took, Moment, dues_heard}
 use Rattle.ring_replica.proofs.Courses.{none-front, sound-front}
 
 -- ---- an exchange that isn't whole
@@ -92,7 +96,8 @@ parts-are me own e x =
 abbrev pub with_message : {A : Type 0} → Stay A → Message A → Stay A
 with_message s x = record s { heard = s.heard ++ x ∷ [] }
 
-pub record Hears {A : Type 0} (group : Group) (s : Stay A) (older : List (Stay A)) (x : Message A) (log : Log A) (t : Took A) (handed : List (Payload A)) : Type 0 where
+pub record Hears {A : Type 0} (group : Group) (s : Stay A) (older : List (Stay A)) (x : Message A) (log : Log A)
+    (t : Took A) (handed : List (Payload A)) : Type 0 where
   pub sound : t.fits ≡ is_sound group (with_message s x ∷ older)
   pub stage : t.fits ≡ true → t.stage ≡ stage_in group s.members (s.heard ++ x ∷ [])
   pub calls : t.fits ≡ true → t.log.calls ≡ log_of group (with_message s x ∷ older)
@@ -139,7 +144,8 @@ hears-none {A} group s older x log stage parts due k none at low same =
     }
 
 -- a ring that is adopted already
-hears-adopted : {A : Type 0} (group : Group) (s : Stay A) (older : List (Stay A)) (x : Message A) (setting : Setting) (pending : List (Pending A)) (log : Log A) (w : Whole A) (due : List (Payload A))
+hears-adopted : {A : Type 0} (group : Group) (s : Stay A) (older : List (Stay A)) (x : Message A) (setting : Setting)
+    (pending : List (Pending A)) (log : Log A) (w : Whole A) (due : List (Payload A))
     → Before group s older log (Some w) → exchanged group s.members (s.heard ++ x ∷ []) ≡ Some (record w { rest = w.rest ++ x ∷ [] })
     → Adopted ≡ stage_in group s.members (s.heard ++ x ∷ []) → [] ≡ due
     → Hears group s older x log (took setting pending log Adopted x) due
@@ -165,7 +171,8 @@ hears-adopted {A} group s older x setting pending log w due k some at none =
     }
 
 -- a ring that is adopted by it
-hears-base : {A : Type 0} (group : Group) (s : Stay A) (older : List (Stay A)) (x : Message A) (setting : Setting) (pending : List (Pending A)) (log : Log A) (e : Exchange A)
+hears-base : {A : Type 0} (group : Group) (s : Stay A) (older : List (Stay A)) (x : Message A) (setting : Setting)
+    (pending : List (Pending A)) (log : Log A) (e : Exchange A)
     (parts due : List (Payload A)) (base : Base A)
     → Before group s older log None → exchanged group s.members (s.heard ++ x ∷ []) ≡ Some (record { exchange = e; end = x.number; rest = [] })
     → Adopted ≡ stage_in group s.members (s.heard ++ x ∷ []) → handed_out e ≡ Some base → setting.ring ≡ s.ring
@@ -194,7 +201,8 @@ hears-base {A} group s older x setting pending log e parts due base k some at ha
 
 -- ---- by where the exchange stands
 
-due-by : {A : Type 0} (runs primary : Bool) (a : List (Payload A)) → primary ≡ true → (if runs then a else []) ≡ (if runs then (if primary then a else []) else [])
+due-by : {A : Type 0} (runs primary : Bool) (a : List (Payload A)) → primary ≡ true → (if runs then a else [])
+    ≡ (if runs then (if primary then a else []) else [])
 due-by runs true a t = refl
 due-by runs false a t = absurd (cc t)
 
@@ -216,7 +224,8 @@ if-never : {X : Type 0} (b c : Bool) (x y : X) → c ≡ true → (if b && not c
 if-never true c x y t = ap (λ k. if not k then x else y) t
 if-never false c x y t = refl
 
-brought-wanted : {A : Type 0} (o : Option Wanted) (places : ℕ) (calls : List (OneCall A)) → is_brought o places ≡ true → (base : Base A) × (base_from o calls ≡ Some base)
+brought-wanted : {A : Type 0} (o : Option Wanted) (places : ℕ) (calls : List (OneCall A)) → is_brought o places ≡ true
+    → (base : Base A) × (base_from o calls ≡ Some base)
 brought-wanted None places calls t = absurd (cc t)
 brought-wanted (Some w) places calls t = (record { from = w.from; calls = calls }, refl)
 
@@ -252,7 +261,8 @@ module _ {A : Type 0} (group : Group) (s : Stay A) (older : List (Stay A)) (x : 
   before w e t is =
       let own = log_of group older in
       let kept = committed_of group older in
-      let outer = and_parts (is_sound group older && keeps_committed own kept (exchanged group s.members s.heard)) (is_log_length (length (log_of group (s ∷ older)))) t in
+      let outer = and_parts (is_sound group older && keeps_committed own kept (exchanged group s.members s.heard))
+      (is_log_length (length (log_of group (s ∷ older)))) t in
       let inner = and_parts (is_sound group older) (keeps_committed own kept (exchanged group s.members s.heard)) outer.0 in
       record {
         exch = e;
@@ -313,7 +323,9 @@ module _ {A : Type 0} (group : Group) (s : Stay A) (older : List (Stay A)) (x : 
       let here : exchanged group s.members s.heard ≡ None = exchanged-primary s.heard p ∙ none in
       let own : log.calls ≡ log_of group older = (before None here t is).calls in
       let parts_is : parts ++ [] ≡ due =
-      append-nil parts ∙ ap (if_runs setting.runs) (ap (λ l. parts_asked setting.me l (wanted e) (wanted (relieved new))) own ∙ parts-are setting.me (log_of group older) e x
+      append-nil parts ∙ ap (if_runs setting.runs)
+      (ap (λ l. parts_asked setting.me l (wanted e) (wanted (relieved new))) own ∙ parts-are setting.me
+      (log_of group older) e x
       ∙ sym (append-nil (due_when_stated setting.me (log_of group older) e new))
       ∙ ap (λ b. due_when_stated setting.me (log_of group older) e new ++ (if b && not (is_whole e) then calls_left pending
       (drop setting.committed (log_of group (with_message s x ∷ older))) else [])) (sym c))
@@ -326,7 +338,8 @@ module _ {A : Type 0} (group : Group) (s : Stay A) (older : List (Stay A)) (x : 
       let new = heard_by e x in
       let open_yet : is_whole e ≡ false = none-open (opened s.members) s.heard (opened-open A s.members) none in
       let whole : Whole A = record { exchange = new; end = x.number; rest = [] } in
-      let then_some : whole_from (opened s.members) text ≡ Some whole = push-none (opened s.members) s.heard x none ∙ cond-true (is_whole new) (Some whole) None c in
+      let then_some : whole_from (opened s.members) text ≡ Some whole = push-none (opened s.members) s.heard x none
+      ∙ cond-true (is_whole new) (Some whole) None c in
       let parts = if_runs setting.runs (parts_asked setting.me log.calls (wanted e) (wanted (relieved new))) in
       let base = whole-base new c in
       let base_is : base_at e x.sender x.payload ≡ Some base.0 = cond-false (is_whole e) None (handed_out new) open_yet ∙ base.1 in

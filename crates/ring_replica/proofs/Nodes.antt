@@ -1,5 +1,6 @@
 -- What is due by a node, and a step of it, by its replica.
-use Rattle.std.proofs.Common.{◌≡◌, ℕ, ◌+◌, Bool, true, false, not, ◌&&◌, List, [], ◌∷◌, ◌++◌, length, drop, map, Option, Some, None, is_none, refl, ap, sym, ◌∙◌, if◌then◌else◌}
+use Rattle.std.proofs.Common.{◌≡◌, ℕ, ◌+◌, Bool, true, false, not, ◌&&◌, List, [], ◌∷◌, ◌++◌, length, drop, map, Option}
+use Rattle.std.proofs.Common.{Some, None, is_none, refl, ap, sym, ◌∙◌, if◌then◌else◌}
 use Rattle.std.specs.List.{filter}
 use Rattle.std.specs.Prelude.{nat_le, filter_map}
 use Rattle.std.proofs.lemmas.Bool.{cond-false}
@@ -28,7 +29,8 @@ use Rattle.ring_machine.specs.Nodes.{Node, node_committed, node_pending, is_stop
 use Rattle.ring_machine.specs.Dues.{calls_due, due_when_stated, due_when_whole, due_in_stay, due_at_agreed, due_at, due_by}
 use Rattle.ring_machine.specs.Stepping.{handed_over, walked, settled, after_core, submitted, submit_fault, send_of}
 use Rattle.ring_replica.specs.Courses.{Moment, is_running, calls_left, dues_when_whole, dues_in_stay, dues_heard, dues_at, dues_by, handed_if}
-use Rattle.ring_replica.specs.Replicas.{replica_of, running_of, moment_of, is_running_some, submit_refusal, replica_given, replica_settled, replica_step, node_by, node_given}
+use Rattle.ring_replica.specs.Replicas.{replica_of, running_of, moment_of, is_running_some, submit_refusal}
+use Rattle.ring_replica.specs.Replicas.{replica_given, replica_settled, replica_step, node_by, node_given}
 
 -- the same ring runs
 runs-is : {A : Type 0} (c : Core A) (ring : RingId) → runs c ring ≡ is_running (running_of c) ring
@@ -48,8 +50,10 @@ calls-step {A} places t i true ts ps e = by (not (stands_in places t.call)) e
   where
     by : (b : Bool)
         → map (λ (u : Asked A). Call u.call) (filter (λ (u : Asked A). not (stands_in places u.call)) ts) ≡ calls_left ps places
-        → map (λ (u : Asked A). Call u.call) (if b then t ∷ filter (λ (u : Asked A). not (stands_in places u.call)) ts else filter (λ (u : Asked A). not (stands_in places u.call)) ts)
-        ≡ map (λ (p : Pending A). Call p.call) (if b then record { ticket = i; call = t.call } ∷ filter (λ (p : Pending A). not (stands_in places p.call)) ps else filter
+        → map (λ (u : Asked A). Call u.call) (if b then t ∷ filter (λ (u : Asked A). not (stands_in places u.call))
+        ts else filter (λ (u : Asked A). not (stands_in places u.call)) ts)
+        ≡ map (λ (p : Pending A). Call p.call) (if b then record { ticket = i; call = t.call } ∷ filter
+        (λ (p : Pending A). not (stands_in places p.call)) ps else filter
         (λ (p : Pending A). not (stands_in places p.call)) ps)
     by true e = ap (λ w. Call t.call ∷ w) e
     by false e = e
@@ -59,7 +63,8 @@ calls-from : {A : Type 0} (committed places : List (OneCall A)) (i : ℕ) (ts : 
     ≡ calls_left (pending_from committed i ts) places
 calls-from committed places i [] = refl
 calls-from committed places i (t ∷ ts) =
-    calls-step places t i (is_none (place_of committed t)) (unanswered committed ts) (pending_from committed (i + 1) ts) (calls-from committed places (i + 1) ts)
+    calls-step places t i (is_none (place_of committed t)) (unanswered committed ts)
+    (pending_from committed (i + 1) ts) (calls-from committed places (i + 1) ts)
 
 module _ {A : Type 0} (n : Node A) (core : Core A) where
   abbrev m : Moment A

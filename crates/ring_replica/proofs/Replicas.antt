@@ -1,5 +1,6 @@
 -- What the code keeps of a replica, as it opens, gives a ticket, takes a step and ends it.
-use Rattle.std.proofs.Common.{◌≡◌, ℕ, zero, suc, ◌+◌, ◌≤◌, ◌||◌, nat_le, Bool, true, false, List, [], ◌∷◌, ◌++◌, length, take, drop, Option, Some, None, refl, ap, sym, ◌∙◌, subst, arith, if◌then◌else◌}
+use Rattle.std.proofs.Common.{◌≡◌, ℕ, zero, suc, ◌+◌, ◌≤◌, ◌||◌, nat_le, Bool, true, false, List, [], ◌∷◌, ◌++◌, length}
+use Rattle.std.proofs.Common.{take, drop, Option, Some, None, refl, ap, sym, ◌∙◌, subst, arith, if◌then◌else◌}
 use Rattle.std.specs.Prelude.{fold}
 use Rattle.std.proofs.Math.Seq.{drop-append_seam}
 use Rattle.std.proofs.lemmas.List.Sums.{fold-append}
@@ -27,7 +28,9 @@ use Rattle.ring_ticket.proofs.Effects.{length-deduplicated, deduplicated_after-f
 use Rattle.ring_ticket.proofs.Pendings.{are-answers, are-kept, are-given, are-full, are-replies}
 use Rattle.ring_replica.specs.Courses.{Course, course_opening, Moment, handed_if, dues_by}
 use Rattle.ring_machine.specs.Lives.{lived_through}
-use Rattle.ring_replica.specs.Replicas.{Replica, Tale, tale_opening, tale_done, tale_given, IsDone, replica_stopped, replica_reply, submit_refusal, moment_of, replica_moved, replica_settled, replica_step, told_replica, IsReplica, IsCounted}
+use Rattle.ring_replica.specs.Replicas.{Replica, Tale, tale_opening, tale_done, tale_given, IsDone, replica_stopped}
+use Rattle.ring_replica.specs.Replicas.{replica_reply, submit_refusal, moment_of, replica_moved, replica_settled}
+use Rattle.ring_replica.specs.Replicas.{replica_step, told_replica, IsReplica, IsCounted}
 use Rattle.ring_replica.proofs.Courses.{sound-front}
 use Rattle.ring_replica.proofs.Going.{kept-born, hands-log, hands-committed}
 
@@ -167,7 +170,8 @@ module _ {O A : Type 0} (object : Sequential O) (course : Course A) (table : Tab
   -- ---- a step
 
   -- it stopped, with another course of the same node
-  pub halted-replica : (course' : Course A) (table' : Table O) → course'.group ≡ course.group → IsFront (committed_calls course.log) (committed_calls course'.log)
+  pub halted-replica : (course' : Course A) (table' : Table O) → course'.group ≡ course.group
+      → IsFront (committed_calls course.log) (committed_calls course'.log)
       → IsReplica object course' table' tickets places first true tale
   halted-replica course' table' same front = record {
     logged = k.logged ∙ ap (λ gr. length (log_of gr tale.life)) (sym same);
@@ -184,9 +188,15 @@ module _ {O A : Type 0} (object : Sequential O) (course : Course A) (table : Tab
 
   pub first-within : (course' : Course A) → IsFront (committed_calls course.log) (committed_calls course'.log) → first ≤ length (committed_calls course'.log)
   first-within course' front =
-      omega (arith, k.committed, front_length kept (committed_calls course'.log) (front_trans kept (committed_calls course.log) (committed_calls course'.log) k.front front))
+      omega (
+        arith,
+        k.committed,
+        front_length kept (committed_calls course'.log)
+            (front_trans kept (committed_calls course.log) (committed_calls course'.log) k.front front),
+      )
 
-  pub more-is : (course' : Course A) → committed_calls course'.log ≡ committed_of course.group course'.life → more_of course' ≡ drop (length kept) (committed_of course.group course'.life)
+  pub more-is : (course' : Course A) → committed_calls course'.log ≡ committed_of course.group course'.life
+      → more_of course' ≡ drop (length kept) (committed_of course.group course'.life)
   more-is course' e = ap (λ n. drop n (committed_calls course'.log)) k.committed ∙ ap (drop (length kept)) e
 
   pub stepped-replica : (course' : Course A) (table' : Table O) (due : List (Payload A)) → course.life ≡ tale.life → stopped ≡ false → course'.fine ≡ true
@@ -247,7 +257,8 @@ module _ {O A : Type 0} (object : Sequential O) (course : Course A) (table : Tab
   pub effects-few : (effects : ℕ) → effects ≡ length (deduplicated kept) → effects ≤ first
   effects-few effects e = (let few = deduplicated_after-few [] kept in omega (arith, e, few, k.committed))
 
-  pub reached-is : (course' : Course A) (due : List (Payload A)) (effects reached : ℕ) → course.life ≡ tale.life → stopped ≡ false → course'.group ≡ course.group
+  pub reached-is : (course' : Course A) (due : List (Payload A)) (effects reached : ℕ) → course.life ≡ tale.life
+      → stopped ≡ false → course'.group ≡ course.group
       → IsFront (committed_calls course.log) (committed_calls course'.log) → committed_calls course'.log ≡ committed_of course'.group course'.life
       → effects ≡ length (deduplicated kept) → reached ≡ effects + done_after object table (more_of course')
       → (course'' : Course A) → course'' ≡ record course' { life = hands due course'.life }
@@ -312,9 +323,11 @@ opened-counted {O} {A} object group me course table tickets tale ec e et ea =
     record { kept = k; order = order; ahead = λ _. order ∙ ap (λ l. length (deduplicated (committed_of course.group l))) (sym same) }
 
 -- with another story and course, of the same committed places
-pub same-counted : {O A : Type 0} (object : Sequential O) (course course' : Course A) (table table' : Table O) (tickets tickets' : Tickets A) (places first effects reached : ℕ) (stopped : Bool) (tale tale' : Tale A)
+pub same-counted : {O A : Type 0} (object : Sequential O) (course course' : Course A) (table table' : Table O)
+    (tickets tickets' : Tickets A) (places first effects reached : ℕ) (stopped : Bool) (tale tale' : Tale A)
     → IsCounted object course table tickets places first effects reached stopped tale → IsReplica object course' table' tickets' places first stopped tale'
-    → committed_of course'.group tale'.life ≡ committed_of course.group tale.life → committed_of course'.group course'.life ≡ committed_of course.group course.life
+    → committed_of course'.group tale'.life ≡ committed_of course.group tale.life
+    → committed_of course'.group course'.life ≡ committed_of course.group course.life
     → IsCounted object course' table' tickets' places first effects reached stopped tale'
 same-counted object course course' table table' tickets tickets' places first effects reached stopped tale tale' k new same ahead =
     record {
@@ -323,7 +336,8 @@ same-counted object course course' table table' tickets tickets' places first ef
       ahead = λ s. k.ahead s ∙ ap (λ l. length (deduplicated l)) (sym ahead);
     }
 
-pub given-counted : {O A : Type 0} (object : Sequential O) (course : Course A) (table : Table O) (tickets : Tickets A) (places first effects reached : ℕ) (stopped : Bool) (tale : Tale A)
+pub given-counted : {O A : Type 0} (object : Sequential O) (course : Course A) (table : Table O) (tickets : Tickets A)
+    (places first effects reached : ℕ) (stopped : Bool) (tale : Tale A)
     → IsCounted object course table tickets places first effects reached stopped tale
     → (c : OneCall A) (runs : Bool) (course' : Course A) (tickets' : Tickets A) (tale' : Tale A)
     → course' ≡ record course { life = hands (handed_if runs c) course.life } → tickets' ≡ with_ticket tickets c → tale' ≡ tale_given tale c runs first
@@ -339,7 +353,8 @@ given-counted {O} {A} object course table tickets places first effects reached s
     (ap of_course ec ∙ hands-committed course.group due course.life)
 
 -- it stopped
-pub halted-counted : {O A : Type 0} (object : Sequential O) (course : Course A) (table : Table O) (tickets : Tickets A) (places first effects reached : ℕ) (stopped : Bool) (tale : Tale A)
+pub halted-counted : {O A : Type 0} (object : Sequential O) (course : Course A) (table : Table O)
+    (tickets : Tickets A) (places first effects reached : ℕ) (stopped : Bool) (tale : Tale A)
     → IsCounted object course table tickets places first effects reached stopped tale
     → (course' : Course A) (table' : Table O) → course'.group ≡ course.group → IsFront (committed_calls course.log) (committed_calls course'.log)
     → IsCounted object course' table' tickets places first effects reached true tale
@@ -352,7 +367,8 @@ halted-counted object course table tickets places first effects reached stopped 
 
 -- ---- what a step makes of what is told
 
-pub done-life : {A : Type 0} (course : Course A) (stopped : Bool) (tale : Tale A) (r : Replica A) → told_replica course stopped tale ≡ r → IsDone r → r.stopped ≡ false
+pub done-life : {A : Type 0} (course : Course A) (stopped : Bool) (tale : Tale A) (r : Replica A)
+    → told_replica course stopped tale ≡ r → IsDone r → r.stopped ≡ false
     → (stopped ≡ false) × (course.life ≡ tale.life)
 done-life {A} course true tale r is done runs = absurd (let x = ap (λ (v : Replica A). v.stopped) is ∙ runs in cc x)
 done-life {A} course false tale r is done runs =
@@ -361,7 +377,14 @@ done-life {A} course false tale r is done runs =
 pub stopped-same : {A : Type 0} (course course' : Course A) (stopped : Bool) (tale : Tale A) (r : Replica A) → told_replica course stopped tale ≡ r
     → course'.group ≡ course.group → course'.me ≡ course.me → told_replica course' true tale ≡ replica_stopped r
 stopped-same {A} course course' stopped tale r is same me =
-    let of_group : Group → Replica A = λ x. record { group = x; me = course'.me; life = tale.life; ahead = tale.life; tickets = tale.tickets; stopped = true } in
+    let of_group : Group → Replica A = λ x. record {
+      group = x;
+      me = course'.me;
+      life = tale.life;
+      ahead = tale.life;
+      tickets = tale.tickets;
+      stopped = true;
+    } in
     let of_me : ℕ → Replica A = λ x. record { group = course.group; me = x; life = tale.life; ahead = tale.life; tickets = tale.tickets; stopped = true } in
     ap of_group same ∙ ap of_me me ∙ ap replica_stopped is
 
@@ -375,7 +398,8 @@ module _ {O A : Type 0} (object : Sequential O) (running : Option RingId) (cours
   abbrev due_now : List (Payload A)
   due_now = dues_by (moment_of running told) tale.life outs
 
-  pub step-moved : (r : Replica A) → told ≡ r → is_sound course.group after ≡ true → replica_moved object told outs after due_now ≡ replica_step object running r outs
+  pub step-moved : (r : Replica A) → told ≡ r → is_sound course.group after ≡ true
+      → replica_moved object told outs after due_now ≡ replica_step object running r outs
   step-moved r is t =
       ap (λ b. replica_settled object b told outs after due_now) (sym t) ∙ ap (λ (x : Replica A). replica_step object running x outs) is
 
@@ -384,11 +408,19 @@ module _ {O A : Type 0} (object : Sequential O) (running : Option RingId) (cours
   step-halted r is t =
       ap (λ b. replica_settled object b told outs after due_now) (sym t) ∙ ap (λ (x : Replica A). replica_step object running x outs) is
 
-  pub moved-told : (course' course'' : Course A) (due : List (Payload A)) → course'.group ≡ course.group → course'.me ≡ course.me → course'.life ≡ after → due ≡ due_now
+  pub moved-told : (course' course'' : Course A) (due : List (Payload A)) → course'.group ≡ course.group
+      → course'.me ≡ course.me → course'.life ≡ after → due ≡ due_now
       → course'' ≡ record course' { life = hands due course'.life }
       → told_replica course'' false tale ≡ (replica_moved object told outs after due_now).replica
   moved-told course' course'' due same me lives is e =
-      let of : Group → ℕ → List (Stay A) → Replica A = λ x y z. record { group = x; me = y; life = tale.life; ahead = z; tickets = tale.tickets; stopped = false } in
+      let of : Group → ℕ → List (Stay A) → Replica A = λ x y z. record {
+        group = x;
+        me = y;
+        life = tale.life;
+        ahead = z;
+        tickets = tale.tickets;
+        stopped = false;
+      } in
       ap (λ (v : Course A). told_replica v false tale) e
       ∙ ap (λ x. of x course'.me (hands due course'.life)) same ∙ ap (λ y. of course.group y (hands due course'.life)) me
       ∙ ap (λ z. of course.group course.me (hands due z)) lives ∙ ap (λ d. of course.group course.me (hands d after)) is

@@ -1,5 +1,6 @@
 -- What a node keeps of its newest ring as the outputs of its core come, and what a message makes of it: The replicated log, rules 2 to 12 of docs/PROTOCOL.md.
-use Rattle.std.specs.Prelude.{◌≡◌, ℕ, ◌+◌, Bool, true, false, not, ◌&&◌, nat_le, if◌then◌else◌, List, [], ◌∷◌, ◌++◌, length, map, filter, drop, Option, Some, None}
+use Rattle.std.specs.Prelude.{◌≡◌, ℕ, ◌+◌, Bool, true, false, not, ◌&&◌, nat_le, if◌then◌else◌, List, [], ◌∷◌, ◌++◌}
+use Rattle.std.specs.Prelude.{length, map, filter, drop, Option, Some, None}
 use Rattle.ring_base.specs.Group.{Group, is_primary}
 use Rattle.ring_base.specs.Rings.{same_ring}
 use Rattle.ring_base.specs.declared.ring_id.RingId.{RingId}
@@ -76,7 +77,8 @@ abbrev pub course_opening : {A : Type 0} → Group → ℕ → Course A
 course_opening group me = record { group = group; me = me; life = born me; log = empty; fine = true }
 
 -- what is kept of a sound life
-pub record IsKept {A : Type 0} (group : Group) (life : List (Stay A)) (log : Log A) (ring : RingId) (stage : Stage A) (mark : ℕ) (reaches : List Reach) : Type 0 where
+pub record IsKept {A : Type 0} (group : Group) (life : List (Stay A)) (log : Log A) (ring : RingId) (stage : Stage A)
+    (mark : ℕ) (reaches : List Reach) : Type 0 where
   pub stay : Stay A
   pub older : List (Stay A)
   pub parts : life ≡ stay ∷ older

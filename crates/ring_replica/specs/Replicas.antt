@@ -190,7 +190,8 @@ pub record Runs {O A : Type 0} (object : Sequential O) (course : Course A) (tabl
   pub grows : IsFront (committed_of course.group tale.life) (committed_of course.group course.life)
 
 -- what it tells, stopped or not, is that of its life: how many places its log has, and how many of them are committed
-pub record IsReplica {O A : Type 0} (object : Sequential O) (course : Course A) (table : Table O) (tickets : Tickets A) (places first : ℕ) (stopped : Bool) (tale : Tale A) : Type 0 where
+pub record IsReplica {O A : Type 0} (object : Sequential O) (course : Course A) (table : Table O)
+    (tickets : Tickets A) (places first : ℕ) (stopped : Bool) (tale : Tale A) : Type 0 where
   pub logged : places ≡ length (log_of course.group tale.life)
   pub committed : first ≡ length (committed_of course.group tale.life)
   pub front : IsFront (committed_of course.group tale.life) (committed_calls course.log)
@@ -198,7 +199,8 @@ pub record IsReplica {O A : Type 0} (object : Sequential O) (course : Course A) 
   pub runs : stopped ≡ false → Runs object course table tale
 
 -- beside it, how many of the committed places took effect, by the story and by the course
-pub record IsCounted {O A : Type 0} (object : Sequential O) (course : Course A) (table : Table O) (tickets : Tickets A) (places first effects reached : ℕ) (stopped : Bool) (tale : Tale A) : Type 0 where
+pub record IsCounted {O A : Type 0} (object : Sequential O) (course : Course A) (table : Table O)
+    (tickets : Tickets A) (places first effects reached : ℕ) (stopped : Bool) (tale : Tale A) : Type 0 where
   pub kept : IsReplica object course table tickets places first stopped tale
   pub order : effects ≡ length (deduplicated (committed_of course.group tale.life))
   pub ahead : stopped ≡ false → reached ≡ length (deduplicated (committed_of course.group course.life))

@@ -6,7 +6,8 @@ ghost use Rattle.ring_base.specs.declared.fault.Fault.TheVariants.{Memory};
 ghost use Rattle.ring_log.specs.Logs.{committed_calls, committed_upto};
 ghost use Rattle.ring_log.specs.Stays.{hears, marks, hands, stay_in};
 ghost use Rattle.ring_log.specs.Lives.{is_sound, kept_of};
-ghost use Rattle.ring_replica.specs.Courses.{course_opening, Moment as OneMoment, dues_heard, dues_at, dues_by, is_running, is_risen, rises_at, rises, handed_if, covered, left};
+ghost use Rattle.ring_replica.specs.Courses.{course_opening, Moment as OneMoment, dues_heard, dues_at, dues_by};
+ghost use Rattle.ring_replica.specs.Courses.{is_running, is_risen, rises_at, rises, handed_if, covered, left};
 ghost use Rattle.ring_machine.specs.Dues.{due_at_regular};
 ghost use Rattle.ring_machine.specs.Lives.{lived, lived_through};
 ghost use Rattle.ring_machine.specs.Stepping.{send_of};
@@ -116,7 +117,13 @@ impl<A: Allocator + Copy + Drop> Course<A> {
         ensures sound { OnOk result (self.new.fine ≡ is_sound self.old.group (lived_through self.old.life outs.items)) }
         ensures life { OnOk result (self.new.fine ≡ true → self.new.life ≡ lived_through self.old.life outs.items) }
         ensures sends { OnOk result (self.new.fine ≡ true → sends.new.items ≡ sends.old.items ++ filter_map send_of outs.items) }
-        ensures due { let moment : OneMoment A = record { group = self.old.group; me = self.old.me; running = running.now; pending = pending.now; committed = committed } in
+        ensures due { let moment : OneMoment A = record {
+          group = self.old.group;
+          me = self.old.me;
+          running = running.now;
+          pending = pending.now;
+          committed = committed;
+        } in
             OnOk result (self.new.fine ≡ true → due.new.items ≡ due.old.items ++ dues_by moment self.old.life outs.items) }
         ensures front { IsFront (committed_calls self.old.log) (committed_calls self.new.log) }
         ensures group { self.new.group ≡ self.old.group }
@@ -143,7 +150,13 @@ impl<A: Allocator + Copy + Drop> Course<A> {
         ensures sound { OnOk result (self.new.fine ≡ self.old.fine && is_sound self.old.group (lived self.old.life out)) }
         ensures life { OnOk result (self.new.fine ≡ true → self.new.life ≡ lived self.old.life out) }
         ensures sends { OnOk result (self.new.fine ≡ true → sends.new.items ≡ sends.old.items ++ filter_map send_of (out ∷ [])) }
-        ensures due { let moment : OneMoment A = record { group = self.old.group; me = self.old.me; running = running.now; pending = pending.now; committed = committed } in
+        ensures due { let moment : OneMoment A = record {
+          group = self.old.group;
+          me = self.old.me;
+          running = running.now;
+          pending = pending.now;
+          committed = committed;
+        } in
             OnOk result (self.new.fine ≡ true → due.new.items ≡ due.old.items ++ dues_at moment self.old.life out) }
         ensures front { IsFront (committed_calls self.old.log) (committed_calls self.new.log) }
         ensures group { self.new.group ≡ self.old.group }
@@ -174,7 +187,13 @@ impl<A: Allocator + Copy + Drop> Course<A> {
         ensures sound { OnOk result (self.new.fine ≡ is_sound self.old.group (lived self.old.life out)) }
         ensures life { OnOk result (self.new.life ≡ lived self.old.life out) }
         ensures sends { OnOk result (sends.new.items ≡ sends.old.items ++ filter_map send_of (out ∷ [])) }
-        ensures due { let moment : OneMoment A = record { group = self.old.group; me = self.old.me; running = running.now; pending = pending.now; committed = committed } in
+        ensures due { let moment : OneMoment A = record {
+          group = self.old.group;
+          me = self.old.me;
+          running = running.now;
+          pending = pending.now;
+          committed = committed;
+        } in
             OnOk result (self.new.fine ≡ true → due.new.items ≡ due.old.items ++ dues_at moment self.old.life out) }
         ensures front { IsFront (committed_calls self.old.log) (committed_calls self.new.log) }
         ensures group { self.new.group ≡ self.old.group }
@@ -212,7 +231,13 @@ impl<A: Allocator + Copy + Drop> Course<A> {
         requires fine { self.old.fine ≡ true }
         ensures sound { OnOk result (self.new.fine ≡ is_sound self.old.group (hears message self.old.life)) }
         ensures life { OnOk result (self.new.life ≡ hears message self.old.life) }
-        ensures due { let moment : OneMoment A = record { group = self.old.group; me = self.old.me; running = None; pending = pending.now; committed = committed } in
+        ensures due { let moment : OneMoment A = record {
+          group = self.old.group;
+          me = self.old.me;
+          running = None;
+          pending = pending.now;
+          committed = committed;
+        } in
             OnOk result (self.new.fine ≡ true → due.new.items ≡ due.old.items ++ dues_heard moment runs self.old.life message (hears message self.old.life)) }
         ensures front { IsFront (committed_calls self.old.log) (committed_calls self.new.log) }
         ensures group { self.new.group ≡ self.old.group }

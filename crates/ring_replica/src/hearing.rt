@@ -32,8 +32,10 @@ pub(crate) fn hear<A: Allocator + Copy + Drop>(
     requires { is_log_length (length log.old.calls) ≡ true }
     ensures stage { IfOk result (λ r. r.0 ≡ (took setting.now pending.now log.old stage message).stage) }
     ensures fits { IfOk result (λ r. r.1 ≡ (took setting.now pending.now log.old stage message).fits) }
-    ensures log { OnOk result ((took setting.now pending.now log.old stage message).fits ≡ true → log.new ≡ (took setting.now pending.now log.old stage message).log) }
-    ensures due { OnOk result ((took setting.now pending.now log.old stage message).fits ≡ true → due.new.items ≡ due.old.items ++ (took setting.now pending.now log.old stage message).due) }
+    ensures log { OnOk result ((took setting.now pending.now log.old stage message).fits ≡ true
+        → log.new ≡ (took setting.now pending.now log.old stage message).log) }
+    ensures due { OnOk result ((took setting.now pending.now log.old stage message).fits ≡ true
+        → due.new.items ≡ due.old.items ++ (took setting.now pending.now log.old stage message).due) }
     ensures front { IsFront (committed_calls log.old) (committed_calls log.new) }
     ensures refused { IfErr result (λ fault. fault ≡ Memory) }
 {
@@ -64,8 +66,11 @@ fn exchange_on<A: Allocator + Copy + Drop>(
 ) -> Result<Option<bool>, Fault>
     ensures stage { IfOk result (λ fits. (took_exchanging setting.now pending.now log.old exchange.old message.now).stage ≡ stage_after exchange.new fits) }
     ensures fits { IfOk result (λ fits. (took_exchanging setting.now pending.now log.old exchange.old message.now).fits ≡ unwrap_or fits true) }
-    ensures log { OnOk result ((took_exchanging setting.now pending.now log.old exchange.old message.now).fits ≡ true → log.new ≡ (took_exchanging setting.now pending.now log.old exchange.old message.now).log) }
-    ensures due { OnOk result ((took_exchanging setting.now pending.now log.old exchange.old message.now).fits ≡ true → due.new.items ≡ due.old.items ++ (took_exchanging setting.now pending.now log.old exchange.old message.now).due) }
+    ensures log { OnOk result ((took_exchanging setting.now pending.now log.old exchange.old message.now).fits ≡ true
+        → log.new ≡ (took_exchanging setting.now pending.now log.old exchange.old message.now).log) }
+    ensures due { OnOk result ((took_exchanging setting.now pending.now log.old exchange.old message.now).fits ≡ true
+        → due.new.items ≡ due.old.items ++ (took_exchanging setting.now pending.now log.old exchange.old
+        message.now).due) }
     ensures front { IsFront (committed_calls log.old) (committed_calls log.new) }
     ensures refused { IfErr result (λ fault. fault ≡ Memory) }
 {
@@ -105,7 +110,9 @@ fn adopt<A: Allocator + Copy + Drop>(
 ) -> Result<bool, Fault>
     ensures fits { IfOk result (λ fits. fits ≡ is_adoptable log.old base) }
     ensures log { OnOk result (is_adoptable log.old base ≡ true → log.new ≡ adopted log.old setting.now.ring base) }
-    ensures due { OnOk result (is_adoptable log.old base ≡ true → due.new.items ≡ due.old.items ++ if_runs setting.now.runs (calls_left pending.now (drop setting.now.committed (adopted log.old setting.now.ring base).calls))) }
+    ensures due { OnOk result (is_adoptable log.old base ≡ true → due.new.items ≡ due.old.items
+        ++ if_runs setting.now.runs (calls_left pending.now
+        (drop setting.now.committed (adopted log.old setting.now.ring base).calls))) }
     ensures front { IsFront (committed_calls log.old) (committed_calls log.new) }
     ensures refused { IfErr result (λ fault. fault ≡ Memory) }
 {
@@ -125,7 +132,8 @@ fn adopt<A: Allocator + Copy + Drop>(
 fn append_calls<A: Allocator + Copy>(payload: Payload<A>, log: &mut Log<A>) -> Result<bool, Fault>
     requires { is_log_length (length log.old.calls) ≡ true }
     ensures fits { IfOk result (λ fits. fits ≡ is_log_length (length log.old.calls + length (calls_of payload))) }
-    ensures log { OnOk result (is_log_length (length log.old.calls + length (calls_of payload)) ≡ true → log.new ≡ record log.old { calls = log.old.calls ++ calls_of payload }) }
+    ensures log { OnOk result (is_log_length (length log.old.calls + length (calls_of payload)) ≡ true
+        → log.new ≡ record log.old { calls = log.old.calls ++ calls_of payload }) }
     ensures front { IsFront (committed_calls log.old) (committed_calls log.new) }
     ensures refused { IfErr result (λ fault. fault ≡ Memory) }
 {
@@ -149,7 +157,8 @@ fn append_calls<A: Allocator + Copy>(payload: Payload<A>, log: &mut Log<A>) -> R
 /// Appends calls, if the log has room for them.
 fn append_all<A: Allocator + Copy>(calls: Vec<Call<A>, A>, log: &mut Log<A>) -> Result<bool, Fault>
     ensures fits { IfOk result (λ fits. fits ≡ is_log_length (length log.old.calls + length calls.items)) }
-    ensures log { OnOk result (is_log_length (length log.old.calls + length calls.items) ≡ true → log.new ≡ record log.old { calls = log.old.calls ++ calls.items }) }
+    ensures log { OnOk result (is_log_length (length log.old.calls + length calls.items) ≡ true
+        → log.new ≡ record log.old { calls = log.old.calls ++ calls.items }) }
     ensures front { IsFront (committed_calls log.old) (committed_calls log.new) }
     ensures refused { IfErr result (λ fault. fault ≡ Memory) }
 {

@@ -6,7 +6,9 @@ ghost use Rattle.ring_payload.specs.declared.call.Call.{Call as OneCall};
 ghost use Rattle.ring_core.specs.State.{Stepped};
 ghost use Rattle.ring_machine.specs.Nodes.{Node, node_opening, node_committed, node_log, node_reply, is_stopped};
 ghost use Rattle.ring_machine.specs.Stepping.{after_core, submit_fault, submitted};
-ghost use Rattle.ring_replica.specs.Replicas.{replica_opening, replica_of, replica_committed, replica_log, replica_reply, submit_refusal, replica_given, replica_step, running_of, node_by, node_given};
+ghost use Rattle.ring_replica.specs.Replicas.{replica_opening, replica_of, replica_committed, replica_log};
+ghost use Rattle.ring_replica.specs.Replicas.{replica_reply, submit_refusal, replica_given, replica_step, running_of};
+ghost use Rattle.ring_replica.specs.Replicas.{node_by, node_given};
 
 use ring_object::Object;
 

@@ -10,7 +10,9 @@ ghost use Rattle.ring_ticket.specs.Pendings.{answers_behind};
 ghost use Rattle.ring_ticket.specs.Tickets.{answers_after};
 ghost use Rattle.ring_ticket.specs.Waiting.{done_after};
 ghost use Rattle.ring_replica.specs.Courses.{rises};
-ghost use Rattle.ring_replica.specs.Replicas.{IsDone, replica_opening, replica_committed, replica_log, replica_stopped, replica_reply, submit_refusal, has_adopted_running, replica_given, replica_step, replica_done};
+ghost use Rattle.ring_replica.specs.Replicas.{IsDone, replica_opening, replica_committed, replica_log, replica_stopped};
+ghost use Rattle.ring_replica.specs.Replicas.{replica_reply, submit_refusal, has_adopted_running, replica_given};
+ghost use Rattle.ring_replica.specs.Replicas.{replica_step, replica_done};
 
 use crate::course::Course;
 use crate::given::Given;
@@ -250,7 +252,8 @@ fn new_answers<O: Object>(
     requires within { committed ≤ length (committed_calls log.now) }
     requires few { effects ≤ committed }
     ensures table { OnOk result (sessions.new ≡ fold (table_next O.sequential) sessions.old (drop committed (committed_calls log.now))) }
-    ensures answers { IfOk result (λ given. given.0.items ≡ answers_behind O.sequential sessions.old pending.now [] (drop committed (committed_calls log.now))) }
+    ensures answers { IfOk result (λ given. given.0.items ≡ answers_behind O.sequential sessions.old pending.now []
+        (drop committed (committed_calls log.now))) }
     ensures effects { IfOk result (λ given. given.1 ≡ effects + done_after O.sequential sessions.old (drop committed (committed_calls log.now))) }
     ensures refused { IfErr result (λ fault. fault ≡ Memory) }
 {

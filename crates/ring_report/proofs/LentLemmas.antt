@@ -8,7 +8,8 @@ use Rattle.ring_report.specs.declared.lent.Lent.{Lent}
 use Rattle.ring_report.specs.Lents.{named}
 
 -- the name in front is the same, and the bytes behind it have grown by the text
-came_back : (g h : ℕ) (xs text : List ℕ) (mid new : Option (List ℕ)) → Appends (append_known (named g (Some xs)) []) mid text → Keeps mid (append_known (named h new) [])
+came_back : (g h : ℕ) (xs text : List ℕ) (mid new : Option (List ℕ)) → Appends (append_known (named g (Some xs)) [])
+    mid text → Keeps mid (append_known (named h new) [])
     → (h ≡ g) × Appends (Some xs) new text
 came_back g h xs text None new a k = absurd a
 came_back g h xs text (Some ys) None a k = absurd k

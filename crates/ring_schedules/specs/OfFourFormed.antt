@@ -11,7 +11,8 @@ use Rattle.ring_moves.specs.declared.event.RingEvent.{RingEvent}
 use Rattle.ring_moves.specs.declared.event.RingEvent.TheVariants.{Send as SendEvent, Deliver, Timeout as TimeEvent}
 use Rattle.ring_moves.specs.Worlds.{World, run, ring_formed}
 use Rattle.ring_moves.specs.Samples.{ring_of}
-use Rattle.ring_schedules.specs.Words.{call_of, call, call_content, head_after, head_content_after, pack, pack_content, wrapped, message, token, join, report, commit}
+use Rattle.ring_schedules.specs.Words.{call_of, call, call_content, head_after, head_content_after, pack, pack_content}
+use Rattle.ring_schedules.specs.Words.{wrapped, message, token, join, report, commit}
 
 abbrev pub events : List (RingEvent Global)
 events =

@@ -11,7 +11,8 @@ use Rattle.ring_moves.specs.declared.event.RingEvent.{RingEvent}
 use Rattle.ring_moves.specs.declared.event.RingEvent.TheVariants.{Send as SendEvent, Deliver, Timeout as TimeEvent, Stop}
 use Rattle.ring_moves.specs.Worlds.{World, run, unformed}
 use Rattle.ring_moves.specs.Samples.{ring_of}
-use Rattle.ring_schedules.specs.Words.{call_of, long_call_of, call, long_call, call_content, head, head_after, part, wrapped, message, token, join, report, commit}
+use Rattle.ring_schedules.specs.Words.{call_of, long_call_of, call, long_call, call_content, head, head_after, part}
+use Rattle.ring_schedules.specs.Words.{wrapped, message, token, join, report, commit}
 
 abbrev pub events : List (RingEvent Global)
 events =

@@ -11,7 +11,8 @@ use Rattle.ring_moves.specs.declared.event.RingEvent.{RingEvent}
 use Rattle.ring_moves.specs.declared.event.RingEvent.TheVariants.{Send as SendEvent, Deliver, Timeout as TimeEvent}
 use Rattle.ring_moves.specs.Worlds.{World, run, ring_formed}
 use Rattle.ring_moves.specs.Samples.{ring_of}
-use Rattle.ring_schedules.specs.Words.{call_of, long_call_of, call, long_call, call_content, head, head_after, part, pack, pack_content, wrapped, message, token, join, report, commit}
+use Rattle.ring_schedules.specs.Words.{call_of, long_call_of, call, long_call, call_content, head, head_after, part}
+use Rattle.ring_schedules.specs.Words.{pack, pack_content, wrapped, message, token, join, report, commit}
 
 abbrev pub events : List (RingEvent Global)
 events =

@@ -80,14 +80,17 @@ AllAmong count asked = AllByRecursion (λ (a : ℕ × Asked). IsAmong count a.1)
 told_among : (rings : Rings) (nodes : Group) (line : List ℕ) → IfSome (unless_skipped (useful_of rings nodes) line) (λ told. IfSome told (IsAmong nodes.count))
 told_among rings nodes line = grind (arith, useful_among rings nodes line)
 
-then_among : (count number : ℕ) (told : Option (Option Asked)) (others : Result (List (ℕ × Asked)) ℕ) → IfSome told (λ asked. IfSome asked (IsAmong count)) → IfOk others (AllAmong count) → IfOk (then_asked number told others) (AllAmong count)
+then_among : (count number : ℕ) (told : Option (Option Asked)) (others : Result (List (ℕ × Asked)) ℕ)
+    → IfSome told (λ asked. IfSome asked (IsAmong count)) → IfOk others (AllAmong count)
+    → IfOk (then_asked number told others) (AllAmong count)
 then_among count number told others first later = grind arith
 
 all_among : (rings : Rings) (nodes : Group) (before : ℕ) (lines : List (List ℕ)) → IfOk (asked_in rings nodes before lines) (AllAmong nodes.count)
 unfolding asked_in
 all_among rings nodes before [] = tt
 all_among rings nodes before (line ∷ lines) =
-    then_among nodes.count (before + 1) (unless_skipped (useful_of rings nodes) line) (asked_in rings nodes (before + 1) lines) (told_among rings nodes line) (all_among rings nodes (before + 1) lines)
+    then_among nodes.count (before + 1) (unless_skipped (useful_of rings nodes) line)
+    (asked_in rings nodes (before + 1) lines) (told_among rings nodes line) (all_among rings nodes (before + 1) lines)
 
 -- the same of the program's lines
 AreAmong-numbered : {A : Type 0} (count : ℕ) (lines : List (Numbered A)) → AllAmong count (map numbered_by lines) → AreAmong count lines
@@ -95,6 +98,8 @@ AreAmong-numbered count [] among = tt
 AreAmong-numbered count (line ∷ lines) among = (among.0, AreAmong-numbered count lines among.1)
 
 -- the lines that were read of a text
-pub lines_among : {A : Type 0} (rings : Rings) (nodes : Group) (before : ℕ) (text : List (List ℕ)) (lines : List (Numbered A)) → asked_in rings nodes before text ≡ Ok (map numbered_by lines) → AreAmong nodes.count lines
+pub lines_among : {A : Type 0} (rings : Rings) (nodes : Group) (before : ℕ) (text : List (List ℕ))
+    (lines : List (Numbered A)) → asked_in rings nodes before text ≡ Ok (map numbered_by lines)
+    → AreAmong nodes.count lines
 lines_among rings nodes before text lines read =
     AreAmong-numbered nodes.count lines (IfOk-at_ok (AllAmong nodes.count) read (all_among rings nodes before text))

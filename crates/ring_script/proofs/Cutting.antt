@@ -1,5 +1,7 @@
 -- The words of a cut, taken one after the other.
-use Rattle.std.proofs.Common.{◌≡◌, ℕ, suc, ◌+◌, ◌<◌, ◌≤◌, Bool, true, false, List, [], ◌∷◌, ◌++◌, length, take, drop, get_or, set, replicate, Option, Some, None, min, refl, ap, sym, ◌∙◌, arith, append_assoc, eq-eqb}
+use Rattle.std.proofs.Common.{◌≡◌, ℕ, suc, ◌+◌, ◌<◌, ◌≤◌, Bool, true, false, List, [], ◌∷◌, ◌++◌, length, take, drop}
+use Rattle.std.proofs.Common.{get_or, set, replicate, Option, Some, None, min, refl, ap, sym, ◌∙◌, arith, append_assoc}
+use Rattle.std.proofs.Common.{eq-eqb}
 use Rattle.std.specs.Prelude.{nat_le, ◌&&◌, ◌==◌, if◌then◌else◌}
 use Rattle.std.specs.Cmp.{both_ways}
 use Rattle.std.specs.Int.Bits.{or_add_and}
@@ -70,7 +72,8 @@ apart_second a b c = rw (and_comm (union a b) c, and_comm a c, and_comm b c) (ap
 
 abbrev tests : Group → ℕ → ℕ → List ℕ → Bool
 tests nodes count placed groups =
-    ((common placed (together groups) == nobody) && are_apart groups) && (nat_le 2 (count + length groups) && (union placed (together groups) == everybody nodes.count))
+    ((common placed (together groups) == nobody) && are_apart groups)
+    && (nat_le 2 (count + length groups) && (union placed (together groups) == everybody nodes.count))
 
 regroup : (p q r s z : Bool) → (((p && q) && (r && s)) && z) ≡ (p && (((q && r) && s) && z))
 regroup false q r s z = refl
@@ -82,10 +85,16 @@ at_least_two count n = both_ways (nat_le 2 (count + suc n)) (nat_le 2 (min (coun
     (λ e. let le = leb-true 2 (count + suc n) e in le-leb 2 (min (count + 1) 255 + n) (omega arith))
     (λ e. let le = leb-true 2 (min (count + 1) 255 + n) e in le-leb 2 (count + suc n) (omega arith))
 
-tests_more : (nodes : Group) (count placed group : ℕ) (groups : List ℕ) → tests nodes count placed (group ∷ groups) ≡ ((common placed group == nobody) && tests nodes (min (count + 1) 255) (union placed group) groups)
+tests_more : (nodes : Group) (count placed group : ℕ) (groups : List ℕ) → tests nodes count placed (group ∷ groups)
+    ≡ ((common placed group == nobody) && tests nodes (min (count + 1) 255) (union placed group) groups)
 unfolding together are_apart
 tests_more nodes count placed group groups =
-    rw (apart_first placed group (together groups), apart_second placed group (together groups), at_least_two count (length groups), union_assoc placed group (together groups))
+    rw (
+      apart_first placed group (together groups),
+      apart_second placed group (together groups),
+      at_least_two count (length groups),
+      union_assoc placed group (together groups),
+    )
     (regroup (common placed group == nobody) (common placed (together groups) == nobody) (common group (together groups) == nobody) (are_apart groups) _)
 
 -- ---- the words, by the groups that they tell
@@ -104,27 +113,34 @@ made nodes count placed table read = read >>= λ groups. if tests nodes count pl
 
 -- one group more
 made_more : (nodes : Group) (count placed : ℕ) (table : List ℕ) (group : ℕ) (read : Option (List ℕ)) →
-    (if common placed group == nobody then made nodes (min (count + 1) 255) (union placed group) (placed_from 1 group table) read else None) ≡ made nodes count placed table (read >>= λ others. Some (group ∷ others))
+    (if common placed group == nobody then made nodes (min (count + 1) 255) (union placed group)
+    (placed_from 1 group table) read else None) ≡ made nodes count placed table
+    (read >>= λ others. Some (group ∷ others))
 unfolding table_after
 made_more nodes count placed table group None = neither (common placed group == nobody)
 made_more nodes count placed table group (Some others) =
-    nested (common placed group == nobody) (tests nodes (min (count + 1) 255) (union placed group) others) (Some (table_after (placed_from 1 group table) others, [])) ∙
+    nested (common placed group == nobody) (tests nodes (min (count + 1) 255) (union placed group) others)
+    (Some (table_after (placed_from 1 group table) others, [])) ∙
     ap (λ (b : Bool). if b then Some (table_after (placed_from 1 group table) others, []) else None) (sym (tests_more nodes count placed group others))
 
 cut_word : (nodes : Group) (count placed : ℕ) (table : List ℕ) (words : List (List ℕ)) (first : Option ℕ) →
-    ((group : ℕ) → cut_after nodes (min (count + 1) 255) (union placed group) (placed_from 1 group table) words ≡ made nodes (min (count + 1) 255) (union placed group) (placed_from 1 group table) (groups_of nodes words)) →
-    (first >>= λ group. (if common placed group == nobody then cut_after nodes (min (count + 1) 255) (union placed group) (placed_from 1 group table) words else None)) ≡
+    ((group : ℕ) → cut_after nodes (min (count + 1) 255) (union placed group) (placed_from 1 group table) words
+    ≡ made nodes (min (count + 1) 255) (union placed group) (placed_from 1 group table) (groups_of nodes words)) →
+    (first >>= λ group. (if common placed group == nobody then cut_after nodes (min (count + 1) 255)
+    (union placed group) (placed_from 1 group table) words else None)) ≡
     made nodes count placed table (first >>= λ group. groups_of nodes words >>= λ others. Some (group ∷ others))
 cut_word nodes count placed table words None others = refl
 cut_word nodes count placed table words (Some group) others = rw (others group) (made_more nodes count placed table group (groups_of nodes words))
 
-cut_after-groups : (nodes : Group) (count placed : ℕ) (table : List ℕ) (words : List (List ℕ)) → cut_after nodes count placed table words ≡ made nodes count placed table (groups_of nodes words)
+cut_after-groups : (nodes : Group) (count placed : ℕ) (table : List ℕ) (words : List (List ℕ))
+    → cut_after nodes count placed table words ≡ made nodes count placed table (groups_of nodes words)
 unfolding cut_after groups_of together are_apart table_after
 cut_after-groups nodes count placed table [] =
     let same : count + 0 ≡ count = omega arith in
     rw (common-nobody placed, union-nobody placed, same) refl
 cut_after-groups nodes count placed table (word ∷ words) =
-    cut_word nodes count placed table words (group_of nodes word) (λ group. cut_after-groups nodes (min (count + 1) 255) (union placed group) (placed_from 1 group table) words)
+    cut_word nodes count placed table words (group_of nodes word)
+    (λ group. cut_after-groups nodes (min (count + 1) 255) (union placed group) (placed_from 1 group table) words)
 
 shuffle : (a t e : Bool) → (a && (t && e)) ≡ ((t && a) && e)
 shuffle true true e = refl
@@ -144,18 +160,22 @@ pub cut_after-none : (nodes : Group) (words : List (List ℕ)) → cut_after nod
 unfolding cut_at
 cut_after-none nodes words = cut_after-groups nodes 0 nobody (replicate most_processors nobody) words ∙ whole (groups_of nodes words)
   where
-    whole : (read : Option (List ℕ)) → made nodes 0 nobody (replicate most_processors nobody) read ≡ (read >>= λ groups. if is_cut nodes groups then Some (table_of groups, []) else None)
+    whole : (read : Option (List ℕ)) → made nodes 0 nobody (replicate most_processors nobody) read
+        ≡ (read >>= λ groups. if is_cut nodes groups then Some (table_of groups, []) else None)
     whole None = refl
     whole (Some groups) = rw (tests-none nodes groups) refl
 
 -- ---- the groups of the processors, one after the other
 
-placed-more : (group i : ℕ) (kept : List ℕ) → i < length kept → placed_from (i + 1) group (drop i kept) ≡ (if has group (i + 1) then group else get_or kept i 0) ∷ placed_from (i + 1 + 1) group (drop (suc i) kept)
+placed-more : (group i : ℕ) (kept : List ℕ) → i < length kept → placed_from (i + 1) group (drop i kept)
+    ≡ (if has group (i + 1) then group else get_or kept i 0) ∷ placed_from (i + 1 + 1) group (drop (suc i) kept)
 unfolding placed_from
 placed-more group i kept lt = rw (drop-cons kept i 0) refl
 
 -- one place more
-pub placed_at : (group i : ℕ) (kept : List ℕ) (y : ℕ) → i < length kept → y ≡ (if has group (i + 1) then group else get_or kept i 0) → take (i + 1) (set kept i y) ++ placed_from (i + 1 + 1) group (drop (i + 1) (set kept i y)) ≡ take i kept ++ placed_from (i + 1) group (drop i kept)
+pub placed_at : (group i : ℕ) (kept : List ℕ) (y : ℕ) → i < length kept
+    → y ≡ (if has group (i + 1) then group else get_or kept i 0) → take (i + 1) (set kept i y) ++ placed_from
+    (i + 1 + 1) group (drop (i + 1) (set kept i y)) ≡ take i kept ++ placed_from (i + 1) group (drop i kept)
 placed_at group i kept y lt e =
     let next : i + 1 ≡ suc i = omega arith in
     let more : placed_from (i + 1) group (drop i kept) ≡ y ∷ placed_from (i + 1 + 1) group (drop (suc i) kept) = rw e (placed-more group i kept lt) in

@@ -10,7 +10,9 @@ use Rattle.ring_script.specs.declared.line.Line.TheVariants as lines
 use Rattle.ring_script.specs.declared.scripts.Numbered.{Numbered}
 use Rattle.ring_script.specs.declared.scripts.Rings.{Rings}
 use Rattle.ring_script.specs.Fits.{IsFit, AreFit}
-use Rattle.ring_script.specs.Lines.{Asked, Call, Deliver, Timeout, Noise, Stop, Cut, Heal, Pump, Show, asked_by, call_at, deliver_at, timeout_at, noise_at, stop_at, cut_line_at, pump_at, form_at, asked_of}
+use Rattle.ring_script.specs.Lines.{Asked, Call, Deliver, Timeout, Noise, Stop, Cut, Heal, Pump, Show, asked_by}
+use Rattle.ring_script.specs.Lines.{call_at, deliver_at, timeout_at, noise_at, stop_at, cut_line_at, pump_at, form_at}
+use Rattle.ring_script.specs.Lines.{asked_of}
 use Rattle.ring_script.specs.Numbers.{word_at, number_at, node_at}
 use Rattle.ring_script.specs.Operations.{operation_at}
 use Rattle.ring_script.specs.Reading.{◌>>=◌}
@@ -53,7 +55,8 @@ call_fits : (nodes : Group) (words : List (List ℕ)) → ReadFits (call_at node
 unfolding call_at
 call_fits nodes words = after_node (node_at nodes words)
   where
-    after_operation : (node client number : ℕ) → client < 2 ^ 32 → (1 ≤ number) × (number < 2 ^ 64) → (o : Option (List ℕ × List (List ℕ))) → IfSome o (λ operation. length operation.0 ≤ 1024)
+    after_operation : (node client number : ℕ) → client < 2 ^ 32 → (1 ≤ number) × (number < 2 ^ 64)
+        → (o : Option (List ℕ × List (List ℕ))) → IfSome o (λ operation. length operation.0 ≤ 1024)
         → ReadFits (o >>= (λ operation. Some (Call node client number operation.0, operation.1)))
     after_operation node client number low within None short = tt
     after_operation node client number low within (Some operation) short = (low, within.0, within.1, short)
@@ -64,12 +67,20 @@ call_fits nodes words = after_node (node_at nodes words)
     after_number node client low (Some number) within = after_operation node client number.0 low within (operation_at number.1) (operation_low number.1)
 
     after_client : (node : ℕ) → (o : Option (ℕ × List (List ℕ))) → IfSome o (λ client. client.0 < 2 ^ 32)
-        → ReadFits (o >>= (λ client. number_at 1 (2 ^ 64 - 1) client.1 >>= (λ number. operation_at number.1 >>= (λ operation. Some (Call node client.0 number.0 operation.0, operation.1)))))
+        → ReadFits (o >>= (λ client. number_at 1 (2 ^ 64 - 1) client.1
+        >>= (λ number. operation_at number.1 >>= (λ operation. Some (
+          Call node client.0 number.0 operation.0,
+          operation.1,
+        )))))
     after_client node None low = tt
     after_client node (Some client) low = after_number node client.0 low (number_at 1 (2 ^ 64 - 1) client.1) (number_low client.1)
 
     after_node : (o : Option (ℕ × List (List ℕ)))
-        → ReadFits (o >>= (λ node. number_at 0 (2 ^ 32 - 1) node.1 >>= (λ client. number_at 1 (2 ^ 64 - 1) client.1 >>= (λ number. operation_at number.1 >>= (λ operation. Some (Call node.0 client.0 number.0 operation.0, operation.1))))))
+        → ReadFits (o >>= (λ node. number_at 0 (2 ^ 32 - 1) node.1 >>= (λ client. number_at 1 (2 ^ 64 - 1) client.1
+        >>= (λ number. operation_at number.1 >>= (λ operation. Some (
+          Call node.0 client.0 number.0 operation.0,
+          operation.1,
+        ))))))
     after_node None = tt
     after_node (Some node) = after_client node.0 (number_at 0 (2 ^ 32 - 1) node.1) (client_low node.1)
 
@@ -127,14 +138,16 @@ AllFit asked = AllByRecursion (λ (a : ℕ × Asked). FitsAsked a.1) asked
 told_fits : (rings : Rings) (nodes : Group) (line : List ℕ) → IfSome (unless_skipped (useful_of rings nodes) line) (λ told. IfSome told FitsAsked)
 told_fits rings nodes line = grind (arith, useful_fits rings nodes line)
 
-then_fits : (number : ℕ) (told : Option (Option Asked)) (others : Result (List (ℕ × Asked)) ℕ) → IfSome told (λ asked. IfSome asked FitsAsked) → IfOk others AllFit → IfOk (then_asked number told others) AllFit
+then_fits : (number : ℕ) (told : Option (Option Asked)) (others : Result (List (ℕ × Asked)) ℕ)
+    → IfSome told (λ asked. IfSome asked FitsAsked) → IfOk others AllFit → IfOk (then_asked number told others) AllFit
 then_fits number told others first later = grind arith
 
 all_fit : (rings : Rings) (nodes : Group) (before : ℕ) (lines : List (List ℕ)) → IfOk (asked_in rings nodes before lines) AllFit
 unfolding asked_in
 all_fit rings nodes before [] = tt
 all_fit rings nodes before (line ∷ lines) =
-    then_fits (before + 1) (unless_skipped (useful_of rings nodes) line) (asked_in rings nodes (before + 1) lines) (told_fits rings nodes line) (all_fit rings nodes (before + 1) lines)
+    then_fits (before + 1) (unless_skipped (useful_of rings nodes) line) (asked_in rings nodes (before + 1) lines)
+    (told_fits rings nodes line) (all_fit rings nodes (before + 1) lines)
 
 -- the same of the program's lines
 IsFit-asked : {A : Type 0} (line : Line A) → FitsAsked (asked_by line) → IsFit line
@@ -153,5 +166,6 @@ AreFit-numbered [] fit = tt
 AreFit-numbered (line ∷ lines) fit = (IsFit-asked line.line fit.0, AreFit-numbered lines fit.1)
 
 -- the lines that were read of a text
-pub lines_fit : {A : Type 0} (rings : Rings) (nodes : Group) (before : ℕ) (text : List (List ℕ)) (lines : List (Numbered A)) → asked_in rings nodes before text ≡ Ok (map numbered_by lines) → AreFit lines
+pub lines_fit : {A : Type 0} (rings : Rings) (nodes : Group) (before : ℕ) (text : List (List ℕ))
+    (lines : List (Numbered A)) → asked_in rings nodes before text ≡ Ok (map numbered_by lines) → AreFit lines
 lines_fit rings nodes before text lines read = AreFit-numbered lines (IfOk-at_ok AllFit read (all_fit rings nodes before text))

@@ -8,7 +8,8 @@ use Rattle.ring_script.specs.declared.scripts.ScriptFault.TheVariants.{Memory, A
 use Rattle.ring_script.specs.Scripts.{IsAllOf, AnswersInput, IsUnread}
 
 -- what was read up to a limit, and stayed below it, is all
-pub whole_below : (limit : ℕ) (known : Option (List ℕ)) (bytes : List ℕ) → IfSome (option_map (take limit) known) (λ xs. bytes ≡ [] ++ xs) → length bytes < limit → IsAllOf known bytes
+pub whole_below : (limit : ℕ) (known : Option (List ℕ)) (bytes : List ℕ) → IfSome (option_map (take limit) known)
+    (λ xs. bytes ≡ [] ++ xs) → length bytes < limit → IsAllOf known bytes
 whole_below limit None bytes e lt = tt
 whole_below limit (Some xs) bytes e lt =
     let same : bytes ≡ take limit xs = e in

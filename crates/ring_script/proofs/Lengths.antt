@@ -1,5 +1,6 @@
 -- An operation of a script is short enough for a call.
-use Rattle.std.proofs.Common.{◌≡◌, ℕ, ◌+◌, ◌-◌, ◌*◌, ◌^◌, ◌≤◌, Bool, true, false, List, [], ◌∷◌, ◌++◌, length, Option, Some, None, Err, refl, ap, arith, inl, inr}
+use Rattle.std.proofs.Common.{◌≡◌, ℕ, ◌+◌, ◌-◌, ◌*◌, ◌^◌, ◌≤◌, Bool, true, false, List, [], ◌∷◌, ◌++◌, length, Option}
+use Rattle.std.proofs.Common.{Some, None, Err, refl, ap, arith, inl, inr}
 use Rattle.std.specs.Prelude.{option_and_then, if◌then◌else◌, IfSome, codes, nat_le, ◌&&◌}
 use Rattle.std.specs.Char.{is_ascii_graphic}
 use Rattle.std.specs.List.{list_all}
@@ -7,7 +8,9 @@ use Rattle.std.specs.Int.{w64, to_be_bytes}
 use Rattle.std.proofs.lemmas.Bool.{cases_Bool, and_parts, leb-true}
 use Rattle.std.proofs.lemmas.List.{length-append}
 use Rattle.ring_base.specs.declared.fault.Fault.{Fault}
-use Rattle.ring_base.specs.declared.fault.Fault.TheVariants.{NotMember, PendingFull, OpTooLong, Conflict, Stale, NumberGap, SessionsFull, Stopped, BookFull, Stranger, Memory, BadFrame, BadScript, NoAnswer, BadSnapshot}
+use Rattle.ring_base.specs.declared.fault.Fault.TheVariants.{NotMember, PendingFull, OpTooLong, Conflict, Stale}
+use Rattle.ring_base.specs.declared.fault.Fault.TheVariants.{NumberGap, SessionsFull, Stopped, BookFull, Stranger}
+use Rattle.ring_base.specs.declared.fault.Fault.TheVariants.{Memory, BadFrame, BadScript, NoAnswer, BadSnapshot}
 use Rattle.ring_payload.specs.Calls.{IsNewCall}
 use Rattle.ring_script.specs.declared.operation.Argument.{Argument}
 use Rattle.ring_script.specs.declared.operation.Argument.TheVariants.{Key, Value, Name}
@@ -46,7 +49,8 @@ argument_short Name words x e =
     let (word, at, made) = and_then_some (word_at words) _ x e in
     name_short word x made
 
-arguments_short : (bytes : List ℕ) (arguments : List Argument) (words : List (List ℕ)) (x : List ℕ × List (List ℕ)) → arguments_after bytes arguments words ≡ Some x → length x.0 ≤ length bytes + 64 * length arguments
+arguments_short : (bytes : List ℕ) (arguments : List Argument) (words : List (List ℕ)) (x : List ℕ × List (List ℕ))
+    → arguments_after bytes arguments words ≡ Some x → length x.0 ≤ length bytes + 64 * length arguments
 unfolding arguments_after
 arguments_short bytes [] words x e = let same : bytes ≡ x.0 = cc in omega (arith, ap length same)
 arguments_short bytes (argument ∷ others) words x e =
@@ -66,7 +70,13 @@ pick false form rest short others = others
 form_short : (word : List ℕ) → IfSome (form_of word) IsShort
 unfolding form_of
 form_short word =
-    pick (is (codes "get") word) _ _ (refl, omega arith) (pick (is (codes "put") word) _ _ (refl, omega arith) (pick (is (codes "cas") word) _ _ (refl, omega arith) (pick (is (codes "add") word) _ _ (refl, omega arith) (pick (is (codes "read") word) _ _ (refl, omega arith) (pick (is (codes "push") word) _ _ (refl, omega arith) (pick (is (codes "pop") word) _ _ (refl, omega arith) (pick (is (codes "length") word) _ _ (refl, omega arith) (pick (is (codes "insert") word) _ _ (refl, omega arith) (pick (is (codes "remove") word) _ _ (refl, omega arith) (pick (is (codes "has") word) _ _ (refl, omega arith) (tt)))))))))))
+    pick (is (codes "get") word) _ _ (refl, omega arith) (pick (is (codes "put") word) _ _ (refl, omega arith)
+    (pick (is (codes "cas") word) _ _ (refl, omega arith) (pick (is (codes "add") word) _ _ (refl, omega arith)
+    (pick (is (codes "read") word) _ _ (refl, omega arith) (pick (is (codes "push") word) _ _ (refl, omega arith)
+    (pick (is (codes "pop") word) _ _ (refl, omega arith) (pick (is (codes "length") word) _ _ (refl, omega arith)
+    (pick (is (codes "insert") word) _ _ (refl, omega arith)
+    (pick (is (codes "remove") word) _ _ (refl, omega arith) (pick (is (codes "has") word) _ _ (refl, omega arith)
+    (tt)))))))))))
 
 pub some_has : {X : Type 0} (P : X → Type 0) (o : Option X) (x : X) → o ≡ Some x → IfSome o P → P x
 some_has P o x e h = rw e at h
@@ -81,7 +91,8 @@ operation_short words x e =
     omega (arith, short.0, short.1, bound)
 
 -- a call of such an operation is refused for want of memory alone
-pub call_refused : {Y : Type 0} (A : Type 0) (e : Fault) (client number : ℕ) (op : List ℕ) (read : Option Y) → length op ≤ 1024 → 1 ≤ number → IsNewCall {A = A} client number op (Err e) → Refuses e read
+pub call_refused : {Y : Type 0} (A : Type 0) (e : Fault) (client number : ℕ) (op : List ℕ) (read : Option Y)
+    → length op ≤ 1024 → 1 ≤ number → IsNewCall {A = A} client number op (Err e) → Refuses e read
 call_refused A NotMember client number op read short some h = h
 call_refused A PendingFull client number op read short some h = h
 call_refused A OpTooLong client number op read short some h = absurd (omega (arith, h))

@@ -49,7 +49,8 @@ fits n word (Err e) some h =
       | inr above ↦ rw (le-ltb n (2 ^ 64) above) refl
     ]
 
-pub decimal_parsed : {E : Type 0} (word : List ℕ) (r : Result ℕ E) → is_decimal word ≡ true → ParsesUnsigned 64 10 word r → option_map as_u64 (number_of word) ≡ Some (result_ok r)
+pub decimal_parsed : {E : Type 0} (word : List ℕ) (r : Result ℕ E) → is_decimal word ≡ true
+    → ParsesUnsigned 64 10 word r → option_map as_u64 (number_of word) ≡ Some (result_ok r)
 unfolding number_of
 decimal_parsed word r h parsed =
     let digits = decimal_digits word h in

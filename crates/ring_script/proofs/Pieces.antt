@@ -11,7 +11,8 @@ abbrev place : ℕ → List ℕ → ℕ
 place separator text = position_or_len (λ b. b == separator) text
 
 -- a piece that ends at the separator
-piece_ends : (separator : ℕ) (text : List ℕ) → place separator text < length text → pieces separator text ≡ take (place separator text) text ∷ pieces separator (drop (place separator text + 1) text)
+piece_ends : (separator : ℕ) (text : List ℕ) → place separator text < length text → pieces separator text ≡ take
+    (place separator text) text ∷ pieces separator (drop (place separator text + 1) text)
 unfolding pieces
 piece_ends separator [] lt = absurd (omega arith)
 piece_ends separator (b ∷ text) lt =
@@ -41,7 +42,8 @@ rest_is : (n : ℕ) (text : List ℕ) → take (length text - n) (drop n text) �
 rest_is n text = grind (arith, common_steps)
 
 -- the same by what `position` gives
-pub pieces-ended : (separator n : ℕ) (text : List ℕ) → Some n ≡ position (λ b. b == separator) text → pieces separator text ≡ take n text ∷ pieces separator (take (length text - (n + 1)) (drop (n + 1) text))
+pub pieces-ended : (separator n : ℕ) (text : List ℕ) → Some n ≡ position (λ b. b == separator) text
+    → pieces separator text ≡ take n text ∷ pieces separator (take (length text - (n + 1)) (drop (n + 1) text))
 pieces-ended separator n text e =
     elim (cases_Bool (ltb (place separator text) (length text))) [
       | inl inside ↦
@@ -89,7 +91,8 @@ line_stays b (c ∷ text) le =
           rw (later, others) refl
     ]
 
-pub lines-ended : (n : ℕ) (text : List ℕ) → Some n ≡ position (λ b. b == 10) text → lines_of text ≡ take n text ∷ lines_of (take (length text - (n + 1)) (drop (n + 1) text))
+pub lines-ended : (n : ℕ) (text : List ℕ) → Some n ≡ position (λ b. b == 10) text → lines_of text ≡ take n text
+    ∷ lines_of (take (length text - (n + 1)) (drop (n + 1) text))
 lines-ended n text e =
     elim (cases_Bool (ltb (place 10 text) (length text))) [
       | inl inside ↦

@@ -19,7 +19,8 @@ behind front (Err line) = Err line
 
 -- ---- the line at fault is one that the text has or could have
 
-told_low : (number line : ℕ) (read : Option (Option Asked)) (others : Result (List (ℕ × Asked)) ℕ) → 1 ≤ number → (others ≡ Err line → 1 ≤ line) → then_asked number read others ≡ Err line → 1 ≤ line
+told_low : (number line : ℕ) (read : Option (Option Asked)) (others : Result (List (ℕ × Asked)) ℕ) → 1 ≤ number
+    → (others ≡ Err line → 1 ≤ line) → then_asked number read others ≡ Err line → 1 ≤ line
 told_low number line None others low later e = let same : number ≡ line = cc in omega arith
 told_low number line (Some None) others low later e = later e
 told_low number line (Some (Some asked)) (Ok rest) low later e = absurd cc
@@ -29,9 +30,12 @@ pub asked_low : (rings : Rings) (nodes : Group) (before : ℕ) (lines : List (Li
 unfolding asked_in
 asked_low rings nodes before [] line e = absurd cc
 asked_low rings nodes before (first ∷ lines) line e =
-    told_low (before + 1) line (unless_skipped (useful_of rings nodes) first) (asked_in rings nodes (before + 1) lines) (omega arith) (asked_low rings nodes (before + 1) lines line) e
+    told_low (before + 1) line (unless_skipped (useful_of rings nodes) first)
+    (asked_in rings nodes (before + 1) lines) (omega arith) (asked_low rings nodes (before + 1) lines line) e
 
-first_low : (number line : ℕ) (read : Option (Option Group)) (lines : List (List ℕ)) (others : Result (Group × LinesLeft) ℕ) → 1 ≤ number → (others ≡ Err line → 1 ≤ line) → then_nodes number read lines others ≡ Err line → 1 ≤ line
+first_low : (number line : ℕ) (read : Option (Option Group)) (lines : List (List ℕ))
+    (others : Result (Group × LinesLeft) ℕ) → 1 ≤ number → (others ≡ Err line → 1 ≤ line)
+    → then_nodes number read lines others ≡ Err line → 1 ≤ line
 first_low number line None lines others low later e = let same : number ≡ line = cc in omega arith
 first_low number line (Some None) lines others low later e = later e
 first_low number line (Some (Some nodes)) lines others low later e = absurd cc
@@ -40,7 +44,8 @@ pub nodes_low : (rings : Rings) (before : ℕ) (lines : List (List ℕ)) (line :
 unfolding nodes_in
 nodes_low rings before [] line e = let same : before + 1 ≡ line = cc in omega arith
 nodes_low rings before (first ∷ lines) line e =
-    first_low (before + 1) line (unless_skipped (nodes_of rings) first) lines (nodes_in rings (before + 1) lines) (omega arith) (nodes_low rings (before + 1) lines line) e
+    first_low (before + 1) line (unless_skipped (nodes_of rings) first) lines (nodes_in rings (before + 1) lines)
+    (omega arith) (nodes_low rings (before + 1) lines line) e
 
 voted_low : (number line : ℕ) (voted : Option Group) (lines : List (List ℕ)) → 1 ≤ number → then_votes number voted lines ≡ Err line → 1 ≤ line
 voted_low number line None lines low e = let same : number ≡ line = cc in omega arith

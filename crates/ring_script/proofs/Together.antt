@@ -1,6 +1,7 @@
 -- Which nodes a cut keeps together. Its groups are placed one after the other and share no node, so the group
 -- kept for a processor is the only one that it is in.
-use Rattle.std.proofs.Common.{◌≡◌, ◌⊎◌, ℕ, zero, suc, ◌+◌, ◌-◌, ◌<◌, ◌≤◌, true, List, [], ◌∷◌, length, get_or, replicate, Some, None, refl, ap, sym, ◌∙◌, inl, inr, arith}
+use Rattle.std.proofs.Common.{◌≡◌, ◌⊎◌, ℕ, zero, suc, ◌+◌, ◌-◌, ◌<◌, ◌≤◌, true, List, [], ◌∷◌, length, get_or}
+use Rattle.std.proofs.Common.{replicate, Some, None, refl, ap, sym, ◌∙◌, inl, inr, arith}
 use Rattle.std.specs.Prelude.{◌↔◌, ◌&&◌, ◌==◌, nat_le, if◌then◌else◌, Contains, IfSome, slice_index}
 use Rattle.std.proofs.lemmas.Bool.{and_parts, cases_Bool, eqb-true}
 use Rattle.std.proofs.lemmas.Grind.{common_steps}
@@ -9,7 +10,8 @@ use Rattle.std.proofs.lemmas.Option.{option_and_then_some}
 use Rattle.ring_base.specs.Group.{Group}
 use Rattle.ring_base.specs.Members.{has_member, member_had, nobody_member, only_members, everybody_members, union_members, common_members}
 use Rattle.ring_base.specs.Processors.{IsProc, IsMember, most_processors, has, nobody, only, everybody, union, common}
-use Rattle.ring_script.specs.Cuts.{AreTogether, HasNumber, Names, gathered, group_of, groups_of, together, are_apart, is_cut, placed_from, table_after, table_of, cut_at}
+use Rattle.ring_script.specs.Cuts.{AreTogether, HasNumber, Names, gathered, group_of, groups_of, together, are_apart}
+use Rattle.ring_script.specs.Cuts.{is_cut, placed_from, table_after, table_of, cut_at}
 use Rattle.ring_script.specs.Numbers.{node_of}
 use Rattle.ring_script.specs.Reading.{◌>>=◌}
 use Rattle.ring_script.specs.Words.{pieces}
@@ -55,7 +57,8 @@ in_no_other group groups a apart m n =
     nobody_member a (rw none at ((common_members group (together groups) a).1 (m, n)))
 
 -- no two of the groups have one node
-in_just_one : (groups : List ℕ) (a one other : ℕ) → are_apart groups ≡ true → Contains groups one → Contains groups other → IsMember one a → IsMember other a → one ≡ other
+in_just_one : (groups : List ℕ) (a one other : ℕ) → are_apart groups ≡ true → Contains groups one
+    → Contains groups other → IsMember one a → IsMember other a → one ≡ other
 unfolding are_apart
 in_just_one [] a one other apart found there m n = absurd (omega (arith, found.1))
 in_just_one (group ∷ groups) a one other apart found there m n =
@@ -78,11 +81,13 @@ unfolding placed_from
 length-placed_from group i [] = refl
 length-placed_from group i (x ∷ kept) = let rest = length-placed_from group (i + 1) kept in omega arith
 
-get_or-placed_from : (group i k : ℕ) (kept : List ℕ) → k < length kept → get_or (placed_from i group kept) k 0 ≡ (if has group (i + k) then group else get_or kept k 0)
+get_or-placed_from : (group i k : ℕ) (kept : List ℕ) → k < length kept → get_or (placed_from i group kept) k 0
+    ≡ (if has group (i + k) then group else get_or kept k 0)
 unfolding placed_from
 get_or-placed_from group i k [] lt = absurd (omega arith)
 get_or-placed_from group i zero (x ∷ kept) lt = let here : i + 0 ≡ i = omega arith in rw here refl
-get_or-placed_from group i (suc k) (x ∷ kept) lt = let later : i + suc k ≡ i + 1 + k = omega arith in rw later (get_or-placed_from group (i + 1) k kept (omega arith))
+get_or-placed_from group i (suc k) (x ∷ kept) lt = let later : i + suc k ≡ i + 1 + k = omega arith in rw later
+    (get_or-placed_from group (i + 1) k kept (omega arith))
 
 -- a group becomes that of a processor of its own, and of no other
 placed_own : (group : ℕ) (table : List ℕ) (a : ℕ) → a ≤ length table → IsMember group a → get_or (placed_from 1 group table) (a - 1) 0 ≡ group
@@ -91,7 +96,8 @@ placed_own group table a le m =
     let own : has group (1 + (a - 1)) ≡ true = rw place (has_member group a m) in
     get_or-placed_from group 1 (a - 1) table (omega (arith, m.0)) ∙ rw own refl
 
-placed_other : (group : ℕ) (table : List ℕ) (a : ℕ) → 1 ≤ a → a ≤ length table → (IsMember group a → ⊥) → get_or (placed_from 1 group table) (a - 1) 0 ≡ get_or table (a - 1) 0
+placed_other : (group : ℕ) (table : List ℕ) (a : ℕ) → 1 ≤ a → a ≤ length table → (IsMember group a → ⊥)
+    → get_or (placed_from 1 group table) (a - 1) 0 ≡ get_or table (a - 1) 0
 placed_other group table a low le out =
     let place : 1 + (a - 1) ≡ a = omega arith in
     elim (cases_Bool (has group (1 + (a - 1)))) [
@@ -100,7 +106,8 @@ placed_other group table a low le out =
     ]
 
 -- the group of a processor that is in none of those placed stays
-table_after-other : (groups table : List ℕ) (a : ℕ) → 1 ≤ a → a ≤ length table → (IsMember (together groups) a → ⊥) → get_or (table_after table groups) (a - 1) 0 ≡ get_or table (a - 1) 0
+table_after-other : (groups table : List ℕ) (a : ℕ) → 1 ≤ a → a ≤ length table → (IsMember (together groups) a → ⊥)
+    → get_or (table_after table groups) (a - 1) 0 ≡ get_or table (a - 1) 0
 unfolding together table_after
 table_after-other [] table a low le out = refl
 table_after-other (group ∷ groups) table a low le out =
@@ -108,7 +115,8 @@ table_after-other (group ∷ groups) table a low le out =
     placed_other group table a low le (λ m. out ((union_members group (together groups) a).1 (inl m)))
 
 -- the group of a processor is the one placed that it is in
-table_after-own : (groups table : List ℕ) (a group : ℕ) → a ≤ length table → are_apart groups ≡ true → Contains groups group → IsMember group a → get_or (table_after table groups) (a - 1) 0 ≡ group
+table_after-own : (groups table : List ℕ) (a group : ℕ) → a ≤ length table → are_apart groups ≡ true
+    → Contains groups group → IsMember group a → get_or (table_after table groups) (a - 1) 0 ≡ group
 unfolding are_apart table_after
 table_after-own [] table a group le apart found m = absurd (omega (arith, found.1))
 table_after-own (first ∷ groups) table a group le apart found m =
@@ -125,13 +133,15 @@ table_after-own (first ∷ groups) table a group le apart found m =
 
 -- what the test of a cut says
 apart_by : (nodes : Group) (groups : List ℕ) → is_cut nodes groups ≡ true → are_apart groups ≡ true
-apart_by nodes groups cut = (and_parts (nat_le 2 (length groups)) (are_apart groups) (and_parts (nat_le 2 (length groups) && are_apart groups) (together groups == everybody nodes.count) cut).0).1
+apart_by nodes groups cut = (and_parts (nat_le 2 (length groups)) (are_apart groups)
+    (and_parts (nat_le 2 (length groups) && are_apart groups) (together groups == everybody nodes.count) cut).0).1
 
 together_by : (nodes : Group) (groups : List ℕ) → is_cut nodes groups ≡ true → together groups ≡ everybody nodes.count
 together_by nodes groups cut = eqb-true _ _ (and_parts (nat_le 2 (length groups) && are_apart groups) (together groups == everybody nodes.count) cut).1
 
 -- the group kept for a processor is the one that it is in
-table_of-own : (nodes : Group) (groups : List ℕ) (a group : ℕ) → is_cut nodes groups ≡ true → IsProc a → Contains groups group → IsMember group a → slice_index (table_of groups) (a - 1) ≡ group
+table_of-own : (nodes : Group) (groups : List ℕ) (a group : ℕ) → is_cut nodes groups ≡ true → IsProc a
+    → Contains groups group → IsMember group a → slice_index (table_of groups) (a - 1) ≡ group
 table_of-own nodes groups a group cut proc = table_after-own groups (replicate most_processors nobody) a group proc.1 (apart_by nodes groups cut)
 
 -- nobody, where it is in none
@@ -141,7 +151,8 @@ table_of-other groups a proc out =
     get_or-replicate most_processors (a - 1) nobody 0 (omega (arith, proc.0, proc.1))
 
 -- two nodes are together where one of the groups has both
-pub are_together : (nodes : Group) (groups : List ℕ) (a b : ℕ) → is_cut nodes groups ≡ true → IsProc a → IsProc b → (has (slice_index (table_of groups) (a - 1)) b ≡ true) ↔ AreTogether groups a b
+pub are_together : (nodes : Group) (groups : List ℕ) (a b : ℕ) → is_cut nodes groups ≡ true → IsProc a → IsProc b
+    → (has (slice_index (table_of groups) (a - 1)) b ≡ true) ↔ AreTogether groups a b
 are_together nodes groups a b cut proc also = (
   λ h. elim (cases_Bool (has (together groups) a)) [
     | inl some ↦
@@ -160,7 +171,8 @@ pub cut_everyone : (nodes : Group) (groups : List ℕ) (a : ℕ) → is_cut node
 cut_everyone nodes groups a cut low high = in_one groups a (rw (together_by nodes groups cut) ((everybody_members nodes.count a).1 (low, high)))
 
 -- and in no other
-pub cut_once : (nodes : Group) (groups : List ℕ) (a one other : ℕ) → is_cut nodes groups ≡ true → Contains groups one → Contains groups other → IsMember one a → IsMember other a → one ≡ other
+pub cut_once : (nodes : Group) (groups : List ℕ) (a one other : ℕ) → is_cut nodes groups ≡ true → Contains groups one
+    → Contains groups other → IsMember one a → IsMember other a → one ≡ other
 cut_once nodes groups a one other cut = in_just_one groups a one other (apart_by nodes groups cut)
 
 -- ---- the groups that words tell
@@ -171,7 +183,8 @@ node_low nodes number = grind (arith, common_steps)
 
 -- a node of the first number, or one of the others'
 numbered_more : (nodes : Group) (number : List ℕ) (numbers : List (List ℕ)) (node set group a : ℕ) → node_of nodes number ≡ Some node → 1 ≤ node →
-    (IsMember group a ↔ (IsMember (union set (only node)) a ⊎ HasNumber nodes numbers a)) → IsMember group a ↔ (IsMember set a ⊎ HasNumber nodes (number ∷ numbers) a)
+    (IsMember group a ↔ (IsMember (union set (only node)) a ⊎ HasNumber nodes numbers a))
+    → IsMember group a ↔ (IsMember set a ⊎ HasNumber nodes (number ∷ numbers) a)
 numbered_more nodes number numbers node set group a is low others = (
   λ m. elim (others.0 m) [
     | inl u ↦ elim ((union_members set (only node) a).0 u) [
@@ -191,13 +204,15 @@ numbered_more nodes number numbers node set group a is low others = (
   ],
 )
 
-gathered_members : (nodes : Group) (set : ℕ) (numbers : List (List ℕ)) (group a : ℕ) → gathered nodes set numbers ≡ Some group → IsMember group a ↔ (IsMember set a ⊎ HasNumber nodes numbers a)
+gathered_members : (nodes : Group) (set : ℕ) (numbers : List (List ℕ)) (group a : ℕ) → gathered nodes set numbers
+    ≡ Some group → IsMember group a ↔ (IsMember set a ⊎ HasNumber nodes numbers a)
 unfolding gathered
 gathered_members nodes set [] group a read =
     let same : set ≡ group = cc in
     (λ m. inl (rw same m), λ u. elim u [ inl m ↦ rw (← same) m | inr none ↦ absurd (omega (arith, none.1.1)) ])
 gathered_members nodes set (number ∷ numbers) group a read =
-    option_and_then_some (λ node. if has set node then None else gathered nodes (union set (only node)) numbers) (node_of nodes number) group read (λ node is rest.
+    option_and_then_some (λ node. if has set node then None else gathered nodes (union set (only node)) numbers)
+    (node_of nodes number) group read (λ node is rest.
     let low : 1 ≤ node = rw is at (node_low nodes number) in
     elim (cases_Bool (has set node)) [
       | inl twice ↦ let none : None ≡ Some group = rw twice at rest in absurd cc
@@ -212,7 +227,9 @@ group_of-members nodes word group a read =
     (λ m. elim (members.0 m) [ inl none ↦ absurd (nobody_member a none) | inr named ↦ named ], λ named. members.1 (inr named))
 
 -- each group is told by a word
-by_a_word : (nodes : Group) (words : List (List ℕ)) (groups : List ℕ) (group : ℕ) → groups_of nodes words ≡ Some groups → Contains groups group → (word : List ℕ) × Contains words word × (group_of nodes word ≡ Some group)
+by_a_word : (nodes : Group) (words : List (List ℕ)) (groups : List ℕ) (group : ℕ)
+    → groups_of nodes words ≡ Some groups → Contains groups group → (word : List ℕ) × Contains words word
+    × (group_of nodes word ≡ Some group)
 unfolding groups_of
 by_a_word nodes [] groups group read found = let none : groups ≡ [] = cc in let inside = found.1 in absurd (omega (arith, ap length none))
 by_a_word nodes (word ∷ words) groups group read found =
@@ -225,7 +242,9 @@ by_a_word nodes (word ∷ words) groups group read found =
     ]))
 
 -- each word tells one of the groups
-of_a_word : (nodes : Group) (words : List (List ℕ)) (groups : List ℕ) (word : List ℕ) → groups_of nodes words ≡ Some groups → Contains words word → (group : ℕ) × Contains groups group × (group_of nodes word ≡ Some group)
+of_a_word : (nodes : Group) (words : List (List ℕ)) (groups : List ℕ) (word : List ℕ)
+    → groups_of nodes words ≡ Some groups → Contains words word → (group : ℕ) × Contains groups group
+    × (group_of nodes word ≡ Some group)
 unfolding groups_of
 of_a_word nodes [] groups word read found = absurd (omega (arith, found.1))
 of_a_word nodes (first ∷ words) groups word read found =
@@ -238,7 +257,9 @@ of_a_word nodes (first ∷ words) groups word read found =
     ]))
 
 -- two nodes are in one of the groups where one word names both
-named_together : (nodes : Group) (words : List (List ℕ)) (groups : List ℕ) (a b : ℕ) → groups_of nodes words ≡ Some groups → AreTogether groups a b ↔ ((word : List ℕ) × Contains words word × Names nodes word a × Names nodes word b)
+named_together : (nodes : Group) (words : List (List ℕ)) (groups : List ℕ) (a b : ℕ)
+    → groups_of nodes words ≡ Some groups → AreTogether groups a b ↔ ((word : List ℕ) × Contains words word
+    × Names nodes word a × Names nodes word b)
 named_together nodes words groups a b read = (
   λ t.
       let one = by_a_word nodes words groups t.0 read t.1 in
@@ -253,7 +274,8 @@ pub cut_at-together : (nodes : Group) (words rest : List (List ℕ)) (cut : List
     (has (slice_index cut (a - 1)) b ≡ true) ↔ ((word : List ℕ) × Contains words word × Names nodes word a × Names nodes word b)
 unfolding cut_at
 cut_at-together nodes words rest cut a b read proc also =
-    option_and_then_some (λ groups. if is_cut nodes groups then Some (table_of groups, []) else None) (groups_of nodes words) (cut, rest) read (λ groups told kept.
+    option_and_then_some (λ groups. if is_cut nodes groups then Some (table_of groups, []) else None)
+    (groups_of nodes words) (cut, rest) read (λ groups told kept.
     elim (cases_Bool (is_cut nodes groups)) [
       | inl parts ↦
           let all : (table_of groups, []) ≡ (cut, rest) = cc (rw parts at kept) in

@@ -1,5 +1,6 @@
 -- A line of votes, read word by word.
-use Rattle.std.proofs.Common.{◌≡◌, ℕ, zero, suc, ◌-◌, ◌≤◌, List, [], ◌∷◌, ◌++◌, length, take, Option, Some, None, refl, ap, sym, ◌∙◌, subst, arith, append_assoc, append-nil}
+use Rattle.std.proofs.Common.{◌≡◌, ℕ, zero, suc, ◌-◌, ◌≤◌, List, [], ◌∷◌, ◌++◌, length, take, Option, Some, None, refl}
+use Rattle.std.proofs.Common.{ap, sym, ◌∙◌, subst, arith, append_assoc, append-nil}
 use Rattle.std.specs.Prelude.{option_map, option_and_then, IfSome, All}
 use Rattle.std.proofs.lemmas.Grind.{common_steps}
 use Rattle.std.proofs.lemmas.List.Elements.{All-nil, All-cons}
@@ -46,8 +47,12 @@ votes_are (suc count) words read e =
     let (vote, at, next) = and_then_some (number_at 1 255 words) _ read e in
     let (others, later, made) = and_then_some (votes_at count vote.1) _ read next in
     let same : vote.0 ∷ others.0 ≡ read.0 = cc in
-    let rest = votes_are count vote.1 others later in
-    (omega (arith, ap length same, rest.0), subst (All (λ vote. 1 ≤ vote)) same (All-cons (λ vote. 1 ≤ vote) vote.0 others.0 (some_has (λ (v : ℕ × List (List ℕ)). 1 ≤ v.0) (number_at 1 255 words) vote at (low_vote words)) rest.1))
+    let rest = votes_are count vote.1 others later in (
+      omega (arith, ap length same, rest.0),
+      subst (All (λ vote. 1 ≤ vote)) same
+          (All-cons (λ vote. 1 ≤ vote) vote.0 others.0 (some_has (λ (v : ℕ × List (List ℕ)). 1 ≤ v.0)
+          (number_at 1 255 words) vote at (low_vote words)) rest.1),
+    )
 
 -- once no vote is left to read
 pub votes_all : (count i : ℕ) (votes : List ℕ) (words all : List (List ℕ)) → count ≤ i

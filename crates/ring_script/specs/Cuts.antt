@@ -1,6 +1,7 @@
 -- The groups that a cut parts the nodes into: GROUP GROUP.. of a line `cut`.
 -- Scripts, of docs/FORMATS.md.
-use Rattle.std.specs.Prelude.{◌≡◌, ℕ, ◌+◌, ◌-◌, Bool, true, nat_le, ◌&&◌, ◌==◌, if◌then◌else◌, List, [], ◌∷◌, length, replicate, slice_set, Contains, Option, Some, None}
+use Rattle.std.specs.Prelude.{◌≡◌, ℕ, ◌+◌, ◌-◌, Bool, true, nat_le, ◌&&◌, ◌==◌, if◌then◌else◌, List, [], ◌∷◌, length}
+use Rattle.std.specs.Prelude.{replicate, slice_set, Contains, Option, Some, None}
 use Rattle.ring_base.specs.Group.{Group}
 use Rattle.ring_base.specs.Processors.{IsMember, most_processors, has, nobody, only, everybody, union, common, less}
 use Rattle.ring_script.specs.Numbers.{node_of}

@@ -71,13 +71,38 @@ FaultsTold = map (λ row. script_of OfMany (text row.1)) faulty ≡ map (λ row.
 
 -- the lines of a text, and what they ask for
 abbrev pub good : List (List (List ℕ) × Schedule)
-good =
-    (codes "nodes 3" ∷ codes "cut 3,1 2" ∷ [], record { nodes = nodes_alike 3; asked = (2, Cut (5 ∷ 2 ∷ 5 ∷ 0 ∷ 0 ∷ 0 ∷ 0 ∷ 0 ∷ 0 ∷ 0 ∷ 0 ∷ 0 ∷ 0 ∷ 0 ∷ 0 ∷ 0 ∷ [])) ∷ [] }) ∷
-    (codes "nodes 2" ∷ codes "deliver 1 99999999999999999999999" ∷ [], record { nodes = nodes_alike 2; asked = (2, Deliver 1 None) ∷ [] }) ∷
-    (codes "# one" ∷ [] ∷ codes "nodes 16" ∷ codes "timeout 16 loss" ∷ codes "noise 2 5452" ∷ codes "stop 3" ∷ codes "heal" ∷ codes "pump 100000" ∷ codes "show" ∷ [] ∷ [], record { nodes = nodes_alike 16; asked = (4, Timeout 16 Loss) ∷ (5, Noise 2 (84 ∷ 82 ∷ [])) ∷ (6, Stop 3) ∷ (7, Heal) ∷ (8, Pump 100000) ∷ (9, Show) ∷ [] }) ∷
-    (codes "nodes 4" ∷ codes "votes 3 1 1 255" ∷ codes "show" ∷ [], record { nodes = record { count = 4; votes = 3 ∷ 1 ∷ 1 ∷ 255 ∷ [] }; asked = (3, Show) ∷ [] }) ∷
-    (codes "nodes 2" ∷ codes "# votes 9 9" ∷ [] ∷ codes "votes 2 7" ∷ codes "heal" ∷ [], record { nodes = record { count = 2; votes = 2 ∷ 7 ∷ [] }; asked = (5, Heal) ∷ [] }) ∷
-    (codes "nodes 1" ∷ codes "deliver 1 18446744073709551615" ∷ codes "call 1 7 1 add 0 5" ∷ [], record { nodes = nodes_alike 1; asked = (2, Deliver 1 (Some 18446744073709551615)) ∷ (3, Call 1 7 1 (1 ∷ 1 ∷ 0 ∷ 0 ∷ 0 ∷ 0 ∷ 0 ∷ 0 ∷ 0 ∷ 0 ∷ 5 ∷ [])) ∷ [] }) ∷
+good = (
+  codes "nodes 3" ∷ codes "cut 3,1 2" ∷ [],
+  record {
+    nodes = nodes_alike 3;
+    asked = (
+      2,
+      Cut (5 ∷ 2 ∷ 5 ∷ 0 ∷ 0 ∷ 0 ∷ 0 ∷ 0 ∷ 0 ∷ 0 ∷ 0 ∷ 0 ∷ 0 ∷ 0 ∷ 0 ∷ 0 ∷ []),
+    ) ∷ [];
+  },
+) ∷
+    (codes "nodes 2" ∷ codes "deliver 1 99999999999999999999999" ∷ [], record { nodes = nodes_alike 2; asked = (2, Deliver 1 None) ∷ [] }) ∷ (
+      codes "# one" ∷ [] ∷ codes "nodes 16" ∷ codes "timeout 16 loss" ∷ codes "noise 2 5452" ∷ codes "stop 3"
+          ∷ codes "heal" ∷ codes "pump 100000" ∷ codes "show" ∷ [] ∷ [],
+      record {
+        nodes = nodes_alike 16;
+        asked = (4, Timeout 16 Loss) ∷ (5, Noise 2 (84 ∷ 82 ∷ [])) ∷ (6, Stop 3)
+            ∷ (7, Heal) ∷ (8, Pump 100000) ∷ (9, Show) ∷ [];
+      },
+    ) ∷ (
+      codes "nodes 4" ∷ codes "votes 3 1 1 255" ∷ codes "show" ∷ [],
+      record { nodes = record { count = 4; votes = 3 ∷ 1 ∷ 1 ∷ 255 ∷ [] }; asked = (3, Show) ∷ [] },
+    ) ∷ (
+      codes "nodes 2" ∷ codes "# votes 9 9" ∷ [] ∷ codes "votes 2 7" ∷ codes "heal" ∷ [],
+      record { nodes = record { count = 2; votes = 2 ∷ 7 ∷ [] }; asked = (5, Heal) ∷ [] },
+    ) ∷ (
+      codes "nodes 1" ∷ codes "deliver 1 18446744073709551615" ∷ codes "call 1 7 1 add 0 5" ∷ [],
+      record {
+        nodes = nodes_alike 1;
+        asked = (2, Deliver 1 (Some 18446744073709551615))
+            ∷ (3, Call 1 7 1 (1 ∷ 1 ∷ 0 ∷ 0 ∷ 0 ∷ 0 ∷ 0 ∷ 0 ∷ 0 ∷ 0 ∷ 5 ∷ [])) ∷ [];
+      },
+    ) ∷
     []
 
 abbrev pub SchedulesTold : Type 0

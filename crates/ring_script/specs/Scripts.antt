@@ -1,6 +1,7 @@
 -- What scripts are for, and the whole language of them: which script a text is, or which line of it is at fault.
 -- Scripts, of docs/FORMATS.md.
-use Rattle.std.specs.Prelude.{◌≡◌, ℕ, ◌+◌, ◌≤◌, ◌⊎◌, Bool, true, false, ◌==◌, ◌&&◌, if◌then◌else◌, List, [], ◌∷◌, length, map, codes, Option, Some, None, option_map, Result, Ok, Err, ⊤}
+use Rattle.std.specs.Prelude.{◌≡◌, ℕ, ◌+◌, ◌≤◌, ◌⊎◌, Bool, true, false, ◌==◌, ◌&&◌, if◌then◌else◌, List, [], ◌∷◌}
+use Rattle.std.specs.Prelude.{length, map, codes, Option, Some, None, option_map, Result, Ok, Err, ⊤}
 use Rattle.std.specs.List.{AllByRecursion}
 use Rattle.ring_base.specs.Group.{Group}
 use Rattle.ring_base.specs.declared.fault.Fault.{Fault}

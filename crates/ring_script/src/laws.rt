@@ -9,8 +9,12 @@ ghost use Rattle.ring_script.specs.Cuts.{AreTogether, Names, cut_at, is_cut, tab
 /// groups, and in no other. Where words tell the cut, two nodes are together exactly where one word has the
 /// numbers of both.
 pub fn cut_law()
-    ensures together { (nodes : Group) (groups : List ℕ) (a b : ℕ) → is_cut nodes groups ≡ true → IsProc a → IsProc b → (has (slice_index (table_of groups) (a - 1)) b ≡ true) ↔ AreTogether groups a b }
+    ensures together { (nodes : Group) (groups : List ℕ) (a b : ℕ) → is_cut nodes groups ≡ true → IsProc a → IsProc b
+        → (has (slice_index (table_of groups) (a - 1)) b ≡ true) ↔ AreTogether groups a b }
     ensures everyone { (nodes : Group) (groups : List ℕ) (a : ℕ) → is_cut nodes groups ≡ true → 1 ≤ a → a ≤ nodes.count → AreTogether groups a a }
-    ensures once { (nodes : Group) (groups : List ℕ) (a one other : ℕ) → is_cut nodes groups ≡ true → Contains groups one → Contains groups other → IsMember one a → IsMember other a → one ≡ other }
-    ensures told { (nodes : Group) (words rest : List (List ℕ)) (cut : List ℕ) (a b : ℕ) → cut_at nodes words ≡ Some (cut, rest) → IsProc a → IsProc b → (has (slice_index cut (a - 1)) b ≡ true) ↔ ((word : List ℕ) × Contains words word × Names nodes word a × Names nodes word b) }
+    ensures once { (nodes : Group) (groups : List ℕ) (a one other : ℕ) → is_cut nodes groups ≡ true
+        → Contains groups one → Contains groups other → IsMember one a → IsMember other a → one ≡ other }
+    ensures told { (nodes : Group) (words rest : List (List ℕ)) (cut : List ℕ) (a b : ℕ) → cut_at nodes words ≡ Some
+        (cut, rest) → IsProc a → IsProc b → (has (slice_index cut (a - 1)) b ≡ true) ↔ ((word : List ℕ)
+        × Contains words word × Names nodes word a × Names nodes word b) }
 {}

@@ -3,7 +3,8 @@
 ghost use Rattle.std.specs.Char.{is_ascii_uppercase};
 ghost use Rattle.std.specs.List.{list_any};
 ghost use Rattle.std.specs.Prelude.{◌≡◌};
-ghost use Rattle.ring_script.specs.Lines.{asked_by, asked_of, form_at, call_at, deliver_at, timeout_at, noise_at, stop_at, cut_line_at, pump_at, frame_of, kind_of, bytes_of};
+ghost use Rattle.ring_script.specs.Lines.{asked_by, asked_of, form_at, call_at, deliver_at, timeout_at, noise_at};
+ghost use Rattle.ring_script.specs.Lines.{stop_at, cut_line_at, pump_at, frame_of, kind_of, bytes_of};
 ghost use Rattle.ring_script.specs.Reading.{Gives, Tells};
 
 use crate::groups::Groups;

@@ -7,7 +7,9 @@ ghost use Rattle.ring_script.specs.Faults.{IsOfText};
 ghost use Rattle.ring_script.specs.Fits.{AreFit};
 ghost use Rattle.ring_script.specs.Lines.{asked_by};
 ghost use Rattle.ring_script.specs.Reading.{Gives, Tells};
-ghost use Rattle.ring_script.specs.Scripts.{CanForm, allowed, nodes_of, is_useful, useful_of, unless_skipped, at_line, nodes_in, asked_in, script_of, numbered_by, schedule_by, AreAmong, Answers, longest_text, IsAllOf, AnswersInput, IsUnread};
+ghost use Rattle.ring_script.specs.Scripts.{CanForm, allowed, nodes_of, is_useful, useful_of, unless_skipped, at_line};
+ghost use Rattle.ring_script.specs.Scripts.{nodes_in, asked_in, script_of, numbered_by, schedule_by, AreAmong, Answers};
+ghost use Rattle.ring_script.specs.Scripts.{longest_text, IsAllOf, AnswersInput, IsUnread};
 ghost use Rattle.ring_script.specs.Words.{are_ascii, is_skipped};
 
 use crate::line::Line;

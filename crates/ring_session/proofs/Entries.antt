@@ -35,32 +35,42 @@ below_all x k lt (y ∷ ys) below =
 known_step : {X : Type 0} (e : ℕ × X) (es : List (ℕ × X)) (k : ℕ) (w v : X) (o : Ordering) → (o ≡ Less → lookup (is_at (nat_cmp k)) (e ∷ es) ≡ None)
     → (lookup (is_at (nat_cmp k)) es ≡ Some v → set_value (is_at (nat_cmp k)) es w ≡ insert_entry nat_cmp es k w) → lookup (is_at (nat_cmp k)) (e ∷ es) ≡ Some v
     → cond (is_eq o) (Some e.1) (lookup (is_at (nat_cmp k)) es) ≡ Some v
-    → cond (is_eq o) ((e.0, w) ∷ es) (e ∷ set_value (is_at (nat_cmp k)) es w) ≡ match_ordering o ((k, w) ∷ e ∷ es) ((e.0, w) ∷ es) (e ∷ insert_entry nat_cmp es k w)
+    → cond (is_eq o) ((e.0, w) ∷ es) (e ∷ set_value (is_at (nat_cmp k)) es w) ≡ match_ordering o ((k, w) ∷ e ∷ es)
+    ((e.0, w) ∷ es) (e ∷ insert_entry nat_cmp es k w)
 known_step e es k w v Less below rest found there = absurd (cc (found, below refl))
 known_step e es k w v Equal below rest found there = refl
 known_step e es k w v Greater below rest found there = ap (λ l. e ∷ l) (rest there)
 
 -- a known key keeps its place
-pub set_value-known : {X : Type 0} (es : List (ℕ × X)) (k : ℕ) (w v : X) → IsStrictlySortedBy nat_cmp (keys_of es) → lookup (is_at (nat_cmp k)) es ≡ Some v → set_value (is_at (nat_cmp k)) es w ≡ insert_entry nat_cmp es k w
+pub set_value-known : {X : Type 0} (es : List (ℕ × X)) (k : ℕ) (w v : X) → IsStrictlySortedBy nat_cmp (keys_of es)
+    → lookup (is_at (nat_cmp k)) es ≡ Some v → set_value (is_at (nat_cmp k)) es w ≡ insert_entry nat_cmp es k w
 set_value-known [] k w v sorted found = absurd (cc found)
 set_value-known (e ∷ es) k w v sorted found =
     known_step e es k w v (nat_cmp k e.0) (λ less. lookup-none (is_at (nat_cmp k)) (e ∷ es) (none_below_head nat_cmp_total k e es sorted less))
     (set_value-known es k w v (sorted_tail nat_cmp e.0 (keys_of es) sorted)) found found
 
-remove_step : {X : Type 0} (e : ℕ × X) (es : List (ℕ × X)) (k : ℕ) (w : X) (o : Ordering) → o ≡ nat_cmp k e.0 → (lookup (is_at (nat_cmp k)) es ≡ None → remove_entry (is_at (nat_cmp k)) (insert_entry nat_cmp es k w) ≡ es)
-    → cond (is_eq o) (Some e.1) (lookup (is_at (nat_cmp k)) es) ≡ None → remove_entry (is_at (nat_cmp k)) (match_ordering o ((k, w) ∷ e ∷ es) ((e.0, w) ∷ es) (e ∷ insert_entry nat_cmp es k w)) ≡ e ∷ es
+remove_step : {X : Type 0} (e : ℕ × X) (es : List (ℕ × X)) (k : ℕ) (w : X) (o : Ordering) → o ≡ nat_cmp k e.0
+    → (lookup (is_at (nat_cmp k)) es ≡ None → remove_entry (is_at (nat_cmp k)) (insert_entry nat_cmp es k w) ≡ es)
+    → cond (is_eq o) (Some e.1) (lookup (is_at (nat_cmp k)) es) ≡ None → remove_entry (is_at (nat_cmp k))
+    (match_ordering o ((k, w) ∷ e ∷ es) ((e.0, w) ∷ es) (e ∷ insert_entry nat_cmp es k w)) ≡ e ∷ es
 remove_step e es k w Less is rest none = cond-true (is_at (nat_cmp k) k) (e ∷ es) ((k, w) ∷ remove_entry (is_at (nat_cmp k)) (e ∷ es)) (at_itself k)
 remove_step e es k w Equal is rest none = absurd (cc none)
 remove_step e es k w Greater is rest none =
-    cond-false (is_at (nat_cmp k) e.0) (insert_entry nat_cmp es k w) (e ∷ remove_entry (is_at (nat_cmp k)) (insert_entry nat_cmp es k w)) (ap is_eq (sym is)) ∙ ap (λ l. e ∷ l) (rest none)
+    cond-false (is_at (nat_cmp k) e.0) (insert_entry nat_cmp es k w)
+    (e ∷ remove_entry (is_at (nat_cmp k)) (insert_entry nat_cmp es k w)) (ap is_eq (sym is))
+    ∙ ap (λ l. e ∷ l) (rest none)
 
 -- a new key put in and taken out
-pub remove_entry-new : {X : Type 0} (es : List (ℕ × X)) (k : ℕ) (w : X) → lookup (is_at (nat_cmp k)) es ≡ None → remove_entry (is_at (nat_cmp k)) (insert_entry nat_cmp es k w) ≡ es
+pub remove_entry-new : {X : Type 0} (es : List (ℕ × X)) (k : ℕ) (w : X) → lookup (is_at (nat_cmp k)) es ≡ None
+    → remove_entry (is_at (nat_cmp k)) (insert_entry nat_cmp es k w) ≡ es
 remove_entry-new [] k w none = cond-true (is_at (nat_cmp k) k) [] ((k, w) ∷ []) (at_itself k)
 remove_entry-new (e ∷ es) k w none = remove_step e es k w (nat_cmp k e.0) refl (remove_entry-new es k w) none
 
-length_step : {X : Type 0} (e : ℕ × X) (es : List (ℕ × X)) (k : ℕ) (w : X) (o : Ordering) → (lookup (is_at (nat_cmp k)) es ≡ None → length (insert_entry nat_cmp es k w) ≡ length es + 1)
-    → cond (is_eq o) (Some e.1) (lookup (is_at (nat_cmp k)) es) ≡ None → length (match_ordering o ((k, w) ∷ e ∷ es) ((e.0, w) ∷ es) (e ∷ insert_entry nat_cmp es k w)) ≡ length (e ∷ es) + 1
+length_step : {X : Type 0} (e : ℕ × X) (es : List (ℕ × X)) (k : ℕ) (w : X) (o : Ordering)
+    → (lookup (is_at (nat_cmp k)) es ≡ None → length (insert_entry nat_cmp es k w) ≡ length es + 1)
+    → cond (is_eq o) (Some e.1) (lookup (is_at (nat_cmp k)) es) ≡ None
+    → length (match_ordering o ((k, w) ∷ e ∷ es) ((e.0, w) ∷ es) (e ∷ insert_entry nat_cmp es k w)) ≡ length
+    (e ∷ es) + 1
 length_step e es k w Less rest none = omega arith
 length_step e es k w Equal rest none = absurd (cc none)
 length_step e es k w Greater rest none = omega (arith, rest none)
@@ -70,28 +80,33 @@ pub length-new : {X : Type 0} (es : List (ℕ × X)) (k : ℕ) (w : X) → looku
 length-new [] k w none = refl
 length-new (e ∷ es) k w none = length_step e es k w (nat_cmp k e.0) (length-new es k w) none
 
-same_step : {X : Type 0} (e : ℕ × X) (es : List (ℕ × X)) (k : ℕ) (w : X) (o : Ordering) → o ≡ nat_cmp k e.0 → lookup (is_at (nat_cmp k)) (insert_entry nat_cmp es k w) ≡ Some w
+same_step : {X : Type 0} (e : ℕ × X) (es : List (ℕ × X)) (k : ℕ) (w : X) (o : Ordering) → o ≡ nat_cmp k e.0
+    → lookup (is_at (nat_cmp k)) (insert_entry nat_cmp es k w) ≡ Some w
     → lookup (is_at (nat_cmp k)) (match_ordering o ((k, w) ∷ e ∷ es) ((e.0, w) ∷ es) (e ∷ insert_entry nat_cmp es k w)) ≡ Some w
 same_step e es k w Less is rest = cond-true (is_at (nat_cmp k) k) (Some w) (lookup (is_at (nat_cmp k)) (e ∷ es)) (at_itself k)
 same_step e es k w Equal is rest = cond-true (is_at (nat_cmp k) e.0) (Some w) (lookup (is_at (nat_cmp k)) es) (ap is_eq (sym is))
-same_step e es k w Greater is rest = cond-false (is_at (nat_cmp k) e.0) (Some e.1) (lookup (is_at (nat_cmp k)) (insert_entry nat_cmp es k w)) (ap is_eq (sym is)) ∙ rest
+same_step e es k w Greater is rest = cond-false (is_at (nat_cmp k) e.0) (Some e.1)
+    (lookup (is_at (nat_cmp k)) (insert_entry nat_cmp es k w)) (ap is_eq (sym is)) ∙ rest
 
 -- the key has what was put in
 pub lookup-insert_same : {X : Type 0} (es : List (ℕ × X)) (k : ℕ) (w : X) → lookup (is_at (nat_cmp k)) (insert_entry nat_cmp es k w) ≡ Some w
 lookup-insert_same [] k w = cond-true (is_at (nat_cmp k) k) (Some w) None (at_itself k)
 lookup-insert_same (e ∷ es) k w = same_step e es k w (nat_cmp k e.0) refl (lookup-insert_same es k w)
 
-other_step : {X : Type 0} (e : ℕ × X) (es : List (ℕ × X)) (k q : ℕ) (w : X) (o : Ordering) → o ≡ nat_cmp k e.0 → (q ≡ k → ⊥) → lookup (is_at (nat_cmp q)) (insert_entry nat_cmp es k w) ≡ lookup (is_at (nat_cmp q)) es
+other_step : {X : Type 0} (e : ℕ × X) (es : List (ℕ × X)) (k q : ℕ) (w : X) (o : Ordering) → o ≡ nat_cmp k e.0
+    → (q ≡ k → ⊥) → lookup (is_at (nat_cmp q)) (insert_entry nat_cmp es k w) ≡ lookup (is_at (nat_cmp q)) es
     → lookup (is_at (nat_cmp q)) (match_ordering o ((k, w) ∷ e ∷ es) ((e.0, w) ∷ es) (e ∷ insert_entry nat_cmp es k w)) ≡ lookup (is_at (nat_cmp q)) (e ∷ es)
 other_step e es k q w Less is ne rest = cond-false (is_at (nat_cmp q) k) (Some w) (lookup (is_at (nat_cmp q)) (e ∷ es)) (at_other q k (nat_cmp q k) refl ne)
 other_step e es k q w Equal is ne rest =
     let here : k ≡ e.0 = ranked k e.0 Equal is in
     let apart : is_at (nat_cmp q) e.0 ≡ false = at_other q e.0 (nat_cmp q e.0) refl (λ same. ne (same ∙ sym here)) in
-    cond-false (is_at (nat_cmp q) e.0) (Some w) (lookup (is_at (nat_cmp q)) es) apart ∙ sym (cond-false (is_at (nat_cmp q) e.0) (Some e.1) (lookup (is_at (nat_cmp q)) es) apart)
+    cond-false (is_at (nat_cmp q) e.0) (Some w) (lookup (is_at (nat_cmp q)) es) apart
+    ∙ sym (cond-false (is_at (nat_cmp q) e.0) (Some e.1) (lookup (is_at (nat_cmp q)) es) apart)
 other_step e es k q w Greater is ne rest = ap (λ o. cond (is_at (nat_cmp q) e.0) (Some e.1) o) rest
 
 -- each other key has what it had
-pub lookup-insert_other : {X : Type 0} (es : List (ℕ × X)) (k q : ℕ) (w : X) → (q ≡ k → ⊥) → lookup (is_at (nat_cmp q)) (insert_entry nat_cmp es k w) ≡ lookup (is_at (nat_cmp q)) es
+pub lookup-insert_other : {X : Type 0} (es : List (ℕ × X)) (k q : ℕ) (w : X) → (q ≡ k → ⊥)
+    → lookup (is_at (nat_cmp q)) (insert_entry nat_cmp es k w) ≡ lookup (is_at (nat_cmp q)) es
 lookup-insert_other [] k q w ne = cond-false (is_at (nat_cmp q) k) (Some w) None (at_other q k (nat_cmp q k) refl ne)
 lookup-insert_other (e ∷ es) k q w ne = other_step e es k q w (nat_cmp k e.0) refl ne (lookup-insert_other es k q w ne)
 
@@ -102,17 +117,22 @@ pub sorted_none : IsStrictlySortedBy nat_cmp []
 unfolding IsStrictlySortedBy
 sorted_none = tt
 
-below_step : {X : Type 0} (x : ℕ) (e : ℕ × X) (es : List (ℕ × X)) (k : ℕ) (w : X) (o : Ordering) → nat_cmp x k ≡ Less → AllByRecursion (λ y. nat_cmp x y ≡ Less) (keys_of (e ∷ es)) → AllByRecursion (λ y. nat_cmp x y ≡ Less) (keys_of (insert_entry nat_cmp es k w))
+below_step : {X : Type 0} (x : ℕ) (e : ℕ × X) (es : List (ℕ × X)) (k : ℕ) (w : X) (o : Ordering) → nat_cmp x k ≡ Less
+    → AllByRecursion (λ y. nat_cmp x y ≡ Less) (keys_of (e ∷ es)) → AllByRecursion (λ y. nat_cmp x y ≡ Less)
+    (keys_of (insert_entry nat_cmp es k w))
     → AllByRecursion (λ y. nat_cmp x y ≡ Less) (keys_of (match_ordering o ((k, w) ∷ e ∷ es) ((e.0, w) ∷ es) (e ∷ insert_entry nat_cmp es k w)))
 below_step x e es k w Less lt below rest = (lt, below)
 below_step x e es k w Equal lt below rest = below
 below_step x e es k w Greater lt below rest = (below.0, rest)
 
-below_insert : {X : Type 0} (x : ℕ) (es : List (ℕ × X)) (k : ℕ) (w : X) → nat_cmp x k ≡ Less → AllByRecursion (λ y. nat_cmp x y ≡ Less) (keys_of es) → AllByRecursion (λ y. nat_cmp x y ≡ Less) (keys_of (insert_entry nat_cmp es k w))
+below_insert : {X : Type 0} (x : ℕ) (es : List (ℕ × X)) (k : ℕ) (w : X) → nat_cmp x k ≡ Less
+    → AllByRecursion (λ y. nat_cmp x y ≡ Less) (keys_of es) → AllByRecursion (λ y. nat_cmp x y ≡ Less)
+    (keys_of (insert_entry nat_cmp es k w))
 below_insert x [] k w lt below = (lt, tt)
 below_insert x (e ∷ es) k w lt below = below_step x e es k w (nat_cmp k e.0) lt below (below_insert x es k w lt below.1)
 
-sorted_step : {X : Type 0} (e : ℕ × X) (es : List (ℕ × X)) (k : ℕ) (w : X) (o : Ordering) → o ≡ nat_cmp k e.0 → IsStrictlySortedBy nat_cmp (keys_of (e ∷ es)) → IsStrictlySortedBy nat_cmp (keys_of (insert_entry nat_cmp es k w))
+sorted_step : {X : Type 0} (e : ℕ × X) (es : List (ℕ × X)) (k : ℕ) (w : X) (o : Ordering) → o ≡ nat_cmp k e.0
+    → IsStrictlySortedBy nat_cmp (keys_of (e ∷ es)) → IsStrictlySortedBy nat_cmp (keys_of (insert_entry nat_cmp es k w))
     → IsStrictlySortedBy nat_cmp (keys_of (match_ordering o ((k, w) ∷ e ∷ es) ((e.0, w) ∷ es) (e ∷ insert_entry nat_cmp es k w)))
 unfolding IsStrictlySortedBy
 sorted_step e es k w Less is sorted rest = ((sym is, below_all k e.0 (ranked k e.0 Less is) (keys_of es) sorted.0), sorted)
@@ -120,7 +140,8 @@ sorted_step e es k w Equal is sorted rest = sorted
 sorted_step e es k w Greater is sorted rest = (below_insert e.0 es k w (sym (nat_cmp_is e.0 k Less (ranked k e.0 Greater is))) sorted.0, rest)
 
 -- the keys still ascend
-pub sorted_insert : {X : Type 0} (es : List (ℕ × X)) (k : ℕ) (w : X) → IsStrictlySortedBy nat_cmp (keys_of es) → IsStrictlySortedBy nat_cmp (keys_of (insert_entry nat_cmp es k w))
+pub sorted_insert : {X : Type 0} (es : List (ℕ × X)) (k : ℕ) (w : X) → IsStrictlySortedBy nat_cmp (keys_of es)
+    → IsStrictlySortedBy nat_cmp (keys_of (insert_entry nat_cmp es k w))
 unfolding IsStrictlySortedBy
 sorted_insert [] k w sorted = (tt, tt)
 sorted_insert (e ∷ es) k w sorted = sorted_step e es k w (nat_cmp k e.0) refl sorted (sorted_insert es k w sorted.1)

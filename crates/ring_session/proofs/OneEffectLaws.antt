@@ -1,5 +1,7 @@
 -- Each client's call has one effect and one reply.
-use Rattle.std.proofs.Common.{◌≡◌, ℕ, zero, suc, ◌+◌, ◌==◌, ◌&&◌, nat_lt, Bool, true, false, List, [], ◌∷◌, ◌++◌, length, take, Some, position, refl, ap, sym, subst, ◌∙◌, arith, append_assoc, length-append, if◌then◌else◌}
+use Rattle.std.proofs.Common.{◌≡◌, ℕ, zero, suc, ◌+◌, ◌==◌, ◌&&◌, nat_lt, Bool, true, false, List, [], ◌∷◌, ◌++◌}
+use Rattle.std.proofs.Common.{length, take, Some, position, refl, ap, sym, subst, ◌∙◌, arith, append_assoc}
+use Rattle.std.proofs.Common.{length-append, if◌then◌else◌}
 use Rattle.std.proofs.lemmas.List.{append-nil}
 use Rattle.ring_base.specs.Fronts.{front_append}
 use Rattle.ring_object.specs.Operations.{Sequential}
@@ -32,7 +34,8 @@ first_effect before cs c taken =
       earlier = let e : length (deduplicated (before ++ [])) ≡ length (deduplicated before) = ap (λ w. length (deduplicated w)) same in omega (arith, e);
     }
 
-later_effect : {A : Type 0} (before cs : List (Call A)) (d c : Call A) (q n : ℕ) → EffectAt (before ++ d ∷ []) cs q c → length (deduplicated (before ++ d ∷ [])) + q ≡ length (deduplicated before) + n → EffectAt before (d ∷ cs) n c
+later_effect : {A : Type 0} (before cs : List (Call A)) (d c : Call A) (q n : ℕ) → EffectAt (before ++ d ∷ []) cs q c
+    → length (deduplicated (before ++ d ∷ [])) + q ≡ length (deduplicated before) + n → EffectAt before (d ∷ cs) n c
 later_effect before cs d c q n effect many =
     let same : (before ++ d ∷ []) ++ take effect.place cs ≡ before ++ take (suc effect.place) (d ∷ cs) = append_assoc before (d ∷ []) (take effect.place cs) in
     record {
@@ -44,7 +47,8 @@ later_effect before cs d c q n effect many =
 
 effect_step : {A : Type 0} (before cs : List (Call A)) (d : Call A) (b : Bool) → takes_effect (deduplicated before) d ≡ b
     → ((q : ℕ) (c : Call A) → StandsAt (deduplicated_after (deduplicated (before ++ d ∷ [])) cs) q c → EffectAt (before ++ d ∷ []) cs q c)
-    → (q : ℕ) (c : Call A) → StandsAt (if b then d ∷ deduplicated_after (deduplicated before ++ d ∷ []) cs else deduplicated_after (deduplicated before) cs) q c → EffectAt before (d ∷ cs) q c
+    → (q : ℕ) (c : Call A) → StandsAt (if b then d ∷ deduplicated_after (deduplicated before ++ d ∷ [])
+    cs else deduplicated_after (deduplicated before) cs) q c → EffectAt before (d ∷ cs) q c
 effect_step before cs d true is rest zero c at =
     let same : d ≡ c = cc at in
     subst (EffectAt before (d ∷ cs) 0) same (first_effect before cs d is)
@@ -59,7 +63,8 @@ effect_step before cs d false is rest q c at =
     let effect = rest q c (subst (λ w. StandsAt (deduplicated_after w cs) q c) (sym same) at) in
     later_effect before cs d c q q effect (omega (arith, ap length same))
 
-effect_at : {A : Type 0} (before calls : List (Call A)) (q : ℕ) (c : Call A) → StandsAt (deduplicated_after (deduplicated before) calls) q c → EffectAt before calls q c
+effect_at : {A : Type 0} (before calls : List (Call A)) (q : ℕ) (c : Call A)
+    → StandsAt (deduplicated_after (deduplicated before) calls) q c → EffectAt before calls q c
 effect_at before [] q c at = absurd (cc at)
 effect_at before (d ∷ cs) q c at = effect_step before cs d (takes_effect (deduplicated before) d) refl (effect_at (before ++ d ∷ []) cs) q c at
 
@@ -75,7 +80,8 @@ module _ {O A : Type 0} (object : Sequential O) where
       let effect = effect_at [] calls q c at in
       let kept = deduplicated (take effect.place calls) in
       let replies : ℕ → List ℕ = call_reply object (deduplicated calls) in
-      let done = done_answer (c.number == count_of c.client kept + 1) (may_call kept c.client) (c.number == count_of c.client kept) (nat_lt c.number (count_of c.client kept))
+      let done = done_answer (c.number == count_of c.client kept + 1) (may_call kept c.client)
+      (c.number == count_of c.client kept) (nat_lt c.number (count_of c.client kept))
       (replies (length kept)) (repeated replies (position (is_same c) kept)) effect.taken in
       let place : length kept ≡ q = omega (arith, effect.earlier) in
       (effect.place, effect.stands, session_answer-at object calls effect.place c effect.stands ∙ ap Some (done ∙ ap (λ n. Done (replies n)) place))
@@ -84,12 +90,15 @@ module _ {O A : Type 0} (object : Sequential O) where
   is_done_once = done_once object
 
   pub replies_are_the_objects : (calls : List (Call A)) → RepliesAreTheObjects object calls
-  replies_are_the_objects calls p c r replied =
-      (answered object calls p c replied.answer r replied.stands replied.told replied.brings, answered-number object calls p c replied.answer r replied.stands replied.told replied.brings)
+  replies_are_the_objects calls p c r replied = (
+    answered object calls p c replied.answer r replied.stands replied.told replied.brings,
+    answered-number object calls p c replied.answer r replied.stands replied.told replied.brings,
+  )
 
   pub replies_are_one : (calls : List (Call A)) → RepliesAreOne object calls
   replies_are_one calls p q c d r s x y client number =
-      one_reply object (deduplicated calls) (deduplicated-numbered calls) c d r s (replies_are_the_objects calls p c r x).0 (replies_are_the_objects calls q d s y).0 client number
+      one_reply object (deduplicated calls) (deduplicated-numbered calls) c d r s
+      (replies_are_the_objects calls p c r x).0 (replies_are_the_objects calls q d s y).0 client number
 
   pub answers_stay : (calls : List (Call A)) → AnswersStay object calls
   answers_stay calls more p c at = session_answer-front object calls (calls ++ more) p c at (front_append calls more)

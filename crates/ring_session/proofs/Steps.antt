@@ -17,31 +17,40 @@ use Rattle.ring_session.proofs.Entries.{set_value-known, remove_entry-new, lengt
 -- ---- the sessions after a write
 
 -- a session written back as it was
-pub written_same : (es after : List (ℕ × LastCall)) (client : ℕ) (last new : LastCall) → after ≡ set_value (is_at (nat_cmp client)) es new → lookup (is_at (nat_cmp client)) es ≡ Some last → new ≡ last → after ≡ es
-written_same es after client last new written found same = written ∙ ap (set_value (is_at (nat_cmp client)) es) same ∙ set_value_same (is_at (nat_cmp client)) es last found
+pub written_same : (es after : List (ℕ × LastCall)) (client : ℕ) (last new : LastCall)
+    → after ≡ set_value (is_at (nat_cmp client)) es new → lookup (is_at (nat_cmp client)) es ≡ Some last → new ≡ last
+    → after ≡ es
+written_same es after client last new written found same = written ∙ ap (set_value (is_at (nat_cmp client)) es) same
+    ∙ set_value_same (is_at (nat_cmp client)) es last found
 
 -- a session put in and taken out
-pub taken_out : (es put after : List (ℕ × LastCall)) (client : ℕ) (new : LastCall) → after ≡ remove_entry (is_at (nat_cmp client)) put → put ≡ insert_entry nat_cmp es client new → lookup (is_at (nat_cmp client)) es ≡ None → after ≡ es
+pub taken_out : (es put after : List (ℕ × LastCall)) (client : ℕ) (new : LastCall) → after ≡ remove_entry
+    (is_at (nat_cmp client)) put → put ≡ insert_entry nat_cmp es client new → lookup (is_at (nat_cmp client)) es ≡ None
+    → after ≡ es
 taken_out es put after client new out was none = out ∙ ap (remove_entry (is_at (nat_cmp client))) was ∙ remove_entry-new es client new none
 
 -- ---- what every table keeps
 
-pub IsTable-content : {O : Type 0} (es after : List (ℕ × LastCall)) (content content' : O) → IsTable (table_of es content) → after ≡ es → IsTable (table_of after content')
+pub IsTable-content : {O : Type 0} (es after : List (ℕ × LastCall)) (content content' : O)
+    → IsTable (table_of es content) → after ≡ es → IsTable (table_of after content')
 IsTable-content es after content content' is same = record {
   few = subst (λ (l : List (ℕ × LastCall)). length l ≤ most_clients) (sym same) is.few;
   numbered = subst (λ (l : List (ℕ × LastCall)). All (λ (last : LastCall). 1 ≤ last.number) (values_of l)) (sym same) is.numbered;
 }
 
-pub IsTable-known : {O : Type 0} (es after : List (ℕ × LastCall)) (client : ℕ) (last new : LastCall) (content content' : O) → IsTable (table_of es content) → IsStrictlySortedBy nat_cmp (keys_of es)
+pub IsTable-known : {O : Type 0} (es after : List (ℕ × LastCall)) (client : ℕ) (last new : LastCall)
+    (content content' : O) → IsTable (table_of es content) → IsStrictlySortedBy nat_cmp (keys_of es)
     → lookup (is_at (nat_cmp client)) es ≡ Some last → after ≡ set_value (is_at (nat_cmp client)) es new → 1 ≤ new.number → IsTable (table_of after content')
 IsTable-known es after client last new content content' is sorted found written number = record {
   few = omega (arith, is.few, ap length written, length-set_value (is_at (nat_cmp client)) es new);
   numbered =
-      subst (λ (l : List (ℕ × LastCall)). All (λ (last : LastCall). 1 ≤ last.number) (values_of l)) (sym (written ∙ set_value-known es client new last sorted found))
+      subst (λ (l : List (ℕ × LastCall)). All (λ (last : LastCall). 1 ≤ last.number) (values_of l))
+      (sym (written ∙ set_value-known es client new last sorted found))
       (All-values-insert_entry nat_cmp client new (λ (last : LastCall). 1 ≤ last.number) es is.numbered number);
 }
 
-pub IsTable-new : {O : Type 0} (es after : List (ℕ × LastCall)) (client : ℕ) (new : LastCall) (content content' : O) → IsTable (table_of es content) → lookup (is_at (nat_cmp client)) es ≡ None → length es < most_clients
+pub IsTable-new : {O : Type 0} (es after : List (ℕ × LastCall)) (client : ℕ) (new : LastCall) (content content' : O)
+    → IsTable (table_of es content) → lookup (is_at (nat_cmp client)) es ≡ None → length es < most_clients
     → after ≡ insert_entry nat_cmp es client new → 1 ≤ new.number → IsTable (table_of after content')
 IsTable-new es after client new content content' is none room put number = record {
   few = omega (arith, room, ap length put, length-new es client new none);
@@ -53,8 +62,11 @@ IsTable-new es after client new content content' is none room put number = recor
 -- ---- the table after a call
 
 -- the next call of a known client
-pub next-known : {O A : Type 0} (object : Sequential O) (es after : List (ℕ × LastCall)) (content content' : O) (c : Call A) (last : LastCall) → IsStrictlySortedBy nat_cmp (keys_of es)
-    → lookup (is_at (nat_cmp c.client)) es ≡ Some last → c.number ≡ last.number + 1 → after ≡ set_value (is_at (nat_cmp c.client)) es (last_call c (object.reply content c.op)) → content' ≡ object.next content c.op
+pub next-known : {O A : Type 0} (object : Sequential O) (es after : List (ℕ × LastCall)) (content content' : O)
+    (c : Call A) (last : LastCall) → IsStrictlySortedBy nat_cmp (keys_of es)
+    → lookup (is_at (nat_cmp c.client)) es ≡ Some last → c.number ≡ last.number + 1
+    → after ≡ set_value (is_at (nat_cmp c.client)) es (last_call c (object.reply content c.op))
+    → content' ≡ object.next content c.op
     → table_of after content' ≡ table_next object (table_of es content) c
 next-known {O} {A} object es after content content' c last sorted found number written does =
     let new = last_call c (object.reply content c.op) in
@@ -63,7 +75,8 @@ next-known {O} {A} object es after content content' c last sorted found number w
     ∙ ap (λ b. b && (true || nat_lt (length es) most_clients)) (eq-eqb c.number (last.number + 1) number) in
     ap (λ w. table_of w content') (written ∙ set_value-known es c.client new last sorted found)
     ∙ ap (λ (w : O). table_of (insert_entry nat_cmp es c.client new) w) does
-    ∙ sym (cond-true (is_taken (table_of es content) c) (table_of (insert_entry nat_cmp es c.client new) (object.next content c.op)) (table_of es content) taken)
+    ∙ sym (cond-true (is_taken (table_of es content) c) (table_of (insert_entry nat_cmp es c.client new)
+    (object.next content c.op)) (table_of es content) taken)
 
 -- another call of a known client
 pub next-other : {O A : Type 0} (object : Sequential O) (es after : List (ℕ × LastCall)) (content : O) (c : Call A) (last : LastCall)
@@ -74,4 +87,6 @@ next-other {O} {A} object es after content c last found other same =
     ap (λ o. (c.number == last_number o + 1) && (is_some o || nat_lt (length es) most_clients)) found
     ∙ ap (λ b. b && (true || nat_lt (length es) most_clients)) (sym other) in
     ap (λ w. table_of w content) same
-    ∙ sym (cond-false (is_taken (table_of es content) c) (table_of (insert_entry nat_cmp es c.client (last_call c (object.reply content c.op))) (object.next content c.op)) (table_of es content) left)
+    ∙ sym (cond-false (is_taken (table_of es content) c)
+    (table_of (insert_entry nat_cmp es c.client (last_call c (object.reply content c.op)))
+    (object.next content c.op)) (table_of es content) left)

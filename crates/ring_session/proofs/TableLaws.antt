@@ -1,6 +1,8 @@
 -- The table after a list of calls holds each client's last call that took effect, with its reply, and so gives the
 -- answers that the list alone determines.
-use Rattle.std.proofs.Common.{◌≡◌, ℕ, ◌+◌, ◌<◌, ◌==◌, ◌&&◌, ◌||◌, nat_lt, Bool, true, false, List, [], ◌∷◌, ◌++◌, length, take, Option, Some, None, is_some, position, slice_get, get_or, refl, ap, sym, subst, ◌∙◌, arith, append_assoc, fold, inl, inr, if◌then◌else◌}
+use Rattle.std.proofs.Common.{◌≡◌, ℕ, ◌+◌, ◌<◌, ◌==◌, ◌&&◌, ◌||◌, nat_lt, Bool, true, false, List, [], ◌∷◌, ◌++◌}
+use Rattle.std.proofs.Common.{length, take, Option, Some, None, is_some, position, slice_get, get_or, refl, ap, sym}
+use Rattle.std.proofs.Common.{subst, ◌∙◌, arith, append_assoc, fold, inl, inr, if◌then◌else◌}
 use Rattle.std.specs.Prelude.{slice_index_or}
 use Rattle.std.specs.List.{position_or_len}
 use Rattle.std.specs.BTreeMap.{insert_entry, is_at}
@@ -22,10 +24,13 @@ use Rattle.ring_payload.specs.declared.call.Call.{Call}
 use Rattle.ring_session.specs.declared.answer.Answer.{Answer}
 use Rattle.ring_session.specs.declared.answer.Answer.TheVariants.{Done, Kept}
 use Rattle.ring_session.specs.Deduplicated.{is_of, count_of, client_count, most_clients, may_call, takes_effect, deduplicated, StandsAt, operations}
-use Rattle.ring_session.specs.DeduplicatedLaws.{get-push_last, count_of-push_own, count_of-push_other, deduplicated-push, deduplicated-front, deduplicated-numbered, numbered_once, takes_effect-number}
+use Rattle.ring_session.specs.DeduplicatedLaws.{get-push_last, count_of-push_own, count_of-push_other}
+use Rattle.ring_session.specs.DeduplicatedLaws.{deduplicated-push, deduplicated-front, deduplicated-numbered}
+use Rattle.ring_session.specs.DeduplicatedLaws.{numbered_once, takes_effect-number}
 use Rattle.ring_session.specs.SessionAnswer.{refusal, is_same, repeated, answer_after, call_reply, session_answer, is_done}
 use Rattle.ring_session.specs.SessionAnswerLaws.{call_reply-front, position-is_same, session_answer-at, same_cases}
-use Rattle.ring_session.specs.Table.{LastCall, Table, table_of, opening, session_of, last_number, last_call, has_room, is_taken, kept_answer, other_answer, table_answer, table_next, table_after}
+use Rattle.ring_session.specs.Table.{LastCall, Table, table_of, opening, session_of, last_number, last_call, has_room}
+use Rattle.ring_session.specs.Table.{is_taken, kept_answer, other_answer, table_answer, table_next, table_after}
 use Rattle.ring_session.proofs.Entries.{set_value-known, length-new, lookup-insert_same, lookup-insert_other, sorted_none, sorted_insert}
 
 -- ---- what a table holds
@@ -38,7 +43,8 @@ module _ {O : Type 0} (object : Sequential O) where
   -- what is kept of a client is its last of these calls, with the reply at its place
   abbrev pub IsLastOf : {A : Type 0} → List (Call A) → ℕ → Option LastCall → Type 0
   IsLastOf kept client None = count_of client kept ≡ 0
-  IsLastOf kept client (Some last) = (last.number ≡ count_of client kept) × ((q : ℕ) × StandsAt kept q (as_call client last) × (call_reply object kept q ≡ last.reply))
+  IsLastOf kept client (Some last) = (last.number ≡ count_of client kept)
+      × ((q : ℕ) × StandsAt kept q (as_call client last) × (call_reply object kept q ≡ last.reply))
 
   -- the table holds what these calls, which took effect, leave
   pub record Holds {A : Type 0} (kept : List (Call A)) (table : Table O) : Type 0 where
@@ -49,42 +55,55 @@ module _ {O : Type 0} (object : Sequential O) where
 
 -- ---- one more call that takes effect
 
-same_client : (t u m a b n : ℕ) → t ≡ a + 1 → u ≡ 1 + b → a ≡ b → m ≡ n + (if b == 0 then 1 else 0) → (if t == 0 then m + 1 else m) ≡ (if a == 0 then n + 1 else n) + (if u == 0 then 1 else 0)
+same_client : (t u m a b n : ℕ) → t ≡ a + 1 → u ≡ 1 + b → a ≡ b → m ≡ n + (if b == 0 then 1 else 0)
+    → (if t == 0 then m + 1 else m) ≡ (if a == 0 then n + 1 else n) + (if u == 0 then 1 else 0)
 same_client t u m a b n et eu ab em = grind (arith, nat_tests)
 
-other_client : (t u m a b n : ℕ) → t ≡ a → u ≡ b → m ≡ n + (if b == 0 then 1 else 0) → (if t == 0 then m + 1 else m) ≡ (if a == 0 then n + 1 else n) + (if u == 0 then 1 else 0)
+other_client : (t u m a b n : ℕ) → t ≡ a → u ≡ b → m ≡ n + (if b == 0 then 1 else 0) → (if t == 0 then m + 1 else m)
+    ≡ (if a == 0 then n + 1 else n) + (if u == 0 then 1 else 0)
 other_client t u m a b n et eu em = grind (arith, nat_tests)
 
 -- one more client, if the call is its first
-client_count-push : {A : Type 0} (calls : List (Call A)) (c : Call A) → client_count (calls ++ c ∷ []) ≡ client_count calls + (if count_of c.client calls == 0 then 1 else 0)
+client_count-push : {A : Type 0} (calls : List (Call A)) (c : Call A) → client_count (calls ++ c ∷ [])
+    ≡ client_count calls + (if count_of c.client calls == 0 then 1 else 0)
 client_count-push [] c = refl
 client_count-push {A} (x ∷ cs) c =
     let rest : client_count (cs ++ c ∷ []) ≡ client_count cs + (if count_of c.client cs == 0 then 1 else 0) = client_count-push cs c in
-    let front : count_of c.client (x ∷ cs) ≡ (if x.client == c.client then 1 else 0) + count_of c.client cs = sum_by-cons (λ (y : Call A). if is_of c.client y then 1 else 0) x cs in
+    let front : count_of c.client (x ∷ cs) ≡ (if x.client == c.client then 1 else 0) + count_of c.client cs =
+    sum_by-cons (λ (y : Call A). if is_of c.client y then 1 else 0) x cs in
     elim (cases_eq x.client c.client) [
       | inl same ↦
-          let one : count_of c.client (x ∷ cs) ≡ 1 + count_of c.client cs = front ∙ ap (λ n. n + count_of c.client cs) (cond-true (x.client == c.client) 1 0 (eq-eqb x.client c.client same)) in
-          let more : count_of x.client (cs ++ c ∷ []) ≡ count_of x.client cs + 1 = ap (λ k. count_of k (cs ++ c ∷ [])) same ∙ count_of-push_own cs c ∙ ap (λ k. count_of k cs + 1) (sym same) in
-          same_client (count_of x.client (cs ++ c ∷ [])) (count_of c.client (x ∷ cs)) (client_count (cs ++ c ∷ [])) (count_of x.client cs) (count_of c.client cs) (client_count cs) more one (ap (λ k. count_of k cs) same) rest
+          let one : count_of c.client (x ∷ cs) ≡ 1 + count_of c.client cs = front ∙ ap (λ n. n + count_of c.client cs)
+          (cond-true (x.client == c.client) 1 0 (eq-eqb x.client c.client same)) in
+          let more : count_of x.client (cs ++ c ∷ []) ≡ count_of x.client cs + 1 = ap (λ k. count_of k (cs ++ c ∷ []))
+          same ∙ count_of-push_own cs c ∙ ap (λ k. count_of k cs + 1) (sym same) in
+          same_client (count_of x.client (cs ++ c ∷ [])) (count_of c.client (x ∷ cs)) (client_count (cs ++ c ∷ []))
+          (count_of x.client cs) (count_of c.client cs) (client_count cs) more one (ap (λ k. count_of k cs) same) rest
       | inr ne ↦
-          let none : count_of c.client (x ∷ cs) ≡ 0 + count_of c.client cs = front ∙ ap (λ n. n + count_of c.client cs) (cond-false (x.client == c.client) 1 0 (ne_eqb x.client c.client ne)) in
+          let none : count_of c.client (x ∷ cs) ≡ 0 + count_of c.client cs = front
+          ∙ ap (λ n. n + count_of c.client cs)
+          (cond-false (x.client == c.client) 1 0 (ne_eqb x.client c.client ne)) in
           let same : count_of x.client (cs ++ c ∷ []) ≡ count_of x.client cs = count_of-push_other x.client cs c (λ e. ne (sym e)) in
-          other_client (count_of x.client (cs ++ c ∷ [])) (count_of c.client (x ∷ cs)) (client_count (cs ++ c ∷ [])) (count_of x.client cs) (count_of c.client cs) (client_count cs) same (omega (arith, none)) rest
+          other_client (count_of x.client (cs ++ c ∷ [])) (count_of c.client (x ∷ cs)) (client_count (cs ++ c ∷ []))
+          (count_of x.client cs) (count_of c.client cs) (client_count cs) same (omega (arith, none)) rest
     ]
 
-content_after-push : {O : Type 0} (object : Sequential O) (o : O) (ops : List (List ℕ)) (op : List ℕ) → content_after object o (ops ++ op ∷ []) ≡ object.next (content_after object o ops) op
+content_after-push : {O : Type 0} (object : Sequential O) (o : O) (ops : List (List ℕ)) (op : List ℕ)
+    → content_after object o (ops ++ op ∷ []) ≡ object.next (content_after object o ops) op
 content_after-push object o [] op = refl
 content_after-push object o (x ∷ ops) op = content_after-push object (object.next o x) ops op
 
 module _ {O A : Type 0} (object : Sequential O) where
   -- the reply to the last call
-  call_reply-push : (kept : List (Call A)) (c : Call A) → call_reply object (kept ++ c ∷ []) (length kept) ≡ object.reply (content_after object object.initial (operations kept)) c.op
+  call_reply-push : (kept : List (Call A)) (c : Call A) → call_reply object (kept ++ c ∷ []) (length kept)
+      ≡ object.reply (content_after object object.initial (operations kept)) c.op
   call_reply-push kept c =
       let ops : List (List ℕ) = operations kept in
       let split : operations (kept ++ c ∷ []) ≡ ops ++ c.op ∷ [] = map-append (λ (x : Call A). x.op) kept (c ∷ []) in
       let many : length ops ≡ length kept = length-map kept (λ (x : Call A). x.op) in
       ap (λ w. object.reply (content_after object object.initial (take (length kept) w)) (slice_index_or w (length kept) [])) split
-      ∙ ap (λ w. object.reply (content_after object object.initial w) (slice_index_or (ops ++ c.op ∷ []) (length kept) [])) (take_at ops (c.op ∷ []) (length kept) many)
+      ∙ ap (λ w. object.reply (content_after object object.initial w) (slice_index_or (ops ++ c.op ∷ []) (length kept)
+      [])) (take_at ops (c.op ∷ []) (length kept) many)
       ∙ ap (object.reply (content_after object object.initial ops)) (get_or_at ops c.op [] [] (length kept) many)
 
   -- ---- the tests of the list and of the table agree
@@ -93,18 +112,21 @@ module _ {O A : Type 0} (object : Sequential O) where
   last_number-is kept client None is = sym is
   last_number-is kept client (Some last) is = is.0
 
-  known-is : (calls : List (Call A)) (client : ℕ) (o : Option LastCall) → IsLastOf object (deduplicated calls) client o → is_some o ≡ nat_lt 0 (count_of client (deduplicated calls))
+  known-is : (calls : List (Call A)) (client : ℕ) (o : Option LastCall) → IsLastOf object (deduplicated calls)
+      client o → is_some o ≡ nat_lt 0 (count_of client (deduplicated calls))
   known-is calls client None is = ap (nat_lt 0) (sym is)
   known-is calls client (Some last) is =
       let number = deduplicated-numbered calls is.1.0 (as_call client last) is.1.1 in
       sym (lt-ltb 0 (count_of client (deduplicated calls)) (omega (arith, is.0, number)))
 
-  room-is : (calls : List (Call A)) (table : Table O) (client : ℕ) → Holds object (deduplicated calls) table → has_room table client ≡ may_call (deduplicated calls) client
+  room-is : (calls : List (Call A)) (table : Table O) (client : ℕ) → Holds object (deduplicated calls) table
+      → has_room table client ≡ may_call (deduplicated calls) client
   room-is calls table client holds =
       ap (λ b. b || nat_lt (length table.sessions) most_clients) (known-is calls client (session_of table client) (holds.known client))
       ∙ ap (λ n. nat_lt 0 (count_of client (deduplicated calls)) || nat_lt n most_clients) holds.many
 
-  taken-is : (calls : List (Call A)) (table : Table O) (c : Call A) → Holds object (deduplicated calls) table → is_taken table c ≡ takes_effect (deduplicated calls) c
+  taken-is : (calls : List (Call A)) (table : Table O) (c : Call A) → Holds object (deduplicated calls) table
+      → is_taken table c ≡ takes_effect (deduplicated calls) c
   taken-is calls table c holds =
       ap (λ n. (c.number == n + 1) && has_room table c.client) (last_number-is (deduplicated calls) c.client (session_of table c.client) (holds.known c.client))
       ∙ ap (λ b. (c.number == count_of c.client (deduplicated calls) + 1) && b) (room-is calls table c.client holds)
@@ -113,13 +135,15 @@ module _ {O A : Type 0} (object : Sequential O) where
 
   -- a call that takes effect is its client's last of those that did
   last-same : (calls : List (Call A)) (c : Call A) → takes_effect (deduplicated calls) c ≡ true
-      → IsLastOf object (deduplicated calls ++ c ∷ []) c.client (Some (last_call c (object.reply (content_after object object.initial (operations (deduplicated calls))) c.op)))
+      → IsLastOf object (deduplicated calls ++ c ∷ []) c.client
+      (Some (last_call c (object.reply (content_after object object.initial (operations (deduplicated calls))) c.op)))
   last-same calls c taken =
       let kept = deduplicated calls in
       (takes_effect-number kept c taken ∙ sym (count_of-push_own kept c), (length kept, get-push_last kept c, call_reply-push kept c))
 
   -- and leaves each other client's as it was
-  last-other : (kept : List (Call A)) (c : Call A) (client : ℕ) (o : Option LastCall) → (client ≡ c.client → ⊥) → IsLastOf object kept client o → IsLastOf object (kept ++ c ∷ []) client o
+  last-other : (kept : List (Call A)) (c : Call A) (client : ℕ) (o : Option LastCall) → (client ≡ c.client → ⊥)
+      → IsLastOf object kept client o → IsLastOf object (kept ++ c ∷ []) client o
   last-other kept c client None ne is =
       count_of-push_other client kept c (λ same. ne (sym same)) ∙ is
   last-other kept c client (Some last) ne is =
@@ -134,23 +158,33 @@ module _ {O A : Type 0} (object : Sequential O) where
 
   -- ---- the table after a call
 
-  known-grown : (calls : List (Call A)) (table : Table O) (c : Call A) → Holds object (deduplicated calls) table → (o : Option LastCall) → session_of table c.client ≡ o
-      → length (insert_entry nat_cmp table.sessions c.client (last_call c (object.reply table.content c.op))) ≡ length table.sessions + (if count_of c.client (deduplicated calls) == 0 then 1 else 0)
+  known-grown : (calls : List (Call A)) (table : Table O) (c : Call A) → Holds object (deduplicated calls) table
+      → (o : Option LastCall) → session_of table c.client ≡ o
+      → length (insert_entry nat_cmp table.sessions c.client (last_call c (object.reply table.content c.op)))
+      ≡ length table.sessions + (if count_of c.client (deduplicated calls) == 0 then 1 else 0)
   known-grown calls table c holds None is =
       let none : count_of c.client (deduplicated calls) ≡ 0 = subst (IsLastOf object (deduplicated calls) c.client) is (holds.known c.client) in
       length-new table.sessions c.client (last_call c (object.reply table.content c.op)) is
-      ∙ ap (λ n. length table.sessions + n) (sym (cond-true (count_of c.client (deduplicated calls) == 0) 1 0 (eq-eqb (count_of c.client (deduplicated calls)) 0 none)))
+      ∙ ap (λ n. length table.sessions + n)
+      (sym (cond-true (count_of c.client (deduplicated calls) == 0) 1 0
+      (eq-eqb (count_of c.client (deduplicated calls)) 0 none)))
   known-grown calls table c holds (Some last) is =
       let there : IsLastOf object (deduplicated calls) c.client (Some last) = subst (IsLastOf object (deduplicated calls) c.client) is (holds.known c.client) in
       let number = deduplicated-numbered calls there.1.0 (as_call c.client last) there.1.1 in
       let some : count_of c.client (deduplicated calls) ≡ 0 → ⊥ = λ none. omega (arith, there.0, number, none) in
       let same : length (insert_entry nat_cmp table.sessions c.client (last_call c (object.reply table.content c.op))) ≡ length table.sessions =
-      ap length (sym (set_value-known table.sessions c.client (last_call c (object.reply table.content c.op)) last holds.ascending is)) ∙ length-set_value (is_at (nat_cmp c.client)) table.sessions (last_call c (object.reply table.content c.op)) in
+      ap length (sym (set_value-known table.sessions c.client (last_call c (object.reply table.content c.op))
+      last holds.ascending is)) ∙ length-set_value (is_at (nat_cmp c.client)) table.sessions
+      (last_call c (object.reply table.content c.op)) in
       let plain : length table.sessions ≡ length table.sessions + 0 = omega arith in
-      same ∙ plain ∙ ap (λ n. length table.sessions + n) (sym (cond-false (count_of c.client (deduplicated calls) == 0) 1 0 (ne_eqb (count_of c.client (deduplicated calls)) 0 some)))
+      same ∙ plain ∙ ap (λ n. length table.sessions + n)
+      (sym (cond-false (count_of c.client (deduplicated calls) == 0) 1 0
+      (ne_eqb (count_of c.client (deduplicated calls)) 0 some)))
 
   holds-taken : (calls : List (Call A)) (table : Table O) (c : Call A) → Holds object (deduplicated calls) table → takes_effect (deduplicated calls) c ≡ true
-      → Holds object (deduplicated calls ++ c ∷ []) (table_of (insert_entry nat_cmp table.sessions c.client (last_call c (object.reply table.content c.op))) (object.next table.content c.op))
+      → Holds object (deduplicated calls ++ c ∷ [])
+      (table_of (insert_entry nat_cmp table.sessions c.client (last_call c (object.reply table.content c.op)))
+      (object.next table.content c.op))
   holds-taken calls table c holds taken =
       let kept = deduplicated calls in
       let new : LastCall = last_call c (object.reply table.content c.op) in
@@ -162,33 +196,42 @@ module _ {O A : Type 0} (object : Sequential O) where
             ap (λ (o : O). object.next o c.op) holds.content
             ∙ sym (content_after-push object object.initial (operations kept) c.op)
             ∙ ap (content_after object object.initial) (sym (map-append (λ (x : Call A). x.op) kept (c ∷ [])));
-        many = known-grown calls table c holds (session_of table c.client) refl ∙ ap (λ n. n + (if count_of c.client kept == 0 then 1 else 0)) holds.many ∙ sym (client_count-push kept c);
+        many = known-grown calls table c holds (session_of table c.client) refl
+            ∙ ap (λ n. n + (if count_of c.client kept == 0 then 1 else 0)) holds.many ∙ sym (client_count-push kept c);
         known = λ client. elim (cases_eq client c.client) [
           | inl same ↦
               let here : session_of (table_of (insert_entry nat_cmp table.sessions c.client new) (object.next table.content c.op)) client ≡ Some new =
               ap (λ k. lookup (is_at (nat_cmp k)) (insert_entry nat_cmp table.sessions c.client new)) same ∙ lookup-insert_same table.sessions c.client new in
               subst (IsLastOf object (kept ++ c ∷ []) client) (sym here) (subst (λ k. IsLastOf object (kept ++ c ∷ []) k (Some new)) (sym same) own)
           | inr ne ↦
-              subst (IsLastOf object (kept ++ c ∷ []) client) (sym (lookup-insert_other table.sessions c.client client new ne)) (last-other kept c client (session_of table client) ne (holds.known client))
+              subst (IsLastOf object (kept ++ c ∷ []) client)
+              (sym (lookup-insert_other table.sessions c.client client new ne))
+              (last-other kept c client (session_of table client) ne (holds.known client))
         ];
       }
 
-  holds-step : (calls : List (Call A)) (table : Table O) (c : Call A) (b : Bool) → takes_effect (deduplicated calls) c ≡ b → Holds object (deduplicated calls) table
+  holds-step : (calls : List (Call A)) (table : Table O) (c : Call A) (b : Bool) → takes_effect (deduplicated calls) c
+      ≡ b → Holds object (deduplicated calls) table
       → Holds object (deduplicated calls ++ (if b then c ∷ [] else []))
-      (if b then table_of (insert_entry nat_cmp table.sessions c.client (last_call c (object.reply table.content c.op))) (object.next table.content c.op) else table)
+      (if b then table_of (insert_entry nat_cmp table.sessions c.client
+      (last_call c (object.reply table.content c.op))) (object.next table.content c.op) else table)
   holds-step calls table c true is holds = holds-taken calls table c holds is
   holds-step calls table c false is holds = subst (λ w. Holds object w table) (sym (append-nil (deduplicated calls))) holds
 
-  holds-next : (calls : List (Call A)) (table : Table O) (c : Call A) → Holds object (deduplicated calls) table → Holds object (deduplicated (calls ++ c ∷ [])) (table_next object table c)
+  holds-next : (calls : List (Call A)) (table : Table O) (c : Call A) → Holds object (deduplicated calls) table
+      → Holds object (deduplicated (calls ++ c ∷ [])) (table_next object table c)
   holds-next calls table c holds =
       let kept = deduplicated calls in
-      let taken : Table O = table_of (insert_entry nat_cmp table.sessions c.client (last_call c (object.reply table.content c.op))) (object.next table.content c.op) in
+      let taken : Table O = table_of (insert_entry nat_cmp table.sessions c.client
+      (last_call c (object.reply table.content c.op))) (object.next table.content c.op) in
       let step = holds-step calls table c (takes_effect kept c) refl holds in
-      let same : (if takes_effect kept c then taken else table) ≡ table_next object table c = ap (λ (b : Bool). if b then taken else table) (sym (taken-is calls table c holds)) in
+      let same : (if takes_effect kept c then taken else table) ≡ table_next object table c =
+      ap (λ (b : Bool). if b then taken else table) (sym (taken-is calls table c holds)) in
       subst (λ w. Holds object w (table_next object table c)) (sym (deduplicated-push calls c))
       (subst (Holds object (kept ++ (if takes_effect kept c then c ∷ [] else []))) same step)
 
-  holds-fold : (before calls : List (Call A)) (table : Table O) → Holds object (deduplicated before) table → Holds object (deduplicated (before ++ calls)) (fold (table_next object) table calls)
+  holds-fold : (before calls : List (Call A)) (table : Table O) → Holds object (deduplicated before) table
+      → Holds object (deduplicated (before ++ calls)) (fold (table_next object) table calls)
   holds-fold before [] table holds = subst (λ w. Holds object (deduplicated w) table) (sym (append-nil before)) holds
   holds-fold before (c ∷ cs) table holds =
       subst (λ w. Holds object (deduplicated w) (fold (table_next object) (table_next object table c) cs)) (append_assoc before (c ∷ []) cs)
@@ -206,13 +249,15 @@ no_place p xs none k d within passes =
       | inl before ↦ false≢true (sym (fails_before_first p xs k d before) ∙ passes)
       | inr past ↦
           let first = position_or_len p xs in
-          let there : position p xs ≡ Some first = cond-true (nat_lt first (length xs)) (Some first) None (lt-ltb first (length xs) (omega (arith, within, past))) in
+          let there : position p xs ≡ Some first = cond-true (nat_lt first (length xs)) (Some first) None
+          (lt-ltb first (length xs) (omega (arith, within, past))) in
           absurd (cc (none, there))
     ]
 
 module _ {O A : Type 0} (object : Sequential O) where
   -- a call with its client's last number is told the kept reply, if it is the kept call
-  kept_known : (calls : List (Call A)) (replies : ℕ → List ℕ) (c : Call A) → ((q : ℕ) → q < length (deduplicated calls) → replies q ≡ call_reply object (deduplicated calls) q)
+  kept_known : (calls : List (Call A)) (replies : ℕ → List ℕ) (c : Call A)
+      → ((q : ℕ) → q < length (deduplicated calls) → replies q ≡ call_reply object (deduplicated calls) q)
       → (last : LastCall) → IsLastOf object (deduplicated calls) c.client (Some last) → c.number ≡ last.number
       → (place : Option ℕ) → position (is_same c) (deduplicated calls) ≡ place → (b : Bool) → bytes_eq last.operation c.op ≡ b
       → repeated replies place ≡ (if b then Kept last.reply else refusal Conflict)
@@ -239,14 +284,16 @@ module _ {O A : Type 0} (object : Sequential O) where
       let one : c ≡ as_call c.client last = cc both in
       absurd (false≢true (sym bytes ∙ (bytes_eq-Decides last.operation c.op).1 (sym (ap (λ (x : Call A). x.op) one))))
 
-  kept_same : (calls : List (Call A)) (replies : ℕ → List ℕ) (c : Call A) → ((q : ℕ) → q < length (deduplicated calls) → replies q ≡ call_reply object (deduplicated calls) q)
+  kept_same : (calls : List (Call A)) (replies : ℕ → List ℕ) (c : Call A) → ((q : ℕ) → q < length (deduplicated calls)
+      → replies q ≡ call_reply object (deduplicated calls) q)
       → (o : Option LastCall) → IsLastOf object (deduplicated calls) c.client o → c.number ≡ count_of c.client (deduplicated calls)
       → (place : Option ℕ) → position (is_same c) (deduplicated calls) ≡ place → repeated replies place ≡ kept_answer o c.op
   kept_same calls replies c same None is number None at = refl
   kept_same calls replies c same None is number (Some q) at =
       let counted = deduplicated-numbered calls q c (position-is_same (deduplicated calls) c q at) in
       absurd (omega (arith, number, is, counted))
-  kept_same calls replies c same (Some last) is number place at = kept_known calls replies c same last is (number ∙ sym is.0) place at (bytes_eq last.operation c.op) refl
+  kept_same calls replies c same (Some last) is number place at = kept_known calls replies c same last is
+      (number ∙ sym is.0) place at (bytes_eq last.operation c.op) refl
 
   -- the table's answer, by the tests of the list
   by_list : List (Call A) → Table O → Call A → ℕ → Bool → Answer
@@ -271,9 +318,11 @@ module _ {O A : Type 0} (object : Sequential O) where
       λ taken. ap (λ w. call_reply object w (length kept)) (deduplicated-push calls c ∙ ap (λ w. kept ++ w) (cond-true (takes_effect kept c) (c ∷ []) [] taken))
       ∙ call_reply-push object kept c ∙ ap (λ (o : O). object.reply o c.op) (sym holds.content) in
       let listed : answer_after replies kept c ≡ by_list kept table c last (may_call kept c.client) =
-      same_cases (c.number == last + 1) (may_call kept c.client) (c.number == last) (nat_lt c.number last) (replies (length kept)) (object.reply table.content c.op)
+      same_cases (c.number == last + 1) (may_call kept c.client) (c.number == last) (nat_lt c.number last)
+      (replies (length kept)) (object.reply table.content c.op)
       (repeated replies (position (is_same c) kept)) (kept_answer (session_of table c.client) c.op) own
-      (λ is_last. kept_same calls replies c before (session_of table c.client) (holds.known c.client) (eqb-true c.number last is_last) (position (is_same c) kept) refl) in
+      (λ is_last. kept_same calls replies c before (session_of table c.client) (holds.known c.client)
+      (eqb-true c.number last is_last) (position (is_same c) kept) refl) in
       let tested : by_list kept table c last (may_call kept c.client) ≡ table_answer object table c =
       ap (λ n. by_list kept table c n (may_call kept c.client)) (sym (last_number-is object kept c.client (session_of table c.client) (holds.known c.client)))
       ∙ ap (by_list kept table c (last_number (session_of table c.client))) (sym (room-is object calls table c.client holds)) in
@@ -282,7 +331,8 @@ module _ {O A : Type 0} (object : Sequential O) where
       ∙ ap Some (listed ∙ tested)
 
   -- the table after a list of calls answers the next call as the list does
-  pub table_answers : (calls : List (Call A)) (c : Call A) → session_answer object (calls ++ c ∷ []) (length calls) ≡ Some (table_answer object (table_after object calls) c)
+  pub table_answers : (calls : List (Call A)) (c : Call A) → session_answer object (calls ++ c ∷ []) (length calls)
+      ≡ Some (table_answer object (table_after object calls) c)
   table_answers calls c = answer-holds calls (table_after object calls) c (table_holds object calls)
 
   -- and its object has the content that the calls which took effect leave
@@ -304,12 +354,14 @@ last_not-done : (last : Option LastCall) (operation : List ℕ) → is_done (kep
 last_not-done None operation = refl
 last_not-done (Some last) operation = kept_not-done (bytes_eq last.operation operation) last.reply
 
-other_not-done : (again old : Bool) (kept : Answer) → is_done kept ≡ false → is_done (if again then kept else if old then refusal Stale else refusal NumberGap) ≡ false
+other_not-done : (again old : Bool) (kept : Answer) → is_done kept ≡ false
+    → is_done (if again then kept else if old then refusal Stale else refusal NumberGap) ≡ false
 other_not-done true old kept e = e
 other_not-done false true kept e = refl
 other_not-done false false kept e = refl
 
-done_where : (following room : Bool) (reply : List ℕ) (other : Answer) → is_done other ≡ false → is_done (if following then (if room then Done reply else refusal SessionsFull) else other) ≡ following && room
+done_where : (following room : Bool) (reply : List ℕ) (other : Answer) → is_done other ≡ false
+    → is_done (if following then (if room then Done reply else refusal SessionsFull) else other) ≡ following && room
 done_where true true reply other e = refl
 done_where true false reply other e = refl
 done_where false room reply other e = e
@@ -319,7 +371,8 @@ module _ {O A : Type 0} (object : Sequential O) where
   done-taken : (table : Table O) (c : Call A) → is_done (table_answer object table c) ≡ is_taken table c
   done-taken table c =
       let last = session_of table c.client in
-      let apart : is_done (other_answer last c) ≡ false = other_not-done (c.number == last_number last) (nat_lt c.number (last_number last)) (kept_answer last c.op) (last_not-done last c.op) in
+      let apart : is_done (other_answer last c) ≡ false = other_not-done (c.number == last_number last)
+      (nat_lt c.number (last_number last)) (kept_answer last c.op) (last_not-done last c.op) in
       done_where (c.number == last_number last + 1) (has_room table c.client) (object.reply table.content c.op) (other_answer last c) apart
 
   -- so after a list of calls it tells that exactly where the call takes effect

@@ -1,6 +1,8 @@
 -- What holds of the calls that take effect: more calls only add to their end, each client's are numbered 1, 2, .., so
 -- that each call stands once, and each was in the list.
-use Rattle.std.proofs.Common.{◌≡◌, ℕ, zero, suc, ◌+◌, ◌<◌, ◌≤◌, ◌==◌, Bool, true, false, List, [], ◌∷◌, ◌++◌, length, take, Some, slice_get, get_or, refl, ap, sym, subst, ◌∙◌, arith, append_assoc, ◌⊎◌, inl, inr, if◌then◌else◌}
+use Rattle.std.proofs.Common.{◌≡◌, ℕ, zero, suc, ◌+◌, ◌<◌, ◌≤◌, ◌==◌, Bool, true, false, List, [], ◌∷◌, ◌++◌, length}
+use Rattle.std.proofs.Common.{take, Some, slice_get, get_or, refl, ap, sym, subst, ◌∙◌, arith, append_assoc, ◌⊎◌, inl}
+use Rattle.std.proofs.Common.{inr, if◌then◌else◌}
 use Rattle.std.proofs.lemmas.Bool.{cond-true, cond-false, eq-eqb, ne_eqb, eqb-true, and_parts}
 use Rattle.std.proofs.lemmas.List.{append-nil, take-append-le, take_at, take-take}
 use Rattle.std.proofs.lemmas.List.Sums.{sum_by_push, sum_by_more, sum_by-take-le}
@@ -16,7 +18,8 @@ pub take_front : {X : Type 0} (xs ys : List X) (k : ℕ) → IsFront xs ys → k
 take_front xs ys k front le = ap (take k) (sym front.1) ∙ take-append-le k xs front.0 le
 
 -- what stands in a list with one more at its end stood there before, or is the last
-pub get-push : {X : Type 0} (xs : List X) (y : X) (k : ℕ) (z : X) → slice_get (xs ++ y ∷ []) k ≡ Some z → (slice_get xs k ≡ Some z) ⊎ ((k ≡ length xs) × (y ≡ z))
+pub get-push : {X : Type 0} (xs : List X) (y : X) (k : ℕ) (z : X) → slice_get (xs ++ y ∷ []) k ≡ Some z
+    → (slice_get xs k ≡ Some z) ⊎ ((k ≡ length xs) × (y ≡ z))
 get-push [] y zero z e = inr (refl, cc e)
 get-push [] y (suc k) z e = absurd (cc e)
 get-push (x ∷ xs) y zero z e = inl e
@@ -30,19 +33,24 @@ get-push_last (x ∷ xs) y = get-push_last xs y
 -- ---- counts
 
 -- one more call
-pub count_of-push : {A : Type 0} (client : ℕ) (calls : List (Call A)) (c : Call A) → count_of client (calls ++ c ∷ []) ≡ count_of client calls + (if is_of client c then 1 else 0)
+pub count_of-push : {A : Type 0} (client : ℕ) (calls : List (Call A)) (c : Call A) → count_of client (calls ++ c ∷ [])
+    ≡ count_of client calls + (if is_of client c then 1 else 0)
 count_of-push client calls c = sum_by_push (λ x. if is_of client x then 1 else 0) calls c
 
 pub count_of-push_own : {A : Type 0} (calls : List (Call A)) (c : Call A) → count_of c.client (calls ++ c ∷ []) ≡ count_of c.client calls + 1
-count_of-push_own calls c = count_of-push c.client calls c ∙ ap (λ n. count_of c.client calls + n) (cond-true (c.client == c.client) 1 0 (eq-eqb c.client c.client refl))
+count_of-push_own calls c = count_of-push c.client calls c ∙ ap (λ n. count_of c.client calls + n)
+    (cond-true (c.client == c.client) 1 0 (eq-eqb c.client c.client refl))
 
-pub count_of-push_other : {A : Type 0} (client : ℕ) (calls : List (Call A)) (c : Call A) → (c.client ≡ client → ⊥) → count_of client (calls ++ c ∷ []) ≡ count_of client calls
+pub count_of-push_other : {A : Type 0} (client : ℕ) (calls : List (Call A)) (c : Call A) → (c.client ≡ client → ⊥)
+    → count_of client (calls ++ c ∷ []) ≡ count_of client calls
 count_of-push_other client calls c ne =
-    let none : count_of client (calls ++ c ∷ []) ≡ count_of client calls + 0 = count_of-push client calls c ∙ ap (λ n. count_of client calls + n) (cond-false (c.client == client) 1 0 (ne_eqb c.client client ne)) in
+    let none : count_of client (calls ++ c ∷ []) ≡ count_of client calls + 0 = count_of-push client calls c
+    ∙ ap (λ n. count_of client calls + n) (cond-false (c.client == client) 1 0 (ne_eqb c.client client ne)) in
     omega (arith, none)
 
 -- a client's count rises at each call of it
-pub count_of-take : {A : Type 0} (calls : List (Call A)) (p q : ℕ) (c : Call A) → StandsAt calls p c → p < q → count_of c.client (take p calls) + 1 ≤ count_of c.client (take q calls)
+pub count_of-take : {A : Type 0} (calls : List (Call A)) (p q : ℕ) (c : Call A) → StandsAt calls p c → p < q
+    → count_of c.client (take p calls) + 1 ≤ count_of c.client (take q calls)
 count_of-take {A} calls p q c at lt =
     let f : Call A → ℕ = λ x. if is_of c.client x then 1 else 0 in
     let more = sum_by_more f calls p c (slice_get_within calls p c at) in
@@ -55,21 +63,27 @@ count_of-take {A} calls p q c at lt =
 -- ---- the calls that take effect
 
 append_step : {A : Type 0} (kept xs ys : List (Call A)) (x : Call A) (b : Bool)
-    → deduplicated_after (kept ++ x ∷ []) (xs ++ ys) ≡ deduplicated_after (kept ++ x ∷ []) xs ++ deduplicated_after ((kept ++ x ∷ []) ++ deduplicated_after (kept ++ x ∷ []) xs) ys
+    → deduplicated_after (kept ++ x ∷ []) (xs ++ ys) ≡ deduplicated_after (kept ++ x ∷ []) xs ++ deduplicated_after
+    ((kept ++ x ∷ []) ++ deduplicated_after (kept ++ x ∷ []) xs) ys
     → deduplicated_after kept (xs ++ ys) ≡ deduplicated_after kept xs ++ deduplicated_after (kept ++ deduplicated_after kept xs) ys
     → (if b then x ∷ deduplicated_after (kept ++ x ∷ []) (xs ++ ys) else deduplicated_after kept (xs ++ ys))
-    ≡ (if b then x ∷ deduplicated_after (kept ++ x ∷ []) xs else deduplicated_after kept xs) ++ deduplicated_after (kept ++ (if b then x ∷ deduplicated_after (kept ++ x ∷ []) xs else deduplicated_after kept xs)) ys
+    ≡ (if b then x ∷ deduplicated_after (kept ++ x ∷ []) xs else deduplicated_after kept xs) ++ deduplicated_after
+    (kept ++ (if b then x ∷ deduplicated_after (kept ++ x ∷ []) xs else deduplicated_after kept xs)) ys
 append_step kept xs ys x true taken left =
-    ap (λ w. x ∷ w) taken ∙ ap (λ w. x ∷ deduplicated_after (kept ++ x ∷ []) xs ++ deduplicated_after w ys) (append_assoc kept (x ∷ []) (deduplicated_after (kept ++ x ∷ []) xs))
+    ap (λ w. x ∷ w) taken ∙ ap (λ w. x ∷ deduplicated_after (kept ++ x ∷ []) xs ++ deduplicated_after w ys)
+    (append_assoc kept (x ∷ []) (deduplicated_after (kept ++ x ∷ []) xs))
 append_step kept xs ys x false taken left = left
 
 -- later calls add at the end
-pub deduplicated_after-append : {A : Type 0} (kept xs ys : List (Call A)) → deduplicated_after kept (xs ++ ys) ≡ deduplicated_after kept xs ++ deduplicated_after (kept ++ deduplicated_after kept xs) ys
+pub deduplicated_after-append : {A : Type 0} (kept xs ys : List (Call A)) → deduplicated_after kept (xs ++ ys)
+    ≡ deduplicated_after kept xs ++ deduplicated_after (kept ++ deduplicated_after kept xs) ys
 deduplicated_after-append kept [] ys = ap (λ w. deduplicated_after w ys) (sym (append-nil kept))
-deduplicated_after-append kept (x ∷ xs) ys = append_step kept xs ys x (takes_effect kept x) (deduplicated_after-append (kept ++ x ∷ []) xs ys) (deduplicated_after-append kept xs ys)
+deduplicated_after-append kept (x ∷ xs) ys = append_step kept xs ys x (takes_effect kept x)
+    (deduplicated_after-append (kept ++ x ∷ []) xs ys) (deduplicated_after-append kept xs ys)
 
 -- one more call is added if it takes effect
-pub deduplicated-push : {A : Type 0} (calls : List (Call A)) (c : Call A) → deduplicated (calls ++ c ∷ []) ≡ deduplicated calls ++ (if takes_effect (deduplicated calls) c then c ∷ [] else [])
+pub deduplicated-push : {A : Type 0} (calls : List (Call A)) (c : Call A) → deduplicated (calls ++ c ∷ [])
+    ≡ deduplicated calls ++ (if takes_effect (deduplicated calls) c then c ∷ [] else [])
 deduplicated-push calls c = deduplicated_after-append [] calls (c ∷ [])
 
 -- the calls of a front that take effect are a front
@@ -78,13 +92,15 @@ deduplicated-front xs ys front = (deduplicated_after (deduplicated xs) front.0, 
 
 -- a call that takes effect has its client's next number
 pub takes_effect-number : {A : Type 0} (kept : List (Call A)) (c : Call A) → takes_effect kept c ≡ true → c.number ≡ count_of c.client kept + 1
-takes_effect-number kept c taken = eqb-true c.number (count_of c.client kept + 1) (and_parts (c.number == count_of c.client kept + 1) (may_call kept c.client) taken).0
+takes_effect-number kept c taken = eqb-true c.number (count_of c.client kept + 1)
+    (and_parts (c.number == count_of c.client kept + 1) (may_call kept c.client) taken).0
 
 numbered_push : {A : Type 0} (kept : List (Call A)) (c : Call A) → IsNumbered kept → takes_effect kept c ≡ true → IsNumbered (kept ++ c ∷ [])
 numbered_push {A} kept c numbered taken p d at =
     elim (get-push kept c p d at) as (λ _. d.number ≡ count_of d.client (take p (kept ++ c ∷ [])) + 1) [
       | inl before ↦
-          let same : take p (kept ++ c ∷ []) ≡ take p kept = take_front kept (kept ++ c ∷ []) p (c ∷ [], refl) (omega (arith, slice_get_within kept p d before)) in
+          let same : take p (kept ++ c ∷ []) ≡ take p kept = take_front kept (kept ++ c ∷ []) p (c ∷ [], refl)
+          (omega (arith, slice_get_within kept p d before)) in
           numbered p d before ∙ ap (λ w. count_of d.client w + 1) (sym same)
       | inr last ↦
           let all : take p (kept ++ c ∷ []) ≡ kept = take_at kept (c ∷ []) p (sym last.0) in
@@ -93,30 +109,36 @@ numbered_push {A} kept c numbered taken p d at =
     ]
 
 numbered_step : {A : Type 0} (kept cs : List (Call A)) (c : Call A) (b : Bool) → takes_effect kept c ≡ b → IsNumbered kept
-    → (IsNumbered (kept ++ c ∷ []) → IsNumbered ((kept ++ c ∷ []) ++ deduplicated_after (kept ++ c ∷ []) cs)) → (IsNumbered kept → IsNumbered (kept ++ deduplicated_after kept cs))
+    → (IsNumbered (kept ++ c ∷ []) → IsNumbered ((kept ++ c ∷ []) ++ deduplicated_after (kept ++ c ∷ []) cs))
+    → (IsNumbered kept → IsNumbered (kept ++ deduplicated_after kept cs))
     → IsNumbered (kept ++ (if b then c ∷ deduplicated_after (kept ++ c ∷ []) cs else deduplicated_after kept cs))
-numbered_step kept cs c true is numbered taken left = subst IsNumbered (append_assoc kept (c ∷ []) (deduplicated_after (kept ++ c ∷ []) cs)) (taken (numbered_push kept c numbered is))
+numbered_step kept cs c true is numbered taken left = subst IsNumbered
+    (append_assoc kept (c ∷ []) (deduplicated_after (kept ++ c ∷ []) cs)) (taken (numbered_push kept c numbered is))
 numbered_step kept cs c false is numbered taken left = left numbered
 
 numbered_after : {A : Type 0} (kept cs : List (Call A)) → IsNumbered kept → IsNumbered (kept ++ deduplicated_after kept cs)
 numbered_after kept [] numbered = subst IsNumbered (sym (append-nil kept)) numbered
-numbered_after kept (c ∷ cs) numbered = numbered_step kept cs c (takes_effect kept c) refl numbered (numbered_after (kept ++ c ∷ []) cs) (numbered_after kept cs)
+numbered_after kept (c ∷ cs) numbered = numbered_step kept cs c (takes_effect kept c) refl numbered
+    (numbered_after (kept ++ c ∷ []) cs) (numbered_after kept cs)
 
 -- each client's calls that take effect are numbered 1, 2, ..
 pub deduplicated-numbered : {A : Type 0} (calls : List (Call A)) → IsNumbered (deduplicated calls)
 deduplicated-numbered calls = numbered_after [] calls (λ p c at. absurd (cc at))
 
 stands_step : {A : Type 0} (kept cs : List (Call A)) (d : Call A) (b : Bool) (p : ℕ) (c : Call A)
-    → ((k : ℕ) → StandsAt (deduplicated_after (kept ++ d ∷ []) cs) k c → (q : ℕ) × StandsAt cs q c) → ((k : ℕ) → StandsAt (deduplicated_after kept cs) k c → (q : ℕ) × StandsAt cs q c)
+    → ((k : ℕ) → StandsAt (deduplicated_after (kept ++ d ∷ []) cs) k c → (q : ℕ) × StandsAt cs q c)
+    → ((k : ℕ) → StandsAt (deduplicated_after kept cs) k c → (q : ℕ) × StandsAt cs q c)
     → StandsAt (if b then d ∷ deduplicated_after (kept ++ d ∷ []) cs else deduplicated_after kept cs) p c → (q : ℕ) × StandsAt (d ∷ cs) q c
 stands_step kept cs d true zero c taken left at = (zero, at)
 stands_step kept cs d true (suc p) c taken left at = let r = taken p at in (suc r.0, r.1)
 stands_step kept cs d false p c taken left at = let r = left p at in (suc r.0, r.1)
 
 -- a call that takes effect after those kept stands in the list
-pub deduplicated_after-stands : {A : Type 0} (kept calls : List (Call A)) (p : ℕ) (c : Call A) → StandsAt (deduplicated_after kept calls) p c → (q : ℕ) × StandsAt calls q c
+pub deduplicated_after-stands : {A : Type 0} (kept calls : List (Call A)) (p : ℕ) (c : Call A)
+    → StandsAt (deduplicated_after kept calls) p c → (q : ℕ) × StandsAt calls q c
 deduplicated_after-stands kept [] p c at = absurd (cc at)
-deduplicated_after-stands kept (d ∷ cs) p c at = stands_step kept cs d (takes_effect kept d) p c (λ k. deduplicated_after-stands (kept ++ d ∷ []) cs k c) (λ k. deduplicated_after-stands kept cs k c) at
+deduplicated_after-stands kept (d ∷ cs) p c at = stands_step kept cs d (takes_effect kept d) p c
+    (λ k. deduplicated_after-stands (kept ++ d ∷ []) cs k c) (λ k. deduplicated_after-stands kept cs k c) at
 
 -- a call that takes effect stands in the list
 pub deduplicated-stands : {A : Type 0} (calls : List (Call A)) (p : ℕ) (c : Call A) → StandsAt (deduplicated calls) p c → (q : ℕ) × StandsAt calls q c
@@ -125,7 +147,8 @@ deduplicated-stands calls p c at = deduplicated_after-stands [] calls p c at
 -- ---- each number once
 
 -- where each client's calls are numbered, none stands before another of its client and number
-not_before : {A : Type 0} (calls : List (Call A)) → IsNumbered calls → (p q : ℕ) (c d : Call A) → StandsAt calls p c → StandsAt calls q d → c.client ≡ d.client → c.number ≡ d.number → p < q → ⊥
+not_before : {A : Type 0} (calls : List (Call A)) → IsNumbered calls → (p q : ℕ) (c d : Call A) → StandsAt calls p c
+    → StandsAt calls q d → c.client ≡ d.client → c.number ≡ d.number → p < q → ⊥
 not_before calls numbered p q c d at at' client number lt =
     let more = count_of-take calls p q c at lt in
     let first = numbered p c at in
@@ -134,7 +157,8 @@ not_before calls numbered p q c d at at' client number lt =
     omega (arith, more, first, second, number, same)
 
 -- a client's number stands at one place
-pub numbered_once : {A : Type 0} (calls : List (Call A)) → IsNumbered calls → (p q : ℕ) (c d : Call A) → StandsAt calls p c → StandsAt calls q d → c.client ≡ d.client → c.number ≡ d.number → p ≡ q
+pub numbered_once : {A : Type 0} (calls : List (Call A)) → IsNumbered calls → (p q : ℕ) (c d : Call A)
+    → StandsAt calls p c → StandsAt calls q d → c.client ≡ d.client → c.number ≡ d.number → p ≡ q
 numbered_once calls numbered p q c d at at' client number =
     let le : p ≤ q = omega (arith, not_before calls numbered q p d c at' at (sym client) (sym number)) in
     let ge : q ≤ p = omega (arith, not_before calls numbered p q c d at at' client number) in

@@ -38,4 +38,5 @@ module _ {O : Type 0} (object : Sequential O) where
 
   -- no later call changes an answer
   abbrev pub AnswersStay : {A : Type 0} → List (Call A) → Type 0
-  AnswersStay {A} calls = (more : List (Call A)) (p : ℕ) (c : Call A) → StandsAt calls p c → session_answer object (calls ++ more) p ≡ session_answer object calls p
+  AnswersStay {A} calls = (more : List (Call A)) (p : ℕ) (c : Call A) → StandsAt calls p c → session_answer object
+      (calls ++ more) p ≡ session_answer object calls p

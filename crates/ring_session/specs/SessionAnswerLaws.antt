@@ -1,6 +1,8 @@
 -- What holds of the session table's answers: a reply is the sequential object's at the one place where its call takes
 -- effect, and no later call changes it.
-use Rattle.std.proofs.Common.{◌≡◌, ℕ, zero, suc, ◌+◌, ◌<◌, ◌≤◌, ◌==◌, ◌&&◌, nat_lt, Bool, true, false, List, [], ◌∷◌, ◌++◌, length, take, drop, Option, Some, None, position, slice_get, get_or, refl, ap, sym, ◌∙◌, arith, ◌⊎◌, inl, inr, if◌then◌else◌}
+use Rattle.std.proofs.Common.{◌≡◌, ℕ, zero, suc, ◌+◌, ◌<◌, ◌≤◌, ◌==◌, ◌&&◌, nat_lt, Bool, true, false, List, [], ◌∷◌}
+use Rattle.std.proofs.Common.{◌++◌, length, take, drop, Option, Some, None, position, slice_get, get_or, refl, ap, sym}
+use Rattle.std.proofs.Common.{◌∙◌, arith, ◌⊎◌, inl, inr, if◌then◌else◌}
 use Rattle.std.specs.Prelude.{slice_index_or}
 use Rattle.std.specs.Option.{option_map}
 use Rattle.std.specs.Str.{bytes_eq}
@@ -16,7 +18,9 @@ use Rattle.ring_payload.specs.declared.call.Call.{Call}
 use Rattle.ring_session.specs.declared.answer.Answer.{Answer}
 use Rattle.ring_session.specs.declared.answer.Answer.TheVariants.{Done, Kept}
 use Rattle.ring_session.specs.Deduplicated.{count_of, may_call, takes_effect, deduplicated, StandsAt, IsNumbered, operations}
-use Rattle.ring_session.specs.DeduplicatedLaws.{take_front, get-push_last, count_of-take, deduplicated-push, deduplicated-front, deduplicated-numbered, takes_effect-number, numbered_once}
+use Rattle.ring_session.specs.DeduplicatedLaws.{take_front, get-push_last, count_of-take, deduplicated-push}
+use Rattle.ring_session.specs.DeduplicatedLaws.{deduplicated-front, deduplicated-numbered, takes_effect-number}
+use Rattle.ring_session.specs.DeduplicatedLaws.{numbered_once}
 use Rattle.ring_session.specs.SessionAnswer.{refusal, is_same, repeated, answer_after, reply_in, call_reply, session_answer, IsReplyIn}
 
 -- ---- the sequential object's replies
@@ -27,15 +31,23 @@ pub call_reply-front : {O A : Type 0} (object : Sequential O) (xs ys : List (Cal
 call_reply-front {O} {A} object xs ys q front within =
     let split : operations ys ≡ operations xs ++ operations front.0 = ap operations (sym front.1) ∙ map-append (λ (c : Call A). c.op) xs front.0 in
     let many : length (operations xs) ≡ length xs = length-map xs (λ (c : Call A). c.op) in
-    let before : take q (operations ys) ≡ take q (operations xs) = ap (take q) split ∙ take-append-le q (operations xs) (operations front.0) (omega (arith, within, many)) in
-    let here : slice_index_or (operations ys) q [] ≡ slice_index_or (operations xs) q [] = ap (λ (w : List (List ℕ)). slice_index_or w q []) split ∙ get_or_append_left (operations xs) (operations front.0) [] q (omega (arith, within, many)) in
-    ap (λ w. object.reply (content_after object object.initial w) (slice_index_or (operations ys) q [])) before ∙ ap (λ op. object.reply (content_after object object.initial (take q (operations xs))) op) here
+    let before : take q (operations ys) ≡ take q (operations xs) = ap (take q) split
+    ∙ take-append-le q (operations xs) (operations front.0) (omega (arith, within, many)) in
+    let here : slice_index_or (operations ys) q [] ≡ slice_index_or (operations xs) q [] =
+    ap (λ (w : List (List ℕ)). slice_index_or w q []) split ∙ get_or_append_left (operations xs)
+    (operations front.0) [] q (omega (arith, within, many)) in
+    ap (λ w. object.reply (content_after object object.initial w) (slice_index_or (operations ys) q [])) before
+    ∙ ap (λ op. object.reply (content_after object object.initial (take q (operations xs))) op) here
 
 -- a call that was replied in an order is replied so in each longer one
 pub replied_front : {O A : Type 0} (object : Sequential O) (xs ys : List (Call A)) (c : Call A) (r : List ℕ) → IsFront xs ys
     → IsReplyIn object xs c r → IsReplyIn object ys c r
-replied_front object xs ys c r front replied =
-    (replied.0, front_get xs ys replied.0 c front replied.1, call_reply-front object xs ys replied.0 front (slice_get_within xs replied.0 c replied.1) ∙ replied.2)
+replied_front object xs ys c r front replied = (
+  replied.0,
+  front_get xs ys replied.0 c front replied.1,
+  call_reply-front object xs ys replied.0 front
+      (slice_get_within xs replied.0 c replied.1) ∙ replied.2,
+)
 
 -- in an order where each client's calls are numbered, a client's number names one call with one reply
 pub one_reply : {O A : Type 0} (object : Sequential O) (order : List (Call A)) → IsNumbered order → (c d : Call A) (r s : List ℕ)
@@ -61,15 +73,21 @@ before_front : {A : Type 0} (calls : List (Call A)) (p : ℕ) → IsFront (dedup
 before_front calls p = deduplicated-front (take p calls) calls (front_take p calls)
 
 -- a call that takes effect at its place comes right behind those that did before
-pub takes_effect-front : {A : Type 0} (calls : List (Call A)) (p : ℕ) (c : Call A) → StandsAt calls p c → takes_effect (deduplicated (take p calls)) c ≡ true → IsFront (deduplicated (take p calls) ++ c ∷ []) (deduplicated (take (suc p) calls))
+pub takes_effect-front : {A : Type 0} (calls : List (Call A)) (p : ℕ) (c : Call A) → StandsAt calls p c
+    → takes_effect (deduplicated (take p calls)) c ≡ true → IsFront (deduplicated (take p calls) ++ c ∷ [])
+    (deduplicated (take (suc p) calls))
 takes_effect-front {A} calls p c at taken =
     let kept = deduplicated (take p calls) in
     let grown : deduplicated (take (suc p) calls) ≡ kept ++ c ∷ [] =
     ap deduplicated (take_next calls p c at) ∙ deduplicated-push (take p calls) c ∙ ap (λ w. kept ++ w) (cond-true (takes_effect kept c) (c ∷ []) [] taken) in
     ([], append-nil (kept ++ c ∷ []) ∙ sym grown)
 
-effect_front : {A : Type 0} (calls : List (Call A)) (p : ℕ) (c : Call A) → StandsAt calls p c → takes_effect (deduplicated (take p calls)) c ≡ true → IsFront (deduplicated (take p calls) ++ c ∷ []) (deduplicated calls)
-effect_front calls p c at taken = front_trans (deduplicated (take p calls) ++ c ∷ []) (deduplicated (take (suc p) calls)) (deduplicated calls) (takes_effect-front calls p c at taken) (before_front calls (suc p))
+effect_front : {A : Type 0} (calls : List (Call A)) (p : ℕ) (c : Call A) → StandsAt calls p c
+    → takes_effect (deduplicated (take p calls)) c ≡ true → IsFront (deduplicated (take p calls) ++ c ∷ [])
+    (deduplicated calls)
+effect_front calls p c at taken = front_trans (deduplicated (take p calls) ++ c ∷ [])
+    (deduplicated (take (suc p) calls)) (deduplicated calls) (takes_effect-front calls p c at taken)
+    (before_front calls (suc p))
 
 -- ---- one call
 
@@ -113,7 +131,8 @@ same_cases false room true old x y k l done kept = kept refl
 same_cases false room false old x y k l done kept = refl
 
 -- the answer looks at the replies at the kept places, and at its own if the call takes effect
-pub answer_after-same : {A : Type 0} (f g : ℕ → List ℕ) (kept : List (Call A)) (c : Call A) → (takes_effect kept c ≡ true → f (length kept) ≡ g (length kept)) → ((q : ℕ) → q < length kept → f q ≡ g q)
+pub answer_after-same : {A : Type 0} (f g : ℕ → List ℕ) (kept : List (Call A)) (c : Call A)
+    → (takes_effect kept c ≡ true → f (length kept) ≡ g (length kept)) → ((q : ℕ) → q < length kept → f q ≡ g q)
     → answer_after f kept c ≡ answer_after g kept c
 answer_after-same f g kept c own before =
     same_cases (c.number == count_of c.client kept + 1) (may_call kept c.client) (c.number == count_of c.client kept) (nat_lt c.number (count_of c.client kept))
@@ -129,7 +148,8 @@ session_answer-front {O} {A} object xs ys p c at front =
     let all : ℕ → List ℕ = call_reply object (deduplicated xs) in
     let more : ℕ → List ℕ = call_reply object (deduplicated ys) in
     let before : take p ys ≡ take p xs = take_front xs ys p front (omega (arith, slice_get_within xs p c at)) in
-    let same : (q : ℕ) → q < length (deduplicated xs) → more q ≡ all q = λ q within. call_reply-front object (deduplicated xs) (deduplicated ys) q grows within in
+    let same : (q : ℕ) → q < length (deduplicated xs) → more q ≡ all q = λ q within. call_reply-front object
+    (deduplicated xs) (deduplicated ys) q grows within in
     session_answer-at object ys p c (front_get xs ys p c front at)
     ∙ ap (λ w. Some (answer_after more (deduplicated w) c)) before
     ∙ ap Some (answer_after-same more all kept c
@@ -138,7 +158,8 @@ session_answer-front {O} {A} object xs ys p c at front =
     ∙ sym (session_answer-at object xs p c at)
 
 replied_cases : (next room last old : Bool) (f : ℕ → List ℕ) (n : ℕ) (o : Option ℕ) (r : List ℕ)
-    → reply_in (if next then (if room then Done (f n) else refusal SessionsFull) else if last then repeated f o else if old then refusal Stale else refusal NumberGap) ≡ Some r
+    → reply_in (if next then (if room then Done (f n) else refusal SessionsFull) else if last then repeated f
+    o else if old then refusal Stale else refusal NumberGap) ≡ Some r
     → ((next && room ≡ true) × (f n ≡ r)) ⊎ ((q : ℕ) × (o ≡ Some q) × (f q ≡ r))
 replied_cases true true last old f n o r e = inl (refl, cc e)
 replied_cases true false last old f n o r e = absurd (cc e)
@@ -156,7 +177,9 @@ answered {O} {A} object calls p c a r at answer is =
     let told : Some (answer_after replies kept c) ≡ Some a = sym (session_answer-at object calls p c at) ∙ answer in
     let same : answer_after replies kept c ≡ a = cc told in
     let brings : reply_in (answer_after replies kept c) ≡ Some r = ap reply_in same ∙ is in
-    elim (replied_cases (c.number == count_of c.client kept + 1) (may_call kept c.client) (c.number == count_of c.client kept) (nat_lt c.number (count_of c.client kept)) replies (length kept) (position (is_same c) kept) r brings) [
+    elim (replied_cases (c.number == count_of c.client kept + 1) (may_call kept c.client)
+    (c.number == count_of c.client kept) (nat_lt c.number (count_of c.client kept)) replies (length kept)
+    (position (is_same c) kept) r brings) [
       | inl now ↦ (length kept, front_get (kept ++ c ∷ []) (deduplicated calls) (length kept) c (effect_front calls p c at now.0) (get-push_last kept c), now.1)
       | inr before ↦ (before.0, front_get kept (deduplicated calls) before.0 c (before_front calls p) (position-is_same kept c before.0 before.1), before.2)
     ]
@@ -171,7 +194,8 @@ answered-number object calls p c a r at answer is =
 -- ---- one effect
 
 done_cases : (next room last old : Bool) (f : ℕ → List ℕ) (n : ℕ) (o : Option ℕ) (r : List ℕ)
-    → (if next then (if room then Done (f n) else refusal SessionsFull) else if last then repeated f o else if old then refusal Stale else refusal NumberGap) ≡ Done r → next && room ≡ true
+    → (if next then (if room then Done (f n) else refusal SessionsFull) else if last then repeated f
+    o else if old then refusal Stale else refusal NumberGap) ≡ Done r → next && room ≡ true
 done_cases true true last old f n o r e = refl
 done_cases true false last old f n o r e = absurd (cc e)
 done_cases false room true old f n None r e = absurd (cc e)
@@ -186,19 +210,26 @@ done_takes_effect {O} {A} object calls p c r at answer =
     let kept = deduplicated (take p calls) in
     let replies : ℕ → List ℕ = call_reply object (deduplicated calls) in
     let told : Some (answer_after replies kept c) ≡ Some (Done r) = sym (session_answer-at object calls p c at) ∙ answer in
-    done_cases (c.number == count_of c.client kept + 1) (may_call kept c.client) (c.number == count_of c.client kept) (nat_lt c.number (count_of c.client kept)) replies (length kept) (position (is_same c) kept) r (cc told)
+    done_cases (c.number == count_of c.client kept + 1) (may_call kept c.client) (c.number == count_of c.client kept)
+    (nat_lt c.number (count_of c.client kept)) replies (length kept) (position (is_same c) kept) r (cc told)
 
 -- a client's number takes effect at no later place
-no_later_effect : {A : Type 0} (calls : List (Call A)) (p q : ℕ) (c d : Call A) → StandsAt calls p c → StandsAt calls q d → takes_effect (deduplicated (take p calls)) c ≡ true → takes_effect (deduplicated (take q calls)) d ≡ true
+no_later_effect : {A : Type 0} (calls : List (Call A)) (p q : ℕ) (c d : Call A) → StandsAt calls p c
+    → StandsAt calls q d → takes_effect (deduplicated (take p calls)) c ≡ true
+    → takes_effect (deduplicated (take q calls)) d ≡ true
     → c.client ≡ d.client → c.number ≡ d.number → p < q → ⊥
 no_later_effect {A} calls p q c d at at' taken taken' client number lt =
     let before = deduplicated (take p calls) in
     let kept = deduplicated (take q calls) in
     let shorter : take (suc p) (take q calls) ≡ take (suc p) calls = take-take (suc p) q calls (omega (arith, lt)) in
-    let part : IsFront (take (suc p) calls) (take q calls) = (drop (suc p) (take q calls), ap (λ w. w ++ drop (suc p) (take q calls)) (sym shorter) ∙ take-append-drop (suc p) (take q calls)) in
+    let part : IsFront (take (suc p) calls) (take q calls) = (
+      drop (suc p) (take q calls),
+      ap (λ w. w ++ drop (suc p) (take q calls)) (sym shorter) ∙ take-append-drop (suc p) (take q calls),
+    ) in
     let stands : StandsAt kept (length before) c =
     front_get (before ++ c ∷ []) kept (length before) c
-    (front_trans (before ++ c ∷ []) (deduplicated (take (suc p) calls)) kept (takes_effect-front calls p c at taken) (deduplicated-front (take (suc p) calls) (take q calls) part))
+    (front_trans (before ++ c ∷ []) (deduplicated (take (suc p) calls)) kept (takes_effect-front calls p c at taken)
+    (deduplicated-front (take (suc p) calls) (take q calls) part))
     (get-push_last before c) in
     let first = deduplicated-numbered (take q calls) (length before) c stands in
     let second = takes_effect-number kept d taken' in

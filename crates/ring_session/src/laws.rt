@@ -17,7 +17,8 @@ use std::alloc::Allocator;
 pub fn deduplicated_law<A: Allocator + Copy>()
     ensures from_list { (calls : List (Call A)) (p : ℕ) (c : Call A) → StandsAt (deduplicated calls) p c → (q : ℕ) × StandsAt calls q c }
     ensures numbered { (calls : List (Call A)) → IsNumbered (deduplicated calls) }
-    ensures once { (calls : List (Call A)) (p q : ℕ) (c d : Call A) → StandsAt (deduplicated calls) p c → StandsAt (deduplicated calls) q d → c.client ≡ d.client → c.number ≡ d.number → p ≡ q }
+    ensures once { (calls : List (Call A)) (p q : ℕ) (c d : Call A) → StandsAt (deduplicated calls) p c
+        → StandsAt (deduplicated calls) q d → c.client ≡ d.client → c.number ≡ d.number → p ≡ q }
     ensures grows { (calls more : List (Call A)) → IsFront (deduplicated calls) (deduplicated (calls ++ more)) }
 {}
 
@@ -34,7 +35,10 @@ pub fn session_law<O: Object>()
 /// determines, and its object has the content that the calls which took effect leave. It tells a call that it is done
 /// exactly where the call takes effect.
 pub fn table_law<O: Object>()
-    ensures told { (calls : List (Call O.Alloc)) (c : Call O.Alloc) → session_answer O.sequential (calls ++ c ∷ []) (length calls) ≡ Some (table_answer O.sequential (table_after O.sequential calls) c) }
-    ensures effect { (calls : List (Call O.Alloc)) (c : Call O.Alloc) → is_done (table_answer O.sequential (table_after O.sequential calls) c) ≡ takes_effect (deduplicated calls) c }
-    ensures content { (calls : List (Call O.Alloc)) → (table_after O.sequential calls).content ≡ content_after O.sequential O.sequential.initial (operations (deduplicated calls)) }
+    ensures told { (calls : List (Call O.Alloc)) (c : Call O.Alloc) → session_answer O.sequential (calls ++ c ∷ [])
+        (length calls) ≡ Some (table_answer O.sequential (table_after O.sequential calls) c) }
+    ensures effect { (calls : List (Call O.Alloc)) (c : Call O.Alloc)
+        → is_done (table_answer O.sequential (table_after O.sequential calls) c) ≡ takes_effect (deduplicated calls) c }
+    ensures content { (calls : List (Call O.Alloc)) → (table_after O.sequential calls).content
+        ≡ content_after O.sequential O.sequential.initial (operations (deduplicated calls)) }
 {}

@@ -29,7 +29,10 @@ use Rattle.ring_core.specs.Naming.{is_named}
 use Rattle.ring_core.specs.Visiting.{accepts}
 use Rattle.ring_core.specs.Joining.{regathered, hears, disturbs}
 use Rattle.ring_core.specs.Handing.{takes_first_round, takes_second_round, takes_start}
-use Rattle.ring_core.specs.Deciding.{Ignore, Enqueue, Take, Visit, Fill, Learn, is_taken, decide_message, decide_token, heard_in_gather, heard_elsewhere, overhear, decide_join, decide_round, decide_commit, decide_frame, decide_if_named, decide_time, decide_user, decide_payload, decide}
+use Rattle.ring_core.specs.Deciding.{Ignore, Enqueue, Take, Visit, Fill, Learn, is_taken, decide_message, decide_token}
+use Rattle.ring_core.specs.Deciding.{heard_in_gather, heard_elsewhere, overhear, decide_join, decide_round}
+use Rattle.ring_core.specs.Deciding.{decide_commit, decide_frame, decide_if_named, decide_time, decide_user}
+use Rattle.ring_core.specs.Deciding.{decide_payload, decide}
 use Rattle.ring_srp.specs.Allowing.{Allows, InputFits, TokenGoes, VisitAllowed}
 use Rattle.ring_srp.specs.Machines.{is_running}
 

@@ -1,5 +1,6 @@
 -- What a core keeps stands on as messages are held: one of the ring in use; and in Recovery what it wraps, of the old ring.
-use Rattle.std.proofs.Common.{◌≡◌, ℕ, ◌+◌, ◌-◌, ◌<◌, ◌≤◌, max, true, false, List, [], ◌∷◌, ◌++◌, map, filter, filter_map, length, Option, Some, None, refl, ap, ◌∙◌, sym, subst, inl, inr, arith}
+use Rattle.std.proofs.Common.{◌≡◌, ℕ, ◌+◌, ◌-◌, ◌<◌, ◌≤◌, max, true, false, List, [], ◌∷◌, ◌++◌, map, filter}
+use Rattle.std.proofs.Common.{filter_map, length, Option, Some, None, refl, ap, ◌∙◌, sym, subst, inl, inr, arith}
 use denote.Enum.Bare.{sameb, same_false}
 use mathlib.Core.Path.{fun_ext}
 use Rattle.std.specs.Prelude.{◌&&◌, ◌==◌}

@@ -126,10 +126,12 @@ step_settles c input =
     settled_by (may_install did.core) did.core (sent did.sends ++ given c did.core) refl
 
 -- where nothing was sent before, the outputs of the first visit are all
-pub first_alone : {A : Type 0} (n : ℕ) (c : Core A) (t : Token) (before after : List (Out A)) → before ≡ [] → after ≡ before ++ sent (visited c t).sends → c ≡ formed n 1 →
+pub first_alone : {A : Type 0} (n : ℕ) (c : Core A) (t : Token) (before after : List (Out A)) → before ≡ []
+    → after ≡ before ++ sent (visited c t).sends → c ≡ formed n 1 →
     t ≡ first_token (all_of n).ring → after ≡ sent (visited {A = A} (formed n 1) (first_token (all_of n).ring)).sends
 first_alone {A} n c t before after none gives same first =
-    gives ∙ ap (λ outs. outs ++ sent (visited c t).sends) none ∙ ap (λ (d : Core A). sent (visited d t).sends) same ∙ ap (λ k. sent (visited {A = A} (formed n 1) k).sends) first
+    gives ∙ ap (λ outs. outs ++ sent (visited c t).sends) none ∙ ap (λ (d : Core A). sent (visited d t).sends) same
+    ∙ ap (λ k. sent (visited {A = A} (formed n 1) k).sends) first
 
 pub first_core : {A : Type 0} (n : ℕ) (c d : Core A) (t : Token) → d ≡ (visited c t).core → c ≡ formed n 1 → t ≡ first_token (all_of n).ring →
     d ≡ (visited (formed n 1) (first_token (all_of n).ring)).core

@@ -23,14 +23,22 @@ use Rattle.ring_srp.specs.Machines.{IsPart, window_of, raises_of}
 pub turns_twice : {A : Type 0} (turns : List (Turn A)) (ring : RingId) → turns_of ring (turns_of ring turns) ≡ turns_of ring turns
 turns_twice [] ring = refl
 turns_twice (v ∷ turns) ring = elim (cases_Bool (same_ring v.came.ring ring)) [
-  | inl e ↦ rw (cond-true (same_ring v.came.ring ring) (v ∷ turns_of ring turns) (turns_of ring turns) e, cond-true (same_ring v.came.ring ring) (v ∷ turns_of ring (turns_of ring turns)) (turns_of ring (turns_of ring turns)) e) (ap (λ ys. v ∷ ys) (turns_twice turns ring))
+  | inl e ↦ rw (
+    cond-true (same_ring v.came.ring ring) (v ∷ turns_of ring turns) (turns_of ring turns) e,
+    cond-true (same_ring v.came.ring ring) (v ∷ turns_of ring (turns_of ring turns))
+        (turns_of ring (turns_of ring turns)) e,
+  ) (ap (λ ys. v ∷ ys) (turns_twice turns ring))
   | inr e ↦ rw (cond-false (same_ring v.came.ring ring) (v ∷ turns_of ring turns) (turns_of ring turns) e) (turns_twice turns ring)
 ]
 
 pub raises_twice : (raises : List Raise) (ring : RingId) → raises_of ring (raises_of ring raises) ≡ raises_of ring raises
 raises_twice [] ring = refl
 raises_twice (x ∷ raises) ring = elim (cases_Bool (same_ring x.ring ring)) [
-  | inl e ↦ rw (cond-true (same_ring x.ring ring) (x ∷ raises_of ring raises) (raises_of ring raises) e, cond-true (same_ring x.ring ring) (x ∷ raises_of ring (raises_of ring raises)) (raises_of ring (raises_of ring raises)) e) (ap (λ ys. x ∷ ys) (raises_twice raises ring))
+  | inl e ↦ rw (
+    cond-true (same_ring x.ring ring) (x ∷ raises_of ring raises) (raises_of ring raises) e,
+    cond-true (same_ring x.ring ring) (x ∷ raises_of ring (raises_of ring raises))
+        (raises_of ring (raises_of ring raises)) e,
+  ) (ap (λ ys. x ∷ ys) (raises_twice raises ring))
   | inr e ↦ rw (cond-false (same_ring x.ring ring) (x ∷ raises_of ring raises) (raises_of ring raises) e) (raises_twice raises ring)
 ]
 
@@ -53,7 +61,8 @@ same_accepted {A} turns held ring t = elim (cases_Bool (same_ring t.ring ring)) 
       let high : highest (of_ring ring held) ring ≡ highest held t.ring = highest_of_ring held ring ∙ sym (ap (λ (q : RingId). highest held q) r) in
       ap (λ b. same_ring t.ring ring && b && nat_lt t.number max_number && nat_le (highest (of_ring ring held) ring) t.seq) newer
       ∙ ap (λ h. same_ring t.ring ring && is_newer turns t && nat_lt t.number max_number && nat_le h t.seq) high)
-  | inr e ↦ none_passes (same_ring t.ring ring) (is_newer (turns_of ring turns) t) (nat_lt t.number max_number) (nat_le (highest (of_ring ring held) ring) t.seq) (is_newer turns t) (nat_le (highest held t.ring) t.seq) e
+  | inr e ↦ none_passes (same_ring t.ring ring) (is_newer (turns_of ring turns) t) (nat_lt t.number max_number)
+      (nat_le (highest (of_ring ring held) ring) t.seq) (is_newer turns t) (nat_le (highest held t.ring) t.seq) e
 ]
 
 pub accepted_by : {A : Type 0} (c : Core A) (window : Windowed A) (visit : TokenHistory A) (t : Token) → IsPart c c.running.ring window visit →

@@ -32,14 +32,19 @@ receiver_member me k some here =
     rw e at (at_member k.members (position_of_hop k) inside).1
 
 -- the same, of what the code hands over
-pub filled_by : (me' me floor' floor set' set : ℕ) (own' own : CommitEntry) (k' k token : CommitToken) → me' ≡ me → floor' ≡ floor → set' ≡ set → own' ≡ own → k' ≡ k →
+pub filled_by : (me' me floor' floor set' set : ℕ) (own' own : CommitEntry) (k' k token : CommitToken) → me' ≡ me
+    → floor' ≡ floor → set' ≡ set → own' ≡ own → k' ≡ k →
     is_at me k ≡ true → is_first_round floor set k ≡ true → Pass token ≡ filled me' floor' set' own' k' → token ≡ hopped k (own ∷ [])
 filled_by me' me floor' floor set' set own' own k' k token a b c d e here first given =
     filled_token me floor set own k token here first
-    (given ∙ ap (λ n. filled n floor' set' own' k') a ∙ ap (λ n. filled me n set' own' k') b ∙ ap (λ n. filled me floor n own' k') c ∙ ap (λ (x : CommitEntry). filled me floor set x k') d ∙ ap (λ (x : CommitToken). filled me floor set own x) e)
+    (given ∙ ap (λ n. filled n floor' set' own' k') a ∙ ap (λ n. filled me n set' own' k') b
+    ∙ ap (λ n. filled me floor n own' k') c ∙ ap (λ (x : CommitEntry). filled me floor set x k') d
+    ∙ ap (λ (x : CommitToken). filled me floor set own x) e)
 
 -- in the first round there are members
 pub first_some : (floor set : ℕ) (k : CommitToken) → is_first_round floor set k ≡ true → 0 < size k.members
 first_some floor set k h =
-    let l : k.hop < size k.members = ltb-true k.hop (size k.members) (and_parts (nat_lt k.hop (size k.members)) (k.members == set) (and_parts (nat_lt k.hop (size k.members) && (k.members == set)) (nat_lt floor k.ring.seq) h).0).0 in
+    let l : k.hop < size k.members = ltb-true k.hop (size k.members) (and_parts (nat_lt k.hop (size k.members))
+    (k.members == set) (and_parts (nat_lt k.hop (size k.members) && (k.members == set)) (nat_lt floor k.ring.seq)
+    h).0).0 in
     omega arith

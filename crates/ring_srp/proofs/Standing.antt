@@ -22,11 +22,13 @@ use Rattle.ring_srp.specs.Machines.{core_of, IsBelow, bound, IsRecovering, IsMac
 
 -- Numbers below a bound are below a higher one
 
-held_wider : {A : Type 0} (m n : ℕ) (xs : List (Message A)) → m ≤ n → AllByRecursion (λ (x : Message A). x.ring.seq < m) xs → AllByRecursion (λ (x : Message A). x.ring.seq < n) xs
+held_wider : {A : Type 0} (m n : ℕ) (xs : List (Message A)) → m ≤ n
+    → AllByRecursion (λ (x : Message A). x.ring.seq < m) xs → AllByRecursion (λ (x : Message A). x.ring.seq < n) xs
 held_wider m n [] l h = tt
 held_wider m n (x ∷ xs) l h = (omega (arith, h.0), held_wider m n xs l h.1)
 
-turns_wider : {A : Type 0} (m n : ℕ) (vs : List (Turn A)) → m ≤ n → AllByRecursion (λ (v : Turn A). v.came.ring.seq < m) vs → AllByRecursion (λ (v : Turn A). v.came.ring.seq < n) vs
+turns_wider : {A : Type 0} (m n : ℕ) (vs : List (Turn A)) → m ≤ n
+    → AllByRecursion (λ (v : Turn A). v.came.ring.seq < m) vs → AllByRecursion (λ (v : Turn A). v.came.ring.seq < n) vs
 turns_wider m n [] l h = tt
 turns_wider m n (v ∷ vs) l h = (omega (arith, h.0), turns_wider m n vs l h.1)
 
@@ -35,7 +37,11 @@ raises_wider m n [] l h = tt
 raises_wider m n (x ∷ xs) l h = (omega (arith, h.0), raises_wider m n xs l h.1)
 
 pub below_wider : {A : Type 0} (c : Core A) (m n : ℕ) → m ≤ n → IsBelow c m → IsBelow c n
-below_wider c m n l b = record { held = held_wider m n c.held l b.held; turns = turns_wider m n c.turns l b.turns; raises = raises_wider m n c.raises l b.raises }
+below_wider c m n l b = record {
+  held = held_wider m n c.held l b.held;
+  turns = turns_wider m n c.turns l b.turns;
+  raises = raises_wider m n c.raises l b.raises;
+}
 
 bound_short : (s : State) (n : ℕ) → bound s n ≤ suc n
 bound_short Gather n = omega arith
@@ -62,7 +68,8 @@ commit_not_recovery : Commit ≡ Recovery → ⊥
 commit_not_recovery e = (let q : Commit ≡ Recovery = e in cc)
 
 -- what is kept of the running ring says nothing of Gather, queue or what was shown
-recovering_on : {A : Type 0} (me total : ℕ) (s : State) (running installed : Configuration) (g g' : Gathering) (shown shown' : Option (Sent A)) (queue queue' : List (Payload A)) (held : List (Message A)) (h : History A)
+recovering_on : {A : Type 0} (me total : ℕ) (s : State) (running installed : Configuration) (g g' : Gathering)
+    (shown shown' : Option (Sent A)) (queue queue' : List (Payload A)) (held : List (Message A)) (h : History A)
     (recovery : Option (Recovering A)) → (s ≡ Recovery → IsRecovering (core_of me total s running installed g shown queue held h) recovery)
     → s ≡ Recovery → IsRecovering (core_of me total s running installed g' shown' queue' held h) recovery
 recovering_on me total s running installed g g' shown shown' queue queue' held h None f e = f e
@@ -79,7 +86,8 @@ recovering_on me total s running installed g g' shown shown' queue queue' held h
       old_safe = m.old_safe;
     }
 
-module _ {A : Type 0} (me total : ℕ) (s : State) (running installed : Configuration) (g : Gathering) (shown : Option (Sent A)) (queue : List (Payload A)) (held : List (Message A)) (h : History A)
+module _ {A : Type 0} (me total : ℕ) (s : State) (running installed : Configuration) (g : Gathering)
+    (shown : Option (Sent A)) (queue : List (Payload A)) (held : List (Message A)) (h : History A)
     (gather : Gatherer) (window : Windowed A) (visit : TokenHistory A) (recovery : Option (Recovering A)) where
   -- Gather is entered
   pub into_gather : (g' : Gathering) (shown' : Option (Sent A)) (queue' : List (Payload A)) (gather' : Gatherer) (recovery' : Option (Recovering A)) →
@@ -87,7 +95,8 @@ module _ {A : Type 0} (me total : ℕ) (s : State) (running installed : Configur
       gather'.me ≡ me → gather'.floor ≡ running.ring.seq → recovery' ≡ None →
       IsMachine (core_of me total Gather running installed g' shown' queue' held h) gather' window visit recovery'
   into_gather g' shown' queue' gather' recovery' m a b none =
-      let wide = below_wider (core_of me total s running installed g shown queue held h) (bound s running.ring.seq) (suc running.ring.seq) (bound_short s running.ring.seq) m.below in
+      let wide = below_wider (core_of me total s running installed g shown queue held h) (bound s running.ring.seq)
+      (suc running.ring.seq) (bound_short s running.ring.seq) m.below in
       record {
         runs = refl;
         gather_me = a;
@@ -108,7 +117,8 @@ module _ {A : Type 0} (me total : ℕ) (s : State) (running installed : Configur
       s ≡ Gather → running.ring.seq < running'.ring.seq → IsMember running'.members me →
       IsMachine (core_of me total Commit running' installed g shown' queue held (with_ring h running' own)) gather window visit recovery
   into_commit running' shown' own m gathers newer member =
-      let wide = below_wider (core_of me total s running installed g shown queue held h) (bound s running.ring.seq) running'.ring.seq (omega (arith, bound_short s running.ring.seq, newer)) m.below in
+      let wide = below_wider (core_of me total s running installed g shown queue held h) (bound s running.ring.seq)
+      running'.ring.seq (omega (arith, bound_short s running.ring.seq, newer)) m.below in
       record {
         runs = refl;
         gather_me = m.gather_me;

@@ -1,5 +1,6 @@
 -- A core whose token goes on: what is kept of its rings stands on.
-use Rattle.std.proofs.Common.{◌≡◌, ℕ, suc, ◌+◌, ◌<◌, ◌≤◌, max, true, false, List, ◌∷◌, map, length, Option, Some, refl, ap, ◌∙◌, sym, subst, ◌⊎◌, inl, inr, arith}
+use Rattle.std.proofs.Common.{◌≡◌, ℕ, suc, ◌+◌, ◌<◌, ◌≤◌, max, true, false, List, ◌∷◌, map, length, Option, Some, refl}
+use Rattle.std.proofs.Common.{ap, ◌∙◌, sym, subst, ◌⊎◌, inl, inr, arith}
 use Rattle.std.proofs.lemmas.Bool.{true≢false}
 use Rattle.ring_base.specs.Rings.{same_ring}
 use Rattle.ring_base.specs.Numbers.{greatest}

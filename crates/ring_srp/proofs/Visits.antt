@@ -1,5 +1,7 @@
 -- A visit, part by part: what was asked for goes out again, what is new goes out and is held, and what the token then is.
-use Rattle.std.proofs.Common.{◌≡◌, ℕ, suc, ◌+◌, ◌<◌, ◌≤◌, max, true, List, [], ◌∷◌, ◌++◌, length, map, reverse, drop, get_or, Option, Some, None, Result, Ok, Err, refl, sym, ap, subst, ◌∙◌, arith, append_assoc, ◌⊎◌, inl, inr}
+use Rattle.std.proofs.Common.{◌≡◌, ℕ, suc, ◌+◌, ◌<◌, ◌≤◌, max, true, List, [], ◌∷◌, ◌++◌, length, map, reverse, drop}
+use Rattle.std.proofs.Common.{get_or, Option, Some, None, Result, Ok, Err, refl, sym, ap, subst, ◌∙◌, arith}
+use Rattle.std.proofs.Common.{append_assoc, ◌⊎◌, inl, inr}
 use Rattle.std.specs.Prelude.{not, ◌&&◌, ◌==◌, nat_lt, nat_le, filter_map, if◌then◌else◌, OnOk}
 use Rattle.std.specs.List.{cons_option}
 use Rattle.std.specs.List.Sorted.{IsStrictlyIncreasing}
@@ -109,7 +111,8 @@ reached_in Commit c recovery r o f k = absurd (true≢false (sym r))
 reached_in Stopped c recovery r o f k = absurd (true≢false (sym r))
 
 -- an accepted token is not behind its safe mark
-pub machine_behind : {A : Type 0} (c : Core A) (gather : Gatherer) (window : Windowed A) (visit : TokenHistory A) (recovery : Option (Recovering A)) (t : Token) →
+pub machine_behind : {A : Type 0} (c : Core A) (gather : Gatherer) (window : Windowed A) (visit : TokenHistory A)
+    (recovery : Option (Recovering A)) (t : Token) →
     IsMachine c gather window visit recovery → is_running c.state ≡ true → accepts c t ≡ true → mark c t.ring ≤ t.seq
 machine_behind c gather window visit recovery t m r a =
     let p = passing c t a in
@@ -118,7 +121,8 @@ machine_behind c gather window visit recovery t m r a =
     omega (arith, here, front_short c.held t.ring, p.high)
 
 -- the same, where what is kept of the ring is at hand
-pub mark_behind : {A : Type 0} (c : Core A) (window : Windowed A) (visit : TokenHistory A) (t : Token) → IsPart c c.running.ring window visit → accepts c t ≡ true →
+pub mark_behind : {A : Type 0} (c : Core A) (window : Windowed A) (visit : TokenHistory A) (t : Token)
+    → IsPart c c.running.ring window visit → accepts c t ≡ true →
     mark c t.ring ≤ t.seq
 mark_behind c window visit t p a =
     let q = passing c t a in
@@ -129,23 +133,27 @@ mark_behind c window visit t p a =
 mark_of-visits : {A : Type 0} (c : Core A) (ring : RingId) → mark_of (visits_of c ring) ≡ mark c ring
 mark_of-visits {A} c ring =
     ap (λ (vs : List (Turn A)). max (mark_by (map (λ (v : Turn A). v.went.aru) vs)) (raised_to ring (raises_of ring c.raises))) (turns_twice c.turns ring)
-    ∙ ap (λ (xs : List Raise). max (mark_by (map (λ (v : Turn A). v.went.aru) (turns_of ring c.turns))) (greatest (map (λ (x : Raise). x.mark) xs))) (raises_twice c.raises ring)
+    ∙ ap (λ (xs : List Raise). max (mark_by (map (λ (v : Turn A). v.went.aru) (turns_of ring c.turns)))
+    (greatest (map (λ (x : Raise). x.mark) xs))) (raises_twice c.raises ring)
 
-pub mark_by_visits : {A : Type 0} (c : Core A) (window : Windowed A) (visit : TokenHistory A) (t : Token) → IsPart c c.running.ring window visit → accepts c t ≡ true →
+pub mark_by_visits : {A : Type 0} (c : Core A) (window : Windowed A) (visit : TokenHistory A) (t : Token)
+    → IsPart c c.running.ring window visit → accepts c t ≡ true →
     mark_of visit ≡ mark c t.ring
 mark_by_visits c window visit t p a =
     ap mark_of p.visit_is ∙ mark_of-visits c c.running.ring ∙ ap (λ (r : RingId). mark c r) (sym (passing c t a).ring)
 
 -- What stays asked for
 
-pub holds_by : {A : Type 0} (c : Core A) (window : Windowed A) (visit : TokenHistory A) (t : Token) (n : ℕ) → IsPart c c.running.ring window visit → accepts c t ≡ true →
+pub holds_by : {A : Type 0} (c : Core A) (window : Windowed A) (visit : TokenHistory A) (t : Token) (n : ℕ)
+    → IsPart c c.running.ring window visit → accepts c t ≡ true →
     holds window.held window.ring n ≡ holds c.held t.ring n
 holds_by c window visit t n p a =
     ap (λ (w : Windowed _). holds w.held w.ring n) p.window_is
     ∙ holds_of_ring c.held c.running.ring n
     ∙ ap (λ (r : RingId). holds c.held r n) (sym (passing c t a).ring)
 
-pub stays_ascending : {A : Type 0} (c : Core A) (t : Token) → IsStrictlyIncreasing t.requests → IsStrictlyIncreasing (left (mark c t.ring) (holds c.held t.ring) t.requests)
+pub stays_ascending : {A : Type 0} (c : Core A) (t : Token) → IsStrictlyIncreasing t.requests → IsStrictlyIncreasing
+    (left (mark c t.ring) (holds c.held t.ring) t.requests)
 stays_ascending c t h = IsStrictlyIncreasing-filter (is_left (mark c t.ring) (holds c.held t.ring)) t.requests h
 
 -- What was asked for goes out again
@@ -159,7 +167,8 @@ abbrev pub AreRepeated : {A : Type 0} → Core A → Token → List (Out A) → 
 AreRepeated c t old outs i = outs ++ again c t (drop i t.requests) ≡ old ++ again c t t.requests
 
 -- the window tells of a number what is found of it, if it is above the mark
-kept_by : {A : Type 0} (c : Core A) (window : Windowed A) (visit : TokenHistory A) (t : Token) (n : ℕ) → IsPart c c.running.ring window visit → accepts c t ≡ true →
+kept_by : {A : Type 0} (c : Core A) (window : Windowed A) (visit : TokenHistory A) (t : Token) (n : ℕ)
+    → IsPart c c.running.ring window visit → accepts c t ≡ true →
     kept window n ≡ (if nat_lt (mark c t.ring) n then found c.held t.ring n else None)
 kept_by c window visit t n p a =
     ap (λ (w : Windowed _). kept w n) p.window_is
@@ -183,7 +192,8 @@ module _ {A : Type 0} (c : Core A) (window : Windowed A) (visit : TokenHistory A
   repeated_all l r = sym (append-nil outs) ∙ ap (λ s. outs ++ s) (sym (at_drop_all (again c t) t.requests i l)) ∙ r
 
   -- nothing of this number goes out
-  pub repeated_less : (n : ℕ) → IsPart c c.running.ring window visit → accepts c t ≡ true → i < length t.requests → n ≡ get_or t.requests i 0 → kept window n ≡ None →
+  pub repeated_less : (n : ℕ) → IsPart c c.running.ring window visit → accepts c t ≡ true → i < length t.requests
+      → n ≡ get_or t.requests i 0 → kept window n ≡ None →
       AreRepeated c t old outs i → AreRepeated c t old outs (i + 1)
   repeated_less n p a l at k r =
       let d : drop i t.requests ≡ n ∷ drop (i + 1) t.requests = drop_more t.requests i 0 l ∙ ap (λ m. m ∷ drop (i + 1) t.requests) (sym at) in
@@ -194,7 +204,8 @@ module _ {A : Type 0} (c : Core A) (window : Windowed A) (visit : TokenHistory A
       ap (λ s. outs ++ s) (sym e) ∙ r
 
   -- this message goes out
-  pub repeated_more : (n : ℕ) (x : Message A) (after : List (Out A)) → IsPart c c.running.ring window visit → accepts c t ≡ true → i < length t.requests → n ≡ get_or t.requests i 0 →
+  pub repeated_more : (n : ℕ) (x : Message A) (after : List (Out A)) → IsPart c c.running.ring window visit
+      → accepts c t ≡ true → i < length t.requests → n ≡ get_or t.requests i 0 →
       kept window n ≡ Some x → after ≡ outs ++ sent (to_all c x ∷ []) → AreRepeated c t old outs i → AreRepeated c t old after (i + 1)
   repeated_more n x after p a l at k s r =
       let d : drop i t.requests ≡ n ∷ drop (i + 1) t.requests = drop_more t.requests i 0 l ∙ ap (λ m. m ∷ drop (i + 1) t.requests) (sym at) in
@@ -221,7 +232,8 @@ numbered-push ring me seq (q ∷ ps) p n e =
     ap (λ xs. record { ring = ring; number = suc seq; sender = me; payload = q } ∷ xs) (numbered-push ring me (suc seq) ps p n (omega arith))
 
 -- what is held is no higher than the last number
-highest-push : {A : Type 0} (x : Message A) (held : List (Message A)) (ring : RingId) (n : ℕ) → x.number ≤ n → highest held ring ≤ n → highest (x ∷ held) ring ≤ n
+highest-push : {A : Type 0} (x : Message A) (held : List (Message A)) (ring : RingId) (n : ℕ) → x.number ≤ n
+    → highest held ring ≤ n → highest (x ∷ held) ring ≤ n
 highest-push {A} x held ring n a b = elim (cases_Bool (same_ring x.ring ring)) [
   | inl e ↦ rw (cond-true (same_ring x.ring ring) (x ∷ of_ring ring held) (of_ring ring held) e) (omega (arith, a, b))
   | inr e ↦ rw (cond-false (same_ring x.ring ring) (x ∷ of_ring ring held) (of_ring ring held) e) b
@@ -234,12 +246,14 @@ highest-numbered {A} ring me seq (p ∷ ps) held h =
     let x : Message A = record { ring = ring; number = suc seq; sender = me; payload = p } in
     let xs = numbered ring me (suc seq) ps in
     let e : reverse (x ∷ xs) ++ held ≡ reverse xs ++ x ∷ held = ap (λ ys. ys ++ held) (reverse-append (x ∷ []) xs) ∙ append_assoc (reverse xs) (x ∷ []) held in
-    let i : highest (reverse xs ++ x ∷ held) ring ≤ suc seq + length ps = highest-numbered ring me (suc seq) ps (x ∷ held) (highest-push x held ring (suc seq) (omega arith) (omega (arith, h))) in
+    let i : highest (reverse xs ++ x ∷ held) ring ≤ suc seq + length ps = highest-numbered ring me (suc seq) ps
+    (x ∷ held) (highest-push x held ring (suc seq) (omega arith) (omega (arith, h))) in
     let l : highest (reverse xs ++ x ∷ held) ring ≤ seq + suc (length ps) = omega (arith, i) in
     subst (λ ys. highest ys ring ≤ seq + suc (length ps)) (sym e) l
 
 -- a number of the window above all that is held is new
-above_new : {A : Type 0} (held : List (Message A)) (mark : ℕ) (ring : RingId) (n : ℕ) → highest held ring < n → mark < n → n ≤ mark + 256 → is_new held mark ring n ≡ true
+above_new : {A : Type 0} (held : List (Message A)) (mark : ℕ) (ring : RingId) (n : ℕ) → highest held ring < n
+    → mark < n → n ≤ mark + 256 → is_new held mark ring n ≡ true
 above_new held mark ring n h a b =
     let inside : (nat_lt mark n && nat_le n (mark + 256)) ≡ true = grind (arith, nat_tests) in
     elim (cases_Bool (holds held ring n)) [
@@ -261,12 +275,14 @@ module _ {A : Type 0} (c : Core A) (t : Token) (ps : List (Payload A)) (p : Payl
   news_more e = numbered-push t.ring c.me t.seq ps p (n + 1) (omega arith)
 
   -- messages of its ring are taken still
-  pub used_still : (gather : Gatherer) (window : Windowed A) (visit : TokenHistory A) (recovery : Option (Recovering A)) → IsMachine c gather window visit recovery →
+  pub used_still : (gather : Gatherer) (window : Windowed A) (visit : TokenHistory A)
+      (recovery : Option (Recovering A)) → IsMachine c gather window visit recovery →
       is_running c.state ≡ true → accepts c t ≡ true → t.ring ≡ ring_in_use c.state (holding c t ps)
   used_still gather window visit recovery m r a = (passing c t a).ring ∙ sym (in_use c.state (holding c t ps) r m.same)
 
   -- one more is held
-  pub holding_more : (x : Message A) (d : Core A) → n ≡ t.seq + length ps → x ≡ record { ring = t.ring; number = n + 1; sender = c.me; payload = p } → d ≡ holding c t ps →
+  pub holding_more : (x : Message A) (d : Core A) → n ≡ t.seq + length ps
+      → x ≡ record { ring = t.ring; number = n + 1; sender = c.me; payload = p } → d ≡ holding c t ps →
       record d { held = x ∷ d.held } ≡ holding c t (ps ++ p ∷ [])
   holding_more x d e same f =
       let turned : reverse (news c t (ps ++ p ∷ [])) ≡ x ∷ reverse (news c t ps) =
@@ -274,7 +290,8 @@ module _ {A : Type 0} (c : Core A) (t : Token) (ps : List (Payload A)) (p : Payl
       ap (λ (d : Core A). record d { held = x ∷ d.held }) f ∙ ap (λ xs. record c { held = xs ++ c.held }) (sym turned)
 
   -- one more goes out
-  pub sends_more : (x : Message A) (old outs after : List (Out A)) → n ≡ t.seq + length ps → x ≡ record { ring = t.ring; number = n + 1; sender = c.me; payload = p } →
+  pub sends_more : (x : Message A) (old outs after : List (Out A)) → n ≡ t.seq + length ps
+      → x ≡ record { ring = t.ring; number = n + 1; sender = c.me; payload = p } →
       outs ≡ old ++ sent (to_others c (news c t ps)) → after ≡ outs ++ sent (to_all c x ∷ []) → after ≡ old ++ sent (to_others c (news c t (ps ++ p ∷ [])))
   sends_more x old outs after e same f g =
       g ∙ ap (λ o. o ++ sent (to_all c x ∷ [])) f
@@ -290,7 +307,8 @@ offers_few Gather c count = omega arith
 offers_few Commit c count = omega arith
 offers_few Stopped c count = omega arith
 
-pub payloads_few : {A : Type 0} (c : Core A) (t : Token) (payloads : List (Payload A)) → payloads ≡ new_payloads c t → length payloads ≤ room (mark c t.ring) t.seq
+pub payloads_few : {A : Type 0} (c : Core A) (t : Token) (payloads : List (Payload A)) → payloads ≡ new_payloads c t
+    → length payloads ≤ room (mark c t.ring) t.seq
 payloads_few c t payloads e = subst (λ ps. length ps ≤ room (mark c t.ring) t.seq) (sym e) (offers_few c.state c (room_at c t))
 
 -- the last number is no greater than the greatest
@@ -307,24 +325,34 @@ module _ {A : Type 0} (c one two : Core A) (t : Token) (stays : List ℕ) (paylo
       ∙ ap (λ ps. record c { queue = queue_after c.state (room_at c t) c.queue; held = reverse (numbered t.ring c.me t.seq ps) ++ c.held }) p
 
   -- then the token went on, and the core is as the visit leaves it
-  pub visited_core : (fresh : List (Payload A)) (three : Core A) → two ≡ record c { queue = queue_after c.state (room_at c t) c.queue; held = reverse (new_messages c t) ++ c.held } →
-      stays ≡ left (mark c t.ring) (holds c.held t.ring) t.requests → fresh ≡ new_payloads c t → three ≡ passed_on two t stays fresh → three ≡ (visited c t).core
+  pub visited_core : (fresh : List (Payload A)) (three : Core A)
+      → two ≡ record c {
+        queue = queue_after c.state (room_at c t) c.queue;
+        held = reverse (new_messages c t)
+            ++ c.held;
+      } →
+      stays ≡ left (mark c t.ring) (holds c.held t.ring) t.requests → fresh ≡ new_payloads c t
+      → three ≡ passed_on two t stays fresh → three ≡ (visited c t).core
   visited_core fresh three q s f h = h ∙ (λ i. passed_on (q i) t (s i) (f i))
 
   -- the token that went
   pub visited_token : (count : ℕ) → two ≡ record c { queue = queue_after c.state (room_at c t) c.queue; held = reverse (new_messages c t) ++ c.held } →
-      stays ≡ left (mark c t.ring) (holds c.held t.ring) t.requests → count ≡ length (new_payloads c t) → to_next two (went two t stays count) ≡ to_next c (forwarded c t)
+      stays ≡ left (mark c t.ring) (holds c.held t.ring) t.requests → count ≡ length (new_payloads c t)
+      → to_next two (went two t stays count) ≡ to_next c (forwarded c t)
   visited_token count q s n = λ i. to_next (q i) (went (q i) t (s i) (n i))
 
   -- and all that went out
-  pub visited_sends : (last : Sent A) (old a b after : List (Out A)) → payloads ≡ new_payloads c t → one ≡ record c { queue = queue_after c.state (room_at c t) c.queue } →
-      a ≡ old ++ again c t t.requests → b ≡ a ++ sent (to_others one (numbered t.ring one.me t.seq payloads)) → last ≡ to_next c (forwarded c t) → after ≡ b ++ sent (last ∷ []) →
+  pub visited_sends : (last : Sent A) (old a b after : List (Out A)) → payloads ≡ new_payloads c t
+      → one ≡ record c { queue = queue_after c.state (room_at c t) c.queue } →
+      a ≡ old ++ again c t t.requests → b ≡ a ++ sent (to_others one (numbered t.ring one.me t.seq payloads))
+      → last ≡ to_next c (forwarded c t) → after ≡ b ++ sent (last ∷ []) →
       after ≡ old ++ sent (visited c t).sends
   visited_sends last old a b after p e f g l h =
       let x = to_others c (repeated c t) in
       let y = to_others c (new_messages c t) in
       let z = to_next c (forwarded c t) ∷ [] in
-      let k : b ≡ a ++ sent y = g ∙ ap (λ (d : Core A). a ++ sent (to_others d (numbered t.ring d.me t.seq payloads))) e ∙ ap (λ ps. a ++ sent (to_others c (numbered t.ring c.me t.seq ps))) p in
+      let k : b ≡ a ++ sent y = g ∙ ap (λ (d : Core A). a ++ sent (to_others d (numbered t.ring d.me t.seq payloads)))
+      e ∙ ap (λ ps. a ++ sent (to_others c (numbered t.ring c.me t.seq ps))) p in
       h ∙ ap (λ s. b ++ sent (s ∷ [])) l
       ∙ ap (λ o. o ++ sent z) (k ∙ ap (λ o. o ++ sent y) f ∙ sym (sent-push old x y))
       ∙ sym (sent-push old (x ++ y) z)

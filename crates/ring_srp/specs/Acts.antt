@@ -1,7 +1,8 @@
 -- The code's acts are the rule book's: a translation, case by case.
 use Rattle.ring_srp.specs.declared.act.Act.{Act as Told}
 use Rattle.ring_srp.specs.declared.act.Act.TheVariants as told
-use Rattle.ring_core.specs.Deciding.{Act, Ignore, Enqueue, Repeat, Announce, Invite, GiveUp, Regather, Agree, Widen, RegatherAndAgree, RegatherAndWiden, Take, Visit, Fill, Learn}
+use Rattle.ring_core.specs.Deciding.{Act, Ignore, Enqueue, Repeat, Announce, Invite, GiveUp, Regather, Agree, Widen}
+use Rattle.ring_core.specs.Deciding.{RegatherAndAgree, RegatherAndWiden, Take, Visit, Fill, Learn}
 
 abbrev pub act_of : {A : Type 0} → Told A → Act A
 act_of told.Ignore = Ignore

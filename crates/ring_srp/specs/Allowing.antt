@@ -15,7 +15,8 @@ use Rattle.ring_core.specs.State.{Core}
 use Rattle.ring_core.specs.Visiting.{accepts}
 use Rattle.ring_core.specs.Joining.{regathered}
 use Rattle.ring_core.specs.Handing.{takes_first_round, takes_second_round}
-use Rattle.ring_core.specs.Deciding.{Act, Ignore, Enqueue, Repeat, Announce, Invite, GiveUp, Regather, Agree, Widen, RegatherAndAgree, RegatherAndWiden, Take, Visit, Fill, Learn, is_taken}
+use Rattle.ring_core.specs.Deciding.{Act, Ignore, Enqueue, Repeat, Announce, Invite, GiveUp, Regather, Agree, Widen}
+use Rattle.ring_core.specs.Deciding.{RegatherAndAgree, RegatherAndWiden, Take, Visit, Fill, Learn, is_taken}
 use Rattle.ring_srp.specs.Machines.{is_running}
 
 -- a frame as decoding gives it

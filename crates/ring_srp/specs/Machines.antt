@@ -1,4 +1,5 @@
--- What the code of a ring core keeps, and how that tells the core with all its history. The lists of a core are over all rings; of a ring in use the code keeps a window and the token's visits, whose lists are those of that ring alone.
+-- What the code of a ring core keeps, and how that tells the core with all its history. The lists of a core are over
+-- all rings; of a ring in use the code keeps a window and the token's visits, whose lists are those of that ring alone.
 use Rattle.std.specs.Prelude.{◌≡◌, ℕ, suc, ◌+◌, ◌<◌, ◌≤◌, Bool, true, false, List, filter, Option, Some, None}
 use Rattle.std.specs.List.{AllByRecursion}
 use Rattle.ring_base.specs.Rings.{same_ring}
@@ -24,7 +25,8 @@ use Rattle.ring_core.specs.Giving.{users}
 use Rattle.ring_parts.specs.Histories.{History}
 
 -- the core, of what the code keeps and of its history
-abbrev pub core_of : {A : Type 0} → ℕ → ℕ → State → Configuration → Configuration → Gathering → Option (Sent A) → List (Payload A) → List (Message A) → History A → Core A
+abbrev pub core_of : {A : Type 0} → ℕ → ℕ → State → Configuration → Configuration → Gathering → Option (Sent A)
+    → List (Payload A) → List (Message A) → History A → Core A
 core_of me total state running installed gathering shown queue held h =
     record {
       me = me;
@@ -111,7 +113,8 @@ ring_in_use Commit c = c.installed.ring
 ring_in_use Operational c = c.installed.ring
 ring_in_use Stopped c = c.installed.ring
 
--- in Recovery the running ring is kept beside the installed one, with the plan and what came of it. The users' messages of the running ring up to `most`, which the window may forget, stand aside
+-- in Recovery the running ring is kept beside the installed one, with the plan and what came of it. The users' messages
+-- of the running ring up to `most`, which the window may forget, stand aside
 pub record Recovers {A : Type 0} (c : Core A) (r : Recovering A) : Type 0 where
   pub part : IsPart c c.running.ring r.part.window r.part.visit
   pub plan_is : r.plan ≡ record { me = c.me; plan = plan c; seen = of_ring c.running.ring c.held }
@@ -129,7 +132,8 @@ IsRecovering c (Some r) = Recovers c r
 
 -- In every state
 
-pub record IsMachine {A : Type 0} (c : Core A) (gather : Gatherer) (window : Windowed A) (visit : TokenHistory A) (recovery : Option (Recovering A)) : Type 0 where
+pub record IsMachine {A : Type 0} (c : Core A) (gather : Gatherer) (window : Windowed A) (visit : TokenHistory A)
+    (recovery : Option (Recovering A)) : Type 0 where
   pub runs : is_stopped c.state ≡ false
   pub gather_me : gather.me ≡ c.me
   pub gather_floor : c.state ≡ Gather → gather.floor ≡ floor c

@@ -4,7 +4,9 @@ ghost use Rattle.std.specs.Prelude.{◌≡◌, ◌&&◌, true, None};
 ghost use Rattle.ring_payload.specs.Packing.{is_queued};
 ghost use Rattle.ring_token.specs.Turns.{first_token};
 ghost use Rattle.ring_srp.specs.Acts.{act_of};
-ghost use Rattle.ring_core.specs.Deciding.{decide, decide_frame, decide_token, decide_join, decide_commit, decide_round, decide_time, decide_payload, decide_user, heard_in_gather, heard_elsewhere, overhear, is_taken};
+ghost use Rattle.ring_core.specs.Deciding.{decide, decide_frame, decide_token, decide_join, decide_commit};
+ghost use Rattle.ring_core.specs.Deciding.{decide_round, decide_time, decide_payload, decide_user, heard_in_gather};
+ghost use Rattle.ring_core.specs.Deciding.{heard_elsewhere, overhear, is_taken};
 ghost use Rattle.ring_core.specs.Joining.{disturbs};
 ghost use Rattle.ring_core.specs.Handing.{takes_first_round, takes_second_round, takes_start};
 ghost use Rattle.ring_srp.specs.Machines.{is_running, ring_in_use};
@@ -77,7 +79,9 @@ impl<A: Allocator + Copy> Machine<A> {
     /// Whether a message is of this ring, whose messages are taken, and of a member, and its number is new.
     fn takes_in(&self, configuration: &Configuration, message: &Message<A>) -> bool
         requires { configuration.now.ring ≡ ring_in_use self.now.state self.now }
-        ensures { result ≡ (same_ring message.now.ring configuration.now.ring && has configuration.now.members message.now.sender && takes_number self.now message.now.ring message.now.number) }
+        ensures { result ≡ (same_ring message.now.ring configuration.now.ring
+            && has configuration.now.members message.now.sender && takes_number self.now message.now.ring
+            message.now.number) }
     {
         let part = self.part();
         message.ring == configuration.ring

@@ -125,7 +125,14 @@ impl<A: Allocator + Copy> Machine<A> {
         requires state { self.old.state ≡ InGather }
         requires newer { floor self.old < ring.seq }
         requires member { IsMember members self.old.me }
-        ensures { self.new ≡ record self.old { state = InCommit; running = record { ring = ring; members = members }; shown = Some (record { to = to; frame = frame }); rings = record { ring = ring; members = members } ∷ self.old.rings; reports = record { ring = ring; entry = own_entry self.old } ∷ self.old.reports } }
+        ensures { self.new ≡ record self.old {
+          state = InCommit;
+          running = record { ring = ring; members = members };
+          shown = Some (record { to = to; frame = frame });
+          rings = record { ring = ring; members = members }
+              ∷ self.old.rings;
+          reports = record { ring = ring; entry = own_entry self.old } ∷ self.old.reports;
+        } }
     {
         let own = self.own_entry();
         self.state = State::Commit;

@@ -46,7 +46,8 @@ impl<A: Allocator + Copy> Model for Machine<A> {
 
     ghost view = { λ m. core_of m.me m.fixed.count m.state m.running m.installed m.gather.gathering m.shown m.queue.items m.held.value m.past.value };
 
-    ghost invariant = { λ m. IsMachine (core_of m.me m.fixed.count m.state m.running m.installed m.gather.gathering m.shown m.queue.items m.held.value m.past.value) m.gather m.kept.window m.kept.visit m.recovery };
+    ghost invariant = { λ m. IsMachine (core_of m.me m.fixed.count m.state m.running m.installed m.gather.gathering
+        m.shown m.queue.items m.held.value m.past.value) m.gather m.kept.window m.kept.visit m.recovery };
 }
 
 impl<A: Allocator + Copy> Machine<A> {

@@ -98,7 +98,8 @@ impl<A: Allocator + Copy> Srp<A> {
         Ok((srp, outs))
     }
 
-    /// One step, of an input whose frame keeps its limits, as a decoded one does. `Stopped` once stopped. `Memory` where a growth was refused: then the core has stopped for good, and
+    /// One step, of an input whose frame keeps its limits, as a decoded one does. `Stopped` once stopped. `Memory`
+    /// where a growth was refused: then the core has stopped for good, and
     /// none of the step's outputs is given.
     pub fn step(&mut self, input: Input<A>) -> Result<Vec<Out<A>, A>, Fault>
         requires fits { InputFits input }

@@ -1,5 +1,6 @@
 -- Each node of every world: what its core said in a ring is a front of what the node handed to it while it stayed there.
-use Rattle.std.proofs.Common.{◌≡◌, ℕ, ◌<◌, Bool, true, false, ◌==◌, ◌⊎◌, inl, inr, List, [], ◌∷◌, ◌++◌, map, Option, Some, None, refl, ap, sym, ◌∙◌, subst, arith, append_assoc, append-nil}
+use Rattle.std.proofs.Common.{◌≡◌, ℕ, ◌<◌, Bool, true, false, ◌==◌, ◌⊎◌, inl, inr, List, [], ◌∷◌, ◌++◌, map, Option}
+use Rattle.std.proofs.Common.{Some, None, refl, ap, sym, ◌∙◌, subst, arith, append_assoc, append-nil}
 use Rattle.std.specs.List.{AllByRecursion as Each}
 use Rattle.std.proofs.lemmas.Bool.{cond_both, cond-true, eq-eqb}
 use Rattle.ring_base.specs.Fronts.{IsFront}
@@ -25,7 +26,9 @@ use Rattle.ring_core.specs.declared.out.Out.{Out}
 use Rattle.ring_core.specs.declared.out.Out.TheVariants.{Send as SendOut, Agreed, Safe, Trans, Rest, Regular}
 use Rattle.ring_core.specs.State.{Core, Sent, Carried, halted}
 use Rattle.ring_core.specs.Views.{front, mark, plan}
-use Rattle.ring_core.specs.Deciding.{Act, Ignore, Enqueue, Repeat, Announce, Invite, GiveUp, Regather, Agree, Widen, RegatherAndAgree, RegatherAndWiden, Take, Visit, Fill, Learn, decide, decide_payload}
+use Rattle.ring_core.specs.Deciding.{Act, Ignore, Enqueue, Repeat, Announce, Invite, GiveUp, Regather, Agree, Widen}
+use Rattle.ring_core.specs.Deciding.{RegatherAndAgree, RegatherAndWiden, Take, Visit, Fill, Learn, decide}
+use Rattle.ring_core.specs.Deciding.{decide_payload}
 use Rattle.ring_core.specs.Acting.{done}
 use Rattle.ring_core.specs.Giving.{may_install, install, addressed, sent, users, agreed_from, safe_from, delivered_from, given, configured, settle, delivered}
 use Rattle.ring_core.specs.Stepping.{ring_step}
@@ -53,10 +56,13 @@ use Rattle.ring_discipline.proofs.Nodes.{IsOrderlyNode, handed_queues}
 use Rattle.ring_discipline.proofs.Worlds.{IsKept, AllKept, run_on, opened_on}
 use Rattle.ring_history.specs.declared.event.Event.{Event}
 use Rattle.ring_history.specs.declared.event.Event.TheVariants.{Issue, Deliver, Noise, Timeout, Stop}
-use Rattle.ring_history.specs.Worlds.{World, put, world_opening, is_node, issued_or, issued_if, stopped_if, frame_at, stepped_if, handed_if, handed, happens, run}
+use Rattle.ring_history.specs.Worlds.{World, put, world_opening, is_node, issued_or, issued_if, stopped_if, frame_at}
+use Rattle.ring_history.specs.Worlds.{stepped_if, handed_if, handed, happens, run}
 use Rattle.ring_texts.specs.Spoken.{spoken}
 use Rattle.ring_texts.specs.Said.{SpeaksInOrder}
-use Rattle.ring_texts.proofs.Speaking.{IsSpeaker, IsSaid, IsNoSend, done_said, done_speaks, install_said, install_new, install_speaks, halt_said, halt_speaks, opening_speaks, queue_with, with_queue, hand_said, hand_other, hand_speaks}
+use Rattle.ring_texts.proofs.Speaking.{IsSpeaker, IsSaid, IsNoSend, done_said, done_speaks, install_said, install_new}
+use Rattle.ring_texts.proofs.Speaking.{install_speaks, halt_said, halt_speaks, opening_speaks, queue_with, with_queue}
+use Rattle.ring_texts.proofs.Speaking.{hand_said, hand_other, hand_speaks}
 
 -- A life as the rings with what was handed over there
 
@@ -278,13 +284,16 @@ hands_says {A} core s older due q ready below m h =
         AllSaid (with_queue core (queue_with core.state core.queue due)) (handed_in older)
     others [] b k = tt
     others (t ∷ older) b k = (
-      hand_other core t.ring t.sent due (λ e. (let x : t.ring.seq ≡ core.installed.ring.seq = ap (λ (r : RingId). r.seq) e in let l : t.ring.seq < core.installed.ring.seq = b.0 in omega (arith, x, l))) k.0,
+      hand_other core t.ring t.sent due (λ e. (let x : t.ring.seq ≡ core.installed.ring.seq = ap
+          (λ (r : RingId). r.seq) e in let l : t.ring.seq < core.installed.ring.seq = b.0 in omega (arith, x, l))) k.0,
       others older b.1 k.1,
     )
 
 -- the node after that: its life shows that what was due may stand in a queue
-handed_says : {A : Type 0} → (new : Node A) (core : Core A) (life : List (Stay A)) (due : List (Payload A)) → new.core ≡ handed_over core due → new.life ≡ hands due life →
-    IsOrderlyNode new → HasQueued new.life → may_install core ≡ false → (new.core).installed ≡ core.installed → IsSpeaker core → AllSaid core (handed_in life) → NodeSays new
+handed_says : {A : Type 0} → (new : Node A) (core : Core A) (life : List (Stay A)) (due : List (Payload A))
+    → new.core ≡ handed_over core due → new.life ≡ hands due life →
+    IsOrderlyNode new → HasQueued new.life → may_install core ≡ false → (new.core).installed ≡ core.installed
+    → IsSpeaker core → AllSaid core (handed_in life) → NodeSays new
 handed_says {A} new core [] due c l o q ready i m h = absurd (let x : o.stay ∷ o.older ≡ [] = sym o.life ∙ l in let y : ⊥ = cc x in y)
 handed_says {A} new core (s ∷ older) due c l o q ready i m h =
     let e : o.stay ∷ o.older ≡ hands due (s ∷ older) = sym o.life ∙ l in
@@ -296,7 +305,8 @@ handed_says {A} new core (s ∷ older) due c l o q ready i m h =
     let both = hands_says core s older due (each_last (λ (p : Payload A). is_queued p ≡ true) s.sent due queued.0) ready below m h in
     record {
       speaks = subst IsSpeaker (sym c) both.1;
-      said = subst (λ (x : Core A). AllSaid x (handed_in new.life)) (sym c) (subst (λ (xs : List (Stay A)). AllSaid (handed_over core due) (handed_in xs)) (sym l) both.0);
+      said = subst (λ (x : Core A). AllSaid x (handed_in new.life)) (sym c)
+          (subst (λ (xs : List (Stay A)). AllSaid (handed_over core due) (handed_in xs)) (sym l) both.0);
     }
 
 -- A stop
@@ -316,9 +326,11 @@ after_says : {O A : Type 0} → (object : Sequential O) (n : Node A) (t : Bool) 
     IsOrderlyNode new → HasQueued new.life → ((handed_over core (due_by n core n.life outs)).installed ≡ core.installed) → NodeSays new
 after_says object n false core outs s ready m h o q i = stops_says n s
 after_says object n true core outs s ready m h o q i =
-    handed_says (walked n core (lived_through n.life outs) (due_by n core n.life outs)) core (lived_through n.life outs) (due_by n core n.life outs) refl refl o q ready i m h
+    handed_says (walked n core (lived_through n.life outs) (due_by n core n.life outs)) core
+    (lived_through n.life outs) (due_by n core n.life outs) refl refl o q ready i m h
 
-input_says : {O A : Type 0} → (object : Sequential O) (n : Node A) (input : Input A) → ((p : Payload A) → input ≡ SendInput p → ⊥) → IsOrderlyNode n → NodeSays n →
+input_says : {O A : Type 0} → (object : Sequential O) (n : Node A) (input : Input A)
+    → ((p : Payload A) → input ≡ SendInput p → ⊥) → IsOrderlyNode n → NodeSays n →
     IsOrderlyNode (after_core object n (ring_step n.core input)).node → HasQueued (after_core object n (ring_step n.core input)).node.life →
     NodeSays (after_core object n (ring_step n.core input)).node
 input_says {O} {A} object n input other o s new q =
@@ -330,17 +342,20 @@ input_says {O} {A} object n input other o s new q =
     after_says object n (is_sound n.group (lived_through n.life c.outs)) c.core c.outs s ready k.1 k.0 new q
     (ap (λ (x : Core A). x.installed) (handed_queues c.core due ready).is)
 
-node_says : {O A : Type 0} → (object : Sequential O) (n : Node A) (input : NodeInput A) → IsOrderlyNode n → NodeSays n → IsOrderlyNode (node_step object n input).node →
+node_says : {O A : Type 0} → (object : Sequential O) (n : Node A) (input : NodeInput A) → IsOrderlyNode n → NodeSays n
+    → IsOrderlyNode (node_step object n input).node →
     HasQueued (node_step object n input).node.life → NodeSays (node_step object n input).node
 node_says object n (NodeFrame frame) o s new q = input_says object n (FrameInput frame) (λ p e. cc) o s new q
 node_says object n (NodeTime kind) o s new q = input_says object n (TimeInput kind) (λ p e. cc) o s new q
 node_says object n NodeNoise o s new q = s
 node_says object n NodeStop o s new q = stops_says n s
 
-submit_says : {A : Type 0} → (n : Node A) (c : OneCall A) → IsOrderlyNode n → NodeSays n → IsOrderlyNode (submitted n c) → HasQueued (submitted n c).life → NodeSays (submitted n c)
+submit_says : {A : Type 0} → (n : Node A) (c : OneCall A) → IsOrderlyNode n → NodeSays n
+    → IsOrderlyNode (submitted n c) → HasQueued (submitted n c).life → NodeSays (submitted n c)
 submit_says {A} n c o s new q =
     let due = due_by_submit n c in
-    handed_says (submitted n c) n.core n.life due refl refl new q o.ready (ap (λ (x : Core A). x.installed) (handed_queues n.core due o.ready).is) s.speaks s.said
+    handed_says (submitted n c) n.core n.life due refl refl new q o.ready
+    (ap (λ (x : Core A). x.installed) (handed_queues n.core due o.ready).is) s.speaks s.said
 
 -- Every world
 
@@ -424,7 +439,8 @@ in_order {A} n says rings =
       ];
     }
 
-pub all_in_order : {O A : Type 0} → (object : Sequential O) (group : Group) (events : List (Event A)) (i : ℕ) → SpeaksInOrder ((run object (world_opening group) events).nodes i)
+pub all_in_order : {O A : Type 0} → (object : Sequential O) (group : Group) (events : List (Event A)) (i : ℕ)
+    → SpeaksInOrder ((run object (world_opening group) events).nodes i)
 all_in_order object group events i =
     let n = (run object (world_opening group) events).nodes i in
     let o = (((opened_on object group events).nodes i).kept).orderly in

@@ -1,5 +1,9 @@
--- The text of a ring: all that was numbered in the visits of its token, oldest first. Its numbers are 1, 2, 3 and so on, so what a processor holds up to its front is a front of it; and what a processor said there is what it sent in its own visits.
-use Rattle.std.proofs.Common.{◌≡◌, ℕ, zero, suc, ◌+◌, ◌<◌, ◌≤◌, inl, inr, Bool, true, false, ◌==◌, List, [], ◌∷◌, ◌++◌, length, take, Option, Some, refl, ap, sym, ◌∙◌, subst, arith, append_assoc, append-nil, length-append}
+-- The text of a ring: all that was numbered in the visits of its token, oldest first. Its numbers are 1, 2, 3 and so
+-- on, so what a processor holds up to its front is a front of it; and what a processor said there is what it sent in
+-- its own visits.
+use Rattle.std.proofs.Common.{◌≡◌, ℕ, zero, suc, ◌+◌, ◌<◌, ◌≤◌, inl, inr, Bool, true, false, ◌==◌, List, [], ◌∷◌, ◌++◌}
+use Rattle.std.proofs.Common.{length, take, Option, Some, refl, ap, sym, ◌∙◌, subst, arith, append_assoc, append-nil}
+use Rattle.std.proofs.Common.{length-append}
 use Rattle.std.specs.Prelude.{filter, filter_map, nat_le, if◌then◌else◌}
 use Rattle.std.specs.List.{AllByRecursion as Each, flat_map, cons_option}
 use Rattle.std.proofs.lemmas.Bool.{cond_both, cond-true, cond-false, cases_Bool, eqb-true, le-leb, lt-leb}
@@ -114,7 +118,8 @@ numbered_named ring me seq (p ∷ ps) = (refl, numbered_named ring me (suc seq) 
 
 pub all_named : {A : Type 0} → (ring : RingId) (vs : List (VisitBy A)) → Each (λ (x : Message A). x.ring ≡ ring) (all_numbered ring vs)
 all_named ring [] = tt
-all_named {A} ring (v ∷ vs) = each-append (λ (x : Message A). x.ring ≡ ring) (all_numbered ring vs) _ (all_named ring vs) (numbered_named ring v.who v.turn.came.seq v.turn.fresh)
+all_named {A} ring (v ∷ vs) = each-append (λ (x : Message A). x.ring ≡ ring)
+    (all_numbered ring vs) _ (all_named ring vs) (numbered_named ring v.who v.turn.came.seq v.turn.fresh)
 
 pub users_named : {A : Type 0} → (ring : RingId) (vs : List (VisitBy A)) → Each (λ (x : Message A). x.ring ≡ ring) (users_in (all_numbered ring vs))
 users_named {A} ring vs = each-filter (λ (x : Message A). x.ring ≡ ring) (λ (x : Message A). is_user x.payload) (all_numbered ring vs) (all_named ring vs)
@@ -158,14 +163,16 @@ found_taken {A} get k (suc n) (x ∷ xs) f h =
       | inr i ↦ (let l = in_from (suc k) xs a.0 f.1 i in let m : (a.0).number ≡ suc k = a.3 in absurd (omega (arith, l, m)))
     ] in
     let rest = found_taken get (suc k) n xs f.1 (λ j l u. next j l (h j (omega (arith, l)) (omega (arith, u)))) in
-    ap (λ (o : Option (Message A)). cons_option o (filter_map get (numbers_from (suc (suc k)) n))) (a.1 ∙ ap Some first) ∙ ap (λ (ys : List (Message A)). x ∷ ys) rest
+    ap (λ (o : Option (Message A)). cons_option o (filter_map get (numbers_from (suc (suc k)) n)))
+    (a.1 ∙ ap Some first) ∙ ap (λ (ys : List (Message A)). x ∷ ys) rest
   where
     next : (j : ℕ) → suc k < j → IsThere get (x ∷ xs) j → IsThere get xs j
     next j l b = (
       b.0,
       b.1,
       elim (b.2) [
-        | inl e ↦ (let m : (b.0).number ≡ j = b.3 in let q : (b.0).number ≡ x.number = ap (λ (z : Message A). z.number) e in let p : x.number ≡ suc k = f.0 in absurd (omega (arith, l, m, q, p)))
+        | inl e ↦ (let m : (b.0).number ≡ j = b.3 in let q : (b.0).number ≡ x.number = ap
+            (λ (z : Message A). z.number) e in let p : x.number ≡ suc k = f.0 in absurd (omega (arith, l, m, q, p)))
         | inr i ↦ i
       ],
       b.3,
@@ -235,7 +242,8 @@ said_append {A} p (x ∷ xs) ys =
     let own : List (Payload A) = if x.sender == p then units x.payload else [] in
     ap (λ (zs : List (Payload A)). own ++ zs) (said_append p xs ys) ∙ sym (append_assoc own (said_by p xs) (said_by p ys))
 
-own_said : {A : Type 0} → (p : ℕ) (ring : RingId) (me seq : ℕ) (ps : List (Payload A)) → (me == p) ≡ true → said_by p (users_in (numbered ring me seq ps)) ≡ spoken_at ps
+own_said : {A : Type 0} → (p : ℕ) (ring : RingId) (me seq : ℕ) (ps : List (Payload A)) → (me == p) ≡ true
+    → said_by p (users_in (numbered ring me seq ps)) ≡ spoken_at ps
 own_said p ring me seq [] e = refl
 own_said {A} p ring me seq (q ∷ ps) e = by (is_user q) (own_said p ring me (suc seq) ps e)
   where
@@ -245,12 +253,14 @@ own_said {A} p ring me seq (q ∷ ps) e = by (is_user q) (own_said p ring me (su
     more : List (Message A)
     more = users_in (numbered ring me (suc seq) ps)
 
-    by : (b : Bool) → said_by p more ≡ spoken_at ps → said_by p (if b then first ∷ more else more) ≡ flat_map units (if b then q ∷ filter is_user ps else filter is_user ps)
+    by : (b : Bool) → said_by p more ≡ spoken_at ps → said_by p (if b then first ∷ more else more) ≡ flat_map units
+        (if b then q ∷ filter is_user ps else filter is_user ps)
     by true r =
         ap (λ (zs : List (Payload A)). zs ++ said_by p more) (cond-true (me == p) (units q) [] e) ∙ ap (λ (zs : List (Payload A)). units q ++ zs) r
     by false r = r
 
-other_said : {A : Type 0} → (p : ℕ) (ring : RingId) (me seq : ℕ) (ps : List (Payload A)) → (me == p) ≡ false → said_by p (users_in (numbered ring me seq ps)) ≡ []
+other_said : {A : Type 0} → (p : ℕ) (ring : RingId) (me seq : ℕ) (ps : List (Payload A)) → (me == p) ≡ false
+    → said_by p (users_in (numbered ring me seq ps)) ≡ []
 other_said p ring me seq [] e = refl
 other_said {A} p ring me seq (q ∷ ps) e = by (is_user q) (other_said p ring me (suc seq) ps e)
   where
@@ -269,7 +279,8 @@ said_visits p ring [] = refl
 said_visits {A} p ring (v ∷ vs) =
     let new = numbered ring v.who v.turn.came.seq v.turn.fresh in
     let parts : said_by p (users_in (all_numbered ring (v ∷ vs))) ≡ said_by p (users_in (all_numbered ring vs)) ++ said_by p (users_in new) =
-    ap (said_by p) (filter-append (λ (x : Message A). is_user x.payload) (all_numbered ring vs) new) ∙ said_append p (users_in (all_numbered ring vs)) (users_in new) in
+    ap (said_by p) (filter-append (λ (x : Message A). is_user x.payload) (all_numbered ring vs) new)
+    ∙ said_append p (users_in (all_numbered ring vs)) (users_in new) in
     let older : said_by p (users_in (all_numbered ring vs)) ++ said_by p (users_in new) ≡ spoken_in (picked p vs) ++ said_by p (users_in new) =
     ap (λ (zs : List (Payload A)). zs ++ said_by p (users_in new)) (said_visits p ring vs) in
     parts ∙ older ∙ by (v.who == p) refl

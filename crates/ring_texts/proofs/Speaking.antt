@@ -1,5 +1,6 @@
 -- What a core said in a ring is a front of what was handed to it there; while it runs the ring, what it said and what waits in its queue are all of it.
-use Rattle.std.proofs.Common.{◌≡◌, ℕ, ◌<◌, ◌≤◌, Bool, true, false, ◌&&◌, ◌⊎◌, inl, inr, List, [], ◌∷◌, ◌++◌, refl, ap, sym, ◌∙◌, subst, arith, append_assoc, append-nil}
+use Rattle.std.proofs.Common.{◌≡◌, ℕ, ◌<◌, ◌≤◌, Bool, true, false, ◌&&◌, ◌⊎◌, inl, inr, List, [], ◌∷◌, ◌++◌, refl, ap}
+use Rattle.std.proofs.Common.{sym, ◌∙◌, subst, arith, append_assoc, append-nil}
 use Rattle.std.specs.Prelude.{filter}
 use Rattle.std.specs.List.{AllByRecursion as Each, flat_map}
 use Rattle.std.proofs.lemmas.Bool.{cond-true, cond-false, cases_Bool, and_parts}
@@ -23,7 +24,8 @@ use Rattle.ring_core.specs.State.{Core, Did, opening, halted}
 use Rattle.ring_core.specs.Visiting.{accepts, room_at, offers, new_payloads, queue_after}
 use Rattle.ring_core.specs.Joining.{proposes, proposes_in}
 use Rattle.ring_core.specs.Giving.{install}
-use Rattle.ring_core.specs.Deciding.{Act, Ignore, Enqueue, Repeat, Announce, Invite, GiveUp, Regather, Agree, Widen, RegatherAndAgree, RegatherAndWiden, Take, Visit, Fill, Learn, decide}
+use Rattle.ring_core.specs.Deciding.{Act, Ignore, Enqueue, Repeat, Announce, Invite, GiveUp, Regather, Agree, Widen}
+use Rattle.ring_core.specs.Deciding.{RegatherAndAgree, RegatherAndWiden, Take, Visit, Fill, Learn, decide}
 use Rattle.ring_core.specs.Acting.{act, may_follow, proposed_after, done}
 use Rattle.ring_moves.specs.Facts.{IsIn}
 use Rattle.ring_moves.specs.Laws.{HasPassed, IsFalling}
@@ -140,7 +142,8 @@ module _ {A : Type 0} (c : Core A) (t : Token) (m : IsSpeaker c) (a : accepts c 
       record { front = (d.queue, sym all); waits = λ p q. all }
 
   -- where nothing more is said in the ring
-  none_said : (ring : RingId) (sent : List (Payload A)) → spoken d ring ≡ spoken c ring → (c.state ≡ Operational → ring ≡ c.installed.ring → ⊥) → IsSaid c ring sent →
+  none_said : (ring : RingId) (sent : List (Payload A)) → spoken d ring ≡ spoken c ring
+      → (c.state ≡ Operational → ring ≡ c.installed.ring → ⊥) → IsSaid c ring sent →
       IsSaid d ring sent
   none_said ring sent e n s =
       record { front = subst (λ (x : List (Payload A)). IsFront x sent) (sym e) s.front; waits = λ p q. absurd (n p q) }
@@ -189,11 +192,13 @@ module _ {A : Type 0} (c : Core A) (t : Token) (m : IsSpeaker c) (a : accepts c 
 -- Each act but that of a payload that is handed over
 
 -- a core of which state and sets alone are others, and which has left Operational or is in it as before
-left_said : {A : Type 0} → (c d : Core A) (ring : RingId) (sent : List (Payload A)) → d.turns ≡ c.turns → (d.state ≡ Operational → ⊥) → IsSaid c ring sent → IsSaid d ring sent
+left_said : {A : Type 0} → (c d : Core A) (ring : RingId) (sent : List (Payload A)) → d.turns ≡ c.turns
+    → (d.state ≡ Operational → ⊥) → IsSaid c ring sent → IsSaid d ring sent
 left_said {A} c d ring sent e n s =
     record { front = subst (λ (vs : List (Turn A)). IsFront (spoken_in (turns_of ring vs)) sent) (sym e) s.front; waits = λ p q. absurd (n p) }
 
-same_said : {A : Type 0} → (c d : Core A) (ring : RingId) (sent : List (Payload A)) → d.turns ≡ c.turns → d.state ≡ c.state → d.installed ≡ c.installed → d.queue ≡ c.queue →
+same_said : {A : Type 0} → (c d : Core A) (ring : RingId) (sent : List (Payload A)) → d.turns ≡ c.turns
+    → d.state ≡ c.state → d.installed ≡ c.installed → d.queue ≡ c.queue →
     IsSaid c ring sent → IsSaid d ring sent
 same_said {A} c d ring sent e st i q s =
     record {
@@ -251,8 +256,18 @@ act_speaks {A} c (Visit t) g o m =
       silent = visit_silent c t m g.1 o;
       operating = m.operating;
     }
-act_speaks c (Fill k) g o m = record { queued = m.queued; clear = subst (λ s. IsClear s c.queue) g.state m.clear; silent = m.silent; operating = λ e. absurd cc }
-act_speaks c (Learn k) g o m = record { queued = m.queued; clear = subst (λ s. IsClear s c.queue) g.state m.clear; silent = m.silent; operating = λ e. absurd cc }
+act_speaks c (Fill k) g o m = record {
+  queued = m.queued;
+  clear = subst (λ s. IsClear s c.queue) g.state m.clear;
+  silent = m.silent;
+  operating = λ e. absurd cc;
+}
+act_speaks c (Learn k) g o m = record {
+  queued = m.queued;
+  clear = subst (λ s. IsClear s c.queue) g.state m.clear;
+  silent = m.silent;
+  operating = λ e. absurd cc;
+}
 
 -- A proposal
 
@@ -263,7 +278,8 @@ gathering_when Recovery c e = absurd cc
 gathering_when Operational c e = absurd cc
 gathering_when Stopped c e = absurd cc
 
-proposed_said : {A : Type 0} → (b : Bool) (did : Did A) (ring : RingId) (sent : List (Payload A)) → IsSaid did.core ring sent → IsSaid (proposed_after b did).core ring sent
+proposed_said : {A : Type 0} → (b : Bool) (did : Did A) (ring : RingId) (sent : List (Payload A))
+    → IsSaid did.core ring sent → IsSaid (proposed_after b did).core ring sent
 proposed_said false did ring sent s = s
 proposed_said true did ring sent s = left_said did.core _ ring sent refl (λ e. cc) s
 
@@ -274,10 +290,12 @@ proposed_speaks true did g m =
 
 -- All that is done before a ring may be installed
 
-pub done_said : {A : Type 0} → (c : Core A) (input : Input A) → IsNoSend (decide c input) → IsSpeaker c → (ring : RingId) (sent : List (Payload A)) → IsSaid c ring sent →
+pub done_said : {A : Type 0} → (c : Core A) (input : Input A) → IsNoSend (decide c input) → IsSpeaker c
+    → (ring : RingId) (sent : List (Payload A)) → IsSaid c ring sent →
     IsSaid (done c (decide c input)).core ring sent
 done_said c input n m ring sent s =
-    proposed_said (may_follow (decide c input) && proposes (act c (decide c input)).core) _ ring sent (act_said c (decide c input) (guarded c input) n m ring sent s)
+    proposed_said (may_follow (decide c input) && proposes (act c (decide c input)).core) _ ring sent
+    (act_said c (decide c input) (guarded c input) n m ring sent s)
 
 pub done_speaks : {A : Type 0} → (c : Core A) (input : Input A) → Ordered c → IsSpeaker c → IsSpeaker (done c (decide c input)).core
 done_speaks c input o m =
@@ -300,7 +318,8 @@ falls_below x [] f y (inr i) = absurd i
 falls_below x (z ∷ zs) f y (inr i) = (let a : z.ring.seq < x.ring.seq = f.0 in let b = falls_below z zs f.1 y i in omega (arith, a, b))
 
 -- the running ring isn't one of those installed
-pub not_among : {A : Type 0} → (c : Core A) → Ordered c → c.state ≡ Recovery → (ring : RingId) → IsIn ring (installed_rings c.installs) → ring ≡ c.running.ring → ⊥
+pub not_among : {A : Type 0} → (c : Core A) → Ordered c → c.state ≡ Recovery → (ring : RingId)
+    → IsIn ring (installed_rings c.installs) → ring ≡ c.running.ring → ⊥
 not_among {A} c o s ring i e =
     let r = in_rings ring (c.installed ∷ o.older) (subst (λ (xs : List Configuration). IsIn ring (installed_rings xs)) o.newest i) in
     let a : (r.0).ring.seq ≤ c.installed.ring.seq = falls_below c.installed o.older o.falls r.0 r.1 in
@@ -308,7 +327,8 @@ not_among {A} c o s ring i e =
     let same : (r.0).ring.seq ≡ c.running.ring.seq = ap (λ (x : RingId). x.seq) (r.2 ∙ e) in
     omega (arith, a, b, same)
 
-pub install_said : {A : Type 0} → (c : Core A) → Ordered c → c.state ≡ Recovery → (ring : RingId) (sent : List (Payload A)) → IsIn ring (installed_rings c.installs) →
+pub install_said : {A : Type 0} → (c : Core A) → Ordered c → c.state ≡ Recovery
+    → (ring : RingId) (sent : List (Payload A)) → IsIn ring (installed_rings c.installs) →
     IsSaid c ring sent → IsSaid (install c) ring sent
 install_said c o st ring sent i s = record { front = s.front; waits = λ p e. absurd (not_among c o st ring i e) }
 
@@ -381,6 +401,12 @@ queue_queued Recovery queue more h k = h
 queue_queued {A} Operational queue more h k = each-append (λ (p : Payload A). is_queued p ≡ true) queue more h k
 queue_queued Stopped queue more h k = h
 
-pub hand_speaks : {A : Type 0} → (c : Core A) (more : List (Payload A)) → AreQueued more → IsSpeaker c → IsSpeaker (with_queue c (queue_with c.state c.queue more))
+pub hand_speaks : {A : Type 0} → (c : Core A) (more : List (Payload A)) → AreQueued more → IsSpeaker c
+    → IsSpeaker (with_queue c (queue_with c.state c.queue more))
 hand_speaks c more q m =
-    record { queued = queue_queued c.state c.queue more m.queued q; clear = queue_clear c.state c.queue more m.clear; silent = m.silent; operating = m.operating }
+    record {
+      queued = queue_queued c.state c.queue more m.queued q;
+      clear = queue_clear c.state c.queue more m.clear;
+      silent = m.silent;
+      operating = m.operating;
+    }

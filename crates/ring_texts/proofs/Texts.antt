@@ -50,8 +50,14 @@ module _ {A : Type 0} (w : World A) (r : Recovered w.cores w.frames) where
       let there : holds held ring j ≡ true = (front_is held ring).below j low up in
       let f = holds-found held ring j there in
       let a = found_as held ring j f.0 f.1 in
-      let g : IsGenuine h.visits f.0 = in-each (IsGenuine h.visits) f.0 held ((h.texts).held q) a.there in
-      (f.0, f.1, some_numbered ring (h.visits ring) f.0 (subst (λ (s : RingId). SomeIs (λ (v : VisitBy A). IsIn f.0 (numbered s v.who v.turn.came.seq v.turn.fresh)) (h.visits s)) a.ring_is g), a.number_is)
+      let g : IsGenuine h.visits f.0 = in-each (IsGenuine h.visits) f.0 held ((h.texts).held q) a.there in (
+        f.0,
+        f.1,
+        some_numbered ring (h.visits ring) f.0
+            (subst (λ (s : RingId). SomeIs (λ (v : VisitBy A). IsIn f.0 (numbered s v.who v.turn.came.seq v.turn.fresh))
+            (h.visits s)) a.ring_is g),
+        a.number_is,
+      )
 
   -- what is heard up to a number is what was numbered up to there
   pub heard_is : (q : ℕ) (ring : RingId) (n : ℕ) → n ≤ front (w.cores q) ring → users (w.cores q) ring 0 n ≡ users_in (take n (whole ring))
@@ -59,7 +65,8 @@ module _ {A : Type 0} (w : World A) (r : Recovered w.cores w.frames) where
       let get = found (w.cores q).held ring in
       let same : n - 0 ≡ n = omega arith in
       ap (λ (k : ℕ). users_in (filter_map get (numbers_from 1 k))) same
-      ∙ ap (λ (xs : List (Message A)). users_in xs) (found_taken get 0 n (whole ring) (whole_from ring) (λ j low up. is_there q ring j (omega (arith, low)) (omega (arith, l, up))))
+      ∙ ap (λ (xs : List (Message A)). users_in xs) (found_taken get 0 n (whole ring) (whole_from ring)
+      (λ j low up. is_there q ring j (omega (arith, low)) (omega (arith, l, up))))
 
   -- what is there is of the ring, and its sender numbered it at a visit
   pub numbered_by_sender : (ring : RingId) (x : Message A) → IsIn x (whole ring) → IsNumberedIn w.cores ring x

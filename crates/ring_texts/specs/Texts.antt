@@ -1,4 +1,5 @@
--- The text of each ring, in every run of ring cores: what each processor heard there is a front of it, and what each said there stands in it, in its order. Outputs, rule 8, and Token and window, rule 9, of docs/PROTOCOL.md.
+-- The text of each ring, in every run of ring cores: what each processor heard there is a front of it, and what each
+-- said there stands in it, in its order. Outputs, rule 8, and Token and window, rule 9, of docs/PROTOCOL.md.
 use Rattle.std.specs.Prelude.{◌≡◌, ℕ, ◌<◌, true, List, [], ◌∷◌}
 use Rattle.std.specs.List.{AllByRecursion as Each}
 use Rattle.ring_base.specs.Fronts.{IsFront}

@@ -1,5 +1,6 @@
 -- Where a name stands among ascending names.
-use Rattle.std.proofs.Common.{◌≡◌, ℕ, zero, suc, ◌<◌, ◌≤◌, false, true, not, List, [], ◌∷◌, length, get_or, filter, insert, remove, Result, Ok, Err, IfOk, IfErr, refl, sym, ap, ◌∙◌, subst, arith, inl, inr}
+use Rattle.std.proofs.Common.{◌≡◌, ℕ, zero, suc, ◌<◌, ◌≤◌, false, true, not, List, [], ◌∷◌, length, get_or, filter}
+use Rattle.std.proofs.Common.{insert, remove, Result, Ok, Err, IfOk, IfErr, refl, sym, ap, ◌∙◌, subst, arith, inl, inr}
 use Rattle.std.specs.Fn.{Called, ReturnsEach, AlwaysReturns}
 use denote.Param.Members.{Mut}
 use Rattle.std.specs.List.{AllByRecursion}
@@ -16,13 +17,15 @@ use Rattle.ring_things.specs.Names.{by_bytes, AreAscending, same, has, below, wi
 use Rattle.ring_things.specs.NamesLaws.{Less-from, above, All-above}
 
 -- a function that stays the same answers P each time
-returns_each : {F X R : Type 0} (g : Mut F X R) (P : X → R → Type 0) (f : F) → ((a : X) (r : R) (f' : F) → Called g f a r f' → P a r × (f' ≡ f)) → (xs : List X) → ReturnsEach g P f xs
+returns_each : {F X R : Type 0} (g : Mut F X R) (P : X → R → Type 0) (f : F)
+    → ((a : X) (r : R) (f' : F) → Called g f a r f' → P a r × (f' ≡ f)) → (xs : List X) → ReturnsEach g P f xs
 returns_each g P f says [] = tt
 returns_each g P f says (a ∷ xs) = λ r f' called.
     let said = says a r f' called in
     (said.0, subst (λ q. ReturnsEach g P q xs) (sym said.1) (returns_each g P f says xs))
 
-pub answers_alike : {F X R : Type 0} (g : Mut F X R) (P : X → R → Type 0) (f : F) → ((a : X) (r : R) (f' : F) → Called g f a r f' → P a r × (f' ≡ f)) → AlwaysReturns g P f
+pub answers_alike : {F X R : Type 0} (g : Mut F X R) (P : X → R → Type 0) (f : F)
+    → ((a : X) (r : R) (f' : F) → Called g f a r f' → P a r × (f' ≡ f)) → AlwaysReturns g P f
 answers_alike g P f says = record { at = returns_each g P f says }
 
 -- names before a place are below the name, and the one at the place isn't
@@ -46,10 +49,12 @@ order_rises Greater Greater less equal = omega arith
 rises : (names : List (List ℕ)) (name : List ℕ) → AreAscending names → IsNonDecreasingBy (λ other. ordering_index (by_bytes other name)) names
 rises names name ascending i j d le within =
     elim (cases_eq i j) [
-      | inl e ↦ let P : ℕ → Type 0 = λ k. ordering_index (by_bytes (get_or names i d) name) ≤ ordering_index (by_bytes (get_or names k d) name) in subst P e (omega arith)
+      | inl e ↦ let P : ℕ → Type 0 = λ k. ordering_index (by_bytes (get_or names i d) name) ≤ ordering_index
+          (by_bytes (get_or names k d) name) in subst P e (omega arith)
       | inr ne ↦
           let less = Less-from_sorted by_bytes names i j d ascending (omega (arith, ne)) within in
-          order_rises _ _ (λ e. nat_list_cmp_total.trans (get_or names i d) (get_or names j d) name less e) (λ e. sym (alike_right nat_list_cmp_total (get_or names j d) name (get_or names i d) e) ∙ less)
+          order_rises _ _ (λ e. nat_list_cmp_total.trans (get_or names i d) (get_or names j d) name less e)
+          (λ e. sym (alike_right nat_list_cmp_total (get_or names j d) name (get_or names i d) e) ∙ less)
     ]
 
 Equal-from : (o : Ordering) → is_eq o ≡ true → o ≡ Equal
@@ -61,7 +66,8 @@ Equal-from Greater is = absurd cc
 differs : (name other : List ℕ) → by_bytes name other ≡ Less → same name other ≡ false
 differs name other above_it = ap is_eq (nat_list_cmp_total.antisymm other name ∙ ap ordering_reverse above_it)
 
-all_differ : (name : List ℕ) (names : List (List ℕ)) → AllByRecursion (λ other. by_bytes name other ≡ Less) names → filter (λ other. not (same name other)) names ≡ names
+all_differ : (name : List ℕ) (names : List (List ℕ)) → AllByRecursion (λ other. by_bytes name other ≡ Less) names
+    → filter (λ other. not (same name other)) names ≡ names
 all_differ name [] above_it = refl
 all_differ name (x ∷ xs) above_it =
     cond-true (not (same name x)) _ _ (ap not (differs name x above_it.0)) ∙ ap (λ ys. x ∷ ys) (all_differ name xs above_it.1)
@@ -70,7 +76,8 @@ none_same : (name : List ℕ) (names : List (List ℕ)) → AllByRecursion (λ o
 none_same name [] above_it = refl
 none_same name (x ∷ xs) above_it = or_from (same name x) (has name xs) (differs name x above_it.0) (none_same name xs above_it.1)
 
-above_same : (name x : List ℕ) (xs : List (List ℕ)) → by_bytes x name ≡ Equal → AllByRecursion (λ y. by_bytes x y ≡ Less) xs → AllByRecursion (λ y. by_bytes name y ≡ Less) xs
+above_same : (name x : List ℕ) (xs : List (List ℕ)) → by_bytes x name ≡ Equal
+    → AllByRecursion (λ y. by_bytes x y ≡ Less) xs → AllByRecursion (λ y. by_bytes name y ≡ Less) xs
 above_same name x [] equal above_x = tt
 above_same name x (y ∷ ys) equal above_x = (sym (nat_list_cmp_total.congr x name y equal) ∙ above_x.0, above_same name x ys equal above_x.1)
 
@@ -89,7 +96,8 @@ remove-below name (x ∷ xs) ascending there =
     (λ not_lower.
     let here : same name x ≡ true = elim (cases_Bool (same name x)) [
       | inl e ↦ e
-      | inr e ↦ absurd (false≢true (sym (or_from (same name x) (has name xs) e (none_same name xs (All-above name x xs (above x name not_lower e) ascending.0))) ∙ there))
+      | inr e ↦ absurd (false≢true (sym (or_from (same name x) (has name xs) e
+          (none_same name xs (All-above name x xs (above x name not_lower e) ascending.0))) ∙ there))
     ] in
     sym (cond-false (not (same name x)) _ _ (ap not here) ∙ all_differ name xs (above_same name x xs (Equal-from _ here) ascending.0)))
 
@@ -100,13 +108,15 @@ without-missing name (x ∷ xs) missing =
     let parts = or_parts (same name x) (has name xs) missing in
     cond-true (not (same name x)) _ _ (ap not parts.0) ∙ ap (λ ys. x ∷ ys) (without-missing name xs parts.1)
 
-pub place_is : (names : List (List ℕ)) (name : List ℕ) (place : Result ℕ ℕ) → AreAscending names → IsSearchInRange place (length names) → IsBinarySearchResult (λ other. by_bytes other name) names place →
+pub place_is : (names : List (List ℕ)) (name : List ℕ) (place : Result ℕ ℕ) → AreAscending names
+    → IsSearchInRange place (length names) → IsBinarySearchResult (λ other. by_bytes other name) names place →
     MatchResult place (IsFound name names) (IsMissing name names)
 place_is names name (Ok i) ascending within at =
     let equal = at [] in
     let there : has name names ≡ true = list_any_at (same name) names i [] within (ap is_eq equal) in
     let is : i ≡ below name names =
-    below_is names name i (omega arith) (λ k less. sym (alike_right nat_list_cmp_total (get_or names i []) name (get_or names k []) equal) ∙ Less-from_sorted by_bytes names k i [] ascending less within)
+    below_is names name i (omega arith) (λ k less. sym (alike_right nat_list_cmp_total (get_or names i []) name
+    (get_or names k []) equal) ∙ Less-from_sorted by_bytes names k i [] ascending less within)
     (λ _. ap is_lt equal) in
     record { there = there; within = within; others = ap (remove names) is ∙ remove-below name names ascending there }
 place_is names name (Err i) ascending within at =
@@ -115,7 +125,8 @@ place_is names name (Err i) ascending within at =
       | inl lower ↦ ap is_eq (parts.0 k d (omega arith) lower)
       | inr upper ↦ ap is_eq (parts.1 k d upper less)
     ]) in
-    let is : i ≡ below name names = below_is names name i within (λ k less. parts.0 k [] (omega arith) less) (λ less. ap is_lt (parts.1 i [] (omega arith) less)) in
+    let is : i ≡ below name names = below_is names name i within (λ k less. parts.0 k [] (omega arith) less)
+    (λ less. ap is_lt (parts.1 i [] (omega arith) less)) in
     record { nowhere = nowhere; within = within; with_it = ap (λ place. insert names place name) is; others = sym (without-missing name names nowhere) }
 
 -- the two sides of what is known of a result

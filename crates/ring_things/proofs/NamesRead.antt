@@ -1,5 +1,7 @@
 -- Names that are read one after the other.
-use Rattle.std.proofs.Common.{◌≡◌, ℕ, suc, ◌+◌, ◌-◌, ◌<◌, ◌≤◌, Bool, false, true, ◌==◌, if◌then◌else◌, List, [], ◌∷◌, ◌++◌, length, drop, Option, Some, None, is_some, IsSome, refl, sym, ap, ◌∙◌, arith, append_assoc, append-nil}
+use Rattle.std.proofs.Common.{◌≡◌, ℕ, suc, ◌+◌, ◌-◌, ◌<◌, ◌≤◌, Bool, false, true, ◌==◌, if◌then◌else◌, List, [], ◌∷◌}
+use Rattle.std.proofs.Common.{◌++◌, length, drop, Option, Some, None, is_some, IsSome, refl, sym, ap, ◌∙◌, arith}
+use Rattle.std.proofs.Common.{append_assoc, append-nil}
 use Rattle.std.proofs.lemmas.Bool.{false≢true}
 use Rattle.std.specs.Option.{option_map, option_and_then}
 use Rattle.ring_things.specs.Names.{next_name, names_of}
@@ -27,7 +29,8 @@ is_some-option_map f (Some x) = refl
 is_some-option_map f None = refl
 
 -- names before and after one more
-pub option_map-push : {A : Type 0} (xs : List A) (x : A) (o : Option (List A)) → option_map (λ ys. xs ++ ys) (option_map (λ ys. x ∷ ys) o) ≡ option_map (λ ys. (xs ++ x ∷ []) ++ ys) o
+pub option_map-push : {A : Type 0} (xs : List A) (x : A) (o : Option (List A)) → option_map (λ ys. xs ++ ys)
+    (option_map (λ ys. x ∷ ys) o) ≡ option_map (λ ys. (xs ++ x ∷ []) ++ ys) o
 option_map-push xs x (Some ys) = ap Some (sym (append_assoc xs (x ∷ []) ys))
 option_map-push xs x None = refl
 
@@ -42,9 +45,12 @@ some_if false x = refl
 -- where something can be read, a name stands at the front
 pub next_there : (count i : ℕ) (last bytes : List ℕ) → i < count → is_some (names_of (count - i) last bytes) ≡ true → IsSome (next_name last bytes)
 unfolding names_of
-next_there count i last bytes less there = front_there (λ name. option_map (λ names. name ∷ names) (names_of (count - (i + 1)) name (drop (suc (length name)) bytes))) (next_name last bytes) (rw (one_more count i less) at there)
+next_there count i last bytes less there = front_there (λ name. option_map (λ names. name ∷ names)
+    (names_of (count - (i + 1)) name (drop (suc (length name)) bytes))) (next_name last bytes)
+    (rw (one_more count i less) at there)
 
 -- nothing more was read
-pub option_map-end : {A : Type 0} (xs : List A) (test : Bool) (o : Option (List A)) → is_some o ≡ true → o ≡ (if test then Some [] else None) → option_map (λ ys. xs ++ ys) o ≡ Some xs
+pub option_map-end : {A : Type 0} (xs : List A) (test : Bool) (o : Option (List A)) → is_some o ≡ true
+    → o ≡ (if test then Some [] else None) → option_map (λ ys. xs ++ ys) o ≡ Some xs
 option_map-end xs true o there is = ap (option_map (λ ys. xs ++ ys)) is ∙ ap Some (append-nil xs)
 option_map-end xs false o there is = absurd (false≢true (ap is_some (sym is) ∙ there))

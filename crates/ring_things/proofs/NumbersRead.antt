@@ -5,7 +5,8 @@ use Rattle.byteorder.specs.Endian.{IsRead, big_number}
 use Rattle.ring_things.specs.Numbers.{numbers_of, length-numbers_of}
 
 -- the number at a place
-get_or-numbers_of : (width count : ℕ) (bytes : List ℕ) (k d : ℕ) → k < count → get_or (numbers_of width count bytes) k d ≡ big_number width (drop (width * k) bytes)
+get_or-numbers_of : (width count : ℕ) (bytes : List ℕ) (k d : ℕ) → k < count → get_or (numbers_of width count bytes)
+    k d ≡ big_number width (drop (width * k) bytes)
 unfolding numbers_of
 get_or-numbers_of width zero bytes k d within = absurd (omega arith)
 get_or-numbers_of width (suc count) bytes zero d within = ap (λ n. big_number width (drop n bytes)) (let e : 0 ≡ width * 0 = omega arith in e)
@@ -13,7 +14,8 @@ get_or-numbers_of width (suc count) bytes (suc k) d within =
     get_or-numbers_of width count (drop width bytes) k d (omega arith) ∙ ap (big_number width) (drop-drop (width * k) width bytes)
     ∙ ap (λ n. big_number width (drop n bytes)) (let e : width + width * k ≡ width * suc k = omega arith in e)
 
-pub numbers_of-read : (width count : ℕ) (bytes numbers : List ℕ) → length numbers ≡ count → IsRead (λ n xs. big_number n xs) width bytes numbers → numbers ≡ numbers_of width count bytes
+pub numbers_of-read : (width count : ℕ) (bytes numbers : List ℕ) → length numbers ≡ count
+    → IsRead (λ n xs. big_number n xs) width bytes numbers → numbers ≡ numbers_of width count bytes
 numbers_of-read width count bytes numbers len read =
     same_lists numbers (numbers_of width count bytes) (len ∙ sym (length-numbers_of width count bytes)) (λ k d within.
     get_or_default numbers k d 0 within ∙ read k within ∙ sym (get_or-numbers_of width count bytes k d (omega arith)))

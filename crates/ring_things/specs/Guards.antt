@@ -11,7 +11,8 @@ pub same_some : {A : Type 0} (x y : A) → Some x ≡ Some y → x ≡ y
 same_some x y is = cc
 
 -- what a function gave of what was found
-pub and_then_some : {A B : Type 0} (f : A → Option B) (found : Option A) (y : B) → option_and_then f found ≡ Some y → (x : A) × (found ≡ Some x) × (f x ≡ Some y)
+pub and_then_some : {A B : Type 0} (f : A → Option B) (found : Option A) (y : B) → option_and_then f found ≡ Some y
+    → (x : A) × (found ≡ Some x) × (f x ≡ Some y)
 and_then_some f (Some x) y is = (x, refl, is)
 and_then_some f None y is = absurd cc
 

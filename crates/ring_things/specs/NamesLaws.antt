@@ -1,5 +1,7 @@
 -- A set of names keeps its laws.
-use Rattle.std.proofs.Common.{◌≡◌, ℕ, zero, suc, ◌+◌, ◌<◌, ◌≤◌, false, true, ◌==◌, nat_le, ◌&&◌, not, List, [], ◌∷◌, ◌++◌, length, take, drop, insert, All, Option, Some, None, refl, sym, ap, ◌∙◌, subst, arith, eqb-true}
+use Rattle.std.proofs.Common.{◌≡◌, ℕ, zero, suc, ◌+◌, ◌<◌, ◌≤◌, false, true, ◌==◌, nat_le, ◌&&◌, not, List, [], ◌∷◌}
+use Rattle.std.proofs.Common.{◌++◌, length, take, drop, insert, All, Option, Some, None, refl, sym, ap, ◌∙◌, subst}
+use Rattle.std.proofs.Common.{arith, eqb-true}
 use Rattle.std.specs.List.{AllByRecursion}
 use Rattle.std.specs.List.Sorted.{IsStrictlySortedBy}
 use Rattle.std.specs.Ordering.{is_lt, is_eq, ordering_reverse}
@@ -9,7 +11,8 @@ use Rattle.std.proofs.lemmas.Cmp.{nat_list_cmp_total}
 use Rattle.std.proofs.lemmas.Bool.{cond_both, cond-true, eqb-false, leb-true, le-leb, and_parts, and_from, or_parts}
 use Rattle.std.proofs.lemmas.List.{length-append, length-drop, length-take, take-append-drop, drop_at, take_at, nil_from_length}
 use Rattle.std.proofs.lemmas.List.Concat.{flat_map-cons}
-use Rattle.std.proofs.lemmas.List.Elements.{All-nil, All-cons, All-head, All-tail, All-drop, All-take, All-append, All-weaker, All-filter, All-from_recursion, recursion_from_All}
+use Rattle.std.proofs.lemmas.List.Elements.{All-nil, All-cons, All-head, All-tail, All-drop, All-take, All-append}
+use Rattle.std.proofs.lemmas.List.Elements.{All-weaker, All-filter, All-from_recursion, recursion_from_All}
 use Rattle.std.proofs.lemmas.List.Kept.{IsStrictlySortedBy-filter}
 use Rattle.byteorder.specs.Endian.{big_number}
 use Rattle.ring_object.specs.Bytes.{AreBytes}
@@ -18,7 +21,9 @@ use Rattle.ring_object.specs.Snapshots.{Restores}
 use Rattle.ring_things.specs.Guards.{guarded, same_some, and_then_some, map_some, unread}
 use Rattle.ring_things.specs.Numbers.{exact_2, apart, together}
 use Rattle.ring_things.specs.Replies.{code_fits, AreBytes-rest, AreBytes-drop, AreBytes-take}
-use Rattle.ring_things.specs.Names.{most, IsName, is_name, by_bytes, AreAscending, IsSet, same, has, below, with_name, without, asking, reading, is_readable, reply, next, reply_to, after, spelled, snapshot_of, next_name, names_of, set_of}
+use Rattle.ring_things.specs.Names.{most, IsName, is_name, by_bytes, AreAscending, IsSet, same, has, below, with_name}
+use Rattle.ring_things.specs.Names.{without, asking, reading, is_readable, reply, next, reply_to, after, spelled}
+use Rattle.ring_things.specs.Names.{snapshot_of, next_name, names_of, set_of}
 use Rattle.ring_things.specs.declared.names.Operation.{Operation}
 use Rattle.ring_things.specs.declared.names.Operation.TheVariants.{Insert, Remove, Has}
 
@@ -61,12 +66,14 @@ Less-from Equal is = absurd cc
 Less-from Greater is = absurd cc
 
 -- all names of a list are above a name that is below the first
-pub All-above : (name other : List ℕ) (names : List (List ℕ)) → by_bytes name other ≡ Less → AllByRecursion (λ y. by_bytes other y ≡ Less) names → AllByRecursion (λ y. by_bytes name y ≡ Less) names
+pub All-above : (name other : List ℕ) (names : List (List ℕ)) → by_bytes name other ≡ Less
+    → AllByRecursion (λ y. by_bytes other y ≡ Less) names → AllByRecursion (λ y. by_bytes name y ≡ Less) names
 All-above name other [] before each = tt
 All-above name other (x ∷ xs) before each = (nat_list_cmp_total.trans name other x before each.0, All-above name other xs before each.1)
 
 All-insert : (P : List ℕ → Type 0) (names : List (List ℕ)) (i : ℕ) (name : List ℕ) → All P names → P name → All P (insert names i name)
-All-insert P names i name each this = All-append P (take i names) (name ∷ drop i names) (All-take P i names each) (All-cons P name (drop i names) this (All-drop P i names each))
+All-insert P names i name each this = All-append P (take i names) (name ∷ drop i names) (All-take P i names each)
+    (All-cons P name (drop i names) this (All-drop P i names each))
 
 pub AreAscending-with_name : (name : List ℕ) (names : List (List ℕ)) → has name names ≡ false → AreAscending names → AreAscending (with_name name names)
 unfolding IsStrictlySortedBy below
@@ -76,7 +83,8 @@ AreAscending-with_name name (x ∷ xs) missing ascending =
     cond_both (is_lt (by_bytes x name)) (suc (below name xs)) 0 (λ (i : ℕ). AreAscending (insert (x ∷ xs) i name))
     (λ lower. (
       recursion_from_All (λ y. by_bytes x y ≡ Less) (with_name name xs)
-          (All-insert (λ y. by_bytes x y ≡ Less) xs (below name xs) name (All-from_recursion (λ y. by_bytes x y ≡ Less) xs ascending.0) (Less-from (by_bytes x name) lower)),
+          (All-insert (λ y. by_bytes x y ≡ Less) xs (below name xs) name
+          (All-from_recursion (λ y. by_bytes x y ≡ Less) xs ascending.0) (Less-from (by_bytes x name) lower)),
       AreAscending-with_name name xs parts.1 ascending.1,
     ))
     (λ not_lower. let up = above x name not_lower parts.0 in ((up, All-above name x xs up ascending.0), ascending))
@@ -92,7 +100,8 @@ length-without name (x ∷ xs) =
     let others = length-without name xs in
     cond_both (not (same name x)) (x ∷ without name xs) (without name xs) (λ ys. length ys ≤ length (x ∷ xs)) (λ _. omega arith) (λ _. omega arith)
 
-pub IsSet-with_name : (name : List ℕ) (names : List (List ℕ)) → IsName name → has name names ≡ false → length names < most → IsSet names → IsSet (with_name name names)
+pub IsSet-with_name : (name : List ℕ) (names : List (List ℕ)) → IsName name → has name names ≡ false
+    → length names < most → IsSet names → IsSet (with_name name names)
 IsSet-with_name name names fits missing room is = record {
   few = omega (arith, length-with_name name names);
   each = All-insert IsName names (below name names) name is.each fits;
@@ -109,7 +118,8 @@ IsSet-without name names is = record {
 after_kept : (names : List (List ℕ)) (op : Option Operation) → Fits op → IsSet names → IsSet (after names op)
 after_kept names (Some (Insert name)) fits is =
     cond_both (has name names) _ _ IsSet (λ _. is)
-    (λ missing. cond_both (length names == most) _ _ IsSet (λ _. is) (λ room. IsSet-with_name name names fits missing (omega (arith, is.few, eqb-false _ _ room)) is))
+    (λ missing. cond_both (length names == most) _ _ IsSet (λ _. is) (λ room. IsSet-with_name name names fits missing
+    (omega (arith, is.few, eqb-false _ _ room)) is))
 after_kept names (Some (Remove name)) fits is = IsSet-without name names is
 after_kept names (Some (Has name)) fits is = is
 after_kept names None fits is = is
@@ -136,7 +146,8 @@ next_first : (last name rest : List ℕ) → IsName name → by_bytes last name 
 next_first last name rest is up =
     let front : take (length name) (name ++ rest) ≡ name = take_at name rest (length name) refl in
     let long : length name ≤ length (name ++ rest) = omega (arith, length-append name rest) in
-    let test : ((nat_le 1 (length name) && nat_le (length name) 64) && (nat_le (length name) (length (name ++ rest)) && is_lt (by_bytes last (take (length name) (name ++ rest))))) ≡ true =
+    let test : ((nat_le 1 (length name) && nat_le (length name) 64) && (nat_le (length name) (length (name ++ rest))
+    && is_lt (by_bytes last (take (length name) (name ++ rest))))) ≡ true =
     and_from _ _ (and_from _ _ (le-leb _ _ is.some) (le-leb _ _ is.short)) (and_from _ _ (le-leb _ _ long) (rw (front, up) refl)) in
     cond-true _ _ _ test ∙ ap Some front
 
@@ -210,9 +221,14 @@ nothing_below (x ∷ xs) is = refl
 -- the empty text is below every name
 AreAscending-from_nothing : (names : List (List ℕ)) → All IsName names → AreAscending names → AreAscending ([] ∷ names)
 unfolding IsStrictlySortedBy
-AreAscending-from_nothing names each ascending = (recursion_from_All (λ y. by_bytes [] y ≡ Less) names (All-weaker IsName (λ y. by_bytes [] y ≡ Less) nothing_below names each), ascending)
+AreAscending-from_nothing names each ascending = (
+  recursion_from_All (λ y. by_bytes [] y ≡ Less) names
+      (All-weaker IsName (λ y. by_bytes [] y ≡ Less) nothing_below names each),
+  ascending,
+)
 
-pub IsSet-names_of : (count : ℕ) (bytes : List ℕ) (names : List (List ℕ)) → count ≤ most → AreBytes bytes → names_of count [] bytes ≡ Some names → IsSet names × (length names ≡ count) × (spelled names ≡ bytes)
+pub IsSet-names_of : (count : ℕ) (bytes : List ℕ) (names : List (List ℕ)) → count ≤ most → AreBytes bytes
+    → names_of count [] bytes ≡ Some names → IsSet names × (length names ≡ count) × (spelled names ≡ bytes)
 unfolding IsStrictlySortedBy
 IsSet-names_of count bytes names few are is =
     let read = exact count [] bytes names are is in

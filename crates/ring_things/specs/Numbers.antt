@@ -37,7 +37,8 @@ big_number-lt width bytes are = big_from-lt 0 width bytes (bytes_everywhere byte
 -- only the first bytes count
 pub big_number-take : (width : ℕ) (bytes : List ℕ) → width ≤ length bytes → big_number width bytes ≡ big_number width (take width bytes)
 big_number-take width bytes long =
-    ap (big_number width) (sym (take-append-drop width bytes)) ∙ big_from-append width (take width bytes) (drop width bytes) (omega (arith, length-take width bytes))
+    ap (big_number width) (sym (take-append-drop width bytes)) ∙ big_from-append width (take width bytes)
+    (drop width bytes) (omega (arith, length-take width bytes))
 
 -- the bytes of the number that they make are they
 abbrev pub IsExact : ℕ → Type 0
@@ -50,7 +51,8 @@ pub exact_2 : IsExact 2
 exact_2 bytes len are = be_bytes_2 bytes _ len (bytes_everywhere bytes are) (omega arith)
 
 -- a number at the front is its bytes
-pub big_bytes-big_number : (width : ℕ) → IsExact width → (bytes : List ℕ) → width ≤ length bytes → AreBytes bytes → big_bytes width (big_number width bytes) ++ drop width bytes ≡ bytes
+pub big_bytes-big_number : (width : ℕ) → IsExact width → (bytes : List ℕ) → width ≤ length bytes → AreBytes bytes
+    → big_bytes width (big_number width bytes) ++ drop width bytes ≡ bytes
 big_bytes-big_number width exact bytes long are =
     let front = exact (take width bytes) (omega (arith, length-take width bytes)) (All-take (λ byte. byte < 256) width bytes are) in
     rw (big_number-take width bytes long, front) (take-append-drop width bytes)
@@ -58,7 +60,12 @@ big_bytes-big_number width exact bytes long are =
 pub length-spelled : (width : ℕ) (numbers : List ℕ) → length (spelled width numbers) ≡ width * length numbers
 length-spelled width [] = omega arith
 length-spelled width (x ∷ xs) =
-    rw (flat_map-cons (λ number. big_bytes width number) x xs, length-append (big_bytes width x) (spelled width xs), length-bytes_high_first width x, length-spelled width xs) (omega arith)
+    rw (
+      flat_map-cons (λ number. big_bytes width number) x xs,
+      length-append (big_bytes width x) (spelled width xs),
+      length-bytes_high_first width x,
+      length-spelled width xs,
+    ) (omega arith)
 
 pub length-numbers_of : (width count : ℕ) (bytes : List ℕ) → length (numbers_of width count bytes) ≡ count
 unfolding numbers_of
@@ -76,17 +83,25 @@ pub numbers_of-spelled : (width : ℕ) (numbers : List ℕ) → AreNumbers width
 unfolding numbers_of
 numbers_of-spelled width [] are = refl
 numbers_of-spelled width (x ∷ xs) are =
-    let rest : drop width (big_bytes width x ++ spelled width xs) ≡ spelled width xs = drop_at (big_bytes width x) (spelled width xs) width (length-bytes_high_first width x) in
-    let first : big_number width (big_bytes width x ++ spelled width xs) ≡ x = big_number-reads_back width x (spelled width xs) (All-head (λ number. number < 256 ^ width) x xs are) in
+    let rest : drop width (big_bytes width x ++ spelled width xs) ≡ spelled width xs = drop_at (big_bytes width x)
+    (spelled width xs) width (length-bytes_high_first width x) in
+    let first : big_number width (big_bytes width x ++ spelled width xs) ≡ x = big_number-reads_back width x
+    (spelled width xs) (All-head (λ number. number < 256 ^ width) x xs are) in
     let others : numbers_of width (length xs) (spelled width xs) ≡ xs = numbers_of-spelled width xs (All-tail (λ number. number < 256 ^ width) x xs are) in
     rw (flat_map-cons (λ number. big_bytes width number) x xs, first, rest, others) refl
 
-pub spelled-numbers_of : (width : ℕ) → IsExact width → (count : ℕ) (bytes : List ℕ) → length bytes ≡ width * count → AreBytes bytes → spelled width (numbers_of width count bytes) ≡ bytes
+pub spelled-numbers_of : (width : ℕ) → IsExact width → (count : ℕ) (bytes : List ℕ) → length bytes ≡ width * count
+    → AreBytes bytes → spelled width (numbers_of width count bytes) ≡ bytes
 unfolding numbers_of
 spelled-numbers_of width exact zero bytes len are = sym (nil_from_length bytes (omega arith))
 spelled-numbers_of width exact (suc count) bytes len are =
-    let others = spelled-numbers_of width exact count (drop width bytes) (omega (arith, length-drop width bytes)) (All-drop (λ byte. byte < 256) width bytes are) in
-    rw (flat_map-cons (λ number. big_bytes width number) (big_number width bytes) (numbers_of width count (drop width bytes)), others) (big_bytes-big_number width exact bytes (omega arith) are)
+    let others = spelled-numbers_of width exact count (drop width bytes) (omega (arith, length-drop width bytes))
+    (All-drop (λ byte. byte < 256) width bytes are) in
+    rw (
+      flat_map-cons (λ number. big_bytes width number) (big_number width bytes)
+          (numbers_of width count (drop width bytes)),
+      others,
+    ) (big_bytes-big_number width exact bytes (omega arith) are)
 
 -- a number and the text behind it stand apart
 pub apart : (width number : ℕ) (text : List ℕ) → number < 256 ^ width →

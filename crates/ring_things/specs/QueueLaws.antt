@@ -1,5 +1,6 @@
 -- A queue keeps its laws.
-use Rattle.std.proofs.Common.{◌≡◌, ℕ, ◌*◌, ◌^◌, ◌<◌, ◌≤◌, false, true, ◌==◌, nat_le, ◌&&◌, List, [], ◌∷◌, length, drop, Option, Some, None, refl, ap, ◌∙◌, subst, arith, eqb-true, eq-eqb}
+use Rattle.std.proofs.Common.{◌≡◌, ℕ, ◌*◌, ◌^◌, ◌<◌, ◌≤◌, false, true, ◌==◌, nat_le, ◌&&◌, List, [], ◌∷◌, length, drop}
+use Rattle.std.proofs.Common.{Option, Some, None, refl, ap, ◌∙◌, subst, arith, eqb-true, eq-eqb}
 use Rattle.std.proofs.lemmas.Bool.{cond_both, cond-true, eqb-false, leb-true, le-leb, and_parts, and_from}
 use Rattle.std.proofs.lemmas.List.{length_push, length-drop}
 use Rattle.std.proofs.lemmas.List.Elements.{All-nil, All-push, All-drop}
@@ -8,7 +9,9 @@ use Rattle.ring_object.specs.Bytes.{AreBytes}
 use Rattle.ring_object.specs.Operations.{IsReply, unreadable}
 use Rattle.ring_object.specs.Snapshots.{Restores}
 use Rattle.ring_things.specs.Guards.{guarded, same_some, unread}
-use Rattle.ring_things.specs.Numbers.{spelled, numbers_of, big_number-lt, exact_2, exact_8, apart, together, length-spelled, length-numbers_of, AreNumbers-numbers_of, numbers_of-spelled, spelled-numbers_of}
+use Rattle.ring_things.specs.Numbers.{spelled, numbers_of, big_number-lt, exact_2, exact_8, apart, together}
+use Rattle.ring_things.specs.Numbers.{length-spelled, length-numbers_of, AreNumbers-numbers_of, numbers_of-spelled}
+use Rattle.ring_things.specs.Numbers.{spelled-numbers_of}
 use Rattle.ring_things.specs.Replies.{code_fits, code_and_value_fits, AreBytes-rest, AreBytes-drop}
 use Rattle.ring_things.specs.Queue.{most, IsQueue, reading, is_readable, reply, next, reply_to, after, snapshot_of, is_snapshot, queue_of}
 use Rattle.ring_things.specs.declared.queue.Operation.{Operation}
@@ -35,7 +38,10 @@ after_kept items (Some (Push value)) fits is =
       few = omega (arith, length_push items value, is.few, eqb-false _ _ room);
       numbers = All-push (λ number. number < 256 ^ 8) items value is.numbers fits;
     })
-after_kept items (Some Pop) fits is = record { few = omega (arith, length-drop 1 items, is.few); numbers = All-drop (λ number. number < 256 ^ 8) 1 items is.numbers }
+after_kept items (Some Pop) fits is = record {
+  few = omega (arith, length-drop 1 items, is.few);
+  numbers = All-drop (λ number. number < 256 ^ 8) 1 items is.numbers;
+}
 after_kept items (Some Count) fits is = is
 after_kept items None fits is = is
 
@@ -65,7 +71,8 @@ restored items is =
     let size : length (drop 2 (snapshot_of items)) ≡ 8 * big_number 2 (snapshot_of items) = rw (parts.0, parts.1) (length-spelled 8 items) in
     let few : big_number 2 (snapshot_of items) ≤ most = rw parts.0 is.few in
     let holds : is_snapshot (snapshot_of items) ≡ true = and_from _ _ (le-leb _ _ long) (and_from _ _ (le-leb _ _ few) (eq-eqb _ _ size)) in
-    let whole : numbers_of 8 (big_number 2 (snapshot_of items)) (drop 2 (snapshot_of items)) ≡ items = rw (parts.0, parts.1) (numbers_of-spelled 8 items is.numbers) in
+    let whole : numbers_of 8 (big_number 2 (snapshot_of items)) (drop 2 (snapshot_of items)) ≡ items =
+    rw (parts.0, parts.1) (numbers_of-spelled 8 items is.numbers) in
     cond-true (is_snapshot (snapshot_of items)) _ _ holds ∙ ap Some whole
 
 only : (bytes items : List ℕ) → AreBytes bytes → queue_of bytes ≡ Some items → IsQueue items × (snapshot_of items ≡ bytes)
@@ -78,7 +85,11 @@ only bytes items are is =
     let len : length (numbers_of 8 count rest) ≡ count = length-numbers_of 8 count rest in
     let values : spelled 8 (numbers_of 8 count rest) ≡ rest = spelled-numbers_of 8 exact_8 count rest (eqb-true _ _ b.1) (AreBytes-drop 2 bytes are) in
     let P : List ℕ → Type 0 = λ xs. IsQueue xs × (snapshot_of xs ≡ bytes) in
-    subst P (same_some _ _ g.1) (IsQueue-numbers_of count rest (leb-true _ _ b.0) (AreBytes-drop 2 bytes are), together 2 exact_2 bytes (leb-true _ _ a.0) are (length (numbers_of 8 count rest)) (spelled 8 (numbers_of 8 count rest)) len values)
+    subst P (same_some _ _ g.1) (
+      IsQueue-numbers_of count rest (leb-true _ _ b.0) (AreBytes-drop 2 bytes are),
+      together 2 exact_2 bytes (leb-true _ _ a.0) are (length (numbers_of 8 count rest))
+          (spelled 8 (numbers_of 8 count rest)) len values,
+    )
 
 pub queues_restore : Restores IsQueue snapshot_of queue_of
 queues_restore = record { same = λ items is short. restored items is; only = only }

@@ -40,7 +40,8 @@ reply_fits : (values : List ℕ) (op : Option Operation) → IsReply (reply_to v
 reply_fits values (Some (Get key)) = code_and_value_fits 0 (slice_index values key) (omega arith)
 reply_fits values (Some (Put key value)) = code_fits 0 (omega arith)
 reply_fits values (Some (CompareAndSet key expected new)) =
-    cond_both (slice_index values key == expected) _ _ IsReply (λ _. code_fits 0 (omega arith)) (λ _. code_and_value_fits 1 (slice_index values key) (omega arith))
+    cond_both (slice_index values key == expected) _ _ IsReply (λ _. code_fits 0 (omega arith))
+    (λ _. code_and_value_fits 1 (slice_index values key) (omega arith))
 reply_fits values None = code_fits 255 (omega arith)
 
 pub replies_fit : (values op : List ℕ) → AreBytes op → IsValues values → IsReply (reply values op)

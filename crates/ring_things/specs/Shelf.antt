@@ -11,7 +11,8 @@ shelf_readable p q r s [] = false
 shelf_readable p q r s (which ∷ op) =
     if which == 0 then p op else if which == 1 then q op else if which == 2 then r op else if which == 3 then s op else false
 
-abbrev pub shelf_reply : {P Q R S : Type 0} → (P → List ℕ → List ℕ) → (Q → List ℕ → List ℕ) → (R → List ℕ → List ℕ) → (S → List ℕ → List ℕ) → P × Q × R × S → List ℕ → List ℕ
+abbrev pub shelf_reply : {P Q R S : Type 0} → (P → List ℕ → List ℕ) → (Q → List ℕ → List ℕ) → (R → List ℕ → List ℕ)
+    → (S → List ℕ → List ℕ) → P × Q × R × S → List ℕ → List ℕ
 shelf_reply p q r s objects [] = unreadable
 shelf_reply p q r s objects (which ∷ op) =
     if which == 0 then p objects.0 op
@@ -65,9 +66,11 @@ abbrev pub four_of : {P Q R S : Type 0} → Option ((P × Q) × (R × S)) → Op
 four_of (Some pairs) = Some (pairs.0.0, pairs.0.1, pairs.1.0, pairs.1.1)
 four_of None = None
 
-abbrev pub objects_of : {P Q R S : Type 0} → (List ℕ → Option P) → (List ℕ → Option Q) → (List ℕ → Option R) → (List ℕ → Option S) → List ℕ × List ℕ × List ℕ × List ℕ → Option (P × Q × R × S)
+abbrev pub objects_of : {P Q R S : Type 0} → (List ℕ → Option P) → (List ℕ → Option Q) → (List ℕ → Option R)
+    → (List ℕ → Option S) → List ℕ × List ℕ × List ℕ × List ℕ → Option (P × Q × R × S)
 objects_of p q r s texts = four_of (both_of (both_of (p texts.0) (q texts.1)) (both_of (r texts.2) (s texts.3)))
 
 -- the objects whose snapshots these bytes are
-abbrev pub shelf_of : {P Q R S : Type 0} → (List ℕ → Option P) → (List ℕ → Option Q) → (List ℕ → Option R) → (List ℕ → Option S) → List ℕ → Option (P × Q × R × S)
+abbrev pub shelf_of : {P Q R S : Type 0} → (List ℕ → Option P) → (List ℕ → Option Q) → (List ℕ → Option R)
+    → (List ℕ → Option S) → List ℕ → Option (P × Q × R × S)
 shelf_of p q r s bytes = option_and_then (objects_of p q r s) (texts_of bytes)

@@ -1,5 +1,7 @@
 -- Four objects keep their laws together.
-use Rattle.std.proofs.Common.{◌≡◌, ℕ, ◌+◌, ◌^◌, ◌<◌, ◌≤◌, Bool, false, true, ◌==◌, nat_le, ◌&&◌, if◌then◌else◌, List, [], ◌∷◌, ◌++◌, length, take, drop, Option, Some, None, refl, sym, ap, ◌∙◌, subst, arith, eqb-true, append_assoc}
+use Rattle.std.proofs.Common.{◌≡◌, ℕ, ◌+◌, ◌^◌, ◌<◌, ◌≤◌, Bool, false, true, ◌==◌, nat_le, ◌&&◌, if◌then◌else◌, List}
+use Rattle.std.proofs.Common.{[], ◌∷◌, ◌++◌, length, take, drop, Option, Some, None, refl, sym, ap, ◌∙◌, subst, arith}
+use Rattle.std.proofs.Common.{eqb-true, append_assoc}
 use Rattle.std.proofs.lemmas.Bool.{cond_both, cond-true, leb-true, le-leb, and_parts, and_from}
 use Rattle.std.proofs.lemmas.List.{length-append, length-take, take-append-drop, take_at, drop_at, nil_from_length, append-nil}
 use Rattle.byteorder.specs.Endian.{big_bytes, big_number}
@@ -10,7 +12,8 @@ use Rattle.ring_object.specs.Snapshots.{Restores}
 use Rattle.ring_things.specs.Guards.{guarded, same_some, and_then_some}
 use Rattle.ring_things.specs.Numbers.{IsExact, exact_8, big_bytes-big_number}
 use Rattle.ring_things.specs.Replies.{code_fits, AreBytes-rest, AreBytes-drop, AreBytes-take}
-use Rattle.ring_things.specs.Shelf.{shelf_readable, shelf_reply, shelf_next, sized, first_text, texts_of, shelf_snapshot, both_of, four_of, objects_of, shelf_of}
+use Rattle.ring_things.specs.Shelf.{shelf_readable, shelf_reply, shelf_next, sized, first_text, texts_of}
+use Rattle.ring_things.specs.Shelf.{shelf_snapshot, both_of, four_of, objects_of, shelf_of}
 
 -- what holds of each object
 abbrev pub AreContents : {P Q R S : Type 0} → (P → Type 0) → (Q → Type 0) → (R → Type 0) → (S → Type 0) → P × Q × R × S → Type 0
@@ -37,7 +40,8 @@ module _ {P Q R S : Type 0} (IsP : P → Type 0) (IsQ : Q → Type 0) (IsR : R �
       (λ _. cond_both (which == 2) _ _ Holds (λ _. (is.0, is.1, kr objects.2 op bytes is.2, is.3))
       (λ _. cond_both (which == 3) _ _ Holds (λ _. (is.0, is.1, is.2, ks objects.3 op bytes is.3)) (λ _. is))))
 
-  pub shelf_replies : (p : P → List ℕ → List ℕ) (q : Q → List ℕ → List ℕ) (r : R → List ℕ → List ℕ) (s : S → List ℕ → List ℕ) → Replies IsP p → Replies IsQ q → Replies IsR r → Replies IsS s →
+  pub shelf_replies : (p : P → List ℕ → List ℕ) (q : Q → List ℕ → List ℕ) (r : R → List ℕ → List ℕ)
+      (s : S → List ℕ → List ℕ) → Replies IsP p → Replies IsQ q → Replies IsR r → Replies IsS s →
       (objects : P × Q × R × S) (op : List ℕ) → AreBytes op → AreContents IsP IsQ IsR IsS objects → IsReply (shelf_reply p q r s objects op)
   shelf_replies p q r s rp rq rr rs objects [] are is = code_fits 255 (omega arith)
   shelf_replies p q r s rp rq rr rs objects (which ∷ op) are is =
@@ -60,13 +64,18 @@ ignored_by false false true d p q r s reply_p reply_q reply_r reply_s next_p nex
 ignored_by false false false true p q r s reply_p reply_q reply_r reply_s next_p next_q next_r next_s o ip iq ir is none = is none
 ignored_by false false false false p q r s reply_p reply_q reply_r reply_s next_p next_q next_r next_s o ip iq ir is none = (refl, refl)
 
-module _ {P Q R S : Type 0} (rp : P → List ℕ → List ℕ) (rq : Q → List ℕ → List ℕ) (rr : R → List ℕ → List ℕ) (rs : S → List ℕ → List ℕ) (np : P → List ℕ → P) (nq : Q → List ℕ → Q) (nr : R → List ℕ → R) (ns : S → List ℕ → S) where
+module _ {P Q R S : Type 0} (rp : P → List ℕ → List ℕ) (rq : Q → List ℕ → List ℕ) (rr : R → List ℕ → List ℕ)
+    (rs : S → List ℕ → List ℕ) (np : P → List ℕ → P) (nq : Q → List ℕ → Q) (nr : R → List ℕ → R)
+    (ns : S → List ℕ → S) where
   pub shelf_ignores : (p q r s : List ℕ → Bool) → Ignores p rp np → Ignores q rq nq → Ignores r rr nr → Ignores s rs ns →
-      (objects : P × Q × R × S) (op : List ℕ) → shelf_readable p q r s op ≡ false → (shelf_reply rp rq rr rs objects op ≡ unreadable) × (shelf_next np nq nr ns objects op ≡ objects)
+      (objects : P × Q × R × S) (op : List ℕ) → shelf_readable p q r s op ≡ false
+      → (shelf_reply rp rq rr rs objects op ≡ unreadable) × (shelf_next np nq nr ns objects op ≡ objects)
   shelf_ignores p q r s ip iq ir is objects [] none = (refl, refl)
   shelf_ignores p q r s ip iq ir is objects (which ∷ op) none =
-      ignored_by (which == 0) (which == 1) (which == 2) (which == 3) (p op) (q op) (r op) (s op) (rp objects.0 op) (rq objects.1 op) (rr objects.2 op) (rs objects.3 op)
-      (np objects.0 op, objects.1, objects.2, objects.3) (objects.0, nq objects.1 op, objects.2, objects.3) (objects.0, objects.1, nr objects.2 op, objects.3) (objects.0, objects.1, objects.2, ns objects.3 op) objects
+      ignored_by (which == 0) (which == 1) (which == 2) (which == 3) (p op) (q op) (r op) (s op) (rp objects.0 op)
+      (rq objects.1 op) (rr objects.2 op) (rs objects.3 op)
+      (np objects.0 op, objects.1, objects.2, objects.3) (objects.0, nq objects.1 op, objects.2, objects.3)
+      (objects.0, objects.1, nr objects.2 op, objects.3) (objects.0, objects.1, objects.2, ns objects.3 op) objects
       (λ e. let i = ip objects.0 op e in (i.0, ap (λ (x : P). (x, objects.1, objects.2, objects.3)) i.1))
       (λ e. let i = iq objects.1 op e in (i.0, ap (λ (x : Q). (objects.0, x, objects.2, objects.3)) i.1))
       (λ e. let i = ir objects.2 op e in (i.0, ap (λ (x : R). (objects.0, objects.1, x, objects.3)) i.1))
@@ -84,7 +93,8 @@ first_text-sized width text rest fits =
     let behind : drop width bytes ≡ text ++ rest = rw parts (drop_at (big_bytes width (length text)) (text ++ rest) width len) in
     let long : width ≤ length bytes = omega (arith, ap length parts, length-append (big_bytes width (length text)) (text ++ rest)) in
     let fit : big_number width bytes ≤ length (drop width bytes) = rw (number, behind) (omega (arith, length-append text rest)) in
-    cond-true _ _ _ (and_from _ _ (le-leb _ _ long) (le-leb _ _ fit)) ∙ rw (number, behind, take_at text rest (length text) refl, drop_at text rest (length text) refl) refl
+    cond-true _ _ _ (and_from _ _ (le-leb _ _ long) (le-leb _ _ fit))
+    ∙ rw (number, behind, take_at text rest (length text) refl, drop_at text rest (length text) refl) refl
 
 -- what was read is the text behind its length
 record IsFirst (width : ℕ) (bytes : List ℕ) (parts : List ℕ × List ℕ) : Type 0 where
@@ -92,7 +102,8 @@ record IsFirst (width : ℕ) (bytes : List ℕ) (parts : List ℕ × List ℕ) :
   text : AreBytes parts.0
   rest : AreBytes parts.1
 
-first_text-exact : (width : ℕ) → IsExact width → (bytes : List ℕ) (parts : List ℕ × List ℕ) → AreBytes bytes → first_text width bytes ≡ Some parts → IsFirst width bytes parts
+first_text-exact : (width : ℕ) → IsExact width → (bytes : List ℕ) (parts : List ℕ × List ℕ) → AreBytes bytes
+    → first_text width bytes ≡ Some parts → IsFirst width bytes parts
 unfolding first_text sized
 first_text-exact width exact bytes parts are is =
     let number = big_number width bytes in
@@ -127,8 +138,10 @@ texts_of-sized a b c d short =
     let cd = length-append (sized 8 c) (sized 8 d) in
     let bcd = length-append (sized 8 b) (sized 8 c ++ sized 8 d) in
     let abcd = length-append (sized 8 a) (sized 8 b ++ (sized 8 c ++ sized 8 d)) in
-    let first : first_text 8 (all_sized a b c d) ≡ Some (a, sized 8 b ++ (sized 8 c ++ sized 8 d)) = first_text-sized 8 a (sized 8 b ++ (sized 8 c ++ sized 8 d)) (omega arith) in
-    let second : first_text 8 (sized 8 b ++ (sized 8 c ++ sized 8 d)) ≡ Some (b, sized 8 c ++ sized 8 d) = first_text-sized 8 b (sized 8 c ++ sized 8 d) (omega arith) in
+    let first : first_text 8 (all_sized a b c d) ≡ Some (a, sized 8 b ++ (sized 8 c ++ sized 8 d)) =
+    first_text-sized 8 a (sized 8 b ++ (sized 8 c ++ sized 8 d)) (omega arith) in
+    let second : first_text 8 (sized 8 b ++ (sized 8 c ++ sized 8 d)) ≡ Some (b, sized 8 c ++ sized 8 d) =
+    first_text-sized 8 b (sized 8 c ++ sized 8 d) (omega arith) in
     let third : first_text 8 (sized 8 c ++ sized 8 d) ≡ Some (c, sized 8 d) = first_text-sized 8 c (sized 8 d) (omega arith) in
     let Holds : List ℕ → Type 0 = λ x. first_text 8 x ≡ Some (d, []) in
     let fourth : first_text 8 (sized 8 d) ≡ Some (d, []) = subst Holds (append-nil (sized 8 d)) (first_text-sized 8 d [] (omega arith)) in
@@ -174,11 +187,13 @@ module _ {P Q R S : Type 0} (IsP : P → Type 0) (IsQ : Q → Type 0) (IsR : R �
     (sp : P → List ℕ) (sq : Q → List ℕ) (sr : R → List ℕ) (ss : S → List ℕ)
     (rp : List ℕ → Option P) (rq : List ℕ → Option Q) (rr : List ℕ → Option R) (rs : List ℕ → Option S)
     (lp : Restores IsP sp rp) (lq : Restores IsQ sq rq) (lr : Restores IsR sr rr) (ls : Restores IsS ss rs) where
-  four_some : (pairs : Option ((P × Q) × (R × S))) (objects : P × Q × R × S) → four_of pairs ≡ Some objects → pairs ≡ Some ((objects.0, objects.1), (objects.2, objects.3))
+  four_some : (pairs : Option ((P × Q) × (R × S))) (objects : P × Q × R × S) → four_of pairs ≡ Some objects
+      → pairs ≡ Some ((objects.0, objects.1), (objects.2, objects.3))
   four_some (Some x) objects is = ap Some (ap (λ (y : P × Q × R × S). ((y.0, y.1), (y.2, y.3))) (same_some _ _ is))
   four_some None objects is = absurd cc
 
-  same : (objects : P × Q × R × S) → AreContents IsP IsQ IsR IsS objects → length (shelf_snapshot sp sq sr ss objects) < 2 ^ 64 → shelf_of rp rq rr rs (shelf_snapshot sp sq sr ss objects) ≡ Some objects
+  same : (objects : P × Q × R × S) → AreContents IsP IsQ IsR IsS objects → length (shelf_snapshot sp sq sr ss objects)
+      < 2 ^ 64 → shelf_of rp rq rr rs (shelf_snapshot sp sq sr ss objects) ≡ Some objects
   same objects is short =
       let a = sp objects.0 in
       let b = sq objects.1 in
@@ -191,9 +206,16 @@ module _ {P Q R S : Type 0} (IsP : P → Type 0) (IsQ : Q → Type 0) (IsR : R �
       let cd = length-append (sized 8 c) (sized 8 d) in
       let bcd = length-append (sized 8 b) (sized 8 c ++ sized 8 d) in
       let abcd = length-append (sized 8 a) (sized 8 b ++ (sized 8 c ++ sized 8 d)) in
-      rw (texts_of-sized a b c d short, lp.same objects.0 is.0 (omega arith), lq.same objects.1 is.1 (omega arith), lr.same objects.2 is.2 (omega arith), ls.same objects.3 is.3 (omega arith)) refl
+      rw (
+        texts_of-sized a b c d short,
+        lp.same objects.0 is.0 (omega arith),
+        lq.same objects.1 is.1 (omega arith),
+        lr.same objects.2 is.2 (omega arith),
+        ls.same objects.3 is.3 (omega arith),
+      ) refl
 
-  only : (bytes : List ℕ) (objects : P × Q × R × S) → AreBytes bytes → shelf_of rp rq rr rs bytes ≡ Some objects → AreContents IsP IsQ IsR IsS objects × (shelf_snapshot sp sq sr ss objects ≡ bytes)
+  only : (bytes : List ℕ) (objects : P × Q × R × S) → AreBytes bytes → shelf_of rp rq rr rs bytes ≡ Some objects
+      → AreContents IsP IsQ IsR IsS objects × (shelf_snapshot sp sq sr ss objects ≡ bytes)
   only bytes objects are is =
       let found = and_then_some (objects_of rp rq rr rs) (texts_of bytes) objects is in
       let texts = found.0 in

@@ -1,12 +1,14 @@
 -- 256 values, one for each key.
-use Rattle.std.proofs.Common.{◌≡◌, ℕ, ◌*◌, ◌^◌, ◌<◌, ◌==◌, slice_set, length-set, if◌then◌else◌, List, length, replicate, Option, Some, None, sym, ap, ◌∙◌, subst, arith, eqb-true, eq-eqb}
+use Rattle.std.proofs.Common.{◌≡◌, ℕ, ◌*◌, ◌^◌, ◌<◌, ◌==◌, slice_set, length-set, if◌then◌else◌, List, length}
+use Rattle.std.proofs.Common.{replicate, Option, Some, None, sym, ap, ◌∙◌, subst, arith, eqb-true, eq-eqb}
 use Rattle.std.proofs.lemmas.Bool.{cond-true}
 use Rattle.std.proofs.lemmas.List.{length-replicate}
 use Rattle.std.proofs.lemmas.List.Elements.{All-set, All-replicate}
 use Rattle.ring_object.specs.Bytes.{AreBytes}
 use Rattle.ring_object.specs.Snapshots.{Restores}
 use Rattle.ring_things.specs.Guards.{guarded, same_some}
-use Rattle.ring_things.specs.Numbers.{spelled, numbers_of, AreNumbers, exact_8, length-spelled, length-numbers_of, AreNumbers-numbers_of, numbers_of-spelled, spelled-numbers_of}
+use Rattle.ring_things.specs.Numbers.{spelled, numbers_of, AreNumbers, exact_8, length-spelled, length-numbers_of}
+use Rattle.ring_things.specs.Numbers.{AreNumbers-numbers_of, numbers_of-spelled, spelled-numbers_of}
 
 -- how many keys there are
 abbrev pub keys : ℕ
@@ -30,7 +32,8 @@ IsValues-numbers_of bytes are = record { all_keys = length-numbers_of 8 keys byt
 restored : (values : List ℕ) → IsValues values → values_of (spelled 8 values) ≡ Some values
 restored values is =
     let len : length (spelled 8 values) ≡ 8 * keys = omega (arith, length-spelled 8 values, is.all_keys) in
-    let whole : numbers_of 8 keys (spelled 8 values) ≡ values = ap (λ n. numbers_of 8 n (spelled 8 values)) (sym is.all_keys) ∙ numbers_of-spelled 8 values is.numbers in
+    let whole : numbers_of 8 keys (spelled 8 values) ≡ values = ap (λ n. numbers_of 8 n (spelled 8 values))
+    (sym is.all_keys) ∙ numbers_of-spelled 8 values is.numbers in
     cond-true (length (spelled 8 values) == 8 * keys) _ _ (eq-eqb _ _ len) ∙ ap Some whole
 
 only : (bytes values : List ℕ) → AreBytes bytes → values_of bytes ≡ Some values → IsValues values × (spelled 8 values ≡ bytes)

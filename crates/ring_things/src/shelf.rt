@@ -46,7 +46,18 @@ impl<
 
     ghost is_readable = { shelf_readable P.is_readable Q.is_readable R.is_readable S.is_readable };
 
-    ghost sequential = { record { initial = (P.sequential.initial, Q.sequential.initial, R.sequential.initial, S.sequential.initial); reply = shelf_reply P.sequential.reply Q.sequential.reply R.sequential.reply S.sequential.reply; next = shelf_next P.sequential.next Q.sequential.next R.sequential.next S.sequential.next } };
+    ghost sequential = { record {
+      initial = (
+        P.sequential.initial,
+        Q.sequential.initial,
+        R.sequential.initial,
+        S.sequential.initial,
+      );
+      reply = shelf_reply P.sequential.reply Q.sequential.reply R.sequential.reply
+          S.sequential.reply;
+      next = shelf_next P.sequential.next Q.sequential.next R.sequential.next
+          S.sequential.next;
+    } };
 
     ghost snapshot_of = { shelf_snapshot P.snapshot_of Q.snapshot_of R.snapshot_of S.snapshot_of };
 

@@ -1,5 +1,6 @@
 -- How many calls take effect: as many as the session table tells so, and no more than there are.
-use Rattle.std.proofs.Common.{◌≡◌, ℕ, suc, ◌+◌, ◌≤◌, Bool, true, false, List, [], ◌∷◌, ◌++◌, length, drop, ap, sym, ◌∙◌, arith, append_assoc, length-append, if◌then◌else◌}
+use Rattle.std.proofs.Common.{◌≡◌, ℕ, suc, ◌+◌, ◌≤◌, Bool, true, false, List, [], ◌∷◌, ◌++◌, length, drop, ap, sym, ◌∙◌}
+use Rattle.std.proofs.Common.{arith, append_assoc, length-append, if◌then◌else◌}
 use Rattle.std.proofs.lemmas.List.{append-nil}
 use Rattle.std.proofs.lemmas.List.Sums.{fold-append}
 use Rattle.ring_object.specs.Operations.{Sequential}
@@ -23,7 +24,8 @@ pub length-deduplicated : {O A : Type 0} (object : Sequential O) (before more : 
 length-deduplicated object before [] = omega (arith, ap (λ w. length (deduplicated w)) (append-nil before))
 length-deduplicated {O} {A} object before (c ∷ more) =
     let table : Table O = table_after object before in
-    let after : table_next object table c ≡ table_after object (before ++ c ∷ []) = sym (fold-append (table_next object) (opening object.initial) before (c ∷ [])) in
+    let after : table_next object table c ≡ table_after object (before ++ c ∷ []) =
+    sym (fold-append (table_next object) (opening object.initial) before (c ∷ [])) in
     let one : length (deduplicated (before ++ c ∷ [])) ≡ length (deduplicated before) + (if is_done (table_answer object table c) then 1 else 0) =
     ap length (deduplicated-push before c) ∙ length-push_if (deduplicated before) c (takes_effect (deduplicated before) c)
     ∙ ap (λ b. length (deduplicated before) + (if b then 1 else 0)) (sym (table_effect object before c)) in
@@ -40,7 +42,8 @@ few-step x xs ys n false h k = omega (arith, k)
 pub deduplicated_after-few : {A : Type 0} (kept calls : List (Call A)) → length (deduplicated_after kept calls) ≤ length calls
 deduplicated_after-few kept [] = omega arith
 deduplicated_after-few kept (c ∷ calls) =
-    few-step c (deduplicated_after (kept ++ c ∷ []) calls) (deduplicated_after kept calls) (length calls) (takes_effect kept c) (deduplicated_after-few (kept ++ c ∷ []) calls) (deduplicated_after-few kept calls)
+    few-step c (deduplicated_after (kept ++ c ∷ []) calls) (deduplicated_after kept calls) (length calls)
+    (takes_effect kept c) (deduplicated_after-few (kept ++ c ∷ []) calls) (deduplicated_after-few kept calls)
 
 one-few : (b : Bool) (m n : ℕ) → m ≤ n → (if b then 1 else 0) + m ≤ suc n
 one-few true m n le = omega (arith, le)
@@ -50,7 +53,8 @@ one-few false m n le = omega (arith, le)
 pub done_after-few : {O A : Type 0} (object : Sequential O) (table : Table O) (calls : List (Call A)) → done_after object table calls ≤ length calls
 done_after-few object table [] = omega arith
 done_after-few object table (c ∷ calls) =
-    one-few (is_done (table_answer object table c)) (done_after object (table_next object table c) calls) (length calls) (done_after-few object (table_next object table c) calls)
+    one-few (is_done (table_answer object table c)) (done_after object (table_next object table c) calls)
+    (length calls) (done_after-few object (table_next object table c) calls)
 
 -- one committed call more goes through the sessions
 pub done-next : {O A : Type 0} (object : Sequential O) (t t' : Table O) (more : List (Call A)) (i : ℕ) (c : Call A) (a : Answer) (all before after : ℕ)

@@ -1,5 +1,8 @@
--- What is kept of tickets is what all tickets and all committed calls make it: a ticket is left where its call stands nowhere among the calls committed since, and the answers of a step are those of the definition.
-use Rattle.std.proofs.Common.{◌≡◌, ℕ, suc, ◌+◌, ◌==◌, ◌&&◌, ◌||◌, nat_le, ◌<◌, ◌≤◌, Bool, true, false, not, List, [], ◌∷◌, ◌++◌, length, take, drop, map, Option, Some, None, is_none, refl, ap, sym, ◌∙◌, arith, append_assoc, length-append, if◌then◌else◌}
+-- What is kept of tickets is what all tickets and all committed calls make it: a ticket is left where its call stands
+-- nowhere among the calls committed since, and the answers of a step are those of the definition.
+use Rattle.std.proofs.Common.{◌≡◌, ℕ, suc, ◌+◌, ◌==◌, ◌&&◌, ◌||◌, nat_le, ◌<◌, ◌≤◌, Bool, true, false, not, List, []}
+use Rattle.std.proofs.Common.{◌∷◌, ◌++◌, length, take, drop, map, Option, Some, None, is_none, refl, ap, sym, ◌∙◌}
+use Rattle.std.proofs.Common.{arith, append_assoc, length-append, if◌then◌else◌}
 use Rattle.std.specs.List.{AllByRecursion}
 use Rattle.std.proofs.lemmas.Bool.{eq-eqb, ne_eqb, le-leb}
 use Rattle.std.proofs.lemmas.List.{append-nil}
@@ -13,8 +16,10 @@ use Rattle.ring_session.proofs.TableLaws.{table_answers}
 use Rattle.ring_ticket.specs.declared.answered.Answered.{Answered}
 use Rattle.ring_ticket.specs.declared.pending.Pending.{Pending}
 use Rattle.ring_ticket.specs.Recent.{last_kept, kept_of, kept_answer}
-use Rattle.ring_ticket.specs.Tickets.{Asked, first_place, place_of, unanswered, is_place, answered, answers_at, answers_after, all_answers, kept_answers, answer_to}
-use Rattle.ring_ticket.specs.Pendings.{Tickets, is_full, with_ticket, stands_in, answer_for, answers_to, answers_behind, left_by, with_answers, pending_from, AreTickets}
+use Rattle.ring_ticket.specs.Tickets.{Asked, first_place, place_of, unanswered, is_place, answered, answers_at}
+use Rattle.ring_ticket.specs.Tickets.{answers_after, all_answers, kept_answers, answer_to}
+use Rattle.ring_ticket.specs.Pendings.{Tickets, is_full, with_ticket, stands_in, answer_for, answers_to, answers_behind}
+use Rattle.ring_ticket.specs.Pendings.{left_by, with_answers, pending_from, AreTickets}
 use Rattle.ring_ticket.proofs.Places.{first_place-below, or_else, place-push, fold-push}
 use Rattle.ring_ticket.proofs.Telling.{first_place-late, answers_after-push, answers_after-append, kept-more, kept_answer-map}
 

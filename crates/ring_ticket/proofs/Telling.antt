@@ -1,5 +1,7 @@
 -- All answers of a node: they grow at the end, a new ticket changes none, and the last of them are kept.
-use Rattle.std.proofs.Common.{◌≡◌, ℕ, zero, suc, ◌+◌, ◌-◌, ◌==◌, ◌&&◌, nat_le, ◌<◌, ◌≤◌, Bool, true, false, List, [], ◌∷◌, ◌++◌, length, take, drop, get_or, map, Option, Some, None, is_none, refl, ap, sym, ◌∙◌, arith, append_assoc, length-append, if◌then◌else◌}
+use Rattle.std.proofs.Common.{◌≡◌, ℕ, zero, suc, ◌+◌, ◌-◌, ◌==◌, ◌&&◌, nat_le, ◌<◌, ◌≤◌, Bool, true, false, List, []}
+use Rattle.std.proofs.Common.{◌∷◌, ◌++◌, length, take, drop, get_or, map, Option, Some, None, is_none, refl, ap, sym}
+use Rattle.std.proofs.Common.{◌∙◌, arith, append_assoc, length-append, if◌then◌else◌}
 use Rattle.std.proofs.lemmas.Bool.{cond-false, and_left, lt-leb}
 use Rattle.std.proofs.lemmas.List.{append-nil, drop-append-le, drop-drop, length-drop}
 use Rattle.ring_object.specs.Operations.{Sequential}
@@ -17,56 +19,81 @@ use Rattle.ring_ticket.proofs.Waits.{drop-next, take-next}
 
 late-step : {A : Type 0} (c : Call A) (since at : ℕ) (ds : List (Call A)) (d : Call A) → nat_le since at ≡ false → first_place c since (at + 1) ds ≡ None
     → (if nat_le since at && is_same c d then Some at else first_place c since (at + 1) ds) ≡ None
-late-step c since at ds d late e = cond-false (nat_le since at && is_same c d) (Some at) (first_place c since (at + 1) ds) (and_left (nat_le since at) (is_same c d) late) ∙ e
+late-step c since at ds d late e = cond-false (nat_le since at && is_same c d) (Some at)
+    (first_place c since (at + 1) ds) (and_left (nat_le since at) (is_same c d) late) ∙ e
 
 -- a ticket has no place among those committed before it was given
 pub first_place-late : {A : Type 0} (c : Call A) (since at : ℕ) (ds : List (Call A)) → at + length ds ≤ since → first_place c since at ds ≡ None
 first_place-late c since at [] late = refl
 first_place-late c since at (d ∷ ds) late = late-step c since at ds d (lt-leb since at (omega arith)) (first_place-late c since (at + 1) ds (omega arith))
 
-waiting-step : {A : Type 0} (committed : List (Call A)) (i : ℕ) (ts : List (Asked A)) (t : Asked A) (b : Bool) (m : ℕ) → waiting_from committed (i + 1) (ts ++ t ∷ []) ≡ waiting_from committed (i + 1) ts ++ m ∷ []
-    → (if b then i ∷ waiting_from committed (i + 1) (ts ++ t ∷ []) else waiting_from committed (i + 1) (ts ++ t ∷ [])) ≡ (if b then i ∷ waiting_from committed (i + 1) ts else waiting_from committed (i + 1) ts) ++ m ∷ []
+waiting-step : {A : Type 0} (committed : List (Call A)) (i : ℕ) (ts : List (Asked A)) (t : Asked A) (b : Bool) (m : ℕ)
+    → waiting_from committed (i + 1) (ts ++ t ∷ []) ≡ waiting_from committed (i + 1) ts ++ m ∷ []
+    → (if b then i ∷ waiting_from committed (i + 1) (ts ++ t ∷ []) else waiting_from committed (i + 1) (ts ++ t ∷ []))
+    ≡ (if b then i ∷ waiting_from committed (i + 1) ts else waiting_from committed (i + 1) ts) ++ m ∷ []
 waiting-step committed i ts t true m e = ap (λ w. i ∷ w) e
 waiting-step committed i ts t false m e = e
 
 -- a new ticket waits
-pub waiting_from-push : {A : Type 0} (committed : List (Call A)) (i : ℕ) (ts : List (Asked A)) (t : Asked A) → length committed ≤ t.since → waiting_from committed i (ts ++ t ∷ []) ≡ waiting_from committed i ts ++ (i + length ts) ∷ []
+pub waiting_from-push : {A : Type 0} (committed : List (Call A)) (i : ℕ) (ts : List (Asked A)) (t : Asked A)
+    → length committed ≤ t.since → waiting_from committed i (ts ++ t ∷ []) ≡ waiting_from committed i ts
+    ++ (i + length ts) ∷ []
 waiting_from-push committed i [] t late =
-    ap (λ o. if is_none o then i ∷ [] else []) (first_place-late t.call t.since 0 committed (omega arith)) ∙ (let e : i ≡ i + 0 = omega arith in ap (λ k. k ∷ []) e)
+    ap (λ o. if is_none o then i ∷ [] else []) (first_place-late t.call t.since 0 committed (omega arith))
+    ∙ (let e : i ≡ i + 0 = omega arith in ap (λ k. k ∷ []) e)
 waiting_from-push committed i (u ∷ ts) t late =
     waiting-step committed i ts t (is_none (place_of committed u)) (i + suc (length ts))
-    (let e : i + 1 + length ts ≡ i + suc (length ts) = omega arith in waiting_from-push committed (i + 1) ts t late ∙ ap (λ k. waiting_from committed (i + 1) ts ++ k ∷ []) e)
+    (let e : i + 1 + length ts ≡ i + suc (length ts) = omega arith in waiting_from-push committed (i + 1) ts t late
+    ∙ ap (λ k. waiting_from committed (i + 1) ts ++ k ∷ []) e)
 
-unanswered-step : {A : Type 0} (i : ℕ) (t : Asked A) (ts : List (Asked A)) (ws : List ℕ) (b : Bool) → length ts ≡ length ws → length (if b then t ∷ ts else ts) ≡ length (if b then i ∷ ws else ws)
+unanswered-step : {A : Type 0} (i : ℕ) (t : Asked A) (ts : List (Asked A)) (ws : List ℕ) (b : Bool)
+    → length ts ≡ length ws → length (if b then t ∷ ts else ts) ≡ length (if b then i ∷ ws else ws)
 unanswered-step i t ts ws true e = ap suc e
 unanswered-step i t ts ws false e = e
 
 -- as many tickets are unanswered as wait
-pub length-unanswered : {A : Type 0} (committed : List (Call A)) (i : ℕ) (ts : List (Asked A)) → length (unanswered committed ts) ≡ length (waiting_from committed i ts)
+pub length-unanswered : {A : Type 0} (committed : List (Call A)) (i : ℕ) (ts : List (Asked A))
+    → length (unanswered committed ts) ≡ length (waiting_from committed i ts)
 length-unanswered committed i [] = refl
-length-unanswered committed i (t ∷ ts) = unanswered-step i t (unanswered committed ts) (waiting_from committed (i + 1) ts) (is_none (place_of committed t)) (length-unanswered committed (i + 1) ts)
+length-unanswered committed i (t ∷ ts) = unanswered-step i t (unanswered committed ts)
+    (waiting_from committed (i + 1) ts) (is_none (place_of committed t)) (length-unanswered committed (i + 1) ts)
 
 module _ {O A : Type 0} (object : Sequential O) where
-  answers_at-push : (committed : List (Call A)) (place i : ℕ) (ts : List (Asked A)) (t : Asked A) → length committed ≤ t.since → answers_at object committed place i (ts ++ t ∷ []) ≡ answers_at object committed place i ts
+  answers_at-push : (committed : List (Call A)) (place i : ℕ) (ts : List (Asked A)) (t : Asked A)
+      → length committed ≤ t.since → answers_at object committed place i (ts ++ t ∷ [])
+      ≡ answers_at object committed place i ts
   answers_at-push committed place i [] t late =
-      ap (λ (o : Option ℕ). (if is_place place o then answered i t.call (session_answer object committed place) else []) ++ []) (first_place-late t.call t.since 0 committed (omega arith))
+      ap (λ (o : Option ℕ). (if is_place place o then answered i t.call
+      (session_answer object committed place) else []) ++ []) (first_place-late t.call t.since 0 committed
+      (omega arith))
   answers_at-push committed place i (u ∷ ts) t late =
-      ap (λ w. (if is_place place (place_of committed u) then answered i u.call (session_answer object committed place) else []) ++ w) (answers_at-push committed place (i + 1) ts t late)
+      ap (λ w. (if is_place place (place_of committed u) then answered i u.call
+      (session_answer object committed place) else []) ++ w) (answers_at-push committed place (i + 1) ts t late)
 
   -- a new ticket has no answer yet
-  pub answers_after-push : (ts : List (Asked A)) (t : Asked A) (committed more : List (Call A)) → length committed + length more ≤ t.since → answers_after object (ts ++ t ∷ []) committed more ≡ answers_after object ts committed more
+  pub answers_after-push : (ts : List (Asked A)) (t : Asked A) (committed more : List (Call A))
+      → length committed + length more ≤ t.since → answers_after object (ts ++ t ∷ []) committed more
+      ≡ answers_after object ts committed more
   answers_after-push ts t committed [] late = refl
   answers_after-push ts t committed (c ∷ more) late =
-      ap (λ w. w ++ answers_after object (ts ++ t ∷ []) (committed ++ c ∷ []) more) (answers_at-push (committed ++ c ∷ []) (length committed) 0 ts t (omega (arith, length-append committed (c ∷ []))))
-      ∙ ap (λ w. answers_at object (committed ++ c ∷ []) (length committed) 0 ts ++ w) (answers_after-push ts t (committed ++ c ∷ []) more (omega (arith, length-append committed (c ∷ []))))
+      ap (λ w. w ++ answers_after object (ts ++ t ∷ []) (committed ++ c ∷ []) more)
+      (answers_at-push (committed ++ c ∷ []) (length committed) 0 ts t
+      (omega (arith, length-append committed (c ∷ []))))
+      ∙ ap (λ w. answers_at object (committed ++ c ∷ []) (length committed) 0 ts ++ w)
+      (answers_after-push ts t (committed ++ c ∷ []) more (omega (arith, length-append committed (c ∷ []))))
 
   -- the answers of later places come after those of earlier ones
-  pub answers_after-append : (ts : List (Asked A)) (committed xs ys : List (Call A)) → answers_after object ts committed (xs ++ ys) ≡ answers_after object ts committed xs ++ answers_after object ts (committed ++ xs) ys
+  pub answers_after-append : (ts : List (Asked A)) (committed xs ys : List (Call A))
+      → answers_after object ts committed (xs ++ ys) ≡ answers_after object ts committed xs ++ answers_after object ts
+      (committed ++ xs) ys
   answers_after-append ts committed [] ys = ap (λ w. answers_after object ts w ys) (sym (append-nil committed))
   answers_after-append ts committed (c ∷ xs) ys =
       ap (λ w. answers_at object (committed ++ c ∷ []) (length committed) 0 ts ++ w)
-      (answers_after-append ts (committed ++ c ∷ []) xs ys ∙ ap (λ w. answers_after object ts (committed ++ c ∷ []) xs ++ answers_after object ts w ys) (append_assoc committed (c ∷ []) xs))
-      ∙ sym (append_assoc (answers_at object (committed ++ c ∷ []) (length committed) 0 ts) (answers_after object ts (committed ++ c ∷ []) xs) (answers_after object ts (committed ++ c ∷ xs) ys))
+      (answers_after-append ts (committed ++ c ∷ []) xs ys
+      ∙ ap (λ w. answers_after object ts (committed ++ c ∷ []) xs ++ answers_after object ts w ys)
+      (append_assoc committed (c ∷ []) xs))
+      ∙ sym (append_assoc (answers_at object (committed ++ c ∷ []) (length committed) 0 ts)
+      (answers_after object ts (committed ++ c ∷ []) xs) (answers_after object ts (committed ++ c ∷ xs) ys))
 
 -- ---- the last answers
 
@@ -102,16 +129,20 @@ kept-more {A} xs ys =
     ap (λ w. last_kept (w ++ map (kept_of {A = A}) ys)) (map-last xs) ∙ last_kept-append (map kept_of xs) (map kept_of ys)
     ∙ ap last_kept (sym (map-append xs ys)) ∙ sym (map-last (xs ++ ys))
 
-kept-step : {A : Type 0} (a : Answered A) (ticket : ℕ) (b : Bool) (o p : Option Answer) → o ≡ p → (if b then Some a.answer else o) ≡ (if b then Some a.answer else p)
+kept-step : {A : Type 0} (a : Answered A) (ticket : ℕ) (b : Bool) (o p : Option Answer) → o ≡ p
+    → (if b then Some a.answer else o) ≡ (if b then Some a.answer else p)
 kept-step a ticket true o p e = refl
 kept-step a ticket false o p e = e
 
 pub kept_answer-map : {A : Type 0} (ticket : ℕ) (xs : List (Answered A)) → kept_answer ticket (map kept_of xs) ≡ answer_to ticket xs
 kept_answer-map ticket [] = refl
-kept_answer-map ticket (a ∷ xs) = kept-step a ticket (a.ticket == ticket) (kept_answer ticket (map kept_of xs)) (answer_to ticket xs) (kept_answer-map ticket xs)
+kept_answer-map ticket (a ∷ xs) = kept-step a ticket (a.ticket == ticket) (kept_answer ticket (map kept_of xs))
+    (answer_to ticket xs) (kept_answer-map ticket xs)
 
 -- the kept answers from a place on
-pub kept_answer-next : (ticket : ℕ) (ks : List Kept) (i : ℕ) (k : Kept) → i < length ks → k ≡ get_or ks i k → kept_answer ticket (drop i ks) ≡ (if k.ticket == ticket then Some k.answer else kept_answer ticket (drop (i + 1) ks))
+pub kept_answer-next : (ticket : ℕ) (ks : List Kept) (i : ℕ) (k : Kept) → i < length ks → k ≡ get_or ks i k
+    → kept_answer ticket (drop i ks) ≡ (if k.ticket == ticket then Some k.answer else kept_answer ticket
+    (drop (i + 1) ks))
 kept_answer-next ticket ks i k lt at = ap (kept_answer ticket) (drop-next ks i k lt at)
 
 -- few enough are all kept
@@ -121,7 +152,8 @@ last_kept-few xs few =
     sym (ap (λ w. last_kept w) (append-nil xs) ∙ ap (λ n. drop n xs) none)
 
 -- one answer more
-pub kept-next : {A : Type 0} (old now after : List Kept) (answers : List (Answered A)) (i : ℕ) (a : Answered A) (k : Kept) → i < length answers → a ≡ get_or answers i a → k ≡ kept_of a
+pub kept-next : {A : Type 0} (old now after : List Kept) (answers : List (Answered A)) (i : ℕ) (a : Answered A)
+    (k : Kept) → i < length answers → a ≡ get_or answers i a → k ≡ kept_of a
     → now ≡ last_kept (old ++ map kept_of (take i answers)) → after ≡ last_kept (now ++ k ∷ []) → after ≡ last_kept (old ++ map kept_of (take (i + 1) answers))
 kept-next {A} old now after answers i a k lt at is before e =
     let more : take (i + 1) answers ≡ take i answers ++ a ∷ [] = take-next answers i a lt at in

@@ -1,5 +1,7 @@
 -- One ticket more, and one committed call more, of those that are gone through.
-use Rattle.std.proofs.Common.{◌≡◌, ℕ, zero, suc, ◌+◌, ◌<◌, ◌≤◌, Bool, true, false, not, List, [], ◌∷◌, ◌++◌, length, take, drop, get_or, slice_get, Some, is_none, ap, sym, ◌∙◌, append_assoc, All, if◌then◌else◌, arith}
+use Rattle.std.proofs.Common.{◌≡◌, ℕ, zero, suc, ◌+◌, ◌<◌, ◌≤◌, Bool, true, false, not, List, [], ◌∷◌, ◌++◌, length}
+use Rattle.std.proofs.Common.{take, drop, get_or, slice_get, Some, is_none, ap, sym, ◌∙◌, append_assoc, All}
+use Rattle.std.proofs.Common.{if◌then◌else◌, arith}
 use Rattle.std.proofs.lemmas.List.Elements.{All-nil, All-cons, All-head, All-tail}
 use Rattle.ring_object.specs.Operations.{Sequential}
 use Rattle.ring_payload.specs.declared.call.Call.{Call}
@@ -31,10 +33,13 @@ get-at (y ∷ xs) zero x lt is = ap Some (sym is)
 get-at (y ∷ xs) (suc i) x lt is = get-at xs i x (omega arith) is
 
 -- a ticket whose call is answered leaves, and has its answer
-pub answered-next : {A : Type 0} (calls : List (Call A)) (c d : Call A) (answer : Answer) (ws : List ℕ) (i n : ℕ) (whole kept : List ℕ) (all before : List (Answered A))
+pub answered-next : {A : Type 0} (calls : List (Call A)) (c d : Call A) (answer : Answer) (ws : List ℕ) (i n : ℕ)
+    (whole kept : List ℕ) (all before : List (Answered A))
     → i < length ws → n ≡ get_or ws i n → n < length calls → d ≡ get_or calls n d → is_same d c ≡ true
     → whole ≡ kept ++ still_waiting calls c (drop i ws) → all ≡ before ++ given calls c answer (drop i ws)
-    → (whole ≡ kept ++ still_waiting calls c (drop (i + 1) ws)) × (all ≡ (before ++ record { ticket = n; call = d; answer = answer } ∷ []) ++ given calls c answer (drop (i + 1) ws))
+    → (whole ≡ kept ++ still_waiting calls c (drop (i + 1) ws))
+    × (all ≡ (before ++ record { ticket = n; call = d; answer = answer } ∷ []) ++ given calls c answer
+    (drop (i + 1) ws))
 answered-next {A} calls c d answer ws i n whole kept all before lt at within is same e f =
     let next = drop-next ws i n lt at in
     let stands = get-at calls n d within is in
@@ -49,7 +54,8 @@ answered-next {A} calls c d answer ws i n whole kept all before lt at within is 
     )
 
 -- any other stays
-pub still-next : {A : Type 0} (calls : List (Call A)) (c d : Call A) (answer : Answer) (ws : List ℕ) (i n : ℕ) (whole kept : List ℕ) (all before : List (Answered A))
+pub still-next : {A : Type 0} (calls : List (Call A)) (c d : Call A) (answer : Answer) (ws : List ℕ) (i n : ℕ)
+    (whole kept : List ℕ) (all before : List (Answered A))
     → i < length ws → n ≡ get_or ws i n → n < length calls → d ≡ get_or calls n d → is_same d c ≡ false
     → whole ≡ kept ++ still_waiting calls c (drop i ws) → all ≡ before ++ given calls c answer (drop i ws)
     → (whole ≡ (kept ++ n ∷ []) ++ still_waiting calls c (drop (i + 1) ws)) × (all ≡ before ++ given calls c answer (drop (i + 1) ws))
@@ -61,7 +67,8 @@ still-next {A} calls c d answer ws i n whole kept all before lt at within is sam
     ap (λ b. if not b then n ∷ still_waiting calls c (drop (i + 1) ws) else still_waiting calls c (drop (i + 1) ws)) call in
     let given_none : given_to c answer n (slice_get calls n) ≡ [] =
     ap (given_to c answer n) stands ∙ ap (λ b. if b then record { ticket = n; call = d; answer = answer } ∷ [] else []) same in (
-      e ∙ ap (λ w. kept ++ still_waiting calls c w) next ∙ ap (λ w. kept ++ w) stays ∙ sym (append_assoc kept (n ∷ []) (still_waiting calls c (drop (i + 1) ws))),
+      e ∙ ap (λ w. kept ++ still_waiting calls c w) next ∙ ap (λ w. kept ++ w) stays
+          ∙ sym (append_assoc kept (n ∷ []) (still_waiting calls c (drop (i + 1) ws))),
       f ∙ ap (λ w. before ++ given calls c answer w) next ∙ ap (λ w. before ++ (w ++ given calls c answer (drop (i + 1) ws))) given_none,
     )
 
@@ -72,11 +79,14 @@ filter-step P false n ns h k = k
 -- what holds of all tickets holds of those that still wait
 pub All-still_waiting : {A : Type 0} (P : ℕ → Type 0) (calls : List (Call A)) (c : Call A) (ws : List ℕ) → All P ws → All P (still_waiting calls c ws)
 All-still_waiting P calls c [] h = All-nil P
-All-still_waiting P calls c (n ∷ ws) h = filter-step P (not (is_call c (slice_get calls n))) n (still_waiting calls c ws) (All-head P n ws h) (All-still_waiting P calls c ws (All-tail P n ws h))
+All-still_waiting P calls c (n ∷ ws) h = filter-step P (not (is_call c (slice_get calls n))) n
+    (still_waiting calls c ws) (All-head P n ws h) (All-still_waiting P calls c ws (All-tail P n ws h))
 
 -- one committed call more goes through the sessions
-pub answers-next : {O A : Type 0} (object : Sequential O) (t t' : Table O) (calls more : List (Call A)) (i : ℕ) (c : Call A) (a : Answer) (ws ws' : List ℕ) (all before after : List (Answered A))
-    → drop i more ≡ c ∷ drop (i + 1) more → a ≡ table_answer object t c → t' ≡ table_next object t c → ws' ≡ still_waiting calls c ws → after ≡ before ++ given calls c a ws
+pub answers-next : {O A : Type 0} (object : Sequential O) (t t' : Table O) (calls more : List (Call A)) (i : ℕ)
+    (c : Call A) (a : Answer) (ws ws' : List ℕ) (all before after : List (Answered A))
+    → drop i more ≡ c ∷ drop (i + 1) more → a ≡ table_answer object t c → t' ≡ table_next object t c
+    → ws' ≡ still_waiting calls c ws → after ≡ before ++ given calls c a ws
     → all ≡ before ++ given_after object t calls (drop i more) ws → all ≡ after ++ given_after object t' calls (drop (i + 1) more) ws'
 answers-next {O} {A} object t t' calls more i c a ws ws' all before after rest answer table still told e =
     let left : List (Call A) = drop (i + 1) more in
@@ -92,7 +102,9 @@ known-step P true i ws h k = All-cons P i ws h k
 known-step P false i ws h k = k
 
 -- the tickets that wait are among those given
-pub waiting_from-known : {A : Type 0} (committed : List (Call A)) (i n : ℕ) (ts : List (Asked A)) → i + length ts ≤ n → All (λ k. k < n) (waiting_from committed i ts)
+pub waiting_from-known : {A : Type 0} (committed : List (Call A)) (i n : ℕ) (ts : List (Asked A)) → i + length ts ≤ n
+    → All (λ k. k < n) (waiting_from committed i ts)
 waiting_from-known committed i n [] le = All-nil (λ k. k < n)
 waiting_from-known {A} committed i n (t ∷ ts) le =
-    known-step (λ k. k < n) (is_none (place_of committed t)) i (waiting_from committed (i + 1) ts) (omega arith) (waiting_from-known committed (i + 1) n ts (omega arith))
+    known-step (λ k. k < n) (is_none (place_of committed t)) i (waiting_from committed (i + 1) ts) (omega arith)
+    (waiting_from-known committed (i + 1) n ts (omega arith))

@@ -1,4 +1,5 @@
--- What a node keeps of its tickets, and how a ticket more and committed calls change it: The replicated log, rules 13 to 15 of docs/PROTOCOL.md. No more is kept than 64 calls without an answer, and 64 answers.
+-- What a node keeps of its tickets, and how a ticket more and committed calls change it: The replicated log, rules 13
+-- to 15 of docs/PROTOCOL.md. No more is kept than 64 calls without an answer, and 64 answers.
 use Rattle.std.specs.Prelude.{◌≡◌, ℕ, ◌+◌, ◌≤◌, ◌&&◌, ◌||◌, nat_le, Bool, not, List, [], ◌∷◌, ◌++◌, length, map, is_none, if◌then◌else◌}
 use Rattle.std.specs.List.{AllByRecursion, filter, list_any}
 use Rattle.ring_base.specs.Numbers.{max_number}

@@ -1,4 +1,5 @@
--- Tickets and their answers: a ticket is answered at the first place committed after its submission at which its call stands, by the session table's answer there. The replicated log, rules 13 to 15 of docs/PROTOCOL.md.
+-- Tickets and their answers: a ticket is answered at the first place committed after its submission at which its call
+-- stands, by the session table's answer there. The replicated log, rules 13 to 15 of docs/PROTOCOL.md.
 use Rattle.std.specs.Prelude.{ℕ, ◌+◌, ◌-◌, ◌==◌, ◌&&◌, nat_le, Bool, false, List, [], ◌∷◌, ◌++◌, length, drop, Option, Some, None, is_none, map, if◌then◌else◌}
 use Rattle.std.specs.List.{filter}
 use Rattle.ring_object.specs.Operations.{Sequential}

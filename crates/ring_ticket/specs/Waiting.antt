@@ -14,7 +14,8 @@ use Rattle.ring_ticket.specs.Tickets.{Asked, place_of}
 -- the numbers of the tickets without an answer, of which the first has this number
 abbrev pub waiting_from : {A : Type 0} → List (Call A) → ℕ → List (Asked A) → List ℕ
 waiting_from committed ticket [] = []
-waiting_from committed ticket (t ∷ ts) = if is_none (place_of committed t) then ticket ∷ waiting_from committed (ticket + 1) ts else waiting_from committed (ticket + 1) ts
+waiting_from committed ticket (t ∷ ts) = if is_none (place_of committed t) then ticket ∷ waiting_from committed
+    (ticket + 1) ts else waiting_from committed (ticket + 1) ts
 
 -- whether this is the call
 abbrev pub is_call : {A : Type 0} → Call A → Option (Call A) → Bool

@@ -21,13 +21,24 @@ is_mine_me : (me : ℕ) (id : Option ℕ) → is_mine me id ≡ false → id ≡
 is_mine_me me None h e = true≢false h
 is_mine_me me (Some x) h e = eqb-ne x me h (let q : Some x ≡ Some me = e in cc)
 
-pub aru_step : (me f seq : ℕ) (t : Token) → Sets me f seq t (aru_after me f t) (aru_id_after me f seq t) ⊎ Stays me f t (aru_after me f t) (aru_id_after me f seq t)
+pub aru_step : (me f seq : ℕ) (t : Token) → Sets me f seq t (aru_after me f t) (aru_id_after me f seq t)
+    ⊎ Stays me f t (aru_after me f t) (aru_id_after me f seq t)
 aru_step me f seq t =
     elim (cases_Bool (may_set me f t)) [
       | inl e ↦ inl (record {
         aru_is = cond-true _ _ _ e;
         id_is = λ l. cond-true _ _ _ e ∙ cond-false _ _ _ (ne_eqb f seq (λ q. omega arith));
-        may = λ x is other. elim (or_cases _ _ e) [ inl q ↦ ltb-true _ _ q | inr q ↦ absurd (other (eqb-true x me (let h : is_mine me (Some x) ≡ true = rw is at q in h))) ];
+        may = λ x is other. elim (or_cases _ _ e) [
+          | inl q ↦ ltb-true _ _ q
+          | inr q ↦ absurd
+              (other (eqb-true x me (let h : is_mine me (Some x) ≡ true = rw is at q in h)))
+        ];
       })
-      | inr e ↦ (let p : (nat_lt f t.aru ≡ false) × (is_mine me t.aru_id ≡ false) = or_parts _ _ e in inr (record { aru_is = cond-false _ _ _ e; id_is = cond-false _ _ _ e; below = ltb-false _ _ p.0; other = is_mine_me me t.aru_id p.1 }))
+      | inr e ↦ (let p : (nat_lt f t.aru ≡ false) × (is_mine me t.aru_id ≡ false) = or_parts _ _ e in inr
+          (record {
+            aru_is = cond-false _ _ _ e;
+            id_is = cond-false _ _ _ e;
+            below = ltb-false _ _ p.0;
+            other = is_mine_me me t.aru_id p.1;
+          }))
     ]

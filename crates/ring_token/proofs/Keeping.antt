@@ -26,7 +26,8 @@ AreOf r turns = AllByRecursion (λ (v : Turn _). v.came.ring ≡ r) turns
 -- all of the visits are of the one ring
 turns_all : {A : Type 0} → (r : RingId) (turns : List (Turn A)) → AreOf r turns → turns_of r turns ≡ turns
 turns_all r [] h = refl
-turns_all r (v ∷ turns) h = cond-true (same_ring v.came.ring r) (v ∷ turns_of r turns) (turns_of r turns) (ring_itself v.came.ring r h.0) ∙ ap (λ l. v ∷ l) (turns_all r turns h.1)
+turns_all r (v ∷ turns) h = cond-true (same_ring v.came.ring r) (v ∷ turns_of r turns) (turns_of r turns)
+    (ring_itself v.came.ring r h.0) ∙ ap (λ l. v ∷ l) (turns_all r turns h.1)
 
 -- Accepting
 
@@ -37,7 +38,8 @@ newer_than : {A : Type 0} → (turns : List (Turn A)) (k : ℕ) → list_all (λ
 newer_than [] k = sym (le-leb 0 k (omega arith))
 newer_than {A} (v ∷ turns) k = ap (λ b. nat_lt v.came.number k && b) (newer_than turns k) ∙ test_next v.came.number (next_number turns) k
 
-pub newer_by : {A : Type 0} → (h : TokenHistory A) (next aru safe : ℕ) (t : Token) → IsKept h next aru safe → t.ring ≡ h.ring → is_newer h.turns t ≡ nat_le next t.number
+pub newer_by : {A : Type 0} → (h : TokenHistory A) (next aru safe : ℕ) (t : Token) → IsKept h next aru safe
+    → t.ring ≡ h.ring → is_newer h.turns t ≡ nat_le next t.number
 newer_by {A} h next aru safe t k e =
     ap (λ (r : RingId). list_all (λ (v : Turn A). nat_lt v.came.number t.number) (turns_of r h.turns)) e
     ∙ ap (λ (vs : List (Turn A)). list_all (λ (v : Turn A). nat_lt v.came.number t.number) vs) (turns_all h.ring h.turns k.turns_in)
@@ -52,14 +54,17 @@ pub accepted_by : {A : Type 0} → (h : TokenHistory A) (next aru safe high : �
     (same_ring t.ring h.ring && nat_le next t.number && nat_lt t.number max_number && nat_le high t.seq) ≡ is_accepted h.ring h.turns high t
 accepted_by h next aru safe high t k =
     elim (cases_Bool (same_ring t.ring h.ring)) [
-      | inl e ↦ ap (λ b. same_ring t.ring h.ring && b && nat_lt t.number max_number && nat_le high t.seq) (sym (newer_by h next aru safe t k (ring_same t.ring h.ring e)))
+      | inl e ↦ ap (λ b. same_ring t.ring h.ring && b && nat_lt t.number max_number && nat_le high t.seq)
+          (sym (newer_by h next aru safe t k (ring_same t.ring h.ring e)))
       | inr e ↦ none_passes (same_ring t.ring h.ring) (nat_le next t.number) (is_newer h.turns t) (nat_lt t.number max_number) (nat_le high t.seq) e
     ]
 
 -- The safe mark
 
 -- a visit more: the lesser of its aru and the last one
-mark_more : {A : Type 0} → (v : Turn A) (turns : List (Turn A)) → mark_by (v.went.aru ∷ map (λ (v : Turn A). v.went.aru) turns) ≡ max (min v.went.aru (last_aru turns)) (mark_by (map (λ (v : Turn A). v.went.aru) turns))
+mark_more : {A : Type 0} → (v : Turn A) (turns : List (Turn A))
+    → mark_by (v.went.aru ∷ map (λ (v : Turn A). v.went.aru) turns) ≡ max (min v.went.aru (last_aru turns))
+    (mark_by (map (λ (v : Turn A). v.went.aru) turns))
 mark_more v [] = omega arith
 mark_more v (w ∷ turns) = refl
 
@@ -69,18 +74,23 @@ forwarded_all {A} r turns h = ap (λ (vs : List (Turn A)). map (λ (v : Turn A).
 mark_with_turn : {A : Type 0} → (r : RingId) (v : Turn A) (turns : List (Turn A)) (raises : List Raise) → v.came.ring ≡ r → AreOf r turns →
     safe_mark (v ∷ turns) raises r ≡ max (min v.went.aru (last_aru turns)) (safe_mark turns raises r)
 mark_with_turn {A} r v turns raises e h =
-    let more : mark_by (forwarded_in r (v ∷ turns)) ≡ mark_by (v.went.aru ∷ map (λ (v : Turn A). v.went.aru) turns) = ap mark_by (forwarded_all r (v ∷ turns) (e, h)) in
+    let more : mark_by (forwarded_in r (v ∷ turns)) ≡ mark_by (v.went.aru ∷ map (λ (v : Turn A). v.went.aru) turns) =
+    ap mark_by (forwarded_all r (v ∷ turns) (e, h)) in
     let less : mark_by (forwarded_in r turns) ≡ mark_by (map (λ (v : Turn A). v.went.aru) turns) = ap mark_by (forwarded_all r turns h) in
-    let step : mark_by (v.went.aru ∷ map (λ (v : Turn A). v.went.aru) turns) ≡ max (min v.went.aru (last_aru turns)) (mark_by (map (λ (v : Turn A). v.went.aru) turns)) = mark_more v turns in
+    let step : mark_by (v.went.aru ∷ map (λ (v : Turn A). v.went.aru) turns) ≡ max (min v.went.aru (last_aru turns))
+    (mark_by (map (λ (v : Turn A). v.went.aru) turns)) = mark_more v turns in
     regrouped _ _ _ _ _ (more ∙ step) less
   where
     regrouped : (one all p m raised : ℕ) → one ≡ max p m → all ≡ m → max one raised ≡ max p (max all raised)
     regrouped one all p m raised a b = omega arith
 
-mark_with_raise : {A : Type 0} → (r : RingId) (m : ℕ) (turns : List (Turn A)) (raises : List Raise) → safe_mark turns (record { ring = r; mark = m } ∷ raises) r ≡ max m (safe_mark turns raises r)
+mark_with_raise : {A : Type 0} → (r : RingId) (m : ℕ) (turns : List (Turn A)) (raises : List Raise)
+    → safe_mark turns (record { ring = r; mark = m } ∷ raises) r ≡ max m (safe_mark turns raises r)
 mark_with_raise r m turns raises =
     let x : Raise = record { ring = r; mark = m } in
-    let e : filter (λ (y : Raise). same_ring y.ring r) (x ∷ raises) ≡ x ∷ filter (λ (y : Raise). same_ring y.ring r) raises = cond-true (same_ring r r) (x ∷ filter (λ (y : Raise). same_ring y.ring r) raises) (filter (λ (y : Raise). same_ring y.ring r) raises) (ring_itself r r refl) in
+    let e : filter (λ (y : Raise). same_ring y.ring r) (x ∷ raises) ≡ x ∷ filter (λ (y : Raise). same_ring y.ring r)
+    raises = cond-true (same_ring r r) (x ∷ filter (λ (y : Raise). same_ring y.ring r) raises)
+    (filter (λ (y : Raise). same_ring y.ring r) raises) (ring_itself r r refl) in
     let g : raised_to r (x ∷ raises) ≡ max m (raised_to r raises) = ap (λ (ys : List Raise). greatest (map (λ (y : Raise). y.mark) ys)) e in
     regrouped _ _ _ _ g
   where
@@ -89,8 +99,10 @@ mark_with_raise r m turns raises =
 
 -- Keeping
 
-pub kept_turn : {A : Type 0} → (h : TokenHistory A) (v : Turn A) (next aru safe next_after aru_after safe_after : ℕ) → IsKept h next aru safe → v.came.ring ≡ h.ring →
-    next_after ≡ max next (v.came.number + 1) → aru_after ≡ v.went.aru → safe_after ≡ max safe (min aru v.went.aru) → IsKept (with_turn h v) next_after aru_after safe_after
+pub kept_turn : {A : Type 0} → (h : TokenHistory A) (v : Turn A) (next aru safe next_after aru_after safe_after : ℕ)
+    → IsKept h next aru safe → v.came.ring ≡ h.ring →
+    next_after ≡ max next (v.came.number + 1) → aru_after ≡ v.went.aru → safe_after ≡ max safe (min aru v.went.aru)
+    → IsKept (with_turn h v) next_after aru_after safe_after
 kept_turn h v next aru safe next_after aru_after safe_after k e n a s =
     let m = mark_with_turn h.ring v h.turns h.raises e k.turns_in in
     record {
@@ -101,10 +113,12 @@ kept_turn h v next aru safe next_after aru_after safe_after k e n a s =
       safe_is = (let f : aru ≡ last_aru h.turns = k.aru_is in let g : safe ≡ safe_mark h.turns h.raises h.ring = k.safe_is in joined _ _ _ _ _ _ _ s f g m);
     }
   where
-    joined : (after safe aru went last mark more : ℕ) → after ≡ max safe (min aru went) → aru ≡ last → safe ≡ mark → more ≡ max (min went last) mark → after ≡ more
+    joined : (after safe aru went last mark more : ℕ) → after ≡ max safe (min aru went) → aru ≡ last → safe ≡ mark
+        → more ≡ max (min went last) mark → after ≡ more
     joined after safe aru went last mark more s f g m = omega arith
 
-pub kept_raise : {A : Type 0} → (h : TokenHistory A) (mark next aru safe safe_after : ℕ) → IsKept h next aru safe → safe_after ≡ max safe mark → IsKept (with_raise h mark) next aru safe_after
+pub kept_raise : {A : Type 0} → (h : TokenHistory A) (mark next aru safe safe_after : ℕ) → IsKept h next aru safe
+    → safe_after ≡ max safe mark → IsKept (with_raise h mark) next aru safe_after
 kept_raise h mark next aru safe safe_after k s =
     let m = mark_with_raise h.ring mark h.turns h.raises in
     record {

@@ -1,5 +1,6 @@
 -- The smallest numbers of two lists, of which the first ascends, one after another.
-use Rattle.std.proofs.Common.{◌≡◌, ℕ, zero, suc, ◌-◌, ◌<◌, ◌≤◌, List, [], ◌∷◌, ◌++◌, length, take, refl, sym, ap, ◌∙◌, arith, inl, inr, append_assoc, length-append, subst, append-nil, min, Option, Some, None}
+use Rattle.std.proofs.Common.{◌≡◌, ℕ, zero, suc, ◌-◌, ◌<◌, ◌≤◌, List, [], ◌∷◌, ◌++◌, length, take, refl, sym, ap, ◌∙◌}
+use Rattle.std.proofs.Common.{arith, inl, inr, append_assoc, length-append, subst, append-nil, min, Option, Some, None}
 use Rattle.std.specs.Prelude.{nat_lt, ◌==◌, if◌then◌else◌}
 use Rattle.std.specs.List.{AllByRecursion}
 use Rattle.std.specs.List.Sorted.{IsStrictlyIncreasing}
@@ -55,7 +56,8 @@ second_first (x ∷ xs) y ys h = ap (insert_ascending x) (second_first xs y ys h
 put_above : (x y : ℕ) (ys : List ℕ) → x < y → FirstAbove x ys → FirstAbove x (insert_ascending y ys)
 put_above x y [] l h = l
 put_above x y (z ∷ ys) l h =
-    cond_both (nat_lt y z) (y ∷ z ∷ ys) (if y == z then z ∷ ys else z ∷ insert_ascending y ys) (FirstAbove x) (λ e. l) (λ e. cond_both (y == z) (z ∷ ys) (z ∷ insert_ascending y ys) (FirstAbove x) (λ e. h) (λ e. h))
+    cond_both (nat_lt y z) (y ∷ z ∷ ys) (if y == z then z ∷ ys else z ∷ insert_ascending y ys) (FirstAbove x) (λ e. l)
+    (λ e. cond_both (y == z) (z ∷ ys) (z ∷ insert_ascending y ys) (FirstAbove x) (λ e. h) (λ e. h))
 
 both_above : (x : ℕ) (xs ys : List ℕ) → AllAbove x xs → FirstAbove x ys → FirstAbove x (merged xs ys)
 both_above x [] ys h k = k
@@ -110,11 +112,13 @@ take_merged n (x ∷ xs) ys =
 
 -- One number more is taken
 
-pub taken_more : (n x : ℕ) (sofar rest : List ℕ) → length sofar < n → sofar ++ take (n - length sofar) (x ∷ rest) ≡ (sofar ++ x ∷ []) ++ take (n - length (sofar ++ x ∷ [])) rest
+pub taken_more : (n x : ℕ) (sofar rest : List ℕ) → length sofar < n → sofar ++ take (n - length sofar) (x ∷ rest)
+    ≡ (sofar ++ x ∷ []) ++ take (n - length (sofar ++ x ∷ [])) rest
 taken_more n x sofar rest l =
     let e : n - length sofar ≡ suc (n - suc (length sofar)) = omega arith in
     let f : n - length (sofar ++ x ∷ []) ≡ n - suc (length sofar) = omega (arith, length-append sofar (x ∷ [])) in
-    ap (λ m. sofar ++ take m (x ∷ rest)) e ∙ sym (append_assoc sofar (x ∷ []) (take (n - suc (length sofar)) rest)) ∙ ap (λ m. (sofar ++ x ∷ []) ++ take m rest) (sym f)
+    ap (λ m. sofar ++ take m (x ∷ rest)) e ∙ sym (append_assoc sofar (x ∷ []) (take (n - suc (length sofar)) rest))
+    ∙ ap (λ m. (sofar ++ x ∷ []) ++ take m rest) (sym f)
 
 -- The lesser first number is the first of both
 
@@ -147,7 +151,8 @@ right_step : (x y : ℕ) (xs ys : List ℕ) → Ascends (x ∷ xs) → y < x →
 right_step x y xs ys a l =
     let e : after y (x ∷ xs) ≡ x ∷ xs = after_other y x xs (λ q. omega arith) in
     record {
-      is = second_first (x ∷ xs) y ys (second_below x y xs l a.0) ∙ ap (λ k. y ∷ merged k ys) (sym e) ∙ ap (λ k. y ∷ merged (after y (x ∷ xs)) k) (sym (after_same y ys));
+      is = second_first (x ∷ xs) y ys (second_below x y xs l a.0) ∙ ap (λ k. y ∷ merged k ys) (sym e)
+          ∙ ap (λ k. y ∷ merged (after y (x ∷ xs)) k) (sym (after_same y ys));
       ascends = subst Ascends (sym e) a;
     }
 
@@ -162,7 +167,8 @@ step (x ∷ xs) [] n a e =
 step (x ∷ xs) (y ∷ ys) n a e =
     let same : min x y ≡ n = cc in
     elim (cases_lt x y) [
-      | inl l ↦ (let f : x ≡ n = omega arith in subst (λ (m : ℕ). IsStep m (x ∷ xs) (y ∷ ys)) f (left_step x xs (y ∷ ys) a l (after_other x y ys (λ q. omega arith))))
+      | inl l ↦ (let f : x ≡ n = omega arith in subst (λ (m : ℕ). IsStep m (x ∷ xs) (y ∷ ys)) f
+          (left_step x xs (y ∷ ys) a l (after_other x y ys (λ q. omega arith))))
       | inr g ↦ elim (cases_lt y x) [
         | inl l ↦ (let f : y ≡ n = omega arith in subst (λ (m : ℕ). IsStep m (x ∷ xs) (y ∷ ys)) f (right_step x y xs ys a l))
         | inr k ↦ (let f : x ≡ n = omega arith in let h : x ≡ y = omega arith in
@@ -184,7 +190,8 @@ pub record AreTaken (sofar xs ys all : List ℕ) : Type 0 where
   pub ascends : Ascends xs
   pub is : sofar ++ take (32 - length sofar) (merged xs ys) ≡ all
 
-pub taken : (sofar xs ys all : List ℕ) (n : ℕ) → length sofar < 32 → least_first xs ys ≡ Some n → AreTaken sofar xs ys all → AreTaken (sofar ++ n ∷ []) (after n xs) (after n ys) all
+pub taken : (sofar xs ys all : List ℕ) (n : ℕ) → length sofar < 32 → least_first xs ys ≡ Some n
+    → AreTaken sofar xs ys all → AreTaken (sofar ++ n ∷ []) (after n xs) (after n ys) all
 taken sofar xs ys all n l e t =
     let s = step xs ys n t.ascends e in
     record {
@@ -208,7 +215,8 @@ take_nothing (suc n) = refl
 
 pub none_left : (sofar xs ys all : List ℕ) → least_first xs ys ≡ None → AreTaken sofar xs ys all → sofar ≡ all
 none_left sofar xs ys all e t =
-    sym (append-nil sofar) ∙ ap (λ k. sofar ++ k) (sym (take_nothing (32 - length sofar))) ∙ ap (λ k. sofar ++ take (32 - length sofar) k) (sym (nothing_left xs ys e)) ∙ t.is
+    sym (append-nil sofar) ∙ ap (λ k. sofar ++ k) (sym (take_nothing (32 - length sofar)))
+    ∙ ap (λ k. sofar ++ take (32 - length sofar) k) (sym (nothing_left xs ys e)) ∙ t.is
 
 pub begun : (stays missing : List ℕ) → IsStrictlyIncreasing stays → AreTaken [] stays missing (take 32 (merged stays missing))
 begun stays missing h = record { few = omega arith; ascends = ascending stays h; is = refl }

@@ -1,5 +1,8 @@
--- The safe lemma. After a visit that forwarded an aru of at least s, either all fronts since reach s and so does the aru, or the aru is below s and is held back by a member that had its turn since. In the second case nobody else may raise it, so after a whole round it is still below s: where it is not, all fronts reach s.
-use Rattle.std.proofs.Common.{◌≡◌, ℕ, suc, ◌+◌, ◌-◌, ◌<◌, ◌≤◌, min, ◌==◌, ◌⊎◌, inl, inr, Option, Some, List, [], ◌∷◌, ◌++◌, length, length-append, refl, sym, ap, subst, arith, ◌∙◌, eqb-true}
+-- The safe lemma. After a visit that forwarded an aru of at least s, either all fronts since reach s and so does the
+-- aru, or the aru is below s and is held back by a member that had its turn since. In the second case nobody else may
+-- raise it, so after a whole round it is still below s: where it is not, all fronts reach s.
+use Rattle.std.proofs.Common.{◌≡◌, ℕ, suc, ◌+◌, ◌-◌, ◌<◌, ◌≤◌, min, ◌==◌, ◌⊎◌, inl, inr, Option, Some, List, [], ◌∷◌}
+use Rattle.std.proofs.Common.{◌++◌, length, length-append, refl, sym, ap, subst, arith, ◌∙◌, eqb-true}
 use Rattle.std.specs.List.{AllByRecursion}
 use Rattle.std.proofs.lemmas.Bool.{cases_Bool, cases_lt, cond-true, cond-false, cond_both, eqb-false}
 use Rattle.ring_base.specs.Processors.{IsProc, IsMember, size}
@@ -24,7 +27,8 @@ record Lacks (members a n s aru : ℕ) (id : Option ℕ) : Type 0 where
   pub id_is : id ≡ Some (member_of members (a + turn))
 
 -- one more visit
-covered_step : {A : Type 0} → (members a s : ℕ) (v : VisitBy A) (ws : List (VisitBy A)) (t o : Token) → 0 < size members → length ws < size members → v.who ≡ member_of members (a + length ws) → s ≤ o.seq →
+covered_step : {A : Type 0} → (members a s : ℕ) (v : VisitBy A) (ws : List (VisitBy A)) (t o : Token)
+    → 0 < size members → length ws < size members → v.who ≡ member_of members (a + length ws) → s ≤ o.seq →
     Sets v.who v.turn.front o.seq t o.aru o.aru_id ⊎ Stays v.who v.turn.front t o.aru o.aru_id →
     Covered s t.aru ws ⊎ Lacks members a (length ws) s t.aru t.aru_id →
     Covered s o.aru (v ∷ ws) ⊎ Lacks members a (suc (length ws)) s o.aru o.aru_id
@@ -36,26 +40,36 @@ covered_step members a s v ws t o some short who large (inl sets) (inl c) =
 covered_step members a s v ws t o some short who large (inl sets) (inr c) =
     elim (cases_lt v.turn.front s) [
       | inl l ↦ inr (record { aru_below = rw sets.aru_is l; turn = length ws; turn_in = omega arith; id_is = sets.id_is (omega arith) ∙ ap Some who })
-      | inr l ↦ (let other : member_of members (a + c.turn) ≡ v.who → ⊥ = λ e. turns_differ_at members a (length ws) c.turn some c.turn_in short (sym (e ∙ who)) in
+      | inr l ↦ (let other : member_of members (a + c.turn) ≡ v.who → ⊥ = λ e. turns_differ_at members a
+          (length ws) c.turn some c.turn_in short (sym (e ∙ who)) in
           let k : v.turn.front < t.aru = sets.may _ c.id_is other in let b : t.aru < s = c.aru_below in absurd (omega arith))
     ]
 covered_step members a s v ws t o some short who large (inr stays) (inl c) =
-    inl (record { aru_covers = rw stays.aru_is c.aru_covers; fronts = ((let b : t.aru ≤ v.turn.front = stays.below in let q : s ≤ t.aru = c.aru_covers in omega arith), c.fronts) })
+    inl (record {
+      aru_covers = rw stays.aru_is c.aru_covers;
+      fronts = (
+        (let b : t.aru ≤ v.turn.front = stays.below in let q : s ≤ t.aru = c.aru_covers in omega arith),
+        c.fronts,
+      );
+    })
 covered_step members a s v ws t o some short who large (inr stays) (inr c) =
     inr (record { aru_below = rw stays.aru_is c.aru_below; turn = c.turn; turn_in = omega arith; id_is = stays.id_is ∙ c.id_is })
 
 -- what a visit forwards
 
-seq_is : {A : Type 0} → (members : ℕ) (ring : RingId) (v : VisitBy A) (vs : List (VisitBy A)) → IsNext members ring v vs → v.turn.went.seq ≡ v.turn.came.seq + length v.turn.fresh
+seq_is : {A : Type 0} → (members : ℕ) (ring : RingId) (v : VisitBy A) (vs : List (VisitBy A))
+    → IsNext members ring v vs → v.turn.went.seq ≡ v.turn.came.seq + length v.turn.fresh
 seq_is members ring v vs h = ap (λ (t : Token). t.seq) h.goes
 
 step_at : {A : Type 0} → (members : ℕ) (ring : RingId) (v : VisitBy A) (vs : List (VisitBy A)) → IsNext members ring v vs →
-    Sets v.who v.turn.front v.turn.went.seq v.turn.came v.turn.went.aru v.turn.went.aru_id ⊎ Stays v.who v.turn.front v.turn.came v.turn.went.aru v.turn.went.aru_id
+    Sets v.who v.turn.front v.turn.went.seq v.turn.came v.turn.went.aru v.turn.went.aru_id
+    ⊎ Stays v.who v.turn.front v.turn.came v.turn.went.aru v.turn.went.aru_id
 step_at members ring v vs h =
     let aru : v.turn.went.aru ≡ aru_after v.who v.turn.front v.turn.came = ap (λ (t : Token). t.aru) h.goes in
     let seq : v.turn.went.seq ≡ v.turn.came.seq + length v.turn.fresh = seq_is members ring v vs h in
     let id : v.turn.went.aru_id ≡ aru_id_after v.who v.turn.front (v.turn.came.seq + length v.turn.fresh) v.turn.came = ap (λ (t : Token). t.aru_id) h.goes in
-    let id_by_seq : v.turn.went.aru_id ≡ aru_id_after v.who v.turn.front v.turn.went.seq v.turn.came = id ∙ ap (λ n. aru_id_after v.who v.turn.front n v.turn.came) (sym seq) in
+    let id_by_seq : v.turn.went.aru_id ≡ aru_id_after v.who v.turn.front v.turn.went.seq v.turn.came = id
+    ∙ ap (λ n. aru_id_after v.who v.turn.front n v.turn.came) (sym seq) in
     elim (aru_step v.who v.turn.front v.turn.went.seq v.turn.came) [
       | inl s ↦ inl (record { aru_is = aru ∙ s.aru_is; id_is = λ l. id_by_seq ∙ s.id_is l; may = s.may })
       | inr s ↦ inr (record { aru_is = aru ∙ s.aru_is; id_is = id_by_seq ∙ s.id_is; below = s.below; other = s.other })
@@ -73,18 +87,31 @@ aru_within members ring (v ∷ vs) h =
     ]
 
 -- the visits after one that forwarded an aru of s or more
-round : {A : Type 0} → (members : ℕ) (ring : RingId) (s : ℕ) (w : VisitBy A) (zs ws : List (VisitBy A)) → 0 < size members → AreVisits members ring (ws ++ w ∷ zs) → s ≤ w.turn.went.aru → length ws ≤ size members →
-    (s ≤ (arrived ring (ws ++ w ∷ zs)).seq) × (Covered s (arrived ring (ws ++ w ∷ zs)).aru ws ⊎ Lacks members (suc (length zs)) (length ws) s (arrived ring (ws ++ w ∷ zs)).aru (arrived ring (ws ++ w ∷ zs)).aru_id)
-round members ring s w zs [] some h large short = (let q : w.turn.went.aru ≤ w.turn.went.seq = aru_within members ring (w ∷ zs) h in omega arith, inl (record { aru_covers = large; fronts = tt }))
+round : {A : Type 0} → (members : ℕ) (ring : RingId) (s : ℕ) (w : VisitBy A) (zs ws : List (VisitBy A))
+    → 0 < size members → AreVisits members ring (ws ++ w ∷ zs) → s ≤ w.turn.went.aru → length ws ≤ size members →
+    (s ≤ (arrived ring (ws ++ w ∷ zs)).seq) × (Covered s (arrived ring (ws ++ w ∷ zs)).aru ws
+    ⊎ Lacks members (suc (length zs)) (length ws) s (arrived ring (ws ++ w ∷ zs)).aru
+    (arrived ring (ws ++ w ∷ zs)).aru_id)
+round members ring s w zs [] some h large short = (
+  let q : w.turn.went.aru ≤ w.turn.went.seq = aru_within members ring
+      (w ∷ zs) h in omega arith,
+  inl (record { aru_covers = large; fronts = tt }),
+)
 round members ring s w zs (v ∷ ws) some h large short =
     let before = round members ring s w zs ws some h.1 large (omega arith) in
     let seq : s ≤ v.turn.came.seq = rw h.0.comes before.0 in
     let q : v.turn.went.seq ≡ v.turn.came.seq + length v.turn.fresh = seq_is members ring v (ws ++ w ∷ zs) h.0 in
-    let who : v.who ≡ member_of members (suc (length zs) + length ws) = h.0.turn ∙ ap (member_of members) (length-append ws (w ∷ zs) ∙ omega arith) in
-    (omega arith, covered_step members (suc (length zs)) s v ws v.turn.came v.turn.went some (omega arith) who (omega arith) (step_at members ring v (ws ++ w ∷ zs) h.0) (rw h.0.comes before.1))
+    let who : v.who ≡ member_of members (suc (length zs) + length ws) = h.0.turn ∙ ap (member_of members) (length-append ws (w ∷ zs) ∙ omega arith) in (
+      omega arith,
+      covered_step members (suc (length zs)) s v ws v.turn.came v.turn.went some (omega arith) who
+          (omega arith) (step_at members ring v (ws ++ w ∷ zs) h.0) (rw h.0.comes before.1),
+    )
 
 -- the visit j turns above the rest is by that member
-reached : {A : Type 0} → (members : ℕ) (ring : RingId) (s : ℕ) (front : ℕ → ℕ) (rest ws : List (VisitBy A)) → AreVisits members ring (ws ++ rest) → HaveGrown front (ws ++ rest) → AllByRecursion (λ (v : VisitBy A). s ≤ v.turn.front) ws → (j : ℕ) → j < length ws → s ≤ front (member_of members (length rest + j))
+reached : {A : Type 0} → (members : ℕ) (ring : RingId) (s : ℕ) (front : ℕ → ℕ) (rest ws : List (VisitBy A))
+    → AreVisits members ring (ws ++ rest) → HaveGrown front (ws ++ rest)
+    → AllByRecursion (λ (v : VisitBy A). s ≤ v.turn.front) ws → (j : ℕ) → j < length ws
+    → s ≤ front (member_of members (length rest + j))
 reached members ring s front rest [] h k f j l = absurd (omega arith)
 reached members ring s front rest (v ∷ ws) h k f j l =
     elim (cases_lt j (length ws)) [
@@ -96,7 +123,9 @@ reached members ring s front rest (v ∷ ws) h k f j l =
           subst (λ n. s ≤ front n) who r)
     ]
 
-none_at : {A : Type 0} → (members : ℕ) (ring : RingId) (i : ℕ) (rest ys : List (VisitBy A)) → AreVisits members ring (ys ++ rest) → AllByRecursion (λ (y : VisitBy A). y.who ≡ i → ⊥) ys → (j : ℕ) → j < length ys → member_of members (length rest + j) ≡ i → ⊥
+none_at : {A : Type 0} → (members : ℕ) (ring : RingId) (i : ℕ) (rest ys : List (VisitBy A)) → AreVisits members ring
+    (ys ++ rest) → AllByRecursion (λ (y : VisitBy A). y.who ≡ i → ⊥) ys → (j : ℕ) → j < length ys → member_of members
+    (length rest + j) ≡ i → ⊥
 none_at members ring i rest [] h f j l e = absurd (omega arith)
 none_at members ring i rest (v ∷ ys) h f j l e =
     elim (cases_lt j (length ys)) [
@@ -105,7 +134,10 @@ none_at members ring i rest (v ∷ ys) h f j l e =
     ]
 
 -- where both of two visits of a member, one round apart, forwarded s or more, each member reaches it
-pair_safe : {A : Type 0} → (members : ℕ) (ring : RingId) (s : ℕ) (front : ℕ → ℕ) (v w : VisitBy A) (ys zs : List (VisitBy A)) → 0 < size members → AreVisits members ring (v ∷ ys ++ w ∷ zs) → HaveGrown front (v ∷ ys ++ w ∷ zs) → suc (length ys) ≡ size members → s ≤ w.turn.went.aru → s ≤ v.turn.went.aru → (p : ℕ) → IsProc p → IsMember members p → s ≤ front p
+pair_safe : {A : Type 0} → (members : ℕ) (ring : RingId) (s : ℕ) (front : ℕ → ℕ) (v w : VisitBy A)
+    (ys zs : List (VisitBy A)) → 0 < size members → AreVisits members ring (v ∷ ys ++ w ∷ zs)
+    → HaveGrown front (v ∷ ys ++ w ∷ zs) → suc (length ys) ≡ size members → s ≤ w.turn.went.aru → s ≤ v.turn.went.aru
+    → (p : ℕ) → IsProc p → IsMember members p → s ≤ front p
 pair_safe members ring s front v w ys zs some h k whole old new p proc m =
     let r = turns_reach members (suc (length zs)) p proc m in
     elim (round members ring s w zs (v ∷ ys) some h old (omega arith)).1 [
@@ -131,27 +163,43 @@ found i b rest (v ∷ vs) e =
           record { newer = []; visit = v; older = vs; parts = refl; who = eqb-true _ _ t; aru = cc; others = tt })
       | inr t ↦ (let q : forwarded_by i vs ≡ b ∷ rest = sym (cond-false _ _ _ t) ∙ e in
           let r = found i b rest vs q in
-          record { newer = v ∷ r.newer; visit = r.visit; older = r.older; parts = ap (λ l. v ∷ l) r.parts; who = r.who; aru = r.aru; others = (eqb-false _ _ t, r.others) })
+          record {
+            newer = v ∷ r.newer;
+            visit = r.visit;
+            older = r.older;
+            parts = ap (λ l. v ∷ l) r.parts;
+            who = r.who;
+            aru = r.aru;
+            others = (eqb-false _ _ t, r.others);
+          })
     ]
 
-older_turn : {A : Type 0} → (members : ℕ) (ring : RingId) (w : VisitBy A) (ys zs : List (VisitBy A)) → AreVisits members ring (ys ++ w ∷ zs) → w.who ≡ member_of members (length zs)
+older_turn : {A : Type 0} → (members : ℕ) (ring : RingId) (w : VisitBy A) (ys zs : List (VisitBy A))
+    → AreVisits members ring (ys ++ w ∷ zs) → w.who ≡ member_of members (length zs)
 older_turn members ring w [] zs h = h.0.turn
 older_turn members ring w (y ∷ ys) zs h = older_turn members ring w ys zs h.1
 
 -- and it is one round before
-round_between : {A : Type 0} → (members : ℕ) (ring : RingId) (i : ℕ) (v w : VisitBy A) (ys zs : List (VisitBy A)) → 0 < size members → AreVisits members ring (v ∷ ys ++ w ∷ zs) → v.who ≡ i → w.who ≡ i → AllByRecursion (λ (y : VisitBy A). y.who ≡ i → ⊥) ys → suc (length ys) ≡ size members
+round_between : {A : Type 0} → (members : ℕ) (ring : RingId) (i : ℕ) (v w : VisitBy A) (ys zs : List (VisitBy A))
+    → 0 < size members → AreVisits members ring (v ∷ ys ++ w ∷ zs) → v.who ≡ i → w.who ≡ i
+    → AllByRecursion (λ (y : VisitBy A). y.who ≡ i → ⊥) ys → suc (length ys) ≡ size members
 round_between members ring i v w ys zs some h mine its others =
-    let at_v : member_of members (length zs + suc (length ys)) ≡ i = ap (member_of members) (omega arith ∙ sym (length-append ys (w ∷ zs))) ∙ sym h.0.turn ∙ mine in
+    let at_v : member_of members (length zs + suc (length ys)) ≡ i = ap (member_of members)
+    (omega arith ∙ sym (length-append ys (w ∷ zs))) ∙ sym h.0.turn ∙ mine in
     let at_w : member_of members (length zs) ≡ i = sym (older_turn members ring w ys zs h.1) ∙ its in
     elim (cases_lt (suc (length ys)) (size members)) [
       | inl l ↦ absurd (turns_differ members (length zs) (suc (length ys)) some (omega arith) l (at_v ∙ sym at_w))
       | inr l ↦ elim (cases_lt (size members) (suc (length ys))) [
-        | inl k ↦ absurd (none_at members ring i (w ∷ zs) ys h.1 others (size members - 1) (omega arith) (ap (member_of members) (omega arith) ∙ turns_return members (length zs) ∙ at_w))
+        | inl k ↦ absurd (none_at members ring i (w ∷ zs) ys h.1 others (size members - 1) (omega arith)
+            (ap (member_of members) (omega arith) ∙ turns_return members (length zs) ∙ at_w))
         | inr k ↦ omega arith
       ]
     ]
 
-safe_from : {A : Type 0} → (members : ℕ) (ring : RingId) (front : ℕ → ℕ) (i p : ℕ) (v : VisitBy A) (vs : List (VisitBy A)) → 0 < size members → IsProc p → IsMember members p → AreVisits members ring (v ∷ vs) → HaveGrown front (v ∷ vs) → v.who ≡ i → (fs : List ℕ) → forwarded_by i vs ≡ fs → mark_by fs ≤ front p → mark_after v.turn.went.aru fs ≤ front p
+safe_from : {A : Type 0} → (members : ℕ) (ring : RingId) (front : ℕ → ℕ) (i p : ℕ) (v : VisitBy A)
+    (vs : List (VisitBy A)) → 0 < size members → IsProc p → IsMember members p → AreVisits members ring (v ∷ vs)
+    → HaveGrown front (v ∷ vs) → v.who ≡ i → (fs : List ℕ) → forwarded_by i vs ≡ fs → mark_by fs ≤ front p
+    → mark_after v.turn.went.aru fs ≤ front p
 safe_from members ring front i p v vs some proc m h k who [] e ih = omega arith
 safe_from {A} members ring front i p v vs some proc m h k who (b ∷ rest) e ih =
     let w = found i b rest vs e in
@@ -159,7 +207,8 @@ safe_from {A} members ring front i p v vs some proc m h k who (b ∷ rest) e ih 
     let k' : HaveGrown front (v ∷ w.newer ++ w.visit ∷ w.older) = subst (λ (us : List (VisitBy A)). HaveGrown front (v ∷ us)) w.parts k in
     let whole = round_between members ring i v w.visit w.newer w.older some h' who w.who w.others in
     let a : w.visit.turn.went.aru ≡ b = w.aru in
-    let q : min v.turn.went.aru b ≤ front p = pair_safe members ring (min v.turn.went.aru b) front v w.visit w.newer w.older some h' k' whole (omega arith) (omega arith) p proc m in
+    let q : min v.turn.went.aru b ≤ front p = pair_safe members ring (min v.turn.went.aru b)
+    front v w.visit w.newer w.older some h' k' whole (omega arith) (omega arith) p proc m in
     omega arith
 
 -- what a processor's safe mark covers, each member reaches
@@ -175,7 +224,9 @@ marks_safe members ring (v ∷ vs) front some h k i p proc m =
 pair_marked : (newer older : List ℕ) (later earlier : ℕ) → min later earlier ≤ mark_by (newer ++ later ∷ earlier ∷ older)
 pair_marked [] older later earlier = omega arith
 pair_marked (a ∷ []) older later earlier = omega arith
-pair_marked (a ∷ b ∷ newer) older later earlier = (let q : min later earlier ≤ mark_by (b ∷ newer ++ later ∷ earlier ∷ older) = pair_marked (b ∷ newer) older later earlier in omega arith)
+pair_marked (a ∷ b ∷ newer) older later earlier =
+    (let q : min later earlier ≤ mark_by (b ∷ newer ++ later ∷ earlier ∷ older) = pair_marked
+    (b ∷ newer) older later earlier in omega arith)
 
 pub pairs_safe : {A : Type 0} → PairsAreSafe A
 pairs_safe members ring visits front some h k i s later earlier newer older e l m p proc member =

@@ -1,4 +1,5 @@
--- What a member did with the tokens of one ring, as contracts see it, and what its code keeps of that: Token and window, rules 3, 6, 7 and 10 of docs/PROTOCOL.md.
+-- What a member did with the tokens of one ring, as contracts see it, and what its code keeps of that: Token and
+-- window, rules 3, 6, 7 and 10 of docs/PROTOCOL.md.
 use Rattle.std.specs.Prelude.{◌≡◌, ℕ, suc, max, List, [], ◌∷◌, length}
 use Rattle.std.specs.List.{AllByRecursion}
 use Rattle.ring_base.specs.declared.ring_id.RingId.{RingId}

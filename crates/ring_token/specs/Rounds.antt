@@ -17,7 +17,8 @@ abbrev pub arrived : {A : Type 0} → RingId → List (VisitBy A) → Token
 arrived ring [] = first_token ring
 arrived ring (v ∷ vs) = v.turn.went
 
--- a visit is the next after these: of the token as it was sent on, by the member whose turn it is, and by the rules of a visit; no number above the token's seq is held after it
+-- a visit is the next after these: of the token as it was sent on, by the member whose turn it is, and by the rules of
+-- a visit; no number above the token's seq is held after it
 pub record IsNext {A : Type 0} (members : ℕ) (ring : RingId) (v : VisitBy A) (vs : List (VisitBy A)) : Type 0 where
   pub comes : v.turn.came ≡ arrived ring vs
   pub turn : v.who ≡ at members (length vs % size members)
@@ -52,4 +53,5 @@ MarksAreSafe A =
 abbrev pub PairsAreSafe : Type 0 → Type 0
 PairsAreSafe A =
     (members : ℕ) (ring : RingId) (visits : List (VisitBy A)) (front : ℕ → ℕ) → 0 < size members → AreVisits members ring visits → HaveGrown front visits →
-    (i s later earlier : ℕ) (newer older : List ℕ) → forwarded_by i visits ≡ newer ++ later ∷ earlier ∷ older → s ≤ later → s ≤ earlier → IsSafeIn members front s
+    (i s later earlier : ℕ) (newer older : List ℕ) → forwarded_by i visits ≡ newer ++ later ∷ earlier ∷ older
+    → s ≤ later → s ≤ earlier → IsSafeIn members front s

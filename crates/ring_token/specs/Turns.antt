@@ -1,4 +1,5 @@
--- The visits of the token that a node took, which tokens it accepts, and how far that makes a ring safe: Token and window, rules 3, 6 and 10 of docs/PROTOCOL.md.
+-- The visits of the token that a node took, which tokens it accepts, and how far that makes a ring safe: Token and
+-- window, rules 3, 6 and 10 of docs/PROTOCOL.md.
 use Rattle.std.specs.Prelude.{ℕ, min, max, Bool, ◌&&◌, nat_lt, nat_le, List, [], ◌∷◌, map, filter, None}
 use Rattle.std.specs.List.{list_all}
 use Rattle.ring_base.specs.Rings.{same_ring}

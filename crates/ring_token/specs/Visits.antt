@@ -1,4 +1,5 @@
--- One visit of the token, in its order: Token and window, rules 7 to 9 of docs/PROTOCOL.md. What was asked for, what is new, how far all hold, and what is asked for now.
+-- One visit of the token, in its order: Token and window, rules 7 to 9 of docs/PROTOCOL.md. What was asked for, what is
+-- new, how far all hold, and what is asked for now.
 use Rattle.std.specs.Prelude.{ℕ, suc, ◌+◌, ◌-◌, min, Bool, true, not, ◌&&◌, ◌||◌, ◌==◌, nat_lt, if◌then◌else◌, List, [], ◌∷◌, filter, take, Option, Some, None}
 use Rattle.ring_base.specs.Numbers.{window_size, visit_limit, max_number, merged}
 use Rattle.ring_base.specs.declared.ring_id.RingId.{RingId}

@@ -18,11 +18,13 @@ all_decides {X} p P d (x ∷ xs) =
     there h y (inl e) = subst P (sym e) h.0
     there h y (inr k) = h.1 y k
 
-pub each_decides : {X : Type 0} (p : X → Bool) (P : X → Type 0) → ((x : X) → Decides (p x) (P x)) → (xs : List X) → Decides (list_all p xs) (AllByRecursion P xs)
+pub each_decides : {X : Type 0} (p : X → Bool) (P : X → Type 0) → ((x : X) → Decides (p x) (P x)) → (xs : List X)
+    → Decides (list_all p xs) (AllByRecursion P xs)
 each_decides p P d [] = (λ h. tt, λ f. refl)
 each_decides p P d (x ∷ xs) = Decides-like (p x && list_all p xs) (λ h. h) (λ h. h) (Decides-and (p x) (list_all p xs) (d x) (each_decides p P d xs))
 
-pub in_decides : {X : Type 0} (same : X → X → Bool) → ((a b : X) → Decides (same a b) (a ≡ b)) → (x : X) (ys : List X) → Decides (list_any (same x) ys) (IsIn x ys)
+pub in_decides : {X : Type 0} (same : X → X → Bool) → ((a b : X) → Decides (same a b) (a ≡ b)) → (x : X) (ys : List X)
+    → Decides (list_any (same x) ys) (IsIn x ys)
 in_decides same d x [] = (λ h. absurd (false≢true h), λ i. absurd i)
 in_decides same d x (y ∷ ys) = Decides-or (same x y) (list_any (same x) ys) (d x y) (in_decides same d x ys)
 
@@ -40,7 +42,9 @@ in_numbers i first (suc count) a b =
 pub numbers_in : (i first count : ℕ) → IsIn i (numbers_from first count) → (first ≤ i) × (i < first + count)
 numbers_in i first zero h = absurd h
 numbers_in i first (suc count) (inl e) = (omega (arith, e), omega (arith, e))
-numbers_in i first (suc count) (inr h) = (let r = numbers_in i (suc first) count h in let a : suc first ≤ i = r.0 in let b : i < suc first + count = r.1 in (omega (arith, a), omega (arith, b)))
+numbers_in i first (suc count) (inr h) =
+    (let r = numbers_in i (suc first) count h in let a : suc first ≤ i = r.0 in let b : i < suc first
+    + count = r.1 in (omega (arith, a), omega (arith, b)))
 
 pub nodes_decide : (n : ℕ) (p : ℕ → Bool) (P : ℕ → Type 0) → ((i : ℕ) → Decides (p i) (P i)) →
     Decides (list_all p (numbers_from 1 n)) ((i : ℕ) → (nat_le 1 i && nat_le i n) ≡ true → P i)

@@ -13,7 +13,9 @@ use Rattle.ring_payload.specs.declared.calls.Part.{Part as OnePart}
 use Rattle.ring_payload.specs.declared.head.Head.{Head as OneHead}
 use Rattle.ring_payload.specs.declared.snap.Snap.{Snap as OneSnap}
 use Rattle.ring_payload.specs.declared.content.Content.{Content}
-use Rattle.ring_payload.specs.declared.content.Content.TheVariants.{Call as CallContent, Head as HeadContent, Part as PartContent, Pack as PackContent, Snap as SnapContent}
+use Rattle.ring_payload.specs.declared.content.Content.TheVariants.{Call as CallContent, Head as HeadContent}
+use Rattle.ring_payload.specs.declared.content.Content.TheVariants.{Part as PartContent, Pack as PackContent}
+use Rattle.ring_payload.specs.declared.content.Content.TheVariants.{Snap as SnapContent}
 use Rattle.ring_payload.specs.declared.content.Payload.{Payload}
 use Rattle.ring_payload.specs.declared.content.Payload.TheVariants.{Call, Wrapped, End, Head, Part, Pack, Snap}
 use Rattle.ring_payload.specs.declared.content.Wrapped.{Wrapped as WrappedMessage}
@@ -76,7 +78,8 @@ part_decides a b =
     (λ p i. record { first = p.0 i; calls = p.1 i }) (λ e. (ap (λ (h : OnePart _). h.first) e, ap (λ (h : OnePart _). h.calls) e))
 
 pack_decides : {A : Type 0} → (a b : OnePack A) → Decides (same_calls a.calls b.calls) (a ≡ b)
-pack_decides a b = Decides-like (same_calls a.calls b.calls) (λ p i. record { calls = p i }) (λ e. ap (λ (h : OnePack _). h.calls) e) (calls_decide a.calls b.calls)
+pack_decides a b = Decides-like (same_calls a.calls b.calls) (λ p i. record { calls = p i })
+    (λ e. ap (λ (h : OnePack _). h.calls) e) (calls_decide a.calls b.calls)
 
 snap_decides : {A : Type 0} → (a b : OneSnap A) → Decides (same_snap a b) (a ≡ b)
 snap_decides a b =
@@ -100,7 +103,13 @@ wrapped_decides a b =
     (Decides-and (a.number == b.number) ((a.sender == b.sender) && same_content a.payload b.payload) (Decides-eqb a.number b.number)
     (Decides-and (a.sender == b.sender) (same_content a.payload b.payload) (Decides-eqb a.sender b.sender) (content_decides a.payload b.payload)))
     (λ p i. record { ring = p.0 i; number = p.1.0 i; sender = p.1.1.0 i; payload = p.1.1.1 i })
-    (λ e. (ap (λ (h : WrappedMessage _). h.ring) e, (ap (λ (h : WrappedMessage _). h.number) e, (ap (λ (h : WrappedMessage _). h.sender) e, ap (λ (h : WrappedMessage _). h.payload) e))))
+    (λ e. (
+      ap (λ (h : WrappedMessage _). h.ring) e,
+      (
+        ap (λ (h : WrappedMessage _). h.number) e,
+        (ap (λ (h : WrappedMessage _). h.sender) e, ap (λ (h : WrappedMessage _). h.payload) e),
+      ),
+    ))
 
 payload_decides : {A : Type 0} → (a b : Payload A) → Decides (same_payload a b) (a ≡ b)
 payload_decides (Call a) (Call b) = through Call (same_call a b) a b (call_decides a b) (λ e. cc)
@@ -125,9 +134,19 @@ messages_decide xs ys = pointwise_decides message_decides xs ys
 
 pub change_decides : {A : Type 0} → (a b : Change A) → Decides (same_change a b) (a ≡ b)
 change_decides a b =
-    both (same_configuration a.old b.old) (same_messages a.regular b.regular && ((a.mates == b.mates) && (same_messages a.rest b.rest && same_configuration a.new b.new))) (configuration_decides a.old b.old)
-    (Decides-and (same_messages a.regular b.regular) ((a.mates == b.mates) && (same_messages a.rest b.rest && same_configuration a.new b.new)) (messages_decide a.regular b.regular)
+    both (same_configuration a.old b.old)
+    (same_messages a.regular b.regular && ((a.mates == b.mates)
+    && (same_messages a.rest b.rest && same_configuration a.new b.new))) (configuration_decides a.old b.old)
+    (Decides-and (same_messages a.regular b.regular)
+    ((a.mates == b.mates) && (same_messages a.rest b.rest && same_configuration a.new b.new))
+    (messages_decide a.regular b.regular)
     (Decides-and (a.mates == b.mates) (same_messages a.rest b.rest && same_configuration a.new b.new) (Decides-eqb a.mates b.mates)
     (Decides-and (same_messages a.rest b.rest) (same_configuration a.new b.new) (messages_decide a.rest b.rest) (configuration_decides a.new b.new))))
     (λ p i. record { old = p.0 i; regular = p.1.0 i; mates = p.1.1.0 i; rest = p.1.1.1.0 i; new = p.1.1.1.1 i })
-    (λ e. (ap (λ (h : Change _). h.old) e, (ap (λ (h : Change _). h.regular) e, (ap (λ (h : Change _). h.mates) e, (ap (λ (h : Change _). h.rest) e, ap (λ (h : Change _). h.new) e)))))
+    (λ e. (
+      ap (λ (h : Change _). h.old) e,
+      (
+        ap (λ (h : Change _). h.regular) e,
+        (ap (λ (h : Change _). h.mates) e, (ap (λ (h : Change _). h.rest) e, ap (λ (h : Change _). h.new) e)),
+      ),
+    ))

@@ -1,5 +1,6 @@
 -- Each fact of virtual synchrony is decided by its test.
-use Rattle.std.proofs.Common.{◌≡◌, ℕ, zero, suc, ◌<◌, ◌≤◌, inl, inr, Bool, true, false, ◌&&◌, ◌==◌, List, [], ◌∷◌, length, map, Option, Some, None, refl, ap, sym, ◌∙◌, subst, arith}
+use Rattle.std.proofs.Common.{◌≡◌, ℕ, zero, suc, ◌<◌, ◌≤◌, inl, inr, Bool, true, false, ◌&&◌, ◌==◌, List, [], ◌∷◌}
+use Rattle.std.proofs.Common.{length, map, Option, Some, None, refl, ap, sym, ◌∙◌, subst, arith}
 use Rattle.std.specs.Prelude.{nat_le, nat_lt, filter, find, Contains, slice_index_or}
 use Rattle.std.specs.Bool.{Decides}
 use Rattle.std.specs.List.{list_all, list_any, prefix_len}
@@ -22,10 +23,16 @@ use Rattle.ring_moves.specs.Texts.{HasOneText, held_by, text_of}
 use Rattle.ring_moves.specs.Lives.{Stage, InRegular, InTransitional, is_well_told, delivered_in}
 use Rattle.ring_moves.specs.CommitRounds.{all_pairs, is_above}
 use Rattle.ring_moves.proofs.Lists.{in-left, in-right, in-parts, find-in}
-use Rattle.ring_views.specs.Changes.{IsNode, stages_in, agreed_of, deliveries_of, users_upto, regulars_of, members_in, alternate, Change, changes_in, delivered_by}
-use Rattle.ring_views.specs.Synchrony.{IsBefore, Ascend, HasSameText, IsSafelyDelivered, DeliversSafely, DeliversAlike, HasConfigurations, DeliversOwn, IsVirtuallySynchronous}
+use Rattle.ring_views.specs.Changes.{IsNode, stages_in, agreed_of, deliveries_of, users_upto, regulars_of, members_in}
+use Rattle.ring_views.specs.Changes.{alternate, Change, changes_in, delivered_by}
+use Rattle.ring_views.specs.Synchrony.{IsBefore, Ascend, HasSameText, IsSafelyDelivered, DeliversSafely, DeliversAlike}
+use Rattle.ring_views.specs.Synchrony.{HasConfigurations, DeliversOwn, IsVirtuallySynchronous}
 use Rattle.ring_views.specs.Same.{same_message}
-use Rattle.ring_views.specs.Tests.{of_all, has_message, same_configuration, all_held, is_found, has_one_text, with_ring, rings_held, rings_in, agrees_with_text, agrees_with_texts, rests_in_text, is_before, is_within_front, has_same_text, delivers_of, is_safely_delivered, is_safe_stage, delivers_safely, same_change, are_alike, delivers_alike, has_configurations, have_configurations, is_own_among, delivers_own, is_virtually_synchronous}
+use Rattle.ring_views.specs.Tests.{of_all, has_message, same_configuration, all_held, is_found, has_one_text, with_ring}
+use Rattle.ring_views.specs.Tests.{rings_held, rings_in, agrees_with_text, agrees_with_texts, rests_in_text, is_before}
+use Rattle.ring_views.specs.Tests.{is_within_front, has_same_text, delivers_of, is_safely_delivered, is_safe_stage}
+use Rattle.ring_views.specs.Tests.{delivers_safely, same_change, are_alike, delivers_alike, has_configurations}
+use Rattle.ring_views.specs.Tests.{have_configurations, is_own_among, delivers_own, is_virtually_synchronous}
 use Rattle.ring_views.proofs.Same.{ring_decides, configuration_decides, message_decides, messages_decide, change_decides}
 use Rattle.ring_views.proofs.Quantified.{all_decides, each_decides, in_decides, when_decides, nodes_decide}
 
@@ -66,14 +73,18 @@ in_filter p x (y ∷ xs) h =
 
 pub filter_in : {X : Type 0} (p : X → Bool) (x : X) (xs : List X) → IsIn x xs → p x ≡ true → IsIn x (filter p xs)
 filter_in p x [] h t = absurd h
-filter_in p x (y ∷ xs) (inl e) t = cond_both (p y) (y ∷ filter p xs) (filter p xs) (λ ys. IsIn x ys) (λ k. inl e) (λ k. absurd (false≢true (sym k ∙ subst (λ z. p z ≡ true) e t)))
-filter_in p x (y ∷ xs) (inr h) t = cond_both (p y) (y ∷ filter p xs) (filter p xs) (λ ys. IsIn x ys) (λ k. inr (filter_in p x xs h t)) (λ k. filter_in p x xs h t)
+filter_in p x (y ∷ xs) (inl e) t = cond_both (p y) (y ∷ filter p xs) (filter p xs) (λ ys. IsIn x ys) (λ k. inl e)
+    (λ k. absurd (false≢true (sym k ∙ subst (λ z. p z ≡ true) e t)))
+filter_in p x (y ∷ xs) (inr h) t = cond_both (p y) (y ∷ filter p xs) (filter p xs) (λ ys. IsIn x ys)
+    (λ k. inr (filter_in p x xs h t)) (λ k. filter_in p x xs h t)
 
-text_held : {A : Type 0} → (cores : ℕ → Core A) (ring : RingId) (is : List ℕ) (x : Message A) → IsIn x (held_by cores ring is) → IsIn x (all_held cores is) × (x.ring ≡ ring)
+text_held : {A : Type 0} → (cores : ℕ → Core A) (ring : RingId) (is : List ℕ) (x : Message A)
+    → IsIn x (held_by cores ring is) → IsIn x (all_held cores is) × (x.ring ≡ ring)
 text_held cores ring [] x h = absurd h
 text_held {A} cores ring (i ∷ is) x h =
     elim (in-parts x (of_ring ring (cores i).held) (held_by cores ring is) h) [
-      | inl here ↦ (let f = in_filter (λ (y : Message A). same_ring y.ring ring) x (cores i).held here in (in-left x (cores i).held (all_held cores is) f.0, ring_same x.ring ring f.1))
+      | inl here ↦ (let f = in_filter (λ (y : Message A). same_ring y.ring ring) x
+          (cores i).held here in (in-left x (cores i).held (all_held cores is) f.0, ring_same x.ring ring f.1))
       | inr there ↦ (let r = text_held cores ring is x there in (in-right x (cores i).held (all_held cores is) r.0, r.1))
     ]
 
@@ -81,7 +92,8 @@ held_text : {A : Type 0} → (cores : ℕ → Core A) (is : List ℕ) (x : Messa
 held_text cores [] x h = absurd h
 held_text {A} cores (i ∷ is) x h =
     elim (in-parts x (cores i).held (all_held cores is) h) [
-      | inl here ↦ in-left x (of_ring x.ring (cores i).held) (held_by cores x.ring is) (filter_in (λ (y : Message A). same_ring y.ring x.ring) x (cores i).held here (same-self x.ring))
+      | inl here ↦ in-left x (of_ring x.ring (cores i).held) (held_by cores x.ring is)
+          (filter_in (λ (y : Message A). same_ring y.ring x.ring) x (cores i).held here (same-self x.ring))
       | inr there ↦ in-right x (of_ring x.ring (cores i).held) (held_by cores x.ring is) (held_text cores is x there)
     ]
 
@@ -99,7 +111,8 @@ module _ {A : Type 0} (w : World A) where
   abbrev everything : List (Message A)
   everything = all_held w.cores (numbers_from 1 w.total)
 
-  one : ((x : Message A) → IsIn x everything → found everything x.ring x.number ≡ Some x) → (ring : RingId) (x y : Message A) → IsIn x everything × (x.ring ≡ ring) →
+  one : ((x : Message A) → IsIn x everything → found everything x.ring x.number ≡ Some x)
+      → (ring : RingId) (x y : Message A) → IsIn x everything × (x.ring ≡ ring) →
       IsIn y everything × (y.ring ≡ ring) → x.number ≡ y.number → x ≡ y
   one h ring x y hx hy e =
       let a : found everything ring x.number ≡ Some x = subst (λ r. found everything r x.number ≡ Some x) hx.1 (h x hx.0) in
@@ -114,17 +127,25 @@ module _ {A : Type 0} (w : World A) where
       let g = find-in (is_numbered x.ring x.number) s.0 everything s.1 in
       let parts = and_parts (same_ring (s.0).ring x.ring) ((s.0).number == x.number) g.1 in
       let same_name : (s.0).ring ≡ x.ring = ring_same (s.0).ring x.ring parts.0 in
-      let there : IsIn s.0 (held_by w.cores x.ring (numbers_from 1 w.total)) = subst (λ r. IsIn s.0 (held_by w.cores r (numbers_from 1 w.total))) same_name (held_text w.cores (numbers_from 1 w.total) s.0 g.0) in
-      let e : s.0 ≡ x = f x.ring s.0 x (in-contains (text_of w x.ring) s.0 there) (in-contains (text_of w x.ring) x (held_text w.cores (numbers_from 1 w.total) x i)) ((Decides-eqb (s.0).number x.number).0 parts.1) in
+      let there : IsIn s.0 (held_by w.cores x.ring (numbers_from 1 w.total)) =
+      subst (λ r. IsIn s.0 (held_by w.cores r (numbers_from 1 w.total))) same_name
+      (held_text w.cores (numbers_from 1 w.total) s.0 g.0) in
+      let e : s.0 ≡ x = f x.ring s.0 x (in-contains (text_of w x.ring) s.0 there)
+      (in-contains (text_of w x.ring) x (held_text w.cores (numbers_from 1 w.total) x i))
+      ((Decides-eqb (s.0).number x.number).0 parts.1) in
       s.1 ∙ ap Some e
 
   one_text_decides : Decides (has_one_text w) ((ring : RingId) → HasOneText w ring)
   one_text_decides =
       let nodes = numbers_from 1 w.total in
       Decides-like (has_one_text w)
-      (λ h ring x y hx hy e. one h ring x y (text_held w.cores ring nodes x (contains-in (text_of w ring) hx.0 x hx.1 hx.2)) (text_held w.cores ring nodes y (contains-in (text_of w ring) hy.0 y hy.1 hy.2)) e)
+      (λ h ring x y hx hy e. one h ring x y
+      (text_held w.cores ring nodes x (contains-in (text_of w ring) hx.0 x hx.1 hx.2))
+      (text_held w.cores ring nodes y (contains-in (text_of w ring) hy.0 y hy.1 hy.2)) e)
       (λ f x i. first f x i)
-      (all_decides (λ (x : Message A). is_found x (found everything x.ring x.number)) (λ (x : Message A). found everything x.ring x.number ≡ Some x) (λ x. found_decides x (found everything x.ring x.number)) everything)
+      (all_decides (λ (x : Message A). is_found x (found everything x.ring x.number))
+      (λ (x : Message A). found everything x.ring x.number ≡ Some x)
+      (λ x. found_decides x (found everything x.ring x.number)) everything)
 
 -- What was agreed: of a ring that a processor was neither told of nor holds a message of, nothing was
 
@@ -132,7 +153,8 @@ with_more : (r ring : RingId) (rings : List RingId) → IsIn r rings → IsIn r 
 with_more r ring rings h = cond_both (list_any (same_ring ring) rings) rings (ring ∷ rings) (IsIn r) (λ e. h) (λ e. inr h)
 
 with_it : (ring : RingId) (rings : List RingId) → IsIn ring (with_ring ring rings)
-with_it ring rings = cond_both (list_any (same_ring ring) rings) rings (ring ∷ rings) (IsIn ring) (λ e. (in_decides same_ring ring_decides ring rings).0 e) (λ e. inl refl)
+with_it ring rings = cond_both (list_any (same_ring ring) rings) rings (ring ∷ rings) (IsIn ring)
+    (λ e. (in_decides same_ring ring_decides ring rings).0 e) (λ e. inl refl)
 
 rings_told : {A : Type 0} → (xs : List (Message A)) (r : RingId) (rings : List RingId) → IsIn r rings → IsIn r (rings_held xs rings)
 rings_told [] r rings h = h
@@ -140,7 +162,9 @@ rings_told (x ∷ xs) r rings h = with_more r x.ring (rings_held xs rings) (ring
 
 rings_of_held : {A : Type 0} → (xs : List (Message A)) (x : Message A) (rings : List RingId) → IsIn x xs → IsIn x.ring (rings_held xs rings)
 rings_of_held [] x rings h = absurd h
-rings_of_held {A} (y ∷ xs) x rings (inl e) = subst (λ (z : Message A). IsIn z.ring (with_ring y.ring (rings_held xs rings))) (sym e) (with_it y.ring (rings_held xs rings))
+rings_of_held {A} (y ∷ xs) x rings (inl e) =
+    subst (λ (z : Message A). IsIn z.ring (with_ring y.ring (rings_held xs rings))) (sym e)
+    (with_it y.ring (rings_held xs rings))
 rings_of_held (y ∷ xs) x rings (inr h) = with_more x.ring y.ring (rings_held xs rings) (rings_of_held xs x rings h)
 
 abbrev ring_names : {A : Type 0} → List (Stage A) → List RingId
@@ -170,9 +194,12 @@ module _ {A : Type 0} (w : World A) (i : ℕ) where
 
   unknown : (ring : RingId) → (IsIn ring (rings_in w i) → ⊥) → Agrees ring
   unknown ring h =
-      let a : agreed_of ring (stages_in w i) ≡ [] = none_agreed ring (stages_in w i) (λ k. h (rings_told (w.cores i).held ring (ring_names (stages_in w i)) k)) in
+      let a : agreed_of ring (stages_in w i) ≡ [] = none_agreed ring (stages_in w i)
+      (λ k. h (rings_told (w.cores i).held ring (ring_names (stages_in w i)) k)) in
       let b : front (w.cores i) ring ≡ 0 =
-      no_front ring (w.cores i).held (none_held ring (w.cores i).held (λ x k e. h (subst (λ r. IsIn r (rings_in w i)) e (rings_of_held (w.cores i).held x (ring_names (stages_in w i)) k)))) in
+      no_front ring (w.cores i).held (none_held ring (w.cores i).held
+      (λ x k e. h (subst (λ r. IsIn r (rings_in w i)) e
+      (rings_of_held (w.cores i).held x (ring_names (stages_in w i)) k)))) in
       let c : users_upto (text_of w ring) ring (front (w.cores i) ring) ≡ [] = ap (users_upto (text_of w ring) ring) b in
       a ∙ sym c
 
@@ -183,7 +210,8 @@ module _ {A : Type 0} (w : World A) (i : ℕ) where
   agreed_decides : Decides (agrees_with_texts w i) ((ring : RingId) → Agrees ring)
   agreed_decides =
       Decides-like (agrees_with_texts w i) (λ h ring. by_test ring (list_any (same_ring ring) (rings_in w i)) refl h) (λ f ring k. f ring)
-      (all_decides (agrees_with_text w i) Agrees (λ ring. messages_decide (agreed_of ring (stages_in w i)) (users_upto (text_of w ring) ring (front (w.cores i) ring))) (rings_in w i))
+      (all_decides (agrees_with_text w i) Agrees (λ ring. messages_decide (agreed_of ring (stages_in w i))
+      (users_upto (text_of w ring) ring (front (w.cores i) ring))) (rings_in w i))
 
 -- The rest, and what is safe
 
@@ -210,7 +238,8 @@ before_decides x y = when_decides (same_ring x.ring y.ring) (nat_lt x.number y.n
 
 ascend_decides : {A : Type 0} → (xs : List (Message A)) → Decides (all_pairs is_before xs) (Ascend xs)
 ascend_decides [] = (λ h. tt, λ h. refl)
-ascend_decides (x ∷ xs) = Decides-and (list_all (is_before x) xs) (all_pairs is_before xs) (each_decides (is_before x) (IsBefore x) (before_decides x) xs) (ascend_decides xs)
+ascend_decides (x ∷ xs) = Decides-and (list_all (is_before x) xs) (all_pairs is_before xs)
+    (each_decides (is_before x) (IsBefore x) (before_decides x) xs) (ascend_decides xs)
 
 all_stages : {A : Type 0} → (p : Stage A → Bool) (P : Stage A → Type 0) → ((s : Stage A) → Decides (p s) (P s)) → (w : World A) →
     Decides (of_all w (λ i. list_all p (stages_in w i))) ((i : ℕ) → IsNode w i → (s : Stage A) → IsIn s (stages_in w i) → P s)
@@ -218,7 +247,8 @@ all_stages p P d w = nodes_decide w.total (λ i. list_all p (stages_in w i)) _ (
 
 pub same_text_decides : {A : Type 0} → (w : World A) → Decides (has_same_text w) (HasSameText w)
 same_text_decides {A} w =
-    let tails = nodes_decide w.total (λ i. list_all (is_within_front (w.cores i)) (stages_in w i)) _ (λ i. all_decides (is_within_front (w.cores i)) (WithinFront (w.cores i)) (within_decides (w.cores i)) (stages_in w i)) in
+    let tails = nodes_decide w.total (λ i. list_all (is_within_front (w.cores i)) (stages_in w i)) _ (λ i. all_decides
+    (is_within_front (w.cores i)) (WithinFront (w.cores i)) (within_decides (w.cores i)) (stages_in w i)) in
     let ups = nodes_decide w.total (λ i. all_pairs is_before (deliveries_of (stages_in w i))) _ (λ i. ascend_decides (deliveries_of (stages_in w i))) in
     let rests = all_stages (rests_in_text w) (RestIn w) (rest_decides w) w in
     let agreeds = nodes_decide w.total (agrees_with_texts w) _ (agreed_decides w) in
@@ -243,7 +273,8 @@ same_text_decides {A} w =
 
 -- Safe delivery
 
-delivered_decides : {A : Type 0} → (w : World A) (at : Configuration) (x : Message A) (q : ℕ) → Decides (is_safely_delivered w at x q) (IsSafelyDelivered w at x q)
+delivered_decides : {A : Type 0} → (w : World A) (at : Configuration) (x : Message A) (q : ℕ)
+    → Decides (is_safely_delivered w at x q) (IsSafelyDelivered w at x q)
 delivered_decides {A} w at x q =
     Decides-like (is_safely_delivered w at x q)
     (λ h. record { reached = h.0; through = h.1.0; delivered = λ c k e. h.1.1 c k e })
@@ -251,21 +282,25 @@ delivered_decides {A} w at x q =
     (Decides-and _ _ (le_decides x.number (front (w.cores q) at.ring))
     (Decides-and _ _ (in_decides same_configuration configuration_decides at (regulars_of (stages_in w q)))
     (all_decides (delivers_of at.ring x) (λ (c : Change A). c.old.ring ≡ at.ring → IsIn x (delivered_by c))
-    (λ c. when_decides (same_ring c.old.ring at.ring) (has_message x (delivered_by c)) (ring_decides c.old.ring at.ring) (has_decides x (delivered_by c))) (changes_in w q))))
+    (λ c. when_decides (same_ring c.old.ring at.ring) (has_message x (delivered_by c))
+    (ring_decides c.old.ring at.ring) (has_decides x (delivered_by c))) (changes_in w q))))
 
 abbrev IsSafeStage : {A : Type 0} → World A → Stage A → Type 0
-IsSafeStage {A} w (InRegular at agreed safe) = (x : Message A) → IsIn x (delivered_in (InRegular at agreed safe)) → (q : ℕ) → IsIn q (elements at.members) → IsSafelyDelivered w at x q
+IsSafeStage {A} w (InRegular at agreed safe) = (x : Message A) → IsIn x (delivered_in (InRegular at agreed safe))
+    → (q : ℕ) → IsIn q (elements at.members) → IsSafelyDelivered w at x q
 IsSafeStage w (InTransitional old new members rest) = Unit {0}
 
 safe_stage_decides : {A : Type 0} → (w : World A) (s : Stage A) → Decides (is_safe_stage w s) (IsSafeStage w s)
 safe_stage_decides {A} w (InRegular at agreed safe) =
     all_decides (λ (x : Message A). list_all (is_safely_delivered w at x) (elements at.members)) _
-    (λ x. all_decides (is_safely_delivered w at x) (IsSafelyDelivered w at x) (delivered_decides w at x) (elements at.members)) (delivered_in (InRegular at agreed safe))
+    (λ x. all_decides (is_safely_delivered w at x) (IsSafelyDelivered w at x) (delivered_decides w at x)
+    (elements at.members)) (delivered_in (InRegular at agreed safe))
 safe_stage_decides w (InTransitional old new members rest) = (λ h. tt, λ h. refl)
 
 pub safely_decides : {A : Type 0} → (w : World A) → Decides (delivers_safely w) (DeliversSafely w)
 safely_decides {A} w =
-    Decides-like (delivers_safely w) (λ h i n at agreed safe k. h i n (InRegular at agreed safe) k) back (all_stages (is_safe_stage w) (IsSafeStage w) (safe_stage_decides w) w)
+    Decides-like (delivers_safely w) (λ h i n at agreed safe k. h i n (InRegular at agreed safe) k) back
+    (all_stages (is_safe_stage w) (IsSafeStage w) (safe_stage_decides w) w)
   where
     back : DeliversSafely w → (i : ℕ) → IsNode w i → (s : Stage A) → IsIn s (stages_in w i) → IsSafeStage w s
     back f i n (InRegular at agreed safe) k = f i n at agreed safe k
@@ -282,7 +317,8 @@ alike_decides a b =
 pub alike_all : {A : Type 0} → (w : World A) → Decides (delivers_alike w) (DeliversAlike w)
 alike_all {A} w =
     Decides-like (delivers_alike w) (λ h i j n m a b ka kb. h i n j m a ka b kb) (λ f i n j m a ka b kb. f i j n m a b ka kb)
-    (nodes_decide w.total _ _ (λ i. nodes_decide w.total _ _ (λ j. all_decides _ _ (λ a. all_decides (are_alike a) _ (alike_decides a) (changes_in w j)) (changes_in w i))))
+    (nodes_decide w.total _ _ (λ i. nodes_decide w.total _ _ (λ j. all_decides _ _ (λ a. all_decides
+    (are_alike a) _ (alike_decides a) (changes_in w j)) (changes_in w i))))
 
 -- Configurations
 
@@ -291,7 +327,8 @@ configurations_decide {A} w i =
     Decides-like (has_configurations w i)
     (λ h. record { told = h.0; own = h.1.0; alternating = h.1.1.0; rising = h.1.1.1 }) (λ r. (r.told, (r.own, (r.alternating, r.rising))))
     (Decides-and _ _ (true_decides (is_well_told w i))
-    (Decides-and _ _ (all_decides (λ (s : Stage A). has (members_in s) i) (λ (s : Stage A). has (members_in s) i ≡ true) (λ s. true_decides (has (members_in s) i)) (stages_in w i))
+    (Decides-and _ _ (all_decides (λ (s : Stage A). has (members_in s) i)
+    (λ (s : Stage A). has (members_in s) i ≡ true) (λ s. true_decides (has (members_in s) i)) (stages_in w i))
     (Decides-and _ _ (true_decides (alternate (stages_in w i))) (true_decides (all_pairs is_above (regulars_of (stages_in w i)))))))
 
 pub configurations_all : {A : Type 0} → (w : World A) → Decides (have_configurations w) ((i : ℕ) → IsNode w i → HasConfigurations w i)
@@ -299,14 +336,17 @@ configurations_all w = nodes_decide w.total (has_configurations w) (HasConfigura
 
 -- Own messages
 
-own_decides : {A : Type 0} → (i : ℕ) (xs : List (Message A)) (x : Message A) → Decides (is_own_among i xs x) (x.sender ≡ i → is_user x.payload ≡ true → IsIn x xs)
+own_decides : {A : Type 0} → (i : ℕ) (xs : List (Message A)) (x : Message A) → Decides (is_own_among i xs x)
+    (x.sender ≡ i → is_user x.payload ≡ true → IsIn x xs)
 own_decides i xs x =
     Decides-like (is_own_among i xs x) (λ h a b. h (a, b)) (λ f p. f p.0 p.1)
-    (when_decides ((x.sender == i) && is_user x.payload) (has_message x xs) (Decides-and _ _ (Decides-eqb x.sender i) (true_decides (is_user x.payload))) (has_decides x xs))
+    (when_decides ((x.sender == i) && is_user x.payload) (has_message x xs) (Decides-and _ _ (Decides-eqb x.sender i)
+    (true_decides (is_user x.payload))) (has_decides x xs))
 
 pub own_all : {A : Type 0} → (w : World A) → Decides (delivers_own w) (DeliversOwn w)
 own_all {A} w =
-    nodes_decide w.total _ _ (λ i. all_decides _ _ (λ (c : Change A). all_decides (is_own_among i (delivered_by c)) _ (own_decides i (delivered_by c)) (text_of w c.old.ring)) (changes_in w i))
+    nodes_decide w.total _ _ (λ i. all_decides _ _ (λ (c : Change A). all_decides
+    (is_own_among i (delivered_by c)) _ (own_decides i (delivered_by c)) (text_of w c.old.ring)) (changes_in w i))
 
 -- All five
 
@@ -315,4 +355,6 @@ synchrony_decides w =
     Decides-like (is_virtually_synchronous w)
     (λ h. record { same_text = h.0; safe_delivery = h.1.0; same_deliveries = h.1.1.0; configurations = h.1.1.1.0; own_delivery = h.1.1.1.1 })
     (λ r. (r.same_text, (r.safe_delivery, (r.same_deliveries, (r.configurations, r.own_delivery)))))
-    (Decides-and _ _ (same_text_decides w) (Decides-and _ _ (safely_decides w) (Decides-and _ _ (alike_all w) (Decides-and _ _ (configurations_all w) (own_all w)))))
+    (Decides-and _ _ (same_text_decides w)
+    (Decides-and _ _ (safely_decides w) (Decides-and _ _ (alike_all w) (Decides-and _ _ (configurations_all w)
+    (own_all w)))))

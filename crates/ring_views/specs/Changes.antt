@@ -1,4 +1,5 @@
--- A life as virtual synchrony reads it: what was agreed and delivered in it, and the changes of configuration that it went through. Outputs, rules 9 and 10 of docs/PROTOCOL.md.
+-- A life as virtual synchrony reads it: what was agreed and delivered in it, and the changes of configuration that it
+-- went through. Outputs, rules 9 and 10 of docs/PROTOCOL.md.
 use Rattle.std.specs.Prelude.{◌≡◌, ℕ, Bool, true, ◌&&◌, if◌then◌else◌, List, [], ◌∷◌, ◌++◌, filter, filter_map}
 use Rattle.ring_base.specs.Numbers.{numbers_from}
 use Rattle.ring_base.specs.Rings.{same_ring}
@@ -64,7 +65,8 @@ alternate [] = true
 alternate (s ∷ []) = true
 alternate (s ∷ before ∷ older) = follows s before && alternate (before ∷ older)
 
--- a change: the regular configuration that was left with what was delivered in it, the transitional one with what was delivered in that, and the next regular one
+-- a change: the regular configuration that was left with what was delivered in it, the transitional one with what was
+-- delivered in that, and the next regular one
 pub record Change (A : Type 0) : Type 0 where
   pub old : Configuration
   pub regular : List (Message A)

@@ -13,7 +13,8 @@ use Rattle.ring_moves.specs.Worlds.{World}
 use Rattle.ring_moves.specs.Texts.{HasOneText, text_of}
 use Rattle.ring_moves.specs.Lives.{Stage, InRegular, InTransitional, is_well_told, delivered_in}
 use Rattle.ring_moves.specs.CommitRounds.{is_above, all_pairs}
-use Rattle.ring_views.specs.Changes.{IsNode, stages_in, agreed_of, deliveries_of, users_upto, regulars_of, members_in, alternate, Change, changes_in, delivered_by}
+use Rattle.ring_views.specs.Changes.{IsNode, stages_in, agreed_of, deliveries_of, users_upto, regulars_of, members_in}
+use Rattle.ring_views.specs.Changes.{alternate, Change, changes_in, delivered_by}
 
 -- a number of a ring has one sender and one payload in all lives ..
 
@@ -28,7 +29,8 @@ Ascend (x ∷ xs) = AllByRecursion (IsBefore x) xs × Ascend xs
 pub record HasSameText {A : Type 0} (w : World A) : Type 0 where
   -- a number of a ring has one sender and one payload
   pub text : (ring : RingId) → HasOneText w ring
-  -- what was agreed of a ring are the users' messages of its text from 1 to the processor's front, ascending, none left out; of a ring that is in no configuration of the life there are none
+  -- what was agreed of a ring are the users' messages of its text from 1 to the processor's front, ascending, none left
+  -- out; of a ring that is in no configuration of the life there are none
   pub agreed : (i : ℕ) → IsNode w i → (ring : RingId) →
       agreed_of ring (stages_in w i) ≡ users_upto (text_of w ring) ring (front (w.cores i) ring)
   -- what a transitional configuration gives are users' messages of the old ring's text
@@ -54,7 +56,8 @@ DeliversSafely {A} w =
     (i : ℕ) → IsNode w i → (at : Configuration) (agreed : List (Message A)) (safe : ℕ) → IsIn (InRegular at agreed safe) (stages_in w i) →
     (x : Message A) → IsIn x (delivered_in (InRegular at agreed safe)) → (q : ℕ) → IsIn q (elements at.members) → IsSafelyDelivered w at x q
 
--- two lives that go from one regular configuration to the same next one: the same members of all three configurations, and the same deliveries, divided alike before and after the transitional one
+-- two lives that go from one regular configuration to the same next one: the same members of all three configurations,
+-- and the same deliveries, divided alike before and after the transitional one
 abbrev pub DeliversAlike : {A : Type 0} → World A → Type 0
 DeliversAlike {A} w =
     (i j : ℕ) → IsNode w i → IsNode w j → (a b : Change A) → IsIn a (changes_in w i) → IsIn b (changes_in w j) →

@@ -1,4 +1,5 @@
--- Virtual synchrony as a test, fact by fact, so that it is computed of worked runs and of random schedules, and of lives that are wrong. `tests_law` says that the test is passed exactly where the fact holds.
+-- Virtual synchrony as a test, fact by fact, so that it is computed of worked runs and of random schedules, and of
+-- lives that are wrong. `tests_law` says that the test is passed exactly where the fact holds.
 use Rattle.std.specs.Prelude.{ℕ, Bool, true, false, ◌&&◌, ◌==◌, nat_lt, nat_le, if◌then◌else◌, List, [], ◌∷◌, ◌++◌, map, Option, Some, None}
 use Rattle.std.specs.List.{list_all, list_any}
 use Rattle.ring_base.specs.Numbers.{numbers_from}

@@ -29,19 +29,24 @@ rest_bit false w i = ap (λ n. n == 1) (higher 0 w i (omega arith))
 pub word_bit : (test : ℕ → Bool) (first count i : ℕ) → i < count → has_bit (word_of test first count) i ≡ test (first + i)
 word_bit test first zero i l = absurd (omega arith)
 word_bit test first (suc count) zero l = (let e : first ≡ first + 0 = omega arith in test_bit (test first) (word_of test (suc first) count) ∙ ap test e)
-word_bit test first (suc count) (suc i) l = (let e : suc first + i ≡ first + suc i = omega arith in rest_bit (test first) (word_of test (suc first) count) i ∙ word_bit test (suc first) count i (omega arith) ∙ ap test e)
+word_bit test first (suc count) (suc i) l = (let e : suc first + i ≡ first + suc i = omega arith in rest_bit
+    (test first) (word_of test (suc first) count) i ∙ word_bit test (suc first) count i (omega arith) ∙ ap test e)
 
 pub byte_at : (test : ℕ → Bool) (first count k : ℕ) → k < count → slice_index (bytes_of test first count) k ≡ word_of test (first + 8 * k) 8
 byte_at test first zero k l = absurd (omega arith)
 byte_at test first (suc count) zero l = (let e : first ≡ first + 8 * 0 = omega arith in ap (λ n. word_of test n 8) e)
-byte_at test first (suc count) (suc k) l = (let e : first + 8 + 8 * k ≡ first + 8 * suc k = omega arith in byte_at test (first + 8) count k (omega arith) ∙ ap (λ n. word_of test n 8) e)
+byte_at test first (suc count) (suc k) l =
+    (let e : first + 8 + 8 * k ≡ first + 8 * suc k = omega arith in byte_at test (first + 8) count k (omega arith)
+    ∙ ap (λ n. word_of test n 8) e)
 
 pub bytes_bit : (test : ℕ → Bool) (first count j : ℕ) → j < 8 * count → bit_of (bytes_of test first count) j ≡ test (first + j)
 bytes_bit test first count j l =
     let byte : slice_index (bytes_of test first count) (j / 8) ≡ word_of test (first + 8 * (j / 8)) 8 = byte_at test first count (j / 8) (omega arith) in
-    let bit : has_bit (word_of test (first + 8 * (j / 8)) 8) (j % 8) ≡ test (first + 8 * (j / 8) + j % 8) = word_bit test (first + 8 * (j / 8)) 8 (j % 8) (omega arith) in
+    let bit : has_bit (word_of test (first + 8 * (j / 8)) 8) (j % 8) ≡ test (first + 8 * (j / 8) + j % 8) =
+    word_bit test (first + 8 * (j / 8)) 8 (j % 8) (omega arith) in
     let number : first + 8 * (j / 8) + j % 8 ≡ first + j = omega arith in
     ap (λ n. has_bit n (j % 8)) byte ∙ bit ∙ ap test number
 
-pub held_bit : {A : Type 0} → (held : List (Message A)) (ring : RingId) (j : ℕ) → j < 256 → bit_of (held_bits held ring) j ≡ holds held ring (front_of held ring + 1 + j)
+pub held_bit : {A : Type 0} → (held : List (Message A)) (ring : RingId) (j : ℕ) → j < 256
+    → bit_of (held_bits held ring) j ≡ holds held ring (front_of held ring + 1 + j)
 held_bit held ring j l = bytes_bit (holds held ring) (front_of held ring + 1) 32 j (omega arith)

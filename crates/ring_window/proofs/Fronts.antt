@@ -21,7 +21,8 @@ run p first (suc count) =
     cond_both (p first) (1 + prefix_len p (numbers_from (suc first) count)) 0 (Run p first (suc count))
     (λ e. record {
       below = λ n h l. elim (cases_lt first n) [ inl a ↦ r.below n (omega arith) (omega arith) | inr a ↦ (let q : first ≡ n = omega arith in rw q at e) ];
-      next = λ l. (let q : suc first + prefix_len p (numbers_from (suc first) count) ≡ first + (1 + prefix_len p (numbers_from (suc first) count)) = omega arith in rw q at (r.next (omega arith)));
+      next = λ l. (let q : suc first + prefix_len p (numbers_from (suc first) count) ≡ first
+          + (1 + prefix_len p (numbers_from (suc first) count)) = omega arith in rw q at (r.next (omega arith)));
       short = (let q : prefix_len p (numbers_from (suc first) count) ≤ count = r.short in omega arith);
     })
     (λ e. record { below = λ n h l. absurd (omega arith); next = λ l. (let q : first ≡ first + 0 = omega arith in rw q at e); short = omega arith })
@@ -35,7 +36,9 @@ highest_covers {A} (x ∷ held) ring n h =
           let q : x.number ≡ n = eqb-true _ _ p.1 in
           rw (cond-true (same_ring x.ring ring) (x ∷ of_ring ring held) (of_ring ring held) p.0) (omega arith))
       | inr e ↦ (let q : n ≤ highest held ring = highest_covers held ring n e in
-          cond_both (same_ring x.ring ring) (x ∷ of_ring ring held) (of_ring ring held) (λ (ys : List (Message A)). n ≤ greatest (map (λ (y : Message A). y.number) ys)) (λ f. omega arith) (λ f. q))
+          cond_both (same_ring x.ring ring) (x ∷ of_ring ring held) (of_ring ring held)
+          (λ (ys : List (Message A)). n ≤ greatest (map (λ (y : Message A). y.number) ys)) (λ f. omega arith)
+          (λ f. q))
     ]
 
 pub front_is : {A : Type 0} → (held : List (Message A)) (ring : RingId) → IsFrontIn held ring (front_of held ring)
@@ -66,10 +69,12 @@ front_only held ring k f =
     omega arith
 
 -- where all that was held is held now, the front is no smaller
-pub front_grows : {A : Type 0} → (old new : List (Message A)) (ring : RingId) → ((n : ℕ) → holds old ring n ≡ true → holds new ring n ≡ true) → front_of old ring ≤ front_of new ring
+pub front_grows : {A : Type 0} → (old new : List (Message A)) (ring : RingId)
+    → ((n : ℕ) → holds old ring n ≡ true → holds new ring n ≡ true) → front_of old ring ≤ front_of new ring
 front_grows old new ring more =
     elim (cases_lt (front_of new ring) (front_of old ring)) [
-      | inl l ↦ absurd (both_ways (holds new ring (suc (front_of new ring))) (front_is new ring).next (more _ ((front_is old ring).below _ (omega arith) (omega arith))))
+      | inl l ↦ absurd (both_ways (holds new ring (suc (front_of new ring))) (front_is new ring).next
+          (more _ ((front_is old ring).below _ (omega arith) (omega arith))))
       | inr l ↦ l
     ]
 

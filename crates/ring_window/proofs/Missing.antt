@@ -1,5 +1,6 @@
 -- The numbers that are missing, counted from one clear bit to the next; and the bits of an entry, read off the words.
-use Rattle.std.proofs.Common.{◌≡◌, ℕ, zero, suc, ◌+◌, ◌-◌, ◌*◌, ◌<◌, ◌≤◌, min, Bool, true, false, List, [], ◌∷◌, ◌++◌, length, take, filter, Option, refl, ap, ◌∙◌, sym, inl, inr, arith, append_assoc}
+use Rattle.std.proofs.Common.{◌≡◌, ℕ, zero, suc, ◌+◌, ◌-◌, ◌*◌, ◌<◌, ◌≤◌, min, Bool, true, false, List, [], ◌∷◌, ◌++◌}
+use Rattle.std.proofs.Common.{length, take, filter, Option, refl, ap, ◌∙◌, sym, inl, inr, arith, append_assoc}
 use Rattle.std.specs.Prelude.{not, slice_index}
 use Rattle.std.proofs.lemmas.Bool.{cases_lt, cond-true, cond-false}
 use Rattle.std.proofs.lemmas.List.{append-nil, ext_get_or, length_push}
@@ -16,7 +17,9 @@ use Rattle.ring_window.proofs.Words.{word_of-same}
 -- numbers that don't pass are left out
 passed : (p : ℕ → Bool) (first count k : ℕ) → k ≤ count → ((n : ℕ) → first ≤ n → n < first + k → p n ≡ false)
     → filter p (numbers_from first count) ≡ filter p (numbers_from (first + k) (count - k))
-passed p first count zero l h = (let a : first ≡ first + 0 = omega arith in let b : count ≡ count - 0 = omega arith in ap (λ n. filter p (numbers_from n count)) a ∙ ap (λ n. filter p (numbers_from (first + 0) n)) b)
+passed p first count zero l h = (let a : first ≡ first + 0 = omega arith in let b : count
+    ≡ count - 0 = omega arith in ap (λ n. filter p (numbers_from n count)) a
+    ∙ ap (λ n. filter p (numbers_from (first + 0) n)) b)
 passed p first zero (suc k) l h = absurd (omega arith)
 passed p first (suc count) (suc k) l h =
     let a : suc first + k ≡ first + suc k = omega arith in
@@ -34,7 +37,9 @@ lacks_to : {A : Type 0} (w : Windowed A) (a b end : ℕ) → a ≤ b → ((j : �
     → lacks w a (end - a) ≡ lacks w b (end - b)
 lacks_to w a b end l held =
     let p = λ (n : ℕ). not (holds w.held w.ring n) in
-    let none : (n : ℕ) → w.mark + 1 + a ≤ n → n < w.mark + 1 + b → p n ≡ false = λ n x y. (let e : n ≡ w.mark + 1 + (n - w.mark - 1) = omega arith in ap p e ∙ ap not (held (n - w.mark - 1) (omega arith) (omega arith))) in
+    let none : (n : ℕ) → w.mark + 1 + a ≤ n → n < w.mark + 1 + b → p n ≡ false =
+    λ n x y. (let e : n ≡ w.mark + 1 + (n - w.mark - 1) = omega arith in ap p e
+    ∙ ap not (held (n - w.mark - 1) (omega arith) (omega arith))) in
     elim (cases_lt end b) [
       | inl short ↦
           let r : end - a - (end - a) ≡ 0 = omega arith in
@@ -67,13 +72,16 @@ module _ {A : Type 0} (w : Windowed A) (front top : ℕ) (words : List ℕ) (pla
       let count : end ≡ min 256 (upto - w.mark) = omega arith in
       let zero_on : w.mark + 1 + 0 ≡ w.mark + 1 = omega arith in
       let whole : end - 0 ≡ end = omega arith in
-      let all : lacks w 0 (end - 0) ≡ lacks w (front - w.mark) (end - (front - w.mark)) = lacks_to w 0 (front - w.mark) end (omega arith) (λ j x y. (front_is w.held w.ring).below (w.mark + 1 + j) (omega arith) (omega (arith, i.front_is, i.safe))) in
+      let all : lacks w 0 (end - 0) ≡ lacks w (front - w.mark) (end - (front - w.mark)) = lacks_to w 0
+      (front - w.mark) end (omega arith) (λ j x y. (front_is w.held w.ring).below (w.mark + 1 + j) (omega arith)
+      (omega (arith, i.front_is, i.safe))) in
       let p = λ (n : ℕ). not (holds w.held w.ring n) in
       record {
         limit = limit;
         few = omega arith;
         clear = i.bits (front - w.mark) ∙ ap (λ n. holds w.held w.ring n) next ∙ (front_is w.held w.ring).next;
-        so_far = ap (λ xs. take 32 xs) (sym all ∙ ap (λ n. filter p (numbers_from n (end - 0))) zero_on ∙ ap (λ n. filter p (numbers_from (w.mark + 1) n)) (whole ∙ count));
+        so_far = ap (λ xs. take 32 xs) (sym all ∙ ap (λ n. filter p (numbers_from n (end - 0))) zero_on
+            ∙ ap (λ n. filter p (numbers_from (w.mark + 1) n)) (whole ∙ count));
       }
 
   -- and goes on to the next clear bit
@@ -86,8 +94,11 @@ module _ {A : Type 0} (w : Windowed A) (front top : ℕ) (words : List ℕ) (pla
       let n : end - offset ≡ suc (end - (offset + 1)) = omega arith in
       let m : suc x ≡ w.mark + 1 + (offset + 1) = omega arith in
       let here : lacks w offset (end - offset) ≡ x ∷ lacks w (offset + 1) (end - (offset + 1)) =
-      ap (λ q. lacks w offset q) n ∙ cond-true (p x) (x ∷ filter p (numbers_from (suc x) (end - (offset + 1)))) (filter p (numbers_from (suc x) (end - (offset + 1)))) lacking ∙ ap (λ q. x ∷ filter p (numbers_from q (end - (offset + 1)))) m in
-      let rest : lacks w (offset + 1) (end - (offset + 1)) ≡ lacks w k (end - k) = lacks_to w (offset + 1) k end f.later (λ j a b. sym (i.bits j) ∙ f.set j a b) in
+      ap (λ q. lacks w offset q) n ∙ cond-true (p x) (x ∷ filter p (numbers_from (suc x) (end - (offset + 1))))
+      (filter p (numbers_from (suc x) (end - (offset + 1)))) lacking
+      ∙ ap (λ q. x ∷ filter p (numbers_from q (end - (offset + 1)))) m in
+      let rest : lacks w (offset + 1) (end - (offset + 1)) ≡ lacks w k (end - k) = lacks_to w
+      (offset + 1) k end f.later (λ j a b. sym (i.bits j) ∙ f.set j a b) in
       let left : 32 - length found ≡ suc (32 - (length found + 1)) = omega arith in
       let pushed : length (found ++ x ∷ []) ≡ length found + 1 = length_push found x in
       record {
@@ -108,7 +119,12 @@ module _ {A : Type 0} (w : Windowed A) (front top : ℕ) (words : List ℕ) (pla
       let first = front_of w.held w.ring + 1 in
       ext_get_or 0 bytes (bytes_of (holds w.held w.ring) first 32) (count ∙ sym (length-bytes_of (holds w.held w.ring) first 32)) (λ k l.
       given k (omega arith)
-      ∙ word_of-same (is_set words) (holds w.held w.ring) (front - w.mark + 8 * k) (first + 8 * k) 8 (λ j m. (let e : w.mark + 1 + (front - w.mark + 8 * k + j) ≡ first + 8 * k + j = omega (arith, i.front_is, i.safe) in i.bits (front - w.mark + 8 * k + j) ∙ ap (λ n. holds w.held w.ring n) e))
+      ∙ word_of-same (is_set words) (holds w.held w.ring) (front - w.mark + 8 * k) (first + 8 * k) 8
+      (λ j m. (let e : w.mark + 1 + (front - w.mark + 8 * k + j) ≡ first + 8 * k + j = omega (
+        arith,
+        i.front_is,
+        i.safe,
+      ) in i.bits (front - w.mark + 8 * k + j) ∙ ap (λ n. holds w.held w.ring n) e))
       ∙ sym (byte_at (holds w.held w.ring) first 32 k (omega arith)))
 
 take_nil : (k : ℕ) → take {A = ℕ} k [] ≡ []

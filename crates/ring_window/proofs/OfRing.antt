@@ -14,7 +14,11 @@ use Rattle.ring_window.specs.Held.{found, holds, of_ring, highest, front_of, is_
 pub of_ring_twice : {A : Type 0} (held : List (Message A)) (ring : RingId) → of_ring ring (of_ring ring held) ≡ of_ring ring held
 of_ring_twice [] ring = refl
 of_ring_twice (x ∷ held) ring = elim (cases_Bool (same_ring x.ring ring)) [
-  | inl e ↦ rw (cond-true (same_ring x.ring ring) (x ∷ of_ring ring held) (of_ring ring held) e, cond-true (same_ring x.ring ring) (x ∷ of_ring ring (of_ring ring held)) (of_ring ring (of_ring ring held)) e) (ap (λ ys. x ∷ ys) (of_ring_twice held ring))
+  | inl e ↦ rw (
+    cond-true (same_ring x.ring ring) (x ∷ of_ring ring held) (of_ring ring held) e,
+    cond-true (same_ring x.ring ring) (x ∷ of_ring ring (of_ring ring held)) (of_ring ring (of_ring ring held)) e,
+  )
+      (ap (λ ys. x ∷ ys) (of_ring_twice held ring))
   | inr e ↦ rw (cond-false (same_ring x.ring ring) (x ∷ of_ring ring held) (of_ring ring held) e) (of_ring_twice held ring)
 ]
 
@@ -48,7 +52,9 @@ is_new_of_ring held mark ring n = rw (holds_of_ring held ring n) refl
 
 pub missing_of_ring : {A : Type 0} (held : List (Message A)) (ring : RingId) (mark upto : ℕ)
     → missing (of_ring ring held) ring mark upto ≡ missing held ring mark upto
-missing_of_ring held ring mark upto = ap (λ (p : ℕ → Bool). filter (λ n. not (p n)) (numbers_from (mark + 1) (min window_size (upto - mark)))) (all_of_ring held ring)
+missing_of_ring held ring mark upto =
+    ap (λ (p : ℕ → Bool). filter (λ n. not (p n)) (numbers_from (mark + 1) (min window_size (upto - mark))))
+    (all_of_ring held ring)
 
 pub held_bits_of_ring : {A : Type 0} (held : List (Message A)) (ring : RingId) → held_bits (of_ring ring held) ring ≡ held_bits held ring
 held_bits_of_ring held ring = ap (λ (p : ℕ → Bool). bytes_of p (front_of (of_ring ring held) ring + 1) 32) (all_of_ring held ring)

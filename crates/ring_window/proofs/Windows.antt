@@ -1,8 +1,11 @@
 -- What is kept of a window, as it changes: nothing held, a message taken, numbers forgotten. And what the kept bits say.
-use Rattle.std.proofs.Common.{◌≡◌, ◌≢◌, ℕ, zero, suc, ◌++◌, ◌+◌, ◌-◌, ◌%◌, ◌<◌, ◌≤◌, Bool, true, false, max, List, [], ◌∷◌, length, Option, Some, None, refl, ap, ◌∙◌, sym, inl, inr, arith, get_or-set_same, get_or-set_other, length-set}
+use Rattle.std.proofs.Common.{◌≡◌, ◌≢◌, ℕ, zero, suc, ◌++◌, ◌+◌, ◌-◌, ◌%◌, ◌<◌, ◌≤◌, Bool, true, false, max, List, []}
+use Rattle.std.proofs.Common.{◌∷◌, length, Option, Some, None, refl, ap, ◌∙◌, sym, inl, inr, arith, get_or-set_same}
+use Rattle.std.proofs.Common.{get_or-set_other, length-set}
 use Rattle.std.specs.Prelude.{◌==◌, ◌&&◌, ◌||◌, not, nat_eq, nat_lt, nat_le, slice_index_or, slice_set}
 use Rattle.std.specs.List.{list_any, find}
-use Rattle.std.proofs.lemmas.Bool.{cases_lt, cases_eq, and_parts, and_from, or_parts, not-true, lt-ltb, le-ltb, ltb-true, leb-true, eq-eqb, ne_eqb, cond-true, cond-false, both_ways}
+use Rattle.std.proofs.lemmas.Bool.{cases_lt, cases_eq, and_parts, and_from, or_parts, not-true, lt-ltb, le-ltb}
+use Rattle.std.proofs.lemmas.Bool.{ltb-true, leb-true, eq-eqb, ne_eqb, cond-true, cond-false, both_ways}
 use Rattle.ring_base.specs.Rings.{same_ring}
 use Rattle.ring_base.specs.declared.ring_id.RingId.{RingId}
 use Rattle.ring_wire.specs.declared.message.Message.{Message}
@@ -28,10 +31,12 @@ holds_more : {A : Type 0} (x : Message A) (held : List (Message A)) (ring : Ring
 holds_more x held ring n h = rw h refl
 
 found_this : {A : Type 0} (x : Message A) (held : List (Message A)) (ring : RingId) → same_ring x.ring ring ≡ true → found (x ∷ held) ring x.number ≡ Some x
-found_this x held ring h = cond-true (is_numbered ring x.number x) (Some x) (found held ring x.number) (and_from (same_ring x.ring ring) (x.number == x.number) h (eq-eqb x.number x.number refl))
+found_this x held ring h = cond-true (is_numbered ring x.number x) (Some x) (found held ring x.number)
+    (and_from (same_ring x.ring ring) (x.number == x.number) h (eq-eqb x.number x.number refl))
 
 found_other : {A : Type 0} (x : Message A) (held : List (Message A)) (ring : RingId) (n : ℕ) → x.number ≢ n → found (x ∷ held) ring n ≡ found held ring n
-found_other x held ring n other = cond-false (is_numbered ring n x) (Some x) (found held ring n) (let e : (x.number == n) ≡ false = ne_eqb x.number n other in rw e (and_no (same_ring x.ring ring)))
+found_other x held ring n other = cond-false (is_numbered ring n x) (Some x) (found held ring n)
+    (let e : (x.number == n) ≡ false = ne_eqb x.number n other in rw e (and_no (same_ring x.ring ring)))
   where
     and_no : (b : Bool) → (b && false) ≡ false
     and_no true = refl
@@ -68,7 +73,8 @@ holds_safe w front top words places i n l = elim (cases_eq n 0) [
 -- and after it the bits tell
 pub holds_after : {A : Type 0} (w : Windowed A) (front top : ℕ) (words : List ℕ) (places : List (Option (Message A)))
     → IsWindow w front top words places → (n : ℕ) → w.mark < n → is_set words (n - w.mark - 1) ≡ holds w.held w.ring n
-holds_after w front top words places i n l = (let e : w.mark + 1 + (n - w.mark - 1) ≡ n = omega arith in i.bits (n - w.mark - 1) ∙ ap (λ k. holds w.held w.ring k) e)
+holds_after w front top words places i n l = (let e : w.mark + 1 + (n - w.mark - 1) ≡ n = omega arith in i.bits
+    (n - w.mark - 1) ∙ ap (λ k. holds w.held w.ring k) e)
 
 -- nothing is kept up to the safe mark, nor past the window
 pub kept_safe : {A : Type 0} (w : Windowed A) (n : ℕ) → n ≤ w.mark → None ≡ kept w n
@@ -76,7 +82,8 @@ kept_safe w n l = sym (cond-false (nat_lt w.mark n) (found w.held w.ring n) None
 
 pub kept_beyond : {A : Type 0} (w : Windowed A) (front top : ℕ) (words : List ℕ) (places : List (Option (Message A)))
     → IsWindow w front top words places → (n : ℕ) → w.mark + 256 < n → None ≡ kept w n
-kept_beyond w front top words places i n l = sym (cond-true (nat_lt w.mark n) (found w.held w.ring n) None (lt-ltb w.mark n (omega arith)) ∙ found_none w.held w.ring n (i.beyond n l))
+kept_beyond w front top words places i n l = sym (cond-true (nat_lt w.mark n) (found w.held w.ring n) None
+    (lt-ltb w.mark n (omega arith)) ∙ found_none w.held w.ring n (i.beyond n l))
 
 -- ---- nothing held
 
@@ -119,8 +126,10 @@ module _ {A : Type 0} (w : Windowed A) (x : Message A) (front top : ℕ) (words 
     (this : is_set more (x.number - w.mark - 1) ≡ true) (others : (j : ℕ) → j ≢ x.number - w.mark - 1 → is_set more j ≡ is_set words j) where
   new_bits : (j : ℕ) → is_set more j ≡ holds (x ∷ w.held) w.ring (w.mark + 1 + j)
   new_bits j = elim (cases_eq x.number (w.mark + 1 + j)) [
-    | inl e ↦ (let s : j ≡ x.number - w.mark - 1 = omega arith in ap (is_set more) s ∙ this ∙ sym (ap (λ k. holds (x ∷ w.held) w.ring k) (sym e) ∙ holds_this x w.held w.ring t.same))
-    | inr e ↦ (let s : j ≢ x.number - w.mark - 1 = λ q. e (omega (arith, t.above)) in others j s ∙ i.bits j ∙ sym (holds_other x w.held w.ring (w.mark + 1 + j) t.same e))
+    | inl e ↦ (let s : j ≡ x.number - w.mark - 1 = omega arith in ap (is_set more) s ∙ this
+        ∙ sym (ap (λ k. holds (x ∷ w.held) w.ring k) (sym e) ∙ holds_this x w.held w.ring t.same))
+    | inr e ↦ (let s : j ≢ x.number - w.mark - 1 = λ q. e (omega (arith, t.above)) in others j s ∙ i.bits j
+        ∙ sym (holds_other x w.held w.ring (w.mark + 1 + j) t.same e))
   ]
 
   new_after : (n : ℕ) → w.mark < n → is_set more (n - w.mark - 1) ≡ holds (x ∷ w.held) w.ring n
@@ -211,7 +220,8 @@ forgotten_is w upto front top words less places left i above within bits count c
   near = omega (arith, i.near);
   none = i.none;
   beyond = λ n l. i.beyond n (omega arith);
-  bits = λ j. (let e : w.mark + 1 + (upto - w.mark + j) ≡ upto + 1 + j = omega arith in bits j ∙ i.bits (upto - w.mark + j) ∙ ap (λ n. holds w.held w.ring n) e);
+  bits = λ j. (let e : w.mark + 1 + (upto - w.mark + j) ≡ upto + 1 + j = omega arith in bits j
+      ∙ i.bits (upto - w.mark + j) ∙ ap (λ n. holds w.held w.ring n) e);
   count = count;
   placed = λ n a b. elim (cases_lt (w.mark + 256) n) [
     | inl far ↦
@@ -236,7 +246,9 @@ pub cleared_more : {A : Type 0} (xs : List (Option (Message A))) (mark before : 
     → ((n : ℕ) → mark < n → n ≤ before → in_place xs n ≡ None) → (n : ℕ) → mark < n → n ≤ before + 1
     → in_place (slice_set xs (before % 256) None) n ≡ None
 cleared_more xs mark before count a b h n l m = elim (cases_eq n (before + 1)) [
-  | inl e ↦ (let s : place_of n ≡ before % 256 = omega arith in ap (λ k. slice_index_or (slice_set xs (before % 256) None) k None) s ∙ get_or-set_same xs (before % 256) None None (omega arith))
+  | inl e ↦ (let s : place_of n ≡ before % 256 = omega arith in ap
+      (λ k. slice_index_or (slice_set xs (before % 256) None) k None) s ∙ get_or-set_same xs (before % 256) None None
+      (omega arith))
   | inr e ↦ (let s : place_of n ≢ before % 256 = λ q. e (omega arith) in get_or-set_other xs (before % 256) (place_of n) None None s ∙ h n l (omega arith))
 ]
 

@@ -1,11 +1,14 @@
 -- Bits that lie across two words, and words as bits.
-use Rattle.std.proofs.Common.{◌≡◌, ◌≢◌, ℕ, zero, suc, ◌+◌, ◌-◌, ◌*◌, ◌/◌, ◌%◌, ◌^◌, ◌<◌, ◌≤◌, Bool, true, false, List, [], ◌∷◌, length, refl, ap, ◌∙◌, sym, inl, inr, arith, get_or-set_same, get_or-set_other}
+use Rattle.std.proofs.Common.{◌≡◌, ◌≢◌, ℕ, zero, suc, ◌+◌, ◌-◌, ◌*◌, ◌/◌, ◌%◌, ◌^◌, ◌<◌, ◌≤◌, Bool, true, false, List}
+use Rattle.std.proofs.Common.{[], ◌∷◌, length, refl, ap, ◌∙◌, sym, inl, inr, arith, get_or-set_same, get_or-set_other}
 use Rattle.std.specs.Prelude.{◌==◌, slice_index, slice_set, bit_and, bit_or}
 use Rattle.std.specs.Int.{bit_at, w64, trailing_ones}
 use Rattle.std.proofs.lemmas.Bool.{cases_Bool, cases_lt, cases_eq, eqb-true, eq-eqb}
 use Rattle.std.proofs.lemmas.List.{get_or_past}
 use Rattle.std.proofs.lemmas.Nat.{shr-shr, and_mask, pow_pos}
-use Rattle.std.proofs.lemmas.Nat.Bits.{bit_at_or, bit_at-lt, bit_at_above, bit_at_cat_low, bit_at_cat_high, bit_at_ones, bit_at-zero, same_from_bits_below, bit_at_set_same, bit_at_set_other, bit_at-trailing_ones}
+use Rattle.std.proofs.lemmas.Nat.Bits.{bit_at_or, bit_at-lt, bit_at_above, bit_at_cat_low, bit_at_cat_high, bit_at_ones}
+use Rattle.std.proofs.lemmas.Nat.Bits.{bit_at-zero, same_from_bits_below, bit_at_set_same, bit_at_set_other}
+use Rattle.std.proofs.lemmas.Nat.Bits.{bit_at-trailing_ones}
 use Rattle.ring_base.specs.Numbers.{has_bit, word_of}
 use Rattle.ring_window.specs.Bits.{is_set, IsFirstClear}
 use Rattle.ring_window.proofs.Bits.{word_bit}
@@ -85,7 +88,8 @@ word_whole words first low j a e within = ap (λ w. has_bit w j) a
 
 -- past the last of four words each bit is clear
 pub clear_past : (words : List ℕ) (j : ℕ) → length words ≡ 4 → 256 ≤ j → is_set words j ≡ false
-clear_past words j n l = (let e : slice_index words (j / 64) ≡ 0 = get_or_past words (j / 64) 0 (omega arith) in rw e (let z = bit_at-zero (j % 64) in ap (λ x. x == 1) z))
+clear_past words j n l = (let e : slice_index words (j / 64) ≡ 0 = get_or_past words (j / 64) 0 (omega arith) in rw e
+    (let z = bit_at-zero (j % 64) in ap (λ x. x == 1) z))
 
 -- ---- a word by its tests
 
@@ -95,7 +99,8 @@ has_same a b j h =
     let y = bit_at-lt b j in
     elim (cases_Bool (has_bit a j)) [
       | inl e ↦ (let p = eqb-true (bit_at a j) 1 e in let q = eqb-true (bit_at b j) 1 (sym h ∙ e) in p ∙ sym q)
-      | inr e ↦ (let p : bit_at a j ≢ 1 = λ s. false_true (sym e ∙ eq-eqb (bit_at a j) 1 s) in let q : bit_at b j ≢ 1 = λ s. false_true (sym e ∙ h ∙ eq-eqb (bit_at b j) 1 s) in omega arith)
+      | inr e ↦ (let p : bit_at a j ≢ 1 = λ s. false_true (sym e ∙ eq-eqb (bit_at a j) 1 s) in let q : bit_at b j ≢
+          1 = λ s. false_true (sym e ∙ h ∙ eq-eqb (bit_at b j) 1 s) in omega arith)
     ]
   where
     false_true : false ≡ true → ⊥
@@ -122,7 +127,9 @@ word_of-same f g a b (suc count) h =
     let p : a + 0 ≡ a = omega arith in
     let q : b + 0 ≡ b = omega arith in
     let here : f a ≡ g b = sym (ap f p) ∙ h 0 (omega arith) ∙ ap g q in
-    let rest = word_of-same f g (suc a) (suc b) count (λ i l. (let s : suc a + i ≡ a + suc i = omega arith in let t : b + suc i ≡ suc b + i = omega arith in ap f s ∙ h (suc i) (omega arith) ∙ ap g t)) in
+    let rest = word_of-same f g (suc a) (suc b) count
+    (λ i l. (let s : suc a + i ≡ a + suc i = omega arith in let t : b + suc i ≡ suc b + i = omega arith in ap f s
+    ∙ h (suc i) (omega arith) ∙ ap g t)) in
     rw (here, rest) refl
 
 -- ---- a bit more
@@ -160,7 +167,8 @@ first_here words from offset word later passed bits below =
       later = omega arith;
       set = λ j a b. elim (cases_lt j offset) [
         | inl l ↦ passed j a l
-        | inr l ↦ (let e : offset + (j - offset) ≡ j = omega arith in sym (ap (is_set words) e) ∙ sym (bits (j - offset) (omega (arith, t.0))) ∙ ap (λ x. x == 1) (t.2 (j - offset) (omega arith)))
+        | inr l ↦ (let e : offset + (j - offset) ≡ j = omega arith in sym (ap (is_set words) e)
+            ∙ sym (bits (j - offset) (omega (arith, t.0))) ∙ ap (λ x. x == 1) (t.2 (j - offset) (omega arith)))
       ];
       clear = sym (bits (trailing_ones w64 word) t.0) ∙ ap (λ x. x == 1) t.1;
     }

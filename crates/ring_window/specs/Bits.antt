@@ -1,4 +1,5 @@
--- Held numbers as bits. In the window: four words of 64 bits, a bit for each number after the safe mark. In an entry of a commit token, a bit for each of the 256 numbers after the front: The commit token, rule 2 of docs/PROTOCOL.md.
+-- Held numbers as bits. In the window: four words of 64 bits, a bit for each number after the safe mark. In an entry of
+-- a commit token, a bit for each of the 256 numbers after the front: The commit token, rule 2 of docs/PROTOCOL.md.
 use Rattle.std.specs.Prelude.{◌≡◌, ℕ, zero, suc, ◌+◌, ◌/◌, ◌%◌, ◌<◌, ◌≤◌, Bool, true, false, List, [], ◌∷◌, slice_index}
 use Rattle.ring_base.specs.Numbers.{has_bit, word_of}
 use Rattle.ring_base.specs.declared.ring_id.RingId.{RingId}

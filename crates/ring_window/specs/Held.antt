@@ -1,4 +1,5 @@
--- What a node has ever held of the rings, and how far without a gap: Token and window, rules 1, 2 and 4 of docs/PROTOCOL.md. All its messages stand in one list, newest first, and none leaves it.
+-- What a node has ever held of the rings, and how far without a gap: Token and window, rules 1, 2 and 4 of
+-- docs/PROTOCOL.md. All its messages stand in one list, newest first, and none leaves it.
 use Rattle.std.specs.Prelude.{◌≡◌, ℕ, suc, ◌+◌, ◌-◌, ◌≤◌, min, Bool, true, false, not, ◌&&◌, ◌==◌, nat_lt, nat_le, List, map, filter, find, Option}
 use Rattle.std.specs.List.{list_any, prefix_len}
 use Rattle.ring_base.specs.Numbers.{window_size, numbers_from, greatest}

@@ -13,7 +13,8 @@ place_of n = (n - 1) % 256
 abbrev pub in_place : {A : Type 0} → List (Option (Message A)) → ℕ → Option (Message A)
 in_place places n = slice_index_or places (place_of n) None
 
--- Each number of the window has its message in its place, and its bit tells whether it was held. Nothing past the window was held, nor a number 0; up to the safe mark all was.
+-- Each number of the window has its message in its place, and its bit tells whether it was held. Nothing past the
+-- window was held, nor a number 0; up to the safe mark all was.
 pub record IsWindow {A : Type 0} (w : Windowed A) (front top : ℕ) (words : List ℕ) (places : List (Option (Message A))) : Type 0 where
   pub front_is : front ≡ front_of w.held w.ring
   pub top_is : top ≡ highest w.held w.ring

@@ -1,4 +1,5 @@
--- A window as contracts see it: all messages of one ring that were ever held, newest first, and the safe mark up to which the program may have forgotten them. Token and window, rules 1, 2 and 4 of docs/PROTOCOL.md.
+-- A window as contracts see it: all messages of one ring that were ever held, newest first, and the safe mark up to
+-- which the program may have forgotten them. Token and window, rules 1, 2 and 4 of docs/PROTOCOL.md.
 use Rattle.std.specs.Prelude.{ℕ, max, Bool, ◌&&◌, nat_lt, if◌then◌else◌, List, [], ◌∷◌, take, Option, None}
 use Rattle.ring_base.specs.Rings.{same_ring}
 use Rattle.ring_base.specs.declared.ring_id.RingId.{RingId}

@@ -90,7 +90,8 @@ pub record CommitFits (t : CommitToken) : Type 0 where
 -- the limits that join the fields
 abbrev pub commit_test : CommitToken → Bool
 commit_test t =
-    nat_le 1 t.ring.seq && ((not (t.members == nobody) && (t.ring.rep == smallest t.members)) && (nat_le 1 t.hop && (nat_le t.hop (2 * size t.members) && are_reports t.ring (elements t.members) t.entries)))
+    nat_le 1 t.ring.seq && ((not (t.members == nobody) && (t.ring.rep == smallest t.members))
+    && (nat_le 1 t.hop && (nat_le t.hop (2 * size t.members) && are_reports t.ring (elements t.members) t.entries)))
 
 abbrev Raw : Type 0
 Raw = RingId × (ℕ × (ℕ × List CommitEntry))
@@ -137,7 +138,15 @@ commit_format = tested_format commit_fields told commit_test commit_spelling Com
   spelled = λ p. refl;
   fits = fits;
   back = λ t f. ((t.ring, (t.members, (t.hop, t.entries))), (f.ring, (f.members, (commit_hop t f, (f.count, f.each)))), refl);
-  passes = λ t f. rw (le-leb _ _ f.ring_counted, ne_eqb _ _ f.some, eq-eqb _ _ f.representative, le-leb _ _ f.first_hop, le-leb _ _ f.last_hop, true-are_reports t.ring (elements t.members) t.entries f.reports) refl;
+  passes = λ t f. rw (
+    le-leb _ _ f.ring_counted,
+    ne_eqb _ _ f.some,
+    eq-eqb _ _ f.representative,
+    le-leb _ _ f.first_hop,
+    le-leb _ _ f.last_hop,
+    true-are_reports t.ring (elements t.members) t.entries f.reports,
+  )
+      refl;
 })
 
 abbrev pub commit : Format CommitToken

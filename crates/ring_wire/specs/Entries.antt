@@ -1,10 +1,12 @@
 -- How the entries of a commit token are spelled.
 -- The commit entry, of docs/FORMATS.md.
-use Rattle.std.proofs.Common.{◌≡◌, ℕ, zero, suc, ◌+◌, ◌<◌, ◌≤◌, ◌*◌, ◌/◌, ◌%◌, Bool, true, false, List, [], ◌∷◌, length, Option, refl, subst, arith, add-one, inl, inr, eq-eqb}
+use Rattle.std.proofs.Common.{◌≡◌, ℕ, zero, suc, ◌+◌, ◌<◌, ◌≤◌, ◌*◌, ◌/◌, ◌%◌, Bool, true, false, List, [], ◌∷◌, length}
+use Rattle.std.proofs.Common.{Option, refl, subst, arith, add-one, inl, inr, eq-eqb}
 use Rattle.std.specs.Prelude.{nat_le, nat_lt, ◌&&◌, ◌||◌, not, ◌==◌, slice_index}
 use Rattle.std.specs.List.{AllByRecursion, list_all}
 use Rattle.std.proofs.lemmas.Nat.Bits.{bit_at-zero}
-use Rattle.std.proofs.lemmas.Bool.{cases_lt, cases_Bool, leb-true, le-leb, ltb-false, le-ltb, eqb-true, and_parts, not-true, and_cases, or_parts, both_ways, and_right}
+use Rattle.std.proofs.lemmas.Bool.{cases_lt, cases_Bool, leb-true, le-leb, ltb-false, le-ltb, eqb-true, and_parts}
+use Rattle.std.proofs.lemmas.Bool.{not-true, and_cases, or_parts, both_ways, and_right}
 use Rattle.byteorder.specs.Endian.{big_bytes}
 use Rattle.ring_base.specs.Numbers.{max_number, window_size, has_bit}
 use Rattle.ring_base.specs.declared.ring_id.RingId.{RingId}
@@ -36,7 +38,8 @@ pub held_test-zero : (front mark : ℕ) (held : List ℕ) → held_test front ma
 unfolding held_test
 held_test-zero front mark held = refl
 
-pub held_test-more : (front mark : ℕ) (held : List ℕ) (j : ℕ) → held_test front mark held j ≡ true → is_wrong front mark held j ≡ false → held_test front mark held (j + 1) ≡ true
+pub held_test-more : (front mark : ℕ) (held : List ℕ) (j : ℕ) → held_test front mark held j ≡ true
+    → is_wrong front mark held j ≡ false → held_test front mark held (j + 1) ≡ true
 unfolding held_test
 held_test-more front mark held j h w = rw (add-one, h, w) refl
 
@@ -53,7 +56,9 @@ held_test-wrong front mark held j (suc n) lt w =
 -- a wrong bit stays wrong, however many follow
 pub held_test-longer : (front mark : ℕ) (held : List ℕ) (m n : ℕ) → m ≤ n → held_test front mark held m ≡ false → held_test front mark held n ≡ false
 unfolding held_test
-held_test-longer front mark held m zero le wrong = absurd (let e : m ≡ 0 = omega arith in both_ways _ (subst (λ (k : ℕ). held_test front mark held k ≡ false) e wrong) (held_test-zero front mark held))
+held_test-longer front mark held m zero le wrong =
+    absurd (let e : m ≡ 0 = omega arith in both_ways _ (subst (λ (k : ℕ). held_test front mark held k ≡ false) e wrong)
+    (held_test-zero front mark held))
 held_test-longer front mark held m (suc n) le wrong =
     elim (cases_lt n m) [
       | inl all ↦ subst (λ (k : ℕ). held_test front mark held k ≡ false) (let e : m ≡ suc n = omega arith in e) wrong
@@ -71,13 +76,17 @@ no_wrong front mark held byte bit lt none = rw (no_bit held byte bit lt none) re
 
 skipped : (front mark : ℕ) (held : List ℕ) (byte bits : ℕ) → bits ≤ 8 → slice_index held byte ≡ 0 → held_test front mark held (8 * byte) ≡ true
     → held_test front mark held (8 * byte + bits) ≡ true
-skipped front mark held byte zero le none before = subst (λ (k : ℕ). held_test front mark held k ≡ true) (let e : 8 * byte ≡ 8 * byte + 0 = omega arith in e) before
+skipped front mark held byte zero le none before = subst (λ (k : ℕ). held_test front mark held k ≡ true)
+    (let e : 8 * byte ≡ 8 * byte + 0 = omega arith in e) before
 skipped front mark held byte (suc bits) le none before =
-    let more = held_test-more front mark held (8 * byte + bits) (skipped front mark held byte bits (omega arith) none before) (no_wrong front mark held byte bits (omega arith) none) in
+    let more = held_test-more front mark held (8 * byte + bits)
+    (skipped front mark held byte bits (omega arith) none before)
+    (no_wrong front mark held byte bits (omega arith) none) in
     subst (λ (k : ℕ). held_test front mark held k ≡ true) (let e : 8 * byte + bits + 1 ≡ 8 * byte + suc bits = omega arith in e) more
 
 -- of a byte 0 no bit is wrong
-pub held_test-skip : (front mark : ℕ) (held : List ℕ) (byte : ℕ) → slice_index held byte ≡ 0 → held_test front mark held (8 * byte) ≡ true → held_test front mark held (8 * byte + 8) ≡ true
+pub held_test-skip : (front mark : ℕ) (held : List ℕ) (byte : ℕ) → slice_index held byte ≡ 0
+    → held_test front mark held (8 * byte) ≡ true → held_test front mark held (8 * byte + 8) ≡ true
 held_test-skip front mark held byte none before = skipped front mark held byte 8 (omega arith) none before
 
 may_hold : (front mark : ℕ) (held : List ℕ) (j : ℕ) → is_wrong front mark held j ≡ false → bit_of held j ≡ true → MayHold front mark j
@@ -92,7 +101,8 @@ may_hold front mark held j right set =
           ]
     ]
 
-pub held_test-true : (front mark : ℕ) (held : List ℕ) (n : ℕ) → held_test front mark held n ≡ true → (j : ℕ) → j < n → bit_of held j ≡ true → MayHold front mark j
+pub held_test-true : (front mark : ℕ) (held : List ℕ) (n : ℕ) → held_test front mark held n ≡ true → (j : ℕ) → j < n
+    → bit_of held j ≡ true → MayHold front mark j
 unfolding held_test
 held_test-true front mark held zero h j lt set = absurd (omega arith)
 held_test-true front mark held (suc n) h j lt set =
@@ -114,10 +124,14 @@ not_wrong front mark held j may =
       | inr clear ↦ rw clear refl
     ]
 
-pub true-held_test : (front mark : ℕ) (held : List ℕ) (n : ℕ) → ((j : ℕ) → j < n → bit_of held j ≡ true → MayHold front mark j) → held_test front mark held n ≡ true
+pub true-held_test : (front mark : ℕ) (held : List ℕ) (n : ℕ) → ((j : ℕ) → j < n → bit_of held j ≡ true
+    → MayHold front mark j) → held_test front mark held n ≡ true
 unfolding held_test
 true-held_test front mark held zero may = refl
-true-held_test front mark held (suc n) may = rw (true-held_test front mark held n (λ j lt. may j (omega arith)), not_wrong front mark held n (may n (omega arith))) refl
+true-held_test front mark held (suc n) may = rw (
+  true-held_test front mark held n (λ j lt. may j (omega arith)),
+  not_wrong front mark held n (may n (omega arith)),
+) refl
 
 -- ---- bits that are all clear
 
@@ -161,7 +175,9 @@ nothing_test e = (e.front == 0) && ((e.mark == 0) && are_zero e.held)
 
 -- the limits that join the fields
 abbrev pub entry_test : CommitEntry → Bool
-entry_test e = nat_le e.mark e.front && (nat_le e.front max_number && (nat_le e.front (e.mark + window_size) && (held_test e.front e.mark e.held 256 && (not (e.old.seq == 0) || nothing_test e))))
+entry_test e = nat_le e.mark e.front
+    && (nat_le e.front max_number && (nat_le e.front (e.mark + window_size)
+    && (held_test e.front e.mark e.held 256 && (not (e.old.seq == 0) || nothing_test e))))
 
 is_nothing : (e : CommitEntry) → (not (e.old.seq == 0) || nothing_test e) ≡ true → e.old.seq ≡ 0 → ReportsNothing e
 is_nothing e h z =

@@ -215,7 +215,11 @@ unfolding frame_at
 frame_format {A} = told_format (frame_fields {A = A}) told spelling_of FrameFits (record {
   spelled = spelled;
   fits = λ p f. f.1.0.1;
-  back = λ f g. (((84, 82), (version_of f, f)), (((omega arith, omega arith), refl), ((version_of-byte f, g), eq-eqb (version_of f) (version_of f) refl)), refl);
+  back = λ f g. (
+    ((84, 82), (version_of f, f)),
+    (((omega arith, omega arith), refl), ((version_of-byte f, g), eq-eqb (version_of f) (version_of f) refl)),
+    refl,
+  );
 })
 
 pub length-frame : {A : Type 0} (f : Frame A) → FrameFits f → length (spelling_of f) ≤ 7321

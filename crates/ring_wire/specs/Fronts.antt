@@ -1,8 +1,11 @@
 -- What stands at the front of bytes.
-use Rattle.std.proofs.Common.{◌≡◌, ℕ, ◌+◌, ◌-◌, ◌≤◌, ◌⊎◌, true, false, List, [], ◌++◌, length, take, drop, Option, Some, None, Result, Ok, Err, refl, sym, ap, subst, ◌∙◌, arith}
+use Rattle.std.proofs.Common.{◌≡◌, ℕ, ◌+◌, ◌-◌, ◌≤◌, ◌⊎◌, true, false, List, [], ◌++◌, length, take, drop, Option, Some}
+use Rattle.std.proofs.Common.{None, Result, Ok, Err, refl, sym, ap, subst, ◌∙◌, arith}
 use Rattle.std.specs.Prelude.{IsSome, IfSome}
 use Rattle.ring_base.specs.declared.fault.Fault.{Fault}
-use Rattle.ring_base.specs.declared.fault.Fault.TheVariants.{NotMember, PendingFull, OpTooLong, Conflict, Stale, NumberGap, SessionsFull, Stopped, BookFull, Stranger, Memory, BadFrame, BadScript, NoAnswer, BadSnapshot}
+use Rattle.ring_base.specs.declared.fault.Fault.TheVariants.{NotMember, PendingFull, OpTooLong, Conflict, Stale}
+use Rattle.ring_base.specs.declared.fault.Fault.TheVariants.{NumberGap, SessionsFull, Stopped, BookFull, Stranger}
+use Rattle.ring_base.specs.declared.fault.Fault.TheVariants.{Memory, BadFrame, BadScript, NoAnswer, BadSnapshot}
 use Rattle.ring_layout.specs.Reading.{IsFormat, IsBytes, Refuses}
 use Rattle.ring_layout.specs.ReadingLaws.{some_is}
 use Rattle.std.proofs.lemmas.List.{length-append, length-drop, append-nil, take_all, take_at, take-append-drop}
@@ -38,7 +41,8 @@ same_front {A} {spelling} {Fits} {at} p v w x y f g e =
 
 -- what was read and is left are all
 pub is_got : {A : Type 0} {spelling : A → List ℕ} {Fits : A → Type 0} {at : List ℕ → Option (A × List ℕ)} → IsFormat spelling Fits at
-    → (bytes : List ℕ) (v : A) (rest : List ℕ) → IsBytes bytes → at bytes ≡ Some (v, rest) → (length rest ≤ length bytes) × IsGot spelling Fits bytes v (length bytes - length rest)
+    → (bytes : List ℕ) (v : A) (rest : List ℕ) → IsBytes bytes → at bytes ≡ Some (v, rest)
+    → (length rest ≤ length bytes) × IsGot spelling Fits bytes v (length bytes - length rest)
 is_got {A} {spelling} {Fits} {at} p bytes v rest fits e =
     let t = p.takes bytes (v, rest) fits e in
     let l : length bytes ≡ length (spelling v) + length rest = ap length t.0.parts ∙ length-append (spelling v) rest in
@@ -49,7 +53,8 @@ is_got {A} {spelling} {Fits} {at} p bytes v rest fits e =
 pub is_whole : {A : Type 0} {spelling : A → List ℕ} {Fits : A → Type 0} {at : List ℕ → Option (A × List ℕ)} → IsFormat spelling Fits at
     → (bytes : List ℕ) (v : A) (n : ℕ) (w : A) → IsGot spelling Fits bytes v n → Fits w → bytes ≡ spelling w → n ≡ length bytes
 is_whole {A} {spelling} {Fits} {at} p bytes v n w g f e =
-    let both : spelling w ++ [] ≡ spelling v ++ drop n bytes = append-nil (spelling w) ∙ sym e ∙ sym (take-append-drop n bytes) ∙ ap (λ (t : List ℕ). t ++ drop n bytes) g.front in
+    let both : spelling w ++ [] ≡ spelling v ++ drop n bytes = append-nil (spelling w) ∙ sym e
+    ∙ sym (take-append-drop n bytes) ∙ ap (λ (t : List ℕ). t ++ drop n bytes) g.front in
     let s = same_front p w v [] (drop n bytes) f g.fits both in
     let rest : 0 ≡ length (drop n bytes) = ap length s.1 in
     omega (arith, rest, length-drop n bytes, g.within)
@@ -94,7 +99,8 @@ only_memory NoAnswer r x s h = absurd h
 only_memory BadSnapshot r x s h = absurd h
 
 pub only_it : {A : Type 0} {spelling : A → List ℕ} {Fits : A → Type 0} {at : List ℕ → Option (A × List ℕ)} → IsFormat spelling Fits at
-    → (bytes : List ℕ) (w : A) (left : List ℕ) (v : A) (rest : List ℕ) → at bytes ≡ Some (w, left) → Fits v → bytes ≡ spelling v ++ rest → (w ≡ v) × (length bytes - length left ≡ length (spelling v))
+    → (bytes : List ℕ) (w : A) (left : List ℕ) (v : A) (rest : List ℕ) → at bytes ≡ Some (w, left) → Fits v
+    → bytes ≡ spelling v ++ rest → (w ≡ v) × (length bytes - length left ≡ length (spelling v))
 only_it {A} {spelling} {Fits} {at} p bytes w left v rest h f e =
     let s = some_is (w, left) (v, rest) (sym h ∙ read_is p bytes v rest f e) in
     let l = ap length e in
@@ -103,5 +109,6 @@ only_it {A} {spelling} {Fits} {at} p bytes w left v rest h f e =
     (ap (λ (q : A × List ℕ). q.0) s, omega (arith, l, k, same))
 
 -- a front of all bytes is the bytes
-pub got_whole : {A : Type 0} {spelling : A → List ℕ} {Fits : A → Type 0} (bytes : List ℕ) {v : A} (n : ℕ) → IsGot spelling Fits bytes v n → n ≡ length bytes → bytes ≡ spelling v
+pub got_whole : {A : Type 0} {spelling : A → List ℕ} {Fits : A → Type 0} (bytes : List ℕ) {v : A} (n : ℕ)
+    → IsGot spelling Fits bytes v n → n ≡ length bytes → bytes ≡ spelling v
 got_whole {A} {spelling} {Fits} bytes {v} n g e = sym (take_all n bytes (omega arith)) ∙ g.front

@@ -1,4 +1,5 @@
--- Which texts spell which frames: the grammar, with a case for each kind of frame and each payload. The limits of a row's values are its `Fits`. Frames and Payloads, docs/FORMATS.md.
+-- Which texts spell which frames: the grammar, with a case for each kind of frame and each payload. The limits of a
+-- row's values are its `Fits`. Frames and Payloads, docs/FORMATS.md.
 use Rattle.std.specs.Prelude.{◌≡◌, ℕ, ◌≤◌, ◌⊎◌, List, [], ◌∷◌, length}
 use Rattle.std.specs.List.{flat_map}
 use Rattle.byteorder.specs.Endian.{big_bytes}
@@ -18,7 +19,8 @@ use Rattle.ring_payload.specs.declared.content.Wrapped.{Wrapped}
 use Rattle.ring_payload.specs.Calls.{call_spelling, CallFits}
 use Rattle.ring_payload.specs.Contents.{WrappedFits}
 use Rattle.ring_payload.specs.Heads.{HeadFits}
-use Rattle.ring_payload.specs.Limits.{call_tag, wrapped_tag, end_tag, head_tag, part_tag, pack_tag, trimmed_tag, snap_tag, message_kind, token_kind, join_kind, commit_kind, first_version}
+use Rattle.ring_payload.specs.Limits.{call_tag, wrapped_tag, end_tag, head_tag, part_tag, pack_tag, trimmed_tag}
+use Rattle.ring_payload.specs.Limits.{snap_tag, message_kind, token_kind, join_kind, commit_kind, first_version}
 use Rattle.ring_payload.specs.Packs.{PackFits}
 use Rattle.ring_payload.specs.Parts.{PartFits}
 use Rattle.ring_payload.specs.Snaps.{SnapFits}
@@ -51,7 +53,8 @@ SpellsWhole h text = HeadFits h × (h.trimmed ≡ 0) × (text ≡ some_ring_spel
 
 -- a head of a log that is trimmed: the same, and the trimmed length
 abbrev pub SpellsTrimmed : Head → List ℕ → Type 0
-SpellsTrimmed h text = HeadFits h × (1 ≤ h.trimmed) × (text ≡ some_ring_spelling h.last ⊕ big_bytes 8 h.length ⊕ big_bytes 8 h.committed ⊕ big_bytes 8 h.trimmed)
+SpellsTrimmed h text = HeadFits h × (1 ≤ h.trimmed)
+    × (text ≡ some_ring_spelling h.last ⊕ big_bytes 8 h.length ⊕ big_bytes 8 h.committed ⊕ big_bytes 8 h.trimmed)
 
 -- each has its tag
 abbrev pub SpellsHead : Head → List ℕ → Type 0
@@ -111,7 +114,8 @@ abbrev pub SpellsToken : Token → List ℕ → Type 0
 SpellsToken t text =
     TokenFits t ×
     (text
-    ≡ ring_spelling t.ring ⊕ big_bytes 8 t.number ⊕ big_bytes 8 t.seq ⊕ big_bytes 8 t.aru ⊕ some_proc_spelling t.aru_id ⊕ length t.requests ∷ flat_map (λ n. big_bytes 8 n) t.requests)
+    ≡ ring_spelling t.ring ⊕ big_bytes 8 t.number ⊕ big_bytes 8 t.seq ⊕ big_bytes 8 t.aru ⊕ some_proc_spelling
+    t.aru_id ⊕ length t.requests ∷ flat_map (λ n. big_bytes 8 n) t.requests)
 
 -- a join: sender, number, whom it reckons with, whom it has given up
 abbrev pub SpellsJoin : Join → List ℕ → Type 0

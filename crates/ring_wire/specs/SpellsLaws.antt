@@ -13,7 +13,8 @@ use Rattle.ring_payload.specs.declared.head.Head.{Head}
 use Rattle.ring_payload.specs.Calls.{call_spelling}
 use Rattle.ring_payload.specs.Contents.{content_spelling, ContentFits, wrapped_spelling, WrappedFits}
 use Rattle.ring_payload.specs.Heads.{head_spelling, HeadFits, is_whole, is_trimmed, positive}
-use Rattle.ring_payload.specs.Limits.{call_tag, wrapped_tag, end_tag, head_tag, part_tag, pack_tag, trimmed_tag, snap_tag, message_kind, token_kind, join_kind, commit_kind, first_version}
+use Rattle.ring_payload.specs.Limits.{call_tag, wrapped_tag, end_tag, head_tag, part_tag, pack_tag, trimmed_tag}
+use Rattle.ring_payload.specs.Limits.{snap_tag, message_kind, token_kind, join_kind, commit_kind, first_version}
 use Rattle.ring_payload.specs.Packs.{pack_spelling}
 use Rattle.ring_payload.specs.Parts.{part_spelling}
 use Rattle.ring_payload.specs.Snaps.{snap_spelling}

@@ -52,7 +52,8 @@ length-requests (n ∷ ns) =
 -- ---- the token
 
 abbrev pub token_spelling : Token → List ℕ
-token_spelling t = ring_spelling t.ring ⊕ big_bytes 8 t.number ⊕ big_bytes 8 t.seq ⊕ big_bytes 8 t.aru ⊕ some_proc_spelling t.aru_id ⊕ requests_spelling t.requests
+token_spelling t = ring_spelling t.ring ⊕ big_bytes 8 t.number ⊕ big_bytes 8 t.seq ⊕ big_bytes 8 t.aru ⊕
+    some_proc_spelling t.aru_id ⊕ requests_spelling t.requests
 
 pub record TokenFits (t : Token) : Type 0 where
   pub ring : RingFits t.ring
@@ -73,7 +74,9 @@ aru_id_test t = if t.aru == t.seq then is_none t.aru_id else is_some t.aru_id
 
 -- the limits that join the fields
 abbrev pub token_test : Token → Bool
-token_test t = nat_le 1 t.ring.seq && (nat_le 1 t.number && (nat_le t.number max_number && (nat_le t.aru t.seq && (nat_le t.seq max_number && (aru_id_test t && ascends 0 t.seq t.requests)))))
+token_test t = nat_le 1 t.ring.seq &&
+    (nat_le 1 t.number && (nat_le t.number max_number
+    && (nat_le t.aru t.seq && (nat_le t.seq max_number && (aru_id_test t && ascends 0 t.seq t.requests)))))
 
 none_tested : (o : Option ℕ) (a b : ℕ) → (if a == b then is_none o else is_some o) ≡ true → (o ≡ None) ↔ (a ≡ b)
 none_tested None a b h = (λ n. elim (cases_Bool (a == b)) [ inl e ↦ eqb-true a b e | inr e ↦ absurd (let f : false ≡ true = rw e at h in cc) ], λ e. refl)
@@ -125,10 +128,31 @@ unfolding token_at
 token_format = tested_format token_fields told token_test token_spelling TokenFits (record {
   spelled = λ p. refl;
   fits = fits;
-  back = λ t f. ((t.ring, (t.number, (t.seq, (t.aru, (t.aru_id, t.requests))))), (f.ring, (omega (arith, f.number), (omega (arith, f.seq), (omega (arith, f.seq, f.aru), (f.aru_id, token_requests t f))))), refl);
+  back = λ t f. (
+    (t.ring, (t.number, (t.seq, (t.aru, (t.aru_id, t.requests))))),
+    (
+      f.ring,
+      (
+        omega (arith, f.number),
+        (
+          omega (arith, f.seq),
+          (omega (arith, f.seq, f.aru), (f.aru_id, token_requests t f)),
+        ),
+      ),
+    ),
+    refl,
+  );
   passes = λ t f.
       let up = increasing-ascends 0 t.seq t.requests (IsStrictlyIncreasing-from_zero t.seq t.requests f.ascending f.each) (each_le 0 t.seq t.requests f.each) in
-      rw (le-leb _ _ f.ring_counted, le-leb _ _ f.number_counted, le-leb _ _ f.number, le-leb _ _ f.aru, le-leb _ _ f.seq, tested_none t.aru_id t.aru t.seq f.aru_id_none, up) refl;
+      rw (
+        le-leb _ _ f.ring_counted,
+        le-leb _ _ f.number_counted,
+        le-leb _ _ f.number,
+        le-leb _ _ f.aru,
+        le-leb _ _ f.seq,
+        tested_none t.aru_id t.aru t.seq f.aru_id_none,
+        up,
+      ) refl;
 })
 
 abbrev pub token : Format Token

@@ -1,5 +1,6 @@
 -- In a run what a node committed only grows, so the copies of the calls that it answers are left.
-use Rattle.std.proofs.Common.{◌≡◌, ℕ, zero, suc, ◌-◌, ◌≤◌, Bool, true, false, ◌==◌, List, [], ◌∷◌, ◌++◌, length, drop, Option, Some, slice_get, refl, ap, ◌∙◌, sym, subst}
+use Rattle.std.proofs.Common.{◌≡◌, ℕ, zero, suc, ◌-◌, ◌≤◌, Bool, true, false, ◌==◌, List, [], ◌∷◌, ◌++◌, length, drop}
+use Rattle.std.proofs.Common.{Option, Some, slice_get, refl, ap, ◌∙◌, sym, subst}
 use Rattle.std.proofs.Math.Seq.{drop-append_seam}
 use Rattle.std.proofs.lemmas.Bool.{cond-true, eq-eqb}
 use Rattle.ring_base.specs.Fronts.{IsFront}
@@ -29,7 +30,8 @@ use Rattle.ring_linear.proofs.Worlds.{WorldKnows, run-knows, opening-knows}
 use Rattle.ring_world.specs.Spares.{AllLeft, after_answers, Holds}
 use Rattle.ring_world.proofs.Spared.{goes_on}
 
-each-at : {A : Type 0} (xs ys : List (List (Call A))) (k : ℕ) (a b : List (Call A)) → EachGrows xs ys → slice_get xs k ≡ Some a → slice_get ys k ≡ Some b → IsFront a b
+each-at : {A : Type 0} (xs ys : List (List (Call A))) (k : ℕ) (a b : List (Call A)) → EachGrows xs ys
+    → slice_get xs k ≡ Some a → slice_get ys k ≡ Some b → IsFront a b
 each-at [] ys k a b h e f = absurd (let q : ⊥ = cc e in q)
 each-at (x ∷ xs) [] k a b h e f = absurd h
 each-at {A} (x ∷ xs) (y ∷ ys) zero a b h e f =
@@ -38,7 +40,8 @@ each-at {A} (x ∷ xs) (y ∷ ys) zero a b h e f =
     subst (λ (l : List (Call A)). IsFront a l) two (subst (λ (l : List (Call A)). IsFront l y) one h.0)
 each-at (x ∷ xs) (y ∷ ys) (suc k) a b h e f = each-at xs ys k a b h.1 e f
 
-pub hands-committed : {A : Type 0} (group : Group) (payloads : List (Payload A)) (life : List (Stay A)) → committed_of group (hands payloads life) ≡ committed_of group life
+pub hands-committed : {A : Type 0} (group : Group) (payloads : List (Payload A)) (life : List (Stay A))
+    → committed_of group (hands payloads life) ≡ committed_of group life
 hands-committed group payloads [] = refl
 hands-committed group payloads (s ∷ older) = refl
 
@@ -50,13 +53,17 @@ module _ {O A : Type 0} (object : Sequential O) (group : Group) (few : group.cou
   pub grows : (e : Event A) (i : ℕ) → 1 ≤ i → i ≤ group.count → IsFront (node_committed (now.nodes i)) (node_committed ((happens object now e).nodes i))
   grows e i low high =
       let k = run-knows object group (world_opening group) events (opening-knows group) in
-      let k' = subst (λ (x : World A). WorldKnows group x) (run-more object (world_opening group) events e) (run-knows object group (world_opening group) (events ++ e ∷ []) (opening-knows group)) in
-      let step = order-step object group now e k (orderly object group few events) (orderly-after object group few events e) (lives_on object group events (e ∷ [])) in
-      each-at (committed_in now) (committed_in (happens object now e)) (i - 1) (node_committed (now.nodes i)) (node_committed ((happens object now e).nodes i)) step.grows
+      let k' = subst (λ (x : World A). WorldKnows group x) (run-more object (world_opening group) events e)
+      (run-knows object group (world_opening group) (events ++ e ∷ []) (opening-knows group)) in
+      let step = order-step object group now e k (orderly object group few events)
+      (orderly-after object group few events e) (lives_on object group events (e ∷ [])) in
+      each-at (committed_in now) (committed_in (happens object now e)) (i - 1) (node_committed (now.nodes i))
+      (node_committed ((happens object now e).nodes i)) step.grows
       (committed-at group now k i low high) (committed-at group (happens object now e) k' i low high)
 
   -- so by a step that an event is
-  pub step-grows : (e : Event A) (i : ℕ) (input : Input A) → 1 ≤ i → i ≤ group.count → is_node now i ≡ true → happens object now e ≡ stepped object now i input →
+  pub step-grows : (e : Event A) (i : ℕ) (input : Input A) → 1 ≤ i → i ≤ group.count → is_node now i ≡ true
+      → happens object now e ≡ stepped object now i input →
       IsFront (node_committed (now.nodes i)) (node_committed (node_step object (now.nodes i) input).node)
   step-grows e i input low high known same =
       let s = node_step object (now.nodes i) input in
@@ -67,10 +74,12 @@ module _ {O A : Type 0} (object : Sequential O) (group : Group) (few : group.cou
 -- What a step answers
 
 module _ {O A : Type 0} (object : Sequential O) where
-  settled-goes : (b : Bool) (n new : Node A) (outs : List (Out A)) (life : List (Stay A)) (calls : List (Option (Call A))) → committed_of n.group life ≡ node_committed new → new.tickets ≡ n.tickets →
+  settled-goes : (b : Bool) (n new : Node A) (outs : List (Out A)) (life : List (Stay A))
+      (calls : List (Option (Call A))) → committed_of n.group life ≡ node_committed new → new.tickets ≡ n.tickets →
       IsFront (node_committed n) (node_committed (settled object b n new outs life).node) → Holds calls n.tickets (node_committed n) →
       AllLeft calls (settled object b n new outs life).answers
-      × Holds (after_answers calls (settled object b n new outs life).answers) (settled object b n new outs life).node.tickets (node_committed (settled object b n new outs life).node)
+      × Holds (after_answers calls (settled object b n new outs life).answers)
+      (settled object b n new outs life).node.tickets (node_committed (settled object b n new outs life).node)
   settled-goes false n new outs life calls is tickets front h = (tt, h)
   settled-goes true n new outs life calls is tickets front h =
       let old = node_committed n in
@@ -82,14 +91,17 @@ module _ {O A : Type 0} (object : Sequential O) where
             (subst (Holds (after_answers calls (settled object true n new outs life).answers) n.tickets) all g.holds),
       )
 
-  core-goes : (n : Node A) (s : Stepped A) (calls : List (Option (Call A))) → IsFront (node_committed n) (node_committed (after_core object n s).node) → Holds calls n.tickets (node_committed n) →
-      AllLeft calls (after_core object n s).answers × Holds (after_answers calls (after_core object n s).answers) (after_core object n s).node.tickets (node_committed (after_core object n s).node)
+  core-goes : (n : Node A) (s : Stepped A) (calls : List (Option (Call A))) → IsFront (node_committed n)
+      (node_committed (after_core object n s).node) → Holds calls n.tickets (node_committed n) →
+      AllLeft calls (after_core object n s).answers × Holds (after_answers calls (after_core object n s).answers)
+      (after_core object n s).node.tickets (node_committed (after_core object n s).node)
   core-goes n s calls front h =
       let life = lived_through n.life s.outs in
       let due = due_by n s.core n.life s.outs in
       settled-goes (is_sound n.group life) n (walked n s.core life due) s.outs life calls (sym (hands-committed n.group due life)) refl front h
 
-  pub step-goes : (n : Node A) (input : Input A) (calls : List (Option (Call A))) → IsFront (node_committed n) (node_committed (node_step object n input).node) → Holds calls n.tickets (node_committed n) →
+  pub step-goes : (n : Node A) (input : Input A) (calls : List (Option (Call A))) → IsFront (node_committed n)
+      (node_committed (node_step object n input).node) → Holds calls n.tickets (node_committed n) →
       AllLeft calls (node_step object n input).answers
       × Holds (after_answers calls (node_step object n input).answers) (node_step object n input).node.tickets (node_committed (node_step object n input).node)
   step-goes n (FrameInput frame) calls front h = core-goes n (ring_step n.core (CoreFrame frame)) calls front h

@@ -25,7 +25,8 @@ module _ {O A : Type 0} (object : Sequential O) where
   handed_is w i None = refl
   handed_is w i (Some f) = hands_if (has f.to i) w i f.frame
 
-at_fits : {A : Type 0} (frames : List (Carried A)) (k : ℕ) (f : Carried A) → Each (λ (g : Carried A). FrameFits g.frame) frames → frame_at frames k ≡ Some f → FrameFits f.frame
+at_fits : {A : Type 0} (frames : List (Carried A)) (k : ℕ) (f : Carried A)
+    → Each (λ (g : Carried A). FrameFits g.frame) frames → frame_at frames k ≡ Some f → FrameFits f.frame
 at_fits frames zero f h e = absurd (let q : ⊥ = cc e in q)
 at_fits {A} frames (suc k) f h e = each-get (λ (g : Carried A). FrameFits g.frame) frames k f h e
 
@@ -33,11 +34,13 @@ from_if : {A : Type 0} (b : Bool) (f g : Frame A) → (if b then Some f else Non
 from_if true f g e = cc e
 from_if false f g e = absurd (let q : ⊥ = cc e in q)
 
-one_fits : {A : Type 0} (o : Option (Carried A)) (i : ℕ) (frame : Frame A) → ((f : Carried A) → o ≡ Some f → FrameFits f.frame) → frame_for i o ≡ Some frame → FrameFits frame
+one_fits : {A : Type 0} (o : Option (Carried A)) (i : ℕ) (frame : Frame A)
+    → ((f : Carried A) → o ≡ Some f → FrameFits f.frame) → frame_for i o ≡ Some frame → FrameFits frame
 one_fits None i frame h e = absurd (let q : ⊥ = cc e in q)
 one_fits (Some f) i frame h e = subst FrameFits (from_if (has f.to i) f.frame frame e) (h f refl)
 
-pub frame_fits : {A : Type 0} (frames : List (Carried A)) (i k : ℕ) (frame : Frame A) → Each (λ (g : Carried A). FrameFits g.frame) frames → frame_for i (frame_at frames k) ≡ Some frame → FrameFits frame
+pub frame_fits : {A : Type 0} (frames : List (Carried A)) (i k : ℕ) (frame : Frame A)
+    → Each (λ (g : Carried A). FrameFits g.frame) frames → frame_for i (frame_at frames k) ≡ Some frame → FrameFits frame
 frame_fits frames i k frame h e = one_fits (frame_at frames k) i frame (λ f. at_fits frames k f h) e
 
 sent_if : {A : Type 0} (b : Bool) (i : ℕ) (f g : Frame A) → (if b then Some f else None) ≡ Some g → (if b then Some i else None) ≡ Some i

@@ -1,5 +1,6 @@
 -- The first of the longest orders, node by node.
-use Rattle.std.proofs.Common.{◌≡◌, ℕ, zero, suc, ◌+◌, ◌<◌, ◌≤◌, take, slice_get, Option, Some, None, add-one, true, false, List, [], ◌∷◌, ◌++◌, length, refl, ap, sym, ◌∙◌, arith, inl, inr}
+use Rattle.std.proofs.Common.{◌≡◌, ℕ, zero, suc, ◌+◌, ◌<◌, ◌≤◌, take, slice_get, Option, Some, None, add-one, true}
+use Rattle.std.proofs.Common.{false, List, [], ◌∷◌, ◌++◌, length, refl, ap, sym, ◌∙◌, arith, inl, inr}
 use Rattle.std.specs.Prelude.{nat_lt}
 use Rattle.std.proofs.lemmas.Bool.{cond-true, cond-false, cases_Bool, lt-ltb, le-ltb}
 use Rattle.std.proofs.lemmas.Bool.Decides.{nat_tests}
@@ -61,17 +62,24 @@ get-take (x ∷ xs) (suc k) y e = get-take xs k y e
 
 module _ {A : Type 0} (nodes : List (Node A)) (i : ℕ) (n : Node A) (at : slice_get nodes i ≡ Some n) where
   next-order : order_of (logs_of (take (i + 1) nodes)) ≡ longer (order_of (logs_of (take i nodes))) (deduplicated (node_committed n))
-  next-order = ap (λ xs. order_of (logs_of xs)) (take_more nodes i n at) ∙ ap order_of (map-append node_committed (take i nodes) (n ∷ [])) ∙ order-push (logs_of (take i nodes)) (node_committed n)
+  next-order = ap (λ xs. order_of (logs_of xs)) (take_more nodes i n at)
+      ∙ ap order_of (map-append node_committed (take i nodes) (n ∷ [])) ∙ order-push (logs_of (take i nodes))
+      (node_committed n)
 
-  pub replaced : length (order_of (logs_of (take i nodes))) < length (deduplicated (node_committed n)) → order_of (logs_of (take (i + 1) nodes)) ≡ deduplicated (node_committed n)
-  replaced l = next-order ∙ later (order_of (logs_of (take i nodes))) (deduplicated (node_committed n)) (lt-ltb (length (order_of (logs_of (take i nodes)))) (length (deduplicated (node_committed n))) l)
+  pub replaced : length (order_of (logs_of (take i nodes))) < length (deduplicated (node_committed n))
+      → order_of (logs_of (take (i + 1) nodes)) ≡ deduplicated (node_committed n)
+  replaced l = next-order ∙ later (order_of (logs_of (take i nodes))) (deduplicated (node_committed n))
+      (lt-ltb (length (order_of (logs_of (take i nodes)))) (length (deduplicated (node_committed n))) l)
 
   pub is-longest : length (order_of (logs_of (take i nodes))) < length (deduplicated (node_committed n)) → IsLongest (take (i + 1) nodes) (Some i)
   is-longest l = (n, (ap (λ k. slice_get (take k nodes) i) (add-one i) ∙ get-take nodes i n at), replaced l)
 
-  pub stays : length (deduplicated (node_committed n)) ≤ length (order_of (logs_of (take i nodes))) → order_of (logs_of (take (i + 1) nodes)) ≡ order_of (logs_of (take i nodes))
-  stays l = next-order ∙ first (order_of (logs_of (take i nodes))) (deduplicated (node_committed n)) (le-ltb (length (order_of (logs_of (take i nodes)))) (length (deduplicated (node_committed n))) l)
+  pub stays : length (deduplicated (node_committed n)) ≤ length (order_of (logs_of (take i nodes)))
+      → order_of (logs_of (take (i + 1) nodes)) ≡ order_of (logs_of (take i nodes))
+  stays l = next-order ∙ first (order_of (logs_of (take i nodes))) (deduplicated (node_committed n))
+      (le-ltb (length (order_of (logs_of (take i nodes)))) (length (deduplicated (node_committed n))) l)
 
-  pub still-longest : (o : Option ℕ) → length (deduplicated (node_committed n)) ≤ length (order_of (logs_of (take i nodes))) → IsLongest (take i nodes) o → IsLongest (take (i + 1) nodes) o
+  pub still-longest : (o : Option ℕ) → length (deduplicated (node_committed n)) ≤ length
+      (order_of (logs_of (take i nodes))) → IsLongest (take i nodes) o → IsLongest (take (i + 1) nodes) o
   still-longest None l h = stays l ∙ h
   still-longest (Some k) l h = (h.0, (ap (λ xs. slice_get xs k) (take_more nodes i n at) ∙ get-before (take i nodes) (n ∷ []) k h.0 h.1), stays l ∙ h.2)

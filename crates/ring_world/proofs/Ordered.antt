@@ -20,10 +20,14 @@ added false true xs c e = absurd (cc e)
 -- one call more
 pub ordered-push : {A : Type 0} (before : List (Call A)) (table table' : Table Content) (order order' : List (Call A)) (c : Call A) (told : Answer)
     → (is_done (table_answer nothing (table_after nothing before) c) ≡ takes_effect (deduplicated before) c) → IsOrdered before table order
-    → told ≡ table_answer nothing table c → table' ≡ table_next nothing table c → (b : Bool) → is_done told ≡ b → order' ≡ (if b then order ++ c ∷ [] else order) → IsOrdered (before ++ c ∷ []) table' order'
+    → told ≡ table_answer nothing table c → table' ≡ table_next nothing table c → (b : Bool) → is_done told ≡ b
+    → order' ≡ (if b then order ++ c ∷ [] else order) → IsOrdered (before ++ c ∷ []) table' order'
 ordered-push {A} before table table' order order' c told law h answer after b is more = record {
   table_is = after ∙ (ap (λ (t : Table Content). table_next nothing t c) h.table_is ∙ sym (fold-append (table_next nothing) (opening tt) before (c ∷ [])));
   order_is =
-      let done : b ≡ takes_effect (deduplicated before) c = sym is ∙ ap is_done answer ∙ (ap (λ (t : Table Content). is_done (table_answer nothing t c)) h.table_is ∙ law) in
-      more ∙ (added b (takes_effect (deduplicated before) c) order c done ∙ (ap (λ xs. xs ++ (if takes_effect (deduplicated before) c then c ∷ [] else [])) h.order_is ∙ sym (deduplicated-push before c)));
+      let done : b ≡ takes_effect (deduplicated before) c = sym is ∙ ap is_done answer
+      ∙ (ap (λ (t : Table Content). is_done (table_answer nothing t c)) h.table_is ∙ law) in
+      more ∙ (added b (takes_effect (deduplicated before) c) order c done
+      ∙ (ap (λ xs. xs ++ (if takes_effect (deduplicated before) c then c ∷ [] else [])) h.order_is
+      ∙ sym (deduplicated-push before c)));
 }

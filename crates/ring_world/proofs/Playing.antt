@@ -1,5 +1,6 @@
 -- A run goes on event by event, and only adds to what was.
-use Rattle.std.proofs.Common.{◌≡◌, ℕ, zero, suc, ◌+◌, ◌≤◌, length, arith, take, Some, slice_get, add-one, List, [], ◌∷◌, ◌++◌, refl, ap, ◌∙◌, sym, subst, inl, inr, append-nil, append_assoc}
+use Rattle.std.proofs.Common.{◌≡◌, ℕ, zero, suc, ◌+◌, ◌≤◌, length, arith, take, Some, slice_get, add-one, List, [], ◌∷◌}
+use Rattle.std.proofs.Common.{◌++◌, refl, ap, ◌∙◌, sym, subst, inl, inr, append-nil, append_assoc}
 use Rattle.ring_base.specs.Group.{Group}
 use Rattle.ring_object.specs.Operations.{Sequential}
 use Rattle.ring_history.specs.declared.event.Event.{Event}
@@ -27,18 +28,38 @@ module _ {O A : Type 0} (object : Sequential O) where
   pub goes_to : (e : Event A) (n : ℕ) (p q : Played A) → Goes object e p q → Goes object e p (record q { done = n })
   goes_to e n p q (inl d) = inl (record { kept = d.kept; copy = d.copy; group = d.group; events = d.events; told = d.told })
   goes_to e n p q (inr (inl d)) = inr (inl (record { node = d.node; steps = d.steps; known = d.known; group = d.group; events = d.events; told = d.told }))
-  goes_to e n p q (inr (inr d)) = inr (inr (record { node = d.node; call = d.call; issues = d.issues; known = d.known; taken = d.taken; group = d.group; events = d.events; told = d.told }))
+  goes_to e n p q (inr (inr d)) = inr (inr (record {
+    node = d.node;
+    call = d.call;
+    issues = d.issues;
+    known = d.known;
+    taken = d.taken;
+    group = d.group;
+    events = d.events;
+    told = d.told;
+  }))
 
   pub goes_from : (e : Event A) (n : ℕ) (p q : Played A) → Goes object e (record p { done = n }) q → Goes object e p q
   goes_from e n p q (inl d) = inl (record { kept = d.kept; copy = d.copy; group = d.group; events = d.events; told = d.told })
   goes_from e n p q (inr (inl d)) = inr (inl (record { node = d.node; steps = d.steps; known = d.known; group = d.group; events = d.events; told = d.told }))
-  goes_from e n p q (inr (inr d)) = inr (inr (record { node = d.node; call = d.call; issues = d.issues; known = d.known; taken = d.taken; group = d.group; events = d.events; told = d.told }))
+  goes_from e n p q (inr (inr d)) = inr
+      (inr (record {
+        node = d.node;
+        call = d.call;
+        issues = d.issues;
+        known = d.known;
+        taken = d.taken;
+        group = d.group;
+        events = d.events;
+        told = d.told;
+      }))
 
   pub plays_from : (es : List (Event A)) (n : ℕ) (p q : Played A) → Plays object es (record p { done = n }) q → Plays object es p q
   plays_from [] n p q h = h
   plays_from (e ∷ es) n p q h = (h.0, goes_from e n p h.0 h.1, h.2)
 
-  same_start : (p m : Played A) → m.group ≡ p.group → m.events ≡ p.events → m.told ≡ p.told → (e : Event A) (q : Played A) → Goes object e m q → Goes object e p q
+  same_start : (p m : Played A) → m.group ≡ p.group → m.events ≡ p.events → m.told ≡ p.told
+      → (e : Event A) (q : Played A) → Goes object e m q → Goes object e p q
   same_start p m a b c e q g =
       let one : Group → Played A = λ x. record { group = x; events = m.events; told = m.told; done = m.done } in
       let two : List (Event A) → Played A = λ x. record { group = p.group; events = x; told = m.told; done = m.done } in
@@ -47,7 +68,8 @@ module _ {O A : Type 0} (object : Sequential O) where
       goes_from e m.done p q (subst (λ (r : Played A). Goes object e r q) same g)
 
   -- an event more
-  pub plays_more : (es : List (Event A)) (e : Event A) (n : ℕ) (p m q : Played A) → Plays object es p m → Goes object e m q → Plays object (es ++ e ∷ []) p (record q { done = n })
+  pub plays_more : (es : List (Event A)) (e : Event A) (n : ℕ) (p m q : Played A) → Plays object es p m
+      → Goes object e m q → Plays object (es ++ e ∷ []) p (record q { done = n })
   plays_more [] e n p m q h g = (record q { done = n }, goes_to e n p q (same_start p m h.0 h.1 h.2 e q g), (refl, refl, refl))
   plays_more (d ∷ es) e n p m q h g = (h.0, h.1, plays_more es e n h.0 m q h.2 g)
 

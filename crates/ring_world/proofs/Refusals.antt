@@ -24,7 +24,9 @@ pub either : {X E : Type 0} (r : Result X E) (P : Type 0) → OnOk r P → OnErr
 either (Ok x) P a b = a
 either (Err e) P a b = b
 
-by_tests : (a b c : Bool) (f : Fault) → (if a then Some StoppedFault else if b then Some PendingFull else if c then Some PendingFull else None) ≡ Some f → f ≡ Memory → ⊥
+by_tests : (a b c : Bool) (f : Fault)
+    → (if a then Some StoppedFault else if b then Some PendingFull else if c then Some PendingFull else None) ≡ Some f
+    → f ≡ Memory → ⊥
 by_tests true b c f e m = cc (e, m)
 by_tests false true c f e m = cc (e, m)
 by_tests false false true f e m = cc (e, m)

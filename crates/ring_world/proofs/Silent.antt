@@ -1,5 +1,6 @@
 -- The step of a node that has stopped gives nothing and changes nothing.
-use Rattle.std.proofs.Common.{◌≡◌, ℕ, ◌+◌, map, filter, arith, Bool, true, false, ◌&&◌, List, [], ◌∷◌, ◌++◌, length, drop, refl, ap, ◌∙◌, sym, subst, append-nil, if◌then◌else◌}
+use Rattle.std.proofs.Common.{◌≡◌, ℕ, ◌+◌, map, filter, arith, Bool, true, false, ◌&&◌, List, [], ◌∷◌, ◌++◌, length}
+use Rattle.std.proofs.Common.{drop, refl, ap, ◌∙◌, sym, subst, append-nil, if◌then◌else◌}
 use Rattle.std.proofs.lemmas.Bool.{cond_both, cond-false, le-ltb}
 use Rattle.ring_base.specs.Processors.{has}
 use Rattle.ring_base.specs.declared.state.State.{State}
@@ -12,7 +13,8 @@ use Rattle.ring_core.specs.declared.input.Input.TheVariants.{Frame as FrameInput
 use Rattle.ring_core.specs.State.{Core, Stepped, halted}
 use Rattle.ring_core.specs.Naming.{is_named}
 use Rattle.ring_core.specs.Views.{takes_number, front, mark}
-use Rattle.ring_core.specs.Deciding.{Act, Ignore, Take, takes_of, members_of, decide_token, decide_join, decide_round, decide_if_named, decide_time, decide_payload, decide}
+use Rattle.ring_core.specs.Deciding.{Act, Ignore, Take, takes_of, members_of, decide_token, decide_join, decide_round}
+use Rattle.ring_core.specs.Deciding.{decide_if_named, decide_time, decide_payload, decide}
 use Rattle.ring_core.specs.Acting.{done}
 use Rattle.ring_core.specs.Giving.{installs_in, delivered, agreed_from, safe_from, given, may_install, settle}
 use Rattle.ring_core.specs.Stepping.{ring_step}
@@ -85,7 +87,8 @@ decides_frame {A} true c (MessageFrame x) e =
     ap decides e
 decides_frame true c (TokenFrame t) e = ap (λ s. decide_token s c t) e
 decides_frame true c (JoinFrame j) e = ap (λ s. decide_join s c j) e
-decides_frame {A} true c (CommitFrame k) e = cond_both (is_at c.me k) (decide_round c.state c k) Ignore (λ (a : Act A). a ≡ Ignore) (λ t. ap (λ s. decide_round s c k) e) (λ t. refl)
+decides_frame {A} true c (CommitFrame k) e = cond_both (is_at c.me k) (decide_round c.state c k) Ignore
+    (λ (a : Act A). a ≡ Ignore) (λ t. ap (λ s. decide_round s c k) e) (λ t. refl)
 
 decides_nothing : {A : Type 0} (c : Core A) (input : Input A) → c.state ≡ Stopped → decide c input ≡ Ignore
 decides_nothing c (FrameInput frame) e = decides_frame (is_named c.total frame) c frame e

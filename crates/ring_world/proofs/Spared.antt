@@ -1,5 +1,7 @@
 -- The second copies of the calls that wait: what a step answers has its copy, and those that wait on keep theirs.
-use Rattle.std.proofs.Common.{◌≡◌, ℕ, zero, suc, ◌+◌, ◌<◌, Bool, true, false, List, [], ◌∷◌, ◌++◌, length, Option, Some, None, slice_get, refl, ap, ◌∙◌, sym, subst, arith, append-nil, append_assoc, ◌⊎◌, inl, inr}
+use Rattle.std.proofs.Common.{◌≡◌, ℕ, zero, suc, ◌+◌, ◌<◌, Bool, true, false, List, [], ◌∷◌, ◌++◌, length, Option, Some}
+use Rattle.std.proofs.Common.{None, slice_get, refl, ap, ◌∙◌, sym, subst, arith, append-nil, append_assoc, ◌⊎◌, inl}
+use Rattle.std.proofs.Common.{inr}
 use Rattle.std.specs.Prelude.{if◌then◌else◌, slice_set}
 use Rattle.std.proofs.lemmas.Bool.{eqb-true}
 use Rattle.ring_object.specs.Operations.{Sequential}
@@ -32,11 +34,13 @@ set-length (z ∷ xs) (suc i) x = ap suc (set-length xs i x)
 
 -- Answers, one list behind the other
 
-after-append : {A : Type 0} (calls : List (Option (Call A))) (xs ys : List (Answered A)) → after_answers calls (xs ++ ys) ≡ after_answers (after_answers calls xs) ys
+after-append : {A : Type 0} (calls : List (Option (Call A))) (xs ys : List (Answered A)) → after_answers calls
+    (xs ++ ys) ≡ after_answers (after_answers calls xs) ys
 after-append calls [] ys = refl
 after-append calls (x ∷ xs) ys = after-append (without calls x.ticket) xs ys
 
-left-append : {A : Type 0} (calls : List (Option (Call A))) (xs ys : List (Answered A)) → AllLeft calls xs → AllLeft (after_answers calls xs) ys → AllLeft calls (xs ++ ys)
+left-append : {A : Type 0} (calls : List (Option (Call A))) (xs ys : List (Answered A)) → AllLeft calls xs
+    → AllLeft (after_answers calls xs) ys → AllLeft calls (xs ++ ys)
 left-append calls [] ys h k = k
 left-append calls (x ∷ xs) ys h k = (h.0, left-append (without calls x.ticket) xs ys h.1 k)
 
@@ -53,11 +57,13 @@ module _ {A : Type 0} (committed : List (Call A)) (d : Call A) where
 
   was_waiting : (t : Asked A) → place_of (committed ++ d ∷ []) t ≡ Some (length committed) → place_of committed t ≡ None
   was_waiting t e =
-      split_new (place_of committed t) (last_place t.call t.since (0 + length committed) d) (λ p h. (let l = first_place-below t.call t.since 0 committed p h in omega (arith, l)))
+      split_new (place_of committed t) (last_place t.call t.since (0 + length committed) d)
+      (λ p h. (let l = first_place-below t.call t.since 0 committed p h in omega (arith, l)))
       (sym (first_place-push t.call t.since 0 committed d) ∙ e)
 
   waits_on : (t : Asked A) → place_of (committed ++ d ∷ []) t ≡ None → place_of committed t ≡ None
-  waits_on t e = split_none (place_of committed t) (last_place t.call t.since (0 + length committed) d) (sym (first_place-push t.call t.since 0 committed d) ∙ e)
+  waits_on t e = split_none (place_of committed t) (last_place t.call t.since (0 + length committed) d)
+      (sym (first_place-push t.call t.since 0 committed d) ∙ e)
 
 at_place : (place : ℕ) (o : Option ℕ) → is_place place o ≡ true → o ≡ Some place
 at_place place None e = absurd (let q : ⊥ = cc e in q)
@@ -98,7 +104,8 @@ module _ {O A : Type 0} (object : Sequential O) where
           subst (λ n. IsLeft (after_answers calls rest) n u.call) at (g.each k u e w)
 
   -- where it is
-  taken : (committed : List (Call A)) (calls : List (Option (Call A))) (ticket : ℕ) (t : Asked A) (ts : List (Asked A)) (rest : List (Answered A)) (a : Answer) → IsLeft calls ticket t.call →
+  taken : (committed : List (Call A)) (calls : List (Option (Call A))) (ticket : ℕ) (t : Asked A)
+      (ts : List (Asked A)) (rest : List (Answered A)) (a : Answer) → IsLeft calls ticket t.call →
       (place_of committed t ≡ None → ⊥) → IsGroup committed (without calls ticket) (ticket + 1) ts rest →
       IsGroup committed calls ticket (t ∷ ts) (record { ticket = ticket; call = t.call; answer = a } ∷ rest)
   taken committed calls ticket t ts rest a here not g = record {
@@ -115,8 +122,10 @@ module _ {O A : Type 0} (object : Sequential O) where
           subst (λ n. IsLeft (after_answers (without calls ticket) rest) n u.call) at (g.each k u e w)
 
   -- where it isn't answered, those after it go on
-  passed : (committed : List (Call A)) (d : Call A) (calls : List (Option (Call A))) (ticket : ℕ) (t : Asked A) (ts : List (Asked A)) → Wait committed calls ticket (t ∷ ts) →
-      ((cs : List (Option (Call A))) → Wait committed cs (ticket + 1) ts → IsGroup (committed ++ d ∷ []) cs (ticket + 1) ts (answers_at object (committed ++ d ∷ []) (length committed) (ticket + 1) ts)) →
+  passed : (committed : List (Call A)) (d : Call A) (calls : List (Option (Call A))) (ticket : ℕ) (t : Asked A)
+      (ts : List (Asked A)) → Wait committed calls ticket (t ∷ ts) →
+      ((cs : List (Option (Call A))) → Wait committed cs (ticket + 1) ts → IsGroup (committed ++ d ∷ []) cs
+      (ticket + 1) ts (answers_at object (committed ++ d ∷ []) (length committed) (ticket + 1) ts)) →
       IsGroup (committed ++ d ∷ []) calls ticket (t ∷ ts) (answers_at object (committed ++ d ∷ []) (length committed) (ticket + 1) ts)
   passed committed d calls ticket t ts wait rest =
       let at : ticket + 0 ≡ ticket = omega arith in
@@ -135,8 +144,10 @@ module _ {O A : Type 0} (object : Sequential O) where
     abbrev now : List (Call A)
     now = committed ++ d ∷ []
 
-    one : (b : Bool) (o : Option Answer) (calls : List (Option (Call A))) (ticket : ℕ) (t : Asked A) (ts : List (Asked A)) → is_place (length committed) (place_of now t) ≡ b →
-        Wait committed calls ticket (t ∷ ts) → ((cs : List (Option (Call A))) → Wait committed cs (ticket + 1) ts → IsGroup now cs (ticket + 1) ts (answers_at object now (length committed) (ticket + 1) ts)) →
+    one : (b : Bool) (o : Option Answer) (calls : List (Option (Call A))) (ticket : ℕ) (t : Asked A)
+        (ts : List (Asked A)) → is_place (length committed) (place_of now t) ≡ b →
+        Wait committed calls ticket (t ∷ ts) → ((cs : List (Option (Call A))) → Wait committed cs (ticket + 1) ts
+        → IsGroup now cs (ticket + 1) ts (answers_at object now (length committed) (ticket + 1) ts)) →
         IsGroup now calls ticket (t ∷ ts) (head b ticket t.call o ++ answers_at object now (length committed) (ticket + 1) ts)
     one false o calls ticket t ts e wait rest = passed committed d calls ticket t ts wait rest
     one true None calls ticket t ts e wait rest = passed committed d calls ticket t ts wait rest
@@ -146,9 +157,11 @@ module _ {O A : Type 0} (object : Sequential O) where
         taken now calls ticket t ts (answers_at object now (length committed) (ticket + 1) ts) a here (not_place (length committed) (place_of now t) e)
         (rest (without calls ticket) (λ k u at_u w.
         let n : ticket + suc k ≡ (ticket + 1) + k = omega arith in
-        get-set_other calls ticket ((ticket + 1) + k) None (λ q. (let f : ⊥ = omega (arith, q) in f)) ∙ subst (λ m. IsLeft calls m u.call) n (wait (suc k) u at_u w)))
+        get-set_other calls ticket ((ticket + 1) + k) None (λ q. (let f : ⊥ = omega (arith, q) in f))
+        ∙ subst (λ m. IsLeft calls m u.call) n (wait (suc k) u at_u w)))
 
-    group : (calls : List (Option (Call A))) (ticket : ℕ) (ts : List (Asked A)) → Wait committed calls ticket ts → IsGroup now calls ticket ts (answers_at object now (length committed) ticket ts)
+    group : (calls : List (Option (Call A))) (ticket : ℕ) (ts : List (Asked A)) → Wait committed calls ticket ts
+        → IsGroup now calls ticket ts (answers_at object now (length committed) ticket ts)
     group calls ticket [] wait = record { left = tt; each = λ k t e w. absurd (let q : ⊥ = cc e in q); below = λ j l. refl; many = refl }
     group calls ticket (t ∷ ts) wait =
         one (is_place (length committed) (place_of now t)) (session_answer object now (length committed)) calls ticket t ts refl wait
@@ -175,7 +188,8 @@ module _ {O A : Type 0} (object : Sequential O) where
       record {
         left = left-append calls first (answers_after object tickets now more) g.left rest.left;
         holds = subst (λ cs. Holds cs tickets (committed ++ c ∷ more)) (sym (after-append calls first (answers_after object tickets now more)))
-            (subst (Holds (after_answers (after_answers calls first) (answers_after object tickets now more)) tickets) (append_assoc committed (c ∷ []) more) rest.holds);
+            (subst (Holds (after_answers (after_answers calls first) (answers_after object tickets now more)) tickets)
+            (append_assoc committed (c ∷ []) more) rest.holds);
       }
 
 -- A ticket more
@@ -199,7 +213,8 @@ push-length : {X : Type 0} (xs : List X) (x : X) → length (xs ++ x ∷ []) ≡
 push-length [] x = refl
 push-length (y ∷ xs) x = ap suc (push-length xs x)
 
-pub holds-more : {A : Type 0} (calls : List (Option (Call A))) (tickets : List (Asked A)) (committed : List (Call A)) (t : Asked A) → Holds calls tickets committed →
+pub holds-more : {A : Type 0} (calls : List (Option (Call A))) (tickets : List (Asked A)) (committed : List (Call A))
+    (t : Asked A) → Holds calls tickets committed →
     Holds (calls ++ Some t.call ∷ []) (tickets ++ t ∷ []) committed
 holds-more {A} calls tickets committed t h = record {
   many = push-length calls (Some t.call) ∙ ap suc h.many ∙ sym (push-length tickets t);
@@ -207,6 +222,7 @@ holds-more {A} calls tickets committed t h = record {
     | inl there ↦ get-before calls (Some t.call ∷ []) k (Some u.call) (h.each k u there w)
     | inr last ↦
         let at : k ≡ length calls = last.0 ∙ sym h.many in
-        subst (λ n. slice_get (calls ++ Some t.call ∷ []) n ≡ Some (Some u.call)) (sym at) (get-last calls (Some t.call) ∙ ap (λ (v : Asked A). Some (Some v.call)) last.1)
+        subst (λ n. slice_get (calls ++ Some t.call ∷ []) n ≡ Some (Some u.call)) (sym at)
+        (get-last calls (Some t.call) ∙ ap (λ (v : Asked A). Some (Some v.call)) last.1)
   ];
 }

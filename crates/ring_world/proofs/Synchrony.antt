@@ -12,7 +12,8 @@ use Rattle.ring_ready.proofs.Installed.{all_synchronous}
 use Rattle.ring_views.specs.Synchrony.{IsVirtuallySynchronous}
 use Rattle.ring_world.specs.Synchronous.{IsSynchronous}
 
-pub synchronous_run : {O A : Type 0} (object : Sequential O) (group : Group) (events : List (Event A)) → IsSynchronous group (run object (world_opening group) events)
+pub synchronous_run : {O A : Type 0} (object : Sequential O) (group : Group) (events : List (Event A))
+    → IsSynchronous group (run object (world_opening group) events)
 synchronous_run {O} {A} object group events =
     let r = ring_run object group events in
     record {

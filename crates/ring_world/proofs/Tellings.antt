@@ -1,5 +1,6 @@
 -- Answers are told one after the other, each with the copy of its call that is left.
-use Rattle.std.proofs.Common.{◌≡◌, ℕ, ◌+◌, ◌≤◌, List, [], ◌∷◌, ◌++◌, length, take, Option, Some, slice_get, refl, ap, ◌∙◌, sym, subst, arith, append-nil, append_assoc}
+use Rattle.std.proofs.Common.{◌≡◌, ℕ, ◌+◌, ◌≤◌, List, [], ◌∷◌, ◌++◌, length, take, Option, Some, slice_get, refl, ap}
+use Rattle.std.proofs.Common.{◌∙◌, sym, subst, arith, append-nil, append_assoc}
 use Rattle.std.proofs.lemmas.List.{map-append}
 use Rattle.ring_payload.specs.declared.call.Call.{Call}
 use Rattle.ring_session.specs.SessionAnswer.{reply_in}
@@ -11,7 +12,8 @@ use Rattle.ring_history.specs.Worlds.{items_of, replied, told_by}
 use Rattle.ring_world.specs.Spares.{IsLeft, AllLeft, without, after_answers}
 
 -- what the answers add
-pub record HasTold {A : Type 0} (node : ℕ) (answers : List (Answered A)) (told told' : List (Told A)) (history history' : List (Item A)) (calls calls' : List (Option (Call A))) : Type 0 where
+pub record HasTold {A : Type 0} (node : ℕ) (answers : List (Answered A)) (told told' : List (Told A))
+    (history history' : List (Item A)) (calls calls' : List (Option (Call A))) : Type 0 where
   pub told_is : told' ≡ told ++ told_by node answers
   pub history_is : history' ≡ history ++ items_of answers
   pub spares : calls' ≡ after_answers calls answers
@@ -23,9 +25,11 @@ pub record HasTaken (n len len' capacity capacity' : ℕ) : Type 0 where
 
 items_of-push : {A : Type 0} (xs : List (Answered A)) (x : Answered A) → items_of (xs ++ x ∷ []) ≡ items_of xs ++ replied x.call (reply_in x.answer)
 items_of-push [] x = append-nil (replied x.call (reply_in x.answer))
-items_of-push (y ∷ xs) x = ap (λ is. replied y.call (reply_in y.answer) ++ is) (items_of-push xs x) ∙ sym (append_assoc (replied y.call (reply_in y.answer)) (items_of xs) (replied x.call (reply_in x.answer)))
+items_of-push (y ∷ xs) x = ap (λ is. replied y.call (reply_in y.answer) ++ is) (items_of-push xs x)
+    ∙ sym (append_assoc (replied y.call (reply_in y.answer)) (items_of xs) (replied x.call (reply_in x.answer)))
 
-after-push : {A : Type 0} (calls : List (Option (Call A))) (xs : List (Answered A)) (x : Answered A) → after_answers calls (xs ++ x ∷ []) ≡ without (after_answers calls xs) x.ticket
+after-push : {A : Type 0} (calls : List (Option (Call A))) (xs : List (Answered A)) (x : Answered A)
+    → after_answers calls (xs ++ x ∷ []) ≡ without (after_answers calls xs) x.ticket
 after-push calls [] x = refl
 after-push calls (y ∷ xs) x = after-push (without calls y.ticket) xs x
 
@@ -33,34 +37,47 @@ module _ {A : Type 0} (node : ℕ) (answers : List (Answered A)) (told : List (T
   pub none_told : HasTold node [] told told history history calls calls
   none_told = record { told_is = sym (append-nil told); history_is = sym (append-nil history); spares = refl }
 
-  pub one_told : (x : Answered A) (told1 told2 : List (Told A)) (history1 history2 : List (Item A)) (calls1 calls2 : List (Option (Call A))) → HasTold node answers told told1 history history1 calls calls1 →
+  pub one_told : (x : Answered A) (told1 told2 : List (Told A)) (history1 history2 : List (Item A))
+      (calls1 calls2 : List (Option (Call A))) → HasTold node answers told told1 history history1 calls calls1 →
       told2 ≡ told1 ++ ToldAnswer node x.call x.answer ∷ [] → history2 ≡ history1 ++ replied x.call (reply_in x.answer) → calls2 ≡ without calls1 x.ticket →
       HasTold node (answers ++ x ∷ []) told told2 history history2 calls calls2
   one_told x told1 told2 history1 history2 calls1 calls2 h a b c =
       let tells : Answered A → Told A = λ y. ToldAnswer node y.call y.answer in
       record {
-        told_is = a ∙ ap (λ ts. ts ++ ToldAnswer node x.call x.answer ∷ []) h.told_is ∙ append_assoc told (told_by node answers) (ToldAnswer node x.call x.answer ∷ []) ∙ ap (λ ts. told ++ ts) (sym (map-append tells answers (x ∷ [])));
-        history_is = b ∙ ap (λ is. is ++ replied x.call (reply_in x.answer)) h.history_is ∙ append_assoc history (items_of answers) (replied x.call (reply_in x.answer)) ∙ ap (λ is. history ++ is) (sym (items_of-push answers x));
+        told_is = a ∙ ap (λ ts. ts ++ ToldAnswer node x.call x.answer ∷ []) h.told_is ∙ append_assoc told
+            (told_by node answers) (ToldAnswer node x.call x.answer ∷ []) ∙ ap (λ ts. told ++ ts)
+            (sym (map-append tells answers (x ∷ [])));
+        history_is = b ∙ ap (λ is. is ++ replied x.call (reply_in x.answer)) h.history_is ∙ append_assoc history
+            (items_of answers) (replied x.call (reply_in x.answer)) ∙ ap (λ is. history ++ is)
+            (sym (items_of-push answers x));
         spares = c ∙ ap (λ cs. without cs x.ticket) h.spares ∙ sym (after-push calls answers x);
       }
 
 pub none_taken : (len capacity : ℕ) → HasTaken 0 len len capacity capacity
 none_taken len capacity = record { len_is = omega arith; capacity_is = refl }
 
-pub one_taken : {X : Type 0} (xs : List X) (x : X) (len len1 len2 capacity capacity1 capacity2 : ℕ) → HasTaken (length xs) len len1 capacity capacity1 → len2 ≤ len1 + 1 → capacity2 ≡ capacity1 →
+pub one_taken : {X : Type 0} (xs : List X) (x : X) (len len1 len2 capacity capacity1 capacity2 : ℕ)
+    → HasTaken (length xs) len len1 capacity capacity1 → len2 ≤ len1 + 1 → capacity2 ≡ capacity1 →
     HasTaken (length (xs ++ x ∷ [])) len len2 capacity capacity2
-one_taken xs x len len1 len2 capacity capacity1 capacity2 h a b = record { len_is = (let l = h.len_is in let n = length-push xs x in omega (arith, l, a, n)); capacity_is = b ∙ h.capacity_is }
+one_taken xs x len len1 len2 capacity capacity1 capacity2 h a b =
+    record {
+      len_is = (let l = h.len_is in let n = length-push xs x in omega (arith, l, a, n));
+      capacity_is = b
+          ∙ h.capacity_is;
+    }
   where
     length-push : {X : Type 0} (xs : List X) (x : X) → length (xs ++ x ∷ []) ≡ length xs + 1
     length-push [] x = refl
     length-push (y ∷ xs) x = (let n = length-push xs x in omega (arith, n))
 
 -- the next answer's copy is left
-pub left_at : {A : Type 0} (calls : List (Option (Call A))) (answers before : List (Answered A)) (x : Answered A) → before ≡ take (length before) answers → slice_get answers (length before) ≡ Some x →
+pub left_at : {A : Type 0} (calls : List (Option (Call A))) (answers before : List (Answered A)) (x : Answered A)
+    → before ≡ take (length before) answers → slice_get answers (length before) ≡ Some x →
     AllLeft calls answers → IsLeft (after_answers calls before) x.ticket x.call
 left_at calls [] before x first at all = absurd (let q : ⊥ = cc at in q)
 left_at {A} calls (a ∷ rest) [] x first at all = (let same : a ≡ x = cc at in subst (λ (y : Answered A). IsLeft calls y.ticket y.call) same all.0)
 left_at {A} calls (a ∷ rest) (y ∷ ys) x first at all =
     let same : y ≡ a = cc first in
     let tail : ys ≡ take (length ys) rest = cc first in
-    subst (λ (z : Answered A). IsLeft (after_answers (without calls z.ticket) ys) x.ticket x.call) (sym same) (left_at (without calls a.ticket) rest ys x tail at all.1)
+    subst (λ (z : Answered A). IsLeft (after_answers (without calls z.ticket) ys) x.ticket x.call) (sym same)
+    (left_at (without calls a.ticket) rest ys x tail at all.1)

@@ -1,5 +1,7 @@
 -- What the code keeps goes on telling the world, event by event.
-use Rattle.std.proofs.Common.{◌≡◌, ℕ, zero, suc, ◌-◌, ◌<◌, ◌≤◌, true, false, ◌==◌, List, [], ◌∷◌, ◌++◌, length, drop, Option, Some, None, slice_get, get_or, refl, ap, ◌∙◌, sym, subst, arith, inl, inr, append-nil}
+use Rattle.std.proofs.Common.{◌≡◌, ℕ, zero, suc, ◌-◌, ◌<◌, ◌≤◌, true, false, ◌==◌, List, [], ◌∷◌, ◌++◌, length, drop}
+use Rattle.std.proofs.Common.{Option, Some, None, slice_get, get_or, refl, ap, ◌∙◌, sym, subst, arith, inl, inr}
+use Rattle.std.proofs.Common.{append-nil}
 use Rattle.std.specs.Prelude.{not, slice_set, MatchOption}
 use Rattle.std.proofs.Math.Seq.{drop-append_seam}
 use Rattle.std.proofs.lemmas.Bool.{cond-true, cond-false, and_from, le-leb, eqb-true, eqb-false, eq-eqb, cases_Bool}
@@ -25,7 +27,8 @@ use Rattle.ring_history.specs.declared.item.Item.TheVariants.{Issue as IssuedIte
 use Rattle.ring_history.specs.declared.told.Told.{Told}
 use Rattle.ring_history.specs.declared.told.Told.TheVariants.{Refused as ToldRefused}
 use Rattle.ring_history.specs.Limits.{EventFits}
-use Rattle.ring_history.specs.Worlds.{World, world_opening, run, happens, put, is_node, after_step, stepped, stepped_if, stopped_if, issued_or, issued_if, carried, items_of, told_by}
+use Rattle.ring_history.specs.Worlds.{World, world_opening, run, happens, put, is_node, after_step, stepped, stepped_if}
+use Rattle.ring_history.specs.Worlds.{stopped_if, issued_or, issued_if, carried, items_of, told_by}
 use Rattle.ring_linear.proofs.Orderly.{run-more}
 use Rattle.ring_world.specs.Played.{Played, IsCopy, world_of, told_behind, step_in, runs_in, Goes}
 use Rattle.ring_world.specs.Spares.{Spares, AllLeft, Holds, after_answers}
@@ -86,7 +89,9 @@ module _ {O A : Type 0} (object : Sequential O) where
   copy_happens w (Stop i) d copy = ap (happens object w) copy
 
   -- an event more
-  pub tells : (group : Group) (events : List (Event A)) (nodes nodes' : List (Node A)) (spares spares' : List (Spares A)) (frames frames' : List (Carried A)) (history history' : List (Item A)) (d : Event A) (v : World A) →
+  pub tells : (group : Group) (events : List (Event A)) (nodes nodes' : List (Node A))
+      (spares spares' : List (Spares A)) (frames frames' : List (Carried A)) (history history' : List (Item A))
+      (d : Event A) (v : World A) →
       IsWorld object group events nodes spares frames history → EventFits d → happens object (run object (world_opening group) events) d ≡ v →
       v.group ≡ (run object (world_opening group) events).group → IsKept v nodes' spares' frames' history' →
       IsWorld object group (events ++ d ∷ []) nodes' spares' frames' history'
@@ -103,7 +108,8 @@ module _ {O A : Type 0} (object : Sequential O) where
   told_more : (w v : World A) (e : Event A) (more : List (Told A)) → happens object w e ≡ v → v.told ≡ w.told ++ more → told_behind object w e ≡ more
   told_more w v e more is t = ap (drop (length w.told)) (ap (λ (x : World A). x.told) is ∙ t) ∙ drop-append_seam w.told more
 
-  pub is_done : (p q : Played A) (e d : Event A) (more : List (Told A)) (v : World A) → IsCopy e d → happens object (world_of object p) e ≡ v → v.told ≡ (world_of object p).told ++ more →
+  pub is_done : (p q : Played A) (e d : Event A) (more : List (Told A)) (v : World A) → IsCopy e d
+      → happens object (world_of object p) e ≡ v → v.told ≡ (world_of object p).told ++ more →
       q.group ≡ p.group → q.events ≡ p.events ++ d ∷ [] → q.told ≡ p.told ++ more → Goes object e p q
   is_done p q e d more v copy is t a b c =
       inl (record { kept = d; copy = copy; group = a; events = b; told = c ∙ ap (λ ts. p.told ++ ts) (sym (told_more (world_of object p) v e more is t)) })
@@ -114,11 +120,14 @@ module _ {O A : Type 0} (object : Sequential O) where
     w = world_of object p
 
     -- an event that changes nothing
-    pub idle_world : (e d : Event A) → IsCopy e d → EventFits e → happens object w e ≡ w → IsWorld object p.group (p.events ++ d ∷ []) nodes spares frames history
+    pub idle_world : (e d : Event A) → IsCopy e d → EventFits e → happens object w e ≡ w → IsWorld object p.group
+        (p.events ++ d ∷ []) nodes spares frames history
     idle_world e d copy fits is =
-        tells p.group p.events nodes nodes spares spares frames frames history history d w h (copy_fits e d copy fits) (copy_happens w e d copy ∙ is) refl h.kept
+        tells p.group p.events nodes nodes spares spares frames frames history history d w h (copy_fits e d copy fits)
+        (copy_happens w e d copy ∙ is) refl h.kept
 
-    pub idle_goes : (q : Played A) (e d : Event A) → IsCopy e d → happens object w e ≡ w → q.group ≡ p.group → q.events ≡ p.events ++ d ∷ [] → q.told ≡ p.told → Goes object e p q
+    pub idle_goes : (q : Played A) (e d : Event A) → IsCopy e d → happens object w e ≡ w → q.group ≡ p.group
+        → q.events ≡ p.events ++ d ∷ [] → q.told ≡ p.told → Goes object e p q
     idle_goes q e d copy is a b c = is_done p q e d [] w copy is (sym (append-nil w.told)) a b (c ∙ sym (append-nil p.told))
 
     pub unknown : (i : ℕ) → 1 ≤ i → length nodes ≤ i - 1 → is_node w i ≡ false
@@ -200,7 +209,9 @@ module _ {O A : Type 0} (object : Sequential O) where
       ]
 
       -- a node is another
-      put_kept : (n : Node A) (nodes' : List (Node A)) (ss : List (Spares A)) (fs : List (Carried A)) (is : List (Item A)) (v : World A) → nodes' ≡ slice_set nodes m n → v.group ≡ w.group → v.nodes ≡ put w.nodes i n →
+      put_kept : (n : Node A) (nodes' : List (Node A)) (ss : List (Spares A)) (fs : List (Carried A))
+          (is : List (Item A)) (v : World A) → nodes' ≡ slice_set nodes m n → v.group ≡ w.group
+          → v.nodes ≡ put w.nodes i n →
           v.frames ≡ fs → v.history ≡ is → Copied n ss → length ss ≡ length spares → IsKept v nodes' ss fs is
       put_kept n nodes' ss fs is v set g ns f hs copied many =
           let cs : v.group.count ≡ w.group.count = ap (λ (x : Group). x.count) g in
@@ -219,12 +230,18 @@ module _ {O A : Type 0} (object : Sequential O) where
       step_is input = ap (λ b. stepped_if object b w i input) known
 
       -- what a step answers has its copies
-      pub answers_left : (e : Event A) (input : Input A) (s : Spares A) → happens object w e ≡ stepped object w i input → KeepsCopies (w.nodes i) s → AllLeft s.calls (node_step object (w.nodes i) input).answers
+      pub answers_left : (e : Event A) (input : Input A) (s : Spares A)
+          → happens object w e ≡ stepped object w i input → KeepsCopies (w.nodes i) s
+          → AllLeft s.calls (node_step object (w.nodes i) input).answers
       answers_left e input s is k =
           (step-goes object (w.nodes i) input s.calls (step-grows object p.group h.few p.events e i input low high known is) k).0
 
-      pub step_world : (e d : Event A) (input : Input A) → IsCopy e d → EventFits e → happens object w e ≡ stepped object w i input → (n : Node A) (s s' : Spares A) (nodes' : List (Node A)) (ss : List (Spares A)) (fs : List (Carried A)) (is : List (Item A)) →
-          KeepsCopies (w.nodes i) s → n ≡ (node_step object (w.nodes i) input).node → nodes' ≡ slice_set nodes m n → ss ≡ slice_set spares m s' → s'.calls ≡ after_answers s.calls (node_step object (w.nodes i) input).answers →
+      pub step_world : (e d : Event A) (input : Input A) → IsCopy e d → EventFits e
+          → happens object w e ≡ stepped object w i input → (n : Node A) (s s' : Spares A) (nodes' : List (Node A))
+          (ss : List (Spares A)) (fs : List (Carried A)) (is : List (Item A)) →
+          KeepsCopies (w.nodes i) s → n ≡ (node_step object (w.nodes i) input).node → nodes' ≡ slice_set nodes m n
+          → ss ≡ slice_set spares m s' → s'.calls ≡ after_answers s.calls
+          (node_step object (w.nodes i) input).answers →
           fs ≡ frames ++ carried i (node_step object (w.nodes i) input).sends → is ≡ history ++ items_of (node_step object (w.nodes i) input).answers →
           IsWorld object p.group (p.events ++ d ∷ []) nodes' ss fs is
       step_world e d input copy fits same n s s' nodes' ss fs is k n_is ns ss_is s_is fs_is is_is =
@@ -233,46 +250,73 @@ module _ {O A : Type 0} (object : Sequential O) where
           let holds = (step-goes object (w.nodes i) input s.calls (step-grows object p.group h.few p.events e i input low high known same) k).1 in
           let keeps : KeepsCopies n s' = subst (λ cs. Holds cs n.tickets (node_committed n)) (sym s_is)
           (subst (λ (x : Node A). Holds (after_answers s.calls st.answers) x.tickets (node_committed x)) (sym n_is) holds) in
-          tells p.group p.events nodes nodes' spares ss frames fs history is d v h (copy_fits e d copy fits) (copy_happens w e d copy ∙ same ∙ step_is input) refl
-          (put_kept n nodes' ss fs is v ns refl (ap (λ (x : Node A). put w.nodes i x) (sym n_is)) (ap (λ xs. xs ++ carried i st.sends) (sym h.kept.frames_are) ∙ sym fs_is)
+          tells p.group p.events nodes nodes' spares ss frames fs history is d v h (copy_fits e d copy fits)
+          (copy_happens w e d copy ∙ same ∙ step_is input) refl
+          (put_kept n nodes' ss fs is v ns refl (ap (λ (x : Node A). put w.nodes i x) (sym n_is))
+          (ap (λ xs. xs ++ carried i st.sends) (sym h.kept.frames_are) ∙ sym fs_is)
           (ap (λ xs. xs ++ items_of st.answers) (sym h.kept.history_is) ∙ sym is_is)
           (subst (Copied n) (sym ss_is) (copies_set n s' keeps)) (ap length ss_is ∙ set-length spares m s'))
 
-      pub step_goes : (q : Played A) (e d : Event A) (input : Input A) → IsCopy e d → happens object w e ≡ stepped object w i input → q.group ≡ p.group → q.events ≡ p.events ++ d ∷ [] →
+      pub step_goes : (q : Played A) (e d : Event A) (input : Input A) → IsCopy e d
+          → happens object w e ≡ stepped object w i input → q.group ≡ p.group → q.events ≡ p.events ++ d ∷ [] →
           q.told ≡ p.told ++ told_by i (node_step object (w.nodes i) input).answers → Goes object e p q
       step_goes q e d input copy same a b c =
-          is_done p q e d (told_by i (node_step object (w.nodes i) input).answers) (after_step w i (node_step object (w.nodes i) input)) copy (same ∙ step_is input) refl a b c
+          is_done p q e d (told_by i (node_step object (w.nodes i) input).answers)
+          (after_step w i (node_step object (w.nodes i) input)) copy (same ∙ step_is input) refl a b c
 
       -- it had stopped, and is what it was
 
       halted_keeps : (s : Spares A) → KeepsCopies (w.nodes i) s → KeepsCopies (node_stopped (w.nodes i)) s
       halted_keeps s k = k
 
-      silent_is : (e : Event A) (input : Input A) → happens object w e ≡ stepped object w i input → is_stopped (w.nodes i).core.state ≡ true → happens object w e ≡ stopped_if true w i
+      silent_is : (e : Event A) (input : Input A) → happens object w e ≡ stepped object w i input
+          → is_stopped (w.nodes i).core.state ≡ true → happens object w e ≡ stopped_if true w i
       silent_is e input same t =
           let n = w.nodes i in
           let g = silent object n input t in
-          let one : (ℕ → Node A) → World A = λ ns. record w { nodes = ns; frames = w.frames ++ carried i (node_step object n input).sends; history = w.history ++ items_of (node_step object n input).answers; told = w.told ++ told_by i (node_step object n input).answers } in
-          let two : List (Carried A) → World A = λ fs. record w { nodes = put w.nodes i (node_stopped n); frames = fs; history = w.history ++ items_of (node_step object n input).answers; told = w.told ++ told_by i (node_step object n input).answers } in
-          let three : List (Item A) → World A = λ is. record w { nodes = put w.nodes i (node_stopped n); history = is; told = w.told ++ told_by i (node_step object n input).answers } in
+          let one : (ℕ → Node A) → World A = λ ns. record w {
+            nodes = ns;
+            frames = w.frames ++ carried i
+                (node_step object n input).sends;
+            history = w.history ++ items_of (node_step object n input).answers;
+            told = w.told ++ told_by i (node_step object n input).answers;
+          } in
+          let two : List (Carried A) → World A = λ fs. record w {
+            nodes = put w.nodes i (node_stopped n);
+            frames = fs;
+            history = w.history ++ items_of (node_step object n input).answers;
+            told = w.told ++ told_by i
+                (node_step object n input).answers;
+          } in
+          let three : List (Item A) → World A = λ is. record w {
+            nodes = put w.nodes i (node_stopped n);
+            history = is;
+            told = w.told ++ told_by i (node_step object n input).answers;
+          } in
           let four : List (Told A) → World A = λ ts. record w { nodes = put w.nodes i (node_stopped n); told = ts } in
           same ∙ step_is input ∙ ap one (ap (put w.nodes i) (g.node ∙ sym (stopped_node n t)))
           ∙ ap two (ap (λ xs. w.frames ++ carried i xs) g.sends ∙ append-nil w.frames)
           ∙ ap three (ap (λ xs. w.history ++ items_of xs) g.answers ∙ append-nil w.history)
           ∙ ap four (ap (λ xs. w.told ++ told_by i xs) g.answers ∙ append-nil w.told)
 
-      halted_kept : (n : Node A) (nodes' : List (Node A)) → n ≡ node_stopped (w.nodes i) → nodes' ≡ slice_set nodes m n → IsKept (stopped_if true w i) nodes' spares frames history
+      halted_kept : (n : Node A) (nodes' : List (Node A)) → n ≡ node_stopped (w.nodes i)
+          → nodes' ≡ slice_set nodes m n → IsKept (stopped_if true w i) nodes' spares frames history
       halted_kept n nodes' n_is ns =
-          put_kept (node_stopped (w.nodes i)) nodes' spares frames history (stopped_if true w i) (ns ∙ ap (slice_set nodes m) n_is) refl refl (sym h.kept.frames_are) (sym h.kept.history_is)
+          put_kept (node_stopped (w.nodes i)) nodes' spares frames history (stopped_if true w i)
+          (ns ∙ ap (slice_set nodes m) n_is) refl refl (sym h.kept.frames_are) (sym h.kept.history_is)
           (copies_same (node_stopped (w.nodes i)) halted_keeps) refl
 
-      pub silent_world : (e d : Event A) (input : Input A) → IsCopy e d → EventFits e → happens object w e ≡ stepped object w i input → (n : Node A) (nodes' : List (Node A)) → is_stopped (w.nodes i).core.state ≡ true →
+      pub silent_world : (e d : Event A) (input : Input A) → IsCopy e d → EventFits e
+          → happens object w e ≡ stepped object w i input → (n : Node A) (nodes' : List (Node A))
+          → is_stopped (w.nodes i).core.state ≡ true →
           n ≡ node_stopped (w.nodes i) → nodes' ≡ slice_set nodes m n → IsWorld object p.group (p.events ++ d ∷ []) nodes' spares frames history
       silent_world e d input copy fits same n nodes' t n_is ns =
-          tells p.group p.events nodes nodes' spares spares frames frames history history d (stopped_if true w i) h (copy_fits e d copy fits) (copy_happens w e d copy ∙ silent_is e input same t) refl
+          tells p.group p.events nodes nodes' spares spares frames frames history history d (stopped_if true w i) h
+          (copy_fits e d copy fits) (copy_happens w e d copy ∙ silent_is e input same t) refl
           (halted_kept n nodes' n_is ns)
 
-      pub silent_goes : (q : Played A) (e d : Event A) (input : Input A) → IsCopy e d → happens object w e ≡ stepped object w i input → is_stopped (w.nodes i).core.state ≡ true →
+      pub silent_goes : (q : Played A) (e d : Event A) (input : Input A) → IsCopy e d
+          → happens object w e ≡ stepped object w i input → is_stopped (w.nodes i).core.state ≡ true →
           q.group ≡ p.group → q.events ≡ p.events ++ d ∷ [] → q.told ≡ p.told → Goes object e p q
       silent_goes q e d input copy same t a b c =
           is_done p q e d [] (stopped_if true w i) copy (silent_is e input same t) (sym (append-nil w.told)) a b (c ∙ sym (append-nil p.told))
@@ -282,9 +326,11 @@ module _ {O A : Type 0} (object : Sequential O) where
       pub stop_is : happens object w (Stop i) ≡ stopped_if true w i
       stop_is = ap (λ b. stopped_if b w i) known
 
-      pub stop_world : (n : Node A) (nodes' : List (Node A)) → n ≡ node_stopped (w.nodes i) → nodes' ≡ slice_set nodes m n → IsWorld object p.group (p.events ++ Stop i ∷ []) nodes' spares frames history
+      pub stop_world : (n : Node A) (nodes' : List (Node A)) → n ≡ node_stopped (w.nodes i)
+          → nodes' ≡ slice_set nodes m n → IsWorld object p.group (p.events ++ Stop i ∷ []) nodes' spares frames history
       stop_world n nodes' n_is ns =
-          tells p.group p.events nodes nodes' spares spares frames frames history history (Stop i) (stopped_if true w i) h tt stop_is refl (halted_kept n nodes' n_is ns)
+          tells p.group p.events nodes nodes' spares spares frames frames history history (Stop i)
+          (stopped_if true w i) h tt stop_is refl (halted_kept n nodes' n_is ns)
 
       pub stop_goes : (q : Played A) → q.group ≡ p.group → q.events ≡ p.events ++ Stop i ∷ [] → q.told ≡ p.told → Goes object (Stop i) p q
       stop_goes q a b c = is_done p q (Stop i) (Stop i) [] (stopped_if true w i) refl stop_is (sym (append-nil w.told)) a b (c ∙ sym (append-nil p.told))
@@ -293,7 +339,8 @@ module _ {O A : Type 0} (object : Sequential O) where
       runs : is_stopped (w.nodes i).core.state ≡ false → runs_in w i ≡ true
       runs f = and_from _ _ known (ap not f)
 
-      pub refused_goes : (q : Played A) (e : Event A) → step_in w e ≡ Some i → is_stopped (w.nodes i).core.state ≡ false → q.group ≡ p.group → q.events ≡ p.events ++ Stop i ∷ [] → q.told ≡ p.told → Goes object e p q
+      pub refused_goes : (q : Played A) (e : Event A) → step_in w e ≡ Some i → is_stopped (w.nodes i).core.state
+          ≡ false → q.group ≡ p.group → q.events ≡ p.events ++ Stop i ∷ [] → q.told ≡ p.told → Goes object e p q
       refused_goes q e steps f a b c = inr (inl (record { node = i; steps = steps; known = runs f; group = a; events = b; told = c }))
 
       -- a call is submitted
@@ -306,8 +353,12 @@ module _ {O A : Type 0} (object : Sequential O) where
         copies = λ j l. elim (cases_Bool (j == m)) [
           | inl t ↦
               let e = eqb-true j m t in
-              let c = h.kept.copies m below in
-              (s, (ap (λ xs. slice_get xs j) is ∙ ap (slice_get (slice_set spares m s)) e ∙ get-set_same spares m s c.0 c.1), subst (λ x. KeepsCopies (w.nodes x) s) (sym (ap suc e ∙ next)) k)
+              let c = h.kept.copies m below in (
+                s,
+                (ap (λ xs. slice_get xs j) is ∙ ap (slice_get (slice_set spares m s)) e
+                    ∙ get-set_same spares m s c.0 c.1),
+                subst (λ x. KeepsCopies (w.nodes x) s) (sym (ap suc e ∙ next)) k,
+              )
           | inr f ↦
               let e = eqb-false j m f in
               let c = h.kept.copies j l in
@@ -318,7 +369,8 @@ module _ {O A : Type 0} (object : Sequential O) where
         history_is = h.kept.history_is;
       }
 
-      pub same_world : (s : Spares A) (ss : List (Spares A)) → ss ≡ slice_set spares m s → KeepsCopies (w.nodes i) s → IsWorld object p.group p.events nodes ss frames history
+      pub same_world : (s : Spares A) (ss : List (Spares A)) → ss ≡ slice_set spares m s → KeepsCopies (w.nodes i) s
+          → IsWorld object p.group p.events nodes ss frames history
       same_world s ss is k = record { kept = kept_spares s ss is k; same = h.same; fit = h.fit; few = h.few }
 
       pub same_nodes : (n : Node A) → n ≡ w.nodes i → slice_set nodes m n ≡ nodes
@@ -327,53 +379,84 @@ module _ {O A : Type 0} (object : Sequential O) where
       issue_is : (c : Call A) (o : Option Fault) → submit_fault (w.nodes i) ≡ o → happens object w (Issue i c) ≡ issued_or o w i c
       issue_is c o is = ap (λ b. issued_if b w i c) known ∙ ap (λ x. issued_or x w i c) is
 
-      pub issue_world : (c : Call A) (d : Event A) → IsCopy (Issue i c) d → EventFits (Issue i c) → submit_fault (w.nodes i) ≡ None → (n : Node A) (s s' : Spares A) (nodes' : List (Node A)) (ss : List (Spares A)) (is : List (Item A)) →
-          KeepsCopies (w.nodes i) s → n ≡ submitted (w.nodes i) c → nodes' ≡ slice_set nodes m n → ss ≡ slice_set spares m s' → s'.calls ≡ s.calls ++ Some c ∷ [] → is ≡ history ++ IssuedItem c ∷ [] →
+      pub issue_world : (c : Call A) (d : Event A) → IsCopy (Issue i c) d → EventFits (Issue i c)
+          → submit_fault (w.nodes i) ≡ None → (n : Node A) (s s' : Spares A) (nodes' : List (Node A))
+          (ss : List (Spares A)) (is : List (Item A)) →
+          KeepsCopies (w.nodes i) s → n ≡ submitted (w.nodes i) c → nodes' ≡ slice_set nodes m n
+          → ss ≡ slice_set spares m s' → s'.calls ≡ s.calls ++ Some c ∷ [] → is ≡ history ++ IssuedItem c ∷ [] →
           IsWorld object p.group (p.events ++ d ∷ []) nodes' ss frames is
       issue_world c d copy fits free n s s' nodes' ss is k n_is ns ss_is s_is is_is =
           let v = issued_or None w i c in
           let t : Asked A = record { call = c; since = length (node_committed (w.nodes i)) } in
-          let more : Holds (s.calls ++ Some c ∷ []) (submitted (w.nodes i) c).tickets (node_committed (w.nodes i)) = holds-more s.calls (w.nodes i).tickets (node_committed (w.nodes i)) t k in
+          let more : Holds (s.calls ++ Some c ∷ []) (submitted (w.nodes i) c).tickets (node_committed (w.nodes i)) =
+          holds-more s.calls (w.nodes i).tickets (node_committed (w.nodes i)) t k in
           let now : Holds (s.calls ++ Some c ∷ []) (submitted (w.nodes i) c).tickets (node_committed (submitted (w.nodes i) c)) =
           subst (Holds (s.calls ++ Some c ∷ []) (submitted (w.nodes i) c).tickets) (sym (submitted-committed (w.nodes i) c)) more in
           let keeps : KeepsCopies n s' = subst (λ cs. Holds cs n.tickets (node_committed n)) (sym s_is)
           (subst (λ (x : Node A). Holds (s.calls ++ Some c ∷ []) x.tickets (node_committed x)) (sym n_is) now) in
-          tells p.group p.events nodes nodes' spares ss frames frames history is d v h (copy_fits (Issue i c) d copy fits) (copy_happens w (Issue i c) d copy ∙ issue_is c None free) refl
-          (put_kept n nodes' ss frames is v ns refl (ap (λ (x : Node A). put w.nodes i x) (sym n_is)) (sym h.kept.frames_are) (ap (λ xs. xs ++ IssuedItem c ∷ []) (sym h.kept.history_is) ∙ sym is_is)
+          tells p.group p.events nodes nodes' spares ss frames frames history is d v h
+          (copy_fits (Issue i c) d copy fits) (copy_happens w (Issue i c) d copy ∙ issue_is c None free) refl
+          (put_kept n nodes' ss frames is v ns refl (ap (λ (x : Node A). put w.nodes i x) (sym n_is))
+          (sym h.kept.frames_are) (ap (λ xs. xs ++ IssuedItem c ∷ []) (sym h.kept.history_is) ∙ sym is_is)
           (subst (Copied n) (sym ss_is) (copies_set n s' keeps)) (ap length ss_is ∙ set-length spares m s'))
 
-      pub issue_goes : (q : Played A) (c : Call A) (d : Event A) → IsCopy (Issue i c) d → submit_fault (w.nodes i) ≡ None → q.group ≡ p.group → q.events ≡ p.events ++ d ∷ [] → q.told ≡ p.told →
+      pub issue_goes : (q : Played A) (c : Call A) (d : Event A) → IsCopy (Issue i c) d → submit_fault (w.nodes i)
+          ≡ None → q.group ≡ p.group → q.events ≡ p.events ++ d ∷ [] → q.told ≡ p.told →
           Goes object (Issue i c) p q
-      issue_goes q c d copy free a b t = is_done p q (Issue i c) d [] (issued_or None w i c) copy (issue_is c None free) (sym (append-nil w.told)) a b (t ∙ sym (append-nil p.told))
+      issue_goes q c d copy free a b t = is_done p q (Issue i c) d [] (issued_or None w i c) copy
+          (issue_is c None free) (sym (append-nil w.told)) a b (t ∙ sym (append-nil p.told))
 
       -- and is refused
-      pub told_world : (c : Call A) (d : Event A) (f : Fault) → IsCopy (Issue i c) d → EventFits (Issue i c) → submit_fault (w.nodes i) ≡ Some f → (s : Spares A) (ss : List (Spares A)) → ss ≡ slice_set spares m s → KeepsCopies (w.nodes i) s →
+      pub told_world : (c : Call A) (d : Event A) (f : Fault) → IsCopy (Issue i c) d → EventFits (Issue i c)
+          → submit_fault (w.nodes i) ≡ Some f → (s : Spares A) (ss : List (Spares A)) → ss ≡ slice_set spares m s
+          → KeepsCopies (w.nodes i) s →
           IsWorld object p.group (p.events ++ d ∷ []) nodes ss frames history
       told_world c d f copy fits is s ss ss_is k =
           let e = kept_spares s ss ss_is k in
-          tells p.group p.events nodes nodes spares ss frames frames history history d (issued_or (Some f) w i c) h (copy_fits (Issue i c) d copy fits) (copy_happens w (Issue i c) d copy ∙ issue_is c (Some f) is) refl
-          (record { nodes_are = e.nodes_are; many = e.many; copies = e.copies; copies_many = e.copies_many; frames_are = e.frames_are; history_is = e.history_is })
+          tells p.group p.events nodes nodes spares ss frames frames history history d (issued_or (Some f) w i c) h
+          (copy_fits (Issue i c) d copy fits) (copy_happens w (Issue i c) d copy ∙ issue_is c (Some f) is) refl
+          (record {
+            nodes_are = e.nodes_are;
+            many = e.many;
+            copies = e.copies;
+            copies_many = e.copies_many;
+            frames_are = e.frames_are;
+            history_is = e.history_is;
+          })
 
-      pub told_goes : (q : Played A) (c : Call A) (d : Event A) (f : Fault) → IsCopy (Issue i c) d → submit_fault (w.nodes i) ≡ Some f → q.group ≡ p.group → q.events ≡ p.events ++ d ∷ [] →
+      pub told_goes : (q : Played A) (c : Call A) (d : Event A) (f : Fault) → IsCopy (Issue i c) d
+          → submit_fault (w.nodes i) ≡ Some f → q.group ≡ p.group → q.events ≡ p.events ++ d ∷ [] →
           q.told ≡ p.told ++ ToldRefused i c (fault_number f) ∷ [] → Goes object (Issue i c) p q
-      told_goes q c d f copy is a b t = is_done p q (Issue i c) d (ToldRefused i c (fault_number f) ∷ []) (issued_or (Some f) w i c) copy (issue_is c (Some f) is) refl a b t
+      told_goes q c d f copy is a b t = is_done p q (Issue i c) d (ToldRefused i c (fault_number f) ∷ [])
+          (issued_or (Some f) w i c) copy (issue_is c (Some f) is) refl a b t
 
       -- for want of memory
-      pub left_out : (q : Played A) (c : Call A) → submit_fault (w.nodes i) ≡ None → q.group ≡ p.group → q.events ≡ p.events → q.told ≡ p.told ++ ToldRefused i c 11 ∷ [] → Goes object (Issue i c) p q
+      pub left_out : (q : Played A) (c : Call A) → submit_fault (w.nodes i) ≡ None → q.group ≡ p.group
+          → q.events ≡ p.events → q.told ≡ p.told ++ ToldRefused i c 11 ∷ [] → Goes object (Issue i c) p q
       left_out q c free a b t = inr (inr (record { node = i; call = c; issues = refl; known = known; taken = free; group = a; events = b; told = t }))
 
       -- for one reason or the other
-      pub refusal_world : (c : Call A) (d : Event A) (fault : Fault) (o : Option Fault) → IsCopy (Issue i c) d → EventFits (Issue i c) → submit_fault (w.nodes i) ≡ o → MatchOption o (fault ≡ Memory) (λ first. fault ≡ first) →
-          (es : List (Event A)) → (fault ≡ Memory → es ≡ p.events) → ((fault ≡ Memory → ⊥) → es ≡ p.events ++ d ∷ []) → (s : Spares A) (ss : List (Spares A)) → ss ≡ slice_set spares m s → KeepsCopies (w.nodes i) s →
+      pub refusal_world : (c : Call A) (d : Event A) (fault : Fault) (o : Option Fault) → IsCopy (Issue i c) d
+          → EventFits (Issue i c) → submit_fault (w.nodes i) ≡ o → MatchOption o (fault ≡ Memory)
+          (λ first. fault ≡ first) →
+          (es : List (Event A)) → (fault ≡ Memory → es ≡ p.events) → ((fault ≡ Memory → ⊥) → es ≡ p.events ++ d ∷ [])
+          → (s : Spares A) (ss : List (Spares A)) → ss ≡ slice_set spares m s → KeepsCopies (w.nodes i) s →
           IsWorld object p.group es nodes ss frames history
       refusal_world c d fault None copy fits is f_is es out stays s ss ss_is k =
           subst (λ xs. IsWorld object p.group xs nodes ss frames history) (sym (out f_is)) (same_world s ss ss_is k)
       refusal_world c d fault (Some f) copy fits is f_is es out stays s ss ss_is k =
-          subst (λ xs. IsWorld object p.group xs nodes ss frames history) (sym (stays (λ q. not_memory (w.nodes i) f is (sym f_is ∙ q)))) (told_world c d f copy fits is s ss ss_is k)
+          subst (λ xs. IsWorld object p.group xs nodes ss frames history)
+          (sym (stays (λ q. not_memory (w.nodes i) f is (sym f_is ∙ q)))) (told_world c d f copy fits is s ss ss_is k)
 
-      pub refusal_goes : (q : Played A) (c : Call A) (d : Event A) (fault : Fault) (o : Option Fault) → IsCopy (Issue i c) d → submit_fault (w.nodes i) ≡ o → MatchOption o (fault ≡ Memory) (λ first. fault ≡ first) →
-          q.group ≡ p.group → (fault ≡ Memory → q.events ≡ p.events) → ((fault ≡ Memory → ⊥) → q.events ≡ p.events ++ d ∷ []) → q.told ≡ p.told ++ ToldRefused i c (fault_number fault) ∷ [] →
+      pub refusal_goes : (q : Played A) (c : Call A) (d : Event A) (fault : Fault) (o : Option Fault)
+          → IsCopy (Issue i c) d → submit_fault (w.nodes i) ≡ o → MatchOption o (fault ≡ Memory)
+          (λ first. fault ≡ first) →
+          q.group ≡ p.group → (fault ≡ Memory → q.events ≡ p.events)
+          → ((fault ≡ Memory → ⊥) → q.events ≡ p.events ++ d ∷ []) → q.told ≡ p.told ++ ToldRefused i c
+          (fault_number fault) ∷ [] →
           Goes object (Issue i c) p q
-      refusal_goes q c d fault None copy is f_is a out stays t = left_out q c is a (out f_is) (t ∙ ap (λ f. p.told ++ ToldRefused i c (fault_number f) ∷ []) f_is)
+      refusal_goes q c d fault None copy is f_is a out stays t = left_out q c is a (out f_is)
+          (t ∙ ap (λ f. p.told ++ ToldRefused i c (fault_number f) ∷ []) f_is)
       refusal_goes q c d fault (Some f) copy is f_is a out stays t =
-          told_goes q c d f copy is a (stays (λ x. not_memory (w.nodes i) f is (sym f_is ∙ x))) (t ∙ ap (λ x. p.told ++ ToldRefused i c (fault_number x) ∷ []) f_is)
+          told_goes q c d f copy is a (stays (λ x. not_memory (w.nodes i) f is (sym f_is ∙ x)))
+          (t ∙ ap (λ x. p.told ++ ToldRefused i c (fault_number x) ∷ []) f_is)

@@ -16,7 +16,8 @@ abbrev pub KeepsCopies : {A : Type 0} → Node A → Spares A → Type 0
 KeepsCopies n s = Holds s.calls n.tickets (node_committed n)
 
 -- nodes, their copies, frames and history are those of the world
-pub record IsKept {A : Type 0} (w : World A) (nodes : List (Node A)) (spares : List (Spares A)) (frames : List (Carried A)) (history : List (Item A)) : Type 0 where
+pub record IsKept {A : Type 0} (w : World A) (nodes : List (Node A)) (spares : List (Spares A))
+    (frames : List (Carried A)) (history : List (Item A)) : Type 0 where
   pub nodes_are : (i : ℕ) → i < w.group.count → slice_get nodes i ≡ Some (w.nodes (suc i))
   pub many : length nodes ≡ w.group.count
   pub copies : (i : ℕ) → i < w.group.count → (s : Spares A) × (slice_get spares i ≡ Some s) × KeepsCopies (w.nodes (suc i)) s
@@ -25,7 +26,9 @@ pub record IsKept {A : Type 0} (w : World A) (nodes : List (Node A)) (spares : L
   pub history_is : history ≡ w.history
 
 -- and the world is that of these events, whose calls have spellings
-pub record IsWorld {O A : Type 0} (object : Sequential O) (group : Group) (events : List (Event A)) (nodes : List (Node A)) (spares : List (Spares A)) (frames : List (Carried A)) (history : List (Item A)) : Type 0 where
+pub record IsWorld {O A : Type 0} (object : Sequential O) (group : Group) (events : List (Event A))
+    (nodes : List (Node A)) (spares : List (Spares A)) (frames : List (Carried A))
+    (history : List (Item A)) : Type 0 where
   pub kept : IsKept (run object (world_opening group) events) nodes spares frames history
   pub same : (run object (world_opening group) events).group ≡ group
   pub fit : AllByRecursion EventFits events

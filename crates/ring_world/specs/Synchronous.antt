@@ -5,7 +5,8 @@ use Rattle.ring_chain.specs.Told.{NameSameMembers}
 use Rattle.ring_projection.specs.Projection.{IsRingRun, ring_part}
 use Rattle.ring_views.specs.Synchrony.{IsVirtuallySynchronous}
 
--- the nodes' cores and frames are those of a run of ring cores, by which these gave the outputs that make it synchronous; and all who take part in a ring name the same members of it
+-- the nodes' cores and frames are those of a run of ring cores, by which these gave the outputs that make it
+-- synchronous; and all who take part in a ring name the same members of it
 pub record IsSynchronous {A : Type 0} (group : Group) (w : World A) : Type 0 where
   pub ring : IsRingRun group w
   pub synchronous : IsVirtuallySynchronous (ring_part w ring.outs)

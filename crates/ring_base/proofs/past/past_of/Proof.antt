@@ -78,7 +78,8 @@ module _ (Y Z : RattleType) (L : Laws Y) (L' : Laws Z) {M : Type 1} {𝓤 : Ura 
 
     walks : Goes (vptr b o ∷ [])
     walks =
-        let v : Val = vstruct (vcons (vstruct vnil) vnil) in let r : denote.Triple.Entry.Res (ended Y Z).signature z.0.0 = record { marker = record {}; value = z.1 } in
+        let v : Val = vstruct (vcons (vstruct vnil) vnil) in let r : denote.Triple.Entry.Res
+        (ended Y Z).signature z.0.0 = record { marker = record {}; value = z.1 } in
         let O : Fml = (type_at (ended Y Z).signature.result z.0.0).own_val r (v ∷ []) in
         qed 𝓛 ((raw toks ⊛ ‵ passed) ∷ raw ((held z.0.0 z.0.3).requires z.1) ∷ []) ∵ split ! $ keep ! (0 ∷ []) $
         enter ! C Λ (function Y Z) (vptr b o ∷ []) _ $ alloc_all ! (λ l. pass_all ! refl ((tt, tt), tt) $
@@ -93,7 +94,11 @@ module _ (Y Z : RattleType) (L : Laws Y) (L' : Laws Z) {M : Type 1} {𝓤 : Ura 
       walk_Meets 𝓛 (ended Y Z) (stayed Y Z) (Goes-dropped 𝓛 3 (RefOf (0 ∷ []) tt (plain (λ _. R Y Z)) (λ _. tt)) yes (λ κs x f. refl), tt) held
       (WpFn 𝓤 H 𝓣.C 𝓣.Λ (function Y Z)) (WpFn-mono 𝓤 H 𝓛.laws 𝓣 (function Y Z))
       (λ z. let a = z.0.3 in let vss = z.0.4 in let Rs : List RattleType = types_at (ended Y Z).signature.params z.0.0 in
-      fact_use 𝓤 (Are Rs (Ises Rs) a vss) (via 𝓤 (sem 𝓛 (owns Rs a vss)) (via 𝓤 (on_entry 𝓛 (ended Y Z).signature z.0.0 z.0.1 a vss) (fst∗ 𝓤 (on_entry 𝓛 (ended Y Z).signature z.0.0 z.0.1 a vss) ((held z.0.0 a).requires z.1)) (snd∗ 𝓤 (alive 𝓛 (ended Y Z).signature z.0.0 z.0.1) (sem 𝓛 (owns Rs a vss)))) (owns_show 𝓛 Rs (Ises Rs) (showss 𝓛 Rs) a vss)) (λ are.
+      fact_use 𝓤 (Are Rs (Ises Rs) a vss) (via 𝓤 (sem 𝓛 (owns Rs a vss))
+      (via 𝓤 (on_entry 𝓛 (ended Y Z).signature z.0.0 z.0.1 a vss)
+      (fst∗ 𝓤 (on_entry 𝓛 (ended Y Z).signature z.0.0 z.0.1 a vss) ((held z.0.0 a).requires z.1))
+      (snd∗ 𝓤 (alive 𝓛 (ended Y Z).signature z.0.0 z.0.1) (sem 𝓛 (owns Rs a vss))))
+      (owns_show 𝓛 Rs (Ises Rs) (showss 𝓛 Rs) a vss)) (λ are.
       subst (Goes 𝓣.C 𝓣.Λ z) (sym are.0.0) (walks 𝓣.C 𝓣.Λ z)))
 
 pub past_of_spec : {M : Type 1} → stated.statement M
@@ -101,5 +106,6 @@ unfolding tables_of
 past_of_spec 𝓤 𝓛 𝓜 𝓡 wired Y Z laws laws' =
     let A = 𝓛.A in
     let 𝓣 : Tables 𝓤 𝓛.H = tables_of 𝓤 𝓛.H 𝓜 (tables 𝓤 𝓛.H 𝓜 𝓡 𝓡.env) in
-    entered 𝓤 𝓛.H (triple_of 𝓛 (ended Y Z).signature (closing 𝓛 (ended Y Z) (clauses Y Z 𝓛 𝓜.mem 𝓡.returns))) 𝓣.C 𝓣.Λ (#self (layouts (a_type ∷ a_type ∷ []) (Y, (Z, tt)))) (function Y Z) (code.unfolded 𝓤 𝓛.H 𝓜 𝓡 wired (Y, (Z, tt)))
+    entered 𝓤 𝓛.H (triple_of 𝓛 (ended Y Z).signature (closing 𝓛 (ended Y Z) (clauses Y Z 𝓛 𝓜.mem 𝓡.returns))) 𝓣.C 𝓣.Λ
+    (#self (layouts (a_type ∷ a_type ∷ []) (Y, (Z, tt)))) (function Y Z) (code.unfolded 𝓤 𝓛.H 𝓜 𝓡 wired (Y, (Z, tt)))
     (meets Y Z laws laws' 𝓛 𝓜.mem 𝓡.returns 𝓣)

@@ -12,4 +12,5 @@ loop-answered-preserved g c =
     let at = slice_get_read c.args.answers.now (length c.args.answers.now) k a refl c.loop-answered-test.true c.answered-item.is in
     let more = replied a.call (reply_in a.answer) in
     rw (add-one, replies-take c.args.answers.now k a at)
-    (c.in_ok-tell_reply.ensures.ok ∙ (ap (λ xs. xs ++ more) c.loop-answered.invariant ∙ append_assoc c.args.items.now.items (replies (take k c.args.answers.now)) more))
+    (c.in_ok-tell_reply.ensures.ok ∙ (ap (λ xs. xs ++ more) c.loop-answered.invariant
+    ∙ append_assoc c.args.items.now.items (replies (take k c.args.answers.now)) more))

@@ -14,4 +14,5 @@ returns g c =
     let n = length ls in
     let some : 0 < n = grind (arith, nat_tests, c.is_empty.ensures, c.if-is_empty.false) in
     let l = get_or ls (n - 1) c.index-lines-lines.result in
-    ap (λ s. s.committed) c.step.view_is ∙ committed-last 0 (n - 1) ls l (slice_get-get_or ls (n - 1) c.index-lines-lines.result (omega (arith, some))) (omega (arith, some))
+    ap (λ s. s.committed) c.step.view_is ∙ committed-last 0 (n - 1) ls l
+    (slice_get-get_or ls (n - 1) c.index-lines-lines.result (omega (arith, some))) (omega (arith, some))

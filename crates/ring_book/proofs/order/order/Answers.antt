@@ -14,4 +14,6 @@ loop-number-preserved g c =
     (c.in_ok-add_at.ensures.ok (calls_at c.args.lines.now (take k c.args.numbers.now)) c.loop-number.invariant)
 
 pub returns-clause-ok : goal.returns-clause-ok
-returns-clause-ok g c = c.loop-number.invariant.order_is ∙ ap deduplicated (calls_at-all c.args.lines.now c.args.numbers.now c.loop-number.number-index c.loop-number-test.false)
+returns-clause-ok g c = c.loop-number.invariant.order_is
+    ∙ ap deduplicated (calls_at-all c.args.lines.now c.args.numbers.now c.loop-number.number-index
+    c.loop-number-test.false)

@@ -9,4 +9,5 @@ use Rattle.ring_book_tests.proofs.linear.in_order.Goals as goal
 pub returns : goal.returns
 returns g c =
     let events = events_of c.args.book.now.lines in
-    subst (λ node. IsFront (deduplicated (committed_of node)) (order_in (run g.O.Object.sequential events))) (c.node_law.ensures c.requires) (c.linear_law.ensures.front events)
+    subst (λ node. IsFront (deduplicated (committed_of node)) (order_in (run g.O.Object.sequential events)))
+    (c.node_law.ensures c.requires) (c.linear_law.ensures.front events)

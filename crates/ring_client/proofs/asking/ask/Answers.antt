@@ -5,4 +5,5 @@ use Rattle.ring_client.proofs.asking.ask.Goals as goal
 
 pub returns-then-is_some-clause-answered : goal.returns-then-is_some-clause-answered
 returns-then-is_some-clause-answered g c =
-    answered-poll (submitted c.args.call.now) _ _ c.args.turns c.loop.counter c.poll-answer.result c.loop-test.true (omega (arith, c.ranges.turns.fits)) c.loop.invariant c.poll-answer.ensures.asked
+    answered-poll (submitted c.args.call.now) _ _ c.args.turns c.loop.counter c.poll-answer.result c.loop-test.true
+    (omega (arith, c.ranges.turns.fits)) c.loop.invariant c.poll-answer.ensures.asked

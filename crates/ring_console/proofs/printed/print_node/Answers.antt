@@ -22,5 +22,7 @@ returns-clause-line g c =
     let written : Told _ = rw named at c.writeln.ensures.bytes in
     let word = c.name_of-state.ensures in
     let told : Told (line_of (node_text a.node a.state a.ring a.committed a.log)) =
-    subst Told (joined (codes "node ") (decimal a.node) (codes " ") (state_text a.state) (codes " ") (ring_text a.ring) (codes " committed ") (decimal a.committed) (codes " log ") (decimal a.log)) (rw word at written) in
+    subst Told (joined (codes "node ") (decimal a.node) (codes " ") (state_text a.state) (codes " ")
+    (ring_text a.ring) (codes " committed ") (decimal a.committed) (codes " log ") (decimal a.log))
+    (rw word at written) in
     search (rules, told)

@@ -13,8 +13,10 @@ returns-in-Ok-new-clause-printed g c = λ zero_is.
       record {
         text = told.text;
         appended = where_known _ _ _ (λ xs known.
-            let back = given_back g.O.Write.contents _ c.into_parts-writer.result.0 c.in-Ok-new.buffer c.run_script-done.new.out c.verdict_status-status.new.out told.text xs known
-            c.in-Ok-new.ensures.inner c.in-Ok-new.ensures.empty told.appended c.verdict_status-status.ensures.kept (c.verdict_status-status.ensures.flushed zero_is) c.into_parts-writer.ensures.inner in
+            let back = given_back g.O.Write.contents _ c.into_parts-writer.result.0 c.in-Ok-new.buffer
+            c.run_script-done.new.out c.verdict_status-status.new.out told.text xs known
+            c.in-Ok-new.ensures.inner c.in-Ok-new.ensures.empty told.appended c.verdict_status-status.ensures.kept
+            (c.verdict_status-status.ensures.flushed zero_is) c.into_parts-writer.ensures.inner in
             let name = back.0 in
             let bytes = back.1 in
             search rules);

@@ -9,7 +9,8 @@ use Rattle.ring_history.proofs.check.is_right_at.Goals as goal
 pub returns-then-eq : goal.returns-then-eq
 returns-then-eq c =
     let is : slice_get c.args.places.now c.args.at ≡ Some c.in-Some.place.now = grind (arith, common_steps, gets, c.in-Some.ensures.lookup) in
-    let same : c.as_slice.result.now ≡ c.as_slice-in-Some.result.now = (bytes_eq-Decides c.as_slice.result.now c.as_slice-in-Some.result.now).0 (sym c.eq.ensures ∙ c.if-eq.true) in
+    let same : c.as_slice.result.now ≡ c.as_slice-in-Some.result.now =
+    (bytes_eq-Decides c.as_slice.result.now c.as_slice-in-Some.result.now).0 (sym c.eq.ensures ∙ c.if-eq.true) in
     right_at-replied c.args.places.now c.args.at c.args.k c.args.reply.now c.in-Some.place.now c.are_issued_before.result is
     (sym c.as_slice.ensures.value ∙ same ∙ c.as_slice-in-Some.ensures.value) c.are_issued_before.ensures
 

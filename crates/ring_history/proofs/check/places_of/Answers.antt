@@ -16,8 +16,10 @@ loop-call-preserved g c =
     let done : c.apply.new.self ≡ g.O.Object.sequential.next c.loop-call.object c.call-item.result.op = search rules in
     let kept : c.loop-call.places.items ++ place ∷ [] ≡ c.push.new.self.items = search rules in
     record {
-      content = content-step g.O.Object.sequential c.loop-call.object c.apply.new.self c.args.order.now c.loop-call.call-index c.call-item.result at c.loop-call.invariant.content done;
+      content = content-step g.O.Object.sequential c.loop-call.object c.apply.new.self c.args.order.now
+          c.loop-call.call-index c.call-item.result at c.loop-call.invariant.content done;
       places = subst (ArePlaces g.O.Object.sequential c.args.order.now c.args.history.now (c.loop-call.call-index + 1)) kept
-          (places-push g.O.Object.sequential c.args.order.now c.args.history.now c.loop-call.call-index c.loop-call.places.items c.loop-call.object c.call-item.result place
+          (places-push g.O.Object.sequential c.args.order.now c.args.history.now c.loop-call.call-index
+          c.loop-call.places.items c.loop-call.object c.call-item.result place
           c.loop-call.invariant.places at c.loop-call.invariant.content c.first_issue-issued.ensures replied);
     }

@@ -10,9 +10,11 @@ loop-answered-preserved g c =
     let a = c.answered-item.result in
     let at = slice_get_read c.args.answers.now (length c.args.answers.now) k a refl c.loop-answered-test.true c.answered-item.is in
     rw add-one record {
-      items = c.tell_answer.ensures.items ∙ (ap (λ xs. slice_set xs a.ticket (Some a.answer)) c.loop-answered.invariant.items ∙ sym (answered_in-take c.args.told.now.items c.args.answers.now k a at));
+      items = c.tell_answer.ensures.items ∙ (ap (λ xs. slice_set xs a.ticket (Some a.answer))
+          c.loop-answered.invariant.items ∙ sym (answered_in-take c.args.told.now.items c.args.answers.now k a at));
       capacity = c.tell_answer.ensures.capacity ∙ c.loop-answered.invariant.capacity;
     }
 
 pub returns-clause-items : goal.returns-clause-items
-returns-clause-items g c = c.loop-answered.invariant.items ∙ answered_in-all c.args.told.now.items c.args.answers.now c.loop-answered.answered-index c.loop-answered-test.false
+returns-clause-items g c = c.loop-answered.invariant.items
+    ∙ answered_in-all c.args.told.now.items c.args.answers.now c.loop-answered.answered-index c.loop-answered-test.false

@@ -4,7 +4,8 @@ use Rattle.ring_listing.proofs.listing.list_frames.Goals as goal
 
 pub returns-in_err-ahead-clause-cut : goal.returns-in_err-ahead-clause-cut
 returns-in_err-ahead-clause-cut g c =
-    value_at_err c.from_residual.result c.in_err-ahead.field-0.0 _ c.from_residual.ensures.1 (none_cut g.row.A.Denot _ _ c.in_err-ahead.field-0.0 c.in_err-ahead.ensures.refused)
+    value_at_err c.from_residual.result c.in_err-ahead.field-0.0 _ c.from_residual.ensures.1
+    (none_cut g.row.A.Denot _ _ c.in_err-ahead.field-0.0 c.in_err-ahead.ensures.refused)
 
 pub loop-init : goal.loop-init
 loop-init g c =
@@ -14,7 +15,9 @@ loop-init g c =
 pub returns-in_err-next_frame-clause-cut : goal.returns-in_err-next_frame-clause-cut
 returns-in_err-next_frame-clause-cut g c =
     let failure = c.in_err-next_frame.field-0.0 in
-    value_at_err c.from_residual-in_err-next_frame.result failure _ c.from_residual-in_err-next_frame.ensures.1 (so_far_cut c.loop.ahead _ _ _ _ c.next_frame.new.self.state failure c.loop.invariant c.in_err-next_frame.ensures.stopped)
+    value_at_err c.from_residual-in_err-next_frame.result failure _ c.from_residual-in_err-next_frame.ensures.1
+    (so_far_cut c.loop.ahead _ _ _ _ c.next_frame.new.self.state failure c.loop.invariant
+    c.in_err-next_frame.ensures.stopped)
 
 pub returns-in_default-clause-listed : goal.returns-in_default-clause-listed
 returns-in_default-clause-listed g c =
@@ -24,4 +27,5 @@ returns-in_default-clause-listed g c =
 pub loop-preserved : goal.loop-preserved
 loop-preserved g c =
     let next = rw c.in-Some.is at c.in_ok-next_frame.ensures.next in
-    so_far_more c.loop.ahead c.next_frame.new.self _ _ _ _ _ _ c.in-Some.frame c.loop.invariant next c.in_ok-print_frame.ensures.line c.in_ok-next_frame.ensures.ended
+    so_far_more c.loop.ahead c.next_frame.new.self _ _ _ _ _ _ c.in-Some.frame c.loop.invariant next
+    c.in_ok-print_frame.ensures.line c.in_ok-next_frame.ensures.ended

@@ -29,7 +29,8 @@ returns-clause-replica g c =
     let running = c.running-running.result in
     let r = c.args.replica.now in
     let outs = c.in_ok-outs.outs.items in
-    let is = step-as object c.args.core.now c.step.new.self r c.args.input running outs c.running-running.ensures c.in_ok-outs.ensures.ok c.in_ok-outs.ensures.outs in
+    let is = step-as object c.args.core.now c.step.new.self r c.args.input running outs c.running-running.ensures
+    c.in_ok-outs.ensures.ok c.in_ok-outs.ensures.outs in
     elim c.if-not-is_stopped.branch [
       | then-not-is_stopped w ↦
           w.replica-is ∙ w.finish.ensures ∙ ap replica_done c.in_ok-given.ensures.ok ∙ ap (λ (x : ReplicaStepped _). replica_done x.replica) is

@@ -23,18 +23,21 @@ loop-payload-preserved g c =
       core = c.in_ok-send.ensures.ok
           ∙ ap (λ (x : Core _). (ring_step x (SendInput c.in-Some.payload)).core) i.core
           ∙ sym (handed-next c.args.core.now c.loop-payload.yielded c.in-Some.payload);
-      going = subst (λ (x : Core _). is_stopped x.state ≡ false) (sym c.in_ok-send.ensures.ok) (going_step c.loop-payload.core (SendInput c.in-Some.payload) i.going);
+      going = subst (λ (x : Core _). is_stopped x.state ≡ false) (sym c.in_ok-send.ensures.ok)
+          (going_step c.loop-payload.core (SendInput c.in-Some.payload) i.going);
     }
 
 pub returns-in_err-send-clause-refused : goal.returns-in_err-send-clause-refused
 returns-in_err-send-clause-refused g c =
-    let plain : c.in_err-send.field-0.0 ≡ Memory = c.in_err-send.ensures.refused ∙ ap (λ b. if b then StoppedFault else Memory) c.loop-payload.invariant.going in
+    let plain : c.in_err-send.field-0.0 ≡ Memory = c.in_err-send.ensures.refused
+    ∙ ap (λ b. if b then StoppedFault else Memory) c.loop-payload.invariant.going in
     search (rules, plain)
 
 pub returns-clause-ok : goal.returns-clause-ok
 returns-clause-ok g c =
     let items = c.args.due.items in
     let begun = c.into_iter-payload-iterator.ensures.into_iter_gives in
-    let ended = YieldsList-end (YieldsList-from_vec items begun.0 (begun.1 ∙ c.args.due.ok.0)) c.loop-payload.yielded c.loop-payload.payload-iterator c.loop-payload.yielded_by
+    let ended = YieldsList-end (YieldsList-from_vec items begun.0 (begun.1 ∙ c.args.due.ok.0))
+    c.loop-payload.yielded c.loop-payload.payload-iterator c.loop-payload.yielded_by
     c.next.result c.next.new.self c.in-None.is c.next.ensures.steps in
     c.loop-payload.invariant.core ∙ ap (handed_over c.args.core.now) (sym (map-id c.loop-payload.yielded) ∙ ended.0)

@@ -6,12 +6,14 @@ use Rattle.ring_packing.proofs.packing.take_message.Goals as goal
 pub returns-then-count-lt2-clause-message : goal.returns-then-count-lt2-clause-message
 returns-then-count-lt2-clause-message g c =
     let short : length (front_run c.args.queue.now.items) < 2 = subst (λ n. n < 2) c.run_length-count.ensures c.if-count-lt2.true in
-    (first-alone c.args.queue.now.items c.pop_front.new.self.items c.pop_front.result c.pop_front.ensures.items (λ l. c.pop_front.ensures.variant.1 (omega (arith, l, c.args.queue.now.ok.0))) short).0
+    (first-alone c.args.queue.now.items c.pop_front.new.self.items c.pop_front.result c.pop_front.ensures.items
+    (λ l. c.pop_front.ensures.variant.1 (omega (arith, l, c.args.queue.now.ok.0))) short).0
 
 pub returns-then-count-lt2-clause-queue : goal.returns-then-count-lt2-clause-queue
 returns-then-count-lt2-clause-queue g c =
     let short : length (front_run c.args.queue.now.items) < 2 = subst (λ n. n < 2) c.run_length-count.ensures c.if-count-lt2.true in
-    (first-alone c.args.queue.now.items c.pop_front.new.self.items c.pop_front.result c.pop_front.ensures.items (λ l. c.pop_front.ensures.variant.1 (omega (arith, l, c.args.queue.now.ok.0))) short).1
+    (first-alone c.args.queue.now.items c.pop_front.new.self.items c.pop_front.result c.pop_front.ensures.items
+    (λ l. c.pop_front.ensures.variant.1 (omega (arith, l, c.args.queue.now.ok.0))) short).1
 
 pub returns-clause-message : goal.returns-clause-message
 returns-clause-message g c =

@@ -1,7 +1,8 @@
 use Rattle.std.proofs.Common.{◌≡◌, ◌-◌, [], ap, sym, ◌∙◌}
 use Rattle.std.specs.Prelude.{option_to_list}
 use Rattle.ring_payload.specs.Packing.{packed}
-use Rattle.ring_packing.proofs.Taking.{taken-begun, left-begun, taken-more, left-more, taken-none, left-all, taken-all, left-end, left-whole, left-twice, left-behind, on-err}
+use Rattle.ring_packing.proofs.Taking.{taken-begun, left-begun, taken-more, left-more, taken-none, left-all, taken-all}
+use Rattle.ring_packing.proofs.Taking.{left-end, left-whole, left-twice, left-behind, on-err}
 use Rattle.ring_packing.proofs.packing.take_packed.Goals as goal
 
 pub loop-init : goal.loop-init
@@ -26,9 +27,12 @@ pub loop-preserved : goal.loop-preserved
 loop-preserved g c =
     let first = ap option_to_list (sym c.in-Some.is) ∙ c.in_ok-payload.ensures.message in
     rw c.in_ok-push.ensures.items (record {
-      taken = taken-more c.args.most c.loop.counter c.loop.payloads.items c.loop.queue.items c.take_message.new.queue.items _ c.in-Some.payload c.loop-test.true first c.in_ok-payload.ensures.queue c.loop.invariant.taken;
+      taken = taken-more c.args.most c.loop.counter c.loop.payloads.items c.loop.queue.items
+          c.take_message.new.queue.items _ c.in-Some.payload c.loop-test.true first c.in_ok-payload.ensures.queue
+          c.loop.invariant.taken;
       rest = left-twice c.loop.invariant.rest (left-behind c.loop.queue.items _ c.in_ok-payload.ensures.queue);
-      left = left-more c.args.most c.loop.counter c.loop.queue.items c.take_message.new.queue.items _ c.loop-test.true c.in_ok-payload.ensures.queue c.loop.invariant.left;
+      left = left-more c.args.most c.loop.counter c.loop.queue.items c.take_message.new.queue.items _ c.loop-test.true
+          c.in_ok-payload.ensures.queue c.loop.invariant.left;
     })
 
 pub returns-clause-items : goal.returns-clause-items

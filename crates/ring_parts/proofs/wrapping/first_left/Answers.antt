@@ -4,7 +4,11 @@ use Rattle.ring_window.specs.Held.{highest}
 use Rattle.ring_recover.proofs.Following.{none_from}
 use Rattle.ring_parts.proofs.Wraps.{made_one, made_next, made_full, made_end, made_all}
 use Rattle.ring_parts.proofs.wrapping.first_left.Goals as goal
-use Rattle.ring_parts.proofs.wrapping.first_left.Goals.{in-Some+in_ok-push, in_default, then-len-most-2+then-not-has_ended+in_ok-push-2, else-len-most-2, else-len-most-2-via-then-len-most-2+else-not-has_ended, else-len-most-2-via-else-len-most-2}
+use Rattle.ring_parts.proofs.wrapping.first_left.Goals.{in-Some+in_ok-push, in_default}
+use Rattle.ring_parts.proofs.wrapping.first_left.Goals.{then-len-most-2+then-not-has_ended+in_ok-push-2}
+use Rattle.ring_parts.proofs.wrapping.first_left.Goals.{else-len-most-2}
+use Rattle.ring_parts.proofs.wrapping.first_left.Goals.{else-len-most-2-via-then-len-most-2+else-not-has_ended}
+use Rattle.ring_parts.proofs.wrapping.first_left.Goals.{else-len-most-2-via-else-len-most-2}
 
 pub returns-then-len-most-clause-items : goal.returns-then-len-most-clause-items
 returns-then-len-most-clause-items g c =

@@ -7,4 +7,5 @@ use Rattle.ring_replica.proofs.course.settle.Goals as goal
 
 pub returns-clause-front : goal.returns-clause-front
 returns-clause-front g c =
-    subst (λ l. IsFront (committed_calls c.args.log.now) (committed_calls l)) (sym c.commit_upto.ensures) (committed-raised c.args.log.now c.cover-places.result)
+    subst (λ l. IsFront (committed_calls c.args.log.now) (committed_calls l)) (sym c.commit_upto.ensures)
+    (committed-raised c.args.log.now c.cover-places.result)

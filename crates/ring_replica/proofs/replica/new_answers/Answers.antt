@@ -16,7 +16,17 @@ overflow_add-result g c =
     let rest = take_rest calls c.args.committed ∙ ap (drop c.args.committed) c.committed_calls-calls.ensures in
     let few = done_after-few g.O.Object.sequential c.args.sessions.now (drop c.args.committed (committed_calls log)) in
     let same = c.in_ok-answers.ensures.effects ∙ ap (done_after g.O.Object.sequential c.args.sessions.now) rest in
-    omega (arith, few, same, length-drop c.args.committed (committed_calls log), length-take log.committed log.calls, c.requires.few, c.requires.within, c.length.ensures, c.length.type_inv)
+    omega (
+      arith,
+      few,
+      same,
+      length-drop c.args.committed (committed_calls log),
+      length-take log.committed log.calls,
+      c.requires.few,
+      c.requires.within,
+      c.length.ensures,
+      c.length.type_inv,
+    )
 
 pub returns-clause-table : goal.returns-clause-table
 returns-clause-table g c =

@@ -5,13 +5,17 @@ use Rattle.ring_script.proofs.operation.spell_all.Goals as goal
 
 pub loop-argument-preserved : goal.loop-argument-preserved
 loop-argument-preserved g c =
-    sym (arguments_more c.loop-argument.bytes.items c.args.arguments.now c.loop-argument.argument-index c.loop-argument.words _ _ (omega arith) c.in_ok-spell.ensures) ∙ c.loop-argument.invariant
+    sym (arguments_more c.loop-argument.bytes.items c.args.arguments.now c.loop-argument.argument-index
+    c.loop-argument.words _ _ (omega arith) c.in_ok-spell.ensures) ∙ c.loop-argument.invariant
 
 pub returns-in_err-spell : goal.returns-in_err-spell
 returns-in_err-spell g c =
     let p = err_from_is_err_and c.from_residual.result c.from_residual.ensures.1 in
-    rw (p.1, p.2) (arguments_refused c.in_err-spell.field-0.0 c.loop-argument.bytes.items c.args.arguments.now c.loop-argument.argument-index c.loop-argument.words _ _ (omega arith) c.in_err-spell.ensures c.loop-argument.invariant)
+    rw (p.1, p.2) (arguments_refused c.in_err-spell.field-0.0 c.loop-argument.bytes.items c.args.arguments.now
+    c.loop-argument.argument-index c.loop-argument.words _ _ (omega arith)
+    c.in_err-spell.ensures c.loop-argument.invariant)
 
 pub returns : goal.returns
 returns g c =
-    sym c.loop-argument.invariant ∙ arguments_end c.loop-argument.bytes.items c.args.arguments.now c.loop-argument.argument-index c.loop-argument.words (omega arith)
+    sym c.loop-argument.invariant ∙ arguments_end c.loop-argument.bytes.items c.args.arguments.now
+    c.loop-argument.argument-index c.loop-argument.words (omega arith)

@@ -13,4 +13,6 @@ returns-clause-ok g c =
     let is_start = c.len-start.ensures ∙ old.ok.0 in
     let is_len = c.len.ensures ∙ new.ok.0 in
     patched 8 (c.len.result - start - 8) start new.len old.items zeros text c.as_mut_slice.result.now new.items c.write_u64.new.buf
-    (c.as_mut_slice.ensures.value ∙ appended) (sym c.as_mut_slice.ensures.value) is_start refl (length_behind old.items zeros text start c.len.result new.items appended is_start is_len) new.ok.0 c.write_u64.ensures
+    (c.as_mut_slice.ensures.value ∙ appended) (sym c.as_mut_slice.ensures.value) is_start refl
+    (length_behind old.items zeros text start c.len.result new.items appended is_start is_len)
+    new.ok.0 c.write_u64.ensures

@@ -9,5 +9,6 @@ returns-then-len-rest c = first_text-long 8 c.read_u64-len.result c.args.bytes.n
 
 pub returns : goal.returns
 returns c =
-    first_text-there 8 c.read_u64-len.result c.args.bytes.now c.split_at.result.0.now c.split_at.result.1.now c.read_u64-len.ensures c.if-bytes-lt8.false c.if-len-rest.false
+    first_text-there 8 c.read_u64-len.result c.args.bytes.now c.split_at.result.0.now c.split_at.result.1.now
+    c.read_u64-len.ensures c.if-bytes-lt8.false c.if-len-rest.false
     c.split_at.ensures.front c.split_at.ensures.back

@@ -23,15 +23,19 @@ loop-place-preserved g c =
     record {
       few = elim c.if-is_done.branch [ then-is_done w ↦ omega arith | else-is_done w ↦ omega arith ];
       effects =
-          done-next object c.loop-place.sessions c.apply.new.self more i call c.in_ok-answer.answer (done_after object c.args.sessions.now more) c.loop-place.effects c.if-is_done.effects
+          done-next object c.loop-place.sessions c.apply.new.self more i call c.in_ok-answer.answer
+          (done_after object c.args.sessions.now more) c.loop-place.effects c.if-is_done.effects
           rest answer after
           (elim c.if-is_done.branch [
             | then-is_done w ↦ let one = ap {B = ℕ} (λ b. if b then 1 else 0) (sym c.is_done.ensures ∙ w.if-is_done.true) in omega (arith, one)
             | else-is_done w ↦ let none = ap {B = ℕ} (λ b. if b then 1 else 0) (sym c.is_done.ensures ∙ w.if-is_done.false) in omega (arith, none)
           ])
           c.loop-place.invariant.effects;
-      table = c.loop-place.invariant.table ∙ ap (fold (table_next object) c.loop-place.sessions) rest ∙ ap (λ t. fold (table_next object) t (drop (i + 1) more)) (sym after);
+      table = c.loop-place.invariant.table ∙ ap (fold (table_next object) c.loop-place.sessions) rest
+          ∙ ap (λ t. fold (table_next object) t (drop (i + 1) more)) (sym after);
       answers =
-          answers-on object c.loop-place.sessions c.apply.new.self pending more _ i call c.in_ok-answer.answer (answers_behind object c.args.sessions.now pending [] more)
-          c.loop-place.answers.items c.answer_to.new.answers.items rest first refl answer after c.in_ok-answer_to.ensures.answers c.loop-place.invariant.answers;
+          answers-on object c.loop-place.sessions c.apply.new.self pending more _ i call c.in_ok-answer.answer
+          (answers_behind object c.args.sessions.now pending [] more)
+          c.loop-place.answers.items c.answer_to.new.answers.items rest first refl answer after
+          c.in_ok-answer_to.ensures.answers c.loop-place.invariant.answers;
     }

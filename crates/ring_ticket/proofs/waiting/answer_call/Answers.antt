@@ -22,7 +22,8 @@ loop-ticket-preserved g c =
       | then-is_same+in_ok-copy_of+in_ok-push w ↦
           let same = sym c.is_same.ensures ∙ w.if-is_same.true in
           let next = answered-next calls c.args.call.now d c.args.answer ws i n (still_waiting calls c.args.call.now ws) c.loop-ticket.still.items
-          (c.args.answers.now.items ++ given calls c.args.call.now c.args.answer ws) c.loop-ticket.answers.items lt at within is same c.loop-ticket.invariant.still c.loop-ticket.invariant.answers in
+          (c.args.answers.now.items ++ given calls c.args.call.now c.args.answer ws) c.loop-ticket.answers.items lt at
+          within is same c.loop-ticket.invariant.still c.loop-ticket.invariant.answers in
           let pushed = w.in_ok-push.ensures.items in
           let copied = w.in_ok-copy_of.ensures in
           record {
@@ -33,10 +34,17 @@ loop-ticket-preserved g c =
       | else-is_same w ↦
           let same = sym c.is_same.ensures ∙ w.if-is_same.false in
           let next = still-next calls c.args.call.now d c.args.answer ws i n (still_waiting calls c.args.call.now ws) c.loop-ticket.still.items
-          (c.args.answers.now.items ++ given calls c.args.call.now c.args.answer ws) c.loop-ticket.answers.items lt at within is same c.loop-ticket.invariant.still c.loop-ticket.invariant.answers in
+          (c.args.answers.now.items ++ given calls c.args.call.now c.args.answer ws) c.loop-ticket.answers.items lt at
+          within is same c.loop-ticket.invariant.still c.loop-ticket.invariant.answers in
           let pushed = w.push-else-is_same.ensures.items in
           record {
-            room = omega (arith, c.loop-ticket.invariant.room, ap (λ v. length v.items) w.still-is, ap length pushed, length-append c.loop-ticket.still.items (n ∷ []));
+            room = omega (
+              arith,
+              c.loop-ticket.invariant.room,
+              ap (λ v. length v.items) w.still-is,
+              ap length pushed,
+              length-append c.loop-ticket.still.items (n ∷ []),
+            );
             still = cc (next.0, w.still-is, pushed);
             answers = cc (next.1, w.answers-is);
           }

@@ -20,20 +20,26 @@ loop-call-preserved g c =
     let answer = c.in_ok-answer.ensures.answer in
     let after = c.in_ok-answer.ensures.ok in
     record {
-      known = subst (λ (ws : List ℕ). All (λ n. n < length calls) ws) (sym still) (All-still_waiting (λ n. n < length calls) calls call c.loop-call.waiting.items c.loop-call.invariant.known);
+      known = subst (λ (ws : List ℕ). All (λ n. n < length calls) ws) (sym still)
+          (All-still_waiting (λ n. n < length calls) calls call c.loop-call.waiting.items c.loop-call.invariant.known);
       few = elim c.if-is_done.branch [ then-is_done w ↦ omega arith | else-is_done w ↦ omega arith ];
       effects =
-          done-next object c.loop-call.sessions c.apply.new.self more i call c.in_ok-answer.answer (done_after object c.args.sessions.now more) c.loop-call.effects c.if-is_done.effects
+          done-next object c.loop-call.sessions c.apply.new.self more i call c.in_ok-answer.answer
+          (done_after object c.args.sessions.now more) c.loop-call.effects c.if-is_done.effects
           rest answer after
           (elim c.if-is_done.branch [
             | then-is_done w ↦ let one = ap {B = ℕ} (λ b. if b then 1 else 0) (sym c.is_done.ensures ∙ w.if-is_done.true) in omega (arith, one)
             | else-is_done w ↦ let none = ap {B = ℕ} (λ b. if b then 1 else 0) (sym c.is_done.ensures ∙ w.if-is_done.false) in omega (arith, none)
           ])
           c.loop-call.invariant.effects;
-      table = c.loop-call.invariant.table ∙ ap (fold (table_next object) c.loop-call.sessions) rest ∙ ap (λ t. fold (table_next object) t (drop (i + 1) more)) (sym after);
-      waiting = c.loop-call.invariant.waiting ∙ ap (λ w. waiting_after calls w c.loop-call.waiting.items) rest ∙ ap (λ w. waiting_after calls (drop (i + 1) more) w) (sym still);
+      table = c.loop-call.invariant.table ∙ ap (fold (table_next object) c.loop-call.sessions) rest
+          ∙ ap (λ t. fold (table_next object) t (drop (i + 1) more)) (sym after);
+      waiting = c.loop-call.invariant.waiting ∙ ap (λ w. waiting_after calls w c.loop-call.waiting.items) rest
+          ∙ ap (λ w. waiting_after calls (drop (i + 1) more) w) (sym still);
       answers =
-          answers-next object c.loop-call.sessions c.apply.new.self calls more i call c.in_ok-answer.answer c.loop-call.waiting.items c.in_ok-waiting.field-0.items
-          (c.args.answers.now.items ++ given_after object c.args.sessions.now calls more c.args.waiting.now.items) c.loop-call.answers.items c.answer_call.new.answers.items
+          answers-next object c.loop-call.sessions c.apply.new.self calls more i call c.in_ok-answer.answer
+          c.loop-call.waiting.items c.in_ok-waiting.field-0.items
+          (c.args.answers.now.items ++ given_after object c.args.sessions.now calls more c.args.waiting.now.items)
+          c.loop-call.answers.items c.answer_call.new.answers.items
           rest answer after still told c.loop-call.invariant.answers;
     }

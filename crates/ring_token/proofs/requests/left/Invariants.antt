@@ -6,4 +6,5 @@ use Rattle.ring_token.proofs.requests.left.Given as goal
 abbrev pub invariant-loop-number : goal.invariant-loop-number
 invariant-loop-number g l =
     (length l.stays ≤ l.number-index)
-    × ((held : ℕ → Bool) → ((n : ℕ) (r : Bool) → goal.F-post g l.holds n r → r ≡ held n) → l.stays ++ stays_of l.mark held (drop l.number-index l.numbers) ≡ stays_of l.mark held l.requests)
+    × ((held : ℕ → Bool) → ((n : ℕ) (r : Bool) → goal.F-post g l.holds n r → r ≡ held n)
+    → l.stays ++ stays_of l.mark held (drop l.number-index l.numbers) ≡ stays_of l.mark held l.requests)

@@ -5,22 +5,28 @@ use Rattle.ring_token.proofs.Merging.{begun, taken, whole, all_taken, none_left,
 use Rattle.ring_token.proofs.requests.requests_after.Goals as goal
 
 pub loop-left-init : goal.loop-left-init
-loop-left-init c = rw (c.new-smallest.ensures, c.as_slice-left.ensures.value, c.as_slice-lacking.ensures.value) (begun c.args.stays.now c.args.missing.now c.requires)
+loop-left-init c = rw (c.new-smallest.ensures, c.as_slice-left.ensures.value, c.as_slice-lacking.ensures.value)
+    (begun c.args.stays.now c.args.missing.now c.requires)
 
 pub returns-in_default : goal.returns-in_default
 returns-in_default c = λ all m.
-    let none : least_first c.loop-left.left.now c.loop-left.lacking.now ≡ None = sym c.least_first.ensures ∙ none_from c.least_first.result c.in_default.not-Some in
-    whole c.loop-left.smallest c.args.stays.now c.args.missing.now all (none_left c.loop-left.smallest c.loop-left.left.now c.loop-left.lacking.now _ none c.loop-left.invariant) m
+    let none : least_first c.loop-left.left.now c.loop-left.lacking.now ≡ None = sym c.least_first.ensures
+    ∙ none_from c.least_first.result c.in_default.not-Some in
+    whole c.loop-left.smallest c.args.stays.now c.args.missing.now all
+    (none_left c.loop-left.smallest c.loop-left.left.now c.loop-left.lacking.now _ none c.loop-left.invariant) m
 
 pub loop-left-preserved : goal.loop-left-preserved
 loop-left-preserved c =
     let few : length c.as_slice.result.now ≡ length c.loop-left.smallest = ap length c.as_slice.ensures.value in
     let short : length c.loop-left.smallest < 32 = omega arith in
     let some : least_first c.loop-left.left.now c.loop-left.lacking.now ≡ Some c.in-Some.number = sym c.least_first.ensures ∙ c.in-Some.is in
-    rw (c.push.ensures, c.after-left.ensures, c.after-lacking.ensures) (taken c.loop-left.smallest c.loop-left.left.now c.loop-left.lacking.now _ c.in-Some.number short some c.loop-left.invariant)
+    rw (c.push.ensures, c.after-left.ensures, c.after-lacking.ensures)
+    (taken c.loop-left.smallest c.loop-left.left.now c.loop-left.lacking.now _ c.in-Some.number short some
+    c.loop-left.invariant)
 
 pub returns : goal.returns
 returns c = λ all m.
     let few : length c.as_slice.result.now ≡ length c.loop-left.smallest = ap length c.as_slice.ensures.value in
     let full : 32 ≤ length c.loop-left.smallest = omega arith in
-    whole c.loop-left.smallest c.args.stays.now c.args.missing.now all (all_taken c.loop-left.smallest c.loop-left.left.now c.loop-left.lacking.now _ full c.loop-left.invariant) m
+    whole c.loop-left.smallest c.args.stays.now c.args.missing.now all
+    (all_taken c.loop-left.smallest c.loop-left.left.now c.loop-left.lacking.now _ full c.loop-left.invariant) m

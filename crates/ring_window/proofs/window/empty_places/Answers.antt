@@ -5,4 +5,7 @@ use Rattle.ring_window.proofs.Windows.{none_more}
 use Rattle.ring_window.proofs.window.empty_places.Goals as goal
 
 pub loop-preserved : goal.loop-preserved
-loop-preserved g c = rw c.in_ok-push.ensures.items (omega (arith, length_push c.loop.places.items None, c.loop.invariant.0), none_more c.loop.places.items c.loop.invariant.1)
+loop-preserved g c = rw c.in_ok-push.ensures.items (
+  omega (arith, length_push c.loop.places.items None, c.loop.invariant.0),
+  none_more c.loop.places.items c.loop.invariant.1,
+)

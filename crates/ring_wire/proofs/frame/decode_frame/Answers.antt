@@ -13,7 +13,8 @@ returns-in_err-frame-clause-bad g c =
 
 pub returns-then-len-src-clause-bad : goal.returns-then-len-src-clause-bad
 returns-then-len-src-clause-bad g c =
-    λ h f spells. let s = spelled f c.args.src.now spells in c.if-len-src.true (is_whole frame_format c.args.src.now c.in_ok-frame.frame c.in_ok-frame.len f c.in_ok-frame.ensures.found s.0 s.1)
+    λ h f spells. let s = spelled f c.args.src.now spells in c.if-len-src.true
+    (is_whole frame_format c.args.src.now c.in_ok-frame.frame c.in_ok-frame.len f c.in_ok-frame.ensures.found s.0 s.1)
 
 pub returns-clause-found : goal.returns-clause-found
 returns-clause-found g c =

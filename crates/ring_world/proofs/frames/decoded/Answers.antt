@@ -5,5 +5,6 @@ use Rattle.ring_world.proofs.frames.decoded.Goals as goal
 
 pub returns : goal.returns
 returns g c = λ frame spelled.
-    decodes (slice_range c.args.bytes.now c.args.mark.start c.args.mark.end) c.decode_frame.result frame spelled c.one_spelling_law.ensures c.decode_frame.ensures.found c.decode_frame.ensures.bad
+    decodes (slice_range c.args.bytes.now c.args.mark.start c.args.mark.end) c.decode_frame.result frame spelled
+    c.one_spelling_law.ensures c.decode_frame.ensures.found c.decode_frame.ensures.bad
     c.decode_frame.ensures.faults

@@ -7,14 +7,20 @@ pub returns-in_ok-push-in-Done-clause-ok : goal.returns-in_ok-push-in-Done-claus
 returns-in_ok-push-in-Done-clause-ok g c = λ before h.
     let e = c.in_ok-apply.ensures in
     let pushed : c.push.new.self.items ≡ c.args.order.now.items ++ c.args.call.now ∷ [] = search rules in
-    ordered-push before c.args.sessions.now c.apply.new.self c.args.order.now.items c.push.new.self.items c.args.call.now c.in_ok-apply.field-0 (c.table_law.ensures.effect before c.args.call.now) h e.answer e.ok true (ap is_done c.in-Done.is) pushed
+    ordered-push before c.args.sessions.now c.apply.new.self c.args.order.now.items c.push.new.self.items
+    c.args.call.now c.in_ok-apply.field-0 (c.table_law.ensures.effect before c.args.call.now) h e.answer e.ok true
+    (ap is_done c.in-Done.is) pushed
 
 pub returns-in-Kept-clause-ok : goal.returns-in-Kept-clause-ok
 returns-in-Kept-clause-ok g c = λ before h.
     let e = c.in_ok-apply.ensures in
-    ordered-push before c.args.sessions.now c.apply.new.self c.args.order.now.items c.args.order.now.items c.args.call.now c.in_ok-apply.field-0 (c.table_law.ensures.effect before c.args.call.now) h e.answer e.ok false (ap is_done c.in-Kept.is) refl
+    ordered-push before c.args.sessions.now c.apply.new.self c.args.order.now.items c.args.order.now.items
+    c.args.call.now c.in_ok-apply.field-0 (c.table_law.ensures.effect before c.args.call.now) h e.answer e.ok false
+    (ap is_done c.in-Kept.is) refl
 
 pub returns-in-Refused-clause-ok : goal.returns-in-Refused-clause-ok
 returns-in-Refused-clause-ok g c = λ before h.
     let e = c.in_ok-apply.ensures in
-    ordered-push before c.args.sessions.now c.apply.new.self c.args.order.now.items c.args.order.now.items c.args.call.now c.in_ok-apply.field-0 (c.table_law.ensures.effect before c.args.call.now) h e.answer e.ok false (ap is_done c.in-Refused.is) refl
+    ordered-push before c.args.sessions.now c.apply.new.self c.args.order.now.items c.args.order.now.items
+    c.args.call.now c.in_ok-apply.field-0 (c.table_law.ensures.effect before c.args.call.now) h e.answer e.ok false
+    (ap is_done c.in-Refused.is) refl

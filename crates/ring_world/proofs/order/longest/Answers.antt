@@ -20,13 +20,16 @@ loop-place-preserved g c =
     elim c.if-len-most.branch [
       | then-len-most w ↦
           let test = w.if-len-most.true in
-          let more : length (order_of (logs_of (take i xs))) < length (deduplicated (node_committed x)) = omega (arith, test, most, len) in
-          (w.most-is ∙ len ∙ ap length (sym (replaced xs i x at more)), subst (λ (o : Option ℕ). IsLongest (take (i + 1) xs) o) (sym w.longest-is) (is-longest xs i x at more))
+          let more : length (order_of (logs_of (take i xs))) < length (deduplicated (node_committed x)) = omega (arith, test, most, len) in (
+            w.most-is ∙ len ∙ ap length (sym (replaced xs i x at more)),
+            subst (λ (o : Option ℕ). IsLongest (take (i + 1) xs) o) (sym w.longest-is) (is-longest xs i x at more),
+          )
       | else-len-most w ↦
           let test = w.if-len-most.false in
           let less : length (deduplicated (node_committed x)) ≤ length (order_of (logs_of (take i xs))) = omega (arith, test, most, len) in (
             w.most-is ∙ most ∙ ap length (sym (stays xs i x at less)),
-            subst (λ (o : Option ℕ). IsLongest (take (i + 1) xs) o) (sym w.longest-is) (still-longest xs i x at c.loop-place.longest less c.loop-place.invariant.1),
+            subst (λ (o : Option ℕ). IsLongest (take (i + 1) xs) o) (sym w.longest-is)
+                (still-longest xs i x at c.loop-place.longest less c.loop-place.invariant.1),
           )
     ]
 

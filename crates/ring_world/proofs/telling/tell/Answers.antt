@@ -12,15 +12,22 @@ use Rattle.ring_world.proofs.Tellings.{none_told, one_told, none_taken, one_take
 use Rattle.ring_world.proofs.telling.tell.Goals as goal
 
 pub loop-answered-init : goal.loop-answered-init
-loop-answered-init g c = (none_told c.args.node [] c.args.told.now.items c.args.history.now.items c.args.spares.now.calls, none_taken (vec_len c.args.told.now) (vec_capacity c.args.told.now), none_taken (vec_len c.args.history.now) (vec_capacity c.args.history.now))
+loop-answered-init g c = (
+  none_told c.args.node [] c.args.told.now.items c.args.history.now.items
+      c.args.spares.now.calls,
+  none_taken (vec_len c.args.told.now) (vec_capacity c.args.told.now),
+  none_taken (vec_len c.args.history.now) (vec_capacity c.args.history.now),
+)
 
 pub tell_one-requires-clause-left : goal.tell_one-requires-clause-left
 tell_one-requires-clause-left g c =
     let begun = c.into_iter-answered-iterator.ensures.into_iter_gives in
     let road = YieldsList-from_vec c.args.answers.items begun.0 (begun.1 ∙ c.args.answers.ok.0) in
-    let turn = YieldsList-turn road c.loop-answered.yielded c.loop-answered.answered-iterator c.loop-answered.yielded_by c.next.result c.next.new.self c.in-Some.answered c.in-Some.is c.next.ensures.steps in
+    let turn = YieldsList-turn road c.loop-answered.yielded c.loop-answered.answered-iterator
+    c.loop-answered.yielded_by c.next.result c.next.new.self c.in-Some.answered c.in-Some.is c.next.ensures.steps in
     let at = slice_get_read c.args.answers.items _ _ c.in-Some.answered refl turn.0 turn.1 in
-    let first = sym (map-id c.loop-answered.yielded) ∙ YieldsList-so_far road c.loop-answered.yielded c.loop-answered.answered-iterator c.loop-answered.yielded_by in
+    let first = sym (map-id c.loop-answered.yielded)
+    ∙ YieldsList-so_far road c.loop-answered.yielded c.loop-answered.answered-iterator c.loop-answered.yielded_by in
     subst (λ cs. IsLeft cs c.in-Some.answered.ticket c.in-Some.answered.call) (sym c.loop-answered.invariant.0.spares)
     (left_at c.args.spares.now.calls c.args.answers.items c.loop-answered.yielded c.in-Some.answered first at c.requires.left)
 
@@ -28,7 +35,8 @@ pub tell_one-requires-clause-told_room : goal.tell_one-requires-clause-told_room
 tell_one-requires-clause-told_room g c =
     let begun = c.into_iter-answered-iterator.ensures.into_iter_gives in
     let road = YieldsList-from_vec c.args.answers.items begun.0 (begun.1 ∙ c.args.answers.ok.0) in
-    let turn = YieldsList-turn road c.loop-answered.yielded c.loop-answered.answered-iterator c.loop-answered.yielded_by c.next.result c.next.new.self c.in-Some.answered c.in-Some.is c.next.ensures.steps in
+    let turn = YieldsList-turn road c.loop-answered.yielded c.loop-answered.answered-iterator
+    c.loop-answered.yielded_by c.next.result c.next.new.self c.in-Some.answered c.in-Some.is c.next.ensures.steps in
     let within = turn.0 in
     let room = c.requires.told_room in
     let taken = c.loop-answered.invariant.1 in
@@ -40,7 +48,8 @@ pub tell_one-requires-clause-history_room : goal.tell_one-requires-clause-histor
 tell_one-requires-clause-history_room g c =
     let begun = c.into_iter-answered-iterator.ensures.into_iter_gives in
     let road = YieldsList-from_vec c.args.answers.items begun.0 (begun.1 ∙ c.args.answers.ok.0) in
-    let turn = YieldsList-turn road c.loop-answered.yielded c.loop-answered.answered-iterator c.loop-answered.yielded_by c.next.result c.next.new.self c.in-Some.answered c.in-Some.is c.next.ensures.steps in
+    let turn = YieldsList-turn road c.loop-answered.yielded c.loop-answered.answered-iterator
+    c.loop-answered.yielded_by c.next.result c.next.new.self c.in-Some.answered c.in-Some.is c.next.ensures.steps in
     let within = turn.0 in
     let room = c.requires.history_room in
     let taken = c.loop-answered.invariant.2 in
@@ -53,11 +62,15 @@ loop-answered-preserved g c =
     let i = c.loop-answered.invariant in
     let e = c.tell_one.ensures in
     let told_more = e.told_len in (
-      one_told c.args.node c.loop-answered.yielded c.args.told.now.items c.args.history.now.items c.args.spares.now.calls c.in-Some.answered c.loop-answered.told.items c.tell_one.new.told.items
+      one_told c.args.node c.loop-answered.yielded c.args.told.now.items c.args.history.now.items
+          c.args.spares.now.calls c.in-Some.answered c.loop-answered.told.items c.tell_one.new.told.items
           c.loop-answered.history.items c.tell_one.new.history.items c.loop-answered.spares.calls c.tell_one.new.spares.calls i.0 e.told e.history e.spares,
-      one_taken c.loop-answered.yielded c.in-Some.answered (vec_len c.args.told.now) (vec_len c.loop-answered.told) (vec_len c.tell_one.new.told) (vec_capacity c.args.told.now) (vec_capacity c.loop-answered.told)
+      one_taken c.loop-answered.yielded c.in-Some.answered (vec_len c.args.told.now) (vec_len c.loop-answered.told)
+          (vec_len c.tell_one.new.told) (vec_capacity c.args.told.now) (vec_capacity c.loop-answered.told)
           (vec_capacity c.tell_one.new.told) i.1 (omega (arith, told_more)) e.told_capacity,
-      one_taken c.loop-answered.yielded c.in-Some.answered (vec_len c.args.history.now) (vec_len c.loop-answered.history) (vec_len c.tell_one.new.history) (vec_capacity c.args.history.now) (vec_capacity c.loop-answered.history)
+      one_taken c.loop-answered.yielded c.in-Some.answered (vec_len c.args.history.now)
+          (vec_len c.loop-answered.history) (vec_len c.tell_one.new.history) (vec_capacity c.args.history.now)
+          (vec_capacity c.loop-answered.history)
           (vec_capacity c.tell_one.new.history) i.2 e.history_len e.history_capacity,
     )
 
@@ -65,7 +78,8 @@ pub returns-clause-told : goal.returns-clause-told
 returns-clause-told g c =
     let begun = c.into_iter-answered-iterator.ensures.into_iter_gives in
     let road = YieldsList-from_vec c.args.answers.items begun.0 (begun.1 ∙ c.args.answers.ok.0) in
-    let ended = YieldsList-end road c.loop-answered.yielded c.loop-answered.answered-iterator c.loop-answered.yielded_by c.next.result c.next.new.self c.in-None.is c.next.ensures.steps in
+    let ended = YieldsList-end road c.loop-answered.yielded c.loop-answered.answered-iterator
+    c.loop-answered.yielded_by c.next.result c.next.new.self c.in-None.is c.next.ensures.steps in
     let all : c.loop-answered.yielded ≡ c.args.answers.items = sym (map-id c.loop-answered.yielded) ∙ ended.0 in
     c.loop-answered.invariant.0.told_is ∙ ap (λ (xs : List (Answered g.row.A.Denot)). c.args.told.now.items ++ told_by c.args.node xs) all
 
@@ -73,7 +87,8 @@ pub returns-clause-history : goal.returns-clause-history
 returns-clause-history g c =
     let begun = c.into_iter-answered-iterator.ensures.into_iter_gives in
     let road = YieldsList-from_vec c.args.answers.items begun.0 (begun.1 ∙ c.args.answers.ok.0) in
-    let ended = YieldsList-end road c.loop-answered.yielded c.loop-answered.answered-iterator c.loop-answered.yielded_by c.next.result c.next.new.self c.in-None.is c.next.ensures.steps in
+    let ended = YieldsList-end road c.loop-answered.yielded c.loop-answered.answered-iterator
+    c.loop-answered.yielded_by c.next.result c.next.new.self c.in-None.is c.next.ensures.steps in
     let all : c.loop-answered.yielded ≡ c.args.answers.items = sym (map-id c.loop-answered.yielded) ∙ ended.0 in
     c.loop-answered.invariant.0.history_is ∙ ap (λ (xs : List (Answered g.row.A.Denot)). c.args.history.now.items ++ items_of xs) all
 
@@ -81,6 +96,7 @@ pub returns-clause-spares : goal.returns-clause-spares
 returns-clause-spares g c =
     let begun = c.into_iter-answered-iterator.ensures.into_iter_gives in
     let road = YieldsList-from_vec c.args.answers.items begun.0 (begun.1 ∙ c.args.answers.ok.0) in
-    let ended = YieldsList-end road c.loop-answered.yielded c.loop-answered.answered-iterator c.loop-answered.yielded_by c.next.result c.next.new.self c.in-None.is c.next.ensures.steps in
+    let ended = YieldsList-end road c.loop-answered.yielded c.loop-answered.answered-iterator
+    c.loop-answered.yielded_by c.next.result c.next.new.self c.in-None.is c.next.ensures.steps in
     let all : c.loop-answered.yielded ≡ c.args.answers.items = sym (map-id c.loop-answered.yielded) ∙ ended.0 in
     c.loop-answered.invariant.0.spares ∙ ap (λ (xs : List (Answered g.row.A.Denot)). after_answers c.args.spares.now.calls xs) all

@@ -17,7 +17,9 @@ loop-sent-preserved g c =
     let at = slice_get_read xs (length xs) i x refl within c.sent-item.is in
     let carries : Sent g.row.A.Denot → Carried g.row.A.Denot = λ s. record { from = c.args.from; to = s.to; frame = s.frame } in
     let left : (length xs - (i + 1)) + 1 ≡ length xs - i = omega (arith, within) in (
-      c.keep.ensures.frames ∙ ap (λ (s : Sent g.row.A.Denot). c.loop-sent.frames.frames ++ carries s ∷ []) c.sent.view_is ∙ ap (λ fs. fs ++ carries x ∷ []) c.loop-sent.invariant.0 ∙ append_assoc c.args.frames.now.frames (carried c.args.from (take i xs)) (carries x ∷ [])
+      c.keep.ensures.frames ∙ ap (λ (s : Sent g.row.A.Denot). c.loop-sent.frames.frames ++ carries s ∷ [])
+          c.sent.view_is ∙ ap (λ fs. fs ++ carries x ∷ []) c.loop-sent.invariant.0
+          ∙ append_assoc c.args.frames.now.frames (carried c.args.from (take i xs)) (carries x ∷ [])
           ∙ ap (λ fs. c.args.frames.now.frames ++ fs) (sym (map-append carries (take i xs) (x ∷ [])) ∙ ap (map carries) (sym (take_more xs i x at))),
       c.keep.ensures.room (length xs - (i + 1)) (subst (λ n. HasRoom n c.loop-sent.frames) (sym left) c.loop-sent.invariant.1),
     )

@@ -5,4 +5,5 @@ use Rattle.ring_world.specs.Stored.{HasRoom}
 use Rattle.ring_world.proofs.world.keep_all.Given as goal
 
 abbrev pub invariant-loop-sent : goal.invariant-loop-sent
-invariant-loop-sent g l = (l.frames.frames ≡ l.fn.frames.frames ++ carried l.from (take l.sent-index l.sends)) × HasRoom (length l.sends - l.sent-index) l.frames
+invariant-loop-sent g l = (l.frames.frames ≡ l.fn.frames.frames ++ carried l.from (take l.sent-index l.sends))
+    × HasRoom (length l.sends - l.sent-index) l.frames

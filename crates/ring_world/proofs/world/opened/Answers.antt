@@ -18,4 +18,5 @@ new-me-requires g c =
 
 pub returns-clause-ok : goal.returns-clause-ok
 returns-clause-ok g c =
-    c.loop-before.invariant ∙ ap (λ n. map (node_opening c.args.fixed) (numbers_from 1 n)) (omega (arith, c.loop-before-test.false, c.loop-before.auto.before-end))
+    c.loop-before.invariant ∙ ap (λ n. map (node_opening c.args.fixed) (numbers_from 1 n))
+    (omega (arith, c.loop-before-test.false, c.loop-before.auto.before-end))

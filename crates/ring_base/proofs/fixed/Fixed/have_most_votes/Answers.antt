@@ -15,15 +15,35 @@ loop-i-preserved c =
       | then-contains w ↦
           let holds : has c.args.set (1 + i) ≡ true = rw (← next, ← c.new.ensures) (sym c.contains.ensures.value ∙ w.if-contains.true) in
           record {
-            members = omega (arith, w.inside-is, w.from-inside.ensures, here, c.loop-i.invariant.members, weight_last (votes_of c.args.self) (has c.args.set) 1 i holds);
-            others = omega (arith, w.outside-is, c.loop-i.invariant.others, weight_kept (votes_of c.args.self) (λ j. not (has c.args.set j)) 1 i (rw holds refl));
+            members = omega (
+              arith,
+              w.inside-is,
+              w.from-inside.ensures,
+              here,
+              c.loop-i.invariant.members,
+              weight_last (votes_of c.args.self) (has c.args.set) 1 i holds,
+            );
+            others = omega (
+              arith,
+              w.outside-is,
+              c.loop-i.invariant.others,
+              weight_kept (votes_of c.args.self)
+                  (λ j. not (has c.args.set j)) 1 i (rw holds refl),
+            );
             fits = omega (arith, w.inside-is, w.outside-is, w.from-inside.ensures, few, c.loop-i.invariant.fits);
           }
       | else-contains w ↦
           let lacks : has c.args.set (1 + i) ≡ false = rw (← next, ← c.new.ensures) (sym c.contains.ensures.value ∙ w.if-contains.false) in
           record {
             members = omega (arith, w.inside-is, c.loop-i.invariant.members, weight_kept (votes_of c.args.self) (has c.args.set) 1 i lacks);
-            others = omega (arith, w.outside-is, w.from-outside.ensures, here, c.loop-i.invariant.others, weight_last (votes_of c.args.self) (λ j. not (has c.args.set j)) 1 i (rw lacks refl));
+            others = omega (
+              arith,
+              w.outside-is,
+              w.from-outside.ensures,
+              here,
+              c.loop-i.invariant.others,
+              weight_last (votes_of c.args.self) (λ j. not (has c.args.set j)) 1 i (rw lacks refl),
+            );
             fits = omega (arith, w.inside-is, w.outside-is, w.from-outside.ensures, few, c.loop-i.invariant.fits);
           }
     ]
@@ -33,4 +53,5 @@ returns c =
     let done : c.loop-i.i ≡ 16 = omega arith in
     let members = rw done at c.loop-i.invariant.members in
     let others = rw done at c.loop-i.invariant.others in
-    most_votes c.args.self c.args.set c.loop-i.inside c.loop-i.outside (votes_few c.self.inside.count c.self.inside.votes c.args.self c.self.invariant c.self.view_is) members others
+    most_votes c.args.self c.args.set c.loop-i.inside c.loop-i.outside
+    (votes_few c.self.inside.count c.self.inside.votes c.args.self c.self.invariant c.self.view_is) members others

@@ -12,7 +12,9 @@ returns-in_err-first-clause-steps c =
 
 pub returns-clause-steps : goal.returns-clause-steps
 returns-clause-steps c =
-    rw (← c.self.view_is) (elements-taken c.self.inside.left c.in_ok-first.first c.only.result c.less-self-inside.result c.in_ok-first.ensures.found c.in_ok-first.ensures.member c.only.ensures.value c.less-self-inside.ensures.value)
+    rw (← c.self.view_is) (elements-taken c.self.inside.left c.in_ok-first.first c.only.result
+    c.less-self-inside.result c.in_ok-first.ensures.found c.in_ok-first.ensures.member c.only.ensures.value
+    c.less-self-inside.ensures.value)
 
 pub returns-clause-goes : goal.returns-clause-goes
 returns-clause-goes c = record {

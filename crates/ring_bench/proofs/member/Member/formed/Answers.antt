@@ -7,4 +7,5 @@ use Rattle.ring_bench.proofs.member.Member.formed.Goals as goal
 pub invariant_of-result : goal.invariant_of-result
 invariant_of-result c =
     subst CoreFits (sym c.in_ok-core.ensures.ok)
-    (formed_fits c.args.group.count c.args.me (rw c.number.ensures.value at c.number.ensures.in_range).0 c.requires (rw c.count.ensures.value at c.count.ensures.in_range).1)
+    (formed_fits c.args.group.count c.args.me (rw c.number.ensures.value at c.number.ensures.in_range).0 c.requires
+    (rw c.count.ensures.value at c.count.ensures.in_range).1)

@@ -13,5 +13,7 @@ returns g c = rw (← c.self.view_is, ← c.cell.view_is) (λ entered.
     let m = one_machine g.O.Object.sequential in
     let me : c.cell.inside.me ≡ 1 = omega (arith, c.cell.invariant.counted, c.cell.invariant.in_book, c.self.invariant.alone) in
     let all : sent c.cell.inside.journal ≡ steps_of 1 c.self.inside.lines.items = rw me at entered in
-    let led : Leads m one_opening (steps_of 1 c.self.inside.lines.items) c.cell.inside.node = subst (λ (xs : List (StepView g.row.O-Alloc.Denot)). Leads m one_opening xs c.cell.inside.node) all c.cell.invariant.leads in
+    let led : Leads m one_opening (steps_of 1 c.self.inside.lines.items) c.cell.inside.node =
+    subst (λ (xs : List (StepView g.row.O-Alloc.Denot)). Leads m one_opening xs c.cell.inside.node)
+    all c.cell.invariant.leads in
     book_node g.O.Object.sequential g.K.BookName.name.count c.self.inside.lines.items c.cell.inside.node c.self.invariant.alone c.self.invariant.run led)

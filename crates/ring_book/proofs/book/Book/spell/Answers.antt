@@ -4,7 +4,8 @@ use Rattle.ring_book.proofs.Standing.{standing_kept}
 use Rattle.ring_book.proofs.book.Book.spell.Goals as goal
 
 pub put-requires : goal.put-requires
-put-requires g c = (standing_kept c.self.inside.lines.items c.args.at c.in-Some.frame.now c.self.invariant.kept (sym (rw c.as_slice.ensures.value at c.in-Some.ensures))).0
+put-requires g c = (standing_kept c.self.inside.lines.items c.args.at c.in-Some.frame.now c.self.invariant.kept
+    (sym (rw c.as_slice.ensures.value at c.in-Some.ensures))).0
 
 pub returns-in-Some : goal.returns-in-Some
 returns-in-Some g c =

@@ -41,15 +41,33 @@ invariant_of-self-in-Memory g c =
     let k = subst (λ (b : Bool). IsCell m g.K.BookName.name c.self.inside.me b c.self.inside.node c.self.inside.journal) c.if-self.false c.self.invariant in
     let l = c.stop-stop.result in
     let e = c.in-Err.ensures in
-    let stepped : IsStep m c.self.inside.node l c.step_on.new.self = rw c.stop-stop.ensures ((memory_runs _ (sym c.in-Memory.is ∙ e.refused), e.err, refl, sym (stop_answers g.O.Object.sequential c.self.inside.node)), ap length c.committed-committed.ensures) in
-    cell_adds m g.K.BookName.name c.self.inside.me c.self.inside.node c.step_on.new.self c.self.inside.journal c.push_reserved-in-Memory.new.self l k (ap (λ x. x.node) c.stop-stop.ensures) stepped c.push_reserved-in-Memory.ensures.ring c.push_reserved-in-Memory.ensures.sent.0
+    let stepped : IsStep m c.self.inside.node l c.step_on.new.self = rw c.stop-stop.ensures (
+      (
+        memory_runs _ (sym c.in-Memory.is ∙ e.refused),
+        e.err,
+        refl,
+        sym (stop_answers g.O.Object.sequential c.self.inside.node),
+      ),
+      ap length c.committed-committed.ensures,
+    ) in
+    cell_adds m g.K.BookName.name c.self.inside.me c.self.inside.node c.step_on.new.self c.self.inside.journal
+    c.push_reserved-in-Memory.new.self l k (ap (λ x. x.node) c.stop-stop.ensures)
+    stepped c.push_reserved-in-Memory.ensures.ring c.push_reserved-in-Memory.ensures.sent.0
 
 pub returns-in-Memory : goal.returns-in-Memory
 returns-in-Memory g c =
     let m = one_machine g.O.Object.sequential in
     let l = c.stop-stop.result in
     let e = c.in-Err.ensures in
-    let stepped : IsStep m c.self.inside.node l c.step_on.new.self = rw c.stop-stop.ensures ((memory_runs _ (sym c.in-Memory.is ∙ e.refused), e.err, refl, sym (stop_answers g.O.Object.sequential c.self.inside.node)), ap length c.committed-committed.ensures) in
+    let stepped : IsStep m c.self.inside.node l c.step_on.new.self = rw c.stop-stop.ensures (
+      (
+        memory_runs _ (sym c.in-Memory.is ∙ e.refused),
+        e.err,
+        refl,
+        sym (stop_answers g.O.Object.sequential c.self.inside.node),
+      ),
+      ap length c.committed-committed.ensures,
+    ) in
     let no_stop : c.args.input ≡ Stop → ⊥ = λ is. (let ok = e.stops is (memory_runs _ (sym c.in-Memory.is ∙ e.refused)) in absurd (cc ok)) in
     rw (← c.self.view_is) (
       no_stop,
@@ -77,5 +95,11 @@ pub returns : goal.returns
 returns g c =
     let other = other_stopped _ c.in-Err.fault c.in-Err.ensures.refused c.in_default.not-Memory in
     let same = c.in-Err.ensures.err ∙ stopped_same c.self.inside.node other.0 in
-    let seen : One g.row.O-Alloc.Denot → CellView (One g.row.O-Alloc.Denot) g.row.O-Alloc.Denot = λ s. record { me = c.self.inside.me; ahead = c.self.inside.ahead; node = s; journal = sent c.self.inside.journal } in
+    let seen : One g.row.O-Alloc.Denot → CellView (One g.row.O-Alloc.Denot) g.row.O-Alloc.Denot =
+    λ s. record {
+      me = c.self.inside.me;
+      ahead = c.self.inside.ahead;
+      node = s;
+      journal = sent c.self.inside.journal;
+    } in
     rw (other.1, ← c.self.view_is) (c.if-self.false, other.0, ap seen same)

@@ -23,7 +23,9 @@ invariant_of-cell g c =
     let s = rw (a, b) at i.start in
     let d = rw b at i.rings in
     let more = ap length a in
-    rw (c.new.ensures, add-one) (start_cell (one_machine g.O.Object.sequential) g.K.BookName.name c.loop-i.i (suc c.loop-i.i) c.in-Some.node c.in-Some-pop_front.journal (rings_of c.pop_front-in-loop-i.new.self.items) (omega arith) (omega arith) (omega (arith, i.count, more)) d s.0)
+    rw (c.new.ensures, add-one) (start_cell (one_machine g.O.Object.sequential) g.K.BookName.name c.loop-i.i
+    (suc c.loop-i.i) c.in-Some.node c.in-Some-pop_front.journal (rings_of c.pop_front-in-loop-i.new.self.items)
+    (omega arith) (omega arith) (omega (arith, i.count, more)) d s.0)
 
 pub loop-i-preserved : goal.loop-i-preserved
 loop-i-preserved g c =
@@ -34,7 +36,12 @@ loop-i-preserved g c =
     let d = rw b at i.rings in
     let more = ap length a in
     let m = one_machine g.O.Object.sequential in
-    let put : c.push.new.self.items ≡ c.loop-i.cells.items ++ record { me = c.new.result; ahead = false; node = c.in-Some.node; journal = sent c.in-Some-pop_front.journal } ∷ [] = c.in_ok-push.ensures.items in
+    let put : c.push.new.self.items ≡ c.loop-i.cells.items ++ record {
+      me = c.new.result;
+      ahead = false;
+      node = c.in-Some.node;
+      journal = sent c.in-Some-pop_front.journal;
+    } ∷ [] = c.in_ok-push.ensures.items in
     let numbered = rw (c.new.ensures, add-one) at put in
     let pushed : c.push.new.self.items ≡ c.loop-i.cells.items ++ new_cell m (suc c.loop-i.i) ∷ [] = rw (← s.0.node_is, ← s.0.sent_is) numbered in
     rw (add-one) record {
@@ -47,7 +54,9 @@ loop-i-preserved g c =
 pub new-requires-2 : goal.new-requires-2
 new-requires-2 g c =
     let e = c.self.view_is ∙ c.requires in
-    start_book (one_machine g.O.Object.sequential) g.K.BookName.name c.self.inside.nodes.items c.self.inside.writers.items c.self.inside.ends.items _ c.self.invariant.0 c.self.invariant.1 c.self.invariant.2 (sym (ap (λ n. n.count) e)) (sym (ap (λ n. n.rings) e)) (omega (arith, c.in_ok-text.ensures.spare))
+    start_book (one_machine g.O.Object.sequential) g.K.BookName.name c.self.inside.nodes.items
+    c.self.inside.writers.items c.self.inside.ends.items _ c.self.invariant.0 c.self.invariant.1 c.self.invariant.2
+    (sym (ap (λ n. n.count) e)) (sym (ap (λ n. n.rings) e)) (omega (arith, c.in_ok-text.ensures.spare))
 
 pub returns-clause-ok : goal.returns-clause-ok
 returns-clause-ok g c =

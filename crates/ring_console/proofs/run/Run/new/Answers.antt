@@ -8,5 +8,6 @@ invariant_of-result g c = none_reached _ _ c.new-pairs.ensures
 
 pub returns-clause-ok : goal.returns-clause-ok
 returns-clause-ok g c =
-    let open_pairs = none_open c.new-pairs.result (frames_of g.O.Object.sequential c.in_ok-world.world) c.new-pairs.ensures (ap (frames_of g.O.Object.sequential) c.in_ok-world.ensures.ok) in
+    let open_pairs = none_open c.new-pairs.result (frames_of g.O.Object.sequential c.in_ok-world.world)
+    c.new-pairs.ensures (ap (frames_of g.O.Object.sequential) c.in_ok-world.ensures.ok) in
     rw (open_pairs, c.in_ok-world.ensures.ok) refl

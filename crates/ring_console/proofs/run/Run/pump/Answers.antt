@@ -7,11 +7,13 @@ use Rattle.ring_console.proofs.run.Run.pump.Goals as goal
 pub loop-preserved : goal.loop-preserved
 loop-preserved g c =
     one_more g.O.Object.sequential c.loop.counter c.args.self.now c.loop.self c.come.new.self c.loop.invariant
-    (turned g.O.Object.sequential c.in-Some.pair c.loop.self c.close_first.new.self c.come.new.self c.in-Some.ensures.takes c.close_first.ensures.same c.in_ok-come.ensures.done)
+    (turned g.O.Object.sequential c.in-Some.pair c.loop.self c.close_first.new.self c.come.new.self
+    c.in-Some.ensures.takes c.close_first.ensures.same c.in_ok-come.ensures.done)
 
 pub returns-clause-done : goal.returns-clause-done
 returns-clause-done g c =
-    pumped g.O.Object.sequential c.args.turns c.loop.counter c.args.self.now c.loop.self c.loop.auto.counter-end (λ less. absurd (omega (arith, c.loop-test.false, less))) c.loop.invariant
+    pumped g.O.Object.sequential c.args.turns c.loop.counter c.args.self.now c.loop.self c.loop.auto.counter-end
+    (λ less. absurd (omega (arith, c.loop-test.false, less))) c.loop.invariant
 
 pub returns-in_default-clause-done : goal.returns-in_default-clause-done
 returns-in_default-clause-done g c =
@@ -27,5 +29,6 @@ returns-in_err-come-clause-breaks g c =
       less = c.loop-test.true;
       mid = c.loop.self;
       turn = c.loop.invariant;
-      next = turn_broken g.O.Object.sequential c.in-Some.pair c.loop.self c.close_first.new.self c.come.new.self c.in-Some.ensures.takes c.close_first.ensures.same c.in_err-come.ensures.rests;
+      next = turn_broken g.O.Object.sequential c.in-Some.pair c.loop.self c.close_first.new.self c.come.new.self
+          c.in-Some.ensures.takes c.close_first.ensures.same c.in_err-come.ensures.rests;
     }

@@ -12,7 +12,8 @@ use Rattle.ring_console.specs.Running.{shown_text, nodes_text}
 use Rattle.ring_console.proofs.run.Run.show.Goals as goal
 
 -- a node's line, as its parts were read
-shown : {A : Type 0} (node m : Node A) (number i : ℕ) (state : State) (ring : RingId) (committed log : ℕ) → number ≡ suc i → node ≡ m → state ≡ node.core.state → ring ≡ node.core.installed.ring
+shown : {A : Type 0} (node m : Node A) (number i : ℕ) (state : State) (ring : RingId) (committed log : ℕ)
+    → number ≡ suc i → node ≡ m → state ≡ node.core.state → ring ≡ node.core.installed.ring
     → committed ≡ length (node_committed node) → log ≡ length (node_log node) → line_of (node_text number state ring committed log) ≡ shown_text (suc i) m
 shown node m number i state ring committed log a n b d e f =
     ap (λ (x : ℕ). line_of (node_text x state ring committed log)) a
@@ -28,8 +29,12 @@ loop-before-preserved g c =
     let i = c.loop-before.before in
     let number : c.new-proc.result ≡ suc i = c.new-proc.ensures ∙ add-one i in
     let node : c.node-node.result.now ≡ w.nodes (suc i) = c.node-node.ensures ∙ ap w.nodes number in
-    let text = shown c.node-node.result.now (w.nodes (suc i)) c.new-proc.result i c.state.result c.ring.result (length c.committed-committed.result.now) c.log_len.result number node c.state.ensures c.ring.ensures (ap length c.committed-committed.ensures) c.log_len.ensures in
+    let text = shown c.node-node.result.now (w.nodes (suc i)) c.new-proc.result i c.state.result c.ring.result
+    (length c.committed-committed.result.now) c.log_len.result number node c.state.ensures c.ring.ensures
+    (ap length c.committed-committed.ensures) c.log_len.ensures in
     let Told : List ℕ → Type 0 = λ t. Appends (g.W.Write.contents c.loop-before.out) (g.W.Write.contents c.print_node.new.out) t in
     let told = subst Told text c.in_ok-print_node.ensures.line in
-    let all = Appends-trans (g.W.Write.contents c.args.out.now) (g.W.Write.contents c.loop-before.out) (g.W.Write.contents c.print_node.new.out) _ _ c.loop-before.invariant told in
-    subst (λ (k : ℕ). Appends (g.W.Write.contents c.args.out.now) (g.W.Write.contents c.print_node.new.out) (nodes_text g.O.Object.sequential k w)) (sym (add-one i)) all
+    let all = Appends-trans (g.W.Write.contents c.args.out.now) (g.W.Write.contents c.loop-before.out)
+    (g.W.Write.contents c.print_node.new.out) _ _ c.loop-before.invariant told in
+    subst (λ (k : ℕ). Appends (g.W.Write.contents c.args.out.now) (g.W.Write.contents c.print_node.new.out)
+    (nodes_text g.O.Object.sequential k w)) (sym (add-one i)) all

@@ -15,24 +15,33 @@ use Rattle.ring_console.proofs.run.Run.take.Goals as goal
 pub take_line-requires : goal.take_line-requires
 take_line-requires g c =
     let begun = c.into_iter-numbered-iterator.ensures.into_iter_gives in
-    let turn = YieldsList-turn (YieldsList-from_vec c.args.script.lines.items begun.0 (begun.1 ∙ c.args.script.lines.ok.0)) c.loop-numbered.yielded c.loop-numbered.numbered-iterator c.loop-numbered.yielded_by c.next.result c.next.new.self c.in-Some.numbered c.in-Some.is c.next.ensures.steps in
+    let turn = YieldsList-turn (YieldsList-from_vec c.args.script.lines.items begun.0
+    (begun.1 ∙ c.args.script.lines.ok.0)) c.loop-numbered.yielded c.loop-numbered.numbered-iterator
+    c.loop-numbered.yielded_by c.next.result c.next.new.self c.in-Some.numbered c.in-Some.is c.next.ensures.steps in
     let stands = slice_get_read c.args.script.lines.items _ _ c.in-Some.numbered refl turn.0 turn.1 in
     each-get (λ (l : Numbered g.row.O-Alloc.Denot). IsFit l.line) c.args.script.lines.items _ c.in-Some.numbered c.requires stands
 
 pub loop-numbered-preserved : goal.loop-numbered-preserved
 loop-numbered-preserved g c =
-    printed_then (g.W.Write.contents c.args.out.now) (g.W.Write.contents c.loop-numbered.out) (g.W.Write.contents c.take_line.new.out) (text_of g.O.Object.sequential c.in-Some.numbered.line c.loop-numbered.self.played c.take_line.new.self.played)
+    printed_then (g.W.Write.contents c.args.out.now) (g.W.Write.contents c.loop-numbered.out)
+    (g.W.Write.contents c.take_line.new.out)
+    (text_of g.O.Object.sequential c.in-Some.numbered.line c.loop-numbered.self.played c.take_line.new.self.played)
     (λ text. Runs g.O.Object.sequential c.loop-numbered.yielded c.args.self.now c.loop-numbered.self text)
     (λ text. Runs g.O.Object.sequential (c.loop-numbered.yielded ++ c.in-Some.numbered ∷ []) c.args.self.now c.take_line.new.self text)
-    (λ a runs. Runs-snoc g.O.Object.sequential c.loop-numbered.yielded c.in-Some.numbered c.args.self.now c.loop-numbered.self c.take_line.new.self a runs c.in_ok-take_line.ensures.ends)
+    (λ a runs. Runs-snoc g.O.Object.sequential c.loop-numbered.yielded c.in-Some.numbered c.args.self.now
+    c.loop-numbered.self c.take_line.new.self a runs c.in_ok-take_line.ensures.ends)
     c.loop-numbered.invariant c.in_ok-take_line.ensures.prints
 
 pub returns : goal.returns
 returns g c =
     let begun = c.into_iter-numbered-iterator.ensures.into_iter_gives in
-    let ended = YieldsList-end (YieldsList-from_vec c.args.script.lines.items begun.0 (begun.1 ∙ c.args.script.lines.ok.0)) c.loop-numbered.yielded c.loop-numbered.numbered-iterator c.loop-numbered.yielded_by c.next.result c.next.new.self c.in-None.is c.next.ensures.steps in
+    let ended = YieldsList-end (YieldsList-from_vec c.args.script.lines.items begun.0
+    (begun.1 ∙ c.args.script.lines.ok.0)) c.loop-numbered.yielded c.loop-numbered.numbered-iterator
+    c.loop-numbered.yielded_by c.next.result c.next.new.self c.in-None.is c.next.ensures.steps in
     let all : c.loop-numbered.yielded ≡ c.args.script.lines.items = sym (map-id c.loop-numbered.yielded) ∙ ended.0 in
-    printed_as _ _ _ _ (λ text runs. subst (λ (ls : List (Numbered g.row.O-Alloc.Denot)). Runs g.O.Object.sequential ls c.args.self.now c.loop-numbered.self text) all runs) c.loop-numbered.invariant
+    printed_as _ _ _ _ (λ text runs. subst
+    (λ (ls : List (Numbered g.row.O-Alloc.Denot)). Runs g.O.Object.sequential ls c.args.self.now
+    c.loop-numbered.self text) all runs) c.loop-numbered.invariant
 
 pub returns-in_err-take_line : goal.returns-in_err-take_line
 returns-in_err-take_line g c =
@@ -40,17 +49,22 @@ returns-in_err-take_line g c =
     let line = c.in-Some.numbered in
     let begun = c.into_iter-numbered-iterator.ensures.into_iter_gives in
     let road = YieldsList-from_vec items begun.0 (begun.1 ∙ c.args.script.lines.ok.0) in
-    let turn = YieldsList-turn road c.loop-numbered.yielded c.loop-numbered.numbered-iterator c.loop-numbered.yielded_by c.next.result c.next.new.self line c.in-Some.is c.next.ensures.steps in
-    let first = sym (map-id c.loop-numbered.yielded) ∙ YieldsList-so_far road c.loop-numbered.yielded c.loop-numbered.numbered-iterator c.loop-numbered.yielded_by in
+    let turn = YieldsList-turn road c.loop-numbered.yielded c.loop-numbered.numbered-iterator
+    c.loop-numbered.yielded_by c.next.result c.next.new.self line c.in-Some.is c.next.ensures.steps in
+    let first = sym (map-id c.loop-numbered.yielded)
+    ∙ YieldsList-so_far road c.loop-numbered.yielded c.loop-numbered.numbered-iterator c.loop-numbered.yielded_by in
     let text = text_of g.O.Object.sequential line.line c.loop-numbered.self.played c.take_line.new.self.played in
     let failed : Result (Unit {0}) _ = Err c.in_err-take_line.field-0.0 in
     let p = err_from_is_err_and c.from_residual.result c.from_residual.ensures.1 in
-    let told = unless_map failed (Breaks g.O.Object.sequential line.line c.loop-numbered.self c.take_line.new.self × Appends (g.W.Write.contents c.loop-numbered.out) (g.W.Write.contents c.take_line.new.out) text)
-    (Prints (g.W.Write.contents c.args.out.now) (g.W.Write.contents c.take_line.new.out) (λ t. BreaksRun g.O.Object.sequential items c.args.self.now c.take_line.new.self t))
+    let told = unless_map failed (Breaks g.O.Object.sequential line.line c.loop-numbered.self c.take_line.new.self
+    × Appends (g.W.Write.contents c.loop-numbered.out) (g.W.Write.contents c.take_line.new.out) text)
+    (Prints (g.W.Write.contents c.args.out.now) (g.W.Write.contents c.take_line.new.out)
+    (λ t. BreaksRun g.O.Object.sequential items c.args.self.now c.take_line.new.self t))
     (λ h. printed_then (g.W.Write.contents c.args.out.now) (g.W.Write.contents c.loop-numbered.out) (g.W.Write.contents c.take_line.new.out) text
     (λ t. Runs g.O.Object.sequential c.loop-numbered.yielded c.args.self.now c.loop-numbered.self t)
     (λ t. BreaksRun g.O.Object.sequential items c.args.self.now c.take_line.new.self t)
-    (λ a runs. broken_run g.O.Object.sequential items c.loop-numbered.yielded line c.args.self.now c.loop-numbered.self c.take_line.new.self a first turn.0 turn.1 runs h.0)
+    (λ a runs. broken_run g.O.Object.sequential items c.loop-numbered.yielded line c.args.self.now
+    c.loop-numbered.self c.take_line.new.self a first turn.0 turn.1 runs h.0)
     c.loop-numbered.invariant h.1)
     (unless_both failed _ _ c.in_err-take_line.ensures.ends c.in_err-take_line.ensures.prints) in
     rw (p.1, p.2) told

@@ -9,10 +9,18 @@ overflow_mul-index c =
     omega (arith, inside, c.self.told.0)
 
 pub slice_bounds-read_u64-start : goal.slice_bounds-read_u64-start
-slice_bounds-read_u64-start c = omega (arith, word_inside c.self.inside.count c.args.index c.self.inside.bytes.now c.args.self.now c.self.view_is c.self.invariant c.requires)
+slice_bounds-read_u64-start c = omega (
+  arith,
+  word_inside c.self.inside.count c.args.index c.self.inside.bytes.now c.args.self.now c.self.view_is c.self.invariant
+      c.requires,
+)
 
 pub slice_bounds-read_u64-count : goal.slice_bounds-read_u64-count
-slice_bounds-read_u64-count c = omega (arith, word_inside c.self.inside.count c.args.index c.self.inside.bytes.now c.args.self.now c.self.view_is c.self.invariant c.requires)
+slice_bounds-read_u64-count c = omega (
+  arith,
+  word_inside c.self.inside.count c.args.index c.self.inside.bytes.now c.args.self.now c.self.view_is c.self.invariant
+      c.requires,
+)
 
 pub read_u64-requires : goal.read_u64-requires
 read_u64-requires c =

@@ -19,6 +19,7 @@ returns-in-Ok-clause-next g c =
 pub returns-in-Err-BadFrame-2-clause-stopped : goal.returns-in-Err-BadFrame-2-clause-stopped
 returns-in-Err-BadFrame-2-clause-stopped g c =
     let self = c.args.self.now in
-    let none : BeginsWithNone g.row.A.Denot (take (length c.deref.result.now - self.taken) (drop self.taken c.deref.result.now)) = c.in-Err-BadFrame.ensures.bad c.in-Err-BadFrame.field-0-is in
+    let none : BeginsWithNone g.row.A.Denot (take (length c.deref.result.now - self.taken)
+    (drop self.taken c.deref.result.now)) = c.in-Err-BadFrame.ensures.bad c.in-Err-BadFrame.field-0-is in
     let here = subst (BeginsWithNone g.row.A.Denot) (from_place c.deref.result.now self.taken ∙ ap (drop self.taken) c.deref.ensures.value) none in
     stop_here g.row.A.Denot (drop self.taken self.bytes.items) self.position self.state (λ failed. let same = rw failed at c.if-eq-2.ensures in cc) here

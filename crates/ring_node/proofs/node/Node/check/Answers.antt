@@ -8,11 +8,14 @@ use Rattle.ring_node.proofs.node.Node.check.Goals as goal
 pub returns-clause-ok : goal.returns-clause-ok
 returns-clause-ok g c =
     let s = c.self.inside in
-    let is : submit_fault c.args.self.now ≡ submit_refusal s.replica = ap submit_fault (sym c.self.view_is) ∙ fault-is s.core s.replica s.last s.ended.value c.self.invariant in
+    let is : submit_fault c.args.self.now ≡ submit_refusal s.replica = ap submit_fault (sym c.self.view_is)
+    ∙ fault-is s.core s.replica s.last s.ended.value c.self.invariant in
     ok-as c.check.result (submit_refusal s.replica ≡ None) (submit_fault c.args.self.now ≡ None) (λ e. is ∙ e) c.check.ensures.ok
 
 pub returns-clause-err : goal.returns-clause-err
 returns-clause-err g c =
     let s = c.self.inside in
-    let is : submit_fault c.args.self.now ≡ submit_refusal s.replica = ap submit_fault (sym c.self.view_is) ∙ fault-is s.core s.replica s.last s.ended.value c.self.invariant in
-    err-as c.check.result (λ fault. submit_refusal s.replica ≡ Some fault) (λ fault. submit_fault c.args.self.now ≡ Some fault) (λ fault e. is ∙ e) c.check.ensures.err
+    let is : submit_fault c.args.self.now ≡ submit_refusal s.replica = ap submit_fault (sym c.self.view_is)
+    ∙ fault-is s.core s.replica s.last s.ended.value c.self.invariant in
+    err-as c.check.result (λ fault. submit_refusal s.replica ≡ Some fault)
+    (λ fault. submit_fault c.args.self.now ≡ Some fault) (λ fault e. is ∙ e) c.check.ensures.err

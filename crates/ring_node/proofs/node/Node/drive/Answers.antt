@@ -12,7 +12,8 @@ invariant_of-self g c =
     let s = c.self.inside in
     let halts = runs-told s.core s.replica s.ended.value (ap (λ (n : Node _). is_stopped n.core.state) c.self.view_is ∙ c.requires.runs) in
     let k = c.self.invariant.runs halts in
-    stepped-node g.O.Object.sequential s.core s.replica s.ended.value c.args.input halts k c.advance.new.core c.advance.new.replica c.ring-self-inside.result c.seen.result.value
+    stepped-node g.O.Object.sequential s.core s.replica s.ended.value c.args.input halts k c.advance.new.core
+    c.advance.new.replica c.ring-self-inside.result c.seen.result.value
     c.in-Ok.ensures.core c.in-Ok.ensures.replica (c.ring-self-inside.ensures ∙ ap (λ (x : Core _). x.installed.ring) (sym c.seen.ensures))
 
 pub returns-in-Ok-clause-sends : goal.returns-in-Ok-clause-sends

@@ -14,13 +14,18 @@ invariant_of-self-2 g c =
     let t = c.if-has_adopted.self-inside in
     elim c.if-has_adopted.branch [
       | then-has_adopted+in_ok-copy_of+in_ok-send w ↦
-          given-node s.core t.core s.replica t.replica c.give.new.self s.last t.last s.ended.value t.ended.value c.running-running.result c.args.call true c.self.invariant
-          (ap (λ (x : Inside _ _). x.replica) w.self-inside-is) (ap (λ (x : Inside _ _). x.last) w.self-inside-is) (ap (λ (x : Inside _ _). x.ended.value) w.self-inside-is)
+          given-node s.core t.core s.replica t.replica c.give.new.self s.last t.last s.ended.value t.ended.value
+          c.running-running.result c.args.call true c.self.invariant
+          (ap (λ (x : Inside _ _). x.replica) w.self-inside-is) (ap (λ (x : Inside _ _). x.last) w.self-inside-is)
+          (ap (λ (x : Inside _ _). x.ended.value) w.self-inside-is)
           (sym c.has_adopted.ensures ∙ w.if-has_adopted.true)
-          (ap (λ (x : Inside _ _). x.core) w.self-inside-is ∙ w.in_ok-send.ensures.ok ∙ ap (λ x. (ring_step s.core (SendInput (Call x))).core) w.in_ok-copy_of.ensures)
+          (ap (λ (x : Inside _ _). x.core) w.self-inside-is ∙ w.in_ok-send.ensures.ok
+          ∙ ap (λ x. (ring_step s.core (SendInput (Call x))).core) w.in_ok-copy_of.ensures)
           c.give.ensures.replica
       | else-has_adopted w ↦
-          given-node s.core t.core s.replica t.replica c.give.new.self s.last t.last s.ended.value t.ended.value c.running-running.result c.args.call false c.self.invariant
-          (ap (λ (x : Inside _ _). x.replica) w.self-inside-is) (ap (λ (x : Inside _ _). x.last) w.self-inside-is) (ap (λ (x : Inside _ _). x.ended.value) w.self-inside-is)
+          given-node s.core t.core s.replica t.replica c.give.new.self s.last t.last s.ended.value t.ended.value
+          c.running-running.result c.args.call false c.self.invariant
+          (ap (λ (x : Inside _ _). x.replica) w.self-inside-is) (ap (λ (x : Inside _ _). x.last) w.self-inside-is)
+          (ap (λ (x : Inside _ _). x.ended.value) w.self-inside-is)
           (sym c.has_adopted.ensures ∙ w.if-has_adopted.false) (ap (λ (x : Inside _ _). x.core) w.self-inside-is) c.give.ensures.replica
     ]

@@ -13,7 +13,9 @@ pub invariant_of-self-2 : goal.invariant_of-self-2
 invariant_of-self-2 g c =
     let found = open-submit c.self.invariant (ap (λ (s : One g.row.O-Alloc.Denot). submit_fault s) c.self.view_is ∙ c.requires) in
     let number : c.new-ticket.result ≡ length c.self.inside.calls.items = omega (arith, c.new-ticket.ensures, c.len.ensures) in
-    submitted-kept c.self.invariant c.args.call c.push.new.self.items c.past_of-sinces.result.value c.push-2.new.self.items c.new-ticket.result found.tickets c.in_ok-push.ensures.items c.past_of-sinces.ensures c.push-2.ensures.items number
+    submitted-kept c.self.invariant c.args.call c.push.new.self.items c.past_of-sinces.result.value
+    c.push-2.new.self.items c.new-ticket.result found.tickets c.in_ok-push.ensures.items c.past_of-sinces.ensures
+    c.push-2.ensures.items number
 
 pub returns-clause-ticket : goal.returns-clause-ticket
 returns-clause-ticket g c =
@@ -23,5 +25,6 @@ returns-clause-ticket g c =
 pub returns-clause-ok : goal.returns-clause-ok
 returns-clause-ok g c =
     let found = open-submit c.self.invariant (ap (λ (s : One g.row.O-Alloc.Denot). submit_fault s) c.self.view_is ∙ c.requires) in
-    submitted-shape c.self.invariant c.args.call c.push.new.self.items c.past_of-sinces.result.value found.runs c.in_ok-push.ensures.items c.past_of-sinces.ensures
+    submitted-shape c.self.invariant c.args.call c.push.new.self.items c.past_of-sinces.result.value found.runs
+    c.in_ok-push.ensures.items c.past_of-sinces.ensures
     ∙ ap (λ (s : One g.row.O-Alloc.Denot). submitted s c.args.call) c.self.view_is

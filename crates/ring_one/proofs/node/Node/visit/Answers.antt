@@ -24,10 +24,14 @@ invariant_of-self g c =
     let n : ℕ = length c.as_slice-calls.result.now in
     let running : is_running r.state ≡ true = rw (← c.self.view_is) at c.requires.runs in
     let v =
-    visited-kept c.self.invariant c.args.number c.visited-next.result n c.copied-waiting.result.items c.answer_visit.new.waiting.items (slice_range calls c.committed.result c.committed-2.result) c.in-Ok.outs.answers.items c.answer_visit.new.sessions c.extend.new.self (c.self.inside.effects + c.in-Ok.effects)
+    visited-kept c.self.invariant c.args.number c.visited-next.result n c.copied-waiting.result.items
+    c.answer_visit.new.waiting.items (slice_range calls c.committed.result c.committed-2.result)
+    c.in-Ok.outs.answers.items c.answer_visit.new.sessions c.extend.new.self (c.self.inside.effects + c.in-Ok.effects)
     running c.requires.token (ap length value) c.visited-next.ensures
-    (ap (λ (i : ℕ). slice_range calls i c.committed-2.result) c.committed.ensures ∙ ap (λ (j : ℕ). slice_range calls (committed_length r) j) c.committed-2.ensures)
-    c.copied-waiting.ensures (rw value at c.in-Ok.ensures.waiting) (rw value at c.in-Ok.ensures.answers) (rw value at c.in-Ok.ensures.table) (rw c.as_slice.ensures.value at c.extend.ensures)
+    (ap (λ (i : ℕ). slice_range calls i c.committed-2.result) c.committed.ensures
+    ∙ ap (λ (j : ℕ). slice_range calls (committed_length r) j) c.committed-2.ensures)
+    c.copied-waiting.ensures (rw value at c.in-Ok.ensures.waiting) (rw value at c.in-Ok.ensures.answers)
+    (rw value at c.in-Ok.ensures.table) (rw c.as_slice.ensures.value at c.extend.ensures)
     (ap (λ (k : ℕ). c.self.inside.effects + k) (rw value at c.in-Ok.ensures.effects)) in
     v.kept
 
@@ -42,10 +46,14 @@ returns-in-Ok g c =
     let n : ℕ = length c.as_slice-calls.result.now in
     let running : is_running r.state ≡ true = rw (← c.self.view_is) at c.requires.runs in
     let v =
-    visited-kept c.self.invariant c.args.number c.visited-next.result n c.copied-waiting.result.items c.answer_visit.new.waiting.items (slice_range calls c.committed.result c.committed-2.result) c.in-Ok.outs.answers.items c.answer_visit.new.sessions c.extend.new.self (c.self.inside.effects + c.in-Ok.effects)
+    visited-kept c.self.invariant c.args.number c.visited-next.result n c.copied-waiting.result.items
+    c.answer_visit.new.waiting.items (slice_range calls c.committed.result c.committed-2.result)
+    c.in-Ok.outs.answers.items c.answer_visit.new.sessions c.extend.new.self (c.self.inside.effects + c.in-Ok.effects)
     running c.requires.token (ap length value) c.visited-next.ensures
-    (ap (λ (i : ℕ). slice_range calls i c.committed-2.result) c.committed.ensures ∙ ap (λ (j : ℕ). slice_range calls (committed_length r) j) c.committed-2.ensures)
-    c.copied-waiting.ensures (rw value at c.in-Ok.ensures.waiting) (rw value at c.in-Ok.ensures.answers) (rw value at c.in-Ok.ensures.table) (rw c.as_slice.ensures.value at c.extend.ensures)
+    (ap (λ (i : ℕ). slice_range calls i c.committed-2.result) c.committed.ensures
+    ∙ ap (λ (j : ℕ). slice_range calls (committed_length r) j) c.committed-2.ensures)
+    c.copied-waiting.ensures (rw value at c.in-Ok.ensures.waiting) (rw value at c.in-Ok.ensures.answers)
+    (rw value at c.in-Ok.ensures.table) (rw c.as_slice.ensures.value at c.extend.ensures)
     (ap (λ (k : ℕ). c.self.inside.effects + k) (rw value at c.in-Ok.ensures.effects)) in
     let seq = v.seq ∙ ap (λ (s : One g.row.O-Alloc.Denot). length (text_after s)) c.self.view_is in (
       c.in-Ok.ensures.frames ∙ ap (λ (t : Token). OneToken t ∷ []) (c.token_of-token.ensures ∙ ap (token_of (c.args.number + 1)) seq),

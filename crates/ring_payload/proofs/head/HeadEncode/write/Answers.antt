@@ -6,7 +6,9 @@ use Rattle.ring_payload.proofs.head.HeadEncode.write.Goals as goal
 pub returns-then-self-ne0 : goal.returns-then-self-ne0
 returns-then-self-ne0 g c =
     let e = (is_trimmed c.args.self.now (omega (arith, c.if-self-ne0.true))).1 in
-    rw e (and_then (rw c.tag.ensures at c.write.ensures) (and_then c.write-2.ensures (and_then c.write-3.ensures (and_then c.write-4.ensures c.write-then-self-ne0.ensures))))
+    rw e (and_then (rw c.tag.ensures at c.write.ensures)
+    (and_then c.write-2.ensures (and_then c.write-3.ensures
+    (and_then c.write-4.ensures c.write-then-self-ne0.ensures))))
 
 pub returns-else-self-ne0 : goal.returns-else-self-ne0
 returns-else-self-ne0 g c =

@@ -2,4 +2,6 @@ use Rattle.ring_layout.proofs.Writes.{and_then}
 use Rattle.ring_payload.proofs.snap.SnapEncode.write.Goals as goal
 
 pub returns : goal.returns
-returns g c = and_then c.write.ensures (and_then c.write-2.ensures (and_then c.write-3.ensures (and_then (rw c.as_slice.ensures at c.write-4.ensures) c.write-5.ensures)))
+returns g c = and_then c.write.ensures
+    (and_then c.write-2.ensures (and_then c.write-3.ensures (and_then (rw c.as_slice.ensures at c.write-4.ensures)
+    c.write-5.ensures)))

@@ -8,7 +8,8 @@ use Rattle.ring_recover.proofs.offsets.Offsets.such.Goals as goal
 pub loop-j-preserved : goal.loop-j-preserved
 loop-j-preserved g c =
     let P : (ℕ → Bool) → Type 0 = λ t. (j : ℕ) (r : Bool) → j < 256 → given.F-post
-    (given.the-over g.row.F g.F.laws g.F.Fn g.F.Fn-dict g.F.FnMut-dict g.F.FnOnce-dict g.F.Destruct-dict g.world g.met.F.Fn g.met.F.FnMut g.met.F.FnOnce g.met.F.Destruct) c.args.test j r → r ≡ t j in
+    (given.the-over g.row.F g.F.laws g.F.Fn g.F.Fn-dict g.F.FnMut-dict g.F.FnOnce-dict g.F.Destruct-dict g.world
+    g.met.F.Fn g.met.F.FnMut g.met.F.FnOnce g.met.F.Destruct) c.args.test j r → r ≡ t j in
     elim c.if-test.branch [
       | then-test w ↦ rw w.offsets-is (
         λ t h i l. such_more P c.loop-j.offsets.words w.insert.new.self.words c.loop-j.j (λ u k. w.insert.ensures.this ∙ sym w.if-test.true

@@ -17,7 +17,8 @@ pub invariant_of-self-2 : goal.invariant_of-self-2
 invariant_of-self-2 g c = λ fits.
     let s = c.self.inside in
     let k = c.self.invariant (ap (λ (v : Course _). v.fine) c.self.view_is ∙ c.requires.fine) in
-    let here = kept-as s.fixed s.life.value _ s.log _ s.ring s.stage c.replace-stage.result s.mark s.reaches.items _ k refl refl c.replace-stage.ensures.value refl in
+    let here = kept-as s.fixed s.life.value _ s.log _ s.ring s.stage c.replace-stage.result s.mark s.reaches.items _ k
+    refl refl c.replace-stage.ensures.value refl in
     let fit = sym c.in_ok-stage.ensures.fits ∙ fits in
     let pushed = c.in_ok-push_back.ensures.items in
     kept-as s.fixed _ _ _ _ s.ring _ _ s.mark _ _
@@ -31,7 +32,8 @@ pub returns-clause-sound : goal.returns-clause-sound
 returns-clause-sound g c =
     let s = c.self.inside in
     let k = c.self.invariant (ap (λ (v : Course _). v.fine) c.self.view_is ∙ c.requires.fine) in
-    let here = kept-as s.fixed s.life.value _ s.log _ s.ring s.stage c.replace-stage.result s.mark s.reaches.items _ k refl refl c.replace-stage.ensures.value refl in
+    let here = kept-as s.fixed s.life.value _ s.log _ s.ring s.stage c.replace-stage.result s.mark s.reaches.items _ k
+    refl refl c.replace-stage.ensures.value refl in
     c.in_ok-stage.ensures.fits
     ∙ sound-hears s.fixed s.life.value s.log s.ring c.replace-stage.result s.mark s.reaches.items c.args.message
     (record { ring = s.ring; runs = c.args.runs; me = s.me; committed = c.args.committed }) c.args.pending.now here refl
@@ -41,17 +43,25 @@ pub returns-clause-due : goal.returns-clause-due
 returns-clause-due g c = λ fits.
     let s = c.self.inside in
     let k = c.self.invariant (ap (λ (v : Course _). v.fine) c.self.view_is ∙ c.requires.fine) in
-    let here = kept-as s.fixed s.life.value _ s.log _ s.ring s.stage c.replace-stage.result s.mark s.reaches.items _ k refl refl c.replace-stage.ensures.value refl in
+    let here = kept-as s.fixed s.life.value _ s.log _ s.ring s.stage c.replace-stage.result s.mark s.reaches.items _ k
+    refl refl c.replace-stage.ensures.value refl in
     let fit = sym c.in_ok-stage.ensures.fits ∙ fits in
     c.in_ok-stage.ensures.due fit
     ∙ ap (λ l. c.args.due.now.items ++ l)
     (due-hears s.fixed s.life.value s.log s.ring c.replace-stage.result s.mark s.reaches.items c.args.message
     (record { ring = s.ring; runs = c.args.runs; me = s.me; committed = c.args.committed }) c.args.pending.now here refl fit
     ∙ ap (λ (v : Course _).
-    dues_heard (record { group = v.group; me = v.me; running = None; pending = c.args.pending.now; committed = c.args.committed }) c.args.runs v.life c.args.message
+    dues_heard (record {
+      group = v.group;
+      me = v.me;
+      running = None;
+      pending = c.args.pending.now;
+      committed = c.args.committed;
+    }) c.args.runs v.life c.args.message
     (hears c.args.message v.life)) c.self.view_is)
 
 pub returns-clause-front : goal.returns-clause-front
 returns-clause-front g c =
     subst (λ (v : Course _). IsFront (committed_calls v.log) (committed_calls c.settle.new.log)) c.self.view_is
-    (front_trans (committed_calls c.self.inside.log) (committed_calls c.hear.new.log) (committed_calls c.settle.new.log) c.hear.ensures.front c.settle.ensures.front)
+    (front_trans (committed_calls c.self.inside.log) (committed_calls c.hear.new.log)
+    (committed_calls c.settle.new.log) c.hear.ensures.front c.settle.ensures.front)

@@ -17,7 +17,13 @@ use Rattle.ring_replica.proofs.course.Course.walk.Goals as goal
 
 pub loop-out-init : goal.loop-out-init
 loop-out-init g c = record {
-  walked = walked-none (record { group = c.args.self.now.group; me = c.args.self.now.me; running = c.args.running.now; pending = c.args.pending.now; committed = c.args.committed })
+  walked = walked-none (record {
+    group = c.args.self.now.group;
+    me = c.args.self.now.me;
+    running = c.args.running.now;
+    pending = c.args.pending.now;
+    committed = c.args.committed;
+  })
       c.args.self.now.life c.args.self.now.fine c.args.sends.now.items c.args.due.now.items c.requires.fine c.requires.sound;
   front = front_self (committed_calls c.args.self.now.log);
   group = refl;
@@ -45,16 +51,24 @@ pub loop-out-preserved : goal.loop-out-preserved
 loop-out-preserved g c =
     let i = c.loop-out.invariant in
     let e = c.in_ok-go.ensures in
-    let same = moment-same c.loop-out.self.group c.args.self.now.group c.loop-out.self.me c.args.self.now.me c.args.running.now c.args.pending.now c.args.committed
+    let same = moment-same c.loop-out.self.group c.args.self.now.group c.loop-out.self.me c.args.self.now.me
+    c.args.running.now c.args.pending.now c.args.committed
     i.group i.me in
     record {
       walked = walked-more
-          (record { group = c.args.self.now.group; me = c.args.self.now.me; running = c.args.running.now; pending = c.args.pending.now; committed = c.args.committed })
+          (record {
+            group = c.args.self.now.group;
+            me = c.args.self.now.me;
+            running = c.args.running.now;
+            pending = c.args.pending.now;
+            committed = c.args.committed;
+          })
           c.args.self.now.life c.loop-out.yielded c.in-Some.out c.loop-out.self.fine c.go.new.self.fine c.loop-out.self.life c.go.new.self.life
           c.args.sends.now.items c.loop-out.sends.items c.go.new.sends.items c.args.due.now.items c.loop-out.due.items c.go.new.due.items i.walked
           (e.sound ∙ ap (λ (gr : Group). c.loop-out.self.fine && is_sound gr (lived c.loop-out.self.life c.in-Some.out)) i.group) e.life e.sends
           (λ t. e.due t ∙ ap (λ (m : Moment _). c.loop-out.due.items ++ dues_at m c.loop-out.self.life c.in-Some.out) same);
-      front = front_trans (committed_calls c.args.self.now.log) (committed_calls c.loop-out.self.log) (committed_calls c.go.new.self.log) i.front c.go.ensures.front;
+      front = front_trans (committed_calls c.args.self.now.log) (committed_calls c.loop-out.self.log)
+          (committed_calls c.go.new.self.log) i.front c.go.ensures.front;
       group = c.go.ensures.group ∙ i.group;
       me = c.go.ensures.me ∙ i.me;
     }
@@ -98,5 +112,11 @@ returns-clause-due g c =
     let ended = YieldsList-end (YieldsList-from_vec items begun.0 (begun.1 ∙ c.args.outs.ok.0)) c.loop-out.yielded c.loop-out.out-iterator c.loop-out.yielded_by
     c.next.result c.next.new.self c.in-None.is c.next.ensures.steps in
     let all : c.loop-out.yielded ≡ items = sym (map-id c.loop-out.yielded) ∙ ended.0 in
-    let m : Moment _ = record { group = c.args.self.now.group; me = c.args.self.now.me; running = c.args.running.now; pending = c.args.pending.now; committed = c.args.committed } in
+    let m : Moment _ = record {
+      group = c.args.self.now.group;
+      me = c.args.self.now.me;
+      running = c.args.running.now;
+      pending = c.args.pending.now;
+      committed = c.args.committed;
+    } in
     λ fine. c.loop-out.invariant.walked.handed fine ∙ ap (λ ys. c.args.due.now.items ++ dues_by m c.args.self.now.life ys) all

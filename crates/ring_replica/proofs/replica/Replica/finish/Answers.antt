@@ -29,10 +29,12 @@ invariant_of-self g c =
       kept = finished-replica object s.course s.sessions s.tickets s.places s.committed s.stopped tale c.self.invariant.kept c.args.answers.now c.keep.new.self
           c.length-self-inside.result (length calls) c.done.result.value runs logged all
           (c.requires.answers
-          ∙ ap (λ (v : Replica _). answers_after object v.tickets (replica_committed v) (drop (length (replica_committed v)) (committed_of v.group v.ahead))) (sym told))
+          ∙ ap (λ (v : Replica _). answers_after object v.tickets (replica_committed v)
+          (drop (length (replica_committed v)) (committed_of v.group v.ahead))) (sym told))
           (c.keep.ensures ∙ ap (λ l. with_answers s.tickets l c.args.answers.now) rest)
           (c.length-self-inside.ensures ∙ ap (λ (l : Log _). length l.calls) c.log-log.ensures.log) (ap length calls_are)
           (c.done.ensures ∙ ap (tale_done tale) c.life.ensures);
-      order = ahead ∙ ap (λ (x : Tale _). length (deduplicated (committed_of s.course.group x.life))) (sym (c.done.ensures ∙ ap (tale_done tale) c.life.ensures));
+      order = ahead ∙ ap (λ (x : Tale _). length (deduplicated (committed_of s.course.group x.life)))
+          (sym (c.done.ensures ∙ ap (tale_done tale) c.life.ensures));
       ahead = λ _. ahead;
     }

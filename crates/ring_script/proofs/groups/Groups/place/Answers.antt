@@ -19,7 +19,10 @@ loop-i-preserved c =
           let lacks : has c.args.group (c.loop-i.i + 1) ≡ false = rw (← c.new.ensures) (sym c.contains.ensures.value ∙ w.if-contains.false) in
           rw w.kept-items-is (record {
             long = length-set c.loop-i.kept-items c.loop-i.i (get_or c.loop-i.kept-items c.loop-i.i c.kept-item.result) ∙ c.loop-i.invariant.long;
-            same = placed_at c.args.group c.loop-i.i c.loop-i.kept-items (get_or c.loop-i.kept-items c.loop-i.i c.kept-item.result) inside (rw lacks (get_or_default c.loop-i.kept-items c.loop-i.i c.kept-item.result 0 inside)) ∙ c.loop-i.invariant.same;
+            same = placed_at c.args.group c.loop-i.i c.loop-i.kept-items
+                (get_or c.loop-i.kept-items c.loop-i.i c.kept-item.result) inside
+                (rw lacks (get_or_default c.loop-i.kept-items c.loop-i.i c.kept-item.result 0 inside))
+                ∙ c.loop-i.invariant.same;
           })
     ]
 

@@ -15,8 +15,16 @@ returns c =
     let seen = sym (ap (λ (left : LinesLeft). left.lines) c.self.view_is) in
     let before = ap (λ (left : LinesLeft). left.before) c.self.view_is in
     elim c.match-end_of_piece.branch [
-      | in-Some w ↦ rw (w.line-is, w.self-inside-is) (seen ∙ lines-ended w.in-Some.end c.self.inside.rest.now w.in-Some.ensures, omega (arith, before), omega (arith, before))
+      | in-Some w ↦ rw (w.line-is, w.self-inside-is) (
+        seen ∙ lines-ended w.in-Some.end c.self.inside.rest.now w.in-Some.ensures,
+        omega (arith, before),
+        omega (arith, before),
+      )
       | in-None w ↦
           let some : length c.self.inside.rest.now ≢ 0 = eqb-false _ _ (sym c.if-is_empty.ensures) in
-          rw (w.line-is, w.self-inside-is) (seen ∙ lines-last c.self.inside.rest.now w.in-None.ensures (omega arith), omega (arith, before), omega (arith, before))
+          rw (w.line-is, w.self-inside-is) (
+            seen ∙ lines-last c.self.inside.rest.now w.in-None.ensures (omega arith),
+            omega (arith, before),
+            omega (arith, before),
+          )
     ]

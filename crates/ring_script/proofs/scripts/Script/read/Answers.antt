@@ -7,5 +7,9 @@ use Rattle.ring_script.proofs.scripts.Script.read.Goals as goal
 pub returns-in_err-text-clause-read : goal.returns-in_err-text-clause-read
 returns-in_err-text-clause-read g c =
     let p = err_from_is_err_and c.from_residual.result c.from_residual.ensures.1 in
-    let known = g.R.Read.remaining c.args.input.now in
-    (unwrap_or known [], whole_is known, rw (p.1, p.2) (unread g.row.A.Denot c.args.rings c.in_err-text.field-0.0 (unwrap_or known []) c.in_err-text.ensures.refused))
+    let known = g.R.Read.remaining c.args.input.now in (
+      unwrap_or known [],
+      whole_is known,
+      rw (p.1, p.2) (unread g.row.A.Denot c.args.rings c.in_err-text.field-0.0
+          (unwrap_or known []) c.in_err-text.ensures.refused),
+    )

@@ -5,7 +5,8 @@ use Rattle.ring_script.proofs.words.Words.next_word.Goals as goal
 
 pub returns-in-Some : goal.returns-in-Some
 returns-in-Some c =
-    sym c.self.view_is ∙ ap (pieces_left c.self.inside.separator) c.in_ok-text.was ∙ pieces-ended c.self.inside.separator c.in-Some.end c.in_ok-text.text.now c.in-Some.ensures
+    sym c.self.view_is ∙ ap (pieces_left c.self.inside.separator) c.in_ok-text.was
+    ∙ pieces-ended c.self.inside.separator c.in-Some.end c.in_ok-text.text.now c.in-Some.ensures
 
 pub returns-in-None : goal.returns-in-None
 returns-in-None c =

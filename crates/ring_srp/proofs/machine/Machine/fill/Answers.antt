@@ -21,10 +21,13 @@ join-requires-clause-member g c =
     let now = c.args.self.now in
     let k = c.args.token.now in
     let tok : c.in-Pass.token ≡ hopped k (own_entry now ∷ []) =
-    filled_by s.me now.me c.floor.result (floor now) c.candidates-candidates.result (candidates now.gathering) c.own_entry-own.result (own_entry now) c.in_ok-clone.field-0 k c.in-Pass.token
-    (ap (λ (x : Core g.row.A.Denot). x.me) c.self.view_is) c.floor.ensures (c.candidates-candidates.ensures ∙ ap (λ (x : Core g.row.A.Denot). candidates x.gathering) c.self.view_is) c.own_entry-own.ensures
+    filled_by s.me now.me c.floor.result (floor now) c.candidates-candidates.result (candidates now.gathering)
+    c.own_entry-own.result (own_entry now) c.in_ok-clone.field-0 k c.in-Pass.token
+    (ap (λ (x : Core g.row.A.Denot). x.me) c.self.view_is) c.floor.ensures (c.candidates-candidates.ensures
+    ∙ ap (λ (x : Core g.row.A.Denot). candidates x.gathering) c.self.view_is) c.own_entry-own.ensures
     (same_token c.in_ok-clone.field-0 k c.in_ok-clone.ensures.cases) c.requires.here c.requires.passes (sym c.in-Pass.is ∙ c.fill.ensures) in
-    subst (λ m. IsMember m now.me) (sym (ap (λ (t : CommitToken). t.members) tok)) (receiver_member now.me k (first_some (floor now) (candidates now.gathering) k c.requires.passes) c.requires.here)
+    subst (λ m. IsMember m now.me) (sym (ap (λ (t : CommitToken). t.members) tok))
+    (receiver_member now.me k (first_some (floor now) (candidates now.gathering) k c.requires.passes) c.requires.here)
 
 pub returns-in-Pass-clause-core : goal.returns-in-Pass-clause-core
 returns-in-Pass-clause-core g c =
@@ -32,8 +35,10 @@ returns-in-Pass-clause-core g c =
     let now = c.args.self.now in
     let k = c.args.token.now in
     let tok : c.in-Pass.token ≡ hopped k (own_entry now ∷ []) =
-    filled_by s.me now.me c.floor.result (floor now) c.candidates-candidates.result (candidates now.gathering) c.own_entry-own.result (own_entry now) c.in_ok-clone.field-0 k c.in-Pass.token
-    (ap (λ (x : Core g.row.A.Denot). x.me) c.self.view_is) c.floor.ensures (c.candidates-candidates.ensures ∙ ap (λ (x : Core g.row.A.Denot). candidates x.gathering) c.self.view_is) c.own_entry-own.ensures
+    filled_by s.me now.me c.floor.result (floor now) c.candidates-candidates.result (candidates now.gathering)
+    c.own_entry-own.result (own_entry now) c.in_ok-clone.field-0 k c.in-Pass.token
+    (ap (λ (x : Core g.row.A.Denot). x.me) c.self.view_is) c.floor.ensures (c.candidates-candidates.ensures
+    ∙ ap (λ (x : Core g.row.A.Denot). candidates x.gathering) c.self.view_is) c.own_entry-own.ensures
     (same_token c.in_ok-clone.field-0 k c.in_ok-clone.ensures.cases) c.requires.here c.requires.passes (sym c.in-Pass.is ∙ c.fill.ensures) in
     subst (λ (t : CommitToken). OnOk c.join.result (c.join.new.self ≡ (joined now t).core)) tok c.join.ensures.core
 
@@ -43,7 +48,9 @@ returns-in-Pass-clause-outs g c =
     let now = c.args.self.now in
     let k = c.args.token.now in
     let tok : c.in-Pass.token ≡ hopped k (own_entry now ∷ []) =
-    filled_by s.me now.me c.floor.result (floor now) c.candidates-candidates.result (candidates now.gathering) c.own_entry-own.result (own_entry now) c.in_ok-clone.field-0 k c.in-Pass.token
-    (ap (λ (x : Core g.row.A.Denot). x.me) c.self.view_is) c.floor.ensures (c.candidates-candidates.ensures ∙ ap (λ (x : Core g.row.A.Denot). candidates x.gathering) c.self.view_is) c.own_entry-own.ensures
+    filled_by s.me now.me c.floor.result (floor now) c.candidates-candidates.result (candidates now.gathering)
+    c.own_entry-own.result (own_entry now) c.in_ok-clone.field-0 k c.in-Pass.token
+    (ap (λ (x : Core g.row.A.Denot). x.me) c.self.view_is) c.floor.ensures (c.candidates-candidates.ensures
+    ∙ ap (λ (x : Core g.row.A.Denot). candidates x.gathering) c.self.view_is) c.own_entry-own.ensures
     (same_token c.in_ok-clone.field-0 k c.in_ok-clone.ensures.cases) c.requires.here c.requires.passes (sym c.in-Pass.is ∙ c.fill.ensures) in
     subst (λ (t : CommitToken). OnOk c.join.result (c.join.new.outs.items ≡ c.args.outs.now.items ++ sent (joined now t).sends)) tok c.join.ensures.outs

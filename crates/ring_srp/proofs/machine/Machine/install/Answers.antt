@@ -22,6 +22,7 @@ returns-clause-outs g c =
     on_ok_weaker c.give.result
     (λ h. then_by c.args.self.now c.settle-aside.new.self c.args.outs.now.items c.give_change.new.outs.items c.give_aside.new.outs.items
     c.give.new.outs.items c.self.inside.installed.ring c.settle-aside.result.most c.settle-aside.result.messages.items
-    (c.in_ok-give_change.ensures.ok ∙ ap (λ ys. ys ++ given_first c.args.self.now) c.make_room_to_install.ensures.kept) c.in_ok-give_aside.ensures.ok h c.settle-aside.ensures.core (ap (λ
+    (c.in_ok-give_change.ensures.ok ∙ ap (λ ys. ys ++ given_first c.args.self.now)
+    c.make_room_to_install.ensures.kept) c.in_ok-give_aside.ensures.ok h c.settle-aside.ensures.core (ap (λ
     (x : Core g.row.A.Denot). x.installed.ring) c.self.view_is) c.settle-aside.ensures.aside c.settle-aside.ensures.far)
     c.give.ensures.ok

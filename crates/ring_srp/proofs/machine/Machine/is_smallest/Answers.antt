@@ -15,5 +15,7 @@ pub returns-in-None : goal.returns-in-None
 returns-in-None g c =
     let n : c.candidates.result ≡ nobody = c.in-None.ensures.none.0 refl in
     let s : smallest (candidates c.args.self.now.gathering) ≡ 0 =
-    ap (λ (x : Core g.row.A.Denot). smallest (candidates x.gathering)) (sym c.self.view_is) ∙ ap smallest (sym c.candidates.ensures ∙ n) ∙ ap (λ (xs : List ℕ). slice_index xs 0) elements-nobody in
-    not_zero c.args.self.now.me (subst (λ (x : Core g.row.A.Denot). 1 ≤ x.me) c.self.view_is c.self.invariant.member.0) ∙ sym (ap (λ (k : ℕ). k == c.args.self.now.me) s)
+    ap (λ (x : Core g.row.A.Denot). smallest (candidates x.gathering)) (sym c.self.view_is)
+    ∙ ap smallest (sym c.candidates.ensures ∙ n) ∙ ap (λ (xs : List ℕ). slice_index xs 0) elements-nobody in
+    not_zero c.args.self.now.me (subst (λ (x : Core g.row.A.Denot). 1 ≤ x.me)
+    c.self.view_is c.self.invariant.member.0) ∙ sym (ap (λ (k : ℕ). k == c.args.self.now.me) s)

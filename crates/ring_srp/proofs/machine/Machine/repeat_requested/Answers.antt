@@ -24,8 +24,11 @@ loop-number-preserved g c =
     elim c.match-get.branch [
       | in-Some+in_ok-send_message w ↦
           (let x = w.in-Some.message.now in
-          let went = w.in_ok-send_message.ensures.ok ∙ ap (λ o. c.loop-number.outs.items ++ sent (record { to = o; frame = MessageFrame x } ∷ [])) c.others-others.ensures in
-          rw w.outs-is (repeated_more now p.window p.visit t c.args.outs.now.items c.loop-number.outs.items i n x w.send_message.new.outs.items is c.requires.passes inside at
+          let went = w.in_ok-send_message.ensures.ok
+          ∙ ap (λ o. c.loop-number.outs.items ++ sent (record { to = o; frame = MessageFrame x } ∷ []))
+          c.others-others.ensures in
+          rw w.outs-is (repeated_more now p.window p.visit t c.args.outs.now.items c.loop-number.outs.items i n x
+          w.send_message.new.outs.items is c.requires.passes inside at
           (sym c.get.ensures ∙ ap option_copied w.in-Some.is) went c.loop-number.invariant))
       | in_default w ↦ rw w.outs-is (repeated_less now p.window p.visit t c.args.outs.now.items c.loop-number.outs.items i n is c.requires.passes inside at
           (sym c.get.ensures ∙ ap option_copied w.in_default.is) c.loop-number.invariant)
@@ -35,5 +38,6 @@ pub returns-clause-ok : goal.returns-clause-ok
 returns-clause-ok g c =
     let t = c.args.token.now in
     let p = c.part.result.now in
-    let all : length t.requests ≤ c.loop-number.number-index = subst (λ xs. length xs ≤ c.loop-number.number-index) c.as_slice-number-items.ensures.value c.loop-number-test.false in
+    let all : length t.requests ≤ c.loop-number.number-index = subst (λ xs. length xs ≤ c.loop-number.number-index)
+    c.as_slice-number-items.ensures.value c.loop-number-test.false in
     repeated_all c.args.self.now p.window p.visit t c.args.outs.now.items c.loop-number.outs.items c.loop-number.number-index all c.loop-number.invariant

@@ -17,4 +17,5 @@ invariant_of-self g c =
     let due : s.state ≡ Recovery = ap (λ (x : Core g.row.A.Denot). x.state) c.self.view_is ∙ due_in c.args.self.now c.requires in
     into_operational s.me s.fixed.count s.state s.running s.installed s.gather.gathering s.shown s.queue.items s.held.value s.past.value s.gather
     s.kept.window s.kept.visit c.unwrap-recovering.result
-    s.recovery (sym c.take.ensures.value ∙ c.unwrap-recovering.ensures) c.self.invariant due c.with_install-past.result.value c.with_install-past.ensures _ c.take.ensures.after
+    s.recovery (sym c.take.ensures.value ∙ c.unwrap-recovering.ensures)
+    c.self.invariant due c.with_install-past.result.value c.with_install-past.ensures _ c.take.ensures.after

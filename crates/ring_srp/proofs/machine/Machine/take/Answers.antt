@@ -4,7 +4,8 @@ use Rattle.std.proofs.Common.{◌≡◌, ◌∷◌, ap, sym, ◌∙◌, subst, t
 use Rattle.ring_core.specs.State.{Core}
 use Rattle.ring_core.specs.Acting.{took}
 use Rattle.ring_core.specs.Deciding.{is_taken}
-use Rattle.ring_srp.proofs.Held.{with_held, held_both, took_both, took_other, front_there, mark_there, is_recovery, no_recovery, recovering_there, taken_new, taken_used, taken_running}
+use Rattle.ring_srp.proofs.Held.{with_held, held_both, took_both, took_other, front_there, mark_there, is_recovery}
+use Rattle.ring_srp.proofs.Held.{no_recovery, recovering_there, taken_new, taken_used, taken_running}
 use Rattle.ring_srp.proofs.machine.Machine.take.Goals as goal
 use Rattle.ring_srp.proofs.machine.Machine.take.Goals.{in_default-via-in-Some+else-eq, in_default-via-in_default}
 

@@ -14,7 +14,10 @@ use Rattle.ring_srp.proofs.machine.Machine.take_part.Goals as goal
 
 pub invariant_of-self : goal.invariant_of-self
 invariant_of-self g c =
-    rw (c.with_ring-past.ensures) (into_commit _ _ _ _ _ _ _ _ _ _ _ _ _ _ (record { ring = c.args.ring; members = c.args.members }) _ c.own_entry-own.result c.self.invariant
+    rw (c.with_ring-past.ensures) (into_commit _ _ _ _ _ _ _ _ _ _ _ _ _ _ (record {
+      ring = c.args.ring;
+      members = c.args.members;
+    }) _ c.own_entry-own.result c.self.invariant
     (ap (λ (x : Core g.row.A.Denot). x.state) c.self.view_is ∙ c.requires.state)
     (subst (λ (x : Core g.row.A.Denot). floor x < c.args.ring.seq) (sym c.self.view_is) c.requires.newer)
     (subst (λ (x : Core g.row.A.Denot). IsMember c.args.members x.me) (sym c.self.view_is) c.requires.member))
@@ -23,6 +26,15 @@ pub returns : goal.returns
 returns g c =
     let s = c.self.inside in
     let r : Configuration = record { ring = c.args.ring; members = c.args.members } in
-    ap (λ (h : History g.row.A.Denot). core_of s.me s.fixed.count Commit r s.installed s.gather.gathering (Some (record { to = c.args.to; frame = c.args.frame })) s.queue.items s.held.value h) c.with_ring-past.ensures
-    ∙ ap (λ (e : CommitEntry). core_of s.me s.fixed.count Commit r s.installed s.gather.gathering (Some (record { to = c.args.to; frame = c.args.frame })) s.queue.items s.held.value (with_ring s.past.value r e)) c.own_entry-own.ensures
-    ∙ ap (λ (x : Core g.row.A.Denot). record x { state = Commit; running = r; shown = Some (record { to = c.args.to; frame = c.args.frame }); rings = r ∷ x.rings; reports = record { ring = r.ring; entry = own_entry c.args.self.now } ∷ x.reports }) c.self.view_is
+    ap (λ (h : History g.row.A.Denot). core_of s.me s.fixed.count Commit r s.installed s.gather.gathering
+    (Some (record { to = c.args.to; frame = c.args.frame })) s.queue.items s.held.value h) c.with_ring-past.ensures
+    ∙ ap (λ (e : CommitEntry). core_of s.me s.fixed.count Commit r s.installed s.gather.gathering
+    (Some (record { to = c.args.to; frame = c.args.frame })) s.queue.items s.held.value
+    (with_ring s.past.value r e)) c.own_entry-own.ensures
+    ∙ ap (λ (x : Core g.row.A.Denot). record x {
+      state = Commit;
+      running = r;
+      shown = Some (record { to = c.args.to; frame = c.args.frame });
+      rings = r ∷ x.rings;
+      reports = record { ring = r.ring; entry = own_entry c.args.self.now } ∷ x.reports;
+    }) c.self.view_is

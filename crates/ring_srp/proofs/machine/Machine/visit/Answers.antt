@@ -19,7 +19,8 @@ send_new-requires g c =
     let e = c.in_ok-payloads.ensures.core in
     let passes = ap (λ (x : Core g.row.A.Denot). accepts x t) e ∙ c.requires.passes in
     let runs = ap (λ (x : Core g.row.A.Denot). is_running x.state) e ∙ c.requires.runs in
-    let count = subst (λ (x : Core g.row.A.Denot). length items ≤ room (mark x t.ring) t.seq) (sym e) (payloads_few c.args.self.now t items c.in_ok-payloads.ensures.items) in
+    let count = subst (λ (x : Core g.row.A.Denot). length items ≤ room (mark x t.ring) t.seq) (sym e)
+    (payloads_few c.args.self.now t items c.in_ok-payloads.ensures.items) in
     (omega arith, (passes, (runs, count)))
 
 pub pass_token-requires : goal.pass_token-requires
@@ -28,11 +29,13 @@ pass_token-requires g c =
     let t = c.args.token in
     let items = c.in_ok-payloads.payloads.items in
     let passes = passing now t c.requires.passes in
-    let q = visited_held now c.new_payloads.new.self c.send_new.new.self t c.stays-stays.result items c.in_ok-payloads.ensures.items c.in_ok-payloads.ensures.core c.in_ok-fresh.ensures.core in
+    let q = visited_held now c.new_payloads.new.self c.send_new.new.self t c.stays-stays.result items
+    c.in_ok-payloads.ensures.items c.in_ok-payloads.ensures.core c.in_ok-fresh.ensures.core in
     let n : c.len-count.result ≡ length items = c.len-count.ensures ∙ c.in_ok-payloads.payloads.ok.0 in
     let runs = ap (λ (x : Core g.row.A.Denot). is_running x.state) q ∙ c.requires.runs in
     let ring = passes.ring ∙ sym (ap (λ (x : Core g.row.A.Denot). x.running.ring) q) in
-    let seq = subst (λ k. t.seq + k ≤ max_number) (sym n) (seq_fits (mark now t.ring) t.seq (length items) (payloads_few now t items c.in_ok-payloads.ensures.items) c.requires.goes.seq) in
+    let seq = subst (λ k. t.seq + k ≤ max_number) (sym n) (seq_fits (mark now t.ring) t.seq (length items)
+    (payloads_few now t items c.in_ok-payloads.ensures.items) c.requires.goes.seq) in
     let count = ap length c.in_ok-fresh.ensures.fresh ∙ sym n in
     let stays = subst IsStrictlyIncreasing (sym c.stays-stays.ensures) (stays_ascending now t c.requires.goes.ascending) in
     (omega arith, (runs, (ring, (passes.number, (seq, (count, stays))))))
@@ -50,7 +53,8 @@ returns-clause-outs g c =
     let q = visited_held now one two t stays items p e c.in_ok-fresh.ensures.core in
     let n : c.len-count.result ≡ length items = c.len-count.ensures ∙ c.in_ok-payloads.payloads.ok.0 in
     on_ok_weaker c.pass_token.result
-    (λ h. visited_sends now one two t stays items (to_next two (went two t stays c.len-count.result)) c.args.outs.now.items c.repeat_requested.new.outs.items c.send_new.new.outs.items
+    (λ h. visited_sends now one two t stays items (to_next two (went two t stays c.len-count.result))
+    c.args.outs.now.items c.repeat_requested.new.outs.items c.send_new.new.outs.items
     c.pass_token.new.outs.items p e c.in_ok-repeat_requested.ensures.ok c.in_ok-fresh.ensures.outs
     (visited_token now one two t stays items c.len-count.result q c.stays-stays.ensures (n ∙ ap length p)) h)
     c.pass_token.ensures.outs

@@ -10,4 +10,6 @@ loop-answered-init g c =
 
 pub loop-answered-preserved : goal.loop-answered-preserved
 loop-answered-preserved g c =
-    kept-next c.args.self.now c.loop-answered.self c.push.new.self c.args.answers.now c.loop-answered.answered-index c.answered-item.result _ c.loop-answered-test.true c.answered-item.is refl c.loop-answered.invariant c.push.ensures
+    kept-next c.args.self.now c.loop-answered.self c.push.new.self c.args.answers.now c.loop-answered.answered-index
+    c.answered-item.result _ c.loop-answered-test.true c.answered-item.is refl c.loop-answered.invariant
+    c.push.ensures

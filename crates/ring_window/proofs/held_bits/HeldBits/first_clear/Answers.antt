@@ -3,7 +3,13 @@ use Rattle.ring_window.proofs.Words.{first_here, whole_here}
 use Rattle.ring_window.proofs.held_bits.HeldBits.first_clear.Goals as goal
 
 pub returns-then-word : goal.returns-then-word
-returns-then-word c = rw c.trailing_ones.ensures (first_here c.args.self.now.words c.args.from c.loop-offset.offset c.word_at-word.result c.loop-offset.invariant.0 c.loop-offset.invariant.1 c.word_at-word.ensures (omega arith))
+returns-then-word c = rw c.trailing_ones.ensures
+    (first_here c.args.self.now.words c.args.from c.loop-offset.offset c.word_at-word.result c.loop-offset.invariant.0
+    c.loop-offset.invariant.1 c.word_at-word.ensures (omega arith))
 
 pub loop-offset-preserved : goal.loop-offset-preserved
-loop-offset-preserved c = (omega arith, whole_here c.args.self.now.words c.args.from c.loop-offset.offset c.word_at-word.result c.loop-offset.invariant.1 c.word_at-word.ensures (omega arith))
+loop-offset-preserved c = (
+  omega arith,
+  whole_here c.args.self.now.words c.args.from c.loop-offset.offset c.word_at-word.result c.loop-offset.invariant.1
+      c.word_at-word.ensures (omega arith),
+)

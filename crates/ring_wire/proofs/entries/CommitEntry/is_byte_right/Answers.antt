@@ -3,14 +3,18 @@ use Rattle.ring_wire.specs.Entries.{held_test, held_test-more, held_test-wrong, 
 use Rattle.ring_wire.proofs.entries.CommitEntry.is_byte_right.Goals as goal
 
 pub returns-then-self-byte-eq0 : goal.returns-then-self-byte-eq0
-returns-then-self-byte-eq0 c = sym (held_test-skip c.args.self.now.front c.args.self.now.mark c.args.self.now.held c.args.byte c.if-self-byte-eq0.true c.requires.before)
+returns-then-self-byte-eq0 c = sym (held_test-skip c.args.self.now.front c.args.self.now.mark c.args.self.now.held
+    c.args.byte c.if-self-byte-eq0.true c.requires.before)
 
 pub returns-then-is_wrong : goal.returns-then-is_wrong
 returns-then-is_wrong c =
-    sym (held_test-wrong c.args.self.now.front c.args.self.now.mark c.args.self.now.held (8 * c.args.byte + c.loop-bit.bit) (8 * c.args.byte + 8) (omega (arith, c.loop-bit-test.true)) (sym c.is_wrong.ensures ∙ c.if-is_wrong.true))
+    sym (held_test-wrong c.args.self.now.front c.args.self.now.mark c.args.self.now.held
+    (8 * c.args.byte + c.loop-bit.bit) (8 * c.args.byte + 8) (omega (arith, c.loop-bit-test.true))
+    (sym c.is_wrong.ensures ∙ c.if-is_wrong.true))
 
 pub loop-bit-preserved : goal.loop-bit-preserved
 loop-bit-preserved c =
-    let more = held_test-more c.args.self.now.front c.args.self.now.mark c.args.self.now.held (8 * c.args.byte + c.loop-bit.bit) c.loop-bit.invariant (sym c.is_wrong.ensures ∙ c.if-is_wrong.false) in
+    let more = held_test-more c.args.self.now.front c.args.self.now.mark c.args.self.now.held
+    (8 * c.args.byte + c.loop-bit.bit) c.loop-bit.invariant (sym c.is_wrong.ensures ∙ c.if-is_wrong.false) in
     let next : 8 * c.args.byte + c.loop-bit.bit + 1 ≡ 8 * c.args.byte + (c.loop-bit.bit + 1) = omega arith in
     subst (λ (k : ℕ). held_test c.args.self.now.front c.args.self.now.mark c.args.self.now.held k ≡ true) next more

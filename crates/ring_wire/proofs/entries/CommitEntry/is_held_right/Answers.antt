@@ -7,4 +7,5 @@ loop-byte-init c = held_test-zero _ _ _
 
 pub returns-then-not-is_byte_right : goal.returns-then-not-is_byte_right
 returns-then-not-is_byte_right c =
-    sym (held_test-longer c.args.self.now.front c.args.self.now.mark c.args.self.now.held (8 * c.loop-byte.byte + 8) 256 (omega (arith, c.loop-byte-test.true)) (sym c.is_byte_right.ensures ∙ c.if-not-is_byte_right.true))
+    sym (held_test-longer c.args.self.now.front c.args.self.now.mark c.args.self.now.held (8 * c.loop-byte.byte + 8)
+    256 (omega (arith, c.loop-byte-test.true)) (sym c.is_byte_right.ensures ∙ c.if-not-is_byte_right.true))

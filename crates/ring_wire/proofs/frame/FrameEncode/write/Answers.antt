@@ -9,7 +9,9 @@ returns-in-Message g c =
 pub returns-in-Token : goal.returns-in-Token
 returns-in-Token g c =
     let version = rw (c.version.ensures, c.in-Token.is) at c.write-3.ensures in
-    rw c.in-Token.is (and_then c.write.ensures (and_then c.write-2.ensures (and_then version (and_then c.write-in-Token.ensures c.write_sized-in-Token.ensures))))
+    rw c.in-Token.is (and_then c.write.ensures
+    (and_then c.write-2.ensures (and_then version
+    (and_then c.write-in-Token.ensures c.write_sized-in-Token.ensures))))
 
 pub returns-in-Join : goal.returns-in-Join
 returns-in-Join g c =
@@ -19,4 +21,6 @@ returns-in-Join g c =
 pub returns-in-Commit : goal.returns-in-Commit
 returns-in-Commit g c =
     let version = rw (c.version.ensures, c.in-Commit.is) at c.write-3.ensures in
-    rw c.in-Commit.is (and_then c.write.ensures (and_then c.write-2.ensures (and_then version (and_then c.write-in-Commit.ensures c.write_sized-in-Commit.ensures))))
+    rw c.in-Commit.is (and_then c.write.ensures
+    (and_then c.write-2.ensures (and_then version
+    (and_then c.write-in-Commit.ensures c.write_sized-in-Commit.ensures))))

@@ -6,4 +6,6 @@ pub write-requires-6-clause-fits : goal.write-requires-6-clause-fits
 write-requires-6-clause-fits g c = token_requests c.args.self.now c.requires.fits
 
 pub returns : goal.returns
-returns g c = and_then c.write.ensures (and_then c.write-2.ensures (and_then c.write-3.ensures (and_then c.write-4.ensures (and_then c.write-5.ensures c.write-6.ensures))))
+returns g c = and_then c.write.ensures
+    (and_then c.write-2.ensures (and_then c.write-3.ensures
+    (and_then c.write-4.ensures (and_then c.write-5.ensures c.write-6.ensures))))

@@ -11,12 +11,14 @@ pub returns-in-Some : goal.returns-in-Some
 returns-in-Some g c =
     let k = c.self.inside in
     let at = ap (λ ms. mark_at ms c.args.number) (sym c.deref.ensures.value) ∙ sym c.mark_at.ensures ∙ c.in-Some.is in
-    ends_are k.bytes.items c.in-Some.mark (frame_at k.past.value c.args.number) (number_found k.past.value k.bytes.items k.marks.items c.args.number c.in-Some.mark c.self.invariant at)
+    ends_are k.bytes.items c.in-Some.mark (frame_at k.past.value c.args.number)
+    (number_found k.past.value k.bytes.items k.marks.items c.args.number c.in-Some.mark c.self.invariant at)
     ∙ ap (λ (s : Stored g.row.A.Denot). option_map (λ (f : Carried g.row.A.Denot). (f.from, f.to)) (frame_at s.frames c.args.number)) c.self.view_is
 
 pub returns-in-None : goal.returns-in-None
 returns-in-None g c =
     let k = c.self.inside in
     let at = ap (λ ms. mark_at ms c.args.number) (sym c.deref.ensures.value) ∙ sym c.mark_at.ensures ∙ c.in-None.is in
-    ap (option_map (λ (f : Carried g.row.A.Denot). (f.from, f.to))) (sym (number_missing k.past.value k.bytes.items k.marks.items c.args.number c.self.invariant at))
+    ap (option_map (λ (f : Carried g.row.A.Denot). (f.from, f.to)))
+    (sym (number_missing k.past.value k.bytes.items k.marks.items c.args.number c.self.invariant at))
     ∙ ap (λ (s : Stored g.row.A.Denot). option_map (λ (f : Carried g.row.A.Denot). (f.from, f.to)) (frame_at s.frames c.args.number)) c.self.view_is

@@ -17,8 +17,10 @@ pub invariant_of-self : goal.invariant_of-self
 invariant_of-self g c =
     let k = c.self.inside in
     kept k.past.value c.one_sent.result.value k.bytes.items c.write.new.out.items k.marks.items c.push_reserved.new.self.items
-    (record { from = c.args.from; to = c.args.to; frame = c.args.frame.now }) (record { start = c.len-start.result; end = c.len-end.result; from = c.args.from; to = c.args.to })
-    c.self.invariant c.requires.fits c.one_sent.ensures c.write.ensures.items c.push_reserved.ensures.items c.len-start.ensures.value c.len-end.ensures.value refl refl
+    (record { from = c.args.from; to = c.args.to; frame = c.args.frame.now })
+    (record { start = c.len-start.result; end = c.len-end.result; from = c.args.from; to = c.args.to })
+    c.self.invariant c.requires.fits c.one_sent.ensures c.write.ensures.items c.push_reserved.ensures.items
+    c.len-start.ensures.value c.len-end.ensures.value refl refl
 
 pub returns-clause-room : goal.returns-clause-room
 returns-clause-room g c = λ many h.

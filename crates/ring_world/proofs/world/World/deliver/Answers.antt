@@ -23,9 +23,11 @@ step-requires-clause-same g c =
     let object = g.O.Object.sequential in
     let p : Played g.row.O-Alloc.Denot = record { group = k.fixed; events = k.events.items; told = k.told.items; done = k.done } in
     let w = world_of object p in
-    subst (λ (r : Played g.row.O-Alloc.Denot). happens object (world_of object r) c.args.event.now ≡ stepped object (world_of object r) c.args.node (FrameInput c.in-Some.frame)) c.self.view_is
+    subst (λ (r : Played g.row.O-Alloc.Denot). happens object (world_of object r) c.args.event.now ≡ stepped object
+    (world_of object r) c.args.node (FrameInput c.in-Some.frame)) c.self.view_is
     (ap (happens object w) c.requires ∙ handed_is object w c.args.node (frame_at w.frames c.args.number)
-    ∙ ap (hands object w c.args.node) (ap (λ fs. frame_for c.args.node (frame_at fs c.args.number)) (sym c.self.invariant.kept.frames_are) ∙ sym c.in_ok-sent.ensures.ok ∙ c.in-Some.is))
+    ∙ ap (hands object w c.args.node) (ap (λ fs. frame_for c.args.node (frame_at fs c.args.number))
+    (sym c.self.invariant.kept.frames_are) ∙ sym c.in_ok-sent.ensures.ok ∙ c.in-Some.is))
 
 pub step-requires-clause-steps : goal.step-requires-clause-steps
 step-requires-clause-steps g c =
@@ -48,4 +50,5 @@ idle-requires-clause-same g c =
     let w = world_of object p in
     subst (λ (r : Played g.row.O-Alloc.Denot). happens object (world_of object r) c.args.event.now ≡ world_of object r) c.self.view_is
     (ap (happens object w) c.requires ∙ handed_is object w c.args.node (frame_at w.frames c.args.number)
-    ∙ ap (hands object w c.args.node) (ap (λ fs. frame_for c.args.node (frame_at fs c.args.number)) (sym c.self.invariant.kept.frames_are) ∙ sym c.in_ok-sent.ensures.ok ∙ c.in-None.is))
+    ∙ ap (hands object w c.args.node) (ap (λ fs. frame_for c.args.node (frame_at fs c.args.number))
+    (sym c.self.invariant.kept.frames_are) ∙ sym c.in_ok-sent.ensures.ok ∙ c.in-None.is))

@@ -13,8 +13,10 @@ invariant_of-self-2 g c =
     let p : Played g.row.O-Alloc.Denot = record { group = k.fixed; events = k.events.items; told = k.told.items; done = k.done } in
     let e = c.args.event.now in
     let same = subst (λ (q : Played g.row.O-Alloc.Denot). happens object (world_of object q) e ≡ world_of object q) (sym c.self.view_is) c.requires.same in
-    subst (λ es. IsWorld object k.fixed es k.nodes.items k.spares.items k.frames.frames k.history.items) (sym (c.push_reserved.ensures.items ∙ ap (λ es. es ++ c.in_ok-kept.kept ∷ []) c.reserve.ensures.items))
-    (idle_world object p k.nodes.items k.spares.items k.frames.frames k.history.items c.self.invariant e c.in_ok-kept.kept c.in_ok-kept.ensures.ok c.requires.fits same)
+    subst (λ es. IsWorld object k.fixed es k.nodes.items k.spares.items k.frames.frames k.history.items)
+    (sym (c.push_reserved.ensures.items ∙ ap (λ es. es ++ c.in_ok-kept.kept ∷ []) c.reserve.ensures.items))
+    (idle_world object p k.nodes.items k.spares.items k.frames.frames k.history.items c.self.invariant e
+    c.in_ok-kept.kept c.in_ok-kept.ensures.ok c.requires.fits same)
 
 pub returns-clause-ok : goal.returns-clause-ok
 returns-clause-ok g c =
@@ -25,4 +27,6 @@ returns-clause-ok g c =
     let e = c.args.event.now in
     let same = subst (λ (r : Played g.row.O-Alloc.Denot). happens object (world_of object r) e ≡ world_of object r) (sym c.self.view_is) c.requires.same in
     subst (λ (r : Played g.row.O-Alloc.Denot). Goes object e r q) c.self.view_is
-    (idle_goes object p k.nodes.items k.spares.items k.frames.frames k.history.items c.self.invariant q e c.in_ok-kept.kept c.in_ok-kept.ensures.ok same refl (c.push_reserved.ensures.items ∙ ap (λ es. es ++ c.in_ok-kept.kept ∷ []) c.reserve.ensures.items) refl)
+    (idle_goes object p k.nodes.items k.spares.items k.frames.frames k.history.items c.self.invariant q e
+    c.in_ok-kept.kept c.in_ok-kept.ensures.ok same refl (c.push_reserved.ensures.items
+    ∙ ap (λ es. es ++ c.in_ok-kept.kept ∷ []) c.reserve.ensures.items) refl)

@@ -23,7 +23,9 @@ returns-in-Some-clause-ok g c =
     let object = g.O.Object.sequential in
     let p : Played g.row.O-Alloc.Denot = record { group = k.fixed; events = k.events.items; told = k.told.items; done = k.done } in
     let longest = subst (λ (xs : List (Node g.row.O-Alloc.Denot)). IsLongest xs c.longest-place.result.0) c.deref.ensures.value c.longest-place.ensures.place in
-    let same = ap deduplicated c.committed.ensures ∙ longest-gives k.nodes.items c.longest-place.result.0 longest c.in-Some.place c.index.result.now c.in-Some.is c.index.ensures
+    let same = ap deduplicated c.committed.ensures
+    ∙ longest-gives k.nodes.items c.longest-place.result.0 longest c.in-Some.place c.index.result.now c.in-Some.is
+    c.index.ensures
     ∙ logs-order object p k.nodes.items k.spares.items k.frames.frames k.history.items c.self.invariant in
     subst (λ (q : Played g.row.O-Alloc.Denot). IfOk c.effects.result (λ calls. calls.items ≡ order (world_of object q))) c.self.view_is
     (subst (λ xs. IfOk c.effects.result (λ calls. calls.items ≡ xs)) same c.effects.ensures.ok)

@@ -21,6 +21,7 @@ loop-event-preserved g c =
     let q = c.happen.new.self in
     let more = plays_more object (take i es) e (q.done + 1) c.args.self.now c.loop-event.self q c.loop-event.invariant.0 c.in_ok-happen.ensures.ok in (
       subst (λ (r : Played g.row.O-Alloc.Denot). Plays object (take (i + 1) es) c.args.self.now r) (sym c.count.ensures)
-          (subst (λ (xs : List (Event g.row.O-Alloc.Denot)). Plays object xs c.args.self.now (record q { done = q.done + 1 })) (sym (take_more es i e at)) more),
+          (subst (λ (xs : List (Event g.row.O-Alloc.Denot)). Plays object xs c.args.self.now
+          (record q { done = q.done + 1 })) (sym (take_more es i e at)) more),
       ap (λ (r : Played g.row.O-Alloc.Denot). r.done) c.count.ensures ∙ ap (λ n. n + 1) (c.in_ok-happen.ensures.done ∙ c.loop-event.invariant.1),
     )

@@ -35,11 +35,14 @@ invariant_of-self-2 g c =
     let n = k.nodes.ok.0 in
     let inside : m < length k.nodes.items = omega (arith, n, c.len.ensures, c.if-place-len.false) in
     let inv = c.self.invariant in
-    let node = node_is object p k.nodes.items k.spares.items k.frames.frames k.history.items inv i m low at inside c.index_mut.result.now c.index_mut.ensures.value in
-    let halted : c.step.new.self ≡ node_stopped c.index_mut.result.now = either c.step.result (c.step.new.self ≡ node_stopped c.index_mut.result.now) c.step.ensures.ok c.step.ensures.err in
+    let node = node_is object p k.nodes.items k.spares.items k.frames.frames k.history.items inv i m low at inside
+    c.index_mut.result.now c.index_mut.ensures.value in
+    let halted : c.step.new.self ≡ node_stopped c.index_mut.result.now = either c.step.result
+    (c.step.new.self ≡ node_stopped c.index_mut.result.now) c.step.ensures.ok c.step.ensures.err in
     subst (λ es. IsWorld object k.fixed es (slice_set k.nodes.items m c.step.new.self) k.spares.items k.frames.frames k.history.items)
     (sym (c.push_reserved.ensures.items ∙ ap (λ es. es ++ Stop i ∷ []) c.reserve.ensures.items))
-    (stop_world object p k.nodes.items k.spares.items k.frames.frames k.history.items inv i m low at inside c.step.new.self (slice_set k.nodes.items m c.step.new.self) (halted ∙ ap node_stopped node) refl)
+    (stop_world object p k.nodes.items k.spares.items k.frames.frames k.history.items inv i m low at inside
+    c.step.new.self (slice_set k.nodes.items m c.step.new.self) (halted ∙ ap node_stopped node) refl)
 
 pub returns-clause-ok : goal.returns-clause-ok
 returns-clause-ok g c =
@@ -56,4 +59,5 @@ returns-clause-ok g c =
     let inv = c.self.invariant in
     subst (λ (r : Played g.row.O-Alloc.Denot). Goes object c.args.event.now r q) c.self.view_is
     (subst (λ (e : Event g.row.O-Alloc.Denot). Goes object e p q) (sym c.requires)
-    (stop_goes object p k.nodes.items k.spares.items k.frames.frames k.history.items inv i m low at inside q refl (c.push_reserved.ensures.items ∙ ap (λ es. es ++ Stop i ∷ []) c.reserve.ensures.items) refl))
+    (stop_goes object p k.nodes.items k.spares.items k.frames.frames k.history.items inv i m low at inside q refl
+    (c.push_reserved.ensures.items ∙ ap (λ es. es ++ Stop i ∷ []) c.reserve.ensures.items) refl))
