@@ -14,7 +14,7 @@ use Rattle.ring_srp.proofs.machine.Machine.visit.Goals as goal
 
 pub send_new-requires : goal.send_new-requires
 send_new-requires g c =
-    let t = c.args.token in
+    let t = c.args.token.now in
     let items = c.in_ok-payloads.payloads.items in
     let e = c.in_ok-payloads.ensures.core in
     let passes = ap (λ (x : Core g.row.A.Denot). accepts x t) e ∙ c.requires.passes in
@@ -26,7 +26,7 @@ send_new-requires g c =
 pub pass_token-requires : goal.pass_token-requires
 pass_token-requires g c =
     let now = c.args.self.now in
-    let t = c.args.token in
+    let t = c.args.token.now in
     let items = c.in_ok-payloads.payloads.items in
     let passes = passing now t c.requires.passes in
     let q = visited_held now c.new_payloads.new.self c.send_new.new.self t c.stays-stays.result items
@@ -45,7 +45,7 @@ returns-clause-outs g c =
     let now = c.args.self.now in
     let one = c.new_payloads.new.self in
     let two = c.send_new.new.self in
-    let t = c.args.token in
+    let t = c.args.token.now in
     let stays = c.stays-stays.result in
     let items = c.in_ok-payloads.payloads.items in
     let p = c.in_ok-payloads.ensures.items in
