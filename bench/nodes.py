@@ -5,10 +5,10 @@
 
 PROGRAM is the built program. For each number of nodes there are three cases: the token alone (`idle`), a call at each
 node in each round of the token (`calls`), and a change of rings every thousand events (`changes`). Each is run by
-callgrind with FEW events, 10,000 where no number is given, and with ten times as many, once the nodes have settled; what
-start, settling and the last `show` cost is counted by a run of its own, and left out. Told are the instructions for an
-event, few and many, the second by the first, and the bytes of memory that an event more takes. The ratio stays near 1
-where an event costs the same however long the run.
+callgrind with FEW events, 5,000 where no number is given, and with ten times as many, once the nodes have settled;
+what start, settling and the last `show` cost is counted by a run of its own, and left out. Told are the instructions
+for an event, few and many, the second by the first, and the bytes of memory that an event more takes. The ratio stays
+near 1 where an event costs the same however long the run.
 """
 import os
 import subprocess
@@ -18,8 +18,17 @@ import tempfile
 NODES = (1, 3, 16)
 CASES = ("idle", "calls", "changes")
 # A world of sixteen nodes has settled by then.
-SETTLING = 20_000
+SETTLING = 5_000
 BETWEEN = 1_000
+HEADS = [
+    "Nodes",
+    "Case",
+    "Events",
+    "Instructions an event",
+    "Ten times the events",
+    "The second by the first",
+    "Bytes an event",
+]
 
 
 def pumps(turns):
@@ -85,9 +94,9 @@ def measured(program, folder, lines):
 
 def main():
     program = sys.argv[1]
-    few = int(sys.argv[2]) if len(sys.argv) > 2 else 10_000
-    print("| Nodes | Case | Events | Instructions an event | Ten times the events | The second by the first | Bytes an event |")
-    print("|---|---|---|---|---|---|---|")
+    few = int(sys.argv[2]) if len(sys.argv) > 2 else 5_000
+    print("| " + " | ".join(HEADS) + " |")
+    print("|" + "---|" * len(HEADS))
     with tempfile.TemporaryDirectory() as folder:
         for nodes in NODES:
             start = opening(nodes)
@@ -99,7 +108,8 @@ def main():
                     took, most = measured(program, folder, start + lines)
                     costs.append(((took - begun) / done, (most - held) / done, done))
                 (one, _, first), (ten, bytes_each, _) = costs
-                print("| %d | %s | %s | %s | %s | %.2f | %s |" % (nodes, kind, f"{first:,}", f"{one:,.0f}", f"{ten:,.0f}", ten / one, f"{bytes_each:,.0f}"), flush=True)
+                row = [nodes, kind, f"{first:,}", f"{one:,.0f}", f"{ten:,.0f}", f"{ten / one:.2f}", f"{bytes_each:,.0f}"]
+                print("| " + " | ".join(map(str, row)) + " |", flush=True)
 
 
 if __name__ == "__main__":

@@ -1,6 +1,7 @@
 -- A node's step and submit, by its core and its replica.
 use Rattle.std.proofs.Common.{◌≡◌, ℕ, inl, inr, nat_le, Result, Ok, Err, OnOk, IfErr, if◌then◌else◌, Bool, true, false}
 use Rattle.std.proofs.Common.{List, [], ◌∷◌, ◌++◌, length, drop, Option, Some, None, refl, ap, sym, ◌∙◌, subst}
+use Rattle.std.specs.Prelude.{OnErr}
 use Rattle.std.proofs.lemmas.Bool.{cases_Bool, cond-true}
 use Rattle.ring_base.specs.Numbers.{max_number}
 use Rattle.ring_base.specs.declared.fault.Fault.TheVariants.{PendingFull, Stopped as StoppedFault}
@@ -28,7 +29,7 @@ use Rattle.ring_replica.proofs.Going.{hands-committed}
 use Rattle.ring_replica.proofs.Nodes.{step-is, refused-is}
 use Rattle.ring_marks.specs.Marks.{IsMarked}
 use Rattle.ring_marks.proofs.Marks.{marked_step, marked_handed, me_step, me_handed, going_step, going_handed}
-use Rattle.ring_node.specs.Kept.{core_told, told_node, Runs, IsNode, stepped_by}
+use Rattle.ring_node.specs.Kept.{followed_by, core_told, told_node, Runs, IsNode, stepped_by}
 
 -- Handing over one payload more
 
@@ -86,13 +87,17 @@ module _ {O A : Type 0} (object : Sequential O) (running : Option RingId) (r : R
   pub left-as : (new : Replica A) → new ≡ step.replica → replica_stopped new ≡ replica_stopped r
   left-as new e = ap replica_stopped e ∙ left-by object r outs (lived_through r.life outs) due_now is
 
--- the step's outputs, of the core as it is then
-pub step-as : {O A : Type 0} → (object : Sequential O) (core new : Core A) (r : Replica A) (input : Input A) (running : Option RingId) (outs : List (Out A)) →
-    running ≡ running_of new → new ≡ (ring_step core input).core → outs ≡ (ring_step core input).outs
-    → replica_step object running r outs ≡ stepped_by object core r input
-step-as {O} {A} object core new r input running outs er en eo =
-    ap (λ x. replica_step object x r outs) er ∙ ap (λ (x : Core A). replica_step object (running_of x) r outs) en
-    ∙ ap (replica_step object (running_of (ring_step core input).core) r) eo
+-- What follows a step's outputs is what the step makes
+module _ {O A : Type 0} (object : Sequential O) (core new : Core A) (r : Replica A) (input : Input A) (outs : List (Out A)) where
+  pub followed-as : new ≡ (ring_step core input).core → outs ≡ (ring_step core input).outs → followed_by object new r outs ≡ stepped_by object core r input
+  followed-as en eo =
+      ap (λ (x : Core A). followed_by object x r outs) en ∙ ap (followed_by object (ring_step core input).core r) eo
+
+  pub followed-core : new ≡ (ring_step core input).core → outs ≡ (ring_step core input).outs →
+      handed_over new (followed_by object new r outs).due ≡ handed_over (ring_step core input).core (stepped_by object core r input).due
+  followed-core en eo =
+      ap (λ (x : Core A). handed_over x (followed_by object new r outs).due) en
+      ∙ ap (λ (s : ReplicaStepped A). handed_over (ring_step core input).core s.due) (followed-as en eo)
 
 -- A node that runs
 
@@ -264,6 +269,10 @@ fault-is {A} core r last ended k =
 pub ok-as : {X E : Type 0} → (r : Result X E) (P Q : Type 0) → (P → Q) → OnOk r P → OnOk r Q
 ok-as (Ok x) P Q f h = f h
 ok-as (Err e) P Q f h = h
+
+pub err-always : {X E P : Type 0} → (r : Result X E) → P → OnErr r P
+err-always (Ok x) p = tt
+err-always (Err e) p = p
 
 pub err-as : {X E : Type 0} → (r : Result X E) (P Q : E → Type 0) → ((e : E) → P e → Q e) → IfErr r P → IfErr r Q
 err-as (Ok x) P Q f h = h

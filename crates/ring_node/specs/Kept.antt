@@ -1,10 +1,11 @@
 -- What the code of a node keeps, and how that tells the node: Nodes, and The replicated log, rules 1 and 18, of docs/PROTOCOL.md.
-use Rattle.std.specs.Prelude.{◌≡◌, Bool, true, false}
+use Rattle.std.specs.Prelude.{◌≡◌, Bool, true, false, List}
 use Rattle.ring_base.specs.declared.ring_id.RingId.{RingId}
 use Rattle.ring_object.specs.Operations.{Sequential}
 use Rattle.ring_core.specs.State.{Core, halted}
 use Rattle.ring_core.specs.Stepping.{ring_step}
 use Rattle.ring_core.specs.declared.input.Input.{Input}
+use Rattle.ring_core.specs.declared.out.Out.{Out}
 use Rattle.ring_machine.specs.Nodes.{Node, is_stopped}
 use Rattle.ring_replica.specs.Replicas.{Replica, ReplicaStepped, IsDone, replica_step, running_of}
 use Rattle.ring_marks.specs.Marks.{IsMarked}
@@ -30,6 +31,10 @@ pub record IsNode {A : Type 0} (core : Core A) (replica : Replica A) (last : Rin
   pub runs : replica.stopped ≡ false → Runs core replica
   pub left : replica.stopped ≡ true → last ≡ ended.installed.ring
 
+-- what the outputs of a step make of the replica, where the core is this one after the step
+abbrev pub followed_by : {O A : Type 0} → Sequential O → Core A → Replica A → List (Out A) → ReplicaStepped A
+followed_by object core replica outs = replica_step object (running_of core) replica outs
+
 -- what a step of the core makes of the replica
 abbrev pub stepped_by : {O A : Type 0} → Sequential O → Core A → Replica A → Input A → ReplicaStepped A
-stepped_by object core replica input = replica_step object (running_of (ring_step core input).core) replica (ring_step core input).outs
+stepped_by object core replica input = followed_by object (ring_step core input).core replica (ring_step core input).outs

@@ -1,17 +1,20 @@
 //! A ring core and a replica go on together.
 
-ghost use Rattle.std.specs.Prelude.{◌≡◌, false, IfOk, IfErr, OnOk, OnErr};
+ghost use Rattle.std.specs.Prelude.{◌≡◌, true, false, IfOk, IfErr, OnOk, OnErr};
 ghost use Rattle.ring_base.specs.declared.fault.Fault.TheVariants.{Memory};
+ghost use Rattle.ring_wire.specs.Frames.{FrameFits};
 ghost use Rattle.ring_core.specs.Stepping.{ring_step};
+ghost use Rattle.ring_core.specs.declared.input.Input.TheVariants.{Frame as FrameInput};
 ghost use Rattle.ring_srp.specs.Allowing.{InputFits};
 ghost use Rattle.ring_machine.specs.Nodes.{is_stopped};
 ghost use Rattle.ring_machine.specs.Stepping.{handed_over};
-ghost use Rattle.ring_replica.specs.Replicas.{replica_stopped, replica_done, running_of};
-ghost use Rattle.ring_node.specs.Kept.{Runs, stepped_by};
+ghost use Rattle.ring_replica.specs.Courses.{rises};
+ghost use Rattle.ring_replica.specs.Replicas.{IsDone, replica_stopped, replica_done, running_of};
+ghost use Rattle.ring_node.specs.Kept.{Runs, followed_by, stepped_by};
 
 use crate::outs::Outs;
 use ring_base::{Fault, Past, RingId, State, past_of};
-use ring_core::Input;
+use ring_core::{Input, Out};
 use ring_object::Object;
 use ring_payload::Payload;
 use ring_replica::Replica;
@@ -36,15 +39,6 @@ pub(crate) fn running<A: Allocator + Copy>(core: &Srp<A>) -> Option<RingId>
     }
 }
 
-/// A copy of a frame, or `Memory`.
-pub(crate) fn copied<A: Allocator + Copy>(frame: &Frame<A>) -> Result<Frame<A>, Fault>
-    ensures ok { IfOk result (λ copy. copy ≡ frame.now) }
-    ensures refused { IfErr result (λ fault. fault ≡ Memory) }
-{
-    let copy = frame.clone()?;
-    Ok(copy)
-}
-
 /// Hands payloads to the core, in their order. Refused with `Memory` alone.
 pub(crate) fn hand_over<A: Allocator + Copy>(
     core: &mut Srp<A>,
@@ -60,8 +54,7 @@ pub(crate) fn hand_over<A: Allocator + Copy>(
     Ok(())
 }
 
-/// The core steps, the replica takes what it gave, and what is due is handed to the core. Where the replica stops by
-/// that, nothing is given. Refused with `Memory` alone: then the replica, once stopped, is what it was before.
+/// The core steps, and the replica follows.
 pub(crate) fn advance<O: Object>(
     core: &mut Srp<O::Alloc>,
     replica: &mut Replica<O>,
@@ -79,6 +72,50 @@ pub(crate) fn advance<O: Object>(
     ensures refused { IfErr result (λ fault. fault ≡ Memory) }
 {
     let outs = core.step(input)?;
+    follow(core, replica, outs)
+}
+
+/// The same for a frame that the caller keeps.
+pub(crate) fn advance_on<O: Object>(
+    core: &mut Srp<O::Alloc>,
+    replica: &mut Replica<O>,
+    frame: &Frame<O::Alloc>,
+) -> Result<Outs<O::Alloc>, Fault>
+    requires fits { FrameFits frame.now }
+    requires runs { Runs core.old replica.old }
+    requires going { replica.old.stopped ≡ false }
+    ensures sends { IfOk result (λ outs. outs.sends.items ≡ (stepped_by O.sequential core.old replica.old (FrameInput frame.now)).sends) }
+    ensures answers { IfOk result (λ outs. outs.answers.items ≡ (stepped_by O.sequential core.old replica.old (FrameInput frame.now)).answers) }
+    ensures committed { IfOk result (λ outs. outs.committed.items ≡ (stepped_by O.sequential core.old replica.old (FrameInput frame.now)).committed) }
+    ensures core { OnOk result (core.new ≡ handed_over (ring_step core.old (FrameInput frame.now)).core
+        (stepped_by O.sequential core.old replica.old (FrameInput frame.now)).due) }
+    ensures replica { OnOk result (replica.new ≡ replica_done (stepped_by O.sequential core.old replica.old (FrameInput frame.now)).replica) }
+    ensures err { OnErr result (replica_stopped replica.new ≡ replica_stopped replica.old) }
+    ensures refused { IfErr result (λ fault. fault ≡ Memory) }
+{
+    let outs = core.hear(frame)?;
+    follow(core, replica, outs)
+}
+
+/// The replica takes what the core gave in a step, and what is due is handed to the core. Where the replica stops by
+/// that, nothing is given. Refused with `Memory` alone: then the replica, once stopped, is what it was before.
+fn follow<O: Object>(
+    core: &mut Srp<O::Alloc>,
+    replica: &mut Replica<O>,
+    outs: Vec<Out<O::Alloc>, O::Alloc>,
+) -> Result<Outs<O::Alloc>, Fault>
+    requires done { IsDone replica.old }
+    requires rises { rises replica.old.life outs.items ≡ true }
+    requires runs { is_stopped core.old.state ≡ false }
+    requires going { replica.old.stopped ≡ false }
+    ensures sends { IfOk result (λ given. given.sends.items ≡ (followed_by O.sequential core.old replica.old outs.items).sends) }
+    ensures answers { IfOk result (λ given. given.answers.items ≡ (followed_by O.sequential core.old replica.old outs.items).answers) }
+    ensures committed { IfOk result (λ given. given.committed.items ≡ (followed_by O.sequential core.old replica.old outs.items).committed) }
+    ensures core { OnOk result (core.new ≡ handed_over core.old (followed_by O.sequential core.old replica.old outs.items).due) }
+    ensures replica { OnOk result (replica.new ≡ replica_done (followed_by O.sequential core.old replica.old outs.items).replica) }
+    ensures err { OnErr result (replica_stopped replica.new ≡ replica_stopped replica.old) }
+    ensures refused { IfErr result (λ fault. fault ≡ Memory) }
+{
     let running = running(core);
     let given = replica.step(&running, outs)?;
     hand_over(core, given.due)?;

@@ -2,7 +2,9 @@
 
 ghost use Rattle.std.specs.Prelude.{◌≡◌, ◌≤◌, true, false, length, if◌then◌else◌, Some, None, IsOk, IfOk, IfErr, OnOk, OnErr, MatchOption};
 ghost use Rattle.ring_base.specs.declared.fault.Fault.TheVariants.{Memory, Stopped as StoppedFault};
+ghost use Rattle.ring_wire.specs.Frames.{FrameFits};
 ghost use Rattle.ring_core.specs.Stepping.{ring_step};
+ghost use Rattle.ring_core.specs.declared.input.Input.TheVariants.{Frame as FrameInput};
 ghost use Rattle.ring_srp.specs.Allowing.{InputFits as CoreInputFits};
 ghost use Rattle.ring_session.specs.Deduplicated.{deduplicated};
 ghost use Rattle.ring_machine.specs.Nodes.{node_opening, node_committed, node_log, node_reply, node_stopped, is_stopped};
@@ -10,7 +12,7 @@ ghost use Rattle.ring_machine.specs.Stepping.{after_core, node_step, submit_faul
 ghost use Rattle.ring_machine.specs.Limits.{InputFits};
 ghost use Rattle.ring_machine.specs.declared.input.Input.TheVariants.{Stop as StopInput};
 
-use crate::driving::{advance, copied, running, seen};
+use crate::driving::{advance, advance_on, running, seen};
 use crate::outs::Outs;
 use ring_base::{Fault, Fixed, Past, Proc, RingId, State};
 use ring_core::Input as CoreInput;
@@ -21,6 +23,7 @@ use ring_replica::Replica;
 use ring_session::Answer;
 use ring_srp::Srp;
 use ring_ticket::{Ticket, copy_of};
+use ring_wire::Frame;
 use std::marker::Model;
 
 /// A node. Contracts see a `Node`: its group, its core, its life and its tickets.
@@ -119,7 +122,7 @@ impl<O: Object> Node<O> {
         }
     }
 
-    /// The same for an input that the caller keeps: the node copies its frame.
+    /// The same for an input that the caller keeps: the node copies its frame, unless it is a token.
     pub fn step_on(&mut self, input: &Input<O::Alloc>) -> Result<Outs<O::Alloc>, Fault>
         requires fits { InputFits input.now }
         ensures runs { OnOk result (is_stopped self.old.core.state ≡ false) }
@@ -135,13 +138,7 @@ impl<O: Object> Node<O> {
             return Err(Fault::Stopped);
         }
         match input {
-            Input::Frame(frame) => match copied(frame) {
-                Ok(frame) => self.drive(CoreInput::Frame(frame)),
-                Err(refused) => {
-                    self.halt();
-                    Err(refused)
-                }
-            },
+            Input::Frame(frame) => self.drive_on(frame),
             Input::Timeout(kind) => self.drive(CoreInput::Timeout(*kind)),
             Input::Noise => Ok(Outs::new(self.alloc)),
             Input::Stop => {
@@ -240,6 +237,31 @@ impl<O: Object> Node<O> {
         self.last = self.core.ring();
         self.ended = seen(&self.core);
         match advance(&mut self.core, &mut self.replica, input) {
+            Ok(outs) => Ok(outs),
+            Err(refused) => {
+                self.core.stop();
+                self.replica.stop();
+                Err(refused)
+            }
+        }
+    }
+
+    /// The same for a frame that the caller keeps.
+    fn drive_on(&mut self, frame: &Frame<O::Alloc>) -> Result<Outs<O::Alloc>, Fault>
+        requires fits { FrameFits frame.now }
+        requires runs { is_stopped self.old.core.state ≡ false }
+        ensures sends { IfOk result (λ outs. outs.sends.items ≡ (after_core O.sequential self.old (ring_step self.old.core (FrameInput frame.now))).sends) }
+        ensures answers { IfOk result (λ outs. outs.answers.items
+            ≡ (after_core O.sequential self.old (ring_step self.old.core (FrameInput frame.now))).answers) }
+        ensures committed { IfOk result (λ outs. outs.committed.items
+            ≡ (after_core O.sequential self.old (ring_step self.old.core (FrameInput frame.now))).committed) }
+        ensures ok { OnOk result (self.new ≡ (after_core O.sequential self.old (ring_step self.old.core (FrameInput frame.now))).node) }
+        ensures err { OnErr result (self.new ≡ node_stopped self.old) }
+        ensures refused { IfErr result (λ fault. fault ≡ Memory) }
+    {
+        self.last = self.core.ring();
+        self.ended = seen(&self.core);
+        match advance_on(&mut self.core, &mut self.replica, frame) {
             Ok(outs) => Ok(outs),
             Err(refused) => {
                 self.core.stop();

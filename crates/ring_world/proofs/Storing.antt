@@ -2,16 +2,16 @@
 use Rattle.std.proofs.Common.{◌≡◌, ℕ, zero, suc, ◌+◌, ◌-◌, ◌≤◌, Bool, true, false, if◌then◌else◌, List, [], ◌∷◌, ◌++◌}
 use Rattle.std.proofs.Common.{length, take, Option, Some, None, slice_get, Result, Ok, Err, refl, ap, ◌∙◌, sym, subst}
 use Rattle.std.proofs.Common.{arith, append-nil, append_assoc, length-append, MatchResult, IfErr, inl, inr}
-use Rattle.std.specs.Prelude.{slice_range, option_map, IfOk}
+use Rattle.std.specs.Prelude.{slice_range, option_map, drop, OnOk, IfSome, IsSome, ◌↔◌}
 use Rattle.std.specs.List.{AllByRecursion as Each}
-use Rattle.std.proofs.lemmas.List.{take_at, drop_at}
+use Rattle.std.proofs.lemmas.List.{take_at, drop_at, take-append-drop}
 use Rattle.ring_base.proofs.Each.{each-push, each-get}
 use Rattle.ring_base.specs.Processors.{has}
 use Rattle.ring_base.specs.declared.fault.Fault.{Fault}
 use Rattle.ring_base.specs.declared.fault.Fault.TheVariants.{Memory, BadFrame}
 use Rattle.ring_wire.specs.declared.frame.Frame.{Frame}
 use Rattle.ring_wire.specs.Frames.{spelling_of, FrameFits}
-use Rattle.ring_wire.specs.Fronts.{IsReadFault}
+use Rattle.ring_wire.specs.Fronts.{IsReadFault, IsGot, IsNoFront}
 use Rattle.ring_wire.specs.Spells.{Spells}
 use Rattle.ring_core.specs.State.{Carried}
 use Rattle.ring_history.specs.Worlds.{frame_at}
@@ -86,6 +86,16 @@ from_if false m n e = absurd (let q : ⊥ = cc e in q)
 not_if : (b : Bool) (m : Mark) → (if b then Some m else None) ≡ None → b ≡ false
 not_if true m e = absurd (let q : ⊥ = cc e in q)
 not_if false m e = refl
+
+-- what holds of either answer
+
+pub match_ok : {T E Q : Type 0} (P : Type 0) (R : E → Type 0) (r : Result T E) → MatchResult r (λ _. P) R → (P → Q) → OnOk r Q
+match_ok P R (Ok x) h to = to h
+match_ok P R (Err e) h to = tt
+
+pub match_err : {T E : Type 0} (P : Type 0) (R : E → Type 0) (r : Result T E) → MatchResult r (λ _. P) R → IfErr r R
+match_err P R (Ok x) h = tt
+match_err P R (Err e) h = h
 
 module _ {A : Type 0} where
   first_mark : (before : List ℕ) (f : Carried A) (fs : List (Carried A)) (m : Mark) → mark_of (length before) f ≡ m
@@ -188,12 +198,24 @@ module _ {A : Type 0} where
       let second : ℕ → Option (ℕ × ℕ) = λ n. Some (h.sent.from, n) in
       ap first h.from ∙ ap second h.to ∙ ap (option_map (λ (f : Carried A). (f.from, f.to))) (sym h.there)
 
-  -- What decoding gives
+  -- What reading puts into a place
 
-  pub decodes : (text : List ℕ) (r : Result (Frame A) Fault) (frame : Frame A) → Spells frame text
-      → ((f g : Frame A) (a b x y : List ℕ) → Spells f a → Spells g b → a ++ x ≡ b ++ y → (f ≡ g) × (a ≡ b)) →
-      IfOk r (λ f. Spells f text) → IfErr r (λ fault. fault ≡ BadFrame → (f : Frame A) → Spells f text → ⊥) → IfErr r IsReadFault →
-      MatchResult r (λ f. f ≡ frame) (λ fault. fault ≡ Memory)
-  decodes text (Ok f) frame s law ok bad faults = (law f frame text text [] [] ok s refl).0
-  decodes text (Err e) frame s law ok bad (inl b) = absurd (bad b frame s)
-  decodes text (Err e) frame s law ok bad (inr m) = m
+  -- where the frame is spelled there
+  pub put_is : (text : List ℕ) (place : Option (Frame A)) (n : ℕ) (frame : Frame A) → Spells frame text
+      → ((f : Frame A) (t : List ℕ) → Spells f t ↔ (FrameFits f × (t ≡ spelling_of f)))
+      → ((f g : Frame A) (a b x y : List ℕ) → Spells f a → Spells g b → a ++ x ≡ b ++ y → (f ≡ g) × (a ≡ b))
+      → IfSome place (λ f. IsGot spelling_of FrameFits text f n) → IsSome place → place ≡ Some frame
+  put_is text None n frame s spells one got some = absurd (let no : false ≡ true = some in cc)
+  put_is text (Some f) n frame s spells one got some =
+      let parts : spelling_of f ++ drop n text ≡ text ++ [] =
+      ap (λ (t : List ℕ). t ++ drop n text) (sym got.front) ∙ take-append-drop n text ∙ sym (append-nil text) in
+      ap Some (one f frame (spelling_of f) text (drop n text) [] ((spells f (spelling_of f)).1 (got.fits, refl)) s parts).0
+
+  -- where it is, memory alone is refused
+  pub put_refused : (text : List ℕ) (fault : Fault) (frame : Frame A) → Spells frame text
+      → ((f : Frame A) (t : List ℕ) → Spells f t ↔ (FrameFits f × (t ≡ spelling_of f)))
+      → (fault ≡ BadFrame → IsNoFront {A = Frame A} spelling_of FrameFits text) → IsReadFault fault → fault ≡ Memory
+  put_refused text fault frame s spells bad (inl b) =
+      let h = (spells frame text).0 s in
+      absurd (bad b frame [] h.0 (h.1 ∙ sym (append-nil (spelling_of frame))))
+  put_refused text fault frame s spells bad (inr m) = m

@@ -1,6 +1,6 @@
 //! All frames ever sent, kept as bytes.
 
-ghost use Rattle.std.specs.Prelude.{◌≡◌, ℕ, ◌+◌, ◌≤◌, [], ◌∷◌, ◌++◌, length, slice_range, option_map, OnOk, IfOk, IfErr, MatchResult};
+ghost use Rattle.std.specs.Prelude.{◌≡◌, ℕ, ◌+◌, ◌≤◌, [], ◌∷◌, ◌++◌, length, slice_range, option_map, OnOk, IfErr, MatchResult, Some, None};
 ghost use Rattle.ring_base.specs.declared.fault.Fault.TheVariants.{Memory};
 ghost use Rattle.ring_wire.specs.declared.frame.Frame.{Frame as OneFrame};
 ghost use Rattle.ring_wire.specs.Frames.{FrameFits};
@@ -12,7 +12,7 @@ ghost use Rattle.ring_world.specs.Stored.{HasRoom, frame_for, mark_at, mark_for}
 use bytes::BytesMut;
 use ring_base::{Fault, Past, Proc, ProcSet, past_of};
 use ring_layout::Encode;
-use ring_wire::{Frame, decode_frame, one_spelling_law, short_law, spelling_law};
+use ring_wire::{Frame, one_spelling_law, short_law, spelling_law};
 use std::alloc::{Allocator, Global};
 use std::marker::{Model, PhantomData};
 
@@ -109,23 +109,23 @@ impl<A: Allocator + Copy> Frames<A> {
         });
     }
 
-    /// The frame of this number, if it was sent to this processor, decoded from its bytes. `Memory` is the only refusal.
-    pub(crate) fn frame_to(
+    /// Reads the frame of this number from its bytes into an empty place, if it was sent to this processor. `Memory` is
+    /// the only refusal.
+    pub(crate) fn read_to(
         &self,
         alloc: A,
         node: Proc,
         number: u64,
-    ) -> Result<Option<Frame<A>>, Fault>
-        ensures ok { IfOk result (λ frame. frame ≡ frame_for node (frame_at self.now.frames number)) }
+        place: &mut Option<Frame<A>>,
+    ) -> Result<(), Fault>
+        requires empty { place.old ≡ None }
+        ensures ok { OnOk result (place.new ≡ frame_for node (frame_at self.now.frames number)) }
         ensures refused { IfErr result (λ fault. fault ≡ Memory) }
     {
         spelling_law::<A>();
         match mark_for(mark_at(&self.marks, number), node) {
-            Some(mark) => match decoded(alloc, self.bytes.as_slice(), mark) {
-                Ok(frame) => Ok(Some(frame)),
-                Err(fault) => Err(fault),
-            },
-            None => Ok(None),
+            Some(mark) => decode(alloc, self.bytes.as_slice(), mark, place),
+            None => Ok(()),
         }
     }
 
@@ -166,14 +166,22 @@ fn mark_for(mark: Option<Mark>, node: Proc) -> Option<Mark>
     }
 }
 
-/// The frame that is spelled there: where one is, `Memory` is the only refusal.
-fn decoded<A: Allocator + Copy>(alloc: A, bytes: &[u8], mark: Mark) -> Result<Frame<A>, Fault>
+/// Puts the frame that is spelled there into the place: where one is, `Memory` is the only refusal.
+fn decode<A: Allocator + Copy>(
+    alloc: A,
+    bytes: &[u8],
+    mark: Mark,
+    place: &mut Option<Frame<A>>,
+) -> Result<(), Fault>
     requires order { mark.start ≤ mark.end }
     requires within { mark.end ≤ length bytes.now }
-    ensures { (frame : OneFrame A) → Spells frame (slice_range bytes.now mark.start mark.end) → MatchResult result (λ f. f ≡ frame) (λ fault. fault ≡ Memory) }
+    ensures { (frame : OneFrame A) → Spells frame (slice_range bytes.now mark.start mark.end) →
+        MatchResult result (λ done. place.new ≡ Some frame) (λ fault. fault ≡ Memory) }
 {
+    spelling_law::<A>();
     one_spelling_law::<A>();
-    decode_frame(alloc, &bytes[mark.start..mark.end])
+    Frame::<A>::get_into(alloc, &bytes[mark.start..mark.end], place)?;
+    Ok(())
 }
 
 /// A value made of another, and of what is lent, by a step that the caller names.

@@ -1,41 +1,48 @@
--- No mark falls, the core runs on, and the replica ends the step that it took.
-use Rattle.std.proofs.Common.{ap, sym, ◌∙◌}
+-- No mark falls, and the core runs on.
+use Rattle.std.proofs.Common.{◌≡◌, ap, ◌∙◌, subst}
+use Rattle.std.specs.Prelude.{IfOk, OnOk}
 use Rattle.ring_core.specs.State.{Core}
 use Rattle.ring_machine.specs.Nodes.{is_stopped}
 use Rattle.ring_replica.specs.Courses.{rises}
 use Rattle.ring_replica.specs.Replicas.{ReplicaStepped, replica_done}
 use Rattle.ring_marks.proofs.Marks.{rises_step, going_step}
-use Rattle.ring_node.proofs.Steps.{ends-as, stopped-as, step-as}
+use Rattle.ring_node.proofs.Steps.{followed-as, followed-core}
 use Rattle.ring_node.proofs.driving.advance.Goals as goal
-use Rattle.ring_node.proofs.driving.advance.Goals.{then-not-is_stopped, else-not-is_stopped}
 
-pub step-requires-2-clause-rises : goal.step-requires-2-clause-rises
-step-requires-2-clause-rises g c =
+pub follow-requires-clause-rises : goal.follow-requires-clause-rises
+follow-requires-clause-rises g c =
     ap (rises c.args.replica.now.life) c.in_ok-outs.ensures.outs ∙ rises_step c.args.core.now c.args.replica.now.life c.args.input c.requires.runs.marked
 
-pub hand_over-requires : goal.hand_over-requires
-hand_over-requires g c =
+pub follow-requires-clause-runs : goal.follow-requires-clause-runs
+follow-requires-clause-runs g c =
     ap (λ (x : Core _). is_stopped x.state) c.in_ok-outs.ensures.ok ∙ going_step c.args.core.now c.args.input c.requires.runs.going
 
-pub finish-requires-clause-answers : goal.finish-requires-clause-answers
-finish-requires-clause-answers g c =
-    c.as_slice.ensures.value
-    ∙ ends-as g.O.Object.sequential c.running-running.result c.args.replica.now c.in_ok-outs.outs.items c.step-2.new.self c.in_ok-given.given.answers.items
-    c.in_ok-given.ensures.ok c.in_ok-given.ensures.answers (sym c.is_stopped.ensures ∙ c.if-not-is_stopped.true)
+pub returns-clause-sends : goal.returns-clause-sends
+returns-clause-sends g c =
+    subst (λ (s : ReplicaStepped _). IfOk c.follow.result (λ given. given.sends.items ≡ s.sends))
+    (followed-as g.O.Object.sequential c.args.core.now c.step.new.self c.args.replica.now c.args.input c.in_ok-outs.outs.items
+    c.in_ok-outs.ensures.ok c.in_ok-outs.ensures.outs) c.follow.ensures.sends
+
+pub returns-clause-answers : goal.returns-clause-answers
+returns-clause-answers g c =
+    subst (λ (s : ReplicaStepped _). IfOk c.follow.result (λ given. given.answers.items ≡ s.answers))
+    (followed-as g.O.Object.sequential c.args.core.now c.step.new.self c.args.replica.now c.args.input c.in_ok-outs.outs.items
+    c.in_ok-outs.ensures.ok c.in_ok-outs.ensures.outs) c.follow.ensures.answers
+
+pub returns-clause-committed : goal.returns-clause-committed
+returns-clause-committed g c =
+    subst (λ (s : ReplicaStepped _). IfOk c.follow.result (λ given. given.committed.items ≡ s.committed))
+    (followed-as g.O.Object.sequential c.args.core.now c.step.new.self c.args.replica.now c.args.input c.in_ok-outs.outs.items
+    c.in_ok-outs.ensures.ok c.in_ok-outs.ensures.outs) c.follow.ensures.committed
+
+pub returns-clause-core : goal.returns-clause-core
+returns-clause-core g c =
+    subst (λ (x : Core _). OnOk c.follow.result (c.follow.new.core ≡ x))
+    (followed-core g.O.Object.sequential c.args.core.now c.step.new.self c.args.replica.now c.args.input c.in_ok-outs.outs.items
+    c.in_ok-outs.ensures.ok c.in_ok-outs.ensures.outs) c.follow.ensures.core
 
 pub returns-clause-replica : goal.returns-clause-replica
 returns-clause-replica g c =
-    let object = g.O.Object.sequential in
-    let running = c.running-running.result in
-    let r = c.args.replica.now in
-    let outs = c.in_ok-outs.outs.items in
-    let is = step-as object c.args.core.now c.step.new.self r c.args.input running outs c.running-running.ensures
-    c.in_ok-outs.ensures.ok c.in_ok-outs.ensures.outs in
-    elim c.if-not-is_stopped.branch [
-      | then-not-is_stopped w ↦
-          w.replica-is ∙ w.finish.ensures ∙ ap replica_done c.in_ok-given.ensures.ok ∙ ap (λ (x : ReplicaStepped _). replica_done x.replica) is
-      | else-not-is_stopped w ↦
-          w.replica-is
-          ∙ stopped-as object running r outs c.step-2.new.self c.requires.going c.in_ok-given.ensures.ok (sym c.is_stopped.ensures ∙ w.if-not-is_stopped.false)
-          ∙ ap (λ (x : ReplicaStepped _). replica_done x.replica) is
-    ]
+    subst (λ (s : ReplicaStepped _). OnOk c.follow.result (c.follow.new.replica ≡ replica_done s.replica))
+    (followed-as g.O.Object.sequential c.args.core.now c.step.new.self c.args.replica.now c.args.input c.in_ok-outs.outs.items
+    c.in_ok-outs.ensures.ok c.in_ok-outs.ensures.outs) c.follow.ensures.replica

@@ -15,7 +15,7 @@ step-requires-clause-fits g c =
     let p : Played g.row.O-Alloc.Denot = record { group = k.fixed; events = k.events.items; told = k.told.items; done = k.done } in
     let w = world_of object p in
     frame_fits w.frames c.args.node c.args.number c.in-Some.frame (c.frames_law.ensures.frames k.fixed k.events.items c.self.invariant.few c.self.invariant.fit)
-    (ap (λ fs. frame_for c.args.node (frame_at fs c.args.number)) (sym c.self.invariant.kept.frames_are) ∙ sym c.in_ok-sent.ensures.ok ∙ c.in-Some.is)
+    (ap (λ fs. frame_for c.args.node (frame_at fs c.args.number)) (sym c.self.invariant.kept.frames_are) ∙ sym c.in_ok-read_to.ensures.ok ∙ c.in-Some.is)
 
 pub step-requires-clause-same : goal.step-requires-clause-same
 step-requires-clause-same g c =
@@ -27,7 +27,7 @@ step-requires-clause-same g c =
     (world_of object r) c.args.node (FrameInput c.in-Some.frame)) c.self.view_is
     (ap (happens object w) c.requires ∙ handed_is object w c.args.node (frame_at w.frames c.args.number)
     ∙ ap (hands object w c.args.node) (ap (λ fs. frame_for c.args.node (frame_at fs c.args.number))
-    (sym c.self.invariant.kept.frames_are) ∙ sym c.in_ok-sent.ensures.ok ∙ c.in-Some.is))
+    (sym c.self.invariant.kept.frames_are) ∙ sym c.in_ok-read_to.ensures.ok ∙ c.in-Some.is))
 
 pub step-requires-clause-steps : goal.step-requires-clause-steps
 step-requires-clause-steps g c =
@@ -37,7 +37,7 @@ step-requires-clause-steps g c =
     let w = world_of object p in
     subst (λ (r : Played g.row.O-Alloc.Denot). step_in (world_of object r) c.args.event.now ≡ Some c.args.node) c.self.view_is
     (ap (step_in w) c.requires ∙ sent_it c.args.node (frame_at w.frames c.args.number) c.in-Some.frame
-    (ap (λ fs. frame_for c.args.node (frame_at fs c.args.number)) (sym c.self.invariant.kept.frames_are) ∙ sym c.in_ok-sent.ensures.ok ∙ c.in-Some.is))
+    (ap (λ fs. frame_for c.args.node (frame_at fs c.args.number)) (sym c.self.invariant.kept.frames_are) ∙ sym c.in_ok-read_to.ensures.ok ∙ c.in-Some.is))
 
 pub idle-requires-clause-fits : goal.idle-requires-clause-fits
 idle-requires-clause-fits g c = subst EventFits (sym c.requires) tt
@@ -51,4 +51,4 @@ idle-requires-clause-same g c =
     subst (λ (r : Played g.row.O-Alloc.Denot). happens object (world_of object r) c.args.event.now ≡ world_of object r) c.self.view_is
     (ap (happens object w) c.requires ∙ handed_is object w c.args.node (frame_at w.frames c.args.number)
     ∙ ap (hands object w c.args.node) (ap (λ fs. frame_for c.args.node (frame_at fs c.args.number))
-    (sym c.self.invariant.kept.frames_are) ∙ sym c.in_ok-sent.ensures.ok ∙ c.in-None.is))
+    (sym c.self.invariant.kept.frames_are) ∙ sym c.in_ok-read_to.ensures.ok ∙ c.in-None.is))

@@ -27,8 +27,8 @@ idle-requires-clause-same g c =
     let none = unknown object p k.nodes.items k.spares.items k.frames.frames k.history.items c.self.invariant c.args.node low far in
     subst (λ (q : Played g.row.O-Alloc.Denot). happens object (world_of object q) c.args.event.now ≡ world_of object q) c.self.view_is
     (subst (λ (q : Played g.row.O-Alloc.Denot). happens object (world_of object q) c.args.event.now ≡ stepped object
-    (world_of object q) c.args.node c.args.input) (sym c.self.view_is) c.requires.same
-    ∙ ap (λ b. stepped_if object b (world_of object p) c.args.node c.args.input) none)
+    (world_of object q) c.args.node c.args.input.now) (sym c.self.view_is) c.requires.same
+    ∙ ap (λ b. stepped_if object b (world_of object p) c.args.node c.args.input.now) none)
 
 pub keep_all-requires-clause-fit : goal.keep_all-requires-clause-fit
 keep_all-requires-clause-fit g c =
@@ -43,16 +43,16 @@ keep_all-requires-clause-fit g c =
     let inside : m < length k.nodes.items = omega (arith, n, c.len.ensures, c.if-place-len.false) in
     let node = node_is object p k.nodes.items k.spares.items k.frames.frames k.history.items c.self.invariant i m low
     at inside c.index_mut.result.now c.index_mut.ensures.value in
-    let fit = c.frames_law.ensures.steps k.fixed k.events.items i c.args.input c.self.invariant.few c.self.invariant.fit low
+    let fit = c.frames_law.ensures.steps k.fixed k.events.items i c.args.input.now c.self.invariant.few c.self.invariant.fit low
     (high object p k.nodes.items k.spares.items k.frames.frames k.history.items c.self.invariant i m low at inside) c.requires.fits in
     subst (AllByRecursion (λ (s : Sent g.row.O-Alloc.Denot). FrameFits s.frame))
-    (sym (c.deref.ensures.value ∙ c.in-Ok.ensures.sends ∙ ap (λ (x : Node g.row.O-Alloc.Denot). (node_step object x c.args.input).sends) node)) fit
+    (sym (c.deref.ensures.value ∙ c.in-Ok.ensures.sends ∙ ap (λ (x : Node g.row.O-Alloc.Denot). (node_step object x c.args.input.now).sends) node)) fit
 
 pub keep_all-requires-clause-room : goal.keep_all-requires-clause-room
 keep_all-requires-clause-room g c =
     let object = g.O.Object.sequential in
-    let few = c.few_law.ensures.sends c.index_mut.result.now c.args.input c.requires.fits in
-    let same : length c.deref.result.now ≡ length (node_step object c.index_mut.result.now c.args.input).sends =
+    let few = c.few_law.ensures.sends c.index_mut.result.now c.args.input.now c.requires.fits in
+    let same : length c.deref.result.now ≡ length (node_step object c.index_mut.result.now c.args.input.now).sends =
     ap length (c.deref.ensures.value ∙ c.in-Ok.ensures.sends) in
     room_less 64 (length c.deref.result.now) c.make_room.new.frames (omega (arith, few, same)) c.in_ok-make_room.ensures.frames_room
 
@@ -86,11 +86,11 @@ tell-requires-clause-left g c =
     let node = node_is object p k.nodes.items k.spares.items k.frames.frames k.history.items inv i m low at inside
     c.index_mut.result.now c.index_mut.ensures.value in
     let same = subst (λ (q : Played g.row.O-Alloc.Denot). happens object (world_of object q) c.args.event.now
-    ≡ stepped object (world_of object q) i c.args.input) (sym c.self.view_is) c.requires.same in
+    ≡ stepped object (world_of object q) i c.args.input.now) (sym c.self.view_is) c.requires.same in
     let s = c.index_mut-in-Ok.result.now in
     let keeps = copies_are object p k.nodes.items k.spares.items k.frames.frames k.history.items inv i m low at inside s c.index_mut-in-Ok.ensures.value in
-    subst (AllLeft s.calls) (sym (c.in-Ok.ensures.answers ∙ ap (λ (x : Node g.row.O-Alloc.Denot). (node_step object x c.args.input).answers) node))
-    (answers_left object p k.nodes.items k.spares.items k.frames.frames k.history.items inv i m low at inside c.args.event.now c.args.input s same keeps)
+    subst (AllLeft s.calls) (sym (c.in-Ok.ensures.answers ∙ ap (λ (x : Node g.row.O-Alloc.Denot). (node_step object x c.args.input.now).answers) node))
+    (answers_left object p k.nodes.items k.spares.items k.frames.frames k.history.items inv i m low at inside c.args.event.now c.args.input.now s same keeps)
 
 pub tell-requires-clause-told_room : goal.tell-requires-clause-told_room
 tell-requires-clause-told_room g c =
@@ -105,9 +105,9 @@ tell-requires-clause-told_room g c =
     let inside : m < length k.nodes.items = omega (arith, n, c.len.ensures, c.if-place-len.false) in
     let node = node_is object p k.nodes.items k.spares.items k.frames.frames k.history.items c.self.invariant i m low
     at inside c.index_mut.result.now c.index_mut.ensures.value in
-    let few = c.pending_law.ensures.answers k.fixed k.events.items i c.args.input in
-    let same : length c.in-Ok.outs.answers.items ≡ length (node_step object ((world_of object p).nodes i) c.args.input).answers =
-    ap length (c.in-Ok.ensures.answers ∙ ap (λ (x : Node g.row.O-Alloc.Denot). (node_step object x c.args.input).answers) node) in
+    let few = c.pending_law.ensures.answers k.fixed k.events.items i c.args.input.now in
+    let same : length c.in-Ok.outs.answers.items ≡ length (node_step object ((world_of object p).nodes i) c.args.input.now).answers =
+    ap length (c.in-Ok.ensures.answers ∙ ap (λ (x : Node g.row.O-Alloc.Denot). (node_step object x c.args.input.now).answers) node) in
     omega (arith, few, same, c.in_ok-make_room.ensures.told_room)
 
 pub tell-requires-clause-history_room : goal.tell-requires-clause-history_room
@@ -123,9 +123,9 @@ tell-requires-clause-history_room g c =
     let inside : m < length k.nodes.items = omega (arith, n, c.len.ensures, c.if-place-len.false) in
     let node = node_is object p k.nodes.items k.spares.items k.frames.frames k.history.items c.self.invariant i m low
     at inside c.index_mut.result.now c.index_mut.ensures.value in
-    let few = c.pending_law.ensures.answers k.fixed k.events.items i c.args.input in
-    let same : length c.in-Ok.outs.answers.items ≡ length (node_step object ((world_of object p).nodes i) c.args.input).answers =
-    ap length (c.in-Ok.ensures.answers ∙ ap (λ (x : Node g.row.O-Alloc.Denot). (node_step object x c.args.input).answers) node) in
+    let few = c.pending_law.ensures.answers k.fixed k.events.items i c.args.input.now in
+    let same : length c.in-Ok.outs.answers.items ≡ length (node_step object ((world_of object p).nodes i) c.args.input.now).answers =
+    ap length (c.in-Ok.ensures.answers ∙ ap (λ (x : Node g.row.O-Alloc.Denot). (node_step object x c.args.input.now).answers) node) in
     omega (arith, few, same, c.in_ok-make_room.ensures.history_room)
 
 pub invariant_of-self-in-Ok : goal.invariant_of-self-in-Ok
@@ -143,20 +143,20 @@ invariant_of-self-in-Ok g c =
     let node = node_is object p k.nodes.items k.spares.items k.frames.frames k.history.items inv i m low at inside
     c.index_mut.result.now c.index_mut.ensures.value in
     let same = subst (λ (q : Played g.row.O-Alloc.Denot). happens object (world_of object q) c.args.event.now
-    ≡ stepped object (world_of object q) i c.args.input) (sym c.self.view_is) c.requires.same in
+    ≡ stepped object (world_of object q) i c.args.input.now) (sym c.self.view_is) c.requires.same in
     let s = c.index_mut-in-Ok.result.now in
     let keeps = copies_are object p k.nodes.items k.spares.items k.frames.frames k.history.items inv i m low at inside s c.index_mut-in-Ok.ensures.value in
-    let answers = c.in-Ok.ensures.answers ∙ ap (λ (x : Node g.row.O-Alloc.Denot). (node_step object x c.args.input).answers) node in
-    let sends = c.deref.ensures.value ∙ c.in-Ok.ensures.sends ∙ ap (λ (x : Node g.row.O-Alloc.Denot). (node_step object x c.args.input).sends) node in
-    subst (λ es. IsWorld object k.fixed es (slice_set k.nodes.items m c.step.new.self)
+    let answers = c.in-Ok.ensures.answers ∙ ap (λ (x : Node g.row.O-Alloc.Denot). (node_step object x c.args.input.now).answers) node in
+    let sends = c.deref.ensures.value ∙ c.in-Ok.ensures.sends ∙ ap (λ (x : Node g.row.O-Alloc.Denot). (node_step object x c.args.input.now).sends) node in
+    subst (λ es. IsWorld object k.fixed es (slice_set k.nodes.items m c.hand.new.node)
     (slice_set k.spares.items m c.tell.new.spares) c.keep_all.new.frames.frames c.tell.new.history.items)
     (sym (c.push_reserved.ensures.items ∙ ap (λ es. es ++ c.in_ok-kept.kept ∷ []) c.in_ok-make_room.ensures.events))
     (step_world object p k.nodes.items k.spares.items k.frames.frames k.history.items inv i m low at inside
-    c.args.event.now c.in_ok-kept.kept c.args.input c.in_ok-kept.ensures.ok
+    c.args.event.now c.in_ok-kept.kept c.args.input.now c.in_ok-kept.ensures.ok
     (steps_fits (world_of object c.args.self.now) c.args.event.now i c.requires.steps)
-    same c.step.new.self s c.tell.new.spares (slice_set k.nodes.items m c.step.new.self)
+    same c.hand.new.node s c.tell.new.spares (slice_set k.nodes.items m c.hand.new.node)
     (slice_set k.spares.items m c.tell.new.spares) c.keep_all.new.frames.frames
-    c.tell.new.history.items keeps (c.in-Ok.ensures.ok ∙ ap (λ (x : Node g.row.O-Alloc.Denot). (node_step object x c.args.input).node) node) refl refl
+    c.tell.new.history.items keeps (c.in-Ok.ensures.ok ∙ ap (λ (x : Node g.row.O-Alloc.Denot). (node_step object x c.args.input.now).node) node) refl refl
     (c.tell.ensures.spares ∙ ap (after_answers s.calls) answers)
     (c.keep_all.ensures ∙ ap (λ fs. fs ++ carried i c.deref.result.now) c.in_ok-make_room.ensures.frames
     ∙ ap (λ xs. k.frames.frames ++ carried i xs) sends)
@@ -179,11 +179,11 @@ returns-in-Ok-clause-ok g c =
     let node = node_is object p k.nodes.items k.spares.items k.frames.frames k.history.items inv i m low at inside
     c.index_mut.result.now c.index_mut.ensures.value in
     let same = subst (λ (r : Played g.row.O-Alloc.Denot). happens object (world_of object r) c.args.event.now
-    ≡ stepped object (world_of object r) i c.args.input) (sym c.self.view_is) c.requires.same in
-    let answers = c.in-Ok.ensures.answers ∙ ap (λ (x : Node g.row.O-Alloc.Denot). (node_step object x c.args.input).answers) node in
+    ≡ stepped object (world_of object r) i c.args.input.now) (sym c.self.view_is) c.requires.same in
+    let answers = c.in-Ok.ensures.answers ∙ ap (λ (x : Node g.row.O-Alloc.Denot). (node_step object x c.args.input.now).answers) node in
     subst (λ (r : Played g.row.O-Alloc.Denot). Goes object c.args.event.now r q) c.self.view_is
     (step_goes object p k.nodes.items k.spares.items k.frames.frames k.history.items inv i m low at inside q
-    c.args.event.now c.in_ok-kept.kept c.args.input c.in_ok-kept.ensures.ok same refl
+    c.args.event.now c.in_ok-kept.kept c.args.input.now c.in_ok-kept.ensures.ok same refl
     (c.push_reserved.ensures.items ∙ ap (λ es. es ++ c.in_ok-kept.kept ∷ []) c.in_ok-make_room.ensures.events)
     (c.tell.ensures.told ∙ ap (λ ts. ts ++ told_by i c.in-Ok.outs.answers.items) c.in_ok-make_room.ensures.told
     ∙ ap (λ xs. k.told.items ++ told_by i xs) answers))
@@ -206,15 +206,15 @@ invariant_of-self-in-Stopped g c =
     let node = node_is object p k.nodes.items k.spares.items k.frames.frames k.history.items inv i m low at inside
     c.index_mut.result.now c.index_mut.ensures.value in
     let same = subst (λ (q : Played g.row.O-Alloc.Denot). happens object (world_of object q) c.args.event.now
-    ≡ stepped object (world_of object q) i c.args.input) (sym c.self.view_is) c.requires.same in
+    ≡ stepped object (world_of object q) i c.args.input.now) (sym c.self.view_is) c.requires.same in
     let stopped = was_stopped (is_stopped c.index_mut.result.now.core.state) c.in-Err.fault c.in-Err.ensures.refused c.in-Stopped.is in
-    subst (λ es. IsWorld object k.fixed es (slice_set k.nodes.items m c.step.new.self)
+    subst (λ es. IsWorld object k.fixed es (slice_set k.nodes.items m c.hand.new.node)
     k.spares.items c.make_room.new.frames.frames c.make_room.new.history.items)
     (sym (c.push_reserved-in-Stopped.ensures.items ∙ ap (λ es. es ++ c.in_ok-kept.kept ∷ []) c.in_ok-make_room.ensures.events))
     (rw (c.in_ok-make_room.ensures.frames, c.in_ok-make_room.ensures.history)
     (silent_world object p k.nodes.items k.spares.items k.frames.frames k.history.items inv i m low at inside
-    c.args.event.now c.in_ok-kept.kept c.args.input c.in_ok-kept.ensures.ok
-    (steps_fits (world_of object c.args.self.now) c.args.event.now i c.requires.steps) same c.step.new.self (slice_set k.nodes.items m c.step.new.self)
+    c.args.event.now c.in_ok-kept.kept c.args.input.now c.in_ok-kept.ensures.ok
+    (steps_fits (world_of object c.args.self.now) c.args.event.now i c.requires.steps) same c.hand.new.node (slice_set k.nodes.items m c.hand.new.node)
     (ap (λ (x : Node g.row.O-Alloc.Denot). is_stopped x.core.state) (sym node) ∙ stopped) (c.in-Err.ensures.err ∙ ap node_stopped node) refl))
 
 pub returns-in-Stopped-clause-ok : goal.returns-in-Stopped-clause-ok
@@ -238,11 +238,11 @@ returns-in-Stopped-clause-ok g c =
     let node = node_is object p k.nodes.items k.spares.items k.frames.frames k.history.items inv i m low at inside
     c.index_mut.result.now c.index_mut.ensures.value in
     let same = subst (λ (r : Played g.row.O-Alloc.Denot). happens object (world_of object r) c.args.event.now
-    ≡ stepped object (world_of object r) i c.args.input) (sym c.self.view_is) c.requires.same in
+    ≡ stepped object (world_of object r) i c.args.input.now) (sym c.self.view_is) c.requires.same in
     let stopped = was_stopped (is_stopped c.index_mut.result.now.core.state) c.in-Err.fault c.in-Err.ensures.refused c.in-Stopped.is in
     subst (λ (r : Played g.row.O-Alloc.Denot). Goes object c.args.event.now r q) c.self.view_is
     (silent_goes object p k.nodes.items k.spares.items k.frames.frames k.history.items inv i m low at inside q
-    c.args.event.now c.in_ok-kept.kept c.args.input c.in_ok-kept.ensures.ok same
+    c.args.event.now c.in_ok-kept.kept c.args.input.now c.in_ok-kept.ensures.ok same
     (ap (λ (x : Node g.row.O-Alloc.Denot). is_stopped x.core.state) (sym node) ∙ stopped) refl
     (c.push_reserved-in-Stopped.ensures.items ∙ ap (λ es. es ++ c.in_ok-kept.kept ∷ []) c.in_ok-make_room.ensures.events) c.in_ok-make_room.ensures.told)
 
@@ -260,12 +260,12 @@ invariant_of-self-in_default g c =
     let inv = c.self.invariant in
     let node = node_is object p k.nodes.items k.spares.items k.frames.frames k.history.items inv i m low at inside
     c.index_mut.result.now c.index_mut.ensures.value in
-    subst (λ es. IsWorld object k.fixed es (slice_set k.nodes.items m c.step.new.self)
+    subst (λ es. IsWorld object k.fixed es (slice_set k.nodes.items m c.hand.new.node)
     k.spares.items c.make_room.new.frames.frames c.make_room.new.history.items)
     (sym (c.push_reserved-in_default.ensures.items ∙ ap (λ es. es ++ Stop i ∷ []) c.in_ok-make_room.ensures.events))
     (rw (c.in_ok-make_room.ensures.frames, c.in_ok-make_room.ensures.history)
     (stop_world object p k.nodes.items k.spares.items k.frames.frames k.history.items inv i m low at inside
-    c.step.new.self (slice_set k.nodes.items m c.step.new.self)
+    c.hand.new.node (slice_set k.nodes.items m c.hand.new.node)
     (c.in-Err.ensures.err ∙ ap node_stopped node) refl))
 
 pub returns-in_default : goal.returns-in_default
