@@ -5,10 +5,10 @@ ghost use Rattle.std.specs.List.Sorted.{IsStrictlyIncreasing};
 ghost use Rattle.ring_base.specs.Numbers.{max_number};
 ghost use Rattle.ring_base.specs.declared.fault.Fault.TheVariants.{Memory};
 ghost use Rattle.ring_payload.specs.declared.content.Payload.{Payload as OnePayload};
-ghost use Rattle.ring_window.specs.Held.{front_of};
+ghost use Rattle.ring_window.specs.Held.{front_of, missing};
 ghost use Rattle.ring_window.specs.Windows.{opened, forgotten};
 ghost use Rattle.ring_token.specs.Turns.{turns_of};
-ghost use Rattle.ring_token.specs.Visits.{token_after};
+ghost use Rattle.ring_token.specs.Visits.{token_after, requests_after};
 ghost use Rattle.ring_token.specs.Histories.{unvisited, turn_by, with_turn, mark_of, last_aru};
 ghost use Rattle.ring_parts.specs.Setting.{turn_in};
 
@@ -44,28 +44,55 @@ impl<A: Allocator + Copy> Part<A> {
     /// safe by now. Answers the token as it goes on, which asks for `stays` and for what is missing.
     pub fn pass(
         &mut self,
-        token: Token,
+        token: &Token,
         stays: &Requests,
         count: u64,
         fresh: &Past<[Payload<A>; 0]>,
     ) -> Token
-        requires ring { token.ring ≡ self.old.visit.ring }
-        requires number { token.number < max_number }
-        requires seq { token.seq + count ≤ max_number }
+        requires ring { token.now.ring ≡ self.old.visit.ring }
+        requires number { token.now.number < max_number }
+        requires seq { token.now.seq + count ≤ max_number }
         requires count { length fresh.now.value ≡ count }
         requires stays { IsStrictlyIncreasing stays.now }
         requires reached { mark_of self.old.visit ≤ front_of self.old.window.held self.old.window.ring }
         requires led { last_aru (turns_of self.old.visit.ring self.old.visit.turns) ≤ front_of self.old.window.held self.old.window.ring }
-        ensures token { result ≡ (turn_in self.old.window self.old.visit token stays.now fresh.now.value).went }
-        ensures visit { self.new.visit ≡ with_turn self.old.visit (turn_in self.old.window self.old.visit token stays.now fresh.now.value) }
+        ensures token { result ≡ (turn_in self.old.window self.old.visit token.now stays.now fresh.now.value).went }
+        ensures visit { self.new.visit ≡ with_turn self.old.visit (turn_in self.old.window self.old.visit token.now stays.now fresh.now.value) }
         ensures window { self.new.window ≡ forgotten self.old.window (mark_of self.new.visit) }
     {
-        let missing = self.window.missing(token.seq + count);
-        let requests = requests_after(stays, &missing);
+        let requests = self.requests_now(stays, token.seq + count);
         let front = self.window.front();
-        let token = visit_as(&mut self.visit, token, front, count, requests, fresh);
+        let token = copied(token);
+        let went = visit_as(&mut self.visit, token, front, count, requests, fresh);
         self.window.forget(self.visit.safe());
-        token
+        went
+    }
+
+    /// What is asked for now, where these requests stay and the messages have numbers up to `upto`.
+    fn requests_now(&self, stays: &Requests, upto: u64) -> Requests
+        requires { IsStrictlyIncreasing stays.now }
+        ensures { result ≡ requests_after stays.now (missing self.now.window.held self.now.window.ring self.now.window.mark upto) }
+    {
+        let missing = self.window.missing(upto);
+        if stays.as_slice().is_empty() {
+            missing
+        } else {
+            requests_after(stays, &missing)
+        }
+    }
+}
+
+/// The same token.
+pub(crate) fn copied(token: &Token) -> Token
+    ensures { result ≡ token.now }
+{
+    Token {
+        ring: token.ring,
+        number: token.number,
+        seq: token.seq,
+        aru: token.aru,
+        aru_id: token.aru_id,
+        requests: token.requests.copied(),
     }
 }
 

@@ -332,6 +332,9 @@ impl<A: Allocator + Copy + Drop> Course<A> {
     }
 }
 
+/// Room for so many frames is made with the first that a step sends: seldom more are sent.
+const FEW: usize = 2;
+
 /// Adds a frame that goes to these.
 fn add_send<A: Allocator + Copy>(
     to: ProcSet,
@@ -341,6 +344,9 @@ fn add_send<A: Allocator + Copy>(
     ensures ok { OnOk result (sends.new.items ≡ sends.old.items ++ record { to = to; frame = frame } ∷ []) }
     ensures refused { IfErr result (λ fault. fault ≡ Memory) }
 {
+    if sends.is_empty() {
+        sends.reserve_exact(FEW)?;
+    }
     sends.push(Sent { to, frame })?;
     Ok(())
 }

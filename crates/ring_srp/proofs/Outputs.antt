@@ -10,7 +10,7 @@ use Rattle.ring_token.specs.Turns.{first_token}
 use Rattle.ring_core.specs.declared.input.Input.{Input}
 use Rattle.ring_core.specs.declared.out.Out.{Out}
 use Rattle.ring_core.specs.declared.out.Out.TheVariants.{Send}
-use Rattle.ring_core.specs.State.{Core, Sent, Did, all_of, formed}
+use Rattle.ring_core.specs.State.{Core, Sent, Did, Stepped, all_of, formed}
 use Rattle.ring_core.specs.Joining.{proposes}
 use Rattle.ring_core.specs.Deciding.{Act, decide}
 use Rattle.ring_core.specs.Acting.{act, may_follow, silently, proposed_after, done}
@@ -88,24 +88,33 @@ settled_outs : {A : Type 0} (b : Bool) (c : Core A) (outs : List (Out A)) → ou
 settled_outs true c outs = refl
 settled_outs false c outs = append-nil outs
 
-pub step_core : {A : Type 0} (c mid : Core A) (a : Act A) (input : Input A) → a ≡ decide c input → mid ≡ (done c a).core
-    → (settle (may_install mid) mid []).core ≡ (ring_step c input).core
-unfolding ring_step
-step_core {A} c mid a input d e =
+pub delivered_core : {A : Type 0} (c mid : Core A) (a : Act A) → mid ≡ (done c a).core
+    → (settle (may_install mid) mid []).core ≡ (delivered c (done c a)).core
+delivered_core {A} c mid a e =
     let did = done c a in
     ap (λ (m : Core A). (settle (may_install m) m []).core) e
     ∙ settled_core (may_install did.core) did.core (sent did.sends ++ given c did.core)
-    ∙ ap (λ (b : Act A). (delivered c (done c b)).core) d
 
-pub step_outs : {A : Type 0} (c mid : Core A) (a : Act A) (input : Input A) (outs : List (Out A)) → a ≡ decide c input → mid ≡ (done c a).core
-    → outs ≡ sent (done c a).sends ++ given c mid → outs ++ (settle (may_install mid) mid []).outs ≡ (ring_step c input).outs
-unfolding ring_step
-step_outs {A} c mid a input outs d e o =
+pub delivered_outs : {A : Type 0} (c mid : Core A) (a : Act A) (outs : List (Out A)) → mid ≡ (done c a).core
+    → outs ≡ sent (done c a).sends ++ given c mid → outs ++ (settle (may_install mid) mid []).outs ≡ (delivered c (done c a)).outs
+delivered_outs {A} c mid a outs e o =
     let did = done c a in
     ap (λ (xs : List (Out A)). xs ++ (settle (may_install mid) mid []).outs) o
     ∙ ap (λ (m : Core A). (sent did.sends ++ given c m) ++ (settle (may_install m) m []).outs) e
     ∙ settled_outs (may_install did.core) did.core (sent did.sends ++ given c did.core)
-    ∙ ap (λ (b : Act A). (delivered c (done c b)).outs) d
+
+-- the act that is decided makes the step
+pub decided_step : {A : Type 0} (c : Core A) (a : Act A) (input : Input A) → a ≡ decide c input → delivered c (done c a) ≡ ring_step c input
+unfolding ring_step
+decided_step {A} c a input d = ap (λ (b : Act A). delivered c (done c b)) d
+
+pub step_core : {A : Type 0} (c mid : Core A) (a : Act A) (input : Input A) → a ≡ decide c input → mid ≡ (done c a).core
+    → (settle (may_install mid) mid []).core ≡ (ring_step c input).core
+step_core {A} c mid a input d e = delivered_core c mid a e ∙ ap (λ (s : Stepped A). s.core) (decided_step c a input d)
+
+pub step_outs : {A : Type 0} (c mid : Core A) (a : Act A) (input : Input A) (outs : List (Out A)) → a ≡ decide c input → mid ≡ (done c a).core
+    → outs ≡ sent (done c a).sends ++ given c mid → outs ++ (settle (may_install mid) mid []).outs ≡ (ring_step c input).outs
+step_outs {A} c mid a input outs d e o = delivered_outs c mid a outs e o ∙ ap (λ (s : Stepped A). s.outs) (decided_step c a input d)
 
 -- what was sent and given, of what the code keeps
 pub given_outs : {A : Type 0} (c mid : Core A) (sends : List (Sent A)) (none first outs : List (Out A)) (ring : RingId) (reached safe : ℕ) → none ≡ []

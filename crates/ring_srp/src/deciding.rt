@@ -1,12 +1,14 @@
 //! What an input comes to: the tests.
 
-ghost use Rattle.std.specs.Prelude.{◌≡◌, ◌&&◌, true, None};
+ghost use Rattle.std.specs.Prelude.{◌≡◌, ◌&&◌, true, None, IfSome, if◌then◌else◌};
 ghost use Rattle.ring_payload.specs.Packing.{is_queued};
 ghost use Rattle.ring_token.specs.Turns.{first_token};
 ghost use Rattle.ring_srp.specs.Acts.{act_of};
 ghost use Rattle.ring_core.specs.Deciding.{decide, decide_frame, decide_token, decide_join, decide_commit};
 ghost use Rattle.ring_core.specs.Deciding.{decide_round, decide_time, decide_payload, decide_user, heard_in_gather};
 ghost use Rattle.ring_core.specs.Deciding.{heard_elsewhere, overhear, is_taken};
+ghost use Rattle.ring_core.specs.Deciding.{Visit as VisitAct, Ignore as IgnoreAct};
+ghost use Rattle.ring_core.specs.declared.input.Input.TheVariants.{Frame as FrameInput};
 ghost use Rattle.ring_core.specs.Joining.{disturbs};
 ghost use Rattle.ring_core.specs.Handing.{takes_first_round, takes_second_round, takes_start};
 ghost use Rattle.ring_srp.specs.Machines.{is_running, ring_in_use};
@@ -42,6 +44,22 @@ impl<A: Allocator + Copy> Machine<A> {
             }
             Input::Timeout(kind) => self.decide_time(kind),
             Input::Send(payload) => self.decide_payload(payload),
+        }
+    }
+
+    /// The token that a frame is, if it is visited.
+    pub(crate) fn visited_by<'a>(&self, frame: &'a Frame<A>) -> Option<&'a Token>
+        ensures { IfSome result (λ token. VisitAct token.now ≡ decide self.now (FrameInput frame.now)) }
+    {
+        match frame {
+            Frame::Token(token) => {
+                if is_named(self.fixed, frame) && self.visits(token) {
+                    Some(token)
+                } else {
+                    None
+                }
+            }
+            _ => None,
         }
     }
 
@@ -92,15 +110,20 @@ impl<A: Allocator + Copy> Machine<A> {
     fn decide_token(&self, token: Token) -> Act<A>
         ensures { act_of result ≡ decide_token self.now.state self.now token }
     {
+        if self.visits(&token) {
+            Act::Visit(token)
+        } else {
+            Act::Ignore
+        }
+    }
+
+    /// Whether a token is visited, else ignored: a ring runs, where it is accepted.
+    fn visits(&self, token: &Token) -> bool
+        ensures { decide_token self.now.state self.now token.now ≡ (if result then VisitAct token.now else IgnoreAct) }
+    {
         match self.state {
-            State::Recovery | State::Operational => {
-                if self.accepts(&token) {
-                    Act::Visit(token)
-                } else {
-                    Act::Ignore
-                }
-            }
-            State::Gather | State::Commit | State::Stopped => Act::Ignore,
+            State::Recovery | State::Operational => self.accepts(token),
+            State::Gather | State::Commit | State::Stopped => false,
         }
     }
 

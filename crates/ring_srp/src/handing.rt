@@ -29,6 +29,20 @@ impl<A: Allocator + Copy> Machine<A> {
         ensures outs { OnOk result (outs.new.items ≡ outs.old.items ++ sent (proposed_after (proposes self.old) (silently self.old)).sends) }
         ensures refused { IfErr result (λ fault. fault ≡ Memory) }
     {
+        if self.proposes() {
+            self.propose(outs)
+        } else {
+            Ok(())
+        }
+    }
+
+    /// Takes part in the ring that is proposed, where one is due.
+    #[inline(never)]
+    fn propose(&mut self, outs: &mut Vec<Out<A>, A>) -> Result<(), Fault>
+        ensures core { OnOk result (self.new ≡ (proposed_after (proposes self.old) (silently self.old)).core) }
+        ensures outs { OnOk result (outs.new.items ≡ outs.old.items ++ sent (proposed_after (proposes self.old) (silently self.old)).sends) }
+        ensures refused { IfErr result (λ fault. fault ≡ Memory) }
+    {
         // Read, so that what always holds of a machine is known here: `me` is a processor of the run.
         let _me = &self.me;
         match self.due() {

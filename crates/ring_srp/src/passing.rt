@@ -24,20 +24,20 @@ impl<A: Allocator + Copy> Machine<A> {
     /// safe mark may rise, up to which the window forgets. What carries these `count` new messages is told by `fresh`.
     pub(crate) fn pass_token(
         &mut self,
-        token: Token,
+        token: &Token,
         stays: &Requests,
         count: u64,
         fresh: &Past<[Payload<A>; 0]>,
         outs: &mut Vec<Out<A>, A>,
     ) -> Result<(), Fault>
         requires runs { is_running self.old.state ≡ true }
-        requires ring { token.ring ≡ self.old.running.ring }
-        requires number { token.number < max_number }
-        requires seq { token.seq + count ≤ max_number }
+        requires ring { token.now.ring ≡ self.old.running.ring }
+        requires number { token.now.number < max_number }
+        requires seq { token.now.seq + count ≤ max_number }
         requires count { length fresh.now.value ≡ count }
         requires stays { IsStrictlyIncreasing stays.now }
-        ensures core { OnOk result (self.new ≡ passed_on self.old token stays.now fresh.now.value) }
-        ensures outs { OnOk result (outs.new.items ≡ outs.old.items ++ sent (to_next self.old (went self.old token stays.now count) ∷ [])) }
+        ensures core { OnOk result (self.new ≡ passed_on self.old token.now stays.now fresh.now.value) }
+        ensures outs { OnOk result (outs.new.items ≡ outs.old.items ++ sent (to_next self.old (went self.old token.now stays.now count) ∷ [])) }
         ensures refused { IfErr result (λ fault. fault ≡ Memory) }
     {
         self.pass_on(token, stays, count, fresh)?;
@@ -47,18 +47,18 @@ impl<A: Allocator + Copy> Machine<A> {
     /// The token as it goes to the next member is shown, and the visit is a fact.
     fn pass_on(
         &mut self,
-        token: Token,
+        token: &Token,
         stays: &Requests,
         count: u64,
         fresh: &Past<[Payload<A>; 0]>,
     ) -> Result<(), Fault>
         requires runs { is_running self.old.state ≡ true }
-        requires ring { token.ring ≡ self.old.running.ring }
-        requires number { token.number < max_number }
-        requires seq { token.seq + count ≤ max_number }
+        requires ring { token.now.ring ≡ self.old.running.ring }
+        requires number { token.now.number < max_number }
+        requires seq { token.now.seq + count ≤ max_number }
         requires count { length fresh.now.value ≡ count }
         requires stays { IsStrictlyIncreasing stays.now }
-        ensures core { OnOk result (self.new ≡ passed_on self.old token stays.now fresh.now.value) }
+        ensures core { OnOk result (self.new ≡ passed_on self.old token.now stays.now fresh.now.value) }
         ensures refused { IfErr result (λ fault. fault ≡ Memory) }
     {
         match self.state {
@@ -73,18 +73,18 @@ impl<A: Allocator + Copy> Machine<A> {
     /// In Recovery what the window may forget stands aside first.
     fn pass_running(
         &mut self,
-        token: Token,
+        token: &Token,
         stays: &Requests,
         count: u64,
         fresh: &Past<[Payload<A>; 0]>,
     ) -> Result<(), Fault>
         requires state { self.old.state ≡ InRecovery }
-        requires ring { token.ring ≡ self.old.running.ring }
-        requires number { token.number < max_number }
-        requires seq { token.seq + count ≤ max_number }
+        requires ring { token.now.ring ≡ self.old.running.ring }
+        requires number { token.now.number < max_number }
+        requires seq { token.now.seq + count ≤ max_number }
         requires count { length fresh.now.value ≡ count }
         requires stays { IsStrictlyIncreasing stays.now }
-        ensures core { OnOk result (self.new ≡ passed_on self.old token stays.now fresh.now.value) }
+        ensures core { OnOk result (self.new ≡ passed_on self.old token.now stays.now fresh.now.value) }
         ensures refused { IfErr result (λ fault. fault ≡ Memory) }
     {
         let to = ProcSet::only(self.running.members.next(self.me));
@@ -100,18 +100,18 @@ impl<A: Allocator + Copy> Machine<A> {
     /// In Operational the running ring is the installed one.
     fn pass_installed(
         &mut self,
-        token: Token,
+        token: &Token,
         stays: &Requests,
         count: u64,
         fresh: &Past<[Payload<A>; 0]>,
     )
         requires state { self.old.state ≡ InOperational }
-        requires ring { token.ring ≡ self.old.running.ring }
-        requires number { token.number < max_number }
-        requires seq { token.seq + count ≤ max_number }
+        requires ring { token.now.ring ≡ self.old.running.ring }
+        requires number { token.now.number < max_number }
+        requires seq { token.now.seq + count ≤ max_number }
         requires count { length fresh.now.value ≡ count }
         requires stays { IsStrictlyIncreasing stays.now }
-        ensures { self.new ≡ passed_on self.old token stays.now fresh.now.value }
+        ensures { self.new ≡ passed_on self.old token.now stays.now fresh.now.value }
     {
         let to = ProcSet::only(self.running.members.next(self.me));
         let token = self.kept.pass(token, stays, count, fresh);
@@ -120,10 +120,17 @@ impl<A: Allocator + Copy> Machine<A> {
     }
 }
 
-/// A token is the last that was sent.
+/// A token is the last that was sent: it takes the place of the one before it.
 fn show<A: Allocator + Copy>(shown: &mut Option<Sent<A>>, to: ProcSet, token: Token)
     ensures { shown.new ≡ Some (record { to = to; frame = TokenFrame token }) }
 {
+    if let Some(sent) = shown {
+        if let Frame::Token(kept) = &mut sent.frame {
+            *kept = token;
+            sent.to = to;
+            return;
+        }
+    }
     *shown = Some(Sent {
         to,
         frame: Frame::Token(token),

@@ -1,12 +1,13 @@
 //! The ring core of one processor.
 
-ghost use Rattle.std.specs.Prelude.{◌≡◌, ◌≤◌, false, [], if◌then◌else◌, IfOk, IfErr, OnOk, OnErr};
+ghost use Rattle.std.specs.Prelude.{◌≡◌, ◌≤◌, false, [], None, if◌then◌else◌, IfOk, IfErr, OnOk, OnErr};
 ghost use Rattle.ring_base.specs.declared.fault.Fault.TheVariants.{Memory, Stopped as StoppedFault};
 ghost use Rattle.ring_core.specs.Giving.{sent};
 ghost use Rattle.ring_core.specs.State.{all_of, opening, formed, halted};
 ghost use Rattle.ring_core.specs.Stepping.{ring_step};
 ghost use Rattle.ring_core.specs.Visiting.{visited};
-ghost use Rattle.ring_core.specs.declared.input.Input.TheVariants.{Send as SendInput};
+ghost use Rattle.ring_core.specs.declared.input.Input.TheVariants.{Frame as FrameInput, Send as SendInput};
+ghost use Rattle.ring_wire.specs.Frames.{FrameFits};
 ghost use Rattle.ring_srp.specs.Allowing.{InputFits};
 ghost use Rattle.ring_srp.specs.Machines.{is_stopped};
 ghost use Rattle.ring_token.specs.Turns.{first_token};
@@ -17,6 +18,7 @@ use ring_base::{Fault, Fixed, Past, Proc, RingId, State, past_of};
 use ring_commit::Configuration;
 use ring_core::{Input, Out};
 use ring_payload::Payload;
+use ring_wire::Frame;
 use std::alloc::{Allocator, Global};
 use std::marker::Model;
 
@@ -87,7 +89,7 @@ impl<A: Allocator + Copy> Srp<A> {
         let mut machine = Machine::formed(alloc, fixed, Proc::new(1))?;
         let mut outs = Vec::new(alloc);
         let token = first_token(all_of(fixed).ring);
-        machine.visit(token, &mut outs)?;
+        machine.visit(&token, &mut outs)?;
         let last = machine.installed;
         let before = seen(&machine);
         let srp = Srp {
@@ -117,7 +119,32 @@ impl<A: Allocator + Copy> Srp<A> {
         match machine.step(input) {
             Ok(outs) => Ok(outs),
             Err(refused) => {
-                self.machine = None;
+                let_go(&mut self.machine);
+                self.last = last;
+                self.before = before;
+                Err(refused)
+            }
+        }
+    }
+
+    /// The same for a frame that the caller keeps: the core copies it, unless it is a token.
+    pub fn hear(&mut self, frame: &Frame<A>) -> Result<Vec<Out<A>, A>, Fault>
+        requires fits { FrameFits frame.now }
+        ensures outs { IfOk result (λ outs. outs.items ≡ (ring_step self.old (FrameInput frame.now)).outs) }
+        ensures ok { OnOk result (self.new ≡ (ring_step self.old (FrameInput frame.now)).core) }
+        ensures running { OnOk result (is_stopped self.old.state ≡ false) }
+        ensures err { OnErr result (self.new ≡ halted self.old) }
+        ensures refused { IfErr result (λ fault. fault ≡ (if is_stopped self.old.state then StoppedFault else Memory)) }
+    {
+        let Some(machine) = &mut self.machine else {
+            return Err(Fault::Stopped);
+        };
+        let last = machine.installed;
+        let before = seen(machine);
+        match machine.hear(frame) {
+            Ok(outs) => Ok(outs),
+            Err(refused) => {
+                let_go(&mut self.machine);
                 self.last = last;
                 self.before = before;
                 Err(refused)
@@ -173,6 +200,14 @@ impl<A: Allocator + Copy> Srp<A> {
             None => self.last.ring,
         }
     }
+}
+
+/// Lets a machine go, with all that it kept.
+#[inline(never)]
+fn let_go<A: Allocator + Copy>(machine: &mut Option<Machine<A>>)
+    ensures { machine.new ≡ None }
+{
+    *machine = None;
 }
 
 /// A value as it is now, as contracts see it.

@@ -2,12 +2,14 @@
 
 ghost use Rattle.std.specs.Prelude.{◌≡◌, ◌≤◌, ◌++◌, ◌∷◌, [], false, IfOk, IfErr, OnOk, OnErr};
 ghost use Rattle.ring_base.specs.declared.fault.Fault.TheVariants.{Memory};
+ghost use Rattle.ring_wire.specs.Frames.{FrameFits};
 ghost use Rattle.ring_core.specs.Acting.{act, may_follow, done};
-ghost use Rattle.ring_core.specs.Giving.{sent, may_install};
+ghost use Rattle.ring_core.specs.Deciding.{Visit as VisitAct};
+ghost use Rattle.ring_core.specs.Giving.{sent, may_install, delivered};
 ghost use Rattle.ring_core.specs.Stepping.{ring_step};
-ghost use Rattle.ring_core.specs.declared.input.Input.TheVariants.{Send as SendInput};
+ghost use Rattle.ring_core.specs.declared.input.Input.TheVariants.{Frame as FrameInput, Send as SendInput};
 ghost use Rattle.ring_srp.specs.Acts.{act_of};
-ghost use Rattle.ring_srp.specs.Allowing.{Allows, InputFits};
+ghost use Rattle.ring_srp.specs.Allowing.{Allows, InputFits, VisitAllowed};
 ghost use Rattle.ring_srp.specs.Machines.{is_stopped};
 
 use crate::act::Act;
@@ -16,6 +18,7 @@ use ring_base::{Fault, State};
 use ring_core::{Input, Out};
 use ring_packing::is_queued;
 use ring_payload::Payload;
+use ring_wire::{Frame, Token};
 use std::alloc::Allocator;
 
 impl<A: Allocator + Copy> Machine<A> {
@@ -36,13 +39,74 @@ impl<A: Allocator + Copy> Machine<A> {
         Ok(outs)
     }
 
-    /// For how many outputs an act needs room that is told beforehand. A visit sends again what was asked for, then its new
-    /// messages and the token; the new messages may be agreed at once, and the safe mark may rise.
+    /// The same for a frame that the caller keeps. A token that is visited isn't copied.
+    pub(crate) fn hear(&mut self, frame: &Frame<A>) -> Result<Vec<Out<A>, A>, Fault>
+        requires { FrameFits frame.now }
+        ensures outs { IfOk result (λ outs. outs.items ≡ (ring_step self.old (FrameInput frame.now)).outs) }
+        ensures core { OnOk result (self.new ≡ (ring_step self.old (FrameInput frame.now)).core) }
+        ensures running { OnOk result (is_stopped self.old.state ≡ false) }
+        ensures refused { IfErr result (λ fault. fault ≡ Memory) }
+    {
+        match self.visited_by(frame) {
+            Some(token) => self.pass_by(token),
+            None => self.step_copy(frame),
+        }
+    }
+
+    /// One step, of a copy of a frame.
+    #[inline(never)]
+    fn step_copy(&mut self, frame: &Frame<A>) -> Result<Vec<Out<A>, A>, Fault>
+        requires { FrameFits frame.now }
+        ensures outs { IfOk result (λ outs. outs.items ≡ (ring_step self.old (FrameInput frame.now)).outs) }
+        ensures core { OnOk result (self.new ≡ (ring_step self.old (FrameInput frame.now)).core) }
+        ensures running { OnOk result (is_stopped self.old.state ≡ false) }
+        ensures refused { IfErr result (λ fault. fault ≡ Memory) }
+    {
+        let copy = copied(frame)?;
+        self.step(Input::Frame(copy))
+    }
+
+    /// One step, of a token that is visited.
+    fn pass_by(&mut self, token: &Token) -> Result<Vec<Out<A>, A>, Fault>
+        requires { VisitAllowed self.old token.now }
+        ensures outs { IfOk result (λ outs. outs.items ≡ (delivered self.old (done self.old (VisitAct token.now))).outs) }
+        ensures core { OnOk result (self.new ≡ (delivered self.old (done self.old (VisitAct token.now))).core) }
+        ensures running { is_stopped self.old.state ≡ false }
+        ensures refused { IfErr result (λ fault. fault ≡ Memory) }
+    {
+        let before = self.reached();
+        let mut outs = Vec::with_capacity(self.alloc, self.room_for_visit(token))?;
+        self.visit_through(token, &mut outs)?;
+        self.give(before, &mut outs)?;
+        self.install_if_due(&mut outs)?;
+        Ok(outs)
+    }
+
+    /// A token is visited, and then a ring may be proposed.
+    fn visit_through(&mut self, token: &Token, outs: &mut Vec<Out<A>, A>) -> Result<(), Fault>
+        requires { VisitAllowed self.old token.now }
+        ensures core { OnOk result (self.new ≡ (done self.old (VisitAct token.now)).core) }
+        ensures outs { OnOk result (outs.new.items ≡ outs.old.items ++ sent (done self.old (VisitAct token.now)).sends) }
+        ensures refused { IfErr result (λ fault. fault ≡ Memory) }
+    {
+        self.visit(token, outs)?;
+        self.propose_if_due(outs)
+    }
+
+    /// For how many outputs a visit needs room that is told beforehand: it sends again what was asked for, then its new messages
+    /// and the token; the new messages may be agreed at once, and the safe mark may rise.
+    fn room_for_visit(&self, token: &Token) -> usize
+        ensures { result ≤ 50 }
+    {
+        token.requests.as_slice().len() + 2 * self.most_new() + 2
+    }
+
+    /// For how many outputs an act needs room that is told beforehand.
     fn room_for(&self, what: &Act<A>) -> usize
         ensures { result ≤ 50 }
     {
         match what {
-            Act::Visit(token) => token.requests.as_slice().len() + 2 * self.most_new() + 2,
+            Act::Visit(token) => self.room_for_visit(token),
             _ => 0,
         }
     }
@@ -144,7 +208,7 @@ impl<A: Allocator + Copy> Machine<A> {
                 self.announce(outs)
             }
             Act::Take(message) => self.take(message),
-            Act::Visit(token) => self.visit(token, outs),
+            Act::Visit(token) => self.visit(&token, outs),
             Act::Fill(boxed) => self.fill(boxed.token(), outs),
             Act::Learn(boxed) => self.learn(boxed.token(), outs),
         }
@@ -156,4 +220,13 @@ fn may_follow<A: Allocator + Copy>(what: &Act<A>) -> bool
     ensures { result ≡ may_follow (act_of what.now) }
 {
     !matches!(what, Act::Ignore | Act::Enqueue(_))
+}
+
+/// A copy of a frame, or `Memory`.
+fn copied<A: Allocator + Copy>(frame: &Frame<A>) -> Result<Frame<A>, Fault>
+    ensures ok { IfOk result (λ copy. copy ≡ frame.now) }
+    ensures refused { IfErr result (λ fault. fault ≡ Memory) }
+{
+    let copy = frame.clone()?;
+    Ok(copy)
 }

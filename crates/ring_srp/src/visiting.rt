@@ -25,18 +25,37 @@ use std::alloc::Allocator;
 impl<A: Allocator + Copy> Machine<A> {
     /// Visits an accepted token: what was asked for goes out again, new messages go out and are held at once, and the
     /// token goes on.
-    pub(crate) fn visit(&mut self, token: Token, outs: &mut Vec<Out<A>, A>) -> Result<(), Fault>
-        requires { VisitAllowed self.old token }
-        ensures core { OnOk result (self.new ≡ (visited self.old token).core) }
-        ensures outs { OnOk result (outs.new.items ≡ outs.old.items ++ sent (visited self.old token).sends) }
+    pub(crate) fn visit(&mut self, token: &Token, outs: &mut Vec<Out<A>, A>) -> Result<(), Fault>
+        requires { VisitAllowed self.old token.now }
+        ensures core { OnOk result (self.new ≡ (visited self.old token.now).core) }
+        ensures outs { OnOk result (outs.new.items ≡ outs.old.items ++ sent (visited self.old token.now).sends) }
         ensures refused { IfErr result (λ fault. fault ≡ Memory) }
     {
-        let stays = self.stays(&token);
-        self.repeat_requested(&token, outs)?;
-        let payloads = self.new_payloads(&token)?;
+        if token.requests.as_slice().is_empty() {
+            return self.visit_asked(token, &token.requests, outs);
+        }
+        let stays = self.stays(token);
+        self.visit_asked(token, &stays, outs)
+    }
+
+    /// Visits an accepted token of whose requests these stay.
+    fn visit_asked(
+        &mut self,
+        token: &Token,
+        stays: &Requests,
+        outs: &mut Vec<Out<A>, A>,
+    ) -> Result<(), Fault>
+        requires allowed { VisitAllowed self.old token.now }
+        requires stays { stays.now ≡ left (mark self.old token.now.ring) (holds self.old.held token.now.ring) token.now.requests }
+        ensures core { OnOk result (self.new ≡ (visited self.old token.now).core) }
+        ensures outs { OnOk result (outs.new.items ≡ outs.old.items ++ sent (visited self.old token.now).sends) }
+        ensures refused { IfErr result (λ fault. fault ≡ Memory) }
+    {
+        self.repeat_requested(token, outs)?;
+        let payloads = self.new_payloads(token)?;
         let count = payloads.len() as u64;
-        let fresh = self.send_new(&token, payloads, outs)?;
-        self.pass_token(token, &stays, count, &fresh, outs)
+        let fresh = self.send_new(token, payloads, outs)?;
+        self.pass_token(token, stays, count, &fresh, outs)
     }
 
     /// The requests that stay: above the safe mark, and not held.

@@ -52,7 +52,7 @@ pass-token-requires g c =
     let is : s.state ≡ Recovery = ap (λ (x : Core g.row.A.Denot). x.state) c.self.view_is ∙ c.requires.state in
     let m : IsMachine core s.gather s.kept.window s.kept.visit (Some r) = subst
     (λ (q : Option (Recovering g.row.A.Denot)). IsMachine core s.gather s.kept.window s.kept.visit q) c.in-Some.is c.self.invariant in
-    let ring : c.args.token.ring ≡ s.running.ring = c.requires.ring ∙ sym (ap (λ (x : Core g.row.A.Denot). x.running.ring) c.self.view_is) in
+    let ring : c.args.token.now.ring ≡ s.running.ring = c.requires.ring ∙ sym (ap (λ (x : Core g.row.A.Denot). x.running.ring) c.self.view_is) in
     let q = c.set_aside.new.self.part in
     let p = (recovers_aside core r c.set_aside.new.self (m.recovering is) c.set_aside.ensures.more).part in (
       omega arith,
@@ -86,11 +86,11 @@ invariant_of-self-in-Some g c =
     let is : s.state ≡ Recovery = ap (λ (x : Core g.row.A.Denot). x.state) c.self.view_is ∙ c.requires.state in
     let m : IsMachine core s.gather s.kept.window s.kept.visit (Some r) = subst
     (λ (q : Option (Recovering g.row.A.Denot)). IsMachine core s.gather s.kept.window s.kept.visit q) c.in-Some.is c.self.invariant in
-    let ring : c.args.token.ring ≡ s.running.ring = c.requires.ring ∙ sym (ap (λ (x : Core g.row.A.Denot). x.running.ring) c.self.view_is) in
+    let ring : c.args.token.now.ring ≡ s.running.ring = c.requires.ring ∙ sym (ap (λ (x : Core g.row.A.Denot). x.running.ring) c.self.view_is) in
     let r' = c.set_aside.new.self in
     let e = c.pass-token.ensures in
     running_on s.me s.fixed.count s.state s.running s.installed s.gather.gathering s.shown s.queue.items s.held.value s.past.value s.gather s.kept.window
-    s.kept.visit r r' _ c.args.token c.args.stays.now c.args.fresh.now.value
+    s.kept.visit r r' _ c.args.token.now c.args.stays.now c.args.fresh.now.value
     c.show.new.shown c.with_visit.result.value m is c.set_aside.ensures.more c.in_ok-set_aside.ensures.all ring
     (c.with_visit.ensures ∙ ap (λ (y : TokenHistory g.row.A.Denot). with_visit s.past.value y.turns) e.visit)
     (record {
@@ -110,16 +110,16 @@ returns-in_ok-set_aside-clause-core g c =
     let is : s.state ≡ Recovery = ap (λ (x : Core g.row.A.Denot). x.state) c.self.view_is ∙ c.requires.state in
     let m : IsMachine core s.gather s.kept.window s.kept.visit (Some r) = subst
     (λ (q : Option (Recovering g.row.A.Denot)). IsMachine core s.gather s.kept.window s.kept.visit q) c.in-Some.is c.self.invariant in
-    let ring : c.args.token.ring ≡ s.running.ring = c.requires.ring ∙ sym (ap (λ (x : Core g.row.A.Denot). x.running.ring) c.self.view_is) in
+    let ring : c.args.token.now.ring ≡ s.running.ring = c.requires.ring ∙ sym (ap (λ (x : Core g.row.A.Denot). x.running.ring) c.self.view_is) in
     let q = c.set_aside.new.self.part in
     let p = (recovers_aside core r c.set_aside.new.self (m.recovering is) c.set_aside.ensures.more).part in
     passed_by s.me s.fixed.count s.state s.running s.installed s.gather.gathering s.shown s.queue.items s.held.value s.past.value s.gather s.kept.window
     s.kept.visit
-    q.window q.visit c.args.token c.args.stays.now c.args.fresh.now.value c.only-to.result c.pass-token.result c.show.new.shown c.with_visit.result.value
+    q.window q.visit c.args.token.now c.args.stays.now c.args.fresh.now.value c.only-to.result c.pass-token.result c.show.new.shown c.with_visit.result.value
     p ring
     (c.with_visit.ensures ∙ ap (λ (y : TokenHistory g.row.A.Denot). with_visit s.past.value y.turns) c.pass-token.ensures.visit) c.show.ensures
     (c.only-to.ensures.value ∙ ap only c.next.ensures.value) c.pass-token.ensures.token
-    ∙ ap (λ (x : Core g.row.A.Denot). passed_on x c.args.token c.args.stays.now c.args.fresh.now.value) c.self.view_is
+    ∙ ap (λ (x : Core g.row.A.Denot). passed_on x c.args.token.now c.args.stays.now c.args.fresh.now.value) c.self.view_is
 
 pub returns-in_default-clause-core : goal.returns-in_default-clause-core
 returns-in_default-clause-core g c =

@@ -4,7 +4,7 @@ use Rattle.ring_core.specs.State.{Sent}
 use Rattle.ring_core.specs.Giving.{sent}
 use Rattle.ring_srp.proofs.Outputs.{ok_to}
 use Rattle.ring_srp.proofs.Proposals.{due_here, due_core, due_sends, none_core, none_outs}
-use Rattle.ring_srp.proofs.machine.Machine.propose_if_due.Goals as goal
+use Rattle.ring_srp.proofs.machine.Machine.propose.Goals as goal
 
 pub join-requires-clause-state : goal.join-requires-clause-state
 join-requires-clause-state g c = (due_here _ _ _ _ c.self.view_is c.self.invariant.member.0 c.in-Some.is c.due.ensures).state
