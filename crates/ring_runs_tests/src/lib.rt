@@ -1,6 +1,16 @@
-//! What no contract of worlds of ring cores says: the worked rounds of three processors, and one with a silent third;
-//! that each request for memory succeeds where there is memory, and its refusal is told.
+//! What no contract of worlds of ring cores says: the worked runs of a ring of two that loses a message, of a ring of
+//! three that asks for two, of three processors that gather and install their first ring, of a silent one that is given
+//! up, and of two recoveries; the bytes of a frame; that each request for memory succeeds where there is memory, and how
+//! many events were done where one is refused.
 #![tactic(auto)]
 
+#[cfg(test)]
+mod lines;
+#[cfg(test)]
+mod memory;
+#[cfg(test)]
+mod pump;
+#[cfg(test)]
+mod steps;
 #[cfg(test)]
 mod tests;

@@ -1,126 +1,403 @@
-//! Three processors gather, and hand round a commit token; or one of them is silent.
+//! Worked runs. Expected values are those of `docs/PROTOCOL.md` and `docs/FORMATS.md`.
 
-use refusing_alloc::Refusing;
-use ring_base::{Fault, Fixed, Kind};
+use crate::lines::{Shown, lines_of};
+use crate::pump::pumped;
+use crate::steps::{Opening, event_of, ran};
+use ring_base::{Fault, Fixed, Proc};
 use ring_core::Out;
-use ring_runs::{Cores, RingEvent};
-use ring_wire::Frame;
-use std::alloc::Allocator;
+use ring_runs::Cores;
+use ring_wire::decode_frame;
+use std::alloc::{AllocError, Global};
+use std::process::Abort;
 use std::test::Fail;
 
-/// The copies of frames 1 to 9, each with its receiver, in the order in which they were sent.
-const COPIES: [(u8, u64); 12] = [
-    (2, 1),
-    (3, 1),
-    (1, 2),
-    (3, 2),
-    (1, 3),
-    (2, 3),
-    (2, 4),
-    (3, 5),
-    (1, 6),
-    (2, 7),
-    (3, 8),
-    (1, 9),
-];
+/// Three processors are told to gather.
+pub(crate) const JOINS: &str = "\
+join 1
+join 2
+join 3
+";
 
-/// A time of a processor is over.
-fn time<A: Allocator + Copy>(
-    world: Cores<A>,
-    fixed: Fixed,
-    node: u8,
-    kind: Kind,
-) -> Result<Cores<A>, Fault> {
-    let node = fixed.proc(node)?;
-    world.happens(&RingEvent::Timeout(node, kind))
+/// What three processors give that gather, and hand the commit token round twice: frames 1 to 11.
+const GATHERED: &str = "\
+1 to 2,3 join 1 number 0 procs 1,2,3 fails -
+2 to 1,3 join 2 number 0 procs 1,2,3 fails -
+3 to 1,2 join 3 number 0 procs 1,2,3 fails -
+1 to 2 commit 1.1 members 1,2,3 hop 1 entries 1
+2 to 3 commit 1.1 members 1,2,3 hop 2 entries 2
+3 to 1 commit 1.1 members 1,2,3 hop 3 entries 3
+1 to 2 commit 1.1 members 1,2,3 hop 4 entries 3
+2 to 3 commit 1.1 members 1,2,3 hop 5 entries 3
+3 to 1 commit 1.1 members 1,2,3 hop 6 entries 3
+1 to 2,3 message 1.1 seq 1 from 1 end
+1 to 2 token 1.1 number 1 seq 1 aru 1 id 0 asks -
+";
+
+/// The configurations that three processors come to.
+const CONFIGURED: &str = "\
+1 trans 0.1 1.1 of 1
+1 regular 1.1 of 1,2,3
+2 trans 0.2 1.1 of 2
+2 regular 1.1 of 1,2,3
+3 trans 0.3 1.1 of 3
+3 regular 1.1 of 1,2,3
+";
+
+/// The third processor is silent.
+const SILENT: &str = "\
+join 1
+join 2
+hand 1 2
+hand 2 1
+consensus 1
+hand 2 3
+hand 1 4
+";
+
+/// What the two others give.
+const GIVEN_UP: &str = "\
+1 to 2,3 join 1 number 0 procs 1,2,3 fails -
+2 to 1,3 join 2 number 0 procs 1,2,3 fails -
+1 to 2,3 join 1 number 0 procs 1,2,3 fails 3
+2 to 1,3 join 2 number 0 procs 1,2,3 fails 3
+1 to 2 commit 1.1 members 1,2 hop 1 entries 1
+";
+
+/// The join by which processor 1 tells that it gave up the third.
+const GIVING_UP: &[u8] = b"\x54\x52\x01\x03\0\0\0\x0d\x01\0\0\0\0\0\0\0\0\0\x07\0\x04";
+
+/// A message on a ring of two is lost.
+const LOSS: &str = "\
+call 2
+hand 2 1
+hand 1 3
+hand 2 4
+hand 1 5
+hand 1 5
+hand 1 6
+hand 2 7
+hand 1 8
+hand 2 9
+";
+
+/// What the two give.
+const LOST_AND_REPEATED: &str = "\
+2 to 1 message 1.1 seq 1 from 2 call
+2 to 1 token 1.1 number 2 seq 1 aru 1 id 0 asks -
+2 agreed 1.1 1
+1 to 2 token 1.1 number 3 seq 1 aru 0 id 1 asks 1
+2 to 1 message 1.1 seq 1 from 2 call
+2 to 1 token 1.1 number 4 seq 1 aru 0 id 1 asks -
+1 agreed 1.1 1
+1 to 2 token 1.1 number 5 seq 1 aru 1 id 0 asks -
+2 to 1 token 1.1 number 6 seq 1 aru 1 id 0 asks -
+1 to 2 token 1.1 number 7 seq 1 aru 1 id 0 asks -
+1 safe 1.1 1
+2 to 1 token 1.1 number 8 seq 1 aru 1 id 0 asks -
+2 safe 1.1 1
+";
+
+/// Timeouts on a ring of two, of which the retransmissions alone act: one kept token.
+const TIMEOUTS: &str = "\
+loss 2
+join 1
+consensus 1
+retransmit 2
+retransmit 1
+";
+
+/// The first token of a formed ring, sent again.
+const FIRST_TOKEN: &str = "1 to 2 token 1.1 number 1 seq 0 aru 0 id 0 asks -\n";
+
+/// Of ten messages on a ring of three the second processor lacks the last two. The token that tells it comes twice.
+const TWO_LACK: &str = "\
+head 3
+head 3
+head 3
+head 3
+head 3
+head 3
+head 3
+head 3
+hand 2 1
+hand 3 2
+hand 1 3
+hand 1 4
+hand 1 5
+hand 1 6
+hand 1 7
+hand 1 8
+hand 1 9
+hand 1 10
+hand 2 3
+hand 2 4
+hand 2 5
+hand 2 6
+hand 2 7
+hand 2 8
+hand 2 9
+hand 2 10
+head 1
+head 1
+hand 1 11
+hand 3 12
+hand 3 13
+hand 2 14
+hand 2 14
+hand 3 15
+hand 1 18
+hand 2 16
+hand 2 17
+hand 2 19
+hand 3 20
+hand 1 21
+hand 2 22
+hand 3 23
+hand 1 24
+";
+
+/// It asks for 9 and 10, the third processor sends them again and leaves the `aru` of another. The first forwards the
+/// `aru` 10, 8, 10, 10, and so has the safe marks 0, 8, 8, 10.
+const TWO_ASKED_FOR: &str = "\
+2 to 3 token 1.1 number 2 seq 0 aru 0 id 0 asks -
+3 to 1,2 message 1.1 seq 1 from 3 head
+3 to 1,2 message 1.1 seq 2 from 3 head
+3 to 1,2 message 1.1 seq 3 from 3 head
+3 to 1,2 message 1.1 seq 4 from 3 head
+3 to 1,2 message 1.1 seq 5 from 3 head
+3 to 1,2 message 1.1 seq 6 from 3 head
+3 to 1,2 message 1.1 seq 7 from 3 head
+3 to 1,2 message 1.1 seq 8 from 3 head
+3 to 1 token 1.1 number 3 seq 8 aru 8 id 0 asks -
+1 to 2,3 message 1.1 seq 9 from 1 head
+1 to 2,3 message 1.1 seq 10 from 1 head
+1 to 2 token 1.1 number 4 seq 10 aru 10 id 0 asks -
+2 to 3 token 1.1 number 5 seq 10 aru 8 id 2 asks 9 10
+3 to 1,2 message 1.1 seq 9 from 1 head
+3 to 1,2 message 1.1 seq 10 from 1 head
+3 to 1 token 1.1 number 6 seq 10 aru 8 id 2 asks -
+3 safe 1.1 8
+1 to 2 token 1.1 number 7 seq 10 aru 8 id 2 asks -
+1 safe 1.1 8
+2 to 3 token 1.1 number 8 seq 10 aru 10 id 0 asks -
+2 safe 1.1 8
+3 to 1 token 1.1 number 9 seq 10 aru 10 id 0 asks -
+1 to 2 token 1.1 number 10 seq 10 aru 10 id 0 asks -
+2 to 3 token 1.1 number 11 seq 10 aru 10 id 0 asks -
+2 safe 1.1 10
+3 to 1 token 1.1 number 12 seq 10 aru 10 id 0 asks -
+3 safe 1.1 10
+1 to 2 token 1.1 number 13 seq 10 aru 10 id 0 asks -
+1 safe 1.1 10
+";
+
+/// Two on a formed ring of which the first holds 1, 2 and 4, and the second 1, 2 and 3, form a ring anew.
+const GAPS_FILLED: &str = "\
+head 2
+head 2
+head 2
+hand 2 1
+hand 1 2
+hand 1 3
+head 1
+hand 1 5
+loss 1
+loss 2
+hand 1 9
+hand 2 8
+hand 2 10
+hand 1 11
+hand 2 12
+hand 1 13
+hand 2 14
+hand 2 15
+hand 2 16
+hand 1 17
+hand 1 18
+hand 1 19
+hand 2 20
+hand 1 21
+";
+
+/// Each sends again what the other lacks, and both deliver 1 to 4.
+const BOTH_DELIVER_FOUR: &str = "\
+1 to 2 message 2.1 seq 1 from 1 wraps 1.1 4
+2 to 1 message 2.1 seq 3 from 2 wraps 1.1 3
+2 trans 1.1 2.1 of 1,2
+2 rest 1.1 1
+2 rest 1.1 2
+2 rest 1.1 3
+2 rest 1.1 4
+2 regular 2.1 of 1,2
+1 trans 1.1 2.1 of 1,2
+1 rest 1.1 1
+1 rest 1.1 2
+1 rest 1.1 3
+1 rest 1.1 4
+1 regular 2.1 of 1,2
+";
+
+/// Of three on a formed ring the first holds 1, 2, its own 4, and 5 of the third, the second 1 and 2. They form a ring
+/// without the third.
+const GAP_LEFT: &str = "\
+head 3
+head 3
+head 3
+hand 2 1
+hand 3 2
+hand 1 3
+hand 1 4
+hand 2 3
+hand 2 4
+head 1
+hand 1 6
+hand 2 8
+head 3
+hand 3 9
+hand 1 11
+loss 1
+loss 2
+hand 1 14
+hand 2 13
+consensus 1
+hand 2 15
+hand 1 16
+hand 2 17
+hand 1 18
+hand 2 19
+hand 1 20
+hand 2 21
+hand 2 22
+hand 2 23
+hand 2 24
+hand 1 25
+hand 1 26
+hand 2 27
+hand 1 28
+";
+
+/// Past 3, which both lack, they deliver 4, and not the third's 5.
+const OUTSIDER_DISCARDED: &str = "\
+1 to 2 message 2.1 seq 1 from 1 wraps 1.1 4
+1 to 2 message 2.1 seq 2 from 1 wraps 1.1 5
+2 trans 1.1 2.1 of 1,2
+2 rest 1.1 1
+2 rest 1.1 2
+2 rest 1.1 4
+2 regular 2.1 of 1,2
+1 trans 1.1 2.1 of 1,2
+1 rest 1.1 1
+1 rest 1.1 2
+1 rest 1.1 4
+1 regular 2.1 of 1,2
+";
+
+/// What is given where all lines, so many of them, are done.
+fn given(
+    rt: &impl Abort,
+    alloc: Global,
+    from: (Opening, u8),
+    script: &str,
+    events: u64,
+) -> Result<Vec<(Proc, Out)>, Fault> {
+    let (done, outs) = ran(alloc, alloc, from, script, u64::MAX)?;
+    assert_eq!(rt; done, events);
+    outs.ok_or(Fault::Memory)
 }
 
-/// A processor is handed a frame.
-fn hand<A: Allocator + Copy>(
-    world: Cores<A>,
-    fixed: Fixed,
-    node: u8,
-    frame: u64,
-) -> Result<Cores<A>, Fault> {
-    let node = fixed.proc(node)?;
-    world.happens(&RingEvent::Deliver(node, frame))
-}
-
-/// All three gather, and the commit token goes round twice.
-fn gathered<A: Allocator + Copy>(alloc: A) -> Result<Cores<A>, Fault> {
-    let fixed = Fixed::new(3)?;
-    let mut world = Cores::unformed(alloc, fixed)?;
-    world = time(world, fixed, 1, Kind::Join)?;
-    world = time(world, fixed, 2, Kind::Join)?;
-    world = time(world, fixed, 3, Kind::Join)?;
-    for (node, frame) in COPIES {
-        world = hand(world, fixed, node, frame)?;
+/// What so many processors give from a formed ring, where each timeout acts.
+fn past_formed_ring(alloc: Global, count: u8, script: &str) -> Result<Vec<(Proc, Out)>, Fault> {
+    let fixed = Fixed::new(count)?;
+    let mut cores = Cores::formed(alloc, fixed)?;
+    for line in script.lines() {
+        cores = cores.happens(&event_of(alloc, fixed, line)?)?;
     }
-    Ok(world)
+    Ok(cores.into_outs())
 }
 
-/// The third is silent, and given up.
-fn given_up<A: Allocator + Copy>(alloc: A) -> Result<Cores<A>, Fault> {
-    let fixed = Fixed::new(3)?;
-    let mut world = Cores::unformed(alloc, fixed)?;
-    world = time(world, fixed, 1, Kind::Join)?;
-    world = time(world, fixed, 2, Kind::Join)?;
-    world = hand(world, fixed, 1, 2)?;
-    world = hand(world, fixed, 2, 1)?;
-    world = time(world, fixed, 1, Kind::Consensus)?;
-    world = hand(world, fixed, 2, 3)?;
-    hand(world, fixed, 1, 4)
-}
-
-/// What an output is: a join, a commit token, a message, a token, or none of them.
-fn name_of<A: Allocator + Copy>(out: &Out<A>) -> u8 {
-    match out {
-        Out::Send(_, Frame::Join(_)) => b'j',
-        Out::Send(_, Frame::Commit(_)) => b'c',
-        Out::Send(_, Frame::Message(_)) => b'm',
-        Out::Send(_, Frame::Token(_)) => b't',
-        _ => b'?',
-    }
-}
-
-/// What each output is, in order.
-fn names_of<A: Allocator + Copy>(alloc: A, world: &Cores<A>) -> Result<Vec<u8, A>, Fault> {
-    let mut names = Vec::new(alloc);
-    for given in world.outs() {
-        names.push(name_of(&given.1))?;
-    }
-    Ok(names)
+/// These are the outputs that are shown.
+fn assert_given(
+    rt: &impl Abort,
+    alloc: Global,
+    outs: &[(Proc, Out)],
+    shown: Shown,
+    want: &str,
+) -> Result<(), AllocError> {
+    assert_eq!(rt; lines_of(alloc, outs, shown)?.as_str(), want);
+    Ok(())
 }
 
 #[test]
 fn three_gather(rt: HostRuntime) -> Result<(), Fail> {
     let alloc = rt.alloc();
-    let world = gathered(alloc)?;
-    assert_eq!(rt;
-        names_of(alloc, &world)?.as_slice(),
-        b"jjjccccccmt".as_slice()
-    );
+    let script = pumped(alloc, Fixed::new(3)?, JOINS, 12)?;
+    let outs = given(&rt, alloc, (Opening::Gather, 3), script.as_str(), 15)?;
+    assert_given(&rt, alloc, &outs, Shown::All, GATHERED)?;
+    Ok(())
+}
+
+#[test]
+fn a_hundred_turns_bring_all_to_one_ring(rt: HostRuntime) -> Result<(), Fail> {
+    let alloc = rt.alloc();
+    let script = pumped(alloc, Fixed::new(3)?, JOINS, 100)?;
+    let outs = given(&rt, alloc, (Opening::Gather, 3), script.as_str(), 103)?;
+    let told = lines_of(alloc, &outs, Shown::Recovery)?;
+    for line in CONFIGURED.lines() {
+        assert!(rt; told.as_str().contains(line), "{line}");
+    }
+    assert_eq!(rt; told.len(), CONFIGURED.len());
     Ok(())
 }
 
 #[test]
 fn a_silent_processor_is_given_up(rt: HostRuntime) -> Result<(), Fail> {
     let alloc = rt.alloc();
-    let world = given_up(alloc)?;
-    assert_eq!(rt; names_of(alloc, &world)?.as_slice(), b"jjjjc".as_slice());
+    let outs = given(&rt, alloc, (Opening::Gather, 3), SILENT, 7)?;
+    assert_given(&rt, alloc, &outs, Shown::All, GIVEN_UP)?;
+    let frame = decode_frame(alloc, GIVING_UP)?;
+    let Some((_, Out::Send(_, giving_up))) = outs.get(2) else {
+        return Err(Fail::from(Fault::BadFrame));
+    };
+    assert!(rt; giving_up.is_same(&frame));
     Ok(())
 }
 
 #[test]
-fn each_request_is_refused_in_turn(rt: HostRuntime) -> Result<(), Fail> {
-    let heap = Refusing::new(rt.alloc(), u64::MAX);
-    gathered(&heap)?;
-    let requests = heap.requests();
-    assert!(rt; requests > 20, "{requests}");
-    for passed in 0..requests {
-        let heap = Refusing::new(rt.alloc(), passed);
-        let refused = gathered(&heap).err();
-        assert_eq!(rt; refused, Some(Fault::Memory));
-    }
+fn a_lost_message_is_asked_for(rt: HostRuntime) -> Result<(), Fail> {
+    let alloc = rt.alloc();
+    let outs = given(&rt, alloc, (Opening::FormedRing, 2), LOSS, 10)?;
+    assert_given(&rt, alloc, &outs, Shown::All, LOST_AND_REPEATED)?;
+    Ok(())
+}
+
+#[test]
+fn retransmit_alone_acts_on_a_formed_ring(rt: HostRuntime) -> Result<(), Fail> {
+    let alloc = rt.alloc();
+    let outs = given(&rt, alloc, (Opening::FormedRing, 2), TIMEOUTS, 5)?;
+    assert_given(&rt, alloc, &outs, Shown::All, FIRST_TOKEN)?;
+    Ok(())
+}
+
+#[test]
+fn two_lost_messages_hold_the_marks_back(rt: HostRuntime) -> Result<(), Fail> {
+    let alloc = rt.alloc();
+    let outs = given(&rt, alloc, (Opening::FormedRing, 3), TWO_LACK, 43)?;
+    assert_given(&rt, alloc, &outs, Shown::Visits, TWO_ASKED_FOR)?;
+    Ok(())
+}
+
+#[test]
+fn two_fill_each_others_gaps(rt: HostRuntime) -> Result<(), Fail> {
+    let alloc = rt.alloc();
+    let outs = past_formed_ring(alloc, 2, GAPS_FILLED)?;
+    assert_given(&rt, alloc, &outs, Shown::Recovery, BOTH_DELIVER_FOUR)?;
+    Ok(())
+}
+
+#[test]
+fn an_outsider_is_not_delivered_past_the_gap(rt: HostRuntime) -> Result<(), Fail> {
+    let alloc = rt.alloc();
+    let outs = past_formed_ring(alloc, 3, GAP_LEFT)?;
+    assert_given(&rt, alloc, &outs, Shown::Recovery, OUTSIDER_DISCARDED)?;
     Ok(())
 }

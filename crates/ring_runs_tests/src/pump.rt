@@ -1,35 +1,24 @@
-// Open: two goals, `returns` of steps::added and `put-requires` of tests::a_silent_processor_is_given_up; what calls them waits for them. crates.txt then needs: ring_runs_tests: refusing_alloc ring_base ring_payload ring_wire ring_core ring_limits ring_runs bytes
 //! Frames that come in the order in which they were sent.
 
-use crate::steps::{Step, event_of};
+use crate::steps::event_of;
 use ring_base::{Fault, Fixed, Proc, ProcSet};
 use ring_core::Out;
-use ring_runs::Cores;
+use ring_runs::{Cores, RingEvent};
 use std::alloc::Global;
 use std::collections::VecDeque;
+use std::fmt::Write;
 
-/// The frames on their way, and what happened.
+/// The copies of frames on their way.
 #[derive(Drop)]
 struct Way {
-    alloc: Global,
     /// Each with its receiver.
     open: VecDeque<(Proc, u64)>,
     /// How many outputs were looked at, and how many of them were frames.
     seen: usize,
     frames: u64,
-    steps: Vec<Step>,
 }
 
 impl Way {
-    /// A step is done, and what it sent is on its way.
-    fn does(&mut self, cores: Cores, step: &Step) -> Result<Cores, Fault> {
-        let event = event_of(self.alloc, *step)?;
-        let cores = cores.happens(&event)?;
-        self.steps.push(*step)?;
-        self.follow(cores.outs())?;
-        Ok(cores)
-    }
-
     /// The frames among what was given since are on their way.
     fn follow(&mut self, outs: &[(Proc, Out)]) -> Result<(), Fault> {
         for given in outs.iter().skip(self.seen) {
@@ -51,29 +40,31 @@ impl Way {
     }
 }
 
-/// These steps, and then so many turns: in each the first frame on its way comes to its receiver. Answers all steps.
+/// These lines, and then so many turns: in each the first frame on its way comes to its receiver. Answers all lines.
 pub(crate) fn pumped(
     alloc: Global,
     fixed: Fixed,
-    opening: &[Step],
+    opening: &str,
     turns: u64,
-) -> Result<Vec<Step>, Fault> {
+) -> Result<String, Fault> {
     let mut cores = Cores::unformed(alloc, fixed)?;
+    let mut lines = String::new(alloc);
     let mut way = Way {
-        alloc,
         open: VecDeque::new(alloc),
         seen: 0,
         frames: 0,
-        steps: Vec::new(alloc),
     };
-    for step in opening {
-        cores = way.does(cores, step)?;
+    for line in opening.lines() {
+        cores = cores.happens(&event_of(alloc, fixed, line)?)?;
+        writeln!(lines, "{line}")?;
     }
     for _ in 0..turns {
+        way.follow(cores.outs())?;
         let Some((node, frame)) = way.open.pop_front() else {
-            return Ok(way.steps);
+            return Ok(lines);
         };
-        cores = way.does(cores, &Step::Hand(node, frame))?;
+        cores = cores.happens(&RingEvent::Deliver(node, frame))?;
+        writeln!(lines, "hand {node} {frame}")?;
     }
-    Ok(way.steps)
+    Ok(lines)
 }

@@ -3,5 +3,5 @@ use Rattle.std.specs.List.{AllByRecursion}
 use Rattle.ring_limits.specs.Limits.{EventFits}
 use Rattle.ring_runs_tests.proofs.steps.events_of.Given as goal
 
-abbrev pub invariant-loop-step : goal.invariant-loop-step
-invariant-loop-step g l = AllByRecursion EventFits l.events.items
+abbrev pub invariant-loop-line : goal.invariant-loop-line
+invariant-loop-line g l = AllByRecursion EventFits l.events.items

@@ -5,7 +5,7 @@ use Rattle.ring_base.proofs.Each.{each-push}
 use Rattle.ring_limits.specs.Limits.{EventFits}
 use Rattle.ring_runs_tests.proofs.steps.events_of.Goals as goal
 
-pub loop-step-preserved : goal.loop-step-preserved
-loop-step-preserved g c =
+pub loop-line-preserved : goal.loop-line-preserved
+loop-line-preserved g c =
     subst (AllByRecursion EventFits) (sym c.in_ok-push.ensures.items)
-    (each-push EventFits c.loop-step.events.items c.in_ok-event.event c.loop-step.invariant c.in_ok-event.ensures)
+    (each-push EventFits c.loop-line.events.items c.in_ok-event.event c.loop-line.invariant c.in_ok-event.ensures)

@@ -1,34 +1,46 @@
-// Open: two goals, `returns` of steps::added and `put-requires` of tests::a_silent_processor_is_given_up; what calls them waits for them. crates.txt then needs: ring_runs_tests: refusing_alloc ring_base ring_payload ring_wire ring_core ring_limits ring_runs bytes
 //! What ring cores give, as text: a line each, with a frame as it stands in a listing.
 
 use ring_base::{Proc, ProcSet};
 use ring_core::Out;
 use ring_payload::Payload;
 use ring_wire::{CommitToken, Frame, Join, Message, Token};
-use std::alloc::{AllocError, Allocator, Global};
+use std::alloc::{AllocError, Global};
 use std::fmt::Write;
-use std::test::Fail;
 
-/// A line for each output, in their order.
-pub(crate) fn lines_of<A: Allocator + Copy>(
-    alloc: Global,
-    outs: &[(Proc, Out<A>)],
-) -> Result<String, Fail> {
-    let mut text = String::new(alloc);
-    for given in outs {
-        write_line(&mut text, given.0, &given.1)?;
-    }
-    Ok(text)
+/// Which outputs are shown.
+#[derive(Clone, Copy)]
+pub(crate) enum Shown {
+    All,
+    /// All but what is agreed on.
+    Visits,
+    /// What a recovery sends again and delivers, and the configurations.
+    Recovery,
 }
 
-/// The lines of the configurations alone.
-pub(crate) fn configurations<A: Allocator + Copy>(
+impl Shown {
+    /// Whether an output is shown.
+    fn has(self, out: &Out) -> bool {
+        match self {
+            Shown::All => true,
+            Shown::Visits => !matches!(out, Out::Agreed(_, _, _)),
+            Shown::Recovery => match out {
+                Out::Trans(_, _, _) | Out::Rest(_, _, _) | Out::Regular(_, _) => true,
+                Out::Send(_, Frame::Message(sent)) => matches!(&sent.payload, Payload::Wrapped(_)),
+                _ => false,
+            },
+        }
+    }
+}
+
+/// A line for each output that is shown, in their order.
+pub(crate) fn lines_of(
     alloc: Global,
-    outs: &[(Proc, Out<A>)],
-) -> Result<String, Fail> {
+    outs: &[(Proc, Out)],
+    shown: Shown,
+) -> Result<String, AllocError> {
     let mut text = String::new(alloc);
     for given in outs {
-        if matches!(&given.1, Out::Trans(_, _, _) | Out::Regular(_, _)) {
+        if shown.has(&given.1) {
             write_line(&mut text, given.0, &given.1)?;
         }
     }
@@ -36,11 +48,7 @@ pub(crate) fn configurations<A: Allocator + Copy>(
 }
 
 /// What a processor gives.
-fn write_line<A: Allocator + Copy>(
-    text: &mut String,
-    node: Proc,
-    out: &Out<A>,
-) -> Result<(), AllocError> {
+fn write_line(text: &mut String, node: Proc, out: &Out) -> Result<(), AllocError> {
     write!(text, "{node} ")?;
     match out {
         Out::Send(to, frame) => {
@@ -79,8 +87,8 @@ fn write_set(text: &mut String, set: ProcSet) -> Result<(), AllocError> {
     Ok(())
 }
 
-/// A frame, as it stands in a listing; of a message's payload its kind alone.
-fn write_frame<A: Allocator + Copy>(text: &mut String, frame: &Frame<A>) -> Result<(), AllocError> {
+/// A frame.
+fn write_frame(text: &mut String, frame: &Frame) -> Result<(), AllocError> {
     match frame {
         Frame::Message(message) => write_message(text, message),
         Frame::Token(token) => write_token(text, token),
@@ -89,18 +97,17 @@ fn write_frame<A: Allocator + Copy>(text: &mut String, frame: &Frame<A>) -> Resu
     }
 }
 
-/// A message, and whether it carries a call or ends a recovery.
-fn write_message<A: Allocator + Copy>(
-    text: &mut String,
-    message: &Message<A>,
-) -> Result<(), AllocError> {
+/// A message, and what it carries.
+fn write_message(text: &mut String, message: &Message) -> Result<(), AllocError> {
     let (ring, number, sender) = (message.ring, message.number, message.sender);
-    let kind = match &message.payload {
-        Payload::Call(_) => "call",
-        Payload::End => "end",
-        _ => "other",
-    };
-    write!(text, " message {ring} seq {number} from {sender} {kind}")
+    write!(text, " message {ring} seq {number} from {sender} ")?;
+    match &message.payload {
+        Payload::Call(_) => write!(text, "call"),
+        Payload::Head(_) => write!(text, "head"),
+        Payload::End => write!(text, "end"),
+        Payload::Wrapped(old) => write!(text, "wraps {} {}", old.ring, old.number),
+        _ => write!(text, "other"),
+    }
 }
 
 /// A token, with who holds it back and what is asked for.
