@@ -7,8 +7,9 @@ PROGRAM is the built program. For each number of nodes there are three cases: th
 node in each round of the token (`calls`), and a change of rings every thousand events (`changes`). Each is run by
 callgrind with FEW events, 5,000 where no number is given, and with ten times as many, once the nodes have settled;
 what start, settling and the last `show` cost is counted by a run of its own, and left out. Told are the instructions
-for an event, few and many, the second by the first, and the bytes of memory that an event more takes. The ratio stays
-near 1 where an event costs the same however long the run.
+for an event, few and many, and the second by the first, which stays near 1 where an event costs the same however long
+the run. The bytes of memory are those of a run as long as a script allows, at most a hundred times FEW events, by the
+number of its events.
 """
 import os
 import subprocess
@@ -20,6 +21,8 @@ CASES = ("idle", "calls", "changes")
 # A world of sixteen nodes has settled by then.
 SETTLING = 5_000
 BETWEEN = 1_000
+# A script may have so many bytes.
+LONGEST = 1_048_576
 HEADS = [
     "Nodes",
     "Case",
@@ -85,11 +88,34 @@ def memory(program, path):
     return used.ru_maxrss * 1024
 
 
-def measured(program, folder, lines):
+def written(folder, lines):
+    """The path of a script of these lines."""
     path = os.path.join(folder, "bench.script")
     with open(path, "w") as file:
         file.write("\n".join(lines + ["show"]) + "\n")
-    return instructions(program, path), memory(program, path)
+    return path
+
+
+def bytes_of(program, folder, kind, nodes, few):
+    """Bytes of memory by the events of the longest script."""
+    for times in (100, 30, 10):
+        lines, done = case_of(kind, nodes, times * few)
+        path = written(folder, opening(nodes) + lines)
+        if os.path.getsize(path) <= LONGEST:
+            return memory(program, path) / done
+    sys.exit("%d events are too many" % few)
+
+
+def row_of(program, folder, kind, nodes, few, begun):
+    """A row of the table, where the nodes settle by so many instructions."""
+    costs = []
+    for events in (few, 10 * few):
+        lines, done = case_of(kind, nodes, events)
+        took = instructions(program, written(folder, opening(nodes) + lines))
+        costs.append(((took - begun) / done, done))
+    (one, first), (ten, _) = costs
+    held = bytes_of(program, folder, kind, nodes, few)
+    return [nodes, kind, f"{first:,}", f"{one:,.0f}", f"{ten:,.0f}", f"{ten / one:.2f}", f"{held:,.0f}"]
 
 
 def main():
@@ -99,16 +125,9 @@ def main():
     print("|" + "---|" * len(HEADS))
     with tempfile.TemporaryDirectory() as folder:
         for nodes in NODES:
-            start = opening(nodes)
-            begun, held = measured(program, folder, start)
+            begun = instructions(program, written(folder, opening(nodes)))
             for kind in CASES:
-                costs = []
-                for events in (few, 10 * few):
-                    lines, done = case_of(kind, nodes, events)
-                    took, most = measured(program, folder, start + lines)
-                    costs.append(((took - begun) / done, (most - held) / done, done))
-                (one, _, first), (ten, bytes_each, _) = costs
-                row = [nodes, kind, f"{first:,}", f"{one:,.0f}", f"{ten:,.0f}", f"{ten / one:.2f}", f"{bytes_each:,.0f}"]
+                row = row_of(program, folder, kind, nodes, few, begun)
                 print("| " + " | ".join(map(str, row)) + " |", flush=True)
 
 
