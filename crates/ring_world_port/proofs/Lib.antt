@@ -1,0 +1,4 @@
+pub mod Groups
+pub mod Submits
+pub mod Telling
+pub mod Turning

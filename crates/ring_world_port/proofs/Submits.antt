@@ -1,0 +1,86 @@
+-- What a submit answers, by what is told behind it.
+use Rattle.std.proofs.Common.{◌≡◌, ℕ, List, [], ◌∷◌, ◌++◌, length, Some, None, refl, ◌∙◌, sym, ap, inl, inr, arith}
+use Rattle.std.specs.Prelude.{slice_get}
+use Rattle.std.proofs.lemmas.Option.{slice_get_past}
+use Rattle.ring_base.specs.Fault.{fault_number}
+use Rattle.ring_base.specs.declared.fault.Fault.{Fault}
+use Rattle.ring_base.specs.declared.fault.Fault.TheVariants.{PendingFull, Stopped, Memory}
+use Rattle.ring_object.specs.Operations.{Sequential}
+use Rattle.ring_payload.specs.declared.call.Call.{Call}
+use Rattle.ring_history.specs.declared.event.Event.TheVariants.{Issue}
+use Rattle.ring_history.specs.declared.told.Told.{Told}
+use Rattle.ring_history.specs.declared.told.Told.TheVariants.{Refused}
+use Rattle.ring_world_port.specs.Network.{Networked, IsIssued, IsNotIssued, refusal_in, fault_of}
+use Rattle.ring_pump.specs.Pumping.{Happens}
+use Rattle.ring_world_port.proofs.Telling.{IsOne, submit_tells}
+
+-- what stands right behind a list
+behind : {X : Type 0} (xs : List X) (x : X) → slice_get (xs ++ x ∷ []) (length xs) ≡ Some x
+behind [] x = refl
+behind (y ∷ ys) x = behind ys x
+
+-- a refusal of a submit is the one of its number
+of_number : (fault : Fault) → IsOne fault → fault_of (fault_number fault) ≡ fault
+of_number fault one =
+    elim one [
+      | inl e ↦ rw e refl
+      | inr s ↦ elim s [ inl e ↦ rw e refl | inr e ↦ rw e refl ]
+    ]
+
+nothing_there : {A : Type 0} (before after : List (Told A)) (place : ℕ) → place ≡ length before → after ≡ before → refusal_in (slice_get after place) ≡ None
+nothing_there before after place at same =
+    let past : slice_get after place ≡ None = slice_get_past after place (rw (at, same) (omega arith)) in
+    rw past refl
+
+refusal_there : {A : Type 0} (i : ℕ) (c : Call A) (before after : List (Told A)) (place : ℕ) (fault : Fault)
+    → place ≡ length before → IsOne fault → after ≡ before ++ Refused i c (fault_number fault) ∷ [] → refusal_in (slice_get after place) ≡ Some fault
+refusal_there i c before after place fault at one more =
+    let there : slice_get after place ≡ Some (Refused i c (fault_number fault)) = rw (at, more) (behind before (Refused i c (fault_number fault))) in
+    rw there (ap (λ f. Some f) (of_number fault one))
+
+module _ {O : Type 0} (object : Sequential O) where
+  pub issued : {A : Type 0} (i : ℕ) (c : Call A) (n m : Networked A) (place : ℕ)
+      → Happens object (Issue i c) n.pump m.pump → m.group ≡ n.group → m.timeouts ≡ n.timeouts
+      → place ≡ length n.pump.played.told → refusal_in (slice_get m.pump.played.told place) ≡ None → IsIssued object i c n m
+  issued i c n m place happens group timeouts at none =
+      elim (submit_tells object i c n.pump.played m.pump.played happens.goes) [
+        | inl same ↦ record { happens = happens; told = same; group = group; timeouts = timeouts }
+        | inr r ↦
+            let there = refusal_there i c n.pump.played.told m.pump.played.told place r.0 at r.1 r.2 in
+            let wrong : None ≡ Some r.0 = sym none ∙ there in
+            cc
+      ]
+
+  told_refused : {A : Type 0} (i : ℕ) (c : Call A) (n m : Networked A) (f fault : Fault)
+      → Happens object (Issue i c) n.pump m.pump → m.group ≡ n.group → m.timeouts ≡ n.timeouts
+      → IsOne f → f ≡ fault → m.pump.played.told ≡ n.pump.played.told ++ Refused i c (fault_number f) ∷ [] → IsNotIssued object i c n m fault
+  told_refused i c n m f fault happens group timeouts one e more =
+      elim one [
+        | inl s ↦
+            let fault_is : fault ≡ Stopped = sym e ∙ s in
+            rw fault_is (record { happens = happens; told = rw s at more; group = group; timeouts = timeouts })
+        | inr o ↦ elim o [
+          | inl s ↦
+              let fault_is : fault ≡ PendingFull = sym e ∙ s in
+              rw fault_is (record { happens = happens; told = rw s at more; group = group; timeouts = timeouts })
+          | inr s ↦
+              let fault_is : fault ≡ Memory = sym e ∙ s in
+              rw fault_is (inr (record { happens = happens; told = rw s at more; group = group; timeouts = timeouts }))
+        ]
+      ]
+
+  pub not_issued : {A : Type 0} (i : ℕ) (c : Call A) (n m : Networked A) (place : ℕ) (fault : Fault)
+      → Happens object (Issue i c) n.pump m.pump → m.group ≡ n.group → m.timeouts ≡ n.timeouts
+      → place ≡ length n.pump.played.told → refusal_in (slice_get m.pump.played.told place) ≡ Some fault → IsNotIssued object i c n m fault
+  not_issued i c n m place fault happens group timeouts at some =
+      elim (submit_tells object i c n.pump.played m.pump.played happens.goes) [
+        | inl same ↦
+            let none = nothing_there n.pump.played.told m.pump.played.told place at same in
+            let wrong : None ≡ Some fault = sym none ∙ some in
+            cc
+        | inr r ↦
+            let there = refusal_there i c n.pump.played.told m.pump.played.told place r.0 at r.1 r.2 in
+            let same : Some r.0 ≡ Some fault = sym there ∙ some in
+            let e : r.0 ≡ fault = cc same in
+            told_refused i c n m r.0 fault happens group timeouts r.1 e r.2
+      ]

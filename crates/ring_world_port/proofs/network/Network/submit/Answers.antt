@@ -1,0 +1,28 @@
+use Rattle.std.proofs.Common.{◌≡◌, ◌∙◌, ap, length}
+use Rattle.ring_world.specs.Played.{Played}
+use Rattle.ring_world_port.proofs.Submits.{issued, not_issued}
+use Rattle.ring_world_port.proofs.network.Network.submit.Goals as goal
+
+pub returns-in-Err-clause-refused : goal.returns-in-Err-clause-refused
+returns-in-Err-clause-refused g c =
+    let before : c.told-before.result.now ≡ c.args.self.now.pump.played.told = c.told-before.ensures
+    ∙ ap (λ (p : Played g.row.O-Alloc.Denot). p.told) c.world-2.ensures in
+    let after : c.told.result.now ≡ c.happen.new.self.pump.played.told = c.told.ensures
+    ∙ ap (λ (p : Played g.row.O-Alloc.Denot). p.told) c.world-3.ensures in
+    let happens = rw c.in_ok-copy_of.ensures at c.in_ok-happen.ensures.done in
+    let some = rw after at c.in-Err.ensures.refused in
+    not_issued g.O.Object.sequential c.args.node c.args.call.now c.args.self.now c.happen.new.self
+    (length c.told-before.result.now) c.in-Err.fault happens c.in_ok-happen.ensures.group
+    c.in_ok-happen.ensures.timeouts (ap length before) some
+
+pub returns-clause-issued : goal.returns-clause-issued
+returns-clause-issued g c =
+    let before : c.told-before.result.now ≡ c.args.self.now.pump.played.told = c.told-before.ensures
+    ∙ ap (λ (p : Played g.row.O-Alloc.Denot). p.told) c.world-2.ensures in
+    let after : c.told.result.now ≡ c.happen.new.self.pump.played.told = c.told.ensures
+    ∙ ap (λ (p : Played g.row.O-Alloc.Denot). p.told) c.world-3.ensures in
+    let happens = rw c.in_ok-copy_of.ensures at c.in_ok-happen.ensures.done in
+    let none = rw after at c.in_default.ensures.ok in
+    issued g.O.Object.sequential c.args.node c.args.call.now c.args.self.now c.happen.new.self
+    (length c.told-before.result.now) happens c.in_ok-happen.ensures.group c.in_ok-happen.ensures.timeouts
+    (ap length before) none

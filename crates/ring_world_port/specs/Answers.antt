@@ -1,0 +1,32 @@
+-- What a node told of a call. Clients, rule 8, of docs/PROTOCOL.md.
+use Rattle.std.specs.Prelude.{ℕ, ◌==◌, ◌&&◌, Bool, nat_le, if◌then◌else◌, List, [], ◌∷◌, Option, Some, None}
+use Rattle.std.specs.Str.{bytes_eq}
+use Rattle.ring_payload.specs.declared.call.Call.{Call}
+use Rattle.ring_session.specs.declared.answer.Answer.{Answer as OneAnswer}
+use Rattle.ring_session.specs.declared.answer.Answer.TheVariants.{Done, Kept, Refused as RefusedAnswer}
+use Rattle.ring_history.specs.declared.told.Told.{Told}
+use Rattle.ring_history.specs.declared.told.Told.TheVariants.{Answer, Refused}
+use Rattle.ring_world_port.specs.declared.answers.Question.{Question}
+
+-- whether this node's call is the one asked for: of this client and number, and with this operation
+abbrev pub is_asked : {A : Type 0} → Question → ℕ → Call A → Bool
+is_asked q i c = (i == q.node) && (c.client == q.client) && (c.number == q.number) && bytes_eq c.op q.op
+
+-- an answer that a call can have: a refusal in it is one of the session rule's, 4 to 7
+abbrev pub tellable : OneAnswer → Option OneAnswer
+tellable (Done reply) = Some (Done reply)
+tellable (Kept reply) = Some (Kept reply)
+tellable (RefusedAnswer number) = if nat_le 4 number && nat_le number 7 then Some (RefusedAnswer number) else None
+
+abbrev pub answer_of : {A : Type 0} → Question → Told A → Option OneAnswer
+answer_of q (Answer i c answer) = if is_asked q i c then tellable answer else None
+answer_of q (Refused i c number) = None
+
+abbrev pub first_of : {A : Type 0} → Option A → Option A → Option A
+first_of None later = later
+first_of (Some x) later = Some x
+
+-- the first answer among what was told
+abbrev pub answer_in : {A : Type 0} → Question → List (Told A) → Option OneAnswer
+answer_in q [] = None
+answer_in q (t ∷ ts) = first_of (answer_of q t) (answer_in q ts)

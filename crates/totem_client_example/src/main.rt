@@ -1,0 +1,123 @@
+//! A client of three nodes, the first of which is cut off from the others: its call is answered through the second one, and
+//! takes effect once.
+//!
+//! Nodes 2 and 3 hear each other, and node 1 hears nobody. The client adds 5 to a counter. It submits the call at node 1
+//! first, which takes it and waits for a ring in vain, for a ring of one of three nodes is no majority. After all its polls
+//! there the client passes on, with the same call under the same number, to node 2: nodes 2 and 3 are a majority, and
+//! their ring answers. Then all hear each other again, and node 1 learns what was committed. The call that it still waits
+//! for stands there already, so it isn't sent a second time, and the counter that the client reads at node 1 is at 5.
+#![tactic(auto)]
+
+use ring_base::{Fault, Fixed, Kind, Proc, ProcSet};
+use ring_client::{Client, Port};
+use ring_object::{Object, Reply};
+use ring_things::Counters;
+use ring_world::{Event, World};
+use ring_world_port::{Network, Shared, WorldPort};
+use std::cell::RefCell;
+use std::process::ExitCode;
+use std::rc::Rc;
+
+/// Add 5 to counter 0: the operation's number, the key, and the amount in eight bytes.
+const ADD: [u8; 10] = [1, 0, 0, 0, 0, 0, 0, 0, 0, 5];
+
+/// Read counter 0.
+const READ: [u8; 2] = [2, 0];
+
+/// How often the client polls a node at most.
+const POLLS: u64 = 200;
+
+/// How many turns the network takes once all nodes hear each other again: enough for a ring of three.
+const TURNS: u32 = 400;
+
+/// What came of the client's calls.
+struct Story {
+    /// The number of polls of its first call at node 1, all of them in vain.
+    vain: u64,
+    /// The counter, as the add's reply tells it.
+    added: u8,
+    /// How many calls node 1 has committed once it hears the others again.
+    committed: usize,
+    /// How many calls the order has then.
+    order: u64,
+    /// The counter, as it is read then.
+    read: u8,
+}
+
+fn main(rt: HostRuntime) -> ExitCode {
+    let printed = match tell::<Counters>(rt.alloc()) {
+        Ok(story) => {
+            let Story {
+                vain,
+                added,
+                committed,
+                order,
+                read,
+            } = story;
+            println!(rt;
+                "Nodes 2 and 3 hear each other; node 1 hears nobody.\n\
+                The client adds 5 at node 1: {vain} polls, no answer.\n\
+                It tries the same call at node 2: the counter is at {added}.\n\
+                All hear each other again: node 1 has committed {committed} call, and the order has {order}.\n\
+                The client reads the counter at node 1: it is at {read}."
+            )
+        }
+        Err(fault) => {
+            let _ = eprintln!(rt; "{fault}");
+            return ExitCode::from(1);
+        }
+    };
+    ExitCode::from(u8::from(printed.is_err()))
+}
+
+/// The calls, and what comes of them.
+fn tell<O: Object>(alloc: O::Alloc) -> Result<Story, Fault> {
+    let fixed = Fixed::new(3)?;
+    let (first, second) = (fixed.proc(1)?, fixed.proc(2)?);
+    let mut network = Network::new(alloc, World::<O>::new(alloc, fixed)?);
+    network.cut(fixed.everybody().less(ProcSet::only(first)));
+    let shared = Rc::new(alloc, RefCell::new(network))?;
+    let mut ports = Vec::new(alloc);
+    ports.push(WorldPort::new(shared.clone()?, first))?;
+    ports.push(WorldPort::new(shared.clone()?, second))?;
+    let mut client = Client::new(alloc, 7, ports, POLLS);
+    let added = client.call(&ADD)?;
+    let vain = vain_polls(&client);
+    let (committed, order) = heal(&shared, first)?;
+    let read = client.call(&READ)?;
+    Ok(Story {
+        vain,
+        added: count_of(&added),
+        committed,
+        order,
+        read: count_of(&read),
+    })
+}
+
+/// How often the first of the client's nodes was polled for its last call, if all these polls were in vain.
+fn vain_polls<P: Port>(client: &Client<P>) -> u64 {
+    match client.ports().first() {
+        Some(port) if port.asked().answer.is_none() => port.asked().polls,
+        _ => 0,
+    }
+}
+
+/// All nodes hear each other again: this one calls for the others, and the network takes its turns. How many calls the node
+/// has committed then, and how many the order has.
+fn heal<O: Object>(shared: &Shared<O>, node: Proc) -> Result<(usize, u64), Fault> {
+    let mut network = shared.try_borrow_mut().map_err(|_| Fault::NoAnswer)?;
+    let everybody = network.world().fixed().everybody();
+    network.cut(everybody);
+    network.happen(Event::Timeout(node, Kind::Join))?;
+    for _ in 0..TURNS {
+        network.turn()?;
+    }
+    let world = network.world();
+    let node = world.fixed().proc(node.number())?;
+    Ok((world.node(node).committed().len(), world.order_len()))
+}
+
+/// The last byte of a counter's reply, in which a small count stands.
+fn count_of(reply: &Reply) -> u8 {
+    reply.as_slice().last().copied().unwrap_or(0)
+}
