@@ -1,78 +1,71 @@
 -- A step goes from a cell's journal to the book.
-use Rattle.std.proofs.Common.{◌≡◌, ℕ, suc, ◌<◌, ◌≤◌, ◌+◌, ◌-◌, ◌++◌, ◌==◌, List, [], ◌∷◌, refl, ap, subst, sym, ◌∙◌}
-use Rattle.std.proofs.Common.{true, false, Bool, inl, inr, Option, Some, slice_get, length, arith, append-nil}
-use Rattle.std.proofs.Common.{length-append, length-set, append_assoc}
+use Rattle.std.proofs.Common.{◌≡◌, ℕ, zero, suc, nat_lt, if◌then◌else◌, ◌<◌, ◌≤◌, ◌+◌, ◌-◌, ◌++◌, ◌==◌, List, [], ◌∷◌, refl, ap, subst, sym, ◌∙◌, true, false, Bool, inl, inr, Option, None, Some, slice_get, length, arith, append-nil, length-append, length-set, append_assoc}
 use Rattle.std.specs.Prelude.{slice_set}
-use Rattle.std.specs.List.{AllByRecursion}
 use Rattle.std.proofs.lemmas.Bool.Decides.{nat_tests}
 use Rattle.rtrb.specs.Ring.{sent, received, known_items, known_free, IsPair, producer_capacity, SameProducer, SameConsumer}
 use mathlib.Core.List.{IsPrefix}
-use Rattle.ring_book.specs.declared.line.Line.{Line}
 use Rattle.ring_session.specs.declared.answer.Answer.{Answer}
-use Rattle.ring_book.specs.Answers.{told_by, told_from}
-use Rattle.ring_book.specs.Books.{most_places, frame_bytes, IsBook, IsEnd, End}
+use Rattle.ring_lines.specs.Answers.{answer_in, told_at, told_by, told_from, told_to}
+use Rattle.ring_book.specs.Books.{most_places, IsBook, IsEnd, IsTold, End}
+use Rattle.ring_book.specs.Told.{ToldView, IsRoomier, AreRoomier}
 use Rattle.ring_book.specs.Cells.{IsCell, AllOf}
 use Rattle.ring_book.specs.Ends.{Name, Ring, ring_of_producer, ring_of_consumer}
-use Rattle.ring_book.specs.Lines.{steps_of, IsFound}
-use Rattle.ring_book.specs.Machines.{Machine, Keeps, IsKept}
-use Rattle.ring_book.specs.Orders.{number_in}
+use Rattle.ring_lines.specs.Lines.{steps_of, IsFound}
+use Rattle.ring_lines.specs.Machines.{Machine}
+use Rattle.ring_lines.specs.Logs.{LogView, longer_by, logged_by, log_in}
 use Rattle.ring_book.specs.Openings.{Writer}
-use Rattle.ring_book.specs.Runs.{Leads, IsBookRun, AllFound}
-use Rattle.ring_book.specs.Steps.{StepView}
-use Rattle.ring_book.proofs.Journaling.{ring_stays}
-use Rattle.ring_book.proofs.Keeping.{Leads-last}
-use Rattle.ring_book.proofs.Leading.{steps_of-own, steps_of-other, AllOf-last}
-use Rattle.ring_book.proofs.Ordering.{call_lines-snoc, length-number_in}
-use Rattle.ring_base.proofs.Each.{each-push}
+use Rattle.ring_lines.specs.Runs.{Leads, IsInside, IsBookRun, AllFound}
+use Rattle.ring_lines.specs.Steps.{StepView, LineView}
+use Rattle.ring_book.proofs.Journaling.{AllOf-last, ring_stays}
+use Rattle.ring_lines.proofs.Leading.{steps_of-own, steps_of-other, steps_of-skip}
+use Rattle.ring_lines.proofs.Logging.{log_in-snoc}
+use Rattle.std.specs.List.{AllByRecursion as Each}
+use Rattle.ring_base.proofs.Each.{each-get, each-placed, each-push}
 use Rattle.ring_book.proofs.Places.{set_cases}
-use Rattle.ring_book.proofs.Telling.{told_from-snoc, length-told_by}
+use Rattle.ring_lines.proofs.Telling.{told_from-snoc, length-told_by}
 
 pub end_ring : {A : Type 0} (c d : End A) → SameConsumer c d → ring_of_consumer d ≡ ring_of_consumer c
 end_ring c d h = cc
 
-pub end_looks : {A : Type 0} (name : Name A) (lines : List (Line A)) (i : ℕ) (c d : End A) → IsEnd name lines i c
-    → SameConsumer c d → received d ≡ received c → IsEnd name lines i d
+pub end_looks : {A : Type 0} (name : Name A) (lines : List (LineView A)) (i : ℕ) (c d : End A) → IsEnd name lines i c → SameConsumer c d → received d ≡ received c → IsEnd name lines i d
 end_looks name lines i c d e same r = record { ring = rw (end_ring c d same) e.ring; came = r ∙ e.came; one = same.1 ∙ e.one }
 
 -- the end of a node looked at its ring
-pub book_looks : {S A : Type 0} (m : Machine S A) (name : Name A) (lines : List (Line A)) (reserved : ℕ)
-    (ends : List (End A)) (told : List (Option Answer)) (calls : List ℕ) (capacity tickets places room i : ℕ)
-    (c d : End A)
-    → IsBook m name lines reserved ends told calls capacity tickets places room → slice_get ends i ≡ Some c → SameConsumer c d → received d ≡ received c
-    → IsBook m name lines reserved (slice_set ends i d) told calls capacity tickets places room
-book_looks m name lines reserved ends told calls capacity tickets places room i c d b at same r = record {
-  alone = b.alone;
+pub book_looks : {S A : Type 0} (m : Machine S A) (name : Name A) (lines : List (LineView A)) (reserved : ℕ) (ends : List (End A)) (told : List ToldView) (log : LogView)
+    (capacity places space space' i : ℕ) (c d : End A)
+    → IsBook m name lines reserved ends told log capacity places space → slice_get ends i ≡ Some c → SameConsumer c d → received d ≡ received c → 8192 ≤ space'
+    → IsBook m name lines reserved (slice_set ends i d) told log capacity places space'
+book_looks m name lines reserved ends told log capacity places space space' i c d b at same r text = record {
+  few = b.few;
   count = rw length-set b.count;
+  told_count = b.told_count;
   each = λ j x h. elim (set_cases ends i j d x h) [
     | inl w ↦ rw (w.0, w.1) (end_looks name lines i c d (b.each i c at) same r)
     | inr w ↦ b.each j x w.1
   ];
+  tells = b.tells;
   run = b.run;
-  kept = b.kept;
   room = b.room;
   limit = b.limit;
-  answers = b.answers;
-  answers_room = b.answers_room;
-  numbers = b.numbers;
-  numbers_room = b.numbers_room;
-  text = b.text;
+  log_is = b.log_is;
+  log_room = b.log_room;
+  text = text;
 }
 
 -- what was found stays found: a list of lines with one more
-AllFound-snoc : {S A : Type 0} (m : Machine S A) (before ls : List (Line A)) (l : Line A) → AllFound m before ls
-    → IsFound (before ++ ls) l.step.node l.step.input → AllFound m before (ls ++ l ∷ [])
-AllFound-snoc m before [] l h f = (rw append-nil at f, tt)
-AllFound-snoc m before (x ∷ ls) l h f =
-    (h.0, AllFound-snoc m (before ++ x ∷ []) ls l h.1 (rw append_assoc f))
+AllFound-snoc : {A : Type 0} (before ls : List (LineView A)) (l : LineView A) → AllFound before ls → IsFound (before ++ ls) l.step.node l.step.input → AllFound before (ls ++ l ∷ [])
+AllFound-snoc before [] l h f = (rw append-nil at f, tt)
+AllFound-snoc before (x ∷ ls) l h f =
+    (h.0, AllFound-snoc (before ++ x ∷ []) ls l h.1 (rw append_assoc f))
 
 -- a run with one more line: its node's journal ends with its step
-pub run_adds : {S A : Type 0} (m : Machine S A) (n : ℕ) (ls : List (Line A)) (l : Line A) (me : ℕ) (t : S)
+pub run_adds : {S A : Type 0} (m : Machine S A) (n : ℕ) (ls : List (LineView A)) (l : LineView A) (me : ℕ) (t : S)
     → IsBookRun m n ls → l.step.node ≡ me → 1 ≤ me → me ≤ n → Leads m (m.opening me) (steps_of me ls ++ l.step ∷ []) t → IsFound ls l.step.node l.step.input
     → IsBookRun m n (ls ++ l ∷ [])
 run_adds {S} {A} m n ls l me t r mine low high leads found = record {
   nodes = λ i h k. same_or_other i h k (l.step.node == i) refl;
-  inside = each-push (λ (x : Line A). (1 ≤ x.step.node) × (x.step.node ≤ n)) ls l r.inside (omega arith, omega arith);
-  found = AllFound-snoc m [] ls l r.found found;
+  inside = each-push (IsInside n) ls l r.inside (omega arith, omega arith);
+  found = AllFound-snoc [] ls l r.found found;
 }
   where
     same_or_other : (i : ℕ) → 1 ≤ i → i ≤ n → (b : Bool) → (l.step.node == i) ≡ b → (t : S) × Leads m (m.opening i) (steps_of i (ls ++ l ∷ [])) t
@@ -91,7 +84,7 @@ pub record Looked {A : Type 0} (p q : Writer A) (c d : End A) : Type 0 where
   pub fifo : received d ++ known_items d ≡ sent q
 
 -- nothing is in the ring: all steps of the journal are in the book
-pub all_entered : {A : Type 0} (name : Name A) (lines : List (Line A)) (i : ℕ) (p q : Writer A) (c d : End A)
+pub all_entered : {A : Type 0} (name : Name A) (lines : List (LineView A)) (i : ℕ) (p q : Writer A) (c d : End A)
     → IsEnd name lines i c → Looked p q c d → length (known_items d) ≡ 0 → sent p ≡ steps_of (suc i) lines
 all_entered {A} name lines i p q c d e k none =
     let empty : known_items d ≡ [] = length_0 (known_items d) none in
@@ -108,7 +101,7 @@ only (y ∷ []) x h p = cc
 only (y ∷ (z ∷ xs)) x h p = absurd (omega arith)
 
 -- there is one step in the ring, and it is the last of the journal
-pub one_left : {A : Type 0} (name : Name A) (lines : List (Line A)) (i : ℕ) (p q : Writer A) (c d : End A) (x : StepView A)
+pub one_left : {A : Type 0} (name : Name A) (lines : List (LineView A)) (i : ℕ) (p q : Writer A) (c d : End A) (x : StepView A)
     → IsEnd name lines i c → Looked p q c d → IsPrefix (x ∷ []) (known_items d) → (known_items d ≡ x ∷ []) × (sent p ≡ steps_of (suc i) lines ++ x ∷ [])
 one_left name lines i p q c d x e k pre =
     let most : length (known_items d) ≤ 1 = omega (arith, d.counts, k.same_reader.1, e.one) in
@@ -120,23 +113,36 @@ pub record Popped {A : Type 0} (d : End A) (x : StepView A) (f : End A) : Type 0
   pub same : SameConsumer d f
   pub received_is : received f ≡ received d ++ x ∷ []
 
-pub book_enters : {S A : Type 0} (m : Machine S A) {IsSound : S → Type 0} (sound : Keeps m IsSound) (name : Name A)
-    (lines : List (Line A)) (reserved : ℕ) (ends : List (End A)) (told : List (Option Answer)) (calls : List ℕ)
-    (capacity tickets places room i me : ℕ)
-    (ahead : Bool) (node : S) (p q : Writer A) (c d f : End A) (x : StepView A)
-    → suc i ≡ me → IsBook m name lines reserved ends told calls capacity tickets places room → IsCell m name me ahead node p → slice_get ends i ≡ Some c
+-- the answers of the nodes, with those of one more step
+told_enters : {A : Type 0} (lines : List (LineView A)) (reserved i : ℕ) (l : LineView A) (t u : ToldView) → l.step.node ≡ suc i → IsTold lines reserved i t
+    → u.answers ≡ told_by t.answers l.step.input l.step.answers → u.room ≡ t.room → 0 < reserved → IsTold (lines ++ l ∷ []) (reserved - 1) i u
+told_enters lines reserved i l t u mine is answers room some = record {
+  told_is = answers ∙ (ap (λ (ts : List (Option Answer)). told_by ts l.step.input l.step.answers) is.told_is
+      ∙ sym (ap (told_from []) (steps_of-own (suc i) lines l mine) ∙ told_from-snoc [] (steps_of (suc i) lines) l.step));
+  room = (let more = length-told_by t.answers l.step.input l.step.answers in let k = ap length answers in omega (arith, more, k, room, is.room, some));
+}
+
+logged-length : {A : Type 0} (n : ℕ) (log : LogView) (s : StepView A) → length (logged_by n log s).segments ≤ length log.segments + 1
+logged-length n log s = elim (nat_lt log.total s.committed) as (λ b. length (if b then longer_by n log s else log).segments ≤ length log.segments + 1) [
+  | true ↦ omega (arith, length-append log.segments (record { line = n; from = length s.calls - (s.committed - log.total) } ∷ []))
+  | false ↦ omega arith
+]
+
+pub book_enters : {S A : Type 0} (m : Machine S A) {IsSound : S → Type 0} (name : Name A) (lines : List (LineView A)) (reserved : ℕ) (ends : List (End A)) (told : List ToldView)
+    (log : LogView) (capacity places space space' i me : ℕ) (ahead : Bool) (node : S) (p q : Writer A) (c d f : End A) (x : StepView A) (t u : ToldView) (room : ℕ)
+    → suc i ≡ me → IsBook m name lines reserved ends told log capacity places space → IsCell m IsSound name me ahead node p room → slice_get ends i ≡ Some c
+    → slice_get told i ≡ Some t → u.answers ≡ told_by t.answers x.input x.answers → u.room ≡ t.room → 8192 ≤ space'
     → Looked p q c d → sent p ≡ steps_of me lines ++ x ∷ [] → Popped d x f → IsFound lines x.node x.input → 0 < reserved
-    → IsBook m name (lines ++ record { number = length lines; step = x } ∷ []) (reserved - 1) (slice_set ends i f)
-    (told_by told x.input x.answers) (calls ++ number_in (length lines) x.input) capacity tickets places room
-book_enters {S} {A} m sound name lines reserved ends told calls capacity tickets places room i me ahead node p q c d f x is b k at look journal pop found some =
-    let l : Line A = record { number = length lines; step = x } in
+    → IsBook m name (lines ++ record { number = length lines; step = x } ∷ []) (reserved - 1) (slice_set ends i f) (slice_set told i u) (logged_by (length lines) log x)
+    capacity places space'
+book_enters {S} {A} m name lines reserved ends told log capacity places space space' i me ahead node p q c d f x t u room is b k at there answers same text look journal pop found some =
+    let l : LineView A = record { number = length lines; step = x } in
     let mine : x.node ≡ me = AllOf-last me (steps_of me lines) x (subst (AllOf me) journal k.mine) in
-    let first : x.node ≡ 1 = omega (arith, k.counted, k.in_book, b.alone) in
-    let leads : Leads m (m.opening me) (steps_of me lines ++ x ∷ []) node =
-    subst (λ (js : List (StepView A)). Leads m (m.opening me) js node) journal k.leads in
+    let leads : Leads m (m.opening me) (steps_of me lines ++ x ∷ []) node = subst (λ (js : List (StepView A)). Leads m (m.opening me) js node) journal k.leads in
     record {
-      alone = b.alone;
+      few = b.few;
       count = rw length-set b.count;
+      told_count = length-set told i u ∙ b.told_count;
       each = λ j y h. elim (set_cases ends i j f y h) [
         | inl w ↦ rw (w.0, w.1) record {
           ring = rw (end_ring d f pop.same, end_ring c d look.same_reader) (b.each i c at).ring;
@@ -149,25 +155,27 @@ book_enters {S} {A} m sound name lines reserved ends told calls capacity tickets
           one = (b.each j y w.1).one;
         }
       ];
-      run = run_adds m name.count lines l me node b.run mine k.counted k.in_book leads found;
-      kept = each-push (λ (y : Line A). AllByRecursion IsKept y.step.frames) lines l b.kept
-          (Leads-last m sound (m.opening me) (steps_of me lines) x node (sound.opens me) leads);
+      tells = λ j y h. elim (set_cases told i j u y h) [
+        | inl w ↦ rw (w.0, w.1) (told_enters lines reserved i l t u (mine ∙ sym is) (b.tells i t there) answers same some)
+        | inr w ↦ record {
+          told_is = (b.tells j y w.1).told_is ∙ sym (ap (told_from []) (steps_of-other (suc j) lines l (differs j w.0 mine)));
+          room = omega (arith, (b.tells j y w.1).room);
+        }
+      ];
+      run = run_adds m name.group.count lines l me node b.run mine k.counted k.in_book leads found;
       room = omega (arith, length-append lines (l ∷ []), b.room);
       limit = omega (arith, length-append lines (l ∷ []), b.limit);
-      answers = ap (λ (ts : List (Option Answer)). told_by ts x.input x.answers) b.answers
-          ∙ sym (ap (told_from []) (steps_of-own 1 lines l first) ∙ told_from-snoc [] (steps_of 1 lines) x);
-      answers_room = omega (arith, length-told_by told x.input x.answers, b.answers_room);
-      numbers = ap (λ ns. ns ++ number_in (length lines) x.input) b.numbers ∙ sym (call_lines-snoc lines l);
-      numbers_room = omega (arith, length-append calls (number_in (length lines) x.input), length-number_in (length lines) x.input, b.numbers_room);
-      text = b.text;
+      log_is = ap (λ (v : LogView). logged_by (length lines) v x) b.log_is ∙ sym (log_in-snoc lines l);
+      log_room = omega (arith, logged-length (length lines) log x, b.log_room, some);
+      text = text;
     }
   where
     differs : (j : ℕ) → (j ≡ i → ⊥) → x.node ≡ me → (x.node == suc j) ≡ false
     differs j apart mine = grind (arith, nat_tests)
 
-pub cell_enters : {S A : Type 0} (m : Machine S A) (name : Name A) (me : ℕ) (ahead : Bool) (node : S) (p q : Writer A)
-    → IsCell m name me ahead node p → SameProducer p q → sent q ≡ sent p → 0 < known_free q → IsCell m name me false node q
-cell_enters m name me ahead node p q k same e free = record {
+pub cell_enters : {S A : Type 0} (m : Machine S A) {IsSound : S → Type 0} (name : Name A) (me : ℕ) (ahead : Bool) (node : S) (p q : Writer A) (space : ℕ)
+    → IsCell m IsSound name me ahead node p space → SameProducer p q → sent q ≡ sent p → 0 < known_free q → IsCell m IsSound name me false node q space
+cell_enters m name me ahead node p q space k same e free = record {
   counted = k.counted;
   in_book = k.in_book;
   ring = rw (ring_stays p q same) k.ring;
@@ -175,6 +183,8 @@ cell_enters m name me ahead node p q k same e free = record {
   mine = rw e k.mine;
   free = λ _. free;
   room = same.1 ∙ k.room;
+  sound = k.sound;
+  text = k.text;
 }
 
 -- the two ends are still those of one ring
@@ -189,8 +199,7 @@ pair_stays name i p q c d f a b h k j =
       j.0.3 ∙ (k.0.3 ∙ (sym (ap (λ r. r.heap) e) ∙ sym h.0.3)),
     )
 
-pub popped : {A : Type 0} (d e f : End A) (x : StepView A) → SameConsumer d e → received e ≡ received d ++ x ∷ []
-    → SameConsumer e f → received f ≡ received e → Popped d x f
+pub popped : {A : Type 0} (d e f : End A) (x : StepView A) → SameConsumer d e → received e ≡ received d ++ x ∷ [] → SameConsumer e f → received f ≡ received e → Popped d x f
 popped d e f x h r i s = record {
   same = ((i.0.0 ∙ h.0.0, i.0.1 ∙ h.0.1, i.0.2 ∙ h.0.2, i.0.3 ∙ h.0.3), i.1 ∙ h.1);
   received_is = s ∙ r;
@@ -216,42 +225,60 @@ free_again p q r c d f x n look one pop same e value all room =
 pub ring_at : {A : Type 0} (rings : List (Ring A)) (me i : ℕ) (r : Ring A) → suc i ≡ me → slice_get rings (me - 1) ≡ Some r → slice_get rings i ≡ Some r
 ring_at rings me i r is h = let e : i ≡ me - 1 = omega arith in rw e h
 
+-- a book that is written in other words
+pub book_same : {S A : Type 0} (m : Machine S A) (name : Name A) (lines lines' : List (LineView A)) (reserved : ℕ) (ends : List (End A)) (told : List ToldView)
+    (log log' : LogView) (capacity capacity' places places' space : ℕ)
+    → IsBook m name lines reserved ends told log capacity places space → lines' ≡ lines → log' ≡ log → capacity' ≡ capacity → places' ≡ places
+    → IsBook m name lines' reserved ends told log' capacity' places' space
+book_same m name lines lines' reserved ends told log log' capacity capacity' places places' space b l g c p = rw (l, g, c, p) b
+
 -- a book with more room, for more places
-pub book_grows : {S A : Type 0} (m : Machine S A) (name : Name A) (lines lines' : List (Line A))
-    (reserved reserved' : ℕ) (ends : List (End A)) (told told' : List (Option Answer)) (calls calls' : List ℕ)
-    (capacity capacity' tickets tickets' places places' space : ℕ)
-    → IsBook m name lines reserved ends told calls capacity tickets places space → lines' ≡ lines → told' ≡ told
-    → calls' ≡ calls → length lines + reserved' ≤ capacity' → length told + reserved' ≤ tickets'
-    → length calls + reserved' ≤ places' → length lines + reserved' ≤ most_places
-    → IsBook m name lines' reserved' ends told' calls' capacity' tickets' places' space
-book_grows m name lines lines' reserved reserved' ends told told' calls calls' capacity capacity' tickets tickets'
-    places places' space b same same_told same_calls room tickets_room places_room limit =
-    rw (same, same_told, same_calls) record {
-      alone = b.alone;
+pub book_grows : {S A : Type 0} (m : Machine S A) (name : Name A) (lines lines' : List (LineView A)) (reserved reserved' : ℕ) (ends : List (End A)) (told told' : List ToldView)
+    (log log' : LogView) (capacity capacity' places places' space : ℕ)
+    → IsBook m name lines reserved ends told log capacity places space → lines' ≡ lines → log' ≡ log → length told' ≡ length told
+    → ((i : ℕ) (t : ToldView) → slice_get told' i ≡ Some t → IsTold lines reserved' i t) → length lines + reserved' ≤ capacity'
+    → length log.segments + reserved' ≤ places' → length lines + reserved' ≤ most_places
+    → IsBook m name lines' reserved' ends told' log' capacity' places' space
+book_grows m name lines lines' reserved reserved' ends told told' log log' capacity capacity' places places' space b same same_log many tells room log_room limit =
+    rw (same, same_log) record {
+      few = b.few;
       count = b.count;
+      told_count = many ∙ b.told_count;
       each = b.each;
+      tells = tells;
       run = b.run;
-      kept = b.kept;
       room = room;
       limit = limit;
-      answers = b.answers;
-      answers_room = tickets_room;
-      numbers = b.numbers;
-      numbers_room = places_room;
+      log_is = b.log_is;
+      log_room = log_room;
       text = b.text;
     }
 
+-- lists of answers with more room are of as many nodes
+pub roomier-length : (old new : List ToldView) → AreRoomier old new → length new ≡ length old
+roomier-length [] [] h = refl
+roomier-length [] (y ∷ ys) h = absurd h
+roomier-length (x ∷ xs) [] h = absurd h
+roomier-length (x ∷ xs) (y ∷ ys) h = ap suc (roomier-length xs ys h.1)
+
+-- the answers of a node, before and after
+pub roomier-at : (old new : List ToldView) (i : ℕ) (u : ToldView) → AreRoomier old new → slice_get new i ≡ Some u → (t : ToldView) × ((slice_get old i ≡ Some t) × IsRoomier t u)
+roomier-at [] [] i u h e = absurd cc
+roomier-at [] (y ∷ ys) i u h e = absurd h
+roomier-at (x ∷ xs) [] i u h e = absurd h
+roomier-at (x ∷ xs) (y ∷ ys) zero u h e = let same : y ≡ u = cc in (x, (refl, subst (λ (z : ToldView). IsRoomier x z) same h.0))
+roomier-at (x ∷ xs) (y ∷ ys) (suc i) u h e = roomier-at xs ys i u h.1 e
+
 -- the two ends of one ring
-pub pair_at : {A : Type 0} (name : Name A) (i : ℕ) (p : Writer A) (c : End A) → slice_get name.rings i ≡ Some
-    (ring_of_producer p) → slice_get name.rings i ≡ Some (ring_of_consumer c) → IsPair p c
+pub pair_at : {A : Type 0} (name : Name A) (i : ℕ) (p : Writer A) (c : End A) → slice_get name.rings i ≡ Some (ring_of_producer p) → slice_get name.rings i ≡ Some (ring_of_consumer c) → IsPair p c
 pair_at name i p c a b =
     let e : ring_of_producer p ≡ ring_of_consumer c = cc in
     (sym (ap (λ r. r.words) e), sym (ap (λ r. r.slots) e), sym (ap (λ r. r.names) e), sym (ap (λ r. r.heap) e))
 
 -- a cell whose journal's writer looked at its ring
-pub cell_looks : {S A : Type 0} (m : Machine S A) (name : Name A) (me : ℕ) (ahead : Bool) (node : S) (p q : Writer A)
-    → IsCell m name me ahead node p → SameProducer p q → sent q ≡ sent p → known_free p ≤ known_free q → IsCell m name me ahead node q
-cell_looks m name me ahead node p q k same e more = record {
+pub cell_looks : {S A : Type 0} (m : Machine S A) {IsSound : S → Type 0} (name : Name A) (me : ℕ) (ahead : Bool) (node : S) (p q : Writer A) (space : ℕ)
+    → IsCell m IsSound name me ahead node p space → SameProducer p q → sent q ≡ sent p → known_free p ≤ known_free q → IsCell m IsSound name me ahead node q space
+cell_looks m name me ahead node p q space k same e more = record {
   counted = k.counted;
   in_book = k.in_book;
   ring = rw (ring_stays p q same) k.ring;
@@ -259,24 +286,118 @@ cell_looks m name me ahead node p q k same e more = record {
   mine = rw e k.mine;
   free = λ f. (let was = k.free f in omega (arith, was, more));
   room = same.1 ∙ k.room;
+  sound = k.sound;
+  text = k.text;
 }
 
 -- a book whose text was written
-pub book_texts : {S A : Type 0} (m : Machine S A) (name : Name A) (lines : List (Line A)) (reserved : ℕ)
-    (ends : List (End A)) (told : List (Option Answer)) (calls : List ℕ) (capacity tickets places space space' : ℕ)
-    → IsBook m name lines reserved ends told calls capacity tickets places space → frame_bytes ≤ space'
-    → IsBook m name lines reserved ends told calls capacity tickets places space'
-book_texts m name lines reserved ends told calls capacity tickets places space space' b text = record {
-  alone = b.alone;
+pub book_texts : {S A : Type 0} (m : Machine S A) (name : Name A) (lines : List (LineView A)) (reserved : ℕ) (ends : List (End A)) (told : List ToldView) (log : LogView)
+    (capacity places space space' : ℕ) → IsBook m name lines reserved ends told log capacity places space → 8192 ≤ space' → IsBook m name lines reserved ends told log capacity places space'
+book_texts m name lines reserved ends told log capacity places space space' b text = record {
+  few = b.few;
   count = b.count;
+  told_count = b.told_count;
   each = b.each;
+  tells = b.tells;
   run = b.run;
-  kept = b.kept;
   room = b.room;
   limit = b.limit;
-  answers = b.answers;
-  answers_room = b.answers_room;
-  numbers = b.numbers;
-  numbers_room = b.numbers_room;
+  log_is = b.log_is;
+  log_room = b.log_room;
   text = text;
 }
+
+-- answers with more room are the lines' as before
+pub told_stays : {A : Type 0} (lines : List (LineView A)) (reserved : ℕ) (old new : List ToldView) → AreRoomier old new
+    → ((i : ℕ) (t : ToldView) → slice_get old i ≡ Some t → IsTold lines reserved i t) → (i : ℕ) (u : ToldView) → slice_get new i ≡ Some u → IsTold lines reserved i u
+told_stays lines reserved old new more tells i u h =
+    let r = roomier-at old new i u more h in
+    let was = tells i r.0 r.1.0 in
+    let k = ap length r.1.1.answers in
+    record { told_is = r.1.1.answers ∙ was.told_is; room = omega (arith, was.room, r.1.1.room, k) }
+
+-- and where there is room for so many
+pub told_roomier : {A : Type 0} (lines : List (LineView A)) (reserved more : ℕ) (old new : List ToldView) → AreRoomier old new
+    → ((i : ℕ) (t : ToldView) → slice_get old i ≡ Some t → IsTold lines reserved i t) → Each (λ (t : ToldView). length t.answers + more ≤ t.room) new
+    → (i : ℕ) (u : ToldView) → slice_get new i ≡ Some u → IsTold lines more i u
+told_roomier lines reserved more old new roomier tells rooms i u h =
+    let was = told_stays lines reserved old new roomier tells i u h in
+    record { told_is = was.told_is; room = each-get (λ (t : ToldView). length t.answers + more ≤ t.room) new i u rooms h }
+
+-- a place that is given back
+pub book_releases : {S A : Type 0} (m : Machine S A) (name : Name A) (lines : List (LineView A)) (reserved reserved' : ℕ) (ends : List (End A)) (told : List ToldView)
+    (log : LogView) (capacity places space : ℕ)
+    → IsBook m name lines reserved ends told log capacity places space → reserved' ≤ reserved → IsBook m name lines reserved' ends told log capacity places space
+book_releases m name lines reserved reserved' ends told log capacity places space b less = record {
+  few = b.few;
+  count = b.count;
+  told_count = b.told_count;
+  each = b.each;
+  tells = λ i t h. record { told_is = (b.tells i t h).told_is; room = omega (arith, (b.tells i t h).room, less) };
+  run = b.run;
+  room = omega (arith, b.room, less);
+  limit = omega (arith, b.limit, less);
+  log_is = b.log_is;
+  log_room = omega (arith, b.log_room, less);
+  text = b.text;
+}
+
+-- no step is of a node past the group's
+pub none_past : {A : Type 0} (n node : ℕ) (ls : List (LineView A)) → n < node → Each (IsInside n) ls → steps_of node ls ≡ []
+none_past n node [] past h = refl
+none_past n node (l ∷ ls) past h =
+    let b : (l.step.node == node) ≡ false = grind (arith, nat_tests, h.0.1, past) in
+    steps_of-skip node ls l b ∙ none_past n node ls past h.1
+
+-- the answer that is kept under a node's ticket
+pub told_answers : {A : Type 0} (lines : List (LineView A)) (reserved i node ticket : ℕ) (t : ToldView) → IsTold lines reserved i t → i ≡ node - 1 → 1 ≤ node
+    → told_at t.answers ticket ≡ answer_in lines node ticket
+told_answers lines reserved i node ticket t is at low =
+    let same : suc i ≡ node = omega (arith, at, low) in
+    ap (λ (answers : List (Option Answer)). told_at answers ticket) is.told_is ∙ ap (λ (n : ℕ). told_at (told_to n lines) ticket) same
+
+-- a node past the group's has no answer
+pub none_answers : {A : Type 0} (n node ticket : ℕ) (ls : List (LineView A)) → n < node → Each (IsInside n) ls → None ≡ answer_in ls node ticket
+none_answers {A} n node ticket ls past h = sym (ap (λ (ss : List (StepView A)). told_at (told_from [] ss) ticket) (none_past n node ls past h))
+
+-- no item stands at a place past the end
+pub none-length : {X : Type 0} (xs : List X) (i : ℕ) → slice_get xs i ≡ None → length xs ≤ i
+none-length [] i h = omega arith
+none-length (x ∷ xs) zero h = absurd cc
+none-length (x ∷ xs) (suc i) h = let k = none-length xs i h in omega (arith, k)
+
+-- lists of answers with as much room
+pub roomier-refl : (xs : List ToldView) → AreRoomier xs xs
+roomier-refl [] = tt
+roomier-refl (x ∷ xs) = (record { answers = refl; room = omega arith }, roomier-refl xs)
+
+-- and with more, at one node
+pub roomier-set : (old new : List ToldView) (i : ℕ) (t u : ToldView) → AreRoomier old new → slice_get new i ≡ Some t → IsRoomier t u → AreRoomier old (slice_set new i u)
+roomier-set [] [] i t u h e r = tt
+roomier-set [] (y ∷ ys) i t u h e r = absurd h
+roomier-set (x ∷ xs) [] i t u h e r = absurd h
+roomier-set (x ∷ xs) (y ∷ ys) zero t u h e r =
+    let same : t ≡ y = cc in
+    (record { answers = r.answers ∙ (ap (λ (z : ToldView). z.answers) same ∙ h.0.answers); room = omega (arith, r.room, ap (λ (z : ToldView). z.room) same, h.0.room) }, h.1)
+roomier-set (x ∷ xs) (y ∷ ys) (suc i) t u h e r = (h.0, roomier-set xs ys i t u h.1 e r)
+
+-- there is room for so many more at each node before this one
+abbrev pub HaveRoom : ℕ → ℕ → List ToldView → Type 0
+HaveRoom more at told = (i : ℕ) (t : ToldView) → i < at → slice_get told i ≡ Some t → length t.answers + more ≤ t.room
+
+pub room-set : (told : List ToldView) (more at : ℕ) (u : ToldView) → HaveRoom more at told → length u.answers + more ≤ u.room → HaveRoom more (at + 1) (slice_set told at u)
+room-set told more at u h r i t low e = elim (set_cases told at i u t e) [
+  | inl w ↦ rw w.1 r
+  | inr w ↦ h i t (let apart = w.0 in below apart low) w.1
+]
+  where
+    below : (i ≡ at → ⊥) → i < at + 1 → i < at
+    below apart low = grind (arith, nat_tests)
+
+pub room-all : (told : List ToldView) (more at : ℕ) → HaveRoom more at told → length told ≤ at → Each (λ (t : ToldView). length t.answers + more ≤ t.room) told
+room-all told more at h all = each-placed (λ (t : ToldView). length t.answers + more ≤ t.room) told (λ i t e. h i t (let k = get-length told i t e in omega (arith, k, all)) e)
+  where
+    get-length : (xs : List ToldView) (i : ℕ) (t : ToldView) → slice_get xs i ≡ Some t → i < length xs
+    get-length [] i t e = absurd cc
+    get-length (x ∷ xs) zero t e = omega arith
+    get-length (x ∷ xs) (suc i) t e = let k = get-length xs i t e in omega (arith, k)

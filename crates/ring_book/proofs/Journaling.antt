@@ -1,21 +1,30 @@
 -- A cell whose journal got one more step.
-use Rattle.std.proofs.Common.{◌≡◌, ℕ, ◌++◌, [], ◌∷◌, ◌∙◌, true, false}
+use Rattle.std.proofs.Common.{◌≡◌, ℕ, ◌≤◌, ◌++◌, List, [], ◌∷◌, ◌∙◌, true, false}
 use Rattle.rtrb.specs.Ring.{sent, SameProducer}
-use Rattle.ring_book.specs.Cells.{IsCell}
+use Rattle.ring_book.specs.Cells.{IsCell, AllOf}
 use Rattle.ring_book.specs.Ends.{Name, ring_of_producer}
-use Rattle.ring_book.specs.Machines.{Machine}
+use Rattle.ring_lines.specs.Machines.{Machine}
 use Rattle.ring_book.specs.Openings.{Writer}
-use Rattle.ring_book.specs.Runs.{IsStep}
-use Rattle.ring_book.specs.Steps.{StepView}
-use Rattle.ring_book.proofs.Leading.{Leads-snoc, AllOf-snoc}
+use Rattle.ring_lines.specs.Runs.{IsStep}
+use Rattle.ring_lines.specs.Steps.{StepView}
+use Rattle.ring_lines.proofs.Leading.{Leads-snoc}
 
 pub ring_stays : {A : Type 0} (p q : Writer A) → SameProducer p q → ring_of_producer q ≡ ring_of_producer p
 ring_stays p q h = cc
 
-pub cell_adds : {S A : Type 0} (m : Machine S A) (name : Name A) (me : ℕ) (node node' : S) (p q : Writer A) (l : StepView A)
-    → IsCell m name me false node p → l.node ≡ me → IsStep m node l node'
-    → SameProducer p q → sent q ≡ sent p ++ l ∷ [] → IsCell m name me true node' q
-cell_adds m name me node node' p q l k mine step same e = record {
+-- steps of one node, with one more
+AllOf-snoc : {A : Type 0} (i : ℕ) (ls : List (StepView A)) (l : StepView A) → AllOf i ls → l.node ≡ i → AllOf i (ls ++ l ∷ [])
+AllOf-snoc i [] l h e = (e, tt)
+AllOf-snoc i (x ∷ ls) l h e = (h.0, AllOf-snoc i ls l h.1 e)
+
+pub AllOf-last : {A : Type 0} (i : ℕ) (ls : List (StepView A)) (l : StepView A) → AllOf i (ls ++ l ∷ []) → l.node ≡ i
+AllOf-last i [] l h = h.0
+AllOf-last i (x ∷ ls) l h = AllOf-last i ls l h.1
+
+pub cell_adds : {S A : Type 0} (m : Machine S A) (IsSound : S → Type 0) (name : Name A) (me : ℕ) (node node' : S) (p q : Writer A) (space space' : ℕ) (l : StepView A)
+    → IsCell m IsSound name me false node p space → l.node ≡ me → IsStep m node l node' → IsSound node' → 8192 ≤ space'
+    → SameProducer p q → sent q ≡ sent p ++ l ∷ [] → IsCell m IsSound name me true node' q space'
+cell_adds m IsSound name me node node' p q space space' l k mine step sound text same e = record {
   counted = k.counted;
   in_book = k.in_book;
   ring = rw (ring_stays p q same) k.ring;
@@ -23,4 +32,6 @@ cell_adds m name me node node' p q l k mine step same e = record {
   mine = rw e (AllOf-snoc me (sent p) l k.mine mine);
   free = λ f. cc;
   room = same.1 ∙ k.room;
+  sound = sound;
+  text = text;
 }

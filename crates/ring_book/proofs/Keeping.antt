@@ -1,24 +1,20 @@
--- Runs of one node whose machine keeps the frames in their limits.
-use Rattle.std.proofs.Common.{◌++◌, List, [], ◌∷◌, sym, subst}
-use Rattle.std.specs.List.{AllByRecursion}
-use Rattle.ring_book.specs.declared.input.LineInput.{LineInput}
-use Rattle.ring_book.specs.declared.input.LineInput.TheVariants.{Called, Came}
-use Rattle.ring_book.specs.Machines.{Machine, Keeps, IsKept}
-use Rattle.ring_book.specs.Runs.{Leads, Makes}
-use Rattle.ring_book.specs.Steps.{StepView}
+-- What keeps the limits of frames: a node does along its steps.
+use Rattle.std.proofs.Common.{sym, subst}
+use Rattle.ring_base.specs.Group.{Group}
+use Rattle.ring_object.specs.Operations.{Sequential}
+use Rattle.ring_machine.specs.Nodes.{Node}
+use Rattle.ring_lines.specs.declared.input.LineInput.{LineInput}
+use Rattle.ring_lines.specs.declared.input.LineInput.TheVariants.{Called, Came}
+use Rattle.ring_frames.proofs.Nodes.{NodeFits, stepped_fits, submitted_fits}
+use Rattle.ring_lines.specs.Machines.{node_machine}
+use Rattle.ring_lines.specs.Runs.{IsStep, LineFits, Makes}
+use Rattle.ring_lines.specs.Steps.{StepView}
 
-module _ {S A : Type 0} (m : Machine S A) {IsSound : S → Type 0} (sound : Keeps m IsSound) where
-  -- a step keeps the machine sound
-  Makes-sound : (s : S) (input : LineInput A) (l : StepView A) (t : S) → IsSound s → Makes m s input l t → IsSound t
-  Makes-sound s (Called c) l t h made = subst IsSound (sym made.1) (sound.submits s c h)
-  Makes-sound s (Came i at) l t h made = subst IsSound (sym made.1) (sound.steps s i h)
-
-  -- and its frames in their limits
-  Makes-kept : (s : S) (input : LineInput A) (l : StepView A) (t : S) → IsSound s → Makes m s input l t → AllByRecursion IsKept l.frames
-  Makes-kept s (Called c) l t h made = rw made.2 tt
-  Makes-kept s (Came i at) l t h made = rw made.2 (sound.frames s i h)
-
-  -- the frames of the last step are in their limits
-  pub Leads-last : (s : S) (ls : List (StepView A)) (l : StepView A) (t : S) → IsSound s → Leads m s (ls ++ l ∷ []) t → AllByRecursion IsKept l.frames
-  Leads-last s [] l t h led = Makes-kept s l.input l led.0 h led.1.0.0
-  Leads-last s (x ∷ ls) l t h led = Leads-last led.0 ls l t (Makes-sound s x.input x led.0 h led.1.0.0) led.1.1
+-- a step of what keeps the limits keeps them
+pub node_sound : {O A : Type 0} (object : Sequential O) (group : Group) (s : Node A) (l : StepView A) (t : Node A) → NodeFits s → IsStep (node_machine object group) s l t → NodeFits t
+node_sound object group s l t h step = sound-by object group s l.input l t h step.fits step.makes
+  where
+    sound-by : {O A : Type 0} (object : Sequential O) (group : Group) (s : Node A) (input : LineInput A) (l : StepView A) (t : Node A) → NodeFits s → LineFits input
+        → Makes (node_machine object group) s input l t → NodeFits t
+    sound-by object group s (Called c) l t h fits made = subst NodeFits (sym made.1) (submitted_fits s c h fits)
+    sound-by object group s (Came i at) l t h fits made = subst NodeFits (sym made.1) (stepped_fits object s h i fits).node

@@ -1,14 +1,6 @@
-pub mod Leading
 pub mod Keeping
-pub mod Standing
 pub mod Stops
 pub mod Journaling
 pub mod Places
 pub mod Entering
 pub mod Opened
-pub mod Ones
-pub mod Bridge
-pub mod Histories
-pub mod Telling
-pub mod Given
-pub mod Ordering

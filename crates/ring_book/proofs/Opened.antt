@@ -1,21 +1,23 @@
 -- Openings that grow.
-use Rattle.std.proofs.Common.{◌≡◌, ℕ, zero, suc, ◌+◌, ◌-◌, ◌++◌, ◌≤◌, List, [], ◌∷◌, refl, ap, subst, sym, ◌∙◌, length, arith, drop, Some, slice_get, false}
+use Rattle.std.proofs.Common.{◌≡◌, ℕ, zero, suc, ◌+◌, ◌-◌, ◌++◌, ◌≤◌, ◌<◌, length-append, List, [], ◌∷◌, refl, ap, subst, sym, ◌∙◌, length, arith, drop, Some, slice_get, false}
 use Rattle.rtrb.specs.Ring.{received, consumer_capacity, IsPair}
-use Rattle.ring_book.specs.Books.{frame_bytes, End, IsBook}
+use Rattle.std.specs.List.{AllByRecursion as Each}
+use Rattle.ring_base.proofs.Each.{each-get}
+use Rattle.ring_lines.specs.Logs.{no_log}
+use Rattle.ring_book.specs.Books.{End, IsBook}
+use Rattle.ring_book.specs.Told.{ToldView}
 use Rattle.ring_book.specs.Cells.{IsCell}
 use Rattle.ring_book.specs.Ends.{Name, Ring, ring_of_producer, ring_of_consumer}
-use Rattle.ring_book.specs.Machines.{Machine}
+use Rattle.ring_lines.specs.Machines.{Machine}
 use Rattle.ring_book.specs.Openings.{Writer, IsStart, IsStartEnd, AllStart, AllStartEnds, rings_of}
 
-pub AllStart-snoc : {S A : Type 0} (m : Machine S A) (i j : ℕ) (ns : List S) (ps : List (Writer A)) (n : S)
-    (p : Writer A) → i + length ns ≡ j → AllStart m i ns ps → IsStart m j n p → AllStart m i (ns ++ n ∷ []) (ps ++ p ∷ [])
+pub AllStart-snoc : {S A : Type 0} (m : Machine S A) (i j : ℕ) (ns : List S) (ps : List (Writer A)) (n : S) (p : Writer A) → i + length ns ≡ j → AllStart m i ns ps → IsStart m j n p → AllStart m i (ns ++ n ∷ []) (ps ++ p ∷ [])
 AllStart-snoc m i j [] [] n p e h s = let same : j ≡ i = omega arith in (subst (λ (k : ℕ). IsStart m k n p) same s, tt)
 AllStart-snoc m i j [] (q ∷ ps) n p e h s = absurd h
 AllStart-snoc m i j (k ∷ ns) [] n p e h s = absurd h
 AllStart-snoc m i j (k ∷ ns) (q ∷ ps) n p e h s = (h.0, AllStart-snoc m (suc i) j ns ps n p (omega arith) h.1 s)
 
-pub AllStartEnds-snoc : {A : Type 0} (ps : List (Writer A)) (cs : List (End A)) (p : Writer A) (c : End A)
-    → AllStartEnds ps cs → IsStartEnd p c → AllStartEnds (ps ++ p ∷ []) (cs ++ c ∷ [])
+pub AllStartEnds-snoc : {A : Type 0} (ps : List (Writer A)) (cs : List (End A)) (p : Writer A) (c : End A) → AllStartEnds ps cs → IsStartEnd p c → AllStartEnds (ps ++ p ∷ []) (cs ++ c ∷ [])
 AllStartEnds-snoc [] [] p c h s = (s, tt)
 AllStartEnds-snoc [] (d ∷ cs) p c h s = absurd h
 AllStartEnds-snoc (q ∷ ps) [] p c h s = absurd h
@@ -31,9 +33,10 @@ drop_next zero (x ∷ xs) y ys h = (cc, cc)
 drop_next (suc i) [] y ys h = cc
 drop_next (suc i) (x ∷ xs) y ys h = drop_next i xs y ys h
 
-pub start_cell : {S A : Type 0} (m : Machine S A) (name : Name A) (i me : ℕ) (n : S) (p : Writer A) (rings : List (Ring A))
-    → me - 1 ≡ i → 1 ≤ me → me ≤ name.count → drop i name.rings ≡ ring_of_producer p ∷ rings → IsStart m me n p → IsCell m name me false n p
-start_cell m name i me n p rings is low high d s = record {
+pub start_cell : {S A : Type 0} (m : Machine S A) (IsSound : S → Type 0) (name : Name A) (i me : ℕ) (n : S) (p : Writer A) (space : ℕ) (rings : List (Ring A))
+    → me - 1 ≡ i → 1 ≤ me → me ≤ name.group.count → drop i name.rings ≡ ring_of_producer p ∷ rings → IsStart m me n p → IsSound n → 8192 ≤ space
+    → IsCell m IsSound name me false n p space
+start_cell m IsSound name i me n p space rings is low high d s sound text = record {
   counted = low;
   in_book = high;
   ring = rw is (drop_next i name.rings (ring_of_producer p) rings d).0;
@@ -41,12 +44,12 @@ start_cell m name i me n p rings is low high d s = record {
   mine = rw s.sent_is tt;
   free = λ _. s.free;
   room = s.one;
+  sound = sound;
+  text = text;
 }
 
 -- the ends and the writers by place
-ends_at : {A : Type 0} (ps : List (Writer A)) (cs : List (End A)) (i : ℕ) (c : End A) → AllStartEnds ps cs
-    → slice_get cs i ≡ Some c → (slice_get (rings_of ps) i ≡ Some (ring_of_consumer c)) × (received c ≡ [])
-    × (consumer_capacity c ≡ 1)
+ends_at : {A : Type 0} (ps : List (Writer A)) (cs : List (End A)) (i : ℕ) (c : End A) → AllStartEnds ps cs → slice_get cs i ≡ Some c → (slice_get (rings_of ps) i ≡ Some (ring_of_consumer c)) × (received c ≡ []) × (consumer_capacity c ≡ 1)
 ends_at [] [] i c h e = cc
 ends_at [] (d ∷ cs) i c h e = absurd h
 ends_at (p ∷ ps) [] i c h e = absurd h
@@ -68,20 +71,49 @@ starts_length m i [] (p ∷ ps) h = absurd h
 starts_length m i (n ∷ ns) [] h = absurd h
 starts_length m i (n ∷ ns) (p ∷ ps) h = ap suc (starts_length m (suc i) ns ps h.1)
 
-pub start_book : {S A : Type 0} (m : Machine S A) (name : Name A) (ns : List S) (ps : List (Writer A)) (cs : List (End A)) (room : ℕ)
-    → AllStart m 1 ns ps → AllStartEnds ps cs → length ns ≡ 1 → name.count ≡ length ns → name.rings ≡ rings_of ps
-    → frame_bytes ≤ room → IsBook m name [] 0 cs [] [] 0 0 0 room
-start_book m name ns ps cs room a b one n r text = record {
-  alone = n ∙ one;
+-- answers of nodes that were given no ticket
+abbrev pub AreNone : List ToldView → Type 0
+AreNone told = Each (λ (t : ToldView). t.answers ≡ []) told
+
+none-at : (told : List ToldView) (i : ℕ) (t : ToldView) → AreNone told → slice_get told i ≡ Some t → t.answers ≡ []
+none-at told i t none h = each-get (λ (x : ToldView). x.answers ≡ []) told i t none h
+
+pub start_book : {S A : Type 0} (m : Machine S A) (name : Name A) (ns : List S) (ps : List (Writer A)) (cs : List (End A)) (told : List ToldView) (room : ℕ)
+    → AllStart m 1 ns ps → AllStartEnds ps cs → name.group.count ≤ 16 → name.group.count ≡ length ns → name.rings ≡ rings_of ps → length told ≡ name.group.count → AreNone told
+    → 8192 ≤ room → IsBook m name [] 0 cs told no_log 0 0 room
+start_book m name ns ps cs told room a b few n r many none text = record {
+  few = few;
   count = ends_length ps cs b ∙ (sym (starts_length m 1 ns ps a) ∙ sym n);
+  told_count = many;
   each = λ i c h. (let e = ends_at ps cs i c b h in record { ring = rw r e.0; came = e.1; one = e.2 });
+  tells = λ i t h. (let e = none-at told i t none h in record { told_is = e; room = (let k = ap length e in omega (arith, k)) });
   run = record { nodes = λ i h k. (m.opening i, refl); inside = tt; found = tt };
-  kept = tt;
   room = omega arith;
   limit = omega arith;
-  answers = refl;
-  answers_room = omega arith;
-  numbers = refl;
-  numbers_room = omega arith;
+  log_is = refl;
+  log_room = omega arith;
   text = text;
 }
+
+-- Counting along the nodes of an opening
+
+pub below_16 : (i n m : ℕ) → i < n → n ≡ m → m ≤ 16 → i < 16
+below_16 i n m low same few = omega (arith, low, same, few)
+
+pub count_next : (i n m k : ℕ) → i + n ≡ k → n ≡ suc m → suc i + m ≡ k
+count_next i n m k all more = omega (arith, all, more)
+
+pub many_next : {X : Type 0} (xs : List X) (x : X) (i : ℕ) → length xs ≡ i → length (xs ++ x ∷ []) ≡ suc i
+many_next xs x i h = omega (arith, length-append xs (x ∷ []), h)
+
+pub all_counted : (i n k c : ℕ) → i + n ≡ k → c ≡ k → c ≤ i → i ≡ k
+all_counted i n k c all same past = omega (arith, all, same, past)
+
+pub some_left : (i c n k len : ℕ) → i < c → c ≡ k → i + n ≡ k → len ≡ n → 0 < len
+some_left i c n k len low same all is = omega (arith, low, same, all, is)
+
+pub some_more : (n m w len : ℕ) → n ≡ w → n ≡ suc m → len ≡ w → 0 < len
+some_more n m w len same more is = omega (arith, same, more, is)
+
+pub text_room : (a b : ℕ) → 8192 ≤ b → 8192 ≤ a + b
+text_room a b h = omega (arith, h)

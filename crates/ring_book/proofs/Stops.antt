@@ -1,14 +1,12 @@
 -- What it means that a node's step was refused.
-use Rattle.std.proofs.Common.{◌≡◌, ℕ, Bool, true, false, List, [], ◌∷◌, length, drop, refl, ap}
+use Rattle.std.proofs.Common.{◌≡◌, Bool, true, false, refl, ap}
 use Rattle.std.specs.Prelude.{if◌then◌else◌, Option, MatchOption}
 use Rattle.ring_book.specs.Cells.{IsRefusal}
 use Rattle.ring_base.specs.declared.fault.Fault.{Fault}
 use Rattle.ring_base.specs.declared.fault.Fault.TheVariants.{Memory, Stopped as StoppedFault}
 use Rattle.ring_base.specs.declared.state.State.{State}
 use Rattle.ring_base.specs.declared.state.State.TheVariants.{Gather, Commit, Recovery, Operational, Stopped}
-use Rattle.ring_object.specs.Operations.{Sequential}
-use Rattle.ring_one.specs.Machine.{One, committed_of, is_stopped, new_answers, one_stopped}
-use Rattle.ring_ticket.specs.Tickets.{answers_after}
+use Rattle.ring_machine.specs.Nodes.{Node, is_stopped, node_stopped}
 
 -- memory is refused to a node that runs
 pub memory_runs : (b : Bool) → Memory ≡ (if b then StoppedFault else Memory) → b ≡ false
@@ -28,19 +26,10 @@ is_state Recovery h = absurd cc
 is_state Operational h = absurd cc
 
 -- a stopped node that stops stays as it is
-pub stopped_same : {A : Type 0} (s : One A) → is_stopped s.state ≡ true → one_stopped s ≡ s
-stopped_same s h = ap (λ state. record s { state = state }) (is_state s.state h)
-
-drop_all : {X : Type 0} (xs : List X) → drop (length xs) xs ≡ []
-drop_all [] = refl
-drop_all (x ∷ xs) = drop_all xs
-
--- as a node stops, no ticket is answered
-pub stop_answers : {O A : Type 0} (object : Sequential O) (s : One A) → new_answers object s (one_stopped s) ≡ []
-stop_answers object s = ap (answers_after object s.tickets (committed_of s)) (drop_all (committed_of s))
+pub stopped_same : {A : Type 0} (n : Node A) → is_stopped n.core.state ≡ true → node_stopped n ≡ n
+stopped_same n h = ap (λ state. record n { core = record n.core { state = state } }) (is_state n.core.state h)
 
 -- a node refuses where its cell is not a step ahead
-pub node_refuses : (ahead : Bool) (refusal : Option Fault) (fault : Fault) → ahead ≡ false → MatchOption refusal
-    (fault ≡ Memory) (λ first. fault ≡ first) → IsRefusal ahead refusal fault
+pub node_refuses : (ahead : Bool) (refusal : Option Fault) (fault : Fault) → ahead ≡ false → MatchOption refusal (fault ≡ Memory) (λ first. fault ≡ first) → IsRefusal ahead refusal fault
 node_refuses true refusal fault e h = absurd cc
 node_refuses false refusal fault e h = h

@@ -4,50 +4,49 @@ use Rattle.std.specs.Prelude.{ℕ, suc, Option, ◌≡◌, ◌≤◌, ◌+◌, �
 use Rattle.rtrb.specs.declared.consumer.Consumer.{Consumer}
 use Rattle.rtrb.specs.declared.AnyItems.{AnyItems}
 use Rattle.rtrb.specs.Ring.{received, consumer_capacity}
-use Rattle.ring_book.specs.declared.line.Line.{Line}
-use Rattle.ring_session.specs.declared.answer.Answer.{Answer}
-use Rattle.ring_book.specs.Answers.{told_to}
+use Rattle.ring_lines.specs.Answers.{told_to}
 use Rattle.ring_book.specs.Ends.{Name, ring_of_consumer}
-use Rattle.ring_book.specs.Lines.{steps_of, IsFound, AreKept}
-use Rattle.ring_book.specs.Machines.{Machine}
-use Rattle.ring_book.specs.Orders.{call_lines}
-use Rattle.ring_book.specs.Runs.{IsBookRun}
+use Rattle.ring_lines.specs.Lines.{steps_of, IsFound}
+use Rattle.ring_lines.specs.Machines.{Machine}
+use Rattle.ring_lines.specs.Logs.{LogView, log_in}
+use Rattle.ring_lines.specs.Runs.{IsBookRun}
 use Rattle.ring_book.specs.Seen.{CellView, BookView}
-use Rattle.ring_book.specs.Steps.{StepView}
+use Rattle.ring_book.specs.Told.{ToldView}
+use Rattle.ring_lines.specs.Steps.{StepView, LineView}
 
 -- a book has at most so many lines
 abbrev pub most_places : ℕ
 most_places = 262144
 
--- no frame has more bytes
-abbrev pub frame_bytes : ℕ
-frame_bytes = 8192
-
 abbrev pub End : Type 0 → Type 0
 End A = Consumer (StepView A) A AnyItems
 
 -- The end's ring is that of the node at this place, and what came through it are the steps of that node.
-pub record IsEnd {A : Type 0} (name : Name A) (lines : List (Line A)) (i : ℕ) (c : End A) : Type 0 where
+pub record IsEnd {A : Type 0} (name : Name A) (lines : List (LineView A)) (i : ℕ) (c : End A) : Type 0 where
   pub ring : slice_get name.rings i ≡ Some (ring_of_consumer c)
   pub came : received c ≡ steps_of (suc i) lines
   pub one : consumer_capacity c ≡ 1
 
+-- The answers of the node at this place are those of the lines, and there is room for what is reserved.
+pub record IsTold {A : Type 0} (lines : List (LineView A)) (reserved i : ℕ) (t : ToldView) : Type 0 where
+  pub told_is : t.answers ≡ told_to (suc i) lines
+  pub room : length t.answers + reserved ≤ t.room
+
 module _ {S A : Type 0} (m : Machine S A) where
-  -- There is one node, the lines are a run, each end has brought its node's steps, and there is room for what is reserved.
-  pub record IsBook (name : Name A) (lines : List (Line A)) (reserved : ℕ) (ends : List (End A))
-      (told : List (Option Answer)) (calls : List ℕ) (capacity tickets places space : ℕ) : Type 0 where
-    pub alone : name.count ≡ 1
-    pub count : length ends ≡ name.count
+  -- The lines are a run, each end has brought its node's steps, and there is room for what is reserved.
+  pub record IsBook (name : Name A) (lines : List (LineView A)) (reserved : ℕ) (ends : List (End A)) (told : List ToldView) (log : LogView) (capacity places space : ℕ)
+      : Type 0 where
+    pub few : name.group.count ≤ 16
+    pub count : length ends ≡ name.group.count
+    pub told_count : length told ≡ name.group.count
     pub each : (i : ℕ) (c : End A) → slice_get ends i ≡ Some c → IsEnd name lines i c
-    pub run : IsBookRun m name.count lines
-    pub kept : AreKept lines
+    pub tells : (i : ℕ) (t : ToldView) → slice_get told i ≡ Some t → IsTold lines reserved i t
+    pub run : IsBookRun m name.group.count lines
     pub room : length lines + reserved ≤ capacity
     pub limit : length lines + reserved ≤ most_places
-    pub answers : told ≡ told_to 1 lines
-    pub answers_room : length told + reserved ≤ tickets
-    pub numbers : calls ≡ call_lines lines
-    pub numbers_room : length calls + reserved ≤ places
-    pub text : frame_bytes ≤ space
+    pub log_is : log ≡ log_in lines
+    pub log_room : length log.segments + reserved ≤ places
+    pub text : 8192 ≤ space
 
 module _ {S A : Type 0} where
   -- The cell's one step went to the end of the list, as its line, and what it delivers stood in the list before. Then

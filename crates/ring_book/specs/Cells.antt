@@ -6,16 +6,16 @@ use Rattle.rtrb.specs.declared.AnyItems.{AnyItems}
 use Rattle.rtrb.specs.Ring.{sent, known_free, producer_capacity}
 use Rattle.ring_base.specs.declared.fault.Fault.{Fault}
 use Rattle.ring_base.specs.declared.fault.Fault.TheVariants.{Stopped, Stranger, Memory}
-use Rattle.ring_one.specs.declared.input.Input.{Input}
-use Rattle.ring_one.specs.declared.input.Input.TheVariants.{Stop}
-use Rattle.ring_book.specs.declared.frame_ref.FrameRef.{FrameRef}
-use Rattle.ring_book.specs.declared.input.LineInput.{LineInput}
-use Rattle.ring_book.specs.declared.input.LineInput.TheVariants.{Came}
+use Rattle.ring_machine.specs.declared.input.Input.{Input}
+use Rattle.ring_machine.specs.declared.input.Input.TheVariants.{Stop}
+use Rattle.ring_lines.specs.declared.frame_ref.FrameRef.{FrameRef}
+use Rattle.ring_lines.specs.declared.input.LineInput.{LineInput}
+use Rattle.ring_lines.specs.declared.input.LineInput.TheVariants.{Came}
 use Rattle.ring_book.specs.Ends.{Name, ring_of_producer}
-use Rattle.ring_book.specs.Machines.{Machine}
-use Rattle.ring_book.specs.Runs.{Leads, IsStep}
+use Rattle.ring_lines.specs.Machines.{Machine}
+use Rattle.ring_lines.specs.Runs.{Leads, IsStep}
 use Rattle.ring_book.specs.Seen.{CellView}
-use Rattle.ring_book.specs.Steps.{StepView}
+use Rattle.ring_lines.specs.Steps.{StepView}
 
 -- they are steps of this node
 abbrev pub AllOf : {A : Type 0} → ℕ → List (StepView A) → Type 0
@@ -28,15 +28,17 @@ IsRefusal true refusal fault = fault ≡ Stranger
 IsRefusal false refusal fault = MatchOption refusal (fault ≡ Memory) (λ first. fault ≡ first)
 
 module _ {S A : Type 0} (m : Machine S A) where
-  -- The node is what its journal makes of the opening state, and the journal's ring is that of this node in this book.
-  pub record IsCell (name : Name A) (me : ℕ) (ahead : Bool) (node : S) (journal : Producer (StepView A) A AnyItems) : Type 0 where
+  -- The node is sound, so that its frames keep their limits, and it is what its journal makes of the opening state, and the journal's ring is that of this node in this book.
+  pub record IsCell (IsSound : S → Type 0) (name : Name A) (me : ℕ) (ahead : Bool) (node : S) (journal : Producer (StepView A) A AnyItems) (space : ℕ) : Type 0 where
     pub counted : 1 ≤ me
-    pub in_book : me ≤ name.count
+    pub in_book : me ≤ name.group.count
     pub ring : slice_get name.rings (me - 1) ≡ Some (ring_of_producer journal)
     pub leads : Leads m (m.opening me) (sent journal) node
     pub mine : AllOf me (sent journal)
     pub free : ahead ≡ false → 0 < known_free journal
     pub room : producer_capacity journal ≡ 1
+    pub sound : IsSound node
+    pub text : 8192 ≤ space
 
   -- One step was added to the journal, of this input, and the node is what it makes.
   pub record Journals (old new : CellView S A) (input : LineInput A) : Type 0 where

@@ -1,7 +1,8 @@
 -- The rings of the journals, and what names a book by them.
 -- The book and the threads, of docs/PROTOCOL.md.
-use Rattle.std.specs.Prelude.{ℕ, List}
+use Rattle.std.specs.Prelude.{List}
 use denote.RawPtr.{Ptr}
+use Rattle.ring_base.specs.Group.{Group}
 use Rattle.rtrb.specs.Shared.{Names}
 use Rattle.rtrb.specs.declared.producer.Producer.{Producer}
 use Rattle.rtrb.specs.declared.consumer.Consumer.{Consumer}
@@ -14,9 +15,9 @@ pub record Ring (A : Type 0) : Type 0 where
   pub names : Names
   pub heap : A
 
--- A book's name: how many nodes it has, and the ring of each.
+-- A book's name: the group of its nodes, and the ring of each.
 pub record Name (A : Type 0) : Type 0 where
-  pub count : ℕ
+  pub group : Group
   pub rings : List (Ring A)
 
 module _ {T A : Type 0} where

@@ -1,14 +1,7 @@
-pub mod Steps
-pub mod Machines
-pub mod Lines
-pub mod Runs
 pub mod Ends
 pub mod Seen
+pub mod Told
 pub mod Cells
-pub mod Answers
-pub mod Nothing
-pub mod Orders
 pub mod Books
 pub mod Entered
 pub mod Openings
-pub mod Events

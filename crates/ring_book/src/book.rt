@@ -1,29 +1,25 @@
 //! What the book's lock holds.
 
-ghost use Rattle.std.specs.Prelude.{⊤, Some, slice_get, ◌-◌, ◌≡◌, ◌+◌, ◌<◌, ◌≤◌, ◌⊎◌, MatchOption, MatchResult, OnOk};
-ghost use Rattle.std.specs.Prelude.{OnErr, IfOk, IfErr, IsOk, IsSomeAnd, ◌↔◌, [], ◌∷◌, ◌++◌, length, vec_len};
-ghost use Rattle.std.specs.Prelude.{vec_capacity};
+ghost use Rattle.std.specs.Prelude.{⊤, Some, slice_get, ◌-◌, ◌≡◌, ◌+◌, ◌<◌, ◌≤◌, ◌⊎◌, MatchOption, MatchResult, OnOk, OnErr, IfOk, IfErr, IsOk, IsSomeAnd, ◌↔◌, [], ◌∷◌, ◌++◌, length, vec_len, vec_capacity};
+ghost use Rattle.std.specs.List.{AllByRecursion};
+ghost use Rattle.std.specs.Option.{option_copied};
 ghost use Rattle.ring_base.specs.declared.fault.Fault.TheVariants.{BookFull, Memory, Stranger};
-ghost use Rattle.ring_book.specs.Lines.{Stands};
-ghost use Rattle.ring_wire.specs.Frames.{spelling_of};
+ghost use Rattle.ring_book.specs.Told.{AreRoomier};
+ghost use Rattle.ring_lines.specs.Lines.{Stands};
 
 use crate::PLACES;
-use crate::answers::tell;
 use crate::cell::Cell;
-use crate::frame_ref::FrameRef;
-use crate::history::history;
-use crate::line::{Line, frame_at, is_found, stands};
 use crate::name::BookName;
-use crate::order::{committed_after, note, order};
-use crate::step::Step;
+use crate::told::Told;
 use bytes::BytesMut;
 use ring_base::{Fault, Proc};
 use ring_history::Item;
+use ring_lines::laws::lines_law;
+use ring_lines::{FrameRef, Line, Segment, Step, history, is_found, note, order, stands};
 use ring_object::Object;
-use ring_one::{Ticket, linear_law};
 use ring_payload::Call;
 use ring_session::Answer;
-use ring_wire::Wire;
+use ring_ticket::Ticket;
 use rtrb::Consumer;
 use std::alloc::Allocator;
 use std::marker::{Model, PhantomData};
@@ -40,10 +36,11 @@ pub struct Book<O: Object, K: BookName<O::Alloc>> {
     lines: Vec<Line<O::Alloc>, O::Alloc>,
     reserved: u32,
     ends: Vec<Consumer<Step<O::Alloc>, O::Alloc>, O::Alloc>,
-    // The answers of the node's tickets, in the order of tickets.
-    told: Vec<Option<Answer>, O::Alloc>,
-    // The numbers of the lines that submitted a call, in the order of tickets.
-    calls: Vec<u32, O::Alloc>,
+    // The answers of each node's tickets.
+    told: Vec<Told<O::Alloc>, O::Alloc>,
+    // How long the longest committed log is, and of which lines it is made.
+    total: usize,
+    segments: Vec<Segment, O::Alloc>,
     // Room to spell a frame in.
     text: BytesMut<O::Alloc>,
     of: PhantomData<(O, K)>,
@@ -52,16 +49,14 @@ pub struct Book<O: Object, K: BookName<O::Alloc>> {
 impl<O: Object, K: BookName<O::Alloc>> Model for Book<O, K> {
     ghost use Rattle.std.specs.Prelude.{◌+◌, length, vec_capacity};
     ghost use Rattle.ring_book.specs.Books.{IsBook};
-    ghost use Rattle.ring_book.specs.Machines.{one_machine};
+    ghost use Rattle.ring_lines.specs.Machines.{node_machine};
     ghost use Rattle.ring_book.specs.Seen.{BookView};
 
     ghost Value = { BookView O.Alloc };
 
     ghost view = { λ b. record { lines = b.lines.items; reserved = b.reserved } };
 
-    ghost invariant = { λ b. IsBook (one_machine O.sequential) K.name b.lines.items b.reserved b.ends.items
-        b.told.items b.calls.items (vec_capacity b.lines) (vec_capacity b.told) (vec_capacity b.calls)
-        (length b.text.items + b.text.spare) };
+    ghost invariant = { λ b. IsBook (node_machine O.sequential K.name.group) K.name b.lines.items b.reserved b.ends.items b.told.items (record { total = b.total; segments = b.segments.items }) (vec_capacity b.lines) (vec_capacity b.segments) (length b.text.items + b.text.spare) };
 }
 
 impl<O: Object, K: BookName<O::Alloc>> Book<O, K> {
@@ -69,49 +64,58 @@ impl<O: Object, K: BookName<O::Alloc>> Book<O, K> {
     ghost use mathlib.Core.Option.{none};
     ghost use denote.Follow.{follows_so};
     ghost use Rattle.ring_book.specs.contracts.book.Book.{the_row};
-    ghost use Rattle.ring_book.specs.Answers.{answer_in};
+    ghost use Rattle.ring_lines.specs.Answers.{answer_in};
     ghost use Rattle.ring_book.specs.Books.{most_places, Enters, IsStrange, IsBook};
     ghost use Rattle.ring_book.specs.Entered.{EnterGives};
-    ghost use Rattle.ring_book.specs.Events.{IsRun, events_of, history_of};
-    ghost use Rattle.ring_book.specs.Lines.{frame_at, steps_of};
-    ghost use Rattle.ring_book.specs.Machines.{one_machine};
+    ghost use Rattle.ring_lines.specs.Events.{IsRun, events_of, history_of};
+    ghost use Rattle.ring_lines.specs.Lines.{sent_at, steps_of};
+    ghost use Rattle.ring_lines.specs.Puts.{IsPut};
+    ghost use Rattle.ring_lines.specs.Machines.{node_machine};
     ghost use Rattle.ring_book.specs.Openings.{new_book};
-    ghost use Rattle.ring_one.specs.Runs.{order_in, run};
+    ghost use Rattle.ring_history.specs.Worlds.{run, world_opening, order as order_in};
 
     // A book without lines.
     pub(crate) fn new(
         alloc: O::Alloc,
         ends: Vec<Consumer<Step<O::Alloc>, O::Alloc>, O::Alloc>,
+        told: Vec<Told<O::Alloc>, O::Alloc>,
         text: BytesMut<O::Alloc>,
     ) -> Book<O, K>
-        requires { IsBook (one_machine O.sequential) K.name [] 0 ends.items [] [] 0 0 0 (length text.items + text.spare) }
+        requires { IsBook (node_machine O.sequential K.name.group) K.name [] 0 ends.items told.items (record { total = 0; segments = [] }) 0 0 (length text.items + text.spare) }
         ensures { result ≡ new_book }
     {
         Book {
             lines: Vec::new(alloc),
             reserved: 0,
             ends,
-            told: Vec::new(alloc),
-            calls: Vec::new(alloc),
+            told,
+            total: 0,
+            segments: Vec::new(alloc),
             text,
             of: PhantomData,
         }
     }
 
-    /// Law: the list is a run. Its inputs are the events of a run of the group, with just these frames and answers: of the
-    /// very run of which `ring_one::linear_law` speaks. So `order` and `history` are that run's, and `answer` tells what
-    /// the session table answers to the ticket, a place among its calls (`calls`), along its committed log (`answers`).
+    /// Law: the list is a run of the group. Its inputs are the events of a run of a world of nodes, with just these frames,
+    /// answers and committed calls: of the very run of which `linear_law` of ring_linear speaks. So `order` and `history` are
+    /// that run's, and `answer` tells what the session table answers to the ticket, a place among its node's calls
+    /// (`calls`), along the node's committed log (`answers`).
     pub fn run_law(&self)
-        ensures { IsRun O.sequential self.now.lines }
+        ensures run { IsRun O.sequential K.name.group self.now.lines }
+        ensures few { K.name.group.count ≤ 16 }
     {
+        lines_law::<O>();
         let _lines = &self.lines;
     }
 
-    /// Law: where all steps of a cell are entered, its node is the node of the list's run.
+    /// Law: a cell's processor is of the group. Where all steps of the cell are entered, its node is the node of the list's
+    /// run.
     pub fn node_law(&self, cell: &Cell<O, K>)
-        ensures { cell.now.journal ≡ steps_of cell.now.me self.now.lines →
-            (run O.sequential (events_of self.now.lines)).node ≡ cell.now.node }
+        ensures member { (1 ≤ cell.now.me) × (cell.now.me ≤ K.name.group.count) }
+        ensures node { cell.now.journal ≡ steps_of cell.now.me self.now.lines →
+            cell.now.node ≡ (run O.sequential (world_opening K.name.group) (events_of self.now.lines)).nodes cell.now.me }
     {
+        lines_law::<O>();
         let _lines = &self.lines;
         let _me = cell.me;
     }
@@ -136,9 +140,9 @@ impl<O: Object, K: BookName<O::Alloc>> Book<O, K> {
         }
         make_room(
             &mut self.lines,
+            &mut self.segments,
             &mut self.told,
-            &mut self.calls,
-            self.reserved,
+            self.reserved + 1,
         )?;
         self.reserved += 1;
         Ok(Place { _private: () })
@@ -172,12 +176,8 @@ impl<O: Object, K: BookName<O::Alloc>> Book<O, K> {
     pub fn answer(&self, node: Proc, ticket: Ticket) -> Option<Answer>
         ensures { result ≡ answer_in self.now.lines node ticket }
     {
-        let told = self.told.get(ticket.number() as usize);
-        if node.number() != 1 {
-            return None;
-        }
-        match told {
-            Some(answer) => *answer,
+        match told_of(self.told.as_slice(), node) {
+            Some(told) => told.answer(ticket),
             None => None,
         }
     }
@@ -190,26 +190,33 @@ impl<O: Object, K: BookName<O::Alloc>> Book<O, K> {
         history(*self.lines.allocator(), self.lines.as_slice())
     }
 
-    /// The order of the list's run, or `Memory`: the calls that take effect of the node's committed log.
+    /// The order of the list's run, or `Memory`: the calls that take effect of the longest committed log.
     pub fn order(&self) -> Result<Vec<Call<O::Alloc>, O::Alloc>, Fault>
-        ensures ok { IfOk result (λ calls. calls.items ≡ order_in (run O.sequential (events_of self.now.lines))) }
-        ensures refused { IfErr result (λ e. e ≡ Memory) }
+        ensures ok { IfOk result (λ calls. calls.items ≡ order_in (run O.sequential (world_opening K.name.group) (events_of self.now.lines))) }
+        ensures refused { IfErr result (λ fault. fault ≡ Memory) }
     {
-        linear_law::<O>();
-        let lines = self.lines.as_slice();
-        let committed = committed_after(lines);
-        order(*self.lines.allocator(), lines, &self.calls[..committed])
+        lines_law::<O>();
+        order(
+            *self.lines.allocator(),
+            self.lines.as_slice(),
+            self.segments.as_slice(),
+        )
     }
 
-    /// Appends the bytes of the frame that stands there. Refused with `Stranger` where none does, then with `Memory`; nothing
-    /// is appended then.
-    pub fn spell(&self, at: FrameRef, out: &mut BytesMut<O::Alloc>) -> Result<(), Fault>
-        ensures ok { OnOk result (IsSomeAnd (frame_at self.now.lines at) (λ frame. out.new.items ≡ out.old.items ++ spelling_of frame)) }
-        ensures err { OnErr result (out.new.items ≡ out.old.items) }
-        ensures refused { IfErr result (λ e. MatchOption (frame_at self.now.lines at) (e ≡ Stranger) (λ _. e ≡ Memory)) }
+    /// The line of this number, counted from 0, if there is one.
+    pub fn line(&self, number: u32) -> Option<&Line<O::Alloc>>
+        ensures { option_copied result ≡ slice_get self.now.lines number }
     {
-        match frame_at(self.lines.as_slice(), at) {
-            Some(frame) => frame.put(out),
+        self.lines.get(number as usize)
+    }
+
+    /// Appends the bytes of the frame that stands there, whomever it goes to. Refused with `Stranger` where none does, then
+    /// with `Memory`; nothing is appended then.
+    pub fn spell(&self, at: FrameRef, out: &mut BytesMut<O::Alloc>) -> Result<(), Fault>
+        ensures { IsPut (sent_at self.now.lines at) out.old.items out.new.items result }
+    {
+        match self.line(at.line) {
+            Some(line) => line.frames().put(at.place, out),
             None => Err(Fault::Stranger),
         }
     }
@@ -228,15 +235,15 @@ impl<O: Object, K: BookName<O::Alloc>> Book<O, K> {
         if end.slots_beside(&mut cell.journal) == 0 {
             return Err(Fault::Stranger);
         }
-        if !is_found(self.lines.as_slice(), end.peek_known()) {
+        if !is_found(self.lines.as_slice(), end.peek_known(), &mut self.text) {
             return Err(Fault::Stranger);
         }
         let step = end.pop_known();
         cell.journal.slots_beside(end);
-        tell(&mut self.told, &step);
+        self.told[at].tell(&step);
         let number = self.lines.len() as u32;
-        note(&mut self.calls, number, &step);
-        self.lines.push_reserved(Line { number, step });
+        note(&mut self.total, &mut self.segments, number, &step);
+        self.lines.push_reserved(Line::new(number, step));
         self.reserved -= 1;
         cell.ahead = false;
         Ok(())
@@ -256,35 +263,52 @@ impl<O: Object, K: BookName<O::Alloc>> Book<O, K> {
     /// doesn't stand in the list where its `FrameRef` says, for this node. Then book and cell are unchanged, and what
     /// was reserved stays reserved.
     pub fn enter(&mut self, _place: Place, cell: &mut Cell<O, K>) -> Result<&Line<O::Alloc>, Fault>
-        ensures* after { sem 𝓛 (follows_so (the_row O.row K.row O.Alloc.row O.Object O.Alloc.Allocator K.BookName)
-            (the_row O.row K.row O.Alloc.row O.Object O.Alloc.Allocator K.BookName) self.entry.ghost_name none
-            (λ _ _. ⊤) (λ n. EnterGives self.old n cell.old cell.new result)) }
+        ensures* after { sem 𝓛 (follows_so (the_row O.row K.row O.Alloc.row O.Object O.Alloc.Allocator K.BookName) (the_row O.row K.row O.Alloc.row O.Object O.Alloc.Allocator K.BookName) self.entry.ghost_name none (λ _ _. ⊤) (λ n. EnterGives self.old n cell.old cell.new result)) }
     {
         self.enter_step(cell)?;
         Ok(self.last())
     }
 }
 
-// Makes room for one line more than so many, and for a ticket more in each.
+// The answers of a node's tickets, if it is of the group.
+fn told_of<A: Allocator + Copy + Drop>(told: &[Told<A>], node: Proc) -> Option<&Told<A>>
+    ensures lookup { option_copied result ≡ slice_get told.now (node - 1) }
+    ensures counted { 1 ≤ node }
+{
+    told.get(node.number() as usize - 1)
+}
+
+// Makes room for so many lines more, so many segments more of the longest log, and so many tickets more of each node.
 fn make_room<A: Allocator + Copy + Drop>(
     lines: &mut Vec<Line<A>, A>,
-    told: &mut Vec<Option<Answer>, A>,
-    calls: &mut Vec<u32, A>,
-    reserved: u32,
+    segments: &mut Vec<Segment, A>,
+    told: &mut Vec<Told<A>, A>,
+    more: u32,
 ) -> Result<(), Fault>
     ensures lines { lines.new.items ≡ lines.old.items }
     ensures lines_stay { vec_capacity lines.old ≤ vec_capacity lines.new }
-    ensures lines_room { OnOk result (vec_len lines.new + reserved < vec_capacity lines.new) }
-    ensures told { told.new.items ≡ told.old.items }
-    ensures told_stay { vec_capacity told.old ≤ vec_capacity told.new }
-    ensures told_room { OnOk result (vec_len told.new + reserved < vec_capacity told.new) }
-    ensures calls { calls.new.items ≡ calls.old.items }
-    ensures calls_stay { vec_capacity calls.old ≤ vec_capacity calls.new }
-    ensures calls_room { OnOk result (vec_len calls.new + reserved < vec_capacity calls.new) }
+    ensures lines_room { OnOk result (vec_len lines.new + more ≤ vec_capacity lines.new) }
+    ensures segments { segments.new.items ≡ segments.old.items }
+    ensures segments_stay { vec_capacity segments.old ≤ vec_capacity segments.new }
+    ensures segments_room { OnOk result (vec_len segments.new + more ≤ vec_capacity segments.new) }
+    ensures told { AreRoomier told.old.items told.new.items }
+    ensures told_room { OnOk result (AllByRecursion (λ t. length t.answers + more ≤ t.room) told.new.items) }
     ensures refused { IfErr result (λ e. e ≡ Memory) }
 {
-    lines.reserve(reserved as usize + 1)?;
-    told.reserve(reserved as usize + 1)?;
-    calls.reserve(reserved as usize + 1)?;
+    make_told(told, more)?;
+    lines.reserve(more as usize)?;
+    segments.reserve(more as usize)?;
+    Ok(())
+}
+
+// Makes room for so many tickets more of each node.
+fn make_told<A: Allocator + Copy + Drop>(told: &mut Vec<Told<A>, A>, more: u32) -> Result<(), Fault>
+    ensures stays { AreRoomier told.old.items told.new.items }
+    ensures room { OnOk result (AllByRecursion (λ t. length t.answers + more ≤ t.room) told.new.items) }
+    ensures refused { IfErr result (λ e. e ≡ Memory) }
+{
+    for at in 0..told.len() {
+        told[at].reserve(more)?;
+    }
     Ok(())
 }

@@ -1,16 +1,19 @@
 //! What a node's lock holds.
 
 ghost use Rattle.std.specs.Prelude.{◌≡◌, OnErr, MatchResult};
-ghost use Rattle.ring_book.specs.declared.input.LineInput.TheVariants.{Called, Came};
+ghost use Rattle.ring_lines.specs.declared.input.LineInput.TheVariants.{Called, Came};
+ghost use Rattle.ring_machine.specs.Limits.{InputFits};
+ghost use Rattle.ring_payload.specs.Calls.{CallFits};
 
-use crate::frame_ref::FrameRef;
-use crate::input::LineInput;
 use crate::name::BookName;
-use crate::step::Step;
+use bytes::BytesMut;
 use ring_base::{Fault, Proc};
+use ring_lines::{FrameRef, Frames, LineInput, Step};
+use ring_machine::Input;
+use ring_node::{Node, Outs};
 use ring_object::Object;
-use ring_one::{Input, Node, Ticket};
 use ring_payload::Call;
+use ring_ticket::Ticket;
 use rtrb::Producer;
 use std::marker::{Model, PhantomData};
 
@@ -23,27 +26,31 @@ pub struct Cell<O: Object, K: BookName<O::Alloc>> {
     pub(crate) node: Node<O>,
     pub(crate) journal: Producer<Step<O::Alloc>, O::Alloc>,
     pub(crate) alloc: O::Alloc,
+    // Room to spell a frame in.
+    pub(crate) text: BytesMut<O::Alloc>,
     pub(crate) of: PhantomData<K>,
 }
 
 impl<O: Object, K: BookName<O::Alloc>> Model for Cell<O, K> {
     ghost use Rattle.rtrb.specs.Ring.{sent};
-    ghost use Rattle.ring_one.specs.Machine.{One};
+    ghost use Rattle.std.specs.Prelude.{◌+◌, length};
+    ghost use Rattle.ring_frames.proofs.Nodes.{NodeFits};
+    ghost use Rattle.ring_machine.specs.Nodes.{Node as ToldNode};
     ghost use Rattle.ring_book.specs.Cells.{IsCell};
-    ghost use Rattle.ring_book.specs.Machines.{one_machine};
+    ghost use Rattle.ring_lines.specs.Machines.{node_machine};
     ghost use Rattle.ring_book.specs.Seen.{CellView};
 
-    ghost Value = { CellView (One O.Alloc) O.Alloc };
+    ghost Value = { CellView (ToldNode O.Alloc) O.Alloc };
 
     ghost view = { λ c. record { me = c.me; ahead = c.ahead; node = c.node; journal = sent c.journal } };
 
-    ghost invariant = { λ c. IsCell (one_machine O.sequential) K.name c.me c.ahead c.node c.journal };
+    ghost invariant = { λ c. IsCell (node_machine O.sequential K.name.group) NodeFits K.name c.me c.ahead c.node c.journal (length c.text.items + c.text.spare) };
 }
 
 impl<O: Object, K: BookName<O::Alloc>> Cell<O, K> {
     ghost use Rattle.std.specs.Prelude.{length};
     ghost use Rattle.ring_book.specs.Cells.{Journals, StepRefused, SubmitRefused};
-    ghost use Rattle.ring_book.specs.Machines.{one_machine};
+    ghost use Rattle.ring_lines.specs.Machines.{node_machine};
 
     /// The node.
     pub fn node(&self) -> &Node<O>
@@ -58,7 +65,8 @@ impl<O: Object, K: BookName<O::Alloc>> Cell<O, K> {
     /// Refused with `Stranger` while the last step isn't entered, then with `Stopped`; both change nothing. `Memory`
     /// leaves the node stopped, and its stop in the journal. A stop takes no memory.
     pub fn step(&mut self, input: Input<O::Alloc>, at: FrameRef) -> Result<(), Fault>
-        ensures { let m = one_machine O.sequential in
+        requires { InputFits input }
+        ensures { let m = node_machine O.sequential K.name.group in
             MatchResult result (λ _. Journals m self.old self.new (Came input at)) (StepRefused m self.old self.new input at) }
     {
         if self.ahead {
@@ -66,13 +74,21 @@ impl<O: Object, K: BookName<O::Alloc>> Cell<O, K> {
         }
         match self.node.step_on(&input) {
             Ok(outs) => {
-                self.journal.push_reserved(Step {
-                    node: self.me,
-                    input: LineInput::Came(input, at),
-                    frames: outs.frames,
-                    answers: outs.answers,
-                    committed: self.node.committed().len(),
-                });
+                let Outs {
+                    sends,
+                    answers,
+                    committed,
+                } = outs;
+                let frames = Frames::new(self.alloc, sends, &mut self.text);
+                let places = self.node.committed().len();
+                self.journal.push_reserved(Step::came(
+                    self.me,
+                    LineInput::Came(input, at),
+                    frames,
+                    answers,
+                    committed,
+                    places,
+                ));
                 self.ahead = true;
                 Ok(())
             }
@@ -93,7 +109,8 @@ impl<O: Object, K: BookName<O::Alloc>> Cell<O, K> {
     ///
     /// Refused with `Stranger` while the last step isn't entered, then as by the node; nothing is changed then.
     pub fn submit(&mut self, call: Call<O::Alloc>) -> Result<Ticket, Fault>
-        ensures given { let m = one_machine O.sequential in
+        requires { CallFits call }
+        ensures given { let m = node_machine O.sequential K.name.group in
             MatchResult result
             (λ ticket. (ticket ≡ m.tickets self.old.node) × Journals m self.old self.new (Called call))
             (SubmitRefused m self.old) }
@@ -103,13 +120,9 @@ impl<O: Object, K: BookName<O::Alloc>> Cell<O, K> {
             return Err(Fault::Stranger);
         }
         let ticket = self.node.submit_on(&call)?;
-        self.journal.push_reserved(Step {
-            node: self.me,
-            input: LineInput::Called(call),
-            frames: Vec::new(self.alloc),
-            answers: Vec::new(self.alloc),
-            committed: self.node.committed().len(),
-        });
+        let places = self.node.committed().len();
+        self.journal
+            .push_reserved(Step::called(self.alloc, self.me, call, places));
         self.ahead = true;
         Ok(ticket)
     }

@@ -13,5 +13,5 @@ pub trait BookName<A> {
 impl<A> BookName<A> for Brand {
     ghost use Rattle.std.specs.Prelude.{[]};
 
-    ghost name = { record { count = 0; rings = [] } };
+    ghost name = { record { group = record { count = 0; votes = [] }; rings = [] } };
 }

@@ -8,3 +8,4 @@ pub mod Given
 pub mod Growing
 pub mod Logging
 pub mod Bridge
+pub mod Puts

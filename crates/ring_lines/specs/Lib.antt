@@ -8,3 +8,4 @@ pub mod Nothing
 pub mod Orders
 pub mod Logs
 pub mod Events
+pub mod Puts

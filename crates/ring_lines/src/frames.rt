@@ -2,17 +2,19 @@
 
 ghost use Rattle.std.specs.Prelude.{◌≡◌, ◌+◌, ◌≤◌, ◌↔◌, [], Some, IsTrue, IsSomeAnd, length, slice_get, IfOk, IfErr, IfSome, OnOk, OnErr, ◌++◌};
 ghost use Rattle.std.specs.List.{AllByRecursion};
-ghost use Rattle.std.specs.Option.{option_and_then, option_copied};
+ghost use Rattle.std.specs.Option.{option_and_then, option_copied, option_map};
+ghost use Rattle.ring_core.specs.State.{Sent as SentFrame};
 ghost use Rattle.ring_base.specs.declared.fault.Fault.TheVariants.{Memory};
 ghost use Rattle.ring_wire.specs.Frames.{FrameFits, spelling_of};
 ghost use Rattle.ring_lines.specs.Lines.{frame_for};
 ghost use Rattle.ring_lines.specs.Machines.{SentFits};
+ghost use Rattle.ring_lines.specs.Puts.{IsPut};
 
 use crate::spelled::{SpelledFrame, is_same_text, write_in};
 use bytes::BytesMut;
-use ring_base::{Fault, Proc};
+use ring_base::{Fault, Proc, ProcSet};
 use ring_replica::Sent;
-use ring_wire::Frame;
+use ring_wire::{Frame, Wire};
 use std::alloc::{Allocator, Global};
 use std::marker::Model;
 
@@ -165,6 +167,63 @@ fn given_has_bytes<A: Allocator + Copy + Drop>(
     }
 }
 
+/// Whom the frame at the place goes to, if there is one.
+fn spelled_receivers<A: Allocator + Copy + Drop>(
+    spelled: &[SpelledFrame<A>],
+    place: u16,
+) -> Option<ProcSet>
+    ensures { result ≡ option_map (λ (s : SentFrame A). s.to) (slice_get spelled.now place) }
+{
+    match item_at(spelled, place) {
+        Some(sent) => Some(sent.receivers()),
+        None => None,
+    }
+}
+
+/// Whom the frame at the place goes to, if there is one.
+fn given_receivers<A: Allocator + Copy + Drop>(given: &[Sent<A>], place: u16) -> Option<ProcSet>
+    ensures { result ≡ option_map (λ (s : SentFrame A). s.to) (slice_get given.now place) }
+{
+    match item_at(given, place) {
+        Some(sent) => Some(sent.to),
+        None => None,
+    }
+}
+
+/// Appends the bytes of the frame at the place. Refused with `Stranger` where there is none, then with `Memory`; nothing
+/// is appended then.
+fn put_spelled<A: Allocator + Copy + Drop>(
+    spelled: &[SpelledFrame<A>],
+    place: u16,
+    out: &mut BytesMut<A>,
+) -> Result<(), Fault>
+    ensures { IsPut (slice_get spelled.now place) out.old.items out.new.items result }
+{
+    match item_at(spelled, place) {
+        Some(sent) => {
+            out.extend_from_slice(sent.bytes())?;
+            Ok(())
+        }
+        None => Err(Fault::Stranger),
+    }
+}
+
+/// Appends the bytes of the frame at the place. Refused with `Stranger` where there is none, then with `Memory`; nothing
+/// is appended then.
+fn put_given<A: Allocator + Copy + Drop>(
+    given: &[Sent<A>],
+    place: u16,
+    out: &mut BytesMut<A>,
+) -> Result<(), Fault>
+    requires { AllByRecursion SentFits given.now }
+    ensures { IsPut (slice_get given.now place) out.old.items out.new.items result }
+{
+    match item_at(given, place) {
+        Some(sent) => sent.frame.put(out),
+        None => Err(Fault::Stranger),
+    }
+}
+
 impl<A: Allocator + Copy + Drop> Frames<A> {
     /// No frames.
     pub fn none(alloc: A) -> Frames<A>
@@ -228,6 +287,27 @@ impl<A: Allocator + Copy + Drop> Frames<A> {
         match &self.kept {
             Kept::Spelled(spelled) => spelled_has_bytes(spelled.as_slice(), place, node, bytes),
             Kept::Given(given) => given_has_bytes(given.as_slice(), place, node, bytes, text),
+        }
+    }
+
+    /// Whom the frame at the place, counted from 0, goes to, if there is one.
+    pub fn receivers(&self, place: u16) -> Option<ProcSet>
+        ensures { result ≡ option_map (λ (s : SentFrame A). s.to) (slice_get self.now place) }
+    {
+        match &self.kept {
+            Kept::Spelled(spelled) => spelled_receivers(spelled.as_slice(), place),
+            Kept::Given(given) => given_receivers(given.as_slice(), place),
+        }
+    }
+
+    /// Appends the bytes of the frame at the place, counted from 0. Refused with `Stranger` where there is none, then with
+    /// `Memory`; nothing is appended then.
+    pub fn put(&self, place: u16, out: &mut BytesMut<A>) -> Result<(), Fault>
+        ensures { IsPut (slice_get self.now place) out.old.items out.new.items result }
+    {
+        match &self.kept {
+            Kept::Spelled(spelled) => put_spelled(spelled.as_slice(), place, out),
+            Kept::Given(given) => put_given(given.as_slice(), place, out),
         }
     }
 

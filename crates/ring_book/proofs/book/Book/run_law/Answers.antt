@@ -1,6 +1,7 @@
-use Rattle.ring_book.proofs.Bridge.{book_is_run}
 use Rattle.ring_book.proofs.book.Book.run_law.Goals as goal
 
-pub returns : goal.returns
-returns g c = rw (← c.self.view_is) (book_is_run g.O.Object.sequential g.K.BookName.name.count
-    c.self.inside.lines.items c.self.invariant.alone c.self.invariant.run)
+pub returns-clause-run : goal.returns-clause-run
+returns-clause-run g c = rw (← c.self.view_is) (c.lines_law.ensures.runs g.K.BookName.name.group c.self.inside.lines.items c.self.invariant.few c.self.invariant.run)
+
+pub returns-clause-few : goal.returns-clause-few
+returns-clause-few g c = c.self.invariant.few

@@ -1,34 +1,55 @@
-use Rattle.std.proofs.Common.{◌≡◌, refl, subst, sym, ap, Bool, ◌∙◌, length}
+use Rattle.std.proofs.Common.{◌≡◌, ◌+◌, ◌≤◌, refl, subst, sym, ap, Bool, ◌∙◌, length}
 use Rattle.rtrb.specs.Ring.{sent}
-use Rattle.ring_one.specs.declared.input.Input.TheVariants.{Stop}
-use Rattle.ring_one.specs.Machine.{One}
+use Rattle.ring_frames.proofs.Nodes.{NodeFits, stepped_fits}
+use Rattle.ring_machine.specs.declared.input.Input.TheVariants.{Stop}
+use Rattle.ring_machine.specs.Nodes.{Node}
 use Rattle.ring_book.specs.Cells.{IsCell}
-use Rattle.ring_book.specs.Machines.{one_machine}
-use Rattle.ring_book.specs.Runs.{IsStep}
+use Rattle.ring_lines.specs.Machines.{node_machine}
+use Rattle.ring_lines.specs.Runs.{IsStep}
 use Rattle.ring_book.specs.Seen.{CellView}
 use Rattle.ring_book.proofs.Journaling.{cell_adds}
-use Rattle.ring_book.proofs.Stops.{memory_runs, other_stopped, stopped_same, stop_answers}
+use Rattle.ring_book.proofs.Keeping.{node_sound}
+use Rattle.ring_book.proofs.Stops.{memory_runs, other_stopped, stopped_same}
 use Rattle.ring_book.proofs.cell.Cell.step.Goals as goal
+
+pub new-frames-requires : goal.new-frames-requires
+new-frames-requires g c = record {
+  fit = rw c.in-Ok.ensures.sends (stepped_fits g.O.Object.sequential c.self.inside.node c.self.invariant.sound c.args.input c.requires).sends;
+  room = c.self.invariant.text;
+}
 
 pub push_reserved-requires : goal.push_reserved-requires
 push_reserved-requires g c = (c.self.invariant.free c.if-self.false, tt)
 
 pub invariant_of-self : goal.invariant_of-self
 invariant_of-self g c =
-    let m = one_machine g.O.Object.sequential in
-    let k = subst (λ (b : Bool). IsCell m g.K.BookName.name c.self.inside.me b c.self.inside.node c.self.inside.journal) c.if-self.false c.self.invariant in
+    let m = node_machine g.O.Object.sequential g.K.BookName.name.group in
+    let k = subst (λ (b : Bool). IsCell m NodeFits g.K.BookName.name c.self.inside.me b c.self.inside.node c.self.inside.journal (length c.self.inside.text.items + c.self.inside.text.spare)) c.if-self.false c.self.invariant in
     let e = c.in-Ok.ensures in
-    cell_adds m g.K.BookName.name c.self.inside.me c.self.inside.node c.step_on.new.self c.self.inside.journal c.push_reserved.new.self _ k refl
-    ((e.runs, e.ok, e.frames, e.answers), ap length c.committed.ensures) c.push_reserved.ensures.ring c.push_reserved.ensures.sent.0
+    let l = c.came.result in
+    let stepped : IsStep m c.self.inside.node l c.step_on.new.self = rw c.came.ensures record {
+      fits = c.requires;
+      makes = (e.runs, e.ok, c.new-frames.ensures.same ∙ e.sends, e.answers, e.committed);
+      committed = ap length c.committed-places.ensures;
+    } in
+    cell_adds m NodeFits g.K.BookName.name c.self.inside.me c.self.inside.node c.step_on.new.self c.self.inside.journal c.push_reserved.new.self _ _ l k (ap (λ x. x.node) c.came.ensures) stepped
+    (node_sound g.O.Object.sequential g.K.BookName.name.group c.self.inside.node l c.step_on.new.self c.self.invariant.sound stepped) c.new-frames.ensures.room c.push_reserved.ensures.ring c.push_reserved.ensures.sent.0
 
 pub returns-in-Ok : goal.returns-in-Ok
 returns-in-Ok g c =
+    let m = node_machine g.O.Object.sequential g.K.BookName.name.group in
     let e = c.in-Ok.ensures in
+    let l = c.came.result in
+    let stepped : IsStep m c.self.inside.node l c.step_on.new.self = rw c.came.ensures record {
+      fits = c.requires;
+      makes = (e.runs, e.ok, c.new-frames.ensures.same ∙ e.sends, e.answers, e.committed);
+      committed = ap length c.committed-places.ensures;
+    } in
     rw (← c.self.view_is) record {
-      step = _;
-      step_node = refl;
-      step_input = refl;
-      stepped = ((e.runs, e.ok, e.frames, e.answers), ap length c.committed.ensures);
+      step = l;
+      step_node = ap (λ x. x.node) c.came.ensures;
+      step_input = ap (λ x. x.input) c.came.ensures;
+      stepped = stepped;
       journal = c.push_reserved.ensures.sent.0;
       was = c.if-self.false;
       ahead = refl;
@@ -37,37 +58,28 @@ returns-in-Ok g c =
 
 pub invariant_of-self-in-Memory : goal.invariant_of-self-in-Memory
 invariant_of-self-in-Memory g c =
-    let m = one_machine g.O.Object.sequential in
-    let k = subst (λ (b : Bool). IsCell m g.K.BookName.name c.self.inside.me b c.self.inside.node c.self.inside.journal) c.if-self.false c.self.invariant in
+    let m = node_machine g.O.Object.sequential g.K.BookName.name.group in
+    let k = subst (λ (b : Bool). IsCell m NodeFits g.K.BookName.name c.self.inside.me b c.self.inside.node c.self.inside.journal (length c.self.inside.text.items + c.self.inside.text.spare)) c.if-self.false c.self.invariant in
     let l = c.stop-stop.result in
     let e = c.in-Err.ensures in
-    let stepped : IsStep m c.self.inside.node l c.step_on.new.self = rw c.stop-stop.ensures (
-      (
-        memory_runs _ (sym c.in-Memory.is ∙ e.refused),
-        e.err,
-        refl,
-        sym (stop_answers g.O.Object.sequential c.self.inside.node),
-      ),
-      ap length c.committed-committed.ensures,
-    ) in
-    cell_adds m g.K.BookName.name c.self.inside.me c.self.inside.node c.step_on.new.self c.self.inside.journal
-    c.push_reserved-in-Memory.new.self l k (ap (λ x. x.node) c.stop-stop.ensures)
-    stepped c.push_reserved-in-Memory.ensures.ring c.push_reserved-in-Memory.ensures.sent.0
+    let stepped : IsStep m c.self.inside.node l c.step_on.new.self = rw c.stop-stop.ensures record {
+      fits = tt;
+      makes = (memory_runs _ (sym c.in-Memory.is ∙ e.refused), e.err, refl, refl, refl);
+      committed = ap length c.committed-committed.ensures;
+    } in
+    cell_adds m NodeFits g.K.BookName.name c.self.inside.me c.self.inside.node c.step_on.new.self c.self.inside.journal c.push_reserved-in-Memory.new.self _ _ l k (ap (λ x. x.node) c.stop-stop.ensures) stepped
+    (node_sound g.O.Object.sequential g.K.BookName.name.group c.self.inside.node l c.step_on.new.self c.self.invariant.sound stepped) c.self.invariant.text c.push_reserved-in-Memory.ensures.ring c.push_reserved-in-Memory.ensures.sent.0
 
 pub returns-in-Memory : goal.returns-in-Memory
 returns-in-Memory g c =
-    let m = one_machine g.O.Object.sequential in
+    let m = node_machine g.O.Object.sequential g.K.BookName.name.group in
     let l = c.stop-stop.result in
     let e = c.in-Err.ensures in
-    let stepped : IsStep m c.self.inside.node l c.step_on.new.self = rw c.stop-stop.ensures (
-      (
-        memory_runs _ (sym c.in-Memory.is ∙ e.refused),
-        e.err,
-        refl,
-        sym (stop_answers g.O.Object.sequential c.self.inside.node),
-      ),
-      ap length c.committed-committed.ensures,
-    ) in
+    let stepped : IsStep m c.self.inside.node l c.step_on.new.self = rw c.stop-stop.ensures record {
+      fits = tt;
+      makes = (memory_runs _ (sym c.in-Memory.is ∙ e.refused), e.err, refl, refl, refl);
+      committed = ap length c.committed-committed.ensures;
+    } in
     let no_stop : c.args.input ≡ Stop → ⊥ = λ is. (let ok = e.stops is (memory_runs _ (sym c.in-Memory.is ∙ e.refused)) in absurd (cc ok)) in
     rw (← c.self.view_is) (
       no_stop,
@@ -85,21 +97,15 @@ returns-in-Memory g c =
 
 pub invariant_of-self-in_default : goal.invariant_of-self-in_default
 invariant_of-self-in_default g c =
-    let m = one_machine g.O.Object.sequential in
+    let m = node_machine g.O.Object.sequential g.K.BookName.name.group in
     let e = c.in-Err.ensures in
     let other = other_stopped _ c.in-Err.fault e.refused c.in_default.not-Memory in
     let same = e.err ∙ stopped_same c.self.inside.node other.0 in
-    subst (λ (s : One g.row.O-Alloc.Denot). IsCell m g.K.BookName.name c.self.inside.me c.self.inside.ahead s c.self.inside.journal) (sym same) c.self.invariant
+    subst (λ (s : Node g.row.O-Alloc.Denot). IsCell m NodeFits g.K.BookName.name c.self.inside.me c.self.inside.ahead s c.self.inside.journal (length c.self.inside.text.items + c.self.inside.text.spare)) (sym same) c.self.invariant
 
 pub returns : goal.returns
 returns g c =
     let other = other_stopped _ c.in-Err.fault c.in-Err.ensures.refused c.in_default.not-Memory in
     let same = c.in-Err.ensures.err ∙ stopped_same c.self.inside.node other.0 in
-    let seen : One g.row.O-Alloc.Denot → CellView (One g.row.O-Alloc.Denot) g.row.O-Alloc.Denot =
-    λ s. record {
-      me = c.self.inside.me;
-      ahead = c.self.inside.ahead;
-      node = s;
-      journal = sent c.self.inside.journal;
-    } in
+    let seen : Node g.row.O-Alloc.Denot → CellView (Node g.row.O-Alloc.Denot) g.row.O-Alloc.Denot = λ s. record { me = c.self.inside.me; ahead = c.self.inside.ahead; node = s; journal = sent c.self.inside.journal } in
     rw (other.1, ← c.self.view_is) (c.if-self.false, other.0, ap seen same)

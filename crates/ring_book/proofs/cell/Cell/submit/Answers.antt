@@ -1,8 +1,11 @@
-use Rattle.std.proofs.Common.{refl, subst, ap, Bool, length}
-use Rattle.ring_book.specs.Cells.{IsCell}
-use Rattle.ring_book.specs.Machines.{one_machine}
+use Rattle.std.proofs.Common.{◌+◌, refl, subst, ap, Bool, length, ◌∙◌}
 use Rattle.std.proofs.lemmas.Result.{err_from_is_err_and}
+use Rattle.ring_frames.proofs.Nodes.{NodeFits}
+use Rattle.ring_book.specs.Cells.{IsCell}
+use Rattle.ring_lines.specs.Machines.{node_machine}
+use Rattle.ring_lines.specs.Runs.{IsStep}
 use Rattle.ring_book.proofs.Journaling.{cell_adds}
+use Rattle.ring_book.proofs.Keeping.{node_sound}
 use Rattle.ring_book.proofs.Stops.{node_refuses}
 use Rattle.ring_book.proofs.cell.Cell.submit.Goals as goal
 
@@ -11,22 +14,35 @@ push_reserved-requires g c = (c.self.invariant.free c.if-self.false, tt)
 
 pub invariant_of-self-2 : goal.invariant_of-self-2
 invariant_of-self-2 g c =
-    let m = one_machine g.O.Object.sequential in
-    let k = subst (λ (b : Bool). IsCell m g.K.BookName.name c.self.inside.me b c.self.inside.node c.self.inside.journal) c.if-self.false c.self.invariant in
+    let m = node_machine g.O.Object.sequential g.K.BookName.name.group in
+    let k = subst (λ (b : Bool). IsCell m NodeFits g.K.BookName.name c.self.inside.me b c.self.inside.node c.self.inside.journal (length c.self.inside.text.items + c.self.inside.text.spare)) c.if-self.false c.self.invariant in
     let e = c.in_ok-ticket.ensures in
-    cell_adds m g.K.BookName.name c.self.inside.me c.self.inside.node c.submit_on.new.self c.self.inside.journal c.push_reserved.new.self _ k refl
-    ((e.taken, e.ok, c.new.ensures.items, c.new-2.ensures.items), ap length c.committed.ensures) c.push_reserved.ensures.ring c.push_reserved.ensures.sent.0
+    let l = c.called.result in
+    let stepped : IsStep m c.self.inside.node l c.submit_on.new.self = rw c.called.ensures record {
+      fits = c.requires;
+      makes = (e.taken, e.ok, refl, refl, refl);
+      committed = ap length c.committed-places.ensures;
+    } in
+    cell_adds m NodeFits g.K.BookName.name c.self.inside.me c.self.inside.node c.submit_on.new.self c.self.inside.journal c.push_reserved.new.self _ _ l k (ap (λ x. x.node) c.called.ensures) stepped
+    (node_sound g.O.Object.sequential g.K.BookName.name.group c.self.inside.node l c.submit_on.new.self c.self.invariant.sound stepped) c.self.invariant.text c.push_reserved.ensures.ring c.push_reserved.ensures.sent.0
 
 pub returns-clause-given : goal.returns-clause-given
 returns-clause-given g c =
+    let m = node_machine g.O.Object.sequential g.K.BookName.name.group in
     let e = c.in_ok-ticket.ensures in
+    let l = c.called.result in
+    let stepped : IsStep m c.self.inside.node l c.submit_on.new.self = rw c.called.ensures record {
+      fits = c.requires;
+      makes = (e.taken, e.ok, refl, refl, refl);
+      committed = ap length c.committed-places.ensures;
+    } in
     rw (← c.self.view_is) (
       e.ticket,
       record {
-        step = _;
-        step_node = refl;
-        step_input = refl;
-        stepped = ((e.taken, e.ok, c.new.ensures.items, c.new-2.ensures.items), ap length c.committed.ensures);
+        step = l;
+        step_node = ap (λ x. x.node) c.called.ensures;
+        step_input = ap (λ x. x.input) c.called.ensures;
+        stepped = stepped;
         journal = c.push_reserved.ensures.sent.0;
         was = c.if-self.false;
         ahead = refl;
