@@ -1,6 +1,6 @@
 -- What one event and one turn do to a run.
 use Rattle.std.proofs.Common.{◌≡◌, ℕ, zero, suc, ◌+◌, ◌<◌, ◌≤◌, Bool, true, false, inl, inr, List, [], ◌∷◌, length}
-use Rattle.std.proofs.Common.{take, Option, Result, Ok, Err, OnOk, OnErr, refl, sym, ap, subst, ◌∙◌, arith, add-one}
+use Rattle.std.proofs.Common.{take, Option, Some, None, slice_get, Result, Ok, Err, OnOk, OnErr, refl, sym, ap, subst, ◌∙◌, arith, add-one}
 use Rattle.ring_base.specs.Fronts.{IsFront, front_self, front_trans, front_append}
 use Rattle.ring_object.specs.Operations.{Sequential}
 use Rattle.ring_history.specs.declared.event.Event.{Event}
@@ -8,7 +8,7 @@ use Rattle.ring_script.specs.declared.line.Line.{Line}
 use Rattle.ring_script.specs.declared.line.Line.TheVariants.{Call, Deliver, Timeout, Noise, Stop, Cut, Heal, Pump, Show}
 use Rattle.ring_console.specs.declared.pairs.Pair.{Pair}
 use Rattle.ring_console.specs.declared.pairs.Pairs.{Pairs}
-use Rattle.ring_console.specs.Pairs.{frames_of, pairs_from, IsReached, hears}
+use Rattle.ring_console.specs.Pairs.{frames_of, pairs_from, IsReached, Takes, hears}
 use Rattle.ring_world.specs.Played.{Played, Goes, Plays}
 use Rattle.ring_console.specs.Running.{RunView, Rests, Happens, Comes, Turns, BreaksTurn, TurnsTimes, Pumps, Does, Breaks, Ends}
 use Rattle.ring_console.proofs.Growing.{goes_frames, world_same, open_later, reached_later}
@@ -193,3 +193,8 @@ module _ {O A : Type 0} (object : Sequential O) where
   pub ends_told : {T E : Type 0} (r : Result T E) (line : Line A) (old new : RunView A) → Ends object r line old new → IsFront old.played.told new.played.told
   ends_told (Ok x) line old new h = does_told line old new h
   ends_told (Err x) line old new h = breaks_told line old new h
+
+-- what is taken is the first
+pub takes_first : (old : List Pair) (taken : Option Pair) (new : List Pair) → Takes old taken new → taken ≡ slice_get old 0
+takes_first old None new t = ap (λ (ps : List Pair). slice_get ps 0) (sym t.0)
+takes_first old (Some pair) new t = ap (λ (ps : List Pair). slice_get ps 0) (sym t)

@@ -4,6 +4,7 @@ use Rattle.std.specs.Prelude.{◌≡◌, ℕ, zero, suc, ◌<◌, ◌≤◌, ◌
 use Rattle.std.specs.Prelude.{Option, Some, None, unwrap_or, Result, Ok, Err, ⊤}
 use Rattle.std.specs.Io.KnownBytes.{Appends}
 use Rattle.ring_base.specs.Group.{Group}
+use Rattle.ring_base.specs.declared.fault.Fault.TheVariants.{Memory}
 use Rattle.ring_object.specs.Operations.{Sequential}
 use Rattle.ring_machine.specs.Nodes.{Node, node_committed, node_log}
 use Rattle.ring_history.specs.declared.event.Event.{Event}
@@ -14,7 +15,7 @@ use Rattle.ring_script.specs.declared.line.Line.{Line}
 use Rattle.ring_script.specs.declared.line.Line.TheVariants.{Call, Deliver, Timeout, Noise, Stop, Cut, Heal, Pump, Show}
 use Rattle.ring_script.specs.declared.scripts.Numbered.{Numbered}
 use Rattle.ring_report.specs.declared.failure.Failure.{Failure}
-use Rattle.ring_report.specs.declared.failure.Failure.TheVariants.{Output}
+use Rattle.ring_report.specs.declared.failure.Failure.TheVariants.{Output, Refused}
 use Rattle.ring_report.specs.Texts.{line_of}
 use Rattle.ring_console.specs.declared.pairs.Pair.{Pair}
 use Rattle.ring_console.specs.Pairs.{frames_of, opened_since, hears}
@@ -45,6 +46,10 @@ abbrev pub UnlessOutput : {T : Type 0} → Result T Failure → Type 0 → Type 
 UnlessOutput (Ok x) P = P
 UnlessOutput (Err Output) P = ⊤
 UnlessOutput (Err _) P = P
+
+-- why a run ends before its script: the output failed, or memory was refused
+abbrev pub IsOutputOrMemory : Failure → Type 0
+IsOutputOrMemory failure = (failure ≡ Output) ⊎ (failure ≡ Refused Memory)
 
 -- a line that says so, where it is asked for
 abbrev pub legal_line : Bool → List ℕ

@@ -1,7 +1,7 @@
 //! Running a script: what its lines ask for is done over a world, one event after another.
 
 ghost use Rattle.std.specs.Prelude.{◌≡◌, ◌≤◌, true, false, []};
-ghost use Rattle.std.specs.Prelude.{Some, None, length, drop, IfOk, IfErr, OnOk, OnErr, IsTrue};
+ghost use Rattle.std.specs.Prelude.{Some, None, length, drop, slice_get, IfOk, IfErr, OnOk, OnErr, IsTrue};
 ghost use Rattle.std.specs.Io.KnownBytes.{Appends};
 ghost use Rattle.ring_base.specs.declared.fault.Fault.TheVariants.{Memory};
 ghost use Rattle.ring_history.specs.Limits.{EventFits};
@@ -9,7 +9,7 @@ ghost use Rattle.ring_report.specs.declared.failure.Failure.TheVariants.{Output}
 ghost use Rattle.ring_script.specs.Fits.{IsFit, AreFit};
 ghost use Rattle.ring_console.specs.Pairs.{hears, Takes};
 ghost use Rattle.ring_console.specs.Printed.{told_text};
-ghost use Rattle.ring_console.specs.Running.{run_opening, Prints, UnlessOutput, Rests, Happens, Turns, BreaksTurn};
+ghost use Rattle.ring_console.specs.Running.{run_opening, Prints, UnlessOutput, IsOutputOrMemory, Rests, Happens, Turns, BreaksTurn};
 ghost use Rattle.ring_console.specs.Running.{Comes, Pumps, BreaksPump, Ends, EndsRun, text_of, show_text};
 
 use crate::pairs::{Pair, Pairs};
@@ -74,8 +74,9 @@ impl<O: Object> Run<O> {
     /// `Refused` with `Memory`, where that is refused to the world itself: what was done before stays done, and is printed.
     pub fn take<W: Write>(&mut self, script: Script<O::Alloc>, out: &mut W) -> Result<(), Failure>
         requires { AreFit script.lines.items }
-        ensures { UnlessOutput result (Prints (W.contents out.old) (W.contents out.new)
+        ensures ends { UnlessOutput result (Prints (W.contents out.old) (W.contents out.new)
             (λ text. EndsRun O.sequential result script.lines.items self.old self.new text)) }
+        ensures failed { IfErr result IsOutputOrMemory }
     {
         for numbered in script.lines {
             self.take_line(numbered.line, out)?;
@@ -88,6 +89,7 @@ impl<O: Object> Run<O> {
         requires { IsFit line }
         ensures ends { UnlessOutput result (Ends O.sequential result line self.old self.new) }
         ensures prints { UnlessOutput result (Appends (W.contents out.old) (W.contents out.new) (text_of O.sequential line self.old.played self.new.played)) }
+        ensures failed { IfErr result IsOutputOrMemory }
     {
         if let Line::Show = &line {
             return self.show(out);
@@ -175,6 +177,13 @@ impl<O: Object> Run<O> {
             self.come(pair)?;
         }
         Ok(())
+    }
+
+    /// The first open copy. `None` where none is open.
+    pub fn first_open(&self) -> Option<Pair>
+        ensures { result ≡ slice_get self.now.open_pairs 0 }
+    {
+        self.pairs.first(&self.world)
     }
 
     /// Closes the first open copy, and gives it. `None` where none is open.

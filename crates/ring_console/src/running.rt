@@ -8,7 +8,7 @@ ghost use Rattle.ring_script.specs.Fits.{AreFit};
 ghost use Rattle.ring_script.specs.Scripts.{IsAllOf, AnswersInput};
 ghost use Rattle.ring_script.specs.declared.scripts.Rings.TheVariants.{OfMany};
 ghost use Rattle.ring_script.specs.declared.scripts.Script.{Script};
-ghost use Rattle.ring_console.specs.Running.{Prints, IsTextOf, IsLegal};
+ghost use Rattle.ring_console.specs.Running.{Prints, IsTextOf, IsLegal, IsOutputOrMemory};
 
 use crate::printed::print_legal;
 use crate::run::Run;
@@ -108,9 +108,10 @@ fn run_script<A: Allocator + Copy + Drop, W: Write>(
     out: &mut W,
 ) -> Result<bool, Failure>
     requires { AreFit script.lines.items }
-    ensures { let object = ⟦<Things<A> as Object>⟧ in
+    ensures ok { let object = ⟦<Things<A> as Object>⟧ in
         IfOk result (λ is_legal. is_legal ≡ true → Prints (W.contents out.old) (W.contents out.new)
         (IsTextOf object.sequential script.nodes is_checked script.lines.items)) }
+    ensures failed { IfErr result IsOutputOrMemory }
 {
     let mut run = Run::<Things<A>>::new(alloc, script.nodes)?;
     run.take(script, out)?;

@@ -1,0 +1,5 @@
+pub mod Fronting
+pub mod Legality
+pub mod Placing
+pub mod Staging
+pub mod Trying

@@ -1,1 +1,4 @@
+pub mod Legal
+pub mod Stages
 pub mod Swept
+pub mod Variants

@@ -1,8 +1,12 @@
 //! What becomes of a script where a node stops, or is cut off from all others, before any of its events.
 #![tactic(auto)]
 
+mod laws;
 mod legal;
+mod progress;
 mod sweeping;
+mod upset;
 mod variant;
 
-pub use sweeping::sweep;
+pub use laws::variants_law;
+pub use sweeping::{sweep, sweep_watched};

@@ -1,21 +1,26 @@
 //! What the program prints of a sweep.
 
-ghost use Rattle.std.specs.Prelude.{◌≡◌, ℕ, ◌≤◌, List, Ok, IfErr};
-ghost use Rattle.std.specs.Io.KnownBytes.{Keeps};
+ghost use Rattle.std.specs.Prelude.{◌≡◌, ℕ, ◌+◌, ◌*◌, ◌≤◌, ◌↔◌, IsTrue, List, Ok, IfOk, IfErr, OnOk};
+ghost use Rattle.std.specs.Io.KnownBytes.{Appends, Keeps};
 ghost use Rattle.ring_base.specs.declared.fault.Fault.TheVariants.{Memory};
 ghost use Rattle.ring_script.specs.Fits.{AreFit};
 ghost use Rattle.ring_script.specs.Scripts.{IsAllOf, AnswersInput};
 ghost use Rattle.ring_script.specs.declared.scripts.Rings.TheVariants.{OfMany};
 ghost use Rattle.ring_script.specs.declared.scripts.Script.{Script};
-ghost use Rattle.ring_sweep.specs.declared.sweeping.Swept.{Swept};
-ghost use Rattle.ring_sweep.specs.Swept.{AreTold};
+ghost use Rattle.ring_report.specs.declared.failure.Failure.TheVariants.{Output};
+ghost use Rattle.ring_console.specs.Running.{Prints};
+ghost use Rattle.ring_sweep.specs.Swept.{swept_text, IsSwept, IsSweptText};
+ghost use Rattle.ring_sweep.specs.Variants.{HasEvents, AreTried, IsTried};
 
 use crate::legal::is_legal;
-use crate::variant::{Blow, Upset, Variant};
-use ring_base::{Fault, Proc};
+use crate::progress::{clear_progress, tell_progress};
+use crate::upset::Upset;
+use crate::variant::Variant;
+use ring_base::Fault;
 use ring_console::{Failure, Rings, Script, Things, report};
 use ring_object::Object;
 use std::alloc::Allocator;
+use std::io;
 use std::io::{Read, Write};
 
 /// The exit status where a variant is not legal.
@@ -49,24 +54,47 @@ pub fn sweep<A: Allocator + Copy + Drop, R: Read, O: Write, E: Write>(
 ) -> u8
     ensures status { result ≤ 1 }
     ensures quiet { result ≡ 0 → Keeps (E.contents err.old) (E.contents err.new) }
-    ensures printed { result ≡ 0 → (script : Script A) × (bytes : List ℕ) × IsAllOf (R.remaining input.old) bytes × AnswersInput OfMany (Ok script) bytes
-        × (swept : Swept) × AreTold swept (O.contents out.old) (O.contents out.new) }
+    ensures printed { let object = ⟦<Things<A> as Object>⟧ in
+        result ≡ 0 → (script : Script A) × (bytes : List ℕ) × IsAllOf (R.remaining input.old) bytes × AnswersInput OfMany (Ok script) bytes
+        × Prints (O.contents out.old) (O.contents out.new) (IsSweptText object.sequential script.nodes script.lines.items) }
+{
+    sweep_watched(alloc, input, out, err, &mut io::sink())
+}
+
+/// As [`sweep`], and tells on `progress` after each 1,000 variants how many were run. At the end that is taken away again,
+/// as a terminal does it.
+pub fn sweep_watched<A: Allocator + Copy + Drop, R: Read, O: Write, E: Write, W: Write>(
+    alloc: A,
+    input: &mut R,
+    out: &mut O,
+    err: &mut E,
+    progress: &mut W,
+) -> u8
+    ensures status { result ≤ 1 }
+    ensures quiet { result ≡ 0 → Keeps (E.contents err.old) (E.contents err.new) }
+    ensures printed { let object = ⟦<Things<A> as Object>⟧ in
+        result ≡ 0 → (script : Script A) × (bytes : List ℕ) × IsAllOf (R.remaining input.old) bytes × AnswersInput OfMany (Ok script) bytes
+        × Prints (O.contents out.old) (O.contents out.new) (IsSweptText object.sequential script.nodes script.lines.items) }
 {
     let script = match Script::read(alloc, input, Rings::OfMany) {
         Ok(script) => script,
         Err(fault) => return report(err, Failure::from(fault)),
     };
-    match run_all::<Things<A>>(alloc, &script) {
-        Ok(swept) => print_swept(swept, out, err),
-        Err(fault) => report(err, Failure::Refused(fault)),
+    let swept = match run_all::<Things<A>, W>(alloc, &script, progress) {
+        Ok(swept) => swept,
+        Err(fault) => return report(err, Failure::Refused(fault)),
+    };
+    match print_swept(swept, out) {
+        Ok(()) if swept.are_legal => 0,
+        Ok(()) => NOT_LEGAL,
+        Err(failure) => report(err, failure),
     }
 }
 
-/// Prints what came of a sweep, and answers the exit status.
-fn print_swept<O: Write, E: Write>(swept: Swept, out: &mut O, err: &mut E) -> u8
-    ensures status { result ≤ 1 }
-    ensures quiet { result ≡ 0 → err.new ≡ err.old }
-    ensures printed { result ≡ 0 → AreTold swept (O.contents out.old) (O.contents out.new) }
+/// Prints what came of a sweep. Otherwise `Output`.
+fn print_swept<O: Write>(swept: Swept, out: &mut O) -> Result<(), Failure>
+    ensures lines { OnOk result (Appends (O.contents out.old) (O.contents out.new) (swept_text swept)) }
+    ensures failed { IfErr result (λ failure. failure ≡ Output) }
 {
     let Swept {
         events,
@@ -74,47 +102,85 @@ fn print_swept<O: Write, E: Write>(swept: Swept, out: &mut O, err: &mut E) -> u8
         are_legal,
     } = swept;
     let word = if are_legal { "yes" } else { "no" };
-    match writeln!(out, "events {events}\nvariants {variants}\nlegal {word}") {
-        Ok(()) if are_legal => 0,
-        Ok(()) => NOT_LEGAL,
-        Err(_) => report(err, Failure::Output),
-    }
+    writeln!(out, "events {events}\nvariants {variants}\nlegal {word}").map_err(|_| Failure::Output)
 }
 
 /// Runs the script as it is, and then each variant of it.
-fn run_all<O: Object>(alloc: O::Alloc, script: &Script<O::Alloc>) -> Result<Swept, Fault>
+fn run_all<O: Object, W: Write>(
+    alloc: O::Alloc,
+    script: &Script<O::Alloc>,
+    progress: &mut W,
+) -> Result<Swept, Fault>
     requires { AreFit script.now.lines.items }
+    ensures ok { IfOk result (IsSwept O.sequential script.now.nodes script.now.lines.items) }
     ensures refused { IfErr result (λ fault. fault ≡ Memory) }
 {
-    let events = Variant::<O>::new(alloc, script.nodes, None)?.follow(script.lines.as_slice())?;
-    let mut swept = Swept {
+    let events = count_events::<O>(alloc, script)?;
+    let variants = count_variants(events, script.nodes.count())?;
+    let are_legal = try_all::<O, W>(alloc, script, variants, progress)?;
+    Ok(Swept {
         events,
-        variants: 0,
-        are_legal: true,
-    };
-    for before in 0..=events {
-        for lower in 0..script.nodes.count() {
-            for blow in [Blow::Stop, Blow::Cut] {
-                let node = Proc::new(lower + 1);
-                let is_legal = has_legal_variant::<O>(alloc, script, Upset { before, node, blow })?;
-                swept.variants = swept.variants.saturating_add(1);
-                swept.are_legal = swept.are_legal && is_legal;
-            }
-        }
-    }
-    Ok(swept)
+        variants,
+        are_legal,
+    })
 }
 
-/// Whether the script's variant with this upset is legal.
-fn has_legal_variant<O: Object>(
+/// How many events the script has.
+fn count_events<O: Object>(alloc: O::Alloc, script: &Script<O::Alloc>) -> Result<u64, Fault>
+    requires { AreFit script.now.lines.items }
+    ensures ok { IfOk result (HasEvents O.sequential script.now.nodes script.now.lines.items) }
+    ensures refused { IfErr result (λ fault. fault ≡ Memory) }
+{
+    let mut whole = Variant::<O>::new(alloc, script.nodes, None)?;
+    whole.follow(script.lines.as_slice())?;
+    Ok(whole.done())
+}
+
+/// How many variants a script of so many events and nodes has. `Memory` where a u64 does not hold them: no world keeps so
+/// many events.
+fn count_variants(events: u64, count: u8) -> Result<u64, Fault>
+    ensures ok { IfOk result (λ variants. variants ≡ 2 * (events + 1) * count) }
+    ensures refused { IfErr result (λ fault. fault ≡ Memory) }
+{
+    let places = events.checked_add(1).ok_or(Fault::Memory)?;
+    let each = 2 * u64::from(count);
+    places.checked_mul(each).ok_or(Fault::Memory)
+}
+
+/// Runs the first so many variants, and tells whether all are legal.
+fn try_all<O: Object, W: Write>(
+    alloc: O::Alloc,
+    script: &Script<O::Alloc>,
+    variants: u64,
+    progress: &mut W,
+) -> Result<bool, Fault>
+    requires { AreFit script.now.lines.items }
+    ensures ok { IfOk result (AreTried O.sequential script.now.nodes script.now.lines.items variants) }
+    ensures refused { IfErr result (λ fault. fault ≡ Memory) }
+{
+    let mut are_legal = true;
+    for place in 0..variants {
+        tell_progress(progress, place, variants);
+        let upset = Upset::at(script.nodes.count(), place);
+        let is_legal = try_one::<O>(alloc, script, upset)?;
+        are_legal = are_legal && is_legal;
+    }
+    clear_progress(progress, variants);
+    Ok(are_legal)
+}
+
+/// Runs the script's variant with this upset, and tells whether it is legal.
+fn try_one<O: Object>(
     alloc: O::Alloc,
     script: &Script<O::Alloc>,
     upset: Upset,
 ) -> Result<bool, Fault>
     requires { AreFit script.now.lines.items }
+    ensures ok { IfOk result (IsTried O.sequential script.now.nodes script.now.lines.items upset) }
     ensures refused { IfErr result (λ fault. fault ≡ Memory) }
 {
     let mut variant = Variant::<O>::new(alloc, script.nodes, Some(upset))?;
     variant.follow(script.lines.as_slice())?;
+    variant.put_in()?;
     is_legal(alloc, variant.world())
 }

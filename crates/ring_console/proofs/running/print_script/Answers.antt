@@ -5,7 +5,7 @@ use Rattle.ring_console.proofs.running.print_script.Goals as goal
 
 pub returns-in-Ok-new-clause-printed : goal.returns-in-Ok-new-clause-printed
 returns-in-Ok-new-clause-printed g c = λ zero_is.
-    let told = at_true c.run_script-done.result _ c.run_script-done.ensures (c.verdict_status-status.ensures.ok zero_is) in (
+    let told = at_true c.run_script-done.result _ c.run_script-done.ensures.ok (c.verdict_status-status.ensures.ok zero_is) in (
       c.in-Ok.script,
       c.in-Ok.ensures.read.0,
       c.in-Ok.ensures.read.1,

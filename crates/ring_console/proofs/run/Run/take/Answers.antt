@@ -32,8 +32,8 @@ loop-numbered-preserved g c =
     c.loop-numbered.self c.take_line.new.self a runs c.in_ok-take_line.ensures.ends)
     c.loop-numbered.invariant c.in_ok-take_line.ensures.prints
 
-pub returns : goal.returns
-returns g c =
+pub returns-clause-ends : goal.returns-clause-ends
+returns-clause-ends g c =
     let begun = c.into_iter-numbered-iterator.ensures.into_iter_gives in
     let ended = YieldsList-end (YieldsList-from_vec c.args.script.lines.items begun.0
     (begun.1 ∙ c.args.script.lines.ok.0)) c.loop-numbered.yielded c.loop-numbered.numbered-iterator
@@ -43,8 +43,8 @@ returns g c =
     (λ (ls : List (Numbered g.row.O-Alloc.Denot)). Runs g.O.Object.sequential ls c.args.self.now
     c.loop-numbered.self text) all runs) c.loop-numbered.invariant
 
-pub returns-in_err-take_line : goal.returns-in_err-take_line
-returns-in_err-take_line g c =
+pub returns-in_err-take_line-clause-ends : goal.returns-in_err-take_line-clause-ends
+returns-in_err-take_line-clause-ends g c =
     let items = c.args.script.lines.items in
     let line = c.in-Some.numbered in
     let begun = c.into_iter-numbered-iterator.ensures.into_iter_gives in

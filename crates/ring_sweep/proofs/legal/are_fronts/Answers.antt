@@ -1,0 +1,34 @@
+use Rattle.std.proofs.Common.{◌≡◌, ℕ, ◌+◌, ◌≤◌, List, sym, ap, subst, ◌∙◌, arith}
+use Rattle.ring_base.specs.Fronts.{IsFront}
+use Rattle.ring_base.specs.Group.{Group}
+use Rattle.ring_payload.specs.declared.call.Call.{Call}
+use Rattle.ring_session.specs.Deduplicated.{deduplicated}
+use Rattle.ring_machine.specs.Nodes.{node_committed}
+use Rattle.ring_world.specs.Played.{world_of}
+use Rattle.ring_sweep.proofs.Legality.{up_next}
+use Rattle.ring_sweep.proofs.legal.are_fronts.Goals as goal
+
+pub returns-then-not-is_front : goal.returns-then-not-is_front
+returns-then-not-is_front g c = (
+  λ untrue. absurd (cc (untrue)),
+  λ all.
+      let w = world_of g.O.Object.sequential c.args.world.now in
+      let node = c.loop-before.before + 1 in
+      let same : c.committed.result.now ≡ node_committed (w.nodes node) =
+      c.committed.ensures ∙ ap node_committed (c.node-node.ensures ∙ ap w.nodes c.new-proc.ensures) in
+      let count : c.fixed.result.count ≡ c.args.world.now.group.count = ap (λ (x : Group). x.count) c.fixed.ensures in
+      let most : node ≤ c.args.world.now.group.count = omega (arith, c.loop-before-test.true, c.count-before-end.ensures.value, count) in
+      let front = subst (λ (cs : List (Call g.row.O-Alloc.Denot)). IsFront (deduplicated cs) c.args.order.now) (sym same)
+      (all node (omega arith) most) in
+      sym c.if-not-is_front.true ∙ c.is_front.ensures.1 front,
+)
+
+pub loop-before-preserved : goal.loop-before-preserved
+loop-before-preserved g c =
+    let w = world_of g.O.Object.sequential c.args.world.now in
+    let node = c.loop-before.before + 1 in
+    let same : c.committed.result.now ≡ node_committed (w.nodes node) =
+    c.committed.ensures ∙ ap node_committed (c.node-node.ensures ∙ ap w.nodes c.new-proc.ensures) in
+    up_next (λ (n : ℕ). IsFront (deduplicated (node_committed (w.nodes n))) c.args.order.now) c.loop-before.before c.loop-before.invariant
+    (subst (λ (cs : List (Call g.row.O-Alloc.Denot)). IsFront (deduplicated cs) c.args.order.now) same
+    (c.is_front.ensures.0 c.if-not-is_front.false))
