@@ -1,5 +1,7 @@
 -- A step goes from a cell's journal to the book.
-use Rattle.std.proofs.Common.{◌≡◌, ℕ, zero, suc, nat_lt, if◌then◌else◌, ◌<◌, ◌≤◌, ◌+◌, ◌-◌, ◌++◌, ◌==◌, List, [], ◌∷◌, refl, ap, subst, sym, ◌∙◌, true, false, Bool, inl, inr, Option, None, Some, slice_get, length, arith, append-nil, length-append, length-set, append_assoc}
+use Rattle.std.proofs.Common.{◌≡◌, ℕ, zero, suc, nat_lt, if◌then◌else◌, ◌<◌, ◌≤◌, ◌+◌, ◌-◌, ◌++◌, ◌==◌, List, [], ◌∷◌}
+use Rattle.std.proofs.Common.{refl, ap, subst, sym, ◌∙◌, true, false, Bool, inl, inr, Option, None, Some, slice_get}
+use Rattle.std.proofs.Common.{length, arith, append-nil, length-append, length-set, append_assoc}
 use Rattle.std.specs.Prelude.{slice_set}
 use Rattle.std.proofs.lemmas.Bool.Decides.{nat_tests}
 use Rattle.rtrb.specs.Ring.{sent, received, known_items, known_free, IsPair, producer_capacity, SameProducer, SameConsumer}
@@ -27,11 +29,13 @@ use Rattle.ring_lines.proofs.Telling.{told_from-snoc, length-told_by}
 pub end_ring : {A : Type 0} (c d : End A) → SameConsumer c d → ring_of_consumer d ≡ ring_of_consumer c
 end_ring c d h = cc
 
-pub end_looks : {A : Type 0} (name : Name A) (lines : List (LineView A)) (i : ℕ) (c d : End A) → IsEnd name lines i c → SameConsumer c d → received d ≡ received c → IsEnd name lines i d
+pub end_looks : {A : Type 0} (name : Name A) (lines : List (LineView A)) (i : ℕ) (c d : End A) → IsEnd name lines i c
+    → SameConsumer c d → received d ≡ received c → IsEnd name lines i d
 end_looks name lines i c d e same r = record { ring = rw (end_ring c d same) e.ring; came = r ∙ e.came; one = same.1 ∙ e.one }
 
 -- the end of a node looked at its ring
-pub book_looks : {S A : Type 0} (m : Machine S A) (name : Name A) (lines : List (LineView A)) (reserved : ℕ) (ends : List (End A)) (told : List ToldView) (log : LogView)
+pub book_looks : {S A : Type 0} (m : Machine S A) (name : Name A) (lines : List (LineView A)) (reserved : ℕ)
+    (ends : List (End A)) (told : List ToldView) (log : LogView)
     (capacity places space space' i : ℕ) (c d : End A)
     → IsBook m name lines reserved ends told log capacity places space → slice_get ends i ≡ Some c → SameConsumer c d → received d ≡ received c → 8192 ≤ space'
     → IsBook m name lines reserved (slice_set ends i d) told log capacity places space'
@@ -53,7 +57,8 @@ book_looks m name lines reserved ends told log capacity places space space' i c 
 }
 
 -- what was found stays found: a list of lines with one more
-AllFound-snoc : {A : Type 0} (before ls : List (LineView A)) (l : LineView A) → AllFound before ls → IsFound (before ++ ls) l.step.node l.step.input → AllFound before (ls ++ l ∷ [])
+AllFound-snoc : {A : Type 0} (before ls : List (LineView A)) (l : LineView A) → AllFound before ls
+    → IsFound (before ++ ls) l.step.node l.step.input → AllFound before (ls ++ l ∷ [])
 AllFound-snoc before [] l h f = (rw append-nil at f, tt)
 AllFound-snoc before (x ∷ ls) l h f =
     (h.0, AllFound-snoc (before ++ x ∷ []) ls l h.1 (rw append_assoc f))
@@ -128,17 +133,22 @@ logged-length n log s = elim (nat_lt log.total s.committed) as (λ b. length (if
   | false ↦ omega arith
 ]
 
-pub book_enters : {S A : Type 0} (m : Machine S A) {IsSound : S → Type 0} (name : Name A) (lines : List (LineView A)) (reserved : ℕ) (ends : List (End A)) (told : List ToldView)
-    (log : LogView) (capacity places space space' i me : ℕ) (ahead : Bool) (node : S) (p q : Writer A) (c d f : End A) (x : StepView A) (t u : ToldView) (room : ℕ)
+pub book_enters : {S A : Type 0} (m : Machine S A) {IsSound : S → Type 0} (name : Name A) (lines : List (LineView A))
+    (reserved : ℕ) (ends : List (End A)) (told : List ToldView)
+    (log : LogView) (capacity places space space' i me : ℕ) (ahead : Bool) (node : S) (p q : Writer A) (c d f : End A)
+    (x : StepView A) (t u : ToldView) (room : ℕ)
     → suc i ≡ me → IsBook m name lines reserved ends told log capacity places space → IsCell m IsSound name me ahead node p room → slice_get ends i ≡ Some c
     → slice_get told i ≡ Some t → u.answers ≡ told_by t.answers x.input x.answers → u.room ≡ t.room → 8192 ≤ space'
     → Looked p q c d → sent p ≡ steps_of me lines ++ x ∷ [] → Popped d x f → IsFound lines x.node x.input → 0 < reserved
-    → IsBook m name (lines ++ record { number = length lines; step = x } ∷ []) (reserved - 1) (slice_set ends i f) (slice_set told i u) (logged_by (length lines) log x)
+    → IsBook m name (lines ++ record { number = length lines; step = x } ∷ []) (reserved - 1) (slice_set ends i f)
+    (slice_set told i u) (logged_by (length lines) log x)
     capacity places space'
-book_enters {S} {A} m name lines reserved ends told log capacity places space space' i me ahead node p q c d f x t u room is b k at there answers same text look journal pop found some =
+book_enters {S} {A} m name lines reserved ends told log capacity places space space' i me ahead node p q c d f x t u
+    room is b k at there answers same text look journal pop found some =
     let l : LineView A = record { number = length lines; step = x } in
     let mine : x.node ≡ me = AllOf-last me (steps_of me lines) x (subst (AllOf me) journal k.mine) in
-    let leads : Leads m (m.opening me) (steps_of me lines ++ x ∷ []) node = subst (λ (js : List (StepView A)). Leads m (m.opening me) js node) journal k.leads in
+    let leads : Leads m (m.opening me) (steps_of me lines ++ x ∷ []) node =
+    subst (λ (js : List (StepView A)). Leads m (m.opening me) js node) journal k.leads in
     record {
       few = b.few;
       count = rw length-set b.count;
@@ -199,7 +209,8 @@ pair_stays name i p q c d f a b h k j =
       j.0.3 ∙ (k.0.3 ∙ (sym (ap (λ r. r.heap) e) ∙ sym h.0.3)),
     )
 
-pub popped : {A : Type 0} (d e f : End A) (x : StepView A) → SameConsumer d e → received e ≡ received d ++ x ∷ [] → SameConsumer e f → received f ≡ received e → Popped d x f
+pub popped : {A : Type 0} (d e f : End A) (x : StepView A) → SameConsumer d e → received e ≡ received d ++ x ∷ []
+    → SameConsumer e f → received f ≡ received e → Popped d x f
 popped d e f x h r i s = record {
   same = ((i.0.0 ∙ h.0.0, i.0.1 ∙ h.0.1, i.0.2 ∙ h.0.2, i.0.3 ∙ h.0.3), i.1 ∙ h.1);
   received_is = s ∙ r;
@@ -233,13 +244,15 @@ pub book_same : {S A : Type 0} (m : Machine S A) (name : Name A) (lines lines' :
 book_same m name lines lines' reserved ends told log log' capacity capacity' places places' space b l g c p = rw (l, g, c, p) b
 
 -- a book with more room, for more places
-pub book_grows : {S A : Type 0} (m : Machine S A) (name : Name A) (lines lines' : List (LineView A)) (reserved reserved' : ℕ) (ends : List (End A)) (told told' : List ToldView)
+pub book_grows : {S A : Type 0} (m : Machine S A) (name : Name A) (lines lines' : List (LineView A))
+    (reserved reserved' : ℕ) (ends : List (End A)) (told told' : List ToldView)
     (log log' : LogView) (capacity capacity' places places' space : ℕ)
     → IsBook m name lines reserved ends told log capacity places space → lines' ≡ lines → log' ≡ log → length told' ≡ length told
     → ((i : ℕ) (t : ToldView) → slice_get told' i ≡ Some t → IsTold lines reserved' i t) → length lines + reserved' ≤ capacity'
     → length log.segments + reserved' ≤ places' → length lines + reserved' ≤ most_places
     → IsBook m name lines' reserved' ends told' log' capacity' places' space
-book_grows m name lines lines' reserved reserved' ends told told' log log' capacity capacity' places places' space b same same_log many tells room log_room limit =
+book_grows m name lines lines' reserved reserved' ends told told' log log' capacity capacity' places places' space b
+    same same_log many tells room log_room limit =
     rw (same, same_log) record {
       few = b.few;
       count = b.count;
@@ -262,7 +275,8 @@ roomier-length (x ∷ xs) [] h = absurd h
 roomier-length (x ∷ xs) (y ∷ ys) h = ap suc (roomier-length xs ys h.1)
 
 -- the answers of a node, before and after
-pub roomier-at : (old new : List ToldView) (i : ℕ) (u : ToldView) → AreRoomier old new → slice_get new i ≡ Some u → (t : ToldView) × ((slice_get old i ≡ Some t) × IsRoomier t u)
+pub roomier-at : (old new : List ToldView) (i : ℕ) (u : ToldView) → AreRoomier old new → slice_get new i ≡ Some u
+    → (t : ToldView) × ((slice_get old i ≡ Some t) × IsRoomier t u)
 roomier-at [] [] i u h e = absurd cc
 roomier-at [] (y ∷ ys) i u h e = absurd h
 roomier-at (x ∷ xs) [] i u h e = absurd h
@@ -270,14 +284,16 @@ roomier-at (x ∷ xs) (y ∷ ys) zero u h e = let same : y ≡ u = cc in (x, (re
 roomier-at (x ∷ xs) (y ∷ ys) (suc i) u h e = roomier-at xs ys i u h.1 e
 
 -- the two ends of one ring
-pub pair_at : {A : Type 0} (name : Name A) (i : ℕ) (p : Writer A) (c : End A) → slice_get name.rings i ≡ Some (ring_of_producer p) → slice_get name.rings i ≡ Some (ring_of_consumer c) → IsPair p c
+pub pair_at : {A : Type 0} (name : Name A) (i : ℕ) (p : Writer A) (c : End A) → slice_get name.rings i ≡ Some
+    (ring_of_producer p) → slice_get name.rings i ≡ Some (ring_of_consumer c) → IsPair p c
 pair_at name i p c a b =
     let e : ring_of_producer p ≡ ring_of_consumer c = cc in
     (sym (ap (λ r. r.words) e), sym (ap (λ r. r.slots) e), sym (ap (λ r. r.names) e), sym (ap (λ r. r.heap) e))
 
 -- a cell whose journal's writer looked at its ring
 pub cell_looks : {S A : Type 0} (m : Machine S A) {IsSound : S → Type 0} (name : Name A) (me : ℕ) (ahead : Bool) (node : S) (p q : Writer A) (space : ℕ)
-    → IsCell m IsSound name me ahead node p space → SameProducer p q → sent q ≡ sent p → known_free p ≤ known_free q → IsCell m IsSound name me ahead node q space
+    → IsCell m IsSound name me ahead node p space → SameProducer p q → sent q ≡ sent p → known_free p ≤ known_free q
+    → IsCell m IsSound name me ahead node q space
 cell_looks m name me ahead node p q space k same e more = record {
   counted = k.counted;
   in_book = k.in_book;
@@ -291,8 +307,10 @@ cell_looks m name me ahead node p q space k same e more = record {
 }
 
 -- a book whose text was written
-pub book_texts : {S A : Type 0} (m : Machine S A) (name : Name A) (lines : List (LineView A)) (reserved : ℕ) (ends : List (End A)) (told : List ToldView) (log : LogView)
-    (capacity places space space' : ℕ) → IsBook m name lines reserved ends told log capacity places space → 8192 ≤ space' → IsBook m name lines reserved ends told log capacity places space'
+pub book_texts : {S A : Type 0} (m : Machine S A) (name : Name A) (lines : List (LineView A)) (reserved : ℕ)
+    (ends : List (End A)) (told : List ToldView) (log : LogView)
+    (capacity places space space' : ℕ) → IsBook m name lines reserved ends told log capacity places space
+    → 8192 ≤ space' → IsBook m name lines reserved ends told log capacity places space'
 book_texts m name lines reserved ends told log capacity places space space' b text = record {
   few = b.few;
   count = b.count;
@@ -309,7 +327,8 @@ book_texts m name lines reserved ends told log capacity places space space' b te
 
 -- answers with more room are the lines' as before
 pub told_stays : {A : Type 0} (lines : List (LineView A)) (reserved : ℕ) (old new : List ToldView) → AreRoomier old new
-    → ((i : ℕ) (t : ToldView) → slice_get old i ≡ Some t → IsTold lines reserved i t) → (i : ℕ) (u : ToldView) → slice_get new i ≡ Some u → IsTold lines reserved i u
+    → ((i : ℕ) (t : ToldView) → slice_get old i ≡ Some t → IsTold lines reserved i t) → (i : ℕ) (u : ToldView)
+    → slice_get new i ≡ Some u → IsTold lines reserved i u
 told_stays lines reserved old new more tells i u h =
     let r = roomier-at old new i u more h in
     let was = tells i r.0 r.1.0 in
@@ -325,9 +344,11 @@ told_roomier lines reserved more old new roomier tells rooms i u h =
     record { told_is = was.told_is; room = each-get (λ (t : ToldView). length t.answers + more ≤ t.room) new i u rooms h }
 
 -- a place that is given back
-pub book_releases : {S A : Type 0} (m : Machine S A) (name : Name A) (lines : List (LineView A)) (reserved reserved' : ℕ) (ends : List (End A)) (told : List ToldView)
+pub book_releases : {S A : Type 0} (m : Machine S A) (name : Name A) (lines : List (LineView A))
+    (reserved reserved' : ℕ) (ends : List (End A)) (told : List ToldView)
     (log : LogView) (capacity places space : ℕ)
-    → IsBook m name lines reserved ends told log capacity places space → reserved' ≤ reserved → IsBook m name lines reserved' ends told log capacity places space
+    → IsBook m name lines reserved ends told log capacity places space → reserved' ≤ reserved
+    → IsBook m name lines reserved' ends told log capacity places space
 book_releases m name lines reserved reserved' ends told log capacity places space b less = record {
   few = b.few;
   count = b.count;
@@ -372,20 +393,27 @@ roomier-refl [] = tt
 roomier-refl (x ∷ xs) = (record { answers = refl; room = omega arith }, roomier-refl xs)
 
 -- and with more, at one node
-pub roomier-set : (old new : List ToldView) (i : ℕ) (t u : ToldView) → AreRoomier old new → slice_get new i ≡ Some t → IsRoomier t u → AreRoomier old (slice_set new i u)
+pub roomier-set : (old new : List ToldView) (i : ℕ) (t u : ToldView) → AreRoomier old new → slice_get new i ≡ Some t
+    → IsRoomier t u → AreRoomier old (slice_set new i u)
 roomier-set [] [] i t u h e r = tt
 roomier-set [] (y ∷ ys) i t u h e r = absurd h
 roomier-set (x ∷ xs) [] i t u h e r = absurd h
 roomier-set (x ∷ xs) (y ∷ ys) zero t u h e r =
-    let same : t ≡ y = cc in
-    (record { answers = r.answers ∙ (ap (λ (z : ToldView). z.answers) same ∙ h.0.answers); room = omega (arith, r.room, ap (λ (z : ToldView). z.room) same, h.0.room) }, h.1)
+    let same : t ≡ y = cc in (
+      record {
+        answers = r.answers ∙ (ap (λ (z : ToldView). z.answers) same ∙ h.0.answers);
+        room = omega (arith, r.room, ap (λ (z : ToldView). z.room) same, h.0.room);
+      },
+      h.1,
+    )
 roomier-set (x ∷ xs) (y ∷ ys) (suc i) t u h e r = (h.0, roomier-set xs ys i t u h.1 e r)
 
 -- there is room for so many more at each node before this one
 abbrev pub HaveRoom : ℕ → ℕ → List ToldView → Type 0
 HaveRoom more at told = (i : ℕ) (t : ToldView) → i < at → slice_get told i ≡ Some t → length t.answers + more ≤ t.room
 
-pub room-set : (told : List ToldView) (more at : ℕ) (u : ToldView) → HaveRoom more at told → length u.answers + more ≤ u.room → HaveRoom more (at + 1) (slice_set told at u)
+pub room-set : (told : List ToldView) (more at : ℕ) (u : ToldView) → HaveRoom more at told
+    → length u.answers + more ≤ u.room → HaveRoom more (at + 1) (slice_set told at u)
 room-set told more at u h r i t low e = elim (set_cases told at i u t e) [
   | inl w ↦ rw w.1 r
   | inr w ↦ h i t (let apart = w.0 in below apart low) w.1
@@ -395,7 +423,8 @@ room-set told more at u h r i t low e = elim (set_cases told at i u t e) [
     below apart low = grind (arith, nat_tests)
 
 pub room-all : (told : List ToldView) (more at : ℕ) → HaveRoom more at told → length told ≤ at → Each (λ (t : ToldView). length t.answers + more ≤ t.room) told
-room-all told more at h all = each-placed (λ (t : ToldView). length t.answers + more ≤ t.room) told (λ i t e. h i t (let k = get-length told i t e in omega (arith, k, all)) e)
+room-all told more at h all = each-placed (λ (t : ToldView). length t.answers + more ≤ t.room) told
+    (λ i t e. h i t (let k = get-length told i t e in omega (arith, k, all)) e)
   where
     get-length : (xs : List ToldView) (i : ℕ) (t : ToldView) → slice_get xs i ≡ Some t → i < length xs
     get-length [] i t e = absurd cc

@@ -21,7 +21,8 @@ pub AllOf-last : {A : Type 0} (i : ℕ) (ls : List (StepView A)) (l : StepView A
 AllOf-last i [] l h = h.0
 AllOf-last i (x ∷ ls) l h = AllOf-last i ls l h.1
 
-pub cell_adds : {S A : Type 0} (m : Machine S A) (IsSound : S → Type 0) (name : Name A) (me : ℕ) (node node' : S) (p q : Writer A) (space space' : ℕ) (l : StepView A)
+pub cell_adds : {S A : Type 0} (m : Machine S A) (IsSound : S → Type 0) (name : Name A) (me : ℕ) (node node' : S)
+    (p q : Writer A) (space space' : ℕ) (l : StepView A)
     → IsCell m IsSound name me false node p space → l.node ≡ me → IsStep m node l node' → IsSound node' → 8192 ≤ space'
     → SameProducer p q → sent q ≡ sent p ++ l ∷ [] → IsCell m IsSound name me true node' q space'
 cell_adds m IsSound name me node node' p q space space' l k mine step sound text same e = record {

@@ -1,5 +1,6 @@
 -- Openings that grow.
-use Rattle.std.proofs.Common.{◌≡◌, ℕ, zero, suc, ◌+◌, ◌-◌, ◌++◌, ◌≤◌, ◌<◌, length-append, List, [], ◌∷◌, refl, ap, subst, sym, ◌∙◌, length, arith, drop, Some, slice_get, false}
+use Rattle.std.proofs.Common.{◌≡◌, ℕ, zero, suc, ◌+◌, ◌-◌, ◌++◌, ◌≤◌, ◌<◌, length-append, List, [], ◌∷◌, refl, ap}
+use Rattle.std.proofs.Common.{subst, sym, ◌∙◌, length, arith, drop, Some, slice_get, false}
 use Rattle.rtrb.specs.Ring.{received, consumer_capacity, IsPair}
 use Rattle.std.specs.List.{AllByRecursion as Each}
 use Rattle.ring_base.proofs.Each.{each-get}
@@ -11,13 +12,15 @@ use Rattle.ring_book.specs.Ends.{Name, Ring, ring_of_producer, ring_of_consumer}
 use Rattle.ring_lines.specs.Machines.{Machine}
 use Rattle.ring_book.specs.Openings.{Writer, IsStart, IsStartEnd, AllStart, AllStartEnds, rings_of}
 
-pub AllStart-snoc : {S A : Type 0} (m : Machine S A) (i j : ℕ) (ns : List S) (ps : List (Writer A)) (n : S) (p : Writer A) → i + length ns ≡ j → AllStart m i ns ps → IsStart m j n p → AllStart m i (ns ++ n ∷ []) (ps ++ p ∷ [])
+pub AllStart-snoc : {S A : Type 0} (m : Machine S A) (i j : ℕ) (ns : List S) (ps : List (Writer A)) (n : S)
+    (p : Writer A) → i + length ns ≡ j → AllStart m i ns ps → IsStart m j n p → AllStart m i (ns ++ n ∷ []) (ps ++ p ∷ [])
 AllStart-snoc m i j [] [] n p e h s = let same : j ≡ i = omega arith in (subst (λ (k : ℕ). IsStart m k n p) same s, tt)
 AllStart-snoc m i j [] (q ∷ ps) n p e h s = absurd h
 AllStart-snoc m i j (k ∷ ns) [] n p e h s = absurd h
 AllStart-snoc m i j (k ∷ ns) (q ∷ ps) n p e h s = (h.0, AllStart-snoc m (suc i) j ns ps n p (omega arith) h.1 s)
 
-pub AllStartEnds-snoc : {A : Type 0} (ps : List (Writer A)) (cs : List (End A)) (p : Writer A) (c : End A) → AllStartEnds ps cs → IsStartEnd p c → AllStartEnds (ps ++ p ∷ []) (cs ++ c ∷ [])
+pub AllStartEnds-snoc : {A : Type 0} (ps : List (Writer A)) (cs : List (End A)) (p : Writer A) (c : End A)
+    → AllStartEnds ps cs → IsStartEnd p c → AllStartEnds (ps ++ p ∷ []) (cs ++ c ∷ [])
 AllStartEnds-snoc [] [] p c h s = (s, tt)
 AllStartEnds-snoc [] (d ∷ cs) p c h s = absurd h
 AllStartEnds-snoc (q ∷ ps) [] p c h s = absurd h
@@ -49,7 +52,9 @@ start_cell m IsSound name i me n p space rings is low high d s sound text = reco
 }
 
 -- the ends and the writers by place
-ends_at : {A : Type 0} (ps : List (Writer A)) (cs : List (End A)) (i : ℕ) (c : End A) → AllStartEnds ps cs → slice_get cs i ≡ Some c → (slice_get (rings_of ps) i ≡ Some (ring_of_consumer c)) × (received c ≡ []) × (consumer_capacity c ≡ 1)
+ends_at : {A : Type 0} (ps : List (Writer A)) (cs : List (End A)) (i : ℕ) (c : End A) → AllStartEnds ps cs
+    → slice_get cs i ≡ Some c → (slice_get (rings_of ps) i ≡ Some (ring_of_consumer c)) × (received c ≡ [])
+    × (consumer_capacity c ≡ 1)
 ends_at [] [] i c h e = cc
 ends_at [] (d ∷ cs) i c h e = absurd h
 ends_at (p ∷ ps) [] i c h e = absurd h
@@ -79,7 +84,8 @@ none-at : (told : List ToldView) (i : ℕ) (t : ToldView) → AreNone told → s
 none-at told i t none h = each-get (λ (x : ToldView). x.answers ≡ []) told i t none h
 
 pub start_book : {S A : Type 0} (m : Machine S A) (name : Name A) (ns : List S) (ps : List (Writer A)) (cs : List (End A)) (told : List ToldView) (room : ℕ)
-    → AllStart m 1 ns ps → AllStartEnds ps cs → name.group.count ≤ 16 → name.group.count ≡ length ns → name.rings ≡ rings_of ps → length told ≡ name.group.count → AreNone told
+    → AllStart m 1 ns ps → AllStartEnds ps cs → name.group.count ≤ 16 → name.group.count ≡ length ns
+    → name.rings ≡ rings_of ps → length told ≡ name.group.count → AreNone told
     → 8192 ≤ room → IsBook m name [] 0 cs told no_log 0 0 room
 start_book m name ns ps cs told room a b few n r many none text = record {
   few = few;

@@ -3,7 +3,8 @@ use Rattle.std.proofs.Common.{◌≡◌, ℕ, zero, suc, ◌++◌, List, [], ◌
 use Rattle.std.specs.Prelude.{slice_set}
 
 -- what stands in a list after a write
-pub set_cases : {X : Type 0} (xs : List X) (k i : ℕ) (y x : X) → slice_get (slice_set xs k y) i ≡ Some x → ((i ≡ k) × (x ≡ y)) ⊎ ((i ≡ k → ⊥) × (slice_get xs i ≡ Some x))
+pub set_cases : {X : Type 0} (xs : List X) (k i : ℕ) (y x : X) → slice_get (slice_set xs k y) i ≡ Some x
+    → ((i ≡ k) × (x ≡ y)) ⊎ ((i ≡ k → ⊥) × (slice_get xs i ≡ Some x))
 set_cases [] k i y x h = cc
 set_cases (z ∷ xs) zero zero y x h = inl (refl, cc)
 set_cases (z ∷ xs) zero (suc i) y x h = inr ((λ e. omega arith), h)

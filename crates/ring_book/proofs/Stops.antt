@@ -30,6 +30,7 @@ pub stopped_same : {A : Type 0} (n : Node A) → is_stopped n.core.state ≡ tru
 stopped_same n h = ap (λ state. record n { core = record n.core { state = state } }) (is_state n.core.state h)
 
 -- a node refuses where its cell is not a step ahead
-pub node_refuses : (ahead : Bool) (refusal : Option Fault) (fault : Fault) → ahead ≡ false → MatchOption refusal (fault ≡ Memory) (λ first. fault ≡ first) → IsRefusal ahead refusal fault
+pub node_refuses : (ahead : Bool) (refusal : Option Fault) (fault : Fault) → ahead ≡ false → MatchOption refusal
+    (fault ≡ Memory) (λ first. fault ≡ first) → IsRefusal ahead refusal fault
 node_refuses true refusal fault e h = absurd cc
 node_refuses false refusal fault e h = h

@@ -34,7 +34,8 @@ pub record IsTold {A : Type 0} (lines : List (LineView A)) (reserved i : ℕ) (t
 
 module _ {S A : Type 0} (m : Machine S A) where
   -- The lines are a run, each end has brought its node's steps, and there is room for what is reserved.
-  pub record IsBook (name : Name A) (lines : List (LineView A)) (reserved : ℕ) (ends : List (End A)) (told : List ToldView) (log : LogView) (capacity places space : ℕ)
+  pub record IsBook (name : Name A) (lines : List (LineView A)) (reserved : ℕ) (ends : List (End A))
+      (told : List ToldView) (log : LogView) (capacity places space : ℕ)
       : Type 0 where
     pub few : name.group.count ≤ 16
     pub count : length ends ≡ name.group.count

@@ -28,8 +28,10 @@ IsRefusal true refusal fault = fault ≡ Stranger
 IsRefusal false refusal fault = MatchOption refusal (fault ≡ Memory) (λ first. fault ≡ first)
 
 module _ {S A : Type 0} (m : Machine S A) where
-  -- The node is sound, so that its frames keep their limits, and it is what its journal makes of the opening state, and the journal's ring is that of this node in this book.
-  pub record IsCell (IsSound : S → Type 0) (name : Name A) (me : ℕ) (ahead : Bool) (node : S) (journal : Producer (StepView A) A AnyItems) (space : ℕ) : Type 0 where
+  -- The node is sound, so that its frames keep their limits, and it is what its journal makes of the opening state, and
+  -- the journal's ring is that of this node in this book.
+  pub record IsCell (IsSound : S → Type 0) (name : Name A) (me : ℕ) (ahead : Bool) (node : S)
+      (journal : Producer (StepView A) A AnyItems) (space : ℕ) : Type 0 where
     pub counted : 1 ≤ me
     pub in_book : me ≤ name.group.count
     pub ring : slice_get name.rings (me - 1) ≡ Some (ring_of_producer journal)

@@ -1,6 +1,8 @@
 //! What the book's lock holds.
 
-ghost use Rattle.std.specs.Prelude.{⊤, Some, slice_get, ◌-◌, ◌≡◌, ◌+◌, ◌<◌, ◌≤◌, ◌⊎◌, MatchOption, MatchResult, OnOk, OnErr, IfOk, IfErr, IsOk, IsSomeAnd, ◌↔◌, [], ◌∷◌, ◌++◌, length, vec_len, vec_capacity};
+ghost use Rattle.std.specs.Prelude.{⊤, Some, slice_get, ◌-◌, ◌≡◌, ◌+◌, ◌<◌, ◌≤◌, ◌⊎◌, MatchOption, MatchResult, OnOk};
+ghost use Rattle.std.specs.Prelude.{OnErr, IfOk, IfErr, IsOk, IsSomeAnd, ◌↔◌, [], ◌∷◌, ◌++◌, length, vec_len};
+ghost use Rattle.std.specs.Prelude.{vec_capacity};
 ghost use Rattle.std.specs.List.{AllByRecursion};
 ghost use Rattle.std.specs.Option.{option_copied};
 ghost use Rattle.ring_base.specs.declared.fault.Fault.TheVariants.{BookFull, Memory, Stranger};
@@ -56,7 +58,9 @@ impl<O: Object, K: BookName<O::Alloc>> Model for Book<O, K> {
 
     ghost view = { λ b. record { lines = b.lines.items; reserved = b.reserved } };
 
-    ghost invariant = { λ b. IsBook (node_machine O.sequential K.name.group) K.name b.lines.items b.reserved b.ends.items b.told.items (record { total = b.total; segments = b.segments.items }) (vec_capacity b.lines) (vec_capacity b.segments) (length b.text.items + b.text.spare) };
+    ghost invariant = { λ b. IsBook (node_machine O.sequential K.name.group) K.name b.lines.items b.reserved
+        b.ends.items b.told.items (record { total = b.total; segments = b.segments.items }) (vec_capacity b.lines)
+        (vec_capacity b.segments) (length b.text.items + b.text.spare) };
 }
 
 impl<O: Object, K: BookName<O::Alloc>> Book<O, K> {
@@ -81,7 +85,8 @@ impl<O: Object, K: BookName<O::Alloc>> Book<O, K> {
         told: Vec<Told<O::Alloc>, O::Alloc>,
         text: BytesMut<O::Alloc>,
     ) -> Book<O, K>
-        requires { IsBook (node_machine O.sequential K.name.group) K.name [] 0 ends.items told.items (record { total = 0; segments = [] }) 0 0 (length text.items + text.spare) }
+        requires { IsBook (node_machine O.sequential K.name.group) K.name [] 0 ends.items told.items
+            (record { total = 0; segments = [] }) 0 0 (length text.items + text.spare) }
         ensures { result ≡ new_book }
     {
         Book {
@@ -263,7 +268,9 @@ impl<O: Object, K: BookName<O::Alloc>> Book<O, K> {
     /// doesn't stand in the list where its `FrameRef` says, for this node. Then book and cell are unchanged, and what
     /// was reserved stays reserved.
     pub fn enter(&mut self, _place: Place, cell: &mut Cell<O, K>) -> Result<&Line<O::Alloc>, Fault>
-        ensures* after { sem 𝓛 (follows_so (the_row O.row K.row O.Alloc.row O.Object O.Alloc.Allocator K.BookName) (the_row O.row K.row O.Alloc.row O.Object O.Alloc.Allocator K.BookName) self.entry.ghost_name none (λ _ _. ⊤) (λ n. EnterGives self.old n cell.old cell.new result)) }
+        ensures* after { sem 𝓛 (follows_so (the_row O.row K.row O.Alloc.row O.Object O.Alloc.Allocator K.BookName)
+            (the_row O.row K.row O.Alloc.row O.Object O.Alloc.Allocator K.BookName) self.entry.ghost_name none
+            (λ _ _. ⊤) (λ n. EnterGives self.old n cell.old cell.new result)) }
     {
         self.enter_step(cell)?;
         Ok(self.last())

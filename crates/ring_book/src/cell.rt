@@ -44,7 +44,8 @@ impl<O: Object, K: BookName<O::Alloc>> Model for Cell<O, K> {
 
     ghost view = { λ c. record { me = c.me; ahead = c.ahead; node = c.node; journal = sent c.journal } };
 
-    ghost invariant = { λ c. IsCell (node_machine O.sequential K.name.group) NodeFits K.name c.me c.ahead c.node c.journal (length c.text.items + c.text.spare) };
+    ghost invariant = { λ c. IsCell (node_machine O.sequential K.name.group) NodeFits K.name c.me c.ahead c.node
+        c.journal (length c.text.items + c.text.spare) };
 }
 
 impl<O: Object, K: BookName<O::Alloc>> Cell<O, K> {

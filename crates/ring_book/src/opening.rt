@@ -38,7 +38,8 @@ impl<O: Object> Model for Opening<O> {
 
     ghost view = { λ o. record { group = o.group; rings = rings_of o.writers.items } };
 
-    ghost invariant = { λ o. AllStart (node_machine O.sequential o.group) 1 o.nodes.items o.writers.items × AllStartEnds o.writers.items o.ends.items × (length o.nodes.items ≡ o.group.count) × (o.group.count ≤ 16) };
+    ghost invariant = { λ o. AllStart (node_machine O.sequential o.group) 1 o.nodes.items o.writers.items
+        × AllStartEnds o.writers.items o.ends.items × (length o.nodes.items ≡ o.group.count) × (o.group.count ≤ 16) };
 }
 
 impl<O: Object> Opening<O> {

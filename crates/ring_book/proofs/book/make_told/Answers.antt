@@ -15,7 +15,8 @@ returns-in_err-reserve-clause-stays g c =
     let i = c.loop-at.at in
     let within : i < length c.loop-at.told.items = omega (arith, c.loop-at-test.true, c.loop-at.invariant.many) in
     let at = slice_get_read c.loop-at.told.items (length c.loop-at.told.items) i c.index_mut.result.now refl within c.index_mut.ensures.value in
-    roomier-set c.args.told.now.items c.loop-at.told.items i c.index_mut.result.now c.reserve.new.self c.loop-at.invariant.stays at record { answers = c.reserve.ensures.answers; room = c.reserve.ensures.stays }
+    roomier-set c.args.told.now.items c.loop-at.told.items i c.index_mut.result.now c.reserve.new.self
+    c.loop-at.invariant.stays at record { answers = c.reserve.ensures.answers; room = c.reserve.ensures.stays }
 
 pub loop-at-preserved : goal.loop-at-preserved
 loop-at-preserved g c =
@@ -23,10 +24,12 @@ loop-at-preserved g c =
     let within : i < length c.loop-at.told.items = omega (arith, c.loop-at-test.true, c.loop-at.invariant.many) in
     let at = slice_get_read c.loop-at.told.items (length c.loop-at.told.items) i c.index_mut.result.now refl within c.index_mut.ensures.value in
     record {
-      stays = roomier-set c.args.told.now.items c.loop-at.told.items i c.index_mut.result.now c.reserve.new.self c.loop-at.invariant.stays at record { answers = c.reserve.ensures.answers; room = c.reserve.ensures.stays };
+      stays = roomier-set c.args.told.now.items c.loop-at.told.items i c.index_mut.result.now c.reserve.new.self
+          c.loop-at.invariant.stays at record { answers = c.reserve.ensures.answers; room = c.reserve.ensures.stays };
       rooms = room-set c.loop-at.told.items c.args.more i c.reserve.new.self c.loop-at.invariant.rooms c.in_ok-reserve.ensures.room;
       many = length-set c.loop-at.told.items i c.reserve.new.self ∙ c.loop-at.invariant.many;
     }
 
 pub returns-clause-room : goal.returns-clause-room
-returns-clause-room g c = room-all c.loop-at.told.items c.args.more c.loop-at.at c.loop-at.invariant.rooms (omega (arith, c.loop-at-test.false, c.loop-at.invariant.many))
+returns-clause-room g c = room-all c.loop-at.told.items c.args.more c.loop-at.at c.loop-at.invariant.rooms
+    (omega (arith, c.loop-at-test.false, c.loop-at.invariant.many))

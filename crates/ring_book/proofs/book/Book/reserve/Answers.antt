@@ -6,8 +6,14 @@ use Rattle.ring_book.proofs.book.Book.reserve.Goals as goal
 pub invariant_of-self : goal.invariant_of-self
 invariant_of-self g c =
     let e = c.make_room.ensures in
-    book_grows (node_machine g.O.Object.sequential g.K.BookName.name.group) g.K.BookName.name c.self.inside.lines.items c.make_room.new.lines.items c.self.inside.reserved c.self.inside.reserved c.self.inside.ends.items c.self.inside.told.items c.make_room.new.told.items _ _ _ _ _ _ _ c.self.invariant e.lines (ap (λ ss. record { total = c.self.inside.total; segments = ss }) e.segments)
-    (roomier-length c.self.inside.told.items c.make_room.new.told.items e.told) (told_stays c.self.inside.lines.items c.self.inside.reserved c.self.inside.told.items c.make_room.new.told.items e.told c.self.invariant.tells)
+    book_grows (node_machine g.O.Object.sequential g.K.BookName.name.group)
+    g.K.BookName.name c.self.inside.lines.items c.make_room.new.lines.items c.self.inside.reserved
+    c.self.inside.reserved c.self.inside.ends.items c.self.inside.told.items
+    c.make_room.new.told.items _ _ _ _ _ _ _ c.self.invariant e.lines
+    (ap (λ ss. record { total = c.self.inside.total; segments = ss }) e.segments)
+    (roomier-length c.self.inside.told.items c.make_room.new.told.items e.told)
+    (told_stays c.self.inside.lines.items c.self.inside.reserved c.self.inside.told.items c.make_room.new.told.items
+    e.told c.self.invariant.tells)
     (omega (arith, e.lines_stay, c.self.invariant.room)) (omega (arith, e.segments_stay, c.self.invariant.log_room)) c.self.invariant.limit
 
 pub invariant_of-self-2 : goal.invariant_of-self-2
@@ -16,7 +22,13 @@ invariant_of-self-2 g c =
     let lines = ap length e.lines in
     let segments = ap length e.segments in
     let seen = ap (λ b. length b.lines + b.reserved) c.self.view_is in
-    book_grows (node_machine g.O.Object.sequential g.K.BookName.name.group) g.K.BookName.name c.self.inside.lines.items c.make_room.new.lines.items c.self.inside.reserved (c.self.inside.reserved + 1) c.self.inside.ends.items c.self.inside.told.items c.make_room.new.told.items _ _ _ _ _ _ _ c.self.invariant e.lines (ap (λ ss. record { total = c.self.inside.total; segments = ss }) e.segments)
-    (roomier-length c.self.inside.told.items c.make_room.new.told.items e.told) (told_roomier c.self.inside.lines.items c.self.inside.reserved (c.self.inside.reserved + 1) c.self.inside.told.items c.make_room.new.told.items e.told c.self.invariant.tells e.told_room)
+    book_grows (node_machine g.O.Object.sequential g.K.BookName.name.group)
+    g.K.BookName.name c.self.inside.lines.items c.make_room.new.lines.items c.self.inside.reserved
+    (c.self.inside.reserved + 1) c.self.inside.ends.items c.self.inside.told.items
+    c.make_room.new.told.items _ _ _ _ _ _ _ c.self.invariant e.lines
+    (ap (λ ss. record { total = c.self.inside.total; segments = ss }) e.segments)
+    (roomier-length c.self.inside.told.items c.make_room.new.told.items e.told)
+    (told_roomier c.self.inside.lines.items c.self.inside.reserved (c.self.inside.reserved + 1)
+    c.self.inside.told.items c.make_room.new.told.items e.told c.self.invariant.tells e.told_room)
     (omega (arith, e.lines_room, lines, c.make_room.new.lines.ok.0)) (omega (arith, e.segments_room, segments, c.make_room.new.segments.ok.0))
     (omega (arith, c.self.invariant.limit, c.places.ensures, c.if-places-eq-PLACES.false, seen))

@@ -24,7 +24,9 @@ push_reserved-requires g c = (c.self.invariant.free c.if-self.false, tt)
 pub invariant_of-self : goal.invariant_of-self
 invariant_of-self g c =
     let m = node_machine g.O.Object.sequential g.K.BookName.name.group in
-    let k = subst (λ (b : Bool). IsCell m NodeFits g.K.BookName.name c.self.inside.me b c.self.inside.node c.self.inside.journal (length c.self.inside.text.items + c.self.inside.text.spare)) c.if-self.false c.self.invariant in
+    let k = subst (λ (b : Bool). IsCell m NodeFits g.K.BookName.name c.self.inside.me b c.self.inside.node
+    c.self.inside.journal (length c.self.inside.text.items + c.self.inside.text.spare))
+    c.if-self.false c.self.invariant in
     let e = c.in-Ok.ensures in
     let l = c.came.result in
     let stepped : IsStep m c.self.inside.node l c.step_on.new.self = rw c.came.ensures record {
@@ -32,8 +34,11 @@ invariant_of-self g c =
       makes = (e.runs, e.ok, c.new-frames.ensures.same ∙ e.sends, e.answers, e.committed);
       committed = ap length c.committed-places.ensures;
     } in
-    cell_adds m NodeFits g.K.BookName.name c.self.inside.me c.self.inside.node c.step_on.new.self c.self.inside.journal c.push_reserved.new.self _ _ l k (ap (λ x. x.node) c.came.ensures) stepped
-    (node_sound g.O.Object.sequential g.K.BookName.name.group c.self.inside.node l c.step_on.new.self c.self.invariant.sound stepped) c.new-frames.ensures.room c.push_reserved.ensures.ring c.push_reserved.ensures.sent.0
+    cell_adds m NodeFits g.K.BookName.name c.self.inside.me c.self.inside.node c.step_on.new.self
+    c.self.inside.journal c.push_reserved.new.self _ _ l k (ap (λ x. x.node) c.came.ensures) stepped
+    (node_sound g.O.Object.sequential g.K.BookName.name.group c.self.inside.node l c.step_on.new.self
+    c.self.invariant.sound stepped) c.new-frames.ensures.room c.push_reserved.ensures.ring
+    c.push_reserved.ensures.sent.0
 
 pub returns-in-Ok : goal.returns-in-Ok
 returns-in-Ok g c =
@@ -59,7 +64,9 @@ returns-in-Ok g c =
 pub invariant_of-self-in-Memory : goal.invariant_of-self-in-Memory
 invariant_of-self-in-Memory g c =
     let m = node_machine g.O.Object.sequential g.K.BookName.name.group in
-    let k = subst (λ (b : Bool). IsCell m NodeFits g.K.BookName.name c.self.inside.me b c.self.inside.node c.self.inside.journal (length c.self.inside.text.items + c.self.inside.text.spare)) c.if-self.false c.self.invariant in
+    let k = subst (λ (b : Bool). IsCell m NodeFits g.K.BookName.name c.self.inside.me b c.self.inside.node
+    c.self.inside.journal (length c.self.inside.text.items + c.self.inside.text.spare))
+    c.if-self.false c.self.invariant in
     let l = c.stop-stop.result in
     let e = c.in-Err.ensures in
     let stepped : IsStep m c.self.inside.node l c.step_on.new.self = rw c.stop-stop.ensures record {
@@ -67,8 +74,11 @@ invariant_of-self-in-Memory g c =
       makes = (memory_runs _ (sym c.in-Memory.is ∙ e.refused), e.err, refl, refl, refl);
       committed = ap length c.committed-committed.ensures;
     } in
-    cell_adds m NodeFits g.K.BookName.name c.self.inside.me c.self.inside.node c.step_on.new.self c.self.inside.journal c.push_reserved-in-Memory.new.self _ _ l k (ap (λ x. x.node) c.stop-stop.ensures) stepped
-    (node_sound g.O.Object.sequential g.K.BookName.name.group c.self.inside.node l c.step_on.new.self c.self.invariant.sound stepped) c.self.invariant.text c.push_reserved-in-Memory.ensures.ring c.push_reserved-in-Memory.ensures.sent.0
+    cell_adds m NodeFits g.K.BookName.name c.self.inside.me c.self.inside.node c.step_on.new.self
+    c.self.inside.journal c.push_reserved-in-Memory.new.self _ _ l k (ap (λ x. x.node) c.stop-stop.ensures) stepped
+    (node_sound g.O.Object.sequential g.K.BookName.name.group c.self.inside.node l c.step_on.new.self
+    c.self.invariant.sound stepped) c.self.invariant.text c.push_reserved-in-Memory.ensures.ring
+    c.push_reserved-in-Memory.ensures.sent.0
 
 pub returns-in-Memory : goal.returns-in-Memory
 returns-in-Memory g c =
@@ -101,11 +111,18 @@ invariant_of-self-in_default g c =
     let e = c.in-Err.ensures in
     let other = other_stopped _ c.in-Err.fault e.refused c.in_default.not-Memory in
     let same = e.err ∙ stopped_same c.self.inside.node other.0 in
-    subst (λ (s : Node g.row.O-Alloc.Denot). IsCell m NodeFits g.K.BookName.name c.self.inside.me c.self.inside.ahead s c.self.inside.journal (length c.self.inside.text.items + c.self.inside.text.spare)) (sym same) c.self.invariant
+    subst (λ (s : Node g.row.O-Alloc.Denot). IsCell m NodeFits g.K.BookName.name c.self.inside.me c.self.inside.ahead
+    s c.self.inside.journal (length c.self.inside.text.items + c.self.inside.text.spare)) (sym same) c.self.invariant
 
 pub returns : goal.returns
 returns g c =
     let other = other_stopped _ c.in-Err.fault c.in-Err.ensures.refused c.in_default.not-Memory in
     let same = c.in-Err.ensures.err ∙ stopped_same c.self.inside.node other.0 in
-    let seen : Node g.row.O-Alloc.Denot → CellView (Node g.row.O-Alloc.Denot) g.row.O-Alloc.Denot = λ s. record { me = c.self.inside.me; ahead = c.self.inside.ahead; node = s; journal = sent c.self.inside.journal } in
+    let seen : Node g.row.O-Alloc.Denot → CellView (Node g.row.O-Alloc.Denot) g.row.O-Alloc.Denot =
+    λ s. record {
+      me = c.self.inside.me;
+      ahead = c.self.inside.ahead;
+      node = s;
+      journal = sent c.self.inside.journal;
+    } in
     rw (other.1, ← c.self.view_is) (c.if-self.false, other.0, ap seen same)

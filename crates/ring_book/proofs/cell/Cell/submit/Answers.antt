@@ -15,7 +15,9 @@ push_reserved-requires g c = (c.self.invariant.free c.if-self.false, tt)
 pub invariant_of-self-2 : goal.invariant_of-self-2
 invariant_of-self-2 g c =
     let m = node_machine g.O.Object.sequential g.K.BookName.name.group in
-    let k = subst (λ (b : Bool). IsCell m NodeFits g.K.BookName.name c.self.inside.me b c.self.inside.node c.self.inside.journal (length c.self.inside.text.items + c.self.inside.text.spare)) c.if-self.false c.self.invariant in
+    let k = subst (λ (b : Bool). IsCell m NodeFits g.K.BookName.name c.self.inside.me b c.self.inside.node
+    c.self.inside.journal (length c.self.inside.text.items + c.self.inside.text.spare))
+    c.if-self.false c.self.invariant in
     let e = c.in_ok-ticket.ensures in
     let l = c.called.result in
     let stepped : IsStep m c.self.inside.node l c.submit_on.new.self = rw c.called.ensures record {
@@ -23,8 +25,10 @@ invariant_of-self-2 g c =
       makes = (e.taken, e.ok, refl, refl, refl);
       committed = ap length c.committed-places.ensures;
     } in
-    cell_adds m NodeFits g.K.BookName.name c.self.inside.me c.self.inside.node c.submit_on.new.self c.self.inside.journal c.push_reserved.new.self _ _ l k (ap (λ x. x.node) c.called.ensures) stepped
-    (node_sound g.O.Object.sequential g.K.BookName.name.group c.self.inside.node l c.submit_on.new.self c.self.invariant.sound stepped) c.self.invariant.text c.push_reserved.ensures.ring c.push_reserved.ensures.sent.0
+    cell_adds m NodeFits g.K.BookName.name c.self.inside.me c.self.inside.node c.submit_on.new.self
+    c.self.inside.journal c.push_reserved.new.self _ _ l k (ap (λ x. x.node) c.called.ensures) stepped
+    (node_sound g.O.Object.sequential g.K.BookName.name.group c.self.inside.node l c.submit_on.new.self
+    c.self.invariant.sound stepped) c.self.invariant.text c.push_reserved.ensures.ring c.push_reserved.ensures.sent.0
 
 pub returns-clause-given : goal.returns-clause-given
 returns-clause-given g c =

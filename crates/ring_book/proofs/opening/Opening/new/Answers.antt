@@ -11,8 +11,15 @@ loop-i-preserved g c =
     let d : c.push.new.self.items ≡ c.loop-i.ends.items ++ c.in_ok-writer.end ∷ [] = c.in_ok-push.ensures.items in
     let e = c.in_ok-writer.ensures in
     rw (a, b, d) record {
-      start = AllStart-snoc (node_machine g.O.Object.sequential c.args.group) 1 (c.loop-i.i + 1) c.loop-i.nodes.items c.loop-i.writers.items c.in_ok-node.node c.in_ok-writer.writer (omega (arith, c.loop-i.invariant.count)) c.loop-i.invariant.start
-          record { node_is = c.in_ok-node.ensures.ok ∙ ap (node_opening c.args.group) c.new-proc.ensures; sent_is = e.producer.0; free = omega (arith, e.producer.1); one = e.producer.2 };
+      start = AllStart-snoc (node_machine g.O.Object.sequential c.args.group) 1 (c.loop-i.i + 1)
+          c.loop-i.nodes.items c.loop-i.writers.items c.in_ok-node.node c.in_ok-writer.writer
+          (omega (arith, c.loop-i.invariant.count)) c.loop-i.invariant.start
+          record {
+            node_is = c.in_ok-node.ensures.ok ∙ ap (node_opening c.args.group) c.new-proc.ensures;
+            sent_is = e.producer.0;
+            free = omega (arith, e.producer.1);
+            one = e.producer.2;
+          };
       ends = AllStartEnds-snoc c.loop-i.writers.items c.loop-i.ends.items c.in_ok-writer.writer c.in_ok-writer.end c.loop-i.invariant.ends
           record { ring_is = pair_ring c.in_ok-writer.writer c.in_ok-writer.end e.pair; received_is = e.consumer.0; one = e.consumer.2 };
       count = simp length-append (omega (arith, c.loop-i.invariant.count));
