@@ -15,6 +15,8 @@ mod operations;
 #[cfg(test)]
 mod orders;
 #[cfg(test)]
+mod partition;
+#[cfg(test)]
 mod runs;
 #[cfg(test)]
 mod scripts;

@@ -12,6 +12,8 @@ pub enum Task<'a> {
     Frames { file: &'a str },
     /// To run the script in a file, and to tell whether its run is legal where that is asked for.
     Script { file: &'a str, is_checked: bool },
+    /// To run the script in a file with a stop and a cut of each node before each event.
+    Sweep { file: &'a str },
 }
 
 /// What `totem --help` ends with.
@@ -33,6 +35,17 @@ one order of the calls explains all replies. The exit status is 1 after `legal n
 Examples:
   totem script first_reply.script
   totem script --check first_reply.script";
+
+/// What `totem sweep --help` ends with.
+const SWEEP_HELP: &str = "\
+For each event of the script, each delivery of a pump counted, and for its end, each node is once
+stopped and once cut off from all others just before it, and the rest of the script runs. Prints
+how many events there are, how many variants were run, and `legal yes` or `legal no`: whether in
+each of them one order of the calls explains all replies, and each node's committed calls are a
+front of it. The exit status is 1 after `legal no`. It takes as many runs as it prints variants.
+
+Example:
+  totem sweep first_reply.script";
 
 /// What `totem frames --help` ends with.
 const FRAMES_HELP: &str = "\
@@ -58,6 +71,7 @@ pub fn task_of<'a>(alloc: Global, words: &'a io::Result<Vec<String>>) -> Result<
                         let is_checked = of.get_flag("check");
                         return Ok(Task::Script { file, is_checked });
                     }
+                    "sweep" => return Ok(Task::Sweep { file }),
                     _ => {}
                 }
             }
@@ -79,6 +93,10 @@ fn command_of<'a>(alloc: Global) -> Result<Command<'a>, AllocError> {
                 .action(ArgAction::SetTrue),
         )?
         .arg(file_of(alloc, "The script"))?;
+    let sweep = Command::new(alloc, "sweep")
+        .about("Runs a script with a stop and a cut of each node before each event")
+        .after_help(SWEEP_HELP)
+        .arg(file_of(alloc, "The script"))?;
     let frames = Command::new(alloc, "frames")
         .about("Lists the frames of a file, a line each")
         .after_help(FRAMES_HELP)
@@ -90,6 +108,7 @@ fn command_of<'a>(alloc: Global) -> Result<Command<'a>, AllocError> {
         .after_help(TOTEM_HELP)
         .subcommand_required(true)
         .subcommand(script)?
+        .subcommand(sweep)?
         .subcommand(frames)
 }
 

@@ -1,5 +1,5 @@
 //! The program `totem`: it reads its command line, opens the file that is named there, and has
-//! `ring_console` do the work.
+//! `ring_console` and `ring_sweep` do the work.
 #![tactic(auto)]
 
 mod command_line;
@@ -8,6 +8,8 @@ use clap::error::ErrorKind;
 use command_line::{Task, task_of};
 use ring_base::Fault;
 use ring_console::{Failure, frames, report, script, script_check};
+use ring_sweep::{sweep, sweep_watched};
+use std::io::IsTerminal;
 use std::process::ExitCode;
 use std::{env, fs, io};
 
@@ -26,6 +28,14 @@ fn main(rt: HostRuntime) -> ExitCode {
         Ok(Task::Script { file, is_checked }) => match fs::open(&rt, file) {
             Ok(mut input) if is_checked => script_check(rt.alloc(), &mut input, &mut out, &mut err),
             Ok(mut input) => script(rt.alloc(), &mut input, &mut out, &mut err),
+            Err(_) => report(&mut err, Failure::BadScript(0)),
+        },
+        Ok(Task::Sweep { file }) => match fs::open(&rt, file) {
+            Ok(mut input) if err.is_terminal() => {
+                let mut progress = rt.stderr();
+                sweep_watched(rt.alloc(), &mut input, &mut out, &mut err, &mut progress)
+            }
+            Ok(mut input) => sweep(rt.alloc(), &mut input, &mut out, &mut err),
             Err(_) => report(&mut err, Failure::BadScript(0)),
         },
         Err(error) if error.kind() == ErrorKind::OutOfMemory => {
