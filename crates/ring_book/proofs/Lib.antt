@@ -1,3 +1,9 @@
+-- Keeping: What keeps the limits of frames: a node does along its steps.
+-- Stops: What it means that a node's step was refused.
+-- Journaling: A cell whose journal got one more step.
+-- Places: Lists, by place.
+-- Entering: A step goes from a cell's journal to the book.
+-- Opened: Openings that grow.
 pub mod Keeping
 pub mod Stops
 pub mod Journaling

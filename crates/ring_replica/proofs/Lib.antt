@@ -1,3 +1,11 @@
+-- Lent: The lifetimes of what is lent end no sooner than the loan.
+-- Courses: What a message, a safe mark and a new ring make of what a node keeps, by the life that they make.
+-- Messages: What a message makes of the log, its exchange and what is due is what the definitions make of the longer life.
+-- Nodes: What is due by a node, and a step of it, by its replica.
+-- Going: A course goes on: what is kept of a life by a message, by a safe mark, by a new ring and by what is handed over; and a life that is not
+--   sound stays so.
+-- Lists: Lists as loops go over them, and the committed places of a log that changes.
+-- Replicas: What the code keeps of a replica, as it opens, gives a ticket, takes a step and ends it.
 pub mod Lent
 pub mod Courses
 pub mod Messages

@@ -1,1 +1,2 @@
+-- LentLemmas: What a lent writer holds once the buffer over it is empty.
 pub mod LentLemmas

@@ -1,3 +1,15 @@
+-- Among: No line of a script names a node past the script's nodes.
+-- Cutting: The words of a cut, taken one after the other.
+-- Fitting: Each call that a script asks for keeps the limits of calls.
+-- Inputs: The bytes of an input that was read whole.
+-- Lengths: An operation of a script is short enough for a call.
+-- Numerals: What `parse` gives of a decimal word.
+-- Pieces: The first piece of a text, and the first line, by where the separator stands.
+-- Readings: The lines of a text, read one after the other.
+-- Refusals: Refusals that pass on.
+-- Spelling: How the arguments of an operation are spelled, one after another.
+-- Together: Which nodes a cut keeps together.
+-- Voting: A line of votes, read word by word.
 pub mod Among
 pub mod Cutting
 pub mod Fitting

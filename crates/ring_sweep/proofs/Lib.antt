@@ -1,3 +1,8 @@
+-- Fronting: Whether the calls that take effect of a list are a front of another.
+-- Legality: Whether a run is legal.
+-- Placing: Each stop and each cut has its place among the variants.
+-- Staging: A script under way into which something is put: what its steps come to.
+-- Trying: One variant after another is run.
 pub mod Fronting
 pub mod Legality
 pub mod Placing
