@@ -1,5 +1,5 @@
 -- Of the events that stand nothing is told but answers, and refusals whatever the memory.
-use Rattle.std.proofs.Common.{◌≡◌, ℕ, false, ◌==◌, List, [], ◌∷◌, ◌++◌, Some, refl, ap, ◌∙◌, sym, append-nil}
+use Rattle.std.proofs.Common.{◌≡◌, ℕ, false, ◌==◌, List, [], ◌∷◌, ◌++◌, Some, refl, ap, ◌∙◌, append-nil}
 use Rattle.std.specs.Prelude.{not, cond}
 use Rattle.std.proofs.lemmas.List.Elements.{filter-append}
 use Rattle.ring_base.specs.Fault.{fault_number}
