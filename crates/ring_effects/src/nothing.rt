@@ -8,12 +8,12 @@ use std::marker::{Model, PhantomData};
 /// No content: an operation changes nothing and is replied the byte `FF`. Its session table tells which calls of a list
 /// take effect, whatever the object that they are for.
 #[derive(Drop)]
-pub(crate) struct Nothing<A: Allocator + Copy> {
+pub struct Nothing<A: Allocator + Copy> {
     home: PhantomData<A>,
 }
 
 impl<A: Allocator + Copy> Model for Nothing<A> {
-    ghost use Rattle.ring_lines.specs.Nothing.{Content};
+    ghost use Rattle.ring_effects.specs.Nothing.{Content};
 
     ghost Value = { Content };
 
@@ -21,7 +21,7 @@ impl<A: Allocator + Copy> Model for Nothing<A> {
 }
 
 impl<A: Allocator + Copy + Drop> Object for Nothing<A> {
-    ghost use Rattle.ring_lines.specs.Nothing.{is_content, is_readable, nothing, snapshot_of, restored, ignores, replies, restores};
+    ghost use Rattle.ring_effects.specs.Nothing.{is_content, is_readable, nothing, snapshot_of, restored, ignores, replies, restores};
 
     type Alloc = A;
 

@@ -1,4 +1,4 @@
--- The object that keeps nothing: no operation can be read, and its one snapshot has no bytes.
+-- The object that keeps nothing: no operation can be read, and its one snapshot has no bytes. Objects, of docs/PROTOCOL.md.
 use Rattle.std.proofs.Common.{◌≡◌, ℕ, ◌<◌, Bool, false, List, [], ◌∷◌, Option, Some, None, refl, arith}
 use Rattle.std.proofs.lemmas.List.Elements.{All-nil, All-cons}
 use Rattle.ring_object.specs.Bytes.{AreBytes}
