@@ -1,4 +1,3 @@
--- Lent: The lifetimes of what is lent end no sooner than the loan.
 -- Leading: Runs of one node, and the steps of each node in the lines.
 -- Standing: Frames that stand in the lines, and where they stand among all frames.
 -- Telling: Answers by ticket, answer by answer and step by step.
@@ -8,7 +7,6 @@
 -- Logging: The longest committed log, line by line.
 -- Bridge: A book run is the run of its lines' events.
 -- Puts: What appending the bytes of a frame answers.
-pub mod Lent
 pub mod Leading
 pub mod Standing
 pub mod Telling
