@@ -1,6 +1,7 @@
 use Rattle.std.proofs.Common.{◌++◌, ◌∷◌, [], length, refl, ap, sym, ◌∙◌, add-one, append_assoc, append-nil, take}
+use Rattle.std.proofs.lemmas.List.{take_all}
 use Rattle.std.proofs.lemmas.Option.{slice_get_read}
-use Rattle.ring_effects.proofs.Adding.{effects-as, take-next, take-whole}
+use Rattle.ring_effects.proofs.Adding.{effects-as, take-next}
 use Rattle.ring_effects.proofs.effects.Effects.add_all.Goals as goal
 
 pub loop-call-init : goal.loop-call-init
@@ -17,4 +18,4 @@ loop-call-preserved g c =
 
 pub returns-clause-ok : goal.returns-clause-ok
 returns-clause-ok g c = λ before h.
-    effects-as (c.loop-call.invariant before h) (ap (λ zs. before ++ zs) (take-whole c.args.calls.now c.loop-call.call-index c.loop-call-test.false))
+    effects-as (c.loop-call.invariant before h) (ap (λ zs. before ++ zs) (take_all c.loop-call.call-index c.args.calls.now c.loop-call-test.false))
