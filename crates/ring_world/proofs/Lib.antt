@@ -3,6 +3,7 @@
 -- Spared: The second copies of the calls that wait: what a step answers has its copy, and those that wait on keep theirs.
 -- Silent: The step of a node that has stopped gives nothing and changes nothing.
 -- Growing: In a run what a node committed only grows, so the copies of the calls that it answers are left.
+-- Events: Of the events that stand nothing is told but answers, and refusals whatever the memory.
 -- Ties: What the code keeps goes on telling the world, event by event.
 -- Refusals: What a refusal tells, and room for fewer.
 -- Handing: What is handed to a node is the frame that was sent to it, if any.
@@ -16,8 +17,9 @@ pub mod Tellings
 pub mod Spared
 pub mod Silent
 pub mod Growing
-pub mod Ties
 pub mod Refusals
+pub mod Events
+pub mod Ties
 pub mod Handing
 pub mod Playing
 pub mod Synchrony

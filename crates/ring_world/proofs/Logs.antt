@@ -7,6 +7,7 @@ use Rattle.ring_core.specs.State.{Carried}
 use Rattle.ring_machine.specs.Nodes.{Node, node_committed}
 use Rattle.ring_session.specs.Deduplicated.{deduplicated}
 use Rattle.ring_history.specs.declared.item.Item.{Item}
+use Rattle.ring_history.specs.declared.told.Told.{Told}
 use Rattle.ring_history.specs.Orders.{order_of}
 use Rattle.ring_history.specs.Worlds.{World, committed_in, order}
 use Rattle.ring_world.specs.Keeping.{IsKept, IsWorld}
@@ -23,18 +24,18 @@ numbered g f (x ∷ xs) first h =
     ap (λ y. g y ∷ map g xs) same ∙ ap (λ ys. g (f first) ∷ ys) (numbered g f xs (suc first) (λ i j l q. h (suc i) j (omega (arith, l)) (omega (arith, q))))
 
 pub logs-kept : {A : Type 0} (w : World A) (nodes : List (Node A)) (spares : List (Spares A))
-    (frames : List (Carried A)) (history : List (Item A)) → IsKept w nodes spares frames history
+    (frames : List (Carried A)) (history : List (Item A)) (told : List (Told A)) → IsKept w nodes spares frames history told
     → logs_of nodes ≡ committed_in w
-logs-kept w nodes spares frames history h =
+logs-kept w nodes spares frames history told h =
     numbered node_committed w.nodes nodes 1 (λ i j l q. h.nodes_are i (let m = h.many in omega (arith, l, m))
     ∙ ap (λ k. Some (w.nodes k)) (let r : suc i ≡ j = omega (arith, q) in r))
     ∙ ap (λ n. map (λ i. node_committed (w.nodes i)) (numbers_from 1 n)) h.many
 
 pub logs-order : {O A : Type 0} (object : Sequential O) (p : Played A) (nodes : List (Node A))
     (spares : List (Spares A)) (frames : List (Carried A)) (history : List (Item A))
-    → IsWorld object p.group p.events nodes spares frames history →
+    → IsWorld object p.group p.events nodes spares frames history p.told →
     order_of (logs_of nodes) ≡ order (world_of object p)
-logs-order object p nodes spares frames history h = ap order_of (logs-kept (world_of object p) nodes spares frames history h.kept)
+logs-order object p nodes spares frames history h = ap order_of (logs-kept (world_of object p) nodes spares frames history p.told h.kept)
 
 -- The log that the longest order is made of
 

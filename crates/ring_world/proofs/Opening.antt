@@ -11,6 +11,7 @@ use Rattle.ring_core.specs.State.{Carried}
 use Rattle.ring_machine.specs.Nodes.{Node, node_opening, node_committed}
 use Rattle.ring_history.specs.declared.event.Event.{Event}
 use Rattle.ring_history.specs.declared.item.Item.{Item}
+use Rattle.ring_history.specs.declared.told.Told.{Told}
 use Rattle.ring_chain.proofs.Formed.{numbers-append}
 use Rattle.ring_world.specs.Spares.{Spares, Holds}
 use Rattle.ring_world.specs.Keeping.{KeepsCopies, IsWorld}
@@ -40,7 +41,7 @@ copies_at group f (s ∷ xs) (suc i) l none = copies_at group (λ j. f (suc j)) 
 
 opens_at : {O A : Type 0} (object : Sequential O) (group : Group) (spares : List (Spares A)) → length spares ≡ group.count →
     AllByRecursion (λ (s : Spares A). s.calls ≡ []) spares → group.count ≤ 16 →
-    IsWorld object group [] (map (node_opening group) (numbers_from 1 group.count)) spares [] []
+    IsWorld object group [] (map (node_opening group) (numbers_from 1 group.count)) spares [] [] []
 opens_at {A} object group spares many none few =
     let f : ℕ → Node A = node_opening group in
     record {
@@ -51,6 +52,7 @@ opens_at {A} object group spares many none few =
         copies_many = many;
         frames_are = refl;
         history_is = refl;
+        told_is = refl;
       };
       same = refl;
       fit = tt;
@@ -58,9 +60,9 @@ opens_at {A} object group spares many none few =
     }
 
 pub opens : {O A : Type 0} (object : Sequential O) (group : Group) (events : List (Event A)) (nodes : List (Node A)) (spares : List (Spares A))
-    (frames : List (Carried A)) (history : List (Item A)) (count : ℕ) → count ≡ group.count → count ≤ 16 → events ≡ []
+    (frames : List (Carried A)) (history : List (Item A)) (told : List (Told A)) (count : ℕ) → count ≡ group.count → count ≤ 16 → events ≡ []
     → nodes ≡ map (node_opening group) (numbers_from 1 count) → length spares ≡ count → AllByRecursion (λ (s : Spares A). s.calls ≡ []) spares → frames ≡ []
-    → history ≡ [] → IsWorld object group events nodes spares frames history
-opens object group events nodes spares frames history count is few a b c d e f =
+    → history ≡ [] → told ≡ [] → IsWorld object group events nodes spares frames history told
+opens object group events nodes spares frames history told count is few a b c d e f t =
     let all = b ∙ ap (λ n. map (node_opening group) (numbers_from 1 n)) is in
-    rw (a, all, e, f) (opens_at object group spares (c ∙ is) d (omega (arith, is, few)))
+    rw (a, all, e, f, t) (opens_at object group spares (c ∙ is) d (omega (arith, is, few)))

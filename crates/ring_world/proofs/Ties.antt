@@ -30,10 +30,11 @@ use Rattle.ring_history.specs.Limits.{EventFits}
 use Rattle.ring_history.specs.Worlds.{World, world_opening, run, happens, put, is_node, after_step, stepped, stepped_if}
 use Rattle.ring_history.specs.Worlds.{stopped_if, issued_or, issued_if, carried, items_of, told_by}
 use Rattle.ring_linear.proofs.Orderly.{run-more}
-use Rattle.ring_world.specs.Played.{Played, IsCopy, world_of, told_behind, step_in, runs_in, Goes}
+use Rattle.ring_world.specs.Played.{Played, told_of_events, IsCopy, world_of, told_behind, step_in, runs_in, Goes}
 use Rattle.ring_world.specs.Spares.{Spares, AllLeft, Holds, after_answers}
 use Rattle.ring_world.specs.Keeping.{KeepsCopies, IsKept, IsWorld}
 use Rattle.ring_world.proofs.Spared.{get-set_same, get-set_other, set-length, holds-more}
+use Rattle.ring_world.proofs.Events.{tells_answers, tells_refusal, tells_memory}
 use Rattle.ring_world.proofs.Silent.{silent, stopped_node}
 use Rattle.ring_world.proofs.Growing.{hands-committed, step-grows, step-goes}
 
@@ -91,14 +92,14 @@ module _ {O A : Type 0} (object : Sequential O) where
   -- an event more
   pub tells : (group : Group) (events : List (Event A)) (nodes nodes' : List (Node A))
       (spares spares' : List (Spares A)) (frames frames' : List (Carried A)) (history history' : List (Item A))
-      (d : Event A) (v : World A) →
-      IsWorld object group events nodes spares frames history → EventFits d → happens object (run object (world_opening group) events) d ≡ v →
-      v.group ≡ (run object (world_opening group) events).group → IsKept v nodes' spares' frames' history' →
-      IsWorld object group (events ++ d ∷ []) nodes' spares' frames' history'
-  tells group events nodes nodes' spares spares' frames frames' history history' d v h fits is same kept =
+      (told told' : List (Told A)) (d : Event A) (v : World A) →
+      IsWorld object group events nodes spares frames history told → EventFits d → happens object (run object (world_opening group) events) d ≡ v →
+      v.group ≡ (run object (world_opening group) events).group → IsKept v nodes' spares' frames' history' told' →
+      IsWorld object group (events ++ d ∷ []) nodes' spares' frames' history' told'
+  tells group events nodes nodes' spares spares' frames frames' history history' told told' d v h fits is same kept =
       let next : run object (world_opening group) (events ++ d ∷ []) ≡ v = run-more object (world_opening group) events d ∙ is in
       record {
-        kept = subst (λ (x : World A). IsKept x nodes' spares' frames' history') (sym next) kept;
+        kept = subst (λ (x : World A). IsKept x nodes' spares' frames' history' told') (sym next) kept;
         same = ap (λ (x : World A). x.group) next ∙ same ∙ h.same;
         fit = each-push EventFits events d h.fit fits;
         few = h.few;
@@ -115,15 +116,15 @@ module _ {O A : Type 0} (object : Sequential O) where
       inl (record { kept = d; copy = copy; group = a; events = b; told = c ∙ ap (λ ts. p.told ++ ts) (sym (told_more (world_of object p) v e more is t)) })
 
   module _ (p : Played A) (nodes : List (Node A)) (spares : List (Spares A)) (frames : List (Carried A)) (history : List (Item A))
-      (h : IsWorld object p.group p.events nodes spares frames history) where
+      (h : IsWorld object p.group p.events nodes spares frames history p.told) where
     abbrev w : World A
     w = world_of object p
 
     -- an event that changes nothing
     pub idle_world : (e d : Event A) → IsCopy e d → EventFits e → happens object w e ≡ w → IsWorld object p.group
-        (p.events ++ d ∷ []) nodes spares frames history
+        (p.events ++ d ∷ []) nodes spares frames history p.told
     idle_world e d copy fits is =
-        tells p.group p.events nodes nodes spares spares frames frames history history d w h (copy_fits e d copy fits)
+        tells p.group p.events nodes nodes spares spares frames frames history history p.told p.told d w h (copy_fits e d copy fits)
         (copy_happens w e d copy ∙ is) refl h.kept
 
     pub idle_goes : (q : Played A) (e d : Event A) → IsCopy e d → happens object w e ≡ w → q.group ≡ p.group
@@ -210,10 +211,10 @@ module _ {O A : Type 0} (object : Sequential O) where
 
       -- a node is another
       put_kept : (n : Node A) (nodes' : List (Node A)) (ss : List (Spares A)) (fs : List (Carried A))
-          (is : List (Item A)) (v : World A) → nodes' ≡ slice_set nodes m n → v.group ≡ w.group
+          (is : List (Item A)) (ts : List (Told A)) (v : World A) → nodes' ≡ slice_set nodes m n → v.group ≡ w.group
           → v.nodes ≡ put w.nodes i n →
-          v.frames ≡ fs → v.history ≡ is → Copied n ss → length ss ≡ length spares → IsKept v nodes' ss fs is
-      put_kept n nodes' ss fs is v set g ns f hs copied many =
+          v.frames ≡ fs → v.history ≡ is → v.told ≡ told_of_events ts → Copied n ss → length ss ≡ length spares → IsKept v nodes' ss fs is ts
+      put_kept n nodes' ss fs is ts v set g ns f hs t copied many =
           let cs : v.group.count ≡ w.group.count = ap (λ (x : Group). x.count) g in
           record {
             nodes_are = λ j l. ap (λ xs. slice_get xs j) set ∙ nodes_put n j (omega (arith, l, cs)) ∙ ap (λ (x : ℕ → Node A). Some (x (suc j))) (sym ns);
@@ -222,6 +223,7 @@ module _ {O A : Type 0} (object : Sequential O) where
             copies_many = many ∙ h.kept.copies_many ∙ sym cs;
             frames_are = sym f;
             history_is = sym hs;
+            told_is = sym t;
           }
 
       -- it stepped
@@ -238,23 +240,25 @@ module _ {O A : Type 0} (object : Sequential O) where
 
       pub step_world : (e d : Event A) (input : Input A) → IsCopy e d → EventFits e
           → happens object w e ≡ stepped object w i input → (n : Node A) (s s' : Spares A) (nodes' : List (Node A))
-          (ss : List (Spares A)) (fs : List (Carried A)) (is : List (Item A)) →
+          (ss : List (Spares A)) (fs : List (Carried A)) (is : List (Item A)) (ts : List (Told A)) →
           KeepsCopies (w.nodes i) s → n ≡ (node_step object (w.nodes i) input).node → nodes' ≡ slice_set nodes m n
           → ss ≡ slice_set spares m s' → s'.calls ≡ after_answers s.calls
           (node_step object (w.nodes i) input).answers →
           fs ≡ frames ++ carried i (node_step object (w.nodes i) input).sends → is ≡ history ++ items_of (node_step object (w.nodes i) input).answers →
-          IsWorld object p.group (p.events ++ d ∷ []) nodes' ss fs is
-      step_world e d input copy fits same n s s' nodes' ss fs is k n_is ns ss_is s_is fs_is is_is =
+          ts ≡ p.told ++ told_by i (node_step object (w.nodes i) input).answers →
+          IsWorld object p.group (p.events ++ d ∷ []) nodes' ss fs is ts
+      step_world e d input copy fits same n s s' nodes' ss fs is ts k n_is ns ss_is s_is fs_is is_is ts_is =
           let st = node_step object (w.nodes i) input in
           let v = after_step w i st in
           let holds = (step-goes object (w.nodes i) input s.calls (step-grows object p.group h.few p.events e i input low high known same) k).1 in
           let keeps : KeepsCopies n s' = subst (λ cs. Holds cs n.tickets (node_committed n)) (sym s_is)
           (subst (λ (x : Node A). Holds (after_answers s.calls st.answers) x.tickets (node_committed x)) (sym n_is) holds) in
-          tells p.group p.events nodes nodes' spares ss frames fs history is d v h (copy_fits e d copy fits)
+          tells p.group p.events nodes nodes' spares ss frames fs history is p.told ts d v h (copy_fits e d copy fits)
           (copy_happens w e d copy ∙ same ∙ step_is input) refl
-          (put_kept n nodes' ss fs is v ns refl (ap (λ (x : Node A). put w.nodes i x) (sym n_is))
+          (put_kept n nodes' ss fs is ts v ns refl (ap (λ (x : Node A). put w.nodes i x) (sym n_is))
           (ap (λ xs. xs ++ carried i st.sends) (sym h.kept.frames_are) ∙ sym fs_is)
           (ap (λ xs. xs ++ items_of st.answers) (sym h.kept.history_is) ∙ sym is_is)
+          (sym (ap told_of_events ts_is ∙ tells_answers p.told w.told h.kept.told_is i st.answers))
           (subst (Copied n) (sym ss_is) (copies_set n s' keeps)) (ap length ss_is ∙ set-length spares m s'))
 
       pub step_goes : (q : Played A) (e d : Event A) (input : Input A) → IsCopy e d
@@ -300,18 +304,18 @@ module _ {O A : Type 0} (object : Sequential O) where
           ∙ ap four (ap (λ xs. w.told ++ told_by i xs) g.answers ∙ append-nil w.told)
 
       halted_kept : (n : Node A) (nodes' : List (Node A)) → n ≡ node_stopped (w.nodes i)
-          → nodes' ≡ slice_set nodes m n → IsKept (stopped_if true w i) nodes' spares frames history
+          → nodes' ≡ slice_set nodes m n → IsKept (stopped_if true w i) nodes' spares frames history p.told
       halted_kept n nodes' n_is ns =
-          put_kept (node_stopped (w.nodes i)) nodes' spares frames history (stopped_if true w i)
+          put_kept (node_stopped (w.nodes i)) nodes' spares frames history p.told (stopped_if true w i)
           (ns ∙ ap (slice_set nodes m) n_is) refl refl (sym h.kept.frames_are) (sym h.kept.history_is)
-          (copies_same (node_stopped (w.nodes i)) halted_keeps) refl
+          (sym h.kept.told_is) (copies_same (node_stopped (w.nodes i)) halted_keeps) refl
 
       pub silent_world : (e d : Event A) (input : Input A) → IsCopy e d → EventFits e
           → happens object w e ≡ stepped object w i input → (n : Node A) (nodes' : List (Node A))
           → is_stopped (w.nodes i).core.state ≡ true →
-          n ≡ node_stopped (w.nodes i) → nodes' ≡ slice_set nodes m n → IsWorld object p.group (p.events ++ d ∷ []) nodes' spares frames history
+          n ≡ node_stopped (w.nodes i) → nodes' ≡ slice_set nodes m n → IsWorld object p.group (p.events ++ d ∷ []) nodes' spares frames history p.told
       silent_world e d input copy fits same n nodes' t n_is ns =
-          tells p.group p.events nodes nodes' spares spares frames frames history history d (stopped_if true w i) h
+          tells p.group p.events nodes nodes' spares spares frames frames history history p.told p.told d (stopped_if true w i) h
           (copy_fits e d copy fits) (copy_happens w e d copy ∙ silent_is e input same t) refl
           (halted_kept n nodes' n_is ns)
 
@@ -327,9 +331,9 @@ module _ {O A : Type 0} (object : Sequential O) where
       stop_is = ap (λ b. stopped_if b w i) known
 
       pub stop_world : (n : Node A) (nodes' : List (Node A)) → n ≡ node_stopped (w.nodes i)
-          → nodes' ≡ slice_set nodes m n → IsWorld object p.group (p.events ++ Stop i ∷ []) nodes' spares frames history
+          → nodes' ≡ slice_set nodes m n → IsWorld object p.group (p.events ++ Stop i ∷ []) nodes' spares frames history p.told
       stop_world n nodes' n_is ns =
-          tells p.group p.events nodes nodes' spares spares frames frames history history (Stop i)
+          tells p.group p.events nodes nodes' spares spares frames frames history history p.told p.told (Stop i)
           (stopped_if true w i) h tt stop_is refl (halted_kept n nodes' n_is ns)
 
       pub stop_goes : (q : Played A) → q.group ≡ p.group → q.events ≡ p.events ++ Stop i ∷ [] → q.told ≡ p.told → Goes object (Stop i) p q
@@ -346,8 +350,9 @@ module _ {O A : Type 0} (object : Sequential O) where
       -- a call is submitted
 
       -- copies that are as they were
-      pub kept_spares : (s : Spares A) (ss : List (Spares A)) → ss ≡ slice_set spares m s → KeepsCopies (w.nodes i) s → IsKept w nodes ss frames history
-      kept_spares s ss is k = record {
+      kept_spares : (s : Spares A) (ss : List (Spares A)) → ss ≡ slice_set spares m s → KeepsCopies (w.nodes i) s
+          → (ts now : List (Told A)) → told_of_events ts ≡ now → IsKept (record w { told = now }) nodes ss frames history ts
+      kept_spares s ss is k ts now t = record {
         nodes_are = h.kept.nodes_are;
         many = h.kept.many;
         copies = λ j l. elim (cases_Bool (j == m)) [
@@ -367,11 +372,12 @@ module _ {O A : Type 0} (object : Sequential O) where
         copies_many = ap length is ∙ set-length spares m s ∙ h.kept.copies_many;
         frames_are = h.kept.frames_are;
         history_is = h.kept.history_is;
+        told_is = t;
       }
 
       pub same_world : (s : Spares A) (ss : List (Spares A)) → ss ≡ slice_set spares m s → KeepsCopies (w.nodes i) s
-          → IsWorld object p.group p.events nodes ss frames history
-      same_world s ss is k = record { kept = kept_spares s ss is k; same = h.same; fit = h.fit; few = h.few }
+          → (ts : List (Told A)) → told_of_events ts ≡ w.told → IsWorld object p.group p.events nodes ss frames history ts
+      same_world s ss is k ts t = record { kept = kept_spares s ss is k ts w.told t; same = h.same; fit = h.fit; few = h.few }
 
       pub same_nodes : (n : Node A) → n ≡ w.nodes i → slice_set nodes m n ≡ nodes
       same_nodes n is = ap (slice_set nodes m) is ∙ set-same nodes m (w.nodes i) (h.kept.nodes_are m below ∙ ap (λ j. Some (w.nodes j)) next)
@@ -384,7 +390,7 @@ module _ {O A : Type 0} (object : Sequential O) where
           (ss : List (Spares A)) (is : List (Item A)) →
           KeepsCopies (w.nodes i) s → n ≡ submitted (w.nodes i) c → nodes' ≡ slice_set nodes m n
           → ss ≡ slice_set spares m s' → s'.calls ≡ s.calls ++ Some c ∷ [] → is ≡ history ++ IssuedItem c ∷ [] →
-          IsWorld object p.group (p.events ++ d ∷ []) nodes' ss frames is
+          IsWorld object p.group (p.events ++ d ∷ []) nodes' ss frames is p.told
       issue_world c d copy fits free n s s' nodes' ss is k n_is ns ss_is s_is is_is =
           let v = issued_or None w i c in
           let t : Asked A = record { call = c; since = length (node_committed (w.nodes i)) } in
@@ -394,10 +400,11 @@ module _ {O A : Type 0} (object : Sequential O) where
           subst (Holds (s.calls ++ Some c ∷ []) (submitted (w.nodes i) c).tickets) (sym (submitted-committed (w.nodes i) c)) more in
           let keeps : KeepsCopies n s' = subst (λ cs. Holds cs n.tickets (node_committed n)) (sym s_is)
           (subst (λ (x : Node A). Holds (s.calls ++ Some c ∷ []) x.tickets (node_committed x)) (sym n_is) now) in
-          tells p.group p.events nodes nodes' spares ss frames frames history is d v h
+          tells p.group p.events nodes nodes' spares ss frames frames history is p.told p.told d v h
           (copy_fits (Issue i c) d copy fits) (copy_happens w (Issue i c) d copy ∙ issue_is c None free) refl
-          (put_kept n nodes' ss frames is v ns refl (ap (λ (x : Node A). put w.nodes i x) (sym n_is))
+          (put_kept n nodes' ss frames is p.told v ns refl (ap (λ (x : Node A). put w.nodes i x) (sym n_is))
           (sym h.kept.frames_are) (ap (λ xs. xs ++ IssuedItem c ∷ []) (sym h.kept.history_is) ∙ sym is_is)
+          (sym h.kept.told_is)
           (subst (Copied n) (sym ss_is) (copies_set n s' keeps)) (ap length ss_is ∙ set-length spares m s'))
 
       pub issue_goes : (q : Played A) (c : Call A) (d : Event A) → IsCopy (Issue i c) d → submit_fault (w.nodes i)
@@ -409,20 +416,14 @@ module _ {O A : Type 0} (object : Sequential O) where
       -- and is refused
       pub told_world : (c : Call A) (d : Event A) (f : Fault) → IsCopy (Issue i c) d → EventFits (Issue i c)
           → submit_fault (w.nodes i) ≡ Some f → (s : Spares A) (ss : List (Spares A)) → ss ≡ slice_set spares m s
-          → KeepsCopies (w.nodes i) s →
-          IsWorld object p.group (p.events ++ d ∷ []) nodes ss frames history
-      told_world c d f copy fits is s ss ss_is k =
-          let e = kept_spares s ss ss_is k in
-          tells p.group p.events nodes nodes spares ss frames frames history history d (issued_or (Some f) w i c) h
+          → KeepsCopies (w.nodes i) s → (ts : List (Told A)) → ts ≡ p.told ++ ToldRefused i c (fault_number f) ∷ [] →
+          IsWorld object p.group (p.events ++ d ∷ []) nodes ss frames history ts
+      told_world c d f copy fits is s ss ss_is k ts t =
+          let v = issued_or (Some f) w i c in
+          tells p.group p.events nodes nodes spares ss frames frames history history p.told ts d v h
           (copy_fits (Issue i c) d copy fits) (copy_happens w (Issue i c) d copy ∙ issue_is c (Some f) is) refl
-          (record {
-            nodes_are = e.nodes_are;
-            many = e.many;
-            copies = e.copies;
-            copies_many = e.copies_many;
-            frames_are = e.frames_are;
-            history_is = e.history_is;
-          })
+          (kept_spares s ss ss_is k ts v.told
+          (ap told_of_events t ∙ tells_refusal p.told w.told h.kept.told_is (w.nodes i) f i c is))
 
       pub told_goes : (q : Played A) (c : Call A) (d : Event A) (f : Fault) → IsCopy (Issue i c) d
           → submit_fault (w.nodes i) ≡ Some f → q.group ≡ p.group → q.events ≡ p.events ++ d ∷ [] →
@@ -441,12 +442,16 @@ module _ {O A : Type 0} (object : Sequential O) where
           (λ first. fault ≡ first) →
           (es : List (Event A)) → (fault ≡ Memory → es ≡ p.events) → ((fault ≡ Memory → ⊥) → es ≡ p.events ++ d ∷ [])
           → (s : Spares A) (ss : List (Spares A)) → ss ≡ slice_set spares m s → KeepsCopies (w.nodes i) s →
-          IsWorld object p.group es nodes ss frames history
-      refusal_world c d fault None copy fits is f_is es out stays s ss ss_is k =
-          subst (λ xs. IsWorld object p.group xs nodes ss frames history) (sym (out f_is)) (same_world s ss ss_is k)
-      refusal_world c d fault (Some f) copy fits is f_is es out stays s ss ss_is k =
-          subst (λ xs. IsWorld object p.group xs nodes ss frames history)
-          (sym (stays (λ q. not_memory (w.nodes i) f is (sym f_is ∙ q)))) (told_world c d f copy fits is s ss ss_is k)
+          (ts : List (Told A)) → ts ≡ p.told ++ ToldRefused i c (fault_number fault) ∷ [] →
+          IsWorld object p.group es nodes ss frames history ts
+      refusal_world c d fault None copy fits is f_is es out stays s ss ss_is k ts t =
+          subst (λ xs. IsWorld object p.group xs nodes ss frames history ts) (sym (out f_is)) (same_world s ss ss_is k ts
+          (ap told_of_events (t ∙ ap (λ f. p.told ++ ToldRefused i c (fault_number f) ∷ []) f_is)
+          ∙ tells_memory p.told w.told h.kept.told_is i c))
+      refusal_world c d fault (Some f) copy fits is f_is es out stays s ss ss_is k ts t =
+          subst (λ xs. IsWorld object p.group xs nodes ss frames history ts)
+          (sym (stays (λ q. not_memory (w.nodes i) f is (sym f_is ∙ q)))) (told_world c d f copy fits is s ss ss_is k ts
+          (t ∙ ap (λ x. p.told ++ ToldRefused i c (fault_number x) ∷ []) f_is))
 
       pub refusal_goes : (q : Played A) (c : Call A) (d : Event A) (fault : Fault) (o : Option Fault)
           → IsCopy (Issue i c) d → submit_fault (w.nodes i) ≡ o → MatchOption o (fault ≡ Memory)

@@ -7,29 +7,32 @@ use Rattle.ring_core.specs.State.{Carried}
 use Rattle.ring_machine.specs.Nodes.{Node, node_committed}
 use Rattle.ring_history.specs.declared.event.Event.{Event}
 use Rattle.ring_history.specs.declared.item.Item.{Item}
+use Rattle.ring_history.specs.declared.told.Told.{Told}
 use Rattle.ring_history.specs.Limits.{EventFits}
 use Rattle.ring_history.specs.Worlds.{World, world_opening, run}
+use Rattle.ring_world.specs.Played.{told_of_events}
 use Rattle.ring_world.specs.Spares.{Spares, Holds}
 
 -- a node's second copies
 abbrev pub KeepsCopies : {A : Type 0} → Node A → Spares A → Type 0
 KeepsCopies n s = Holds s.calls n.tickets (node_committed n)
 
--- nodes, their copies, frames and history are those of the world
+-- nodes, their copies, frames and history are those of the world, and so is what was told of its events
 pub record IsKept {A : Type 0} (w : World A) (nodes : List (Node A)) (spares : List (Spares A))
-    (frames : List (Carried A)) (history : List (Item A)) : Type 0 where
+    (frames : List (Carried A)) (history : List (Item A)) (told : List (Told A)) : Type 0 where
   pub nodes_are : (i : ℕ) → i < w.group.count → slice_get nodes i ≡ Some (w.nodes (suc i))
   pub many : length nodes ≡ w.group.count
   pub copies : (i : ℕ) → i < w.group.count → (s : Spares A) × (slice_get spares i ≡ Some s) × KeepsCopies (w.nodes (suc i)) s
   pub copies_many : length spares ≡ w.group.count
   pub frames_are : frames ≡ w.frames
   pub history_is : history ≡ w.history
+  pub told_is : told_of_events told ≡ w.told
 
 -- and the world is that of these events, whose calls have spellings
 pub record IsWorld {O A : Type 0} (object : Sequential O) (group : Group) (events : List (Event A))
     (nodes : List (Node A)) (spares : List (Spares A)) (frames : List (Carried A))
-    (history : List (Item A)) : Type 0 where
-  pub kept : IsKept (run object (world_opening group) events) nodes spares frames history
+    (history : List (Item A)) (told : List (Told A)) : Type 0 where
+  pub kept : IsKept (run object (world_opening group) events) nodes spares frames history told
   pub same : (run object (world_opening group) events).group ≡ group
   pub fit : AllByRecursion EventFits events
   pub few : group.count ≤ 16

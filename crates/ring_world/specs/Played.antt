@@ -1,6 +1,7 @@
 -- What a world has done since its opening, and how a run goes on from it: each event is done, or stands as a stop where memory was refused to its step, or
 -- is left out where memory was refused to its submit. The book and the threads, rules 1 to 8, of docs/PROTOCOL.md.
-use Rattle.std.specs.Prelude.{◌≡◌, ℕ, Bool, true, not, ◌&&◌, if◌then◌else◌, ◌⊎◌, Vec, List, [], ◌∷◌, ◌++◌, length, drop, Option, Some, None}
+use Rattle.std.specs.Prelude.{◌≡◌, ℕ, Bool, true, false, not, ◌==◌, ◌&&◌, if◌then◌else◌, ◌⊎◌, Vec, List, [], ◌∷◌, ◌++◌, length, drop, filter}
+use Rattle.std.specs.Prelude.{Option, Some, None}
 use Rattle.ring_base.specs.Group.{Group}
 use Rattle.ring_base.specs.Processors.{has}
 use Rattle.ring_object.specs.Operations.{Sequential}
@@ -11,7 +12,7 @@ use Rattle.ring_machine.specs.Stepping.{submit_fault}
 use Rattle.ring_history.specs.declared.event.Event.{Event}
 use Rattle.ring_history.specs.declared.event.Event.TheVariants.{Issue, Deliver, Noise, Timeout, Stop}
 use Rattle.ring_history.specs.declared.told.Told.{Told}
-use Rattle.ring_history.specs.declared.told.Told.TheVariants.{Refused}
+use Rattle.ring_history.specs.declared.told.Told.TheVariants.{Answer, Refused}
 use Rattle.ring_history.specs.Worlds.{World, world_opening, run, happens, is_node, frame_at}
 
 -- all events since the opening, what was told, and how many events of the last run were done
@@ -23,6 +24,15 @@ pub record Played (A : Type 0) : Type 0 where
 
 abbrev pub played_opening : {A : Type 0} → Group → Played A
 played_opening group = record { group = group; events = []; told = []; done = 0 }
+
+-- a submit that memory refused: its caller was told, and no event stands for it
+abbrev pub is_of_memory : {A : Type 0} → Told A → Bool
+is_of_memory (Answer i c answer) = false
+is_of_memory (Refused i c number) = number == 11
+
+-- what was told of the events that stand: all but these. An event that stands never tells of a submit that memory refused
+abbrev pub told_of_events : {A : Type 0} → List (Told A) → List (Told A)
+told_of_events told = filter (λ (t : Told _). not (is_of_memory t)) told
 
 -- a node of the world that has not stopped
 abbrev pub runs_in : {A : Type 0} → World A → ℕ → Bool

@@ -18,7 +18,7 @@ ghost use Rattle.ring_history.specs.declared.told.Told.TheVariants.{Refused as T
 ghost use Rattle.ring_history.specs.Histories.{IsLinearization};
 ghost use Rattle.ring_history.specs.Limits.{EventFits};
 ghost use Rattle.ring_history.specs.Worlds.{carried, happens, stepped, frame_at, order};
-ghost use Rattle.ring_world.specs.Played.{Played, played_opening, world_of, step_in, Goes, Plays};
+ghost use Rattle.ring_world.specs.Played.{Played, played_opening, told_of_events, world_of, step_in, Goes, Plays};
 ghost use Rattle.ring_world.specs.Stored.{HasRoom};
 ghost use Rattle.ring_world.specs.Spares.{Spares as ToldSpares};
 ghost use Rattle.ring_world.specs.Synchronous.{IsSynchronous};
@@ -65,7 +65,7 @@ impl<O: Object> Model for World<O> {
 
     ghost view = { λ w. record { group = w.fixed; events = w.events.items; told = w.told.items; done = w.done } };
 
-    ghost invariant = { λ w. IsWorld O.sequential w.fixed w.events.items w.nodes.items w.spares.items w.frames.frames w.history.items };
+    ghost invariant = { λ w. IsWorld O.sequential w.fixed w.events.items w.nodes.items w.spares.items w.frames.frames w.history.items w.told.items };
 }
 
 impl<O: Object> World<O> {
@@ -149,9 +149,11 @@ impl<O: Object> World<O> {
         &self.events
     }
 
-    /// What was told, in order: answers and refused submits.
+    /// What was told, in order: answers and refused submits. Without the submits that memory refused, it is what the run of
+    /// the events told.
     pub fn told(&self) -> &[Told<O::Alloc>]
-        ensures { result.now ≡ self.now.told }
+        ensures told { result.now ≡ self.now.told }
+        ensures events { told_of_events result.now ≡ (world_of O.sequential self.now).told }
     {
         &self.told
     }

@@ -8,6 +8,6 @@ pub print_since-requires : goal.print_since-requires
 print_since-requires g c =
     let grew : length c.args.self.now.played.told ≤ length c.perform-done.new.self.played.told =
     front_length _ _ (ends_told g.O.Object.sequential c.perform-done.result c.args.line c.args.self.now c.perform-done.new.self c.perform-done.ensures.ends) in
-    let was : c.told-before.result.now ≡ c.args.self.now.played.told = c.told-before.ensures
+    let was : c.told-before.result.now ≡ c.args.self.now.played.told = c.told-before.ensures.told
     ∙ ap (λ (r : RunView g.row.O-Alloc.Denot). r.played.told) c.self.view_is in
     omega (arith, grew, ap length was)

@@ -13,7 +13,7 @@ invariant_of-self-2 g c =
     let p : Played g.row.O-Alloc.Denot = record { group = k.fixed; events = k.events.items; told = k.told.items; done = k.done } in
     let e = c.args.event.now in
     let same = subst (λ (q : Played g.row.O-Alloc.Denot). happens object (world_of object q) e ≡ world_of object q) (sym c.self.view_is) c.requires.same in
-    subst (λ es. IsWorld object k.fixed es k.nodes.items k.spares.items k.frames.frames k.history.items)
+    subst (λ es. IsWorld object k.fixed es k.nodes.items k.spares.items k.frames.frames k.history.items k.told.items)
     (sym (c.push_reserved.ensures.items ∙ ap (λ es. es ++ c.in_ok-kept.kept ∷ []) c.reserve.ensures.items))
     (idle_world object p k.nodes.items k.spares.items k.frames.frames k.history.items c.self.invariant e
     c.in_ok-kept.kept c.in_ok-kept.ensures.ok c.requires.fits same)

@@ -35,8 +35,9 @@ invariant_of-self-in_err-make_room-2 g c =
     let keeps_on : KeepsCopies ((world_of object p).nodes i) t =
     subst (λ cs. Holds cs ((world_of object p).nodes i).tickets (node_committed ((world_of object p).nodes i)))
     (sym c.in_err-make_room-2.ensures.calls) keeps in
-    rw (c.in_ok-make_room.ensures.events, c.in_ok-make_room.ensures.frames, c.in_ok-make_room.ensures.history)
-    (same_world object p k.nodes.items k.spares.items k.frames.frames k.history.items inv i m low at inside t (slice_set k.spares.items m t) refl keeps_on)
+    rw (c.in_ok-make_room.ensures.events, c.in_ok-make_room.ensures.frames, c.in_ok-make_room.ensures.history, c.in_ok-make_room.ensures.told)
+    (same_world object p k.nodes.items k.spares.items k.frames.frames k.history.items inv i m low at inside t (slice_set k.spares.items m t) refl keeps_on
+    k.told.items inv.kept.told_is)
 
 pub invariant_of-self-in-Ok : goal.invariant_of-self-in-Ok
 invariant_of-self-in-Ok g c =
@@ -66,9 +67,9 @@ invariant_of-self-in-Ok g c =
     let free = ap submit_fault (sym node) ∙ c.in-Ok.ensures.taken in
     subst (λ es. IsWorld object k.fixed es (slice_set k.nodes.items m c.submit_on.new.self)
     (slice_set (slice_set k.spares.items m t) m c.add.new.self)
-    c.make_room.new.frames.frames c.push_reserved.new.self.items)
+    c.make_room.new.frames.frames c.push_reserved.new.self.items c.make_room.new.told.items)
     (sym (c.push_reserved-in-Ok.ensures.items ∙ ap (λ es. es ++ c.in_ok-kept.kept ∷ []) c.in_ok-make_room.ensures.events))
-    (rw (c.in_ok-make_room.ensures.frames)
+    (rw (c.in_ok-make_room.ensures.frames, c.in_ok-make_room.ensures.told)
     (issue_world object p k.nodes.items k.spares.items k.frames.frames k.history.items inv i m low at inside
     c.args.call.now c.in_ok-kept.kept copy fits free c.submit_on.new.self t c.add.new.self
     (slice_set k.nodes.items m c.submit_on.new.self)
@@ -138,7 +139,9 @@ invariant_of-self-in-Err-1 g c =
     c.args.call.now c.in_ok-kept.kept c.in-Err.fault o copy fits refl why c.refuse.new.events.items
     (λ e. c.refuse.ensures.left_out e ∙ c.in_ok-make_room.ensures.events) (λ f. c.refuse.ensures.kept f
     ∙ ap (λ es. es ++ c.in_ok-kept.kept ∷ []) c.in_ok-make_room.ensures.events)
-    t (slice_set k.spares.items m t) refl keeps_on)
+    t (slice_set k.spares.items m t) refl keeps_on c.refuse.new.told.items
+    (c.refuse.ensures.told ∙ ap (λ ts. ts ++ ToldRefused i c.in_ok-copy.copy (fault_number c.in-Err.fault) ∷ []) c.in_ok-make_room.ensures.told
+    ∙ ap (λ x. k.told.items ++ ToldRefused i x (fault_number c.in-Err.fault) ∷ []) c.in_ok-copy.ensures.ok))
 
 pub returns-in-Err : goal.returns-in-Err
 returns-in-Err g c =

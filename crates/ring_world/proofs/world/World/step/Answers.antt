@@ -149,19 +149,22 @@ invariant_of-self-in-Ok g c =
     let answers = c.in-Ok.ensures.answers ∙ ap (λ (x : Node g.row.O-Alloc.Denot). (node_step object x c.args.input.now).answers) node in
     let sends = c.deref.ensures.value ∙ c.in-Ok.ensures.sends ∙ ap (λ (x : Node g.row.O-Alloc.Denot). (node_step object x c.args.input.now).sends) node in
     subst (λ es. IsWorld object k.fixed es (slice_set k.nodes.items m c.hand.new.node)
-    (slice_set k.spares.items m c.tell.new.spares) c.keep_all.new.frames.frames c.tell.new.history.items)
+    (slice_set k.spares.items m c.tell.new.spares) c.keep_all.new.frames.frames c.tell.new.history.items c.tell.new.told.items)
     (sym (c.push_reserved.ensures.items ∙ ap (λ es. es ++ c.in_ok-kept.kept ∷ []) c.in_ok-make_room.ensures.events))
     (step_world object p k.nodes.items k.spares.items k.frames.frames k.history.items inv i m low at inside
     c.args.event.now c.in_ok-kept.kept c.args.input.now c.in_ok-kept.ensures.ok
     (steps_fits (world_of object c.args.self.now) c.args.event.now i c.requires.steps)
     same c.hand.new.node s c.tell.new.spares (slice_set k.nodes.items m c.hand.new.node)
     (slice_set k.spares.items m c.tell.new.spares) c.keep_all.new.frames.frames
-    c.tell.new.history.items keeps (c.in-Ok.ensures.ok ∙ ap (λ (x : Node g.row.O-Alloc.Denot). (node_step object x c.args.input.now).node) node) refl refl
+    c.tell.new.history.items c.tell.new.told.items keeps
+    (c.in-Ok.ensures.ok ∙ ap (λ (x : Node g.row.O-Alloc.Denot). (node_step object x c.args.input.now).node) node) refl refl
     (c.tell.ensures.spares ∙ ap (after_answers s.calls) answers)
     (c.keep_all.ensures ∙ ap (λ fs. fs ++ carried i c.deref.result.now) c.in_ok-make_room.ensures.frames
     ∙ ap (λ xs. k.frames.frames ++ carried i xs) sends)
     (c.tell.ensures.history ∙ ap (λ is. is ++ items_of c.in-Ok.outs.answers.items) c.in_ok-make_room.ensures.history
-    ∙ ap (λ xs. k.history.items ++ items_of xs) answers))
+    ∙ ap (λ xs. k.history.items ++ items_of xs) answers)
+    (c.tell.ensures.told ∙ ap (λ ts. ts ++ told_by i c.in-Ok.outs.answers.items) c.in_ok-make_room.ensures.told
+    ∙ ap (λ xs. k.told.items ++ told_by i xs) answers))
 
 pub returns-in-Ok-clause-ok : goal.returns-in-Ok-clause-ok
 returns-in-Ok-clause-ok g c =
@@ -209,9 +212,9 @@ invariant_of-self-in-Stopped g c =
     ≡ stepped object (world_of object q) i c.args.input.now) (sym c.self.view_is) c.requires.same in
     let stopped = was_stopped (is_stopped c.index_mut.result.now.core.state) c.in-Err.fault c.in-Err.ensures.refused c.in-Stopped.is in
     subst (λ es. IsWorld object k.fixed es (slice_set k.nodes.items m c.hand.new.node)
-    k.spares.items c.make_room.new.frames.frames c.make_room.new.history.items)
+    k.spares.items c.make_room.new.frames.frames c.make_room.new.history.items c.make_room.new.told.items)
     (sym (c.push_reserved-in-Stopped.ensures.items ∙ ap (λ es. es ++ c.in_ok-kept.kept ∷ []) c.in_ok-make_room.ensures.events))
-    (rw (c.in_ok-make_room.ensures.frames, c.in_ok-make_room.ensures.history)
+    (rw (c.in_ok-make_room.ensures.frames, c.in_ok-make_room.ensures.history, c.in_ok-make_room.ensures.told)
     (silent_world object p k.nodes.items k.spares.items k.frames.frames k.history.items inv i m low at inside
     c.args.event.now c.in_ok-kept.kept c.args.input.now c.in_ok-kept.ensures.ok
     (steps_fits (world_of object c.args.self.now) c.args.event.now i c.requires.steps) same c.hand.new.node (slice_set k.nodes.items m c.hand.new.node)
@@ -261,9 +264,9 @@ invariant_of-self-in_default g c =
     let node = node_is object p k.nodes.items k.spares.items k.frames.frames k.history.items inv i m low at inside
     c.index_mut.result.now c.index_mut.ensures.value in
     subst (λ es. IsWorld object k.fixed es (slice_set k.nodes.items m c.hand.new.node)
-    k.spares.items c.make_room.new.frames.frames c.make_room.new.history.items)
+    k.spares.items c.make_room.new.frames.frames c.make_room.new.history.items c.make_room.new.told.items)
     (sym (c.push_reserved-in_default.ensures.items ∙ ap (λ es. es ++ Stop i ∷ []) c.in_ok-make_room.ensures.events))
-    (rw (c.in_ok-make_room.ensures.frames, c.in_ok-make_room.ensures.history)
+    (rw (c.in_ok-make_room.ensures.frames, c.in_ok-make_room.ensures.history, c.in_ok-make_room.ensures.told)
     (stop_world object p k.nodes.items k.spares.items k.frames.frames k.history.items inv i m low at inside
     c.hand.new.node (slice_set k.nodes.items m c.hand.new.node)
     (c.in-Err.ensures.err ∙ ap node_stopped node) refl))

@@ -39,7 +39,7 @@ invariant_of-self-2 g c =
     c.index_mut.result.now c.index_mut.ensures.value in
     let halted : c.step.new.self ≡ node_stopped c.index_mut.result.now = either c.step.result
     (c.step.new.self ≡ node_stopped c.index_mut.result.now) c.step.ensures.ok c.step.ensures.err in
-    subst (λ es. IsWorld object k.fixed es (slice_set k.nodes.items m c.step.new.self) k.spares.items k.frames.frames k.history.items)
+    subst (λ es. IsWorld object k.fixed es (slice_set k.nodes.items m c.step.new.self) k.spares.items k.frames.frames k.history.items k.told.items)
     (sym (c.push_reserved.ensures.items ∙ ap (λ es. es ++ Stop i ∷ []) c.reserve.ensures.items))
     (stop_world object p k.nodes.items k.spares.items k.frames.frames k.history.items inv i m low at inside
     c.step.new.self (slice_set k.nodes.items m c.step.new.self) (halted ∙ ap node_stopped node) refl)

@@ -5,9 +5,9 @@ use Rattle.ring_world_port.proofs.network.Network.submit.Goals as goal
 
 pub returns-in-Err-clause-refused : goal.returns-in-Err-clause-refused
 returns-in-Err-clause-refused g c =
-    let before : c.told-before.result.now ≡ c.args.self.now.pump.played.told = c.told-before.ensures
+    let before : c.told-before.result.now ≡ c.args.self.now.pump.played.told = c.told-before.ensures.told
     ∙ ap (λ (p : Played g.row.O-Alloc.Denot). p.told) c.world-2.ensures in
-    let after : c.told.result.now ≡ c.happen.new.self.pump.played.told = c.told.ensures
+    let after : c.told.result.now ≡ c.happen.new.self.pump.played.told = c.told.ensures.told
     ∙ ap (λ (p : Played g.row.O-Alloc.Denot). p.told) c.world-3.ensures in
     let happens = rw c.in_ok-copy_of.ensures at c.in_ok-happen.ensures.done in
     let some = rw after at c.in-Err.ensures.refused in
@@ -17,9 +17,9 @@ returns-in-Err-clause-refused g c =
 
 pub returns-clause-issued : goal.returns-clause-issued
 returns-clause-issued g c =
-    let before : c.told-before.result.now ≡ c.args.self.now.pump.played.told = c.told-before.ensures
+    let before : c.told-before.result.now ≡ c.args.self.now.pump.played.told = c.told-before.ensures.told
     ∙ ap (λ (p : Played g.row.O-Alloc.Denot). p.told) c.world-2.ensures in
-    let after : c.told.result.now ≡ c.happen.new.self.pump.played.told = c.told.ensures
+    let after : c.told.result.now ≡ c.happen.new.self.pump.played.told = c.told.ensures.told
     ∙ ap (λ (p : Played g.row.O-Alloc.Denot). p.told) c.world-3.ensures in
     let happens = rw c.in_ok-copy_of.ensures at c.in_ok-happen.ensures.done in
     let none = rw after at c.in_default.ensures.ok in
