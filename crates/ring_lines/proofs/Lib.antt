@@ -1,20 +1,16 @@
--- Lent: The lifetimes of what is lent end no sooner than the loan.
 -- Leading: Runs of one node, and the steps of each node in the lines.
 -- Standing: Frames that stand in the lines, and where they stand among all frames.
 -- Telling: Answers by ticket, answer by answer and step by step.
 -- Shown: Histories, line by line and reply by reply.
--- Ordering: The session table tells which calls take effect.
 -- Given: What a node's step and submit add to its committed log and to the answers of its tickets.
 -- Growing: In every run of at most 16 nodes each committed log grows by an event, and all are fronts of one list.
 -- Logging: The longest committed log, line by line.
 -- Bridge: A book run is the run of its lines' events.
 -- Puts: What appending the bytes of a frame answers.
-pub mod Lent
 pub mod Leading
 pub mod Standing
 pub mod Telling
 pub mod Shown
-pub mod Ordering
 pub mod Given
 pub mod Growing
 pub mod Logging

@@ -4,7 +4,6 @@ pub mod Lines
 pub mod Kept
 pub mod Runs
 pub mod Answers
-pub mod Nothing
 pub mod Orders
 pub mod Logs
 pub mod Events

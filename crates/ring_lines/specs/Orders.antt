@@ -1,12 +1,9 @@
--- The calls that steps submitted, and which calls take effect.
+-- The calls that steps submitted.
 -- The book and the threads, of docs/PROTOCOL.md.
-use Rattle.std.specs.Prelude.{◌≡◌, List, [], ◌∷◌, ◌++◌}
+use Rattle.std.specs.Prelude.{List, [], ◌∷◌, ◌++◌}
 use Rattle.ring_payload.specs.declared.call.Call.{Call}
-use Rattle.ring_session.specs.Deduplicated.{deduplicated}
-use Rattle.ring_session.specs.Table.{Table, table_after}
 use Rattle.ring_lines.specs.declared.input.LineInput.{LineInput}
 use Rattle.ring_lines.specs.declared.input.LineInput.TheVariants.{Called, Came}
-use Rattle.ring_lines.specs.Nothing.{Content, nothing}
 use Rattle.ring_lines.specs.Steps.{StepView}
 
 -- the call that was submitted, if one was
@@ -18,8 +15,3 @@ call_in (Came input at) = []
 abbrev pub calls_of : {A : Type 0} → List (StepView A) → List (Call A)
 calls_of [] = []
 calls_of (s ∷ ss) = call_in s.input ++ calls_of ss
-
--- The session table and the order are those after these calls.
-pub record IsOrdered {A : Type 0} (calls : List (Call A)) (table : Table Content) (order : List (Call A)) : Type 0 where
-  pub table_is : table ≡ table_after nothing calls
-  pub order_is : order ≡ deduplicated calls

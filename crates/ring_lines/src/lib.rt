@@ -11,7 +11,6 @@ mod input;
 pub mod laws;
 mod line;
 mod log;
-mod nothing;
 mod orders;
 mod spelled;
 mod step;

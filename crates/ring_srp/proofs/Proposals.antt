@@ -1,24 +1,25 @@
 -- Who proposes a ring is one of its members, and the ring is newer than all that it took part in.
-use Rattle.std.proofs.Common.{◌≡◌, ℕ, ◌<◌, ◌≤◌, true, false, List, [], ◌∷◌, ◌++◌, length, inl, inr, Option, Some, None, refl, ap, ◌∙◌, sym, subst, arith}
+use Rattle.std.proofs.Common.{◌≡◌, ℕ, ◌<◌, ◌≤◌, true, false, List, [], ◌∷◌, length, suc, refl, ap, ◌∙◌, sym, subst, arith}
 use Rattle.std.specs.Prelude.{◌==◌, nat_le, slice_index}
-use Rattle.std.proofs.lemmas.List.{append-nil}
-use Rattle.std.proofs.lemmas.Bool.{cases_Bool, and_parts, eqb-true, cond-true, cond-false}
+use Rattle.std.proofs.lemmas.Bool.{and_parts, eqb-true, cond-true}
 use Rattle.ring_base.specs.Numbers.{max_number}
 use Rattle.ring_base.specs.Processors.{IsMember, elements, size, smallest}
 use Rattle.ring_base.specs.Elements.{at_member}
 use Rattle.ring_base.specs.declared.state.State.{State}
 use Rattle.ring_base.specs.declared.state.State.TheVariants.{Gather, Commit, Recovery, Operational, Stopped}
 use Rattle.ring_wire.specs.declared.commit.CommitToken.{CommitToken}
-use Rattle.ring_join.specs.Gathering.{Gathering, candidates, has_consensus, new_number, may_propose}
+use Rattle.ring_wire.specs.declared.entries.CommitEntry.{CommitEntry}
+use Rattle.ring_join.specs.Gatherers.{Gatherer}
+use Rattle.ring_join.specs.Gathering.{Gathering, candidates, greatest_known, has_consensus, new_number, may_propose}
+use Rattle.ring_commit.specs.declared.outcome.Outcome.{Outcome}
+use Rattle.ring_commit.specs.declared.outcome.Outcome.TheVariants.{Pass, Recover, Start, Ignored}
+use Rattle.ring_commit.specs.Outcomes.{proposed}
 use Rattle.ring_commit.specs.Rounds.{proposal}
-use Rattle.ring_core.specs.declared.out.Out.{Out}
 use Rattle.ring_core.specs.State.{Core, floor}
 use Rattle.ring_core.specs.Views.{own_entry}
 use Rattle.ring_core.specs.Joining.{proposes_in, proposes}
 use Rattle.ring_core.specs.Handing.{joined}
 use Rattle.ring_core.specs.Acting.{silently, proposed_after}
-use Rattle.ring_core.specs.Giving.{sent}
-use Rattle.ring_srp.specs.Proposing.{due}
 
 -- a list whose first number is no zero has one
 some_first : (xs : List ℕ) (n : ℕ) → 1 ≤ n → slice_index xs 0 ≡ n → 0 < length xs
@@ -43,7 +44,7 @@ may Recovery c h = (let q : false ≡ true = h in cc)
 may Operational c h = (let q : false ≡ true = h in cc)
 may Stopped c h = (let q : false ≡ true = h in cc)
 
-abbrev proposed_by : {A : Type 0} → Core A → CommitToken
+abbrev pub proposed_by : {A : Type 0} → Core A → CommitToken
 proposed_by c = proposal c.me (new_number (floor c) c.gathering) (candidates c.gathering) (own_entry c)
 
 -- who proposes is in Gather
@@ -75,26 +76,35 @@ due_of c low h =
       some = smallest_some (candidates c.gathering) c.me low e;
     }
 
-abbrev or_else : CommitToken → Option CommitToken → CommitToken
-or_else k None = k
-or_else k (Some token) = token
+-- what is proposed, or another token
+abbrev passes_or : CommitToken → Outcome → CommitToken
+passes_or d (Pass k) = k
+passes_or d (Recover k) = d
+passes_or d (Start t) = d
+passes_or d Ignored = d
 
-is_due : {A : Type 0} (c : Core A) (token : CommitToken) → 1 ≤ c.me → Some token ≡ due c → IsDue c token
-is_due {A} c token low e = elim (cases_Bool (proposes c)) [
-  | inl h ↦ subst (λ (k : CommitToken). IsDue c k) (sym (ap (or_else token) (e ∙ cond-true (proposes c) (Some (proposed_by c)) None h))) (due_of c low h)
-  | inr h ↦ (let q : Some token ≡ None = e ∙ cond-false (proposes c) (Some (proposed_by c)) None h in cc)
-]
+may_number : {A : Type 0} (c : Core A) → proposes c ≡ true → nat_le (new_number (floor c) c.gathering) max_number ≡ true
+may_number c h = (and_parts _ (nat_le (new_number (floor c) c.gathering) max_number) (may c.state c h)).1
 
--- the same, of what the code keeps and answers
-pub due_here : {A : Type 0} (m c : Core A) (token : CommitToken) (answer : Option CommitToken) → m ≡ c → 1 ≤ m.me → answer ≡ Some token → answer ≡ due c
-    → IsDue c token
-due_here {A} m c token answer v low is e = is_due c token (subst (λ (x : Core A). 1 ≤ x.me) v low) (sym is ∙ e)
+-- who proposes has a ring to propose: of what the code keeps and hands over
+pub due_passes : {A : Type 0} (m c : Core A) (g : Gatherer) (greatest members : ℕ) (own : CommitEntry) → m ≡ c → proposes c ≡ true →
+    (m.state ≡ Gather → g.floor ≡ floor m) → g.gathering ≡ m.gathering → greatest ≡ greatest_known g.floor g.gathering →
+    members ≡ candidates g.gathering → own ≡ own_entry c → proposed m.me (suc greatest) members own ≡ Pass (proposed_by c)
+due_passes {A} m c g greatest members own v h lowest same a b d =
+    let state : m.state ≡ Gather = ap (λ (x : Core A). x.state) v ∙ gathers c.state c h in
+    let known : greatest ≡ greatest_known (floor c) c.gathering =
+    a ∙ ap (λ n. greatest_known n g.gathering) (lowest state) ∙ ap (greatest_known (floor m)) same
+    ∙ ap (λ (x : Core A). greatest_known (floor x) x.gathering) v in
+    let all : members ≡ candidates c.gathering = b ∙ ap candidates same ∙ ap (λ (x : Core A). candidates x.gathering) v in
+    ap (λ n. proposed n (suc greatest) members own) (ap (λ (x : Core A). x.me) v)
+    ∙ ap (λ n. proposed c.me (suc n) members own) known
+    ∙ ap (λ n. proposed c.me (new_number (floor c) c.gathering) n own) all
+    ∙ ap (λ (x : CommitEntry). proposed c.me (new_number (floor c) c.gathering) (candidates c.gathering) x) d
+    ∙ cond-true (nat_le (new_number (floor c) c.gathering) max_number) (Pass (proposed_by c)) Ignored (may_number c h)
 
-not_due : {A : Type 0} (c : Core A) → None ≡ due c → proposes c ≡ false
-not_due c e = elim (cases_Bool (proposes c)) [
-  | inl h ↦ (let q : None ≡ Some (proposed_by c) = e ∙ cond-true (proposes c) (Some (proposed_by c)) None h in cc)
-  | inr h ↦ h
-]
+pub is_due : {A : Type 0} (m c : Core A) (token : CommitToken) → m ≡ c → 1 ≤ m.me → proposes c ≡ true → Pass token ≡ Pass (proposed_by c) → IsDue c token
+is_due {A} m c token v low h e =
+    subst (λ (k : CommitToken). IsDue c k) (sym (ap (passes_or token) e)) (due_of c (subst (λ (x : Core A). 1 ≤ x.me) v low) h)
 
 -- the proposal, where one is due
 
@@ -105,11 +115,3 @@ due_core {A} c token d =
 pub due_sends : {A : Type 0} (c : Core A) (token : CommitToken) → IsDue c token → (joined c token).sends ≡ (proposed_after (proposes c) (silently c)).sends
 due_sends {A} c token d =
     ap (λ (k : CommitToken). (joined {A = A} c k).sends) d.token_is ∙ sym (ap (λ b. (proposed_after b (silently c)).sends) d.proposes)
-
--- and where none is
-
-pub none_core : {A : Type 0} (c : Core A) → None ≡ due c → c ≡ (proposed_after (proposes c) (silently c)).core
-none_core c e = sym (ap (λ b. (proposed_after b (silently c)).core) (not_due c e))
-
-pub none_outs : {A : Type 0} (c : Core A) (outs : List (Out A)) → None ≡ due c → outs ≡ outs ++ sent (proposed_after (proposes c) (silently c)).sends
-none_outs c outs e = sym (append-nil outs) ∙ sym (ap (λ b. outs ++ sent (proposed_after b (silently c)).sends) (not_due c e))

@@ -1,7 +1,6 @@
 pub mod Acts
 pub mod Machines
 pub mod Allowing
-pub mod Proposing
 pub mod Passing
 pub mod Ended
 pub mod Learns

@@ -1,6 +1,6 @@
 //! A ring is taken part in: a commit token is proposed, filled in, and handed on.
 
-ghost use Rattle.std.specs.Prelude.{◌≡◌, ◌==◌, ◌∷◌, ◌++◌, ◌<◌, Some, IfErr, OnOk};
+ghost use Rattle.std.specs.Prelude.{◌≡◌, ◌==◌, ◌∷◌, ◌++◌, ◌<◌, true, Some, IfErr, OnOk};
 ghost use Rattle.ring_base.specs.Processors.{IsMember, size, smallest};
 ghost use Rattle.ring_base.specs.declared.fault.Fault.TheVariants.{Memory};
 ghost use Rattle.ring_base.specs.declared.state.State.TheVariants.{Gather as InGather, Commit as InCommit};
@@ -9,14 +9,13 @@ ghost use Rattle.ring_core.specs.Giving.{sent};
 ghost use Rattle.ring_core.specs.Joining.{proposes};
 ghost use Rattle.ring_core.specs.Handing.{joined, filled};
 ghost use Rattle.ring_core.specs.Acting.{silently, proposed_after};
-ghost use Rattle.ring_srp.specs.Proposing.{due};
 ghost use Rattle.ring_core.specs.Views.{own_entry};
 ghost use Rattle.ring_join.specs.Gathering.{candidates, may_propose};
 ghost use Rattle.ring_srp.specs.Allowing.{FillAllowed};
 
 use crate::machine::Machine;
 use ring_base::{Fault, MAX, ProcSet, RingId, State};
-use ring_commit::{Outcome, fill, propose, receiver};
+use ring_commit::{Outcome, propose, receiver};
 use ring_core::Out;
 use ring_parts::{Sent, send_copy, with_ring};
 use ring_wire::{CommitBox, CommitToken, Frame};
@@ -36,37 +35,19 @@ impl<A: Allocator + Copy> Machine<A> {
         }
     }
 
-    /// Takes part in the ring that is proposed, where one is due.
+    /// Takes part in the ring that it proposes.
     #[inline(never)]
     fn propose(&mut self, outs: &mut Vec<Out<A>, A>) -> Result<(), Fault>
+        requires { proposes self.old ≡ true }
         ensures core { OnOk result (self.new ≡ (proposed_after (proposes self.old) (silently self.old)).core) }
         ensures outs { OnOk result (outs.new.items ≡ outs.old.items ++ sent (proposed_after (proposes self.old) (silently self.old)).sends) }
         ensures refused { IfErr result (λ fault. fault ≡ Memory) }
     {
-        // Read, so that what always holds of a machine is known here: `me` is a processor of the run.
-        let _me = &self.me;
-        match self.due() {
-            Some(token) => self.join(token, outs),
-            None => Ok(()),
-        }
-    }
-
-    /// The commit token that is proposed, where one is due.
-    fn due(&self) -> Option<CommitToken>
-        ensures { result ≡ due self.now }
-    {
-        if !self.proposes() {
-            return None;
-        }
         let greatest = self.gather.greatest_number();
-        match propose(
-            self.me,
-            greatest,
-            self.gather.candidates(),
-            self.own_entry(),
-        ) {
-            Outcome::Pass(token) => Some(token),
-            _ => None,
+        let candidates = self.gather.candidates();
+        match propose(self.me, greatest, candidates, self.own_entry()) {
+            Outcome::Pass(token) => self.join(token, outs),
+            _ => Ok(()),
         }
     }
 
@@ -108,12 +89,10 @@ impl<A: Allocator + Copy> Machine<A> {
         ensures outs { OnOk result (outs.new.items ≡ outs.old.items ++ sent (filled self.old token.now).sends) }
         ensures refused { IfErr result (λ fault. fault ≡ Memory) }
     {
-        let candidates = self.gather.candidates();
-        let own = self.own_entry();
-        match fill(self.me, self.floor(), candidates, own, token.clone()?) {
-            Outcome::Pass(token) => self.join(token, outs),
-            _ => Ok(()),
-        }
+        let mut went = token.clone()?;
+        went.hop += 1;
+        went.entries.push(self.own_entry());
+        self.join(went, outs)
     }
 
     /// Takes part in the ring of a commit token, which goes on.

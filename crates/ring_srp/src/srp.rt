@@ -87,8 +87,8 @@ impl<A: Allocator + Copy> Srp<A> {
         ensures refused { IfErr result (λ fault. fault ≡ Memory) }
     {
         let mut machine = Machine::formed(alloc, fixed, Proc::new(1))?;
-        let mut outs = Vec::new(alloc);
         let token = first_token(all_of(fixed).ring);
+        let mut outs = Vec::with_capacity(alloc, machine.room_for_visit(&token))?;
         machine.visit(&token, &mut outs)?;
         let last = machine.installed;
         let before = seen(&machine);

@@ -95,7 +95,7 @@ impl<A: Allocator + Copy> Machine<A> {
 
     /// For how many outputs a visit needs room that is told beforehand: it sends again what was asked for, then its new messages
     /// and the token; the new messages may be agreed at once, and the safe mark may rise.
-    fn room_for_visit(&self, token: &Token) -> usize
+    pub(crate) fn room_for_visit(&self, token: &Token) -> usize
         ensures { result ≤ 50 }
     {
         token.requests.as_slice().len() + 2 * self.most_new() + 2

@@ -1,4 +1,3 @@
--- Lent: The lifetimes of what is lent end no sooner than the loan.
 -- Storing: One frame more is kept, and the frame of a number is found.
 -- Tellings: Answers are told one after the other, each with the copy of its call that is left.
 -- Spared: The second copies of the calls that wait: what a step answers has its copy, and those that wait on keep theirs.
@@ -10,11 +9,9 @@
 -- Handing: What is handed to a node is the frame that was sent to it, if any.
 -- Playing: A run goes on event by event, and only adds to what was.
 -- Synchrony: The ring part of every run is virtually synchronous.
--- Ordered: The session table tells which calls take effect.
 -- Longer: The first of the longest orders, node by node.
 -- Opening: The opening world: its nodes are at their opening, and no ticket waits for an answer.
 -- Logs: The logs of the nodes, node by node, are what is committed in the world.
-pub mod Lent
 pub mod Storing
 pub mod Tellings
 pub mod Spared
@@ -26,7 +23,6 @@ pub mod Ties
 pub mod Handing
 pub mod Playing
 pub mod Synchrony
-pub mod Ordered
 pub mod Longer
 pub mod Opening
 pub mod Logs

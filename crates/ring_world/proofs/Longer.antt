@@ -50,7 +50,7 @@ order-push (one ∷ logs) log = ap (longer (deduplicated one)) (order-push logs 
 
 -- a node more
 
-get-before : {X : Type 0} (xs ys : List X) (k : ℕ) (y : X) → slice_get xs k ≡ Some y → slice_get (xs ++ ys) k ≡ Some y
+pub get-before : {X : Type 0} (xs ys : List X) (k : ℕ) (y : X) → slice_get xs k ≡ Some y → slice_get (xs ++ ys) k ≡ Some y
 get-before [] ys k y e = absurd (let q : ⊥ = cc e in q)
 get-before (x ∷ xs) ys zero y e = e
 get-before (x ∷ xs) ys (suc k) y e = get-before xs ys k y e

@@ -1,27 +1,17 @@
 -- A run goes on event by event, and only adds to what was.
-use Rattle.std.proofs.Common.{◌≡◌, ℕ, zero, suc, ◌+◌, ◌≤◌, length, arith, take, Some, slice_get, add-one, List, [], ◌∷◌}
+use Rattle.std.proofs.Common.{◌≡◌, ℕ, ◌+◌, take, Some, slice_get, add-one, List, [], ◌∷◌}
 use Rattle.std.proofs.Common.{◌++◌, refl, ap, ◌∙◌, sym, subst, inl, inr, append-nil, append_assoc}
 use Rattle.ring_base.specs.Group.{Group}
 use Rattle.ring_object.specs.Operations.{Sequential}
+use Rattle.ring_effects.proofs.Adding.{take-next}
 use Rattle.ring_history.specs.declared.event.Event.{Event}
 use Rattle.ring_history.specs.declared.event.Event.TheVariants.{Stop}
 use Rattle.ring_history.specs.declared.told.Told.{Told}
 use Rattle.ring_history.specs.Worlds.{World, world_opening, happens, run}
 use Rattle.ring_world.specs.Played.{Played, world_of, Goes, Plays}
 
-take_next : {X : Type 0} (xs : List X) (i : ℕ) (x : X) → slice_get xs i ≡ Some x → take (suc i) xs ≡ take i xs ++ x ∷ []
-take_next [] i x e = absurd (let q : ⊥ = cc in q)
-take_next (y ∷ xs) zero x e = (let q : y ≡ x = cc e in ap (λ z. z ∷ []) q)
-take_next (y ∷ xs) (suc i) x e = ap (λ zs. y ∷ zs) (take_next xs i x e)
-
 pub take_more : {X : Type 0} (xs : List X) (i : ℕ) (x : X) → slice_get xs i ≡ Some x → take (i + 1) xs ≡ take i xs ++ x ∷ []
-take_more xs i x e = ap (λ n. take n xs) (add-one i) ∙ take_next xs i x e
-
-pub take_whole : {X : Type 0} (xs : List X) (i : ℕ) → length xs ≤ i → take i xs ≡ xs
-take_whole [] zero l = refl
-take_whole [] (suc i) l = refl
-take_whole (x ∷ xs) zero l = absurd (omega (arith, l))
-take_whole (x ∷ xs) (suc i) l = ap (λ ys. x ∷ ys) (take_whole xs i (omega (arith, l)))
+take_more xs i x e = ap (λ n. take n xs) (add-one i) ∙ take-next xs i x e
 
 module _ {O A : Type 0} (object : Sequential O) where
   -- how many were done is another matter

@@ -1,7 +1,8 @@
 -- The step of a node that has stopped gives nothing and changes nothing.
-use Rattle.std.proofs.Common.{◌≡◌, ℕ, ◌+◌, map, filter, arith, Bool, true, false, ◌&&◌, List, [], ◌∷◌, ◌++◌, length}
-use Rattle.std.proofs.Common.{drop, refl, ap, ◌∙◌, sym, subst, append-nil, if◌then◌else◌}
-use Rattle.std.proofs.lemmas.Bool.{cond_both, cond-false, le-ltb}
+use Rattle.std.proofs.Common.{◌≡◌, Bool, true, false, ◌&&◌, List, [], ◌∷◌}
+use Rattle.std.proofs.Common.{refl, ap, ◌∙◌, sym, subst, append-nil, if◌then◌else◌}
+use Rattle.std.proofs.Math.Seq.{drop-length}
+use Rattle.std.proofs.lemmas.Bool.{cond_both}
 use Rattle.ring_base.specs.Processors.{has}
 use Rattle.ring_base.specs.declared.state.State.{State}
 use Rattle.ring_base.specs.declared.state.State.TheVariants.{Gather, Commit, Recovery, Operational, Stopped}
@@ -12,12 +13,12 @@ use Rattle.ring_core.specs.declared.input.Input.{Input}
 use Rattle.ring_core.specs.declared.input.Input.TheVariants.{Frame as FrameInput, Timeout, Send}
 use Rattle.ring_core.specs.State.{Core, Stepped, halted}
 use Rattle.ring_core.specs.Naming.{is_named}
-use Rattle.ring_core.specs.Views.{takes_number, front, mark}
+use Rattle.ring_core.specs.Views.{takes_number}
 use Rattle.ring_core.specs.Deciding.{Act, Ignore, Take, takes_of, members_of, decide_token, decide_join, decide_round}
 use Rattle.ring_core.specs.Deciding.{decide_if_named, decide_time, decide_payload, decide}
-use Rattle.ring_core.specs.Acting.{done}
-use Rattle.ring_core.specs.Giving.{installs_in, delivered, agreed_from, safe_from, given, may_install, settle}
+use Rattle.ring_core.specs.Giving.{installs_in}
 use Rattle.ring_core.specs.Stepping.{ring_step}
+use Rattle.ring_srp.proofs.Sending.{GaveNothing, ignored}
 use Rattle.ring_object.specs.Operations.{Sequential}
 use Rattle.ring_payload.specs.declared.content.Payload.{Payload}
 use Rattle.ring_core.specs.declared.out.Out.{Out}
@@ -28,48 +29,6 @@ use Rattle.ring_machine.specs.declared.input.Input.{Input as NodeInput}
 use Rattle.ring_machine.specs.declared.input.Input.TheVariants.{Frame as NodeFrame, Noise as NodeNoise, Timeout as NodeTime, Stop as NodeStop}
 use Rattle.ring_machine.specs.Nodes.{Node, node_committed, node_stopped, is_stopped}
 use Rattle.ring_machine.specs.Stepping.{NodeStepped, node_step, after_core, settled, walked}
-use Rattle.std.specs.Prelude.{◌-◌, nat_lt, filter_map}
-use Rattle.ring_base.specs.Numbers.{numbers_from}
-use Rattle.ring_base.specs.declared.ring_id.RingId.{RingId}
-use Rattle.ring_payload.specs.Kinds.{is_user}
-use Rattle.ring_wire.specs.declared.message.Message.{Message}
-use Rattle.ring_window.specs.Held.{found}
-use Rattle.ring_core.specs.declared.out.Out.TheVariants.{Agreed, Safe}
-
--- Where front and mark stay, nothing is given
-
-none_left : (n : ℕ) → n - n ≡ 0
-none_left n = omega arith
-
-not_below : (n : ℕ) → nat_lt n n ≡ false
-not_below n = le-ltb n n (omega arith)
-
-agreed_nothing : {A : Type 0} (c : Core A) (ring : RingId) → agreed_from c ring (front c ring) ≡ []
-agreed_nothing {A} c ring =
-    ap (λ n. map (λ (x : Message A). Agreed ring x.number x)
-    (filter (λ (x : Message A). is_user x.payload) (filter_map (found c.held ring) (numbers_from (front c ring + 1) n)))) (none_left (front c ring))
-
-safe_nothing : {A : Type 0} (c : Core A) (ring : RingId) → safe_from c ring (mark c ring) ≡ []
-safe_nothing c ring = cond-false (nat_lt (mark c ring) (mark c ring)) (Safe ring (mark c ring) ∷ []) [] (not_below (mark c ring))
-
-given_nothing : {A : Type 0} (c : Core A) → given c c ≡ []
-given_nothing {A} c =
-    ap (λ (outs : List (Out A)). outs ++ safe_from c c.installed.ring (mark c c.installed.ring)) (agreed_nothing c c.installed.ring)
-    ∙ safe_nothing c c.installed.ring
-
--- a step that ended in this core, and gave nothing
-pub record GaveNothing {A : Type 0} (s : Stepped A) (c : Core A) : Type 0 where
-  pub core : s.core ≡ c
-  pub outs : s.outs ≡ []
-
-settled_nothing : {A : Type 0} (b : Bool) (c : Core A) (outs : List (Out A)) → b ≡ false → outs ≡ [] → GaveNothing (settle b c outs) c
-settled_nothing true c outs h e = (let q : true ≡ false = h in cc)
-settled_nothing false c outs h e = record { core = refl; outs = e }
-
--- A payload is dropped
-
-ignored : {A : Type 0} (c : Core A) → may_install c ≡ false → GaveNothing (delivered c (done c Ignore)) c
-ignored c h = settled_nothing (may_install c) c (given c c) h (given_nothing c)
 
 -- A core that has stopped
 
@@ -126,10 +85,6 @@ hands-nothing {A} (s ∷ older) =
     let with_sent : List (Payload A) → List (Stay A) = λ ps. record s { sent = ps } ∷ older in
     ap with_sent (append-nil s.sent)
 
-drop_all : {X : Type 0} (xs : List X) → drop (length xs) xs ≡ []
-drop_all [] = refl
-drop_all (x ∷ xs) = drop_all xs
-
 module _ {O A : Type 0} (object : Sequential O) where
   silent-if : (b : Bool) (n : Node A) → is_stopped n.core.state ≡ true →
       IsSilent (settled object b n (walked n n.core n.life []) [] n.life) n
@@ -139,7 +94,7 @@ module _ {O A : Type 0} (object : Sequential O) where
       record {
         node = ap with_life (hands-nothing n.life);
         sends = refl;
-        answers = ap (λ more. answers_after object n.tickets (node_committed n) more) (drop_all (node_committed n));
+        answers = ap (λ more. answers_after object n.tickets (node_committed n) more) (drop-length (node_committed n));
       }
 
   silent-core : (n : Node A) (s : Stepped A) → is_stopped n.core.state ≡ true → GaveNothing s n.core → IsSilent (after_core object n s) n

@@ -12,6 +12,7 @@ use Rattle.ring_ticket.specs.declared.answered.Answered.{Answered}
 use Rattle.ring_ticket.specs.Tickets.{Asked, place_of, is_place, answered, answers_at, answers_after}
 use Rattle.ring_ticket.proofs.Places.{first_place-below, or_else, last_place, first_place-push}
 use Rattle.ring_world.specs.Spares.{IsLeft, AllLeft, without, after_answers, Holds}
+use Rattle.ring_world.proofs.Longer.{get-before}
 
 -- Places of what is set
 
@@ -199,11 +200,6 @@ get-push [] x zero y e = inr (refl, cc e)
 get-push [] x (suc k) y e = absurd (let q : ⊥ = cc e in q)
 get-push (z ∷ xs) x zero y e = inl e
 get-push (z ∷ xs) x (suc k) y e = elim (get-push xs x k y e) [ inl h ↦ inl h | inr h ↦ inr (ap suc h.0, h.1) ]
-
-get-before : {X : Type 0} (xs ys : List X) (k : ℕ) (y : X) → slice_get xs k ≡ Some y → slice_get (xs ++ ys) k ≡ Some y
-get-before [] ys k y e = absurd (let q : ⊥ = cc e in q)
-get-before (x ∷ xs) ys zero y e = e
-get-before (x ∷ xs) ys (suc k) y e = get-before xs ys k y e
 
 get-last : {X : Type 0} (xs : List X) (x : X) → slice_get (xs ++ x ∷ []) (length xs) ≡ Some x
 get-last [] x = refl

@@ -1,7 +1,6 @@
 pub mod Stored
 pub mod Spares
 pub mod Played
-pub mod Nothing
 pub mod Ordering
 pub mod Keeping
 pub mod Synchronous

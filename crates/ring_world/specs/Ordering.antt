@@ -1,16 +1,9 @@
--- The calls that take effect, as they are told apart by a session table. Sessions, of docs/PROTOCOL.md.
+-- Which log gives the order of all that nodes committed. Sessions, of docs/PROTOCOL.md.
 use Rattle.std.specs.Prelude.{◌≡◌, ℕ, List, [], map, Option, Some, None, slice_get}
 use Rattle.ring_payload.specs.declared.call.Call.{Call}
 use Rattle.ring_session.specs.Deduplicated.{deduplicated}
-use Rattle.ring_session.specs.Table.{Table, table_after}
 use Rattle.ring_machine.specs.Nodes.{Node, node_committed}
 use Rattle.ring_history.specs.Orders.{order_of}
-use Rattle.ring_world.specs.Nothing.{Content, nothing}
-
--- the session table and the order are those after these calls
-pub record IsOrdered {A : Type 0} (calls : List (Call A)) (table : Table Content) (order : List (Call A)) : Type 0 where
-  pub table_is : table ≡ table_after nothing calls
-  pub order_is : order ≡ deduplicated calls
 
 -- what nodes committed
 abbrev pub logs_of : {A : Type 0} → List (Node A) → List (List (Call A))

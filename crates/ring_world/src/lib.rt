@@ -3,7 +3,6 @@
 
 mod copies;
 mod frames;
-mod nothing;
 mod order;
 mod spares;
 mod telling;

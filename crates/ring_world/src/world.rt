@@ -25,10 +25,11 @@ ghost use Rattle.ring_world.specs.Synchronous.{IsSynchronous};
 
 use crate::copies::{copied_call, copied_event};
 use crate::frames::Frames;
-use crate::order::{effects, longest};
+use crate::order::longest;
 use crate::spares::Spares;
 use crate::telling::tell;
 use ring_base::{Fault, Fixed, Proc, ProcSet};
+use ring_effects::effects_of;
 use ring_frames::laws::{few_law, frames_law, pending_law};
 use ring_history::{Event, Item, Told};
 use ring_linear::laws::linear_law;
@@ -171,7 +172,7 @@ impl<O: Object> World<O> {
     {
         let (place, _) = longest(&self.nodes);
         match place {
-            Some(place) => effects(self.alloc, self.nodes[place].committed()),
+            Some(place) => effects_of(self.alloc, self.nodes[place].committed()),
             None => Ok(Vec::new(self.alloc)),
         }
     }

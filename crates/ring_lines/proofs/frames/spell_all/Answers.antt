@@ -1,10 +1,11 @@
 use Rattle.std.proofs.Common.{◌≡◌, ◌∷◌, [], ◌++◌, ◌∙◌, length, refl, ap, sym, subst, take, add-one}
+use Rattle.std.proofs.lemmas.List.{take_all}
 use Rattle.std.proofs.lemmas.Option.{slice_get_read}
 use Rattle.ring_base.proofs.Each.{each-get}
 use Rattle.ring_core.specs.State.{Sent}
+use Rattle.ring_effects.proofs.Adding.{take-next}
 use Rattle.ring_wire.specs.Frames.{FrameFits}
 use Rattle.ring_lines.specs.Machines.{SentFits}
-use Rattle.ring_lines.proofs.Ordering.{take-next, take-whole}
 use Rattle.ring_lines.proofs.frames.spell_all.Goals as goal
 
 pub spell-requires-clause-fits : goal.spell-requires-clause-fits
@@ -16,7 +17,7 @@ spell-requires-clause-fits g c =
     subst (λ (x : Sent g.row.A.Denot). FrameFits x.frame) (sym c.sent.view_is) fits
 
 pub returns-clause-ok : goal.returns-clause-ok
-returns-clause-ok g c = c.loop-sent.invariant.items ∙ take-whole c.args.sends.now c.loop-sent.sent-index c.loop-sent-test.false
+returns-clause-ok g c = c.loop-sent.invariant.items ∙ take_all c.loop-sent.sent-index c.args.sends.now c.loop-sent-test.false
 
 pub loop-sent-preserved : goal.loop-sent-preserved
 loop-sent-preserved g c =

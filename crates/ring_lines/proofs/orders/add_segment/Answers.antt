@@ -1,5 +1,5 @@
 use Rattle.std.proofs.Common.{None, Some, ap, sym, ◌∙◌, drop}
-use Rattle.ring_lines.proofs.Ordering.{ordered-same}
+use Rattle.ring_effects.proofs.Adding.{effects-same}
 use Rattle.ring_lines.proofs.Standing.{item_copied}
 use Rattle.ring_lines.proofs.orders.add_segment.Goals as goal
 
@@ -11,4 +11,4 @@ returns-in-Some-clause-ok g c = λ before h.
 pub returns-in-None-clause-ok : goal.returns-in-None-clause-ok
 returns-in-None-clause-ok g c = λ before h.
     let at = item_copied c.args.lines.now c.args.segment.now.line None c.in-None.ensures.lookup in
-    rw (← at) (ordered-same before c.args.sessions.now c.args.order.now.items h)
+    rw (← at) (effects-same h)

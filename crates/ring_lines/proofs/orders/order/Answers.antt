@@ -16,6 +16,6 @@ loop-segment-preserved g c =
     (c.in_ok-add_segment.ensures.ok (calls_at c.args.lines.now (take k c.args.segments.now)) c.loop-segment.invariant)
 
 pub returns-clause-ok : goal.returns-clause-ok
-returns-clause-ok g c = c.loop-segment.invariant.order_is
+returns-clause-ok g c = c.into_calls.ensures ∙ (c.loop-segment.invariant.calls_are
     ∙ ap deduplicated (calls_at-all c.args.lines.now c.args.segments.now c.loop-segment.segment-index
-    c.loop-segment-test.false)
+    c.loop-segment-test.false))

@@ -1,10 +1,10 @@
 use Rattle.std.proofs.Common.{◌+◌, ◌<◌, ◌≤◌, take, length, Option, ℕ, refl, ap, ◌∙◌, sym, subst, arith}
+use Rattle.std.proofs.lemmas.List.{take_all}
 use Rattle.std.proofs.lemmas.Option.{slice_get_read}
 use Rattle.ring_machine.specs.Nodes.{node_committed}
 use Rattle.ring_session.specs.Deduplicated.{deduplicated}
 use Rattle.ring_history.specs.Orders.{order_of}
 use Rattle.ring_world.specs.Ordering.{IsLongest, logs_of}
-use Rattle.ring_world.proofs.Playing.{take_whole}
 use Rattle.ring_world.proofs.Longer.{replaced, is-longest, stays, still-longest}
 use Rattle.ring_world.proofs.order.longest.Goals as goal
 use Rattle.ring_world.proofs.order.longest.Goals.{then-len-most, else-len-most}
@@ -36,9 +36,9 @@ loop-place-preserved g c =
 pub returns-clause-len : goal.returns-clause-len
 returns-clause-len g c =
     let xs = c.args.nodes.now in
-    c.loop-place.invariant.0 ∙ ap (λ ys. length (order_of (logs_of ys))) (take_whole xs c.loop-place.place (omega (arith, c.loop-place-test.false)))
+    c.loop-place.invariant.0 ∙ ap (λ ys. length (order_of (logs_of ys))) (take_all c.loop-place.place xs (omega (arith, c.loop-place-test.false)))
 
 pub returns-clause-place : goal.returns-clause-place
 returns-clause-place g c =
     let xs = c.args.nodes.now in
-    subst (λ ys. IsLongest ys c.loop-place.longest) (take_whole xs c.loop-place.place (omega (arith, c.loop-place-test.false))) c.loop-place.invariant.1
+    subst (λ ys. IsLongest ys c.loop-place.longest) (take_all c.loop-place.place xs (omega (arith, c.loop-place-test.false))) c.loop-place.invariant.1

@@ -1,37 +1,56 @@
 -- Who proposes is a member of the ring.
-use Rattle.std.proofs.Common.{List, ◌++◌, sym, ◌∙◌, ap}
+use Rattle.std.proofs.Common.{List, ◌++◌, refl, ap, sym, ◌∙◌}
 use Rattle.ring_core.specs.State.{Sent}
 use Rattle.ring_core.specs.Giving.{sent}
 use Rattle.ring_srp.proofs.Outputs.{ok_to}
-use Rattle.ring_srp.proofs.Proposals.{due_here, due_core, due_sends, none_core, none_outs}
+use Rattle.ring_srp.proofs.Proposals.{proposed_by, due_passes, is_due, due_core, due_sends}
 use Rattle.ring_srp.proofs.machine.Machine.propose.Goals as goal
 
 pub join-requires-clause-state : goal.join-requires-clause-state
-join-requires-clause-state g c = (due_here _ _ _ _ c.self.view_is c.self.invariant.member.0 c.in-Some.is c.due.ensures).state
+join-requires-clause-state g c =
+    let passes = c.propose.ensures ∙ due_passes _ _ c.self.inside.gather _ _ _ c.self.view_is c.requires c.self.invariant.gather_floor refl
+    c.greatest_number-greatest.ensures c.candidates-candidates.ensures c.own_entry.ensures in
+    let due = is_due _ _ c.in-Pass.token c.self.view_is c.self.invariant.member.0 c.requires (sym c.in-Pass.is ∙ passes) in
+    due.state
 
 pub join-requires-clause-newer : goal.join-requires-clause-newer
-join-requires-clause-newer g c = (due_here _ _ _ _ c.self.view_is c.self.invariant.member.0 c.in-Some.is c.due.ensures).newer
+join-requires-clause-newer g c =
+    let passes = c.propose.ensures ∙ due_passes _ _ c.self.inside.gather _ _ _ c.self.view_is c.requires c.self.invariant.gather_floor refl
+    c.greatest_number-greatest.ensures c.candidates-candidates.ensures c.own_entry.ensures in
+    let due = is_due _ _ c.in-Pass.token c.self.view_is c.self.invariant.member.0 c.requires (sym c.in-Pass.is ∙ passes) in
+    due.newer
 
 pub join-requires-clause-member : goal.join-requires-clause-member
-join-requires-clause-member g c = (due_here _ _ _ _ c.self.view_is c.self.invariant.member.0 c.in-Some.is c.due.ensures).member
+join-requires-clause-member g c =
+    let passes = c.propose.ensures ∙ due_passes _ _ c.self.inside.gather _ _ _ c.self.view_is c.requires c.self.invariant.gather_floor refl
+    c.greatest_number-greatest.ensures c.candidates-candidates.ensures c.own_entry.ensures in
+    let due = is_due _ _ c.in-Pass.token c.self.view_is c.self.invariant.member.0 c.requires (sym c.in-Pass.is ∙ passes) in
+    due.member
 
 pub join-requires-clause-some : goal.join-requires-clause-some
-join-requires-clause-some g c = (due_here _ _ _ _ c.self.view_is c.self.invariant.member.0 c.in-Some.is c.due.ensures).some
+join-requires-clause-some g c =
+    let passes = c.propose.ensures ∙ due_passes _ _ c.self.inside.gather _ _ _ c.self.view_is c.requires c.self.invariant.gather_floor refl
+    c.greatest_number-greatest.ensures c.candidates-candidates.ensures c.own_entry.ensures in
+    let due = is_due _ _ c.in-Pass.token c.self.view_is c.self.invariant.member.0 c.requires (sym c.in-Pass.is ∙ passes) in
+    due.some
 
-pub returns-in-Some-clause-core : goal.returns-in-Some-clause-core
-returns-in-Some-clause-core g c =
-    ok_to c.join.result _ _ _ (due_core c.args.self.now c.in-Some.token
-    (due_here _ _ _ _ c.self.view_is c.self.invariant.member.0 c.in-Some.is c.due.ensures)) c.join.ensures.core
+pub returns-in-Pass-clause-core : goal.returns-in-Pass-clause-core
+returns-in-Pass-clause-core g c =
+    let passes = c.propose.ensures ∙ due_passes _ _ c.self.inside.gather _ _ _ c.self.view_is c.requires c.self.invariant.gather_floor refl
+    c.greatest_number-greatest.ensures c.candidates-candidates.ensures c.own_entry.ensures in
+    let due = is_due _ _ c.in-Pass.token c.self.view_is c.self.invariant.member.0 c.requires (sym c.in-Pass.is ∙ passes) in
+    ok_to c.join.result _ _ _ (due_core c.args.self.now c.in-Pass.token due) c.join.ensures.core
 
-pub returns-in-Some-clause-outs : goal.returns-in-Some-clause-outs
-returns-in-Some-clause-outs g c =
-    ok_to c.join.result _ _ _
-    (ap (λ (sends : List (Sent g.row.A.Denot)). c.args.outs.now.items ++ sent sends)
-    (due_sends c.args.self.now c.in-Some.token (due_here _ _ _ _ c.self.view_is c.self.invariant.member.0 c.in-Some.is c.due.ensures)))
-    c.join.ensures.outs
+pub returns-in-Pass-clause-outs : goal.returns-in-Pass-clause-outs
+returns-in-Pass-clause-outs g c =
+    let passes = c.propose.ensures ∙ due_passes _ _ c.self.inside.gather _ _ _ c.self.view_is c.requires c.self.invariant.gather_floor refl
+    c.greatest_number-greatest.ensures c.candidates-candidates.ensures c.own_entry.ensures in
+    let due = is_due _ _ c.in-Pass.token c.self.view_is c.self.invariant.member.0 c.requires (sym c.in-Pass.is ∙ passes) in
+    let sends = due_sends c.args.self.now c.in-Pass.token due in
+    ok_to c.join.result _ _ _ (ap (λ (xs : List (Sent g.row.A.Denot)). c.args.outs.now.items ++ sent xs) sends) c.join.ensures.outs
 
-pub returns-in-None-clause-core : goal.returns-in-None-clause-core
-returns-in-None-clause-core g c = none_core c.args.self.now (sym c.in-None.is ∙ c.due.ensures)
-
-pub returns-in-None-clause-outs : goal.returns-in-None-clause-outs
-returns-in-None-clause-outs g c = none_outs c.args.self.now c.args.outs.now.items (sym c.in-None.is ∙ c.due.ensures)
+pub returns-in_default : goal.returns-in_default
+returns-in_default g c =
+    let passes = c.propose.ensures ∙ due_passes _ _ c.self.inside.gather _ _ _ c.self.view_is c.requires c.self.invariant.gather_floor refl
+    c.greatest_number-greatest.ensures c.candidates-candidates.ensures c.own_entry.ensures in
+    absurd (c.in_default.not-Pass (proposed_by c.args.self.now) passes)

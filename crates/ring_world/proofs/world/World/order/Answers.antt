@@ -27,8 +27,8 @@ returns-in-Some-clause-ok g c =
     ∙ longest-gives k.nodes.items c.longest-place.result.0 longest c.in-Some.place c.index.result.now c.in-Some.is
     c.index.ensures
     ∙ logs-order object p k.nodes.items k.spares.items k.frames.frames k.history.items c.self.invariant in
-    subst (λ (q : Played g.row.O-Alloc.Denot). IfOk c.effects.result (λ calls. calls.items ≡ order (world_of object q))) c.self.view_is
-    (subst (λ xs. IfOk c.effects.result (λ calls. calls.items ≡ xs)) same c.effects.ensures.ok)
+    subst (λ (q : Played g.row.O-Alloc.Denot). IfOk c.effects_of.result (λ calls. calls.items ≡ order (world_of object q))) c.self.view_is
+    (subst (λ xs. IfOk c.effects_of.result (λ calls. calls.items ≡ xs)) same c.effects_of.ensures.ok)
 
 pub returns-in-None-clause-ok : goal.returns-in-None-clause-ok
 returns-in-None-clause-ok g c =
