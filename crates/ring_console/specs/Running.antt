@@ -1,9 +1,10 @@
 -- What the lines of a script do to a run, and what they print.
 -- Scripts, and What a script prints, of docs/FORMATS.md.
 use Rattle.std.specs.Prelude.{◌≡◌, ℕ, zero, suc, ◌<◌, ◌≤◌, ◌⊎◌, Bool, true, false, List, [], ◌∷◌, ◌++◌, length, drop}
-use Rattle.std.specs.Prelude.{Option, Some, None, unwrap_or, Result, Ok, Err, ⊤}
+use Rattle.std.specs.Prelude.{◌-◌, Option, Some, None, unwrap_or, Result, Ok, Err, ⊤, slice_index}
 use Rattle.std.specs.Io.KnownBytes.{Appends}
 use Rattle.ring_base.specs.Group.{Group}
+use Rattle.ring_base.specs.Processors.{has}
 use Rattle.ring_base.specs.declared.fault.Fault.TheVariants.{Memory}
 use Rattle.ring_object.specs.Operations.{Sequential}
 use Rattle.ring_machine.specs.Nodes.{Node, node_committed, node_log}
@@ -17,9 +18,9 @@ use Rattle.ring_script.specs.declared.scripts.Numbered.{Numbered}
 use Rattle.ring_report.specs.declared.failure.Failure.{Failure}
 use Rattle.ring_report.specs.declared.failure.Failure.TheVariants.{Output, Refused}
 use Rattle.ring_report.specs.Texts.{line_of}
-use Rattle.ring_console.specs.declared.pairs.Pair.{Pair}
-use Rattle.ring_console.specs.Pairs.{frames_of, opened_since, hears}
-use Rattle.ring_world.specs.Played.{Played, played_opening, world_of, Goes}
+use Rattle.ring_pump.specs.declared.pairs.Pair.{Pair}
+use Rattle.ring_pump.specs.Pumping.{Pumped, Rests as PumpRests, Happens as PumpHappens}
+use Rattle.ring_world.specs.Played.{Played, played_opening, world_of}
 use Rattle.ring_console.specs.Printed.{told_text, node_text, order_text, legal_text}
 
 -- What contracts see of a run.
@@ -58,12 +59,18 @@ legal_line false = []
 
 -- ---- what one thing does to a run
 
+-- whether what the one sends comes to the other: there is no cut, or they are in one group
+abbrev pub hears : Option (List ℕ) → ℕ → ℕ → Bool
+hears None sender receiver = true
+hears (Some groups) sender receiver = has (slice_index groups (sender - 1)) receiver
+
+-- the world of a run, with the copies of its frames
+abbrev pub pump_of : {A : Type 0} → RunView A → Pumped A
+pump_of r = record { played = r.played; open_pairs = r.open_pairs }
+
 -- The world did nothing, and told nothing; all else stays too.
 pub record Rests {A : Type 0} (old new : RunView A) : Type 0 where
-  pub group : new.played.group ≡ old.played.group
-  pub events : new.played.events ≡ old.played.events
-  pub told : new.played.told ≡ old.played.told
-  pub open_pairs : new.open_pairs ≡ old.open_pairs
+  pub pump : PumpRests (pump_of old) (pump_of new)
   pub groups : new.groups ≡ old.groups
 
 -- the event that a line asks for, if it asks for one: a frame whose number no u64 holds was never sent, nor was frame 0
@@ -85,8 +92,7 @@ shown_text number node = line_of (node_text number node.core.state node.core.ins
 module _ {O : Type 0} (object : Sequential O) where
   -- The world runs an event, and each frame that it sends opens its copies.
   pub record Happens {A : Type 0} (e : Event A) (old new : RunView A) : Type 0 where
-    pub goes : Goes object e old.played new.played
-    pub open_pairs : new.open_pairs ≡ old.open_pairs ++ opened_since (frames_of object old.played) (frames_of object new.played)
+    pub pump : PumpHappens object e (pump_of old) (pump_of new)
     pub groups : new.groups ≡ old.groups
 
   -- a copy comes to its receiver, or is lost

@@ -3,13 +3,12 @@
 //! the exit status.
 #![tactic(auto)]
 
-mod pairs;
 mod printed;
 mod run;
 mod running;
 
-pub use pairs::Pair;
 pub use ring_listing::frames;
+pub use ring_pump::Pair;
 pub use ring_report::{Failure, report};
 pub use ring_script::{Groups, Line, Numbered, Rings, Script, ScriptFault};
 pub use ring_world::World;

@@ -5,45 +5,39 @@ ghost use Rattle.std.specs.Prelude.{Some, None, length, drop, slice_get, IfOk, I
 ghost use Rattle.std.specs.Io.KnownBytes.{Appends};
 ghost use Rattle.ring_base.specs.declared.fault.Fault.TheVariants.{Memory};
 ghost use Rattle.ring_history.specs.Limits.{EventFits};
+ghost use Rattle.ring_pump.specs.Pairs.{Takes};
 ghost use Rattle.ring_report.specs.declared.failure.Failure.TheVariants.{Output};
 ghost use Rattle.ring_script.specs.Fits.{IsFit, AreFit};
-ghost use Rattle.ring_console.specs.Pairs.{hears, Takes};
 ghost use Rattle.ring_console.specs.Printed.{told_text};
-ghost use Rattle.ring_console.specs.Running.{run_opening, Prints, UnlessOutput, IsOutputOrMemory, Rests, Happens, Turns, BreaksTurn};
+ghost use Rattle.ring_console.specs.Running.{run_opening, hears, Prints, UnlessOutput, IsOutputOrMemory, Rests, Happens, Turns, BreaksTurn};
 ghost use Rattle.ring_console.specs.Running.{Comes, Pumps, BreaksPump, Ends, EndsRun, text_of, show_text};
 
-use crate::pairs::{Pair, Pairs};
 use crate::printed::{print_node, print_order, print_told};
 use ring_base::{Fault, Fixed, Proc};
 use ring_history::Event;
 use ring_object::Object;
+use ring_pump::{Pair, Pump};
 use ring_report::Failure;
 use ring_script::{Groups, Line, Script};
 use ring_world::World;
 use std::io::Write;
 use std::marker::Model;
 
-/// A script under way: the world of its nodes, the copies of frames that are open, and the cut. Contracts see it as a
+/// A script under way: the world of its nodes with the copies of frames that are open, and the cut. Contracts see it as a
 /// `RunView`.
 #[derive(Drop)]
 pub struct Run<O: Object> {
-    world: World<O>,
-    pairs: Pairs,
+    pump: Pump<O>,
     /// The groups of the cut, if there is one.
     groups: Option<Groups>,
-    /// The event that is run: its room stays.
-    next: Vec<Event<O::Alloc>, O::Alloc>,
 }
 
 impl<O: Object> Model for Run<O> {
-    ghost use Rattle.ring_console.specs.Pairs.{frames_of, pairs_from, IsReached};
     ghost use Rattle.ring_console.specs.Running.{RunView};
 
     ghost Value = { RunView O.Alloc };
 
-    ghost view = { λ r. record { played = r.world; open_pairs = pairs_from r.pairs (frames_of O.sequential r.world); groups = r.groups } };
-
-    ghost invariant = { λ r. IsReached r.pairs (frames_of O.sequential r.world) };
+    ghost view = { λ r. record { played = r.pump.played; open_pairs = r.pump.open_pairs; groups = r.groups } };
 }
 
 impl<O: Object> Run<O> {
@@ -53,13 +47,9 @@ impl<O: Object> Run<O> {
         ensures refused { IfErr result (λ fault. fault ≡ Memory) }
     {
         let world = World::new(alloc, nodes)?;
-        let pairs = Pairs::new();
-        let next = Vec::new(alloc);
         Ok(Run {
-            world,
-            pairs,
+            pump: Pump::new(alloc, world),
             groups: None,
-            next,
         })
     }
 
@@ -67,7 +57,7 @@ impl<O: Object> Run<O> {
     pub fn world(&self) -> &World<O>
         ensures { result.now ≡ self.now.played }
     {
-        &self.world
+        self.pump.world()
     }
 
     /// Does what the lines ask for, in their order, and prints on `out` what comes of it. Otherwise `Output`, or
@@ -94,7 +84,7 @@ impl<O: Object> Run<O> {
         if let Line::Show = &line {
             return self.show(out);
         }
-        let before = self.world.told().len();
+        let before = self.world().told().len();
         let done = self.perform(line);
         self.print_since(before, out)?;
         match done {
@@ -109,7 +99,7 @@ impl<O: Object> Run<O> {
         ensures lines { OnOk result (Appends (W.contents out.old) (W.contents out.new) (told_text (drop before self.now.played.told))) }
         ensures failed { IfErr result (λ failure. failure ≡ Output) }
     {
-        let told = self.world.told();
+        let told = self.world().told();
         print_told(out, &told[before..])
     }
 
@@ -159,9 +149,7 @@ impl<O: Object> Run<O> {
         ensures rests { OnErr result (Rests self.old self.new) }
         ensures refused { IfErr result (λ fault. fault ≡ Memory) }
     {
-        self.next.clear();
-        self.next.push(event)?;
-        self.world.run(self.next.as_slice())
+        self.pump.happen(event)
     }
 
     /// Takes turns, fewer where no copy is open.
@@ -183,7 +171,7 @@ impl<O: Object> Run<O> {
     pub fn first_open(&self) -> Option<Pair>
         ensures { result ≡ slice_get self.now.open_pairs 0 }
     {
-        self.pairs.first(&self.world)
+        self.pump.first_open()
     }
 
     /// Closes the first open copy, and gives it. `None` where none is open.
@@ -191,7 +179,7 @@ impl<O: Object> Run<O> {
         ensures takes { Takes self.old.open_pairs result self.new.open_pairs }
         ensures same { self.new ≡ record self.old { open_pairs = self.new.open_pairs } }
     {
-        self.pairs.close_first(&self.world)
+        self.pump.close_first()
     }
 
     /// A copy that is closed comes to its receiver, or is lost at the cut. Otherwise as `happen`.
@@ -221,9 +209,10 @@ impl<O: Object> Run<O> {
         ensures prints { OnOk result (Appends (W.contents out.old) (W.contents out.new) (show_text O.sequential self.now.played)) }
         ensures failed { IfErr result (λ failure. failure ≡ Output) }
     {
-        for before in 0..self.world.fixed().count() {
+        let world = self.world();
+        for before in 0..world.fixed().count() {
             let proc = Proc::new(before + 1);
-            let node = self.world.node(proc);
+            let node = world.node(proc);
             let committed = node.committed().len();
             print_node(
                 out,
@@ -234,6 +223,6 @@ impl<O: Object> Run<O> {
                 node.log_len(),
             )?;
         }
-        print_order(out, self.world.order_len())
+        print_order(out, world.order_len())
     }
 }

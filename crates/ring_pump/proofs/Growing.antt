@@ -1,10 +1,9 @@
 -- Frames only come: those of a world stay as it goes on, and so the copies that are open.
-use Rattle.std.proofs.Common.{◌≡◌, ℕ, zero, suc, ◌+◌, ◌-◌, ◌^◌, Bool, true, false, inl, inr, List, [], ◌∷◌, ◌++◌}
+use Rattle.std.proofs.Common.{◌≡◌, ℕ, zero, suc, ◌+◌, ◌-◌, ◌^◌, Bool, true, false, List, [], ◌∷◌, ◌++◌}
 use Rattle.std.proofs.Common.{length, take, drop, Option, Some, None, refl, sym, ap, subst, ◌∙◌, arith, append_assoc}
 use Rattle.std.proofs.Common.{zero-add}
 use Rattle.std.proofs.lemmas.List.{drop-append-le, drop_at, length-drop}
-use Rattle.ring_base.specs.Fronts.{IsFront, front_self, front_length}
-use Rattle.ring_base.specs.Group.{Group}
+use Rattle.ring_base.specs.Fronts.{IsFront, front_self, front_trans, front_length}
 use Rattle.ring_base.specs.Processors.{has}
 use Rattle.ring_base.specs.declared.fault.Fault.{Fault}
 use Rattle.ring_object.specs.Operations.{Sequential}
@@ -15,18 +14,16 @@ use Rattle.ring_machine.specs.declared.input.Input.TheVariants.{Frame as FrameIn
 use Rattle.ring_machine.specs.Stepping.{node_step, submit_fault}
 use Rattle.ring_history.specs.declared.event.Event.{Event}
 use Rattle.ring_history.specs.declared.event.Event.TheVariants.{Issue, Deliver, Noise, Timeout, Stop}
-use Rattle.ring_history.specs.Worlds.{World, world_opening, carried, issued_or, issued_if, stopped_if, stepped_if}
+use Rattle.ring_history.specs.Worlds.{World, carried, issued_or, issued_if, stopped_if, stepped_if}
 use Rattle.ring_history.specs.Worlds.{handed_if, handed, frame_at, is_node, happens, run}
 use Rattle.ring_pump.specs.declared.pairs.Pairs.{Pairs}
 use Rattle.ring_pump.specs.Pairs.{frames_of, pairs_of, pairs_behind, within_reach, all_pairs, opened_since, pairs_from, IsReached}
-use Rattle.ring_world.specs.Played.{Played, world_of, Goes}
+use Rattle.ring_world.specs.Played.{Played, world_of, Plays}
+use Rattle.ring_world.proofs.Playing.{plays_longer, world_later}
 
 -- ---- frames
 
 module _ {O A : Type 0} (object : Sequential O) where
-  Keeps : World A → World A → Type 0
-  Keeps w after = IsFront w.frames after.frames
-
   module _ (w : World A) where
     refused : (o : Option Fault) (i : ℕ) (c : Call A) → IsFront w.frames (issued_or o w i c).frames
     refused (Some fault) i c = front_self w.frames
@@ -59,34 +56,16 @@ module _ {O A : Type 0} (object : Sequential O) where
     event_frames (Timeout i kind) = steps (is_node w i) i (TimeInput kind)
     event_frames (Stop i) = stops (is_node w i) i
 
-  run-append : (w : World A) (xs ys : List (Event A)) → run object w (xs ++ ys) ≡ run object (run object w xs) ys
-  run-append w [] ys = refl
-  run-append w (x ∷ xs) ys = run-append (happens object w x) xs ys
-
-  -- the world after more events
-  pub world_after : (p q : Played A) (more : List (Event A)) → q.group ≡ p.group → q.events ≡ p.events ++ more
-      → world_of object q ≡ run object (world_of object p) more
-  world_after p q more group events =
-      ap (λ (g : Group). run object (world_opening g) q.events) group
-      ∙ (ap (λ (es : List (Event A)). run object (world_opening p.group) es) events
-      ∙ run-append (world_opening p.group) p.events more)
-
-  -- the same world
-  pub world_same : (p q : Played A) → q.group ≡ p.group → q.events ≡ p.events → world_of object q ≡ world_of object p
-  world_same p q group events = ap (λ (g : Group). run object (world_opening g) q.events) group
-      ∙ ap (λ (es : List (Event A)). run object (world_opening p.group) es) events
-
-  one_more : (p q : Played A) (e : Event A) → q.group ≡ p.group → q.events ≡ p.events ++ e ∷ [] → IsFront (frames_of object p) (frames_of object q)
-  one_more p q e group events =
-      subst (λ (w : World A). IsFront (world_of object p).frames w.frames) (sym (world_after p q (e ∷ []) group events)) (event_frames (world_of object p) e)
+  run_frames : (w : World A) (es : List (Event A)) → IsFront w.frames (run object w es).frames
+  run_frames w [] = front_self w.frames
+  run_frames w (e ∷ es) = front_trans w.frames (happens object w e).frames (run object (happens object w e) es).frames
+      (event_frames w e) (run_frames (happens object w e) es)
 
   -- frames stay as a run goes on
-  pub goes_frames : (e : Event A) (p q : Played A) → Goes object e p q → IsFront (frames_of object p) (frames_of object q)
-  goes_frames e p q (inl done) = one_more p q done.kept done.group done.events
-  goes_frames e p q (inr (inl stopped)) = one_more p q (Stop stopped.node) stopped.group stopped.events
-  goes_frames e p q (inr (inr refused)) =
-      subst (λ (w : World A). IsFront (world_of object p).frames w.frames)
-      (sym (world_same p q refused.group refused.events)) (front_self (world_of object p).frames)
+  pub plays_frames : (es : List (Event A)) (p q : Played A) → Plays object es p q → IsFront (frames_of object p) (frames_of object q)
+  plays_frames es p q plays =
+      let more = plays_longer object es p q plays in
+      subst (λ (w : World A). IsFront (world_of object p).frames w.frames) (sym (world_later object p q more)) (run_frames (world_of object p) more.later)
 
 -- ---- copies
 

@@ -2,6 +2,7 @@
 use Rattle.std.proofs.Common.{◌≡◌, ℕ, zero, suc, ◌+◌, ◌-◌, ◌^◌, ◌<◌, ◌≤◌, List, [], ◌∷◌, ◌++◌, map, length, take, drop}
 use Rattle.std.proofs.Common.{Option, Some, None, slice_get, refl, sym, ap, ◌∙◌, arith, add-one}
 use Rattle.std.proofs.lemmas.List.{drop_all}
+use Rattle.std.proofs.lemmas.Option.{slice_get_within}
 use Rattle.std.specs.Prelude.{option_map}
 use Rattle.std.specs.Option.{SomeIff}
 use Rattle.ring_base.specs.Elements.{elements-nobody}
@@ -9,26 +10,17 @@ use Rattle.ring_base.specs.Processors.{elements, nobody, only, less, smallest, I
 use Rattle.ring_base.proofs.Taking.{elements-taken}
 use Rattle.ring_core.specs.State.{Carried}
 use Rattle.ring_history.specs.Worlds.{frame_at}
+use Rattle.ring_history.proofs.Places.{get-take}
+use Rattle.ring_pump.specs.declared.pairs.Pair.{Pair}
 use Rattle.ring_pump.specs.declared.pairs.Pairs.{Pairs}
-use Rattle.ring_pump.specs.Pairs.{pairs_of, pairs_behind, within_reach, all_pairs, pairs_from, IsReached}
+use Rattle.ring_pump.specs.Pairs.{pairs_of, pairs_behind, within_reach, all_pairs, pairs_from, IsReached, Takes}
 
 -- ---- lists
-
-get_inside : {X : Type 0} (xs : List X) (k : ℕ) (x : X) → slice_get xs k ≡ Some x → k < length xs
-get_inside [] k x e = absurd cc
-get_inside (y ∷ xs) zero x e = omega arith
-get_inside (y ∷ xs) (suc k) x e = let rest = get_inside xs k x e in omega arith
 
 get_past : {X : Type 0} (xs : List X) (k : ℕ) → slice_get xs k ≡ None → length xs ≤ k
 get_past [] k e = omega arith
 get_past (y ∷ xs) zero e = absurd cc
 get_past (y ∷ xs) (suc k) e = let rest = get_past xs k e in omega arith
-
-get_take : {X : Type 0} (n : ℕ) (xs : List X) (k : ℕ) (x : X) → k < n → slice_get xs k ≡ Some x → slice_get (take n xs) k ≡ Some x
-get_take zero xs k x lt e = absurd (omega arith)
-get_take (suc n) [] k x lt e = absurd cc
-get_take (suc n) (y ∷ xs) zero x lt e = e
-get_take (suc n) (y ∷ xs) (suc k) x lt e = get_take n xs k x (omega arith) e
 
 drop_get : {X : Type 0} (xs : List X) (k : ℕ) (x : X) → slice_get xs k ≡ Some x → drop k xs ≡ x ∷ drop (suc k) xs
 drop_get [] k x e = absurd cc
@@ -80,8 +72,8 @@ module _ {A : Type 0} (p : Pairs) (frames : List (Carried A)) where
       ≡ Some f → q ≡ record { frame = suc p.frame; sender = f.from; left = f.to }
       → (pairs_from q frames ≡ pairs_from p frames) × IsReached q frames
   next_sent q f none small sent is =
-      let there = get_take (2 ^ 64 - 1) frames p.frame f small sent in
-      let inside = get_inside (within_reach frames) p.frame f there in (
+      let there = get-take (2 ^ 64 - 1) frames p.frame f small sent in
+      let inside = slice_get_within (within_reach frames) p.frame f there in (
         ap (λ (x : Pairs). pairs_from x frames) is ∙ sym (only_behind none ∙ ap (λ fs. pairs_behind p.frame fs)
             (drop_get (within_reach frames) p.frame f there)),
         omega (arith, inside, ap (λ (x : Pairs). x.frame) is),
@@ -140,3 +132,8 @@ no_next (Some m) n h e = absurd cc
 -- before the first frame nothing is reached
 pub none_reached : {A : Type 0} (p : Pairs) (frames : List (Carried A)) → p ≡ record { frame = 0; sender = 1; left = nobody } → IsReached p frames
 none_reached p frames first = omega (arith, ap (λ (q : Pairs). q.frame) first)
+
+-- what is taken is the first
+pub takes_first : (old : List Pair) (taken : Option Pair) (new : List Pair) → Takes old taken new → taken ≡ slice_get old 0
+takes_first old None new t = ap (λ (ps : List Pair). slice_get ps 0) (sym t.0)
+takes_first old (Some pair) new t = ap (λ (ps : List Pair). slice_get ps 0) (sym t)

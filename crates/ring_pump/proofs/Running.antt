@@ -1,13 +1,22 @@
 -- What one event does to a pump.
-use Rattle.std.proofs.Common.{◌≡◌, ℕ, zero, suc, ◌<◌, inl, inr, List, [], ◌∷◌, length}
+use Rattle.std.proofs.Common.{◌≡◌, ℕ, zero, suc, ◌<◌, List, [], ◌∷◌, ◌++◌, length}
 use Rattle.std.proofs.Common.{take, Result, Ok, Err, OnOk, OnErr, sym, ap, subst, ◌∙◌, arith}
+use Rattle.ring_base.specs.Fronts.{IsFront}
+use Rattle.ring_base.specs.Group.{Group}
 use Rattle.ring_object.specs.Operations.{Sequential}
 use Rattle.ring_history.specs.declared.event.Event.{Event}
+use Rattle.ring_history.specs.declared.told.Told.{Told}
+use Rattle.ring_history.specs.Worlds.{world_opening, run}
 use Rattle.ring_pump.specs.declared.pairs.Pairs.{Pairs}
 use Rattle.ring_pump.specs.Pairs.{frames_of, pairs_from, IsReached}
 use Rattle.ring_pump.specs.Pumping.{Rests, Happens}
 use Rattle.ring_world.specs.Played.{Played, Goes, Plays}
-use Rattle.ring_pump.proofs.Growing.{goes_frames, world_same, open_later, reached_later}
+use Rattle.ring_world.proofs.Playing.{goes_to}
+use Rattle.ring_pump.proofs.Growing.{plays_frames, open_later, reached_later}
+
+-- of what was cleared, and then got one more, that is all
+pub as_one : {X : Type 0} (xs ys zs : List X) (x : X) → xs ≡ ys → ys ≡ zs ++ x ∷ [] → zs ≡ [] → xs ≡ x ∷ []
+as_one xs ys zs x same more none = same ∙ more ∙ ap (λ es. es ++ x ∷ []) none
 
 module _ {O A : Type 0} (object : Sequential O) where
   -- the same but for how many events of the last run were done
@@ -15,28 +24,12 @@ module _ {O A : Type 0} (object : Sequential O) where
   IsSame p q = (q.group ≡ p.group) × (q.events ≡ p.events) × (q.told ≡ p.told)
 
   goes_on : (e : Event A) (p m q : Played A) → Goes object e p m → IsSame m q → Goes object e p q
-  goes_on e p m q (inl d) s = inl (record { kept = d.kept; copy = d.copy; group = s.0 ∙ d.group; events = s.1 ∙ d.events; told = s.2 ∙ d.told })
-  goes_on e p m q (inr (inl d)) s = inr
-      (inl (record {
-        node = d.node;
-        steps = d.steps;
-        known = d.known;
-        group = s.0 ∙ d.group;
-        events = s.1 ∙ d.events;
-        told = s.2 ∙ d.told;
-      }))
-  goes_on e p m q (inr (inr d)) s = inr
-      (inr (record {
-        node = d.node;
-        call = d.call;
-        issues = d.issues;
-        known = d.known;
-        taken = d.taken;
-        group = s.0
-            ∙ d.group;
-        events = s.1 ∙ d.events;
-        told = s.2 ∙ d.told;
-      }))
+  goes_on e p m q goes s =
+      let one : Group → Played A = λ x. record { group = x; events = q.events; told = q.told; done = q.done } in
+      let two : List (Event A) → Played A = λ x. record { group = m.group; events = x; told = q.told; done = q.done } in
+      let three : List (Told A) → Played A = λ x. record { group = m.group; events = m.events; told = x; done = q.done } in
+      let same : q ≡ record m { done = q.done } = ap one s.0 ∙ ap two s.1 ∙ ap three s.2 in
+      subst (λ (r : Played A). Goes object e p r) (sym same) (goes_to object e q.done p m goes)
 
   one_done : (e : Event A) (p q : Played A) (done : ℕ) → Plays object (take done (e ∷ [])) p q → done ≡ 1 → Goes object e p q
   one_done e p q zero plays is = absurd (omega (arith, is))
@@ -49,7 +42,9 @@ module _ {O A : Type 0} (object : Sequential O) where
 
   -- the frames of a world that did nothing
   same_frames : (p q : Played A) → IsSame p q → frames_of object q ≡ frames_of object p
-  same_frames p q s = ap (λ w. w.frames) (world_same object p q s.0 s.1)
+  same_frames p q s =
+      ap (λ (g : Group). (run object (world_opening g) q.events).frames) s.0
+      ∙ ap (λ (es : List (Event A)). (run object (world_opening p.group) es).frames) s.1
 
   -- an event that the world ran, or did not
   module _ (e : Event A) (p q : Played A) (pairs : Pairs) (es : List (Event A))
@@ -60,6 +55,9 @@ module _ {O A : Type 0} (object : Sequential O) where
 
     counted : length es ≡ 1
     counted = ap length one
+
+    grown : IsFront (frames_of object p) (frames_of object q)
+    grown = plays_frames object (take q.done es) p q plays
 
     goes : q.done ≡ length es → Goes object e p q
     goes is = one_done e p q q.done alone (is ∙ counted)
@@ -77,8 +75,7 @@ module _ {O A : Type 0} (object : Sequential O) where
         }))
     happened (Ok x) is = record {
       goes = goes is;
-      open_pairs = open_later pairs (frames_of object p)
-          (frames_of object q) (goes_frames object e p q (goes is)) reached;
+      open_pairs = open_later pairs (frames_of object p) (frames_of object q) grown reached;
     }
     happened (Err x) is = tt
 
@@ -94,6 +91,5 @@ module _ {O A : Type 0} (object : Sequential O) where
     }
 
     -- what is reached stays so, whether the event was run or not
-    pub still_reached : {T E : Type 0} (r : Result T E) → OnOk r (q.done ≡ length es) → OnErr r (q.done < length es) → IsReached pairs (frames_of object q)
-    still_reached (Ok x) is less = reached_later pairs (frames_of object p) (frames_of object q) (goes_frames object e p q (goes is)) reached
-    still_reached (Err x) is less = subst (λ fs. IsReached pairs fs) (sym (same_frames p q (same less))) reached
+    pub still_reached : IsReached pairs (frames_of object q)
+    still_reached = reached_later pairs (frames_of object p) (frames_of object q) grown reached

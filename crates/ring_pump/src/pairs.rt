@@ -1,6 +1,6 @@
 //! The copies that frames open: one for each receiver, by the frame's number, then by receiver.
 
-ghost use Rattle.std.specs.Prelude.{◌≡◌, ◌+◌, true, false, IsTrue};
+ghost use Rattle.std.specs.Prelude.{◌≡◌, ◌+◌, true, false, IsTrue, slice_get};
 ghost use Rattle.ring_base.specs.Processors.{nobody};
 ghost use Rattle.ring_pump.specs.Pairs.{frames_of, pairs_from, IsReached, Takes};
 
@@ -37,6 +37,15 @@ impl Pairs {
             sender: Proc::new(1),
             left: ProcSet::new(),
         }
+    }
+
+    /// The first open copy. `None` where none is open.
+    pub(crate) fn first<O: Object>(&self, world: &World<O>) -> Option<Pair>
+        requires { IsReached self.now (frames_of O.sequential world.now) }
+        ensures { result ≡ slice_get (pairs_from self.now (frames_of O.sequential world.now)) 0 }
+    {
+        let mut pairs = *self;
+        pairs.close_first(world)
     }
 
     /// Closes the first open copy, and gives it. `None` where none is open.

@@ -1,6 +1,6 @@
 //! A world with the copies of its frames.
 
-ghost use Rattle.std.specs.Prelude.{◌≡◌, OnOk, OnErr, IfErr};
+ghost use Rattle.std.specs.Prelude.{◌≡◌, OnOk, OnErr, IfErr, slice_get};
 ghost use Rattle.ring_base.specs.declared.fault.Fault.TheVariants.{Memory};
 ghost use Rattle.ring_history.specs.Limits.{EventFits};
 ghost use Rattle.ring_pump.specs.Pairs.{frames_of, all_pairs, Takes};
@@ -66,6 +66,13 @@ impl<O: Object> Pump<O> {
         self.next.clear();
         self.next.push(event)?;
         self.world.run(self.next.as_slice())
+    }
+
+    /// The first open copy. `None` where none is open.
+    pub fn first_open(&self) -> Option<Pair>
+        ensures { result ≡ slice_get self.now.open_pairs 0 }
+    {
+        self.pairs.first(&self.world)
     }
 
     /// Closes the first open copy, and gives it. `None` where none is open.

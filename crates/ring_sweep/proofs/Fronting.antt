@@ -1,31 +1,25 @@
 -- Whether the calls that take effect of a list are a front of another.
-use Rattle.std.proofs.Common.{◌≡◌, ℕ, suc, ◌+◌, ◌<◌, ◌≤◌, ◌==◌, Bool, true, false, List, [], ◌∷◌, ◌++◌, take, drop, length}
-use Rattle.std.proofs.Common.{Option, Some, None, slice_get, refl, sym, ap, subst, ◌∙◌, arith, append-nil, add-one}
+use Rattle.std.proofs.Common.{◌≡◌, ℕ, ◌+◌, ◌<◌, ◌≤◌, ◌==◌, Bool, true, false, List, [], ◌∷◌, ◌++◌, take, drop, length}
+use Rattle.std.proofs.Common.{Option, Some, None, slice_get, sym, ap, subst, ◌∙◌, arith, append-nil}
 use Rattle.std.specs.Prelude.{if◌then◌else◌}
-use Rattle.std.proofs.Math.Seq.{take-suc}
 use Rattle.std.proofs.lemmas.List.{take-append-drop, length-take, take_all}
-use Rattle.std.proofs.lemmas.Option.{slice_get_within, get_or_from_slice_get}
+use Rattle.std.proofs.lemmas.Option.{slice_get_within}
 use Rattle.ring_base.specs.Fronts.{IsFront, front_trans, front_get}
 use Rattle.ring_payload.specs.declared.call.Call.{Call}
 use Rattle.ring_session.specs.Deduplicated.{count_of, client_count, takes_effect, deduplicated}
 use Rattle.ring_session.specs.DeduplicatedLaws.{deduplicated-push, deduplicated-front, get-push_last}
+use Rattle.ring_world.proofs.Playing.{take_more}
 
 -- So many of these calls were looked at, and so many places of the order are those that took effect.
 pub record IsInFront {A : Type 0} (calls order : List (Call A)) (k place : ℕ) : Type 0 where
   pub within : place ≤ length order
   pub same : deduplicated (take k calls) ≡ take place order
 
--- one more is taken
-pub take_next : {X : Type 0} (xs : List X) (k : ℕ) (x : X) → slice_get xs k ≡ Some x → take (k + 1) xs ≡ take k xs ++ x ∷ []
-take_next xs k x at =
-    ap (λ (n : ℕ). take n xs) (add-one k) ∙ (take-suc xs k x (slice_get_within xs k x at)
-    ∙ ap (λ y. take k xs ++ y ∷ []) (get_or_from_slice_get xs k x x at))
-
 module _ {A : Type 0} (calls order : List (Call A)) (k place : ℕ) (c : Call A) (here : slice_get calls k ≡ Some c)
     (so_far : IsInFront calls order k place) where
   pushed : (b : Bool) → takes_effect (take place order) c ≡ b → deduplicated (take (k + 1) calls) ≡ take place order ++ (if b then c ∷ [] else [])
   pushed b is =
-      ap deduplicated (take_next calls k c here)
+      ap deduplicated (take_more calls k c here)
       ∙ (deduplicated-push (take k calls) c
       ∙ ap (λ kept. kept ++ (if takes_effect kept c then c ∷ [] else [])) so_far.same
       ∙ ap (λ (t : Bool). take place order ++ (if t then c ∷ [] else [])) is)
@@ -34,7 +28,7 @@ module _ {A : Type 0} (calls order : List (Call A)) (k place : ℕ) (c : Call A)
   pub front_next : takes_effect (take place order) c ≡ true → slice_get order place ≡ Some c → IsInFront calls order (k + 1) (place + 1)
   front_next takes next = record {
     within = let inside = slice_get_within order place c next in omega (arith, inside);
-    same = pushed true takes ∙ sym (take_next order place c next);
+    same = pushed true takes ∙ sym (take_more order place c next);
   }
 
   -- the call takes no effect

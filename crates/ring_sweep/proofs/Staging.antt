@@ -12,11 +12,11 @@ use Rattle.ring_script.specs.declared.line.Line.TheVariants.{Call, Deliver, Time
 use Rattle.ring_script.specs.declared.scripts.Numbered.{Numbered}
 use Rattle.ring_world.specs.Played.{Played, Goes as PlayedGoes}
 use Rattle.ring_script.specs.Fits.{IsFit}
-use Rattle.ring_console.specs.declared.pairs.Pair.{Pair}
+use Rattle.ring_pump.specs.declared.pairs.Pair.{Pair}
 use Rattle.ring_console.specs.Running.{RunView, Does, Ends, Happens}
 use Rattle.ring_sweep.specs.declared.upset.Upset.{Upset}
 use Rattle.ring_sweep.specs.Variants.{turn, steps_in, steps_of, is_first_heard, is_event, bit, line_of_upset, Passes, IsDue, IsVariant}
-use Rattle.ring_sweep.proofs.Fronting.{take_next}
+use Rattle.ring_world.proofs.Playing.{take_more}
 use Rattle.ring_sweep.specs.Stages.{Stage, stage, IsCopyOf, is_due, Strikes, PutsIn, Readies, Steps, Goes}
 
 -- nothing is due where nothing is pending
@@ -224,7 +224,10 @@ module _ {O A : Type 0} (object : Sequential O) where
   noise_does : (node : ℕ) (bytes copy : Vec ℕ A) (r s : RunView A) → copy.items ≡ bytes.items → Happens object (events.Noise node copy) r s
       → Happens object (events.Noise node bytes) r s
   noise_does node bytes copy r s same h =
-      record { goes = noise_goes node bytes copy r.played s.played same h.goes; open_pairs = h.open_pairs; groups = h.groups }
+      record {
+        pump = record { goes = noise_goes node bytes copy r.played s.played same h.pump.goes; open_pairs = h.pump.open_pairs };
+        groups = h.groups;
+      }
 
   -- what a copy of a line asks for is what the line asks for
   pub copy_does : (l copy : Line A) (r s : RunView A) → IsCopyOf l copy → Does object copy r s → Does object l r s
@@ -246,7 +249,7 @@ module _ {O A : Type 0} (object : Sequential O) where
       → Goes object (steps_of (take k lines)) s m → Goes object (steps_in l.line) m t → Goes object (steps_of (take (k + 1) lines)) s t
   goes_line lines k l s m t here h more =
       let steps : steps_of (take (k + 1) lines) ≡ steps_of (take k lines) ++ steps_in l.line =
-      ap steps_of (take_next lines k l here)
+      ap steps_of (take_more lines k l here)
       ∙ (flat_map-append (λ (x : Numbered A). steps_in x.line) (take k lines) (l ∷ [])
       ∙ ap (λ (ls : List (Line A)). steps_of (take k lines) ++ ls) (append-nil (steps_in l.line))) in
       subst (λ (ls : List (Line A)). Goes object ls s t) (sym steps)

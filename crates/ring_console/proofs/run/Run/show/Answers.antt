@@ -6,7 +6,7 @@ use Rattle.ring_base.specs.declared.state.State.{State}
 use Rattle.ring_base.specs.declared.ring_id.RingId.{RingId}
 use Rattle.ring_machine.specs.Nodes.{Node, node_committed, node_log}
 use Rattle.ring_report.specs.Texts.{line_of}
-use Rattle.ring_world.specs.Played.{world_of}
+use Rattle.ring_world.specs.Played.{Played, world_of}
 use Rattle.ring_console.specs.Printed.{node_text}
 use Rattle.ring_console.specs.Running.{shown_text, nodes_text}
 use Rattle.ring_console.proofs.run.Run.show.Goals as goal
@@ -25,10 +25,11 @@ shown node m number i state ring committed log a n b d e f =
 
 pub loop-before-preserved : goal.loop-before-preserved
 loop-before-preserved g c =
-    let w = world_of g.O.Object.sequential c.self.inside.world in
+    let w = world_of g.O.Object.sequential c.args.self.now.played in
     let i = c.loop-before.before in
     let number : c.new-proc.result ≡ suc i = c.new-proc.ensures ∙ add-one i in
-    let node : c.node-node.result.now ≡ w.nodes (suc i) = c.node-node.ensures ∙ ap w.nodes number in
+    let node : c.node-node.result.now ≡ w.nodes (suc i) = c.node-node.ensures
+    ∙ (ap (λ (p : Played g.row.O-Alloc.Denot). (world_of g.O.Object.sequential p).nodes c.new-proc.result) c.world-world.ensures ∙ ap w.nodes number) in
     let text = shown c.node-node.result.now (w.nodes (suc i)) c.new-proc.result i c.state.result c.ring.result
     (length c.committed-committed.result.now) c.log_len.result number node c.state.ensures c.ring.ensures
     (ap length c.committed-committed.ensures) c.log_len.ensures in

@@ -7,4 +7,4 @@ use Rattle.ring_console.proofs.run.Run.show.Given as goal
 abbrev pub invariant-loop-before : goal.invariant-loop-before
 invariant-loop-before g l =
     Appends (g.W.Write.contents l.initial.out) (g.W.Write.contents l.out) (nodes_text g.O.Object.sequential l.before
-    (world_of g.O.Object.sequential l.self-inside.world))
+    (world_of g.O.Object.sequential l.self.played))
