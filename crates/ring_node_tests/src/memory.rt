@@ -3,11 +3,13 @@
 use crate::driven::Driven;
 use refusing_alloc::Refusing;
 use ring_base::{Fault, State};
+use ring_object::Object;
+use ring_things::Counters;
 use std::process::Abort;
 use std::test::Fail;
 
 /// A node at its opening, made at the second try if it was refused memory, and how often it was.
-fn opened<'a>(heap: &'a Refusing, ample: &'a Refusing) -> Result<(Driven<'a>, u64), Fault> {
+fn opened<O: Object>(heap: O::Alloc, ample: O::Alloc) -> Result<(Driven<O>, u64), Fault> {
     match Driven::new(heap, ample) {
         Ok(driven) => Ok((driven, 0)),
         Err(Fault::Memory) => Ok((Driven::new(heap, ample)?, 1)),
@@ -17,7 +19,11 @@ fn opened<'a>(heap: &'a Refusing, ample: &'a Refusing) -> Result<(Driven<'a>, u6
 
 /// How often the submit of the call of this number was refused memory before it was done. A refusal leaves the node as it
 /// was.
-fn refused_submits(rt: &impl Abort, driven: &mut Driven<'_>, number: u64) -> Result<u64, Fault> {
+fn refused_submits<O: Object>(
+    rt: &impl Abort,
+    driven: &mut Driven<O>,
+    number: u64,
+) -> Result<u64, Fault> {
     let before = driven.seen();
     match driven.submit(number) {
         Ok(_) => Ok(0),
@@ -30,62 +36,73 @@ fn refused_submits(rt: &impl Abort, driven: &mut Driven<'_>, number: u64) -> Res
     }
 }
 
-/// Whether a step was refused memory. If so the node is stopped for good, and tells the log as before the step.
-fn was_refused(rt: &impl Abort, driven: &mut Driven<'_>, place: u8) -> Result<bool, Fault> {
+/// How often memory was refused in the submits before the step at this place: two calls are submitted, of which one waits
+/// for the ring, and one goes out at once.
+fn submitted_before<O: Object>(
+    rt: &impl Abort,
+    driven: &mut Driven<O>,
+    place: u8,
+) -> Result<u64, Fault> {
+    match place {
+        2 => refused_submits(rt, driven, 1),
+        5 => refused_submits(rt, driven, 2),
+        _ => Ok(0),
+    }
+}
+
+/// How often the step at this place was refused memory. If it was, the node is stopped for good, and tells the log as
+/// before the step.
+fn refused_steps<O: Object>(
+    rt: &impl Abort,
+    driven: &mut Driven<O>,
+    place: u8,
+) -> Result<u64, Fault> {
     let (_, ring, committed, places, effects) = driven.seen();
     match driven.step(place) {
-        Ok(()) => Ok(false),
+        Ok(()) => Ok(0),
         Err(Fault::Memory) => {
             let stopped = (State::Stopped, ring, committed, places, effects);
             assert_eq!(rt; driven.seen(), stopped);
             assert_eq!(rt; driven.time(), Err(Fault::Stopped));
-            Ok(true)
+            Ok(1)
         }
         Err(fault) => Err(fault),
     }
 }
 
-/// How often memory was refused at this place of the run: two calls are submitted, of which one waits for the ring, and one
-/// goes out at once. A ticket that was refused is given when it is tried again.
-fn refused_at(rt: &impl Abort, driven: &mut Driven<'_>, place: u8) -> Result<u64, Fault> {
-    let submits = match place {
-        2 => refused_submits(rt, driven, 1)?,
-        5 => refused_submits(rt, driven, 2)?,
-        _ => 0,
-    };
-    let is_refused = was_refused(rt, driven, place)?;
-    Ok(submits.saturating_add(u64::from(is_refused)))
-}
-
 /// How often memory was refused in the whole run, which ends where the node stops.
-fn refused_in_all(rt: &impl Abort, driven: &mut Driven<'_>) -> Result<u64, Fault> {
+fn refused_in_run<O: Object>(rt: &impl Abort, driven: &mut Driven<O>) -> Result<u64, Fault> {
     let mut all = 0u64;
     for place in 0..7u8 {
-        if !driven.is_stopped() {
-            all = all.saturating_add(refused_at(rt, driven, place)?);
+        if driven.is_stopped() {
+            return Ok(all);
         }
+        let submits = submitted_before(rt, driven, place)?;
+        let steps = refused_steps(rt, driven, place)?;
+        all = all.saturating_add(submits).saturating_add(steps);
     }
     Ok(all)
 }
 
 /// How often a node was refused memory that forms its ring and answers two calls, or stops before.
-fn refusals(rt: &impl Abort, heap: &Refusing, ample: &Refusing) -> Result<u64, Fault> {
-    let (mut driven, opening) = opened(heap, ample)?;
-    let all = refused_in_all(rt, &mut driven)?;
+fn refusals<O: Object>(rt: &impl Abort, heap: O::Alloc, ample: O::Alloc) -> Result<u64, Fault> {
+    let (mut driven, opening) = opened::<O>(heap, ample)?;
+    let run = refused_in_run(rt, &mut driven)?;
     assert!(rt; driven.is_stopped() || driven.told() == (2, 2));
-    Ok(opening.saturating_add(all))
+    Ok(opening.saturating_add(run))
 }
 
 #[test]
 fn each_request_is_refused_in_turn(rt: HostRuntime) -> Result<(), Fail> {
     let ample = Refusing::new(rt.alloc(), u64::MAX);
     let heap = Refusing::new(rt.alloc(), u64::MAX);
-    assert_eq!(rt; refusals(&rt, &heap, &ample)?, 0);
+    assert_eq!(rt; refusals::<Counters<&Refusing>>(&rt, &heap, &ample)?, 0);
     let requests = heap.requests();
     assert!(rt; requests > 16, "{requests}");
     for passed in 0..requests {
         let heap = Refusing::new(rt.alloc(), passed);
-        assert_eq!(rt; refusals(&rt, &heap, &ample)?, 1, "at {passed}");
+        let refused = refusals::<Counters<&Refusing>>(&rt, &heap, &ample)?;
+        assert_eq!(rt; refused, 1, "at {passed}");
     }
     Ok(())
 }

@@ -3,14 +3,14 @@
 ghost use Rattle.std.specs.Prelude.{IfOk};
 ghost use Rattle.ring_wire.specs.Frames.{FrameFits};
 
-use refusing_alloc::Refusing;
 use ring_base::{Fault, Fixed, Kind, State};
 use ring_node::{Input, Node, Outs};
+use ring_object::Object;
 use ring_payload::Call;
 use ring_session::Answer;
-use ring_things::Counters;
 use ring_ticket::Ticket;
 use ring_wire::{Frame, Wire};
+use std::alloc::Allocator;
 
 /// Add 5 on key 0 of an object of counters.
 const ADD: [u8; 10] = [1, 0, 0, 0, 0, 0, 0, 0, 0, 5];
@@ -48,10 +48,10 @@ fn token(number: u8, messages: u8) -> [u8; 43] {
 }
 
 /// The frame that these bytes spell.
-fn frame_of<'a>(alloc: &'a Refusing, bytes: &[u8]) -> Result<Frame<&'a Refusing>, Fault>
+fn frame_of<A: Allocator + Copy>(alloc: A, bytes: &[u8]) -> Result<Frame<A>, Fault>
     ensures { IfOk result (λ frame. FrameFits frame) }
 {
-    let (frame, _) = Frame::<&'a Refusing>::get(alloc, bytes)?;
+    let (frame, _) = Frame::<A>::get(alloc, bytes)?;
     Ok(frame)
 }
 
@@ -62,17 +62,17 @@ pub type Seen = (State, u64, usize, u64, u64);
 /// A node, and how many frames, answers and committed calls its steps gave. What the node has no hand in lies in memory
 /// of its own, which is ample.
 #[derive(Drop)]
-pub struct Driven<'a> {
-    ample: &'a Refusing,
-    pub node: Node<Counters<&'a Refusing>>,
+pub struct Driven<O: Object> {
+    ample: O::Alloc,
+    pub node: Node<O>,
     pub sends: usize,
     answers: usize,
     committed: usize,
 }
 
-impl<'a> Driven<'a> {
+impl<O: Object> Driven<O> {
     /// A node at its opening, with its memory in `heap`.
-    pub fn new(heap: &'a Refusing, ample: &'a Refusing) -> Result<Driven<'a>, Fault> {
+    pub fn new(heap: O::Alloc, ample: O::Alloc) -> Result<Driven<O>, Fault> {
         let fixed = Fixed::new(1)?;
         Ok(Driven {
             ample,
@@ -84,7 +84,7 @@ impl<'a> Driven<'a> {
     }
 
     /// Counts what a step gives.
-    fn count(&mut self, outs: &Outs<&'a Refusing>) {
+    fn count(&mut self, outs: &Outs<O::Alloc>) {
         self.sends = self.sends.saturating_add(outs.sends.len());
         self.answers = self.answers.saturating_add(outs.answers.len());
         self.committed = self.committed.saturating_add(outs.committed.len());
