@@ -18,15 +18,25 @@ TICKS = os.sysconf("SC_CLK_TCK")
 KINDS = ("proof", "tests", "edits")
 
 
-def provers():
-    """Yields (process, when it began, crate, kind, seconds used) of each prover that runs."""
+def is_below(process, gate):
+    """Tells whether the gate started the process, itself or through others."""
+    while process not in ("0", "1"):
+        if process == str(gate):
+            return True
+        with open(f"/proc/{process}/stat", encoding="utf-8") as it:
+            process = it.read().rpartition(")")[2].split()[1]
+    return False
+
+
+def provers(gate):
+    """Yields (process, when it began, crate, kind, seconds used) of each prover that the gate runs."""
     for entry in os.listdir("/proc"):
         if not entry.isdigit():
             continue
         try:
             with open(f"/proc/{entry}/cmdline", "rb") as it:
                 words = it.read().decode(errors="replace").split("\0")
-            if not words[0].endswith("/rattle") or "--crate-name" not in words:
+            if not words[0].endswith("/rattle") or "--crate-name" not in words or not is_below(entry, gate):
                 continue
             folder = os.readlink(f"/proc/{entry}/cwd")
             with open(f"/proc/{entry}/stat", encoding="utf-8") as it:
@@ -45,7 +55,7 @@ def main():
     began, seen = time.time(), {}
     gate = subprocess.Popen(command)
     while gate.poll() is None:
-        for process, since, crate, kind, used in provers():
+        for process, since, crate, kind, used in provers(gate.pid):
             seen[process, since] = (crate, kind, used)
         time.sleep(0.5)
     minutes = (time.time() - began) / 60
