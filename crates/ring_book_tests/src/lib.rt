@@ -1,0 +1,19 @@
+//! What no contract of the book says: that a call is answered, that each call succeeds where memory is left, what comes where
+//! memory is refused, and that cells and books may go to other threads. And what a caller knows who takes the book's laws
+//! together with those of the nodes.
+#![tactic(auto)]
+
+mod linear;
+
+pub use linear::{Seen, answered, explained, in_order};
+
+#[cfg(test)]
+mod driven;
+#[cfg(test)]
+mod memory;
+#[cfg(test)]
+mod refusals;
+#[cfg(test)]
+mod replies;
+#[cfg(test)]
+mod threads;

@@ -1,0 +1,152 @@
+//! Each request for memory on the way to the first reply is refused in turn.
+
+ghost use Rattle.std.specs.Prelude.{◌≡◌};
+
+use crate::driven::{ADD, Driven, FIRST, five};
+use refusing_alloc::Refusing;
+use ring_base::{Fault, Fixed, Proc, State};
+use ring_book::{Book, BookName, Cell, Opening};
+use ring_node::Input;
+use ring_object::Object;
+use ring_session::Answer;
+use ring_things::Counters;
+use ring_ticket::Ticket;
+use std::alloc::{Allocator, Global};
+use std::marker::Brand;
+
+/// The nodes of a group form one ring, and a call is submitted at the last of them.
+fn asked<O: Object, K: BookName<O::Alloc>>(
+    driven: &mut Driven<O, K>,
+    nodes: u8,
+) -> Result<Ticket, Fault> {
+    let turns = if nodes == 1 { 4 } else { 12 };
+    driven.settle(nodes, turns)?;
+    driven.submit(nodes, 1, &ADD)
+}
+
+/// Whether the book shows the reply to the first call, of processor 1.
+fn shows_reply<O: Object, K: BookName<O::Alloc>>(
+    book: &Book<O, K>,
+    ticket: Ticket,
+) -> Result<bool, Fault> {
+    let history = book.history()?;
+    let order = book.order()?;
+    let answer = book.answer(Proc::new(1), ticket);
+    Ok(history.len() == 2 && order.len() == 1 && answer == Some(Answer::Done(five())))
+}
+
+/// Goes the way to the first reply in a group of one, and that to a ring and a call in a larger group. Answers whether it is
+/// as it should be.
+fn goes_on<O: Object, K: BookName<O::Alloc>>(
+    driven: &mut Driven<O, K>,
+    nodes: u8,
+) -> Result<bool, Fault> {
+    let ticket = asked(driven, nodes)?;
+    driven.pump(2)?;
+    let shows = shows_reply(&driven.book, ticket)?;
+    Ok(shows == (nodes == 1))
+}
+
+/// Whether the node of this processor isn't stopped.
+fn is_running<O: Object, K: BookName<O::Alloc>>(cells: &[Cell<O, K>], processor: u8) -> bool {
+    match cells.get(usize::from(processor).wrapping_sub(1)) {
+        Some(cell) => cell.node().state() != State::Stopped,
+        None => false,
+    }
+}
+
+/// Whether each place of the book is a line's, so that none is left reserved.
+fn has_lines_alone<O: Object, K: BookName<O::Alloc>>(book: &Book<O, K>) -> bool {
+    match book.places().checked_sub(1) {
+        Some(last) => book.line(last).is_some(),
+        None => true,
+    }
+}
+
+/// Whether a processor goes on after a refusal, unless a step of it was refused: then its node is stopped. No place of the
+/// book is left reserved.
+fn is_kept<O: Object, K: BookName<O::Alloc>>(driven: &mut Driven<O, K>, processor: u8) -> bool {
+    let is_settled = has_lines_alone(&driven.book);
+    let steps = driven.step(processor, Input::Noise, FIRST).is_ok();
+    let submits = driven.submit(processor, 2, &ADD).is_ok();
+    let goes_on = is_running(driven.cells.as_slice(), processor);
+    is_settled && steps == goes_on && submits == goes_on
+}
+
+/// Whether all processors are kept.
+fn are_kept<O: Object, K: BookName<O::Alloc>>(driven: &mut Driven<O, K>, nodes: u8) -> bool {
+    let mut are = true;
+    for before in 0..nodes {
+        let is = is_kept(driven, before.saturating_add(1));
+        are = are && is;
+    }
+    are
+}
+
+/// Answers `Memory` where a call was refused memory and all that was done before is kept, and else whether all is as it
+/// should be.
+fn ran<O: Object, K: BookName<O::Alloc>>(
+    alloc: O::Alloc,
+    opening: Opening<O>,
+    nodes: u8,
+) -> Result<bool, Fault>
+    requires { opening ≡ K.name }
+{
+    let mut driven = Driven::<O, K>::new(alloc, opening)?;
+    let ran = goes_on(&mut driven, nodes);
+    if ran == Err(Fault::Memory) && !are_kept(&mut driven, nodes) {
+        return Ok(false);
+    }
+    ran
+}
+
+/// The same of counters.
+fn counted<A: Allocator + Copy + Drop>(alloc: A, nodes: u8) -> Result<bool, Fault> {
+    let opening = Opening::<Counters<A>>::new(alloc, Fixed::new(nodes)?)?;
+    ran::<Counters<A>, Brand>(alloc, opening, nodes)
+}
+
+/// Whether the run of which this request is refused answered `Memory`, and whether it went as it should: it may also go on
+/// as if nothing had been refused, where a frame is then kept as it was given.
+fn one_refused(alloc: Global, nodes: u8, passed: u64) -> (bool, bool) {
+    let heap = Refusing::new(alloc, passed);
+    let ran = counted(&heap, nodes);
+    let is_refused = ran == Err(Fault::Memory);
+    (
+        is_refused,
+        heap.has_refused() && (is_refused || ran == Ok(true)),
+    )
+}
+
+/// How many requests for memory a run makes that goes as it should, or 0.
+fn requests(alloc: Global, nodes: u8) -> u64 {
+    let ample = Refusing::new(alloc, u64::MAX);
+    if counted(&ample, nodes) == Ok(true) {
+        ample.requests()
+    } else {
+        0
+    }
+}
+
+/// How many of the runs answered `Memory`, and whether all went as they should, where each request is refused in turn.
+fn refused_in_turn(alloc: Global, nodes: u8) -> (u64, bool) {
+    let mut refusals = 0u64;
+    let mut are_right = true;
+    for passed in 0..requests(alloc, nodes) {
+        let (is_refused, is_right) = one_refused(alloc, nodes, passed);
+        refusals = refusals.saturating_add(u64::from(is_refused));
+        are_right = are_right && is_right;
+    }
+    (refusals, are_right)
+}
+
+#[test]
+fn each_request_is_refused_in_turn(rt: HostRuntime) {
+    for nodes in [1, 3] {
+        let (refusals, are_right) = refused_in_turn(rt.alloc(), nodes);
+        assert!(rt;
+            refusals > 20 && are_right,
+            "{refusals} refusals of {nodes} nodes"
+        );
+    }
+}

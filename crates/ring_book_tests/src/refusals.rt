@@ -1,0 +1,193 @@
+//! What `check` and `enter` refuse, each time with a later call that works.
+
+ghost use Rattle.std.specs.Prelude.{◌≡◌};
+ghost use Rattle.ring_base.specs.Processors.{IsProc};
+
+use crate::driven::{Driven, FIRST, cell_of};
+use ring_base::{Fault, Fixed, Proc};
+use ring_book::{Book, BookName, Cell, FrameRef, Opening, Place};
+use ring_node::Input;
+use ring_object::Object;
+use ring_things::Counters;
+use ring_wire::decode_frame;
+use std::alloc::Allocator;
+use std::marker::Brand;
+
+/// Another place of the first line, and lines that aren't there.
+const ELSEWHERE: [FrameRef; 3] = [
+    FrameRef { line: 0, place: 1 },
+    FrameRef { line: 1, place: 0 },
+    FrameRef {
+        line: u32::MAX,
+        place: 0,
+    },
+];
+
+/// The bits of a byte.
+const BITS: [u8; 8] = [1, 2, 4, 8, 16, 32, 64, 128];
+
+/// Whether `check` takes these bytes as a stranger's.
+fn is_strange<O: Object, K: BookName<O::Alloc>>(
+    book: &mut Book<O, K>,
+    node: u8,
+    at: FrameRef,
+    bytes: &[u8],
+) -> bool
+    requires { IsProc node }
+{
+    book.check(Proc::new(node), at, bytes) == Err(Fault::Stranger)
+}
+
+/// Of how many processors the bytes are a stranger's.
+fn strange_nodes<O: Object, K: BookName<O::Alloc>>(book: &mut Book<O, K>, bytes: &[u8]) -> u32 {
+    let mut strange = 0u32;
+    for node in 1..17u8 {
+        strange = strange.saturating_add(u32::from(is_strange(book, node, FIRST, bytes)));
+    }
+    strange
+}
+
+/// At how many of the other places the bytes are a stranger's.
+fn strange_places<O: Object, K: BookName<O::Alloc>>(book: &mut Book<O, K>, bytes: &[u8]) -> u32 {
+    let mut strange = 0u32;
+    for at in ELSEWHERE {
+        strange = strange.saturating_add(u32::from(is_strange(book, 2, at, bytes)));
+    }
+    strange
+}
+
+/// Changes a bit of a byte, if it is there.
+fn flip(bytes: &mut [u8], place: usize, bit: u8) {
+    if let Some(byte) = bytes.get_mut(place) {
+        *byte ^= bit;
+    }
+}
+
+/// Whether the bytes with one bit changed are a stranger's. They are left as they were.
+fn is_strange_with<O: Object, K: BookName<O::Alloc>>(
+    book: &mut Book<O, K>,
+    bytes: &mut [u8],
+    place: usize,
+    bit: u8,
+) -> bool {
+    flip(bytes, place, bit);
+    let is = is_strange(book, 2, FIRST, bytes);
+    flip(bytes, place, bit);
+    is
+}
+
+/// With how many of the bits changed the bytes are a stranger's.
+fn strange_bits<O: Object, K: BookName<O::Alloc>>(
+    book: &mut Book<O, K>,
+    bytes: &mut [u8],
+) -> usize {
+    let mut strange = 0usize;
+    for place in 0..bytes.len() {
+        for bit in BITS {
+            let is = is_strange_with(book, bytes, place, bit);
+            strange = strange.saturating_add(usize::from(is));
+        }
+    }
+    strange
+}
+
+/// The join of processor 1 goes to processor 2 alone. To how many nodes, at how many places and with how many bits changed
+/// it is a stranger's, how many bytes it has, and whether it is a stranger's as it was sent.
+fn refused_bytes<O: Object, K: BookName<O::Alloc>>(
+    alloc: O::Alloc,
+    opening: Opening<O>,
+) -> Result<(u32, u32, usize, usize, bool), Fault>
+    requires { opening ≡ K.name }
+{
+    let mut driven = Driven::<O, K>::new(alloc, opening)?;
+    driven.time(1)?;
+    let mut sent = driven.spelled(FIRST)?;
+    let nodes = strange_nodes(&mut driven.book, sent.as_slice());
+    let places = strange_places(&mut driven.book, sent.as_slice());
+    let bits = strange_bits(&mut driven.book, sent.as_mut_slice());
+    let is = is_strange(&mut driven.book, 2, FIRST, sent.as_slice());
+    Ok((nodes, places, bits, sent.len(), is))
+}
+
+/// The refusal of entering a step, if it is refused, and how many places are used or reserved then.
+type Entered = (Option<Fault>, u32);
+
+/// Enters the cell's step.
+fn entered<O: Object, K: BookName<O::Alloc>>(
+    book: &mut Book<O, K>,
+    place: Place,
+    cell: &mut Cell<O, K>,
+) -> Entered {
+    let refusal = match book.enter(place, cell) {
+        Ok(_) => None,
+        Err(fault) => Some(fault),
+    };
+    (refusal, book.places())
+}
+
+/// At processor 2 nothing is left to enter, and then a frame that doesn't stand where it is said to.
+fn entered_at_two<O: Object, K: BookName<O::Alloc>>(
+    driven: &mut Driven<O, K>,
+    place: Place,
+) -> Result<(Entered, Entered), Fault> {
+    let sent = driven.spelled(FIRST)?;
+    let frame = decode_frame(driven.alloc, sent.as_slice())?;
+    let cell = cell_of(driven.cells.as_mut_slice(), 2)?;
+    let nothing = entered(&mut driven.book, place, cell);
+    cell.step(Input::Frame(frame), ELSEWHERE[0])?;
+    Ok((nothing, entered(&mut driven.book, place, cell)))
+}
+
+/// At processor 1 a step takes the reserved place, and none is left for the next.
+fn entered_at_one<O: Object, K: BookName<O::Alloc>>(
+    driven: &mut Driven<O, K>,
+    place: Place,
+) -> Result<(Entered, Entered), Fault> {
+    let cell = cell_of(driven.cells.as_mut_slice(), 1)?;
+    cell.step(Input::Noise, FIRST)?;
+    let step = entered(&mut driven.book, place, cell);
+    cell.step(Input::Noise, FIRST)?;
+    Ok((step, entered(&mut driven.book, place, cell)))
+}
+
+/// One place is reserved, for which both processors enter.
+fn refused_entries<O: Object, K: BookName<O::Alloc>>(
+    alloc: O::Alloc,
+    opening: Opening<O>,
+) -> Result<((Entered, Entered), (Entered, Entered)), Fault>
+    requires { opening ≡ K.name }
+{
+    let mut driven = Driven::<O, K>::new(alloc, opening)?;
+    driven.time(1)?;
+    let place = driven.book.reserve()?;
+    let at_two = entered_at_two(&mut driven, place)?;
+    Ok((at_two, entered_at_one(&mut driven, place)?))
+}
+
+/// Bytes refused by a book of counters of two.
+fn counted_bytes<A: Allocator + Copy + Drop>(
+    alloc: A,
+) -> Result<(u32, u32, usize, usize, bool), Fault> {
+    let opening = Opening::<Counters<A>>::new(alloc, Fixed::new(2)?)?;
+    refused_bytes::<Counters<A>, Brand>(alloc, opening)
+}
+
+/// Entries refused by a book of counters of two.
+fn counted_entries<A: Allocator + Copy + Drop>(
+    alloc: A,
+) -> Result<((Entered, Entered), (Entered, Entered)), Fault> {
+    let opening = Opening::<Counters<A>>::new(alloc, Fixed::new(2)?)?;
+    refused_entries::<Counters<A>, Brand>(alloc, opening)
+}
+
+#[test]
+fn strange_bytes(rt: HostRuntime) {
+    assert_eq!(rt; counted_bytes(rt.alloc()), Ok((15, 3, 168, 21, false)));
+}
+
+#[test]
+fn strange_entries(rt: HostRuntime) {
+    let refused = (Some(Fault::Stranger), 2);
+    let entries = ((refused, refused), ((None, 2), refused));
+    assert_eq!(rt; counted_entries(rt.alloc()), Ok(entries));
+}

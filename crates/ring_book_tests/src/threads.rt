@@ -1,0 +1,67 @@
+//! A cell and a book that go to another thread.
+
+ghost use Rattle.std.specs.Prelude.{◌≡◌};
+
+use crate::driven::Driven;
+use ring_base::{Fault, Fixed};
+use ring_book::{Book, BookName, Cell, Opening};
+use ring_object::Object;
+use ring_things::Counters;
+use std::alloc::Global;
+use std::marker::Brand;
+use std::thread;
+use std::thread::Threads;
+
+/// Lends what may go to another thread.
+fn sends<T: Send>(_: &T) {}
+
+/// A cell may go to another thread wherever its object and its name may, and its memory may be shared.
+fn lend_cell<O: Object + Send, K: BookName<O::Alloc> + Send>(cell: &Cell<O, K>)
+where
+    O::Alloc: Send + Sync,
+{
+    sends(cell)
+}
+
+/// And so may a book.
+fn lend_book<O: Object + Send, K: BookName<O::Alloc> + Send>(book: &Book<O, K>)
+where
+    O::Alloc: Send + Sync,
+{
+    sends(book)
+}
+
+/// A cell and a book are made here. A step is done and entered in another thread, and seen here: what it answered, and how
+/// many places are used.
+fn stepped_there<O: Object + Send, K: BookName<O::Alloc> + Send + Sync, R: Threads + Sync>(
+    rt: &R,
+    alloc: O::Alloc,
+    opening: Opening<O>,
+) -> Result<(Result<(), Fault>, u32), Fault>
+where
+    O::Alloc: Send + Sync,
+    requires { opening ≡ K.name }
+{
+    let mut driven = Driven::<O, K>::new(alloc, opening)?;
+    lend_book(&driven.book);
+    for cell in driven.cells.as_slice() {
+        lend_cell(cell);
+    }
+    let lent = &mut driven;
+    let (done, ()) = thread::join(rt, move || lent.time(1), || ());
+    Ok((done, driven.book.places()))
+}
+
+/// The same of counters.
+fn counted_there<R: Threads + Sync>(
+    rt: &R,
+    alloc: Global,
+) -> Result<(Result<(), Fault>, u32), Fault> {
+    let opening = Opening::<Counters>::new(alloc, Fixed::new(1)?)?;
+    stepped_there::<Counters, Brand, R>(rt, alloc, opening)
+}
+
+#[test]
+fn a_step_in_another_thread(rt: HostRuntime) {
+    assert_eq!(rt; counted_there(&rt, rt.alloc()), Ok((Ok(()), 1)));
+}
