@@ -3,10 +3,12 @@
 -- Journaling: A cell whose journal got one more step.
 -- Places: Lists, by place.
 -- Entering: A step goes from a cell's journal to the book.
+-- Looking: What the book finds at the end of a cell's ring.
 -- Opened: Openings that grow.
 pub mod Keeping
 pub mod Stops
 pub mod Journaling
 pub mod Places
 pub mod Entering
+pub mod Looking
 pub mod Opened
