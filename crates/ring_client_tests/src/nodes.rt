@@ -1,47 +1,148 @@
-//! Ports over nodes, all on one thread: a poll lets the node's ring take a turn.
+//! Ports over nodes, all on one thread: a poll lets the node's ring take a turn. A ring of one hears its own frames, which
+//! are those of `docs/FORMATS.md`, byte by byte.
+
+ghost use Rattle.std.specs.Prelude.{IfOk, IfSome};
+ghost use Rattle.ring_client.specs.Asking.{IsTold};
+ghost use Rattle.ring_machine.specs.Limits.{InputFits};
 
 use crate::scripted::told;
 use ring_base::{Fault, Fixed, Kind};
 use ring_client::{Asked, Client, Port};
+use ring_node::{Input, Node};
 use ring_object::{Object, Reply};
-use ring_one::{Input, Node, Outs, Ticket};
 use ring_payload::Call;
 use ring_session::Answer;
 use ring_things::Counters;
+use ring_ticket::Ticket;
+use ring_wire::{Frame, Wire};
+use std::alloc::Allocator;
 use std::process::Abort;
 use std::test::Fail;
 
-/// A port to the node of a ring of one.
+/// A node that is alone, and the turns that its ring took.
+#[derive(Drop)]
+struct Alone<O: Object> {
+    alloc: O::Alloc,
+    node: Node<O>,
+    turns: u8,
+}
+
+impl<O: Object> Alone<O> {
+    /// The node at its opening.
+    fn new(alloc: O::Alloc) -> Result<Alone<O>, Fault> {
+        let fixed = Fixed::new(1)?;
+        Ok(Alone {
+            alloc,
+            node: Node::new(alloc, fixed, fixed.proc(1)?)?,
+            turns: 0,
+        })
+    }
+
+    /// Stops the node.
+    fn stop(&mut self) -> Result<(), Fault> {
+        self.node.step(Input::Stop)?;
+        Ok(())
+    }
+
+    /// Submits a call, which the node copies.
+    fn submit(&mut self, call: &Call<O::Alloc>) -> Result<Ticket, Fault> {
+        self.node.submit_on(call)
+    }
+
+    /// The answer to a ticket, if it came and a call can have it.
+    fn reply(&self, ticket: &Ticket) -> Option<Answer>
+        ensures { IfSome result IsTold }
+    {
+        self.node.reply(*ticket).and_then(told)
+    }
+
+    /// Lets the ring take a turn.
+    fn turn(&mut self) -> Result<(), Fault> {
+        let input = heard(self.alloc, self.turns)?;
+        self.turns = self.turns.saturating_add(1);
+        self.node.step(input)?;
+        Ok(())
+    }
+}
+
+/// The commit token of ring 1.1 of processor 1 alone, at this hop.
+fn commit(hop: u8) -> [u8; 77] {
+    let mut bytes = [0u8; 77];
+    bytes[0] = 0x54;
+    bytes[1] = 0x52;
+    bytes[2] = 1;
+    bytes[3] = 4;
+    bytes[7] = 69;
+    bytes[15] = 1;
+    bytes[16] = 1;
+    bytes[18] = 1;
+    bytes[19] = hop;
+    bytes[28] = 1;
+    bytes
+}
+
+/// The token of ring 1.1 of this number, where so many messages were sent and all are held.
+fn token(number: u8, messages: u8) -> [u8; 43] {
+    let mut bytes = [0u8; 43];
+    bytes[0] = 0x54;
+    bytes[1] = 0x52;
+    bytes[2] = 1;
+    bytes[3] = 2;
+    bytes[7] = 35;
+    bytes[15] = 1;
+    bytes[16] = 1;
+    bytes[24] = number;
+    bytes[32] = messages;
+    bytes[40] = messages;
+    bytes
+}
+
+/// The frame that these bytes spell.
+fn frame_of<A: Allocator + Copy>(alloc: A, bytes: &[u8]) -> Result<Input<A>, Fault>
+    ensures { IfOk result (λ input. InputFits input) }
+{
+    let (frame, _) = Frame::<A>::get(alloc, bytes)?;
+    Ok(Input::Frame(frame))
+}
+
+/// What the node of a ring of one hears at the turn of this number, counted from 0, where its first call waits for the ring
+/// and its second comes once the first was answered: the token of number 4 is the first that counts the first call, that of
+/// number 6 the first that counts the second.
+fn heard<A: Allocator + Copy>(alloc: A, turn: u8) -> Result<Input<A>, Fault>
+    ensures { IfOk result (λ input. InputFits input) }
+{
+    match turn {
+        0 => Ok(Input::Timeout(Kind::Join)),
+        1 => frame_of(alloc, &commit(1)),
+        2 => frame_of(alloc, &commit(2)),
+        3 => frame_of(alloc, &token(1, 1)),
+        4 => frame_of(alloc, &token(2, 1)),
+        5 => frame_of(alloc, &token(3, 2)),
+        6 => frame_of(alloc, &token(4, 3)),
+        7 => frame_of(alloc, &token(5, 3)),
+        8 => frame_of(alloc, &token(6, 4)),
+        _ => Ok(Input::Noise),
+    }
+}
+
+/// A port to such a node.
 #[derive(Drop)]
 struct NodePort<O: Object> {
-    node: Node<O>,
-    /// What the node is given next, if its ring turns.
-    next: Option<Input<O::Alloc>>,
+    alone: Alone<O>,
+    /// Whether a poll lets the ring take a turn.
+    is_turning: bool,
     asked: Asked,
 }
 
 impl<O: Object> NodePort<O> {
-    /// A node at its opening, which begins with this input.
-    fn new(alloc: O::Alloc, first: Option<Input<O::Alloc>>) -> Result<NodePort<O>, Fault> {
-        let fixed = Fixed::new(1)?;
+    /// A node at its opening, whose ring turns or doesn't.
+    fn new(alloc: O::Alloc, is_turning: bool) -> Result<NodePort<O>, Fault> {
         Ok(NodePort {
-            node: Node::new(alloc, fixed, fixed.proc(1)?)?,
-            next: first,
+            alone: Alone::new(alloc)?,
+            is_turning,
             asked: Asked::new(),
         })
     }
-}
-
-/// Gives the node its next input, and keeps the frame that it sends as the one after it.
-fn turn<O: Object>(node: &mut Node<O>, next: &mut Option<Input<O::Alloc>>) -> Result<(), Fault> {
-    let Some(input) = next.take() else {
-        return Ok(());
-    };
-    let Outs { frames, answers: _ } = node.step(input)?;
-    for frame in frames {
-        *next = Some(Input::Frame(frame));
-    }
-    Ok(())
 }
 
 impl<O: Object> Port for NodePort<O> {
@@ -53,18 +154,18 @@ impl<O: Object> Port for NodePort<O> {
 
     fn submit(&mut self, call: &Call<O::Alloc>) -> Result<Ticket, Fault> {
         self.asked.note_submit(call);
-        let submit = self.node.submit_on(call);
+        let submit = self.alone.submit(call);
         if let Err(fault) = submit {
             self.asked.note_refusal(fault);
         }
         submit
     }
 
-    /// Looks for the answer, and where there is none, lets the node take a turn. A turn that is refused stops the node.
+    /// Looks for the answer, and where there is none, lets the ring take a turn. A turn that is refused stops the node.
     fn poll(&mut self, ticket: &Ticket) -> Option<Answer> {
-        let answer = self.node.reply(*ticket).and_then(told);
-        if answer.is_none() {
-            let _ = turn(&mut self.node, &mut self.next);
+        let answer = self.alone.reply(ticket);
+        if answer.is_none() && self.is_turning {
+            let _ = self.alone.turn();
         }
         self.asked.note_poll(answer);
         answer
@@ -88,19 +189,19 @@ fn counted(count: u8) -> Reply {
 
 /// A node that has stopped.
 fn stopped<O: Object>(alloc: O::Alloc) -> Result<NodePort<O>, Fault> {
-    let mut port = NodePort::new(alloc, None)?;
-    port.node.step(Input::Stop)?;
+    let mut port = NodePort::new(alloc, false)?;
+    port.alone.stop()?;
     Ok(port)
 }
 
 /// A node that hears nothing, so that its ring never forms.
 fn cut_off<O: Object>(alloc: O::Alloc) -> Result<NodePort<O>, Fault> {
-    NodePort::new(alloc, None)
+    NodePort::new(alloc, false)
 }
 
 /// A node whose ring forms, and answers.
 fn alive<O: Object>(alloc: O::Alloc) -> Result<NodePort<O>, Fault> {
-    NodePort::new(alloc, Some(Input::Timeout(Kind::Join)))
+    NodePort::new(alloc, true)
 }
 
 /// What the ports were asked last: the number, the refusal, and how many polls came.

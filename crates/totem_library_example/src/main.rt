@@ -1,10 +1,11 @@
 //! A node of a ring and an object, driven from a program of one's own: a client's call goes round and is answered.
 #![tactic(auto)]
 
-use ring_base::{Fault, Fixed, Kind};
+mod alone;
+
+use alone::Alone;
+use ring_base::Fault;
 use ring_object::{Object, Reply};
-use ring_one::{Input, Node};
-use ring_payload::Call;
 use ring_session::Answer;
 use ring_things::Counters;
 use std::process::ExitCode;
@@ -39,14 +40,11 @@ fn count_of(reply: &Reply) -> u8 {
 
 /// Submits client 7's call number 1, and hands the node its own frames until the call is answered.
 fn answered<O: Object>(alloc: O::Alloc) -> Result<Option<Answer>, Fault> {
-    let group = Fixed::new(1)?;
-    let mut node: Node<O> = Node::new(alloc, group, group.proc(1)?)?;
-    let ticket = node.submit(Call::new(alloc, 7, 1, &ADD)?)?;
-    let mut outs = node.step(Input::Timeout(Kind::Join))?;
+    let mut node = Alone::<O>::new(alloc)?;
+    let ticket = node.submit(7, 1, &ADD)?;
+    node.time()?;
     for _ in 0..FRAMES {
-        if let Some(frame) = outs.frames.pop() {
-            outs = node.step(Input::Frame(frame))?;
-        }
+        node.hear()?;
     }
     Ok(node.reply(ticket))
 }
