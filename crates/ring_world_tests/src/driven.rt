@@ -1,12 +1,21 @@
 //! A world of nodes, driven line by line.
 
-ghost use Rattle.ring_history.specs.Limits.{EventFits};
-
-use crate::events::{Line, event_of};
+use crate::events::{Line, events_of};
+use crate::run;
 use crate::seen::write_world;
 use ring_base::{Fault, Fixed, ProcSet};
 use ring_object::Object;
-use ring_world::{Event, World};
+use ring_world::World;
+
+/// The events of the lines happen.
+pub fn run_lines<O: Object>(
+    world: &mut World<O>,
+    alloc: O::Alloc,
+    lines: &[Line],
+) -> Result<(), Fault> {
+    let events = events_of(alloc, lines)?;
+    run(world, &events)
+}
 
 /// A world of nodes, and the copies of its frames that were not handed over yet: of one frame those to some receivers,
 /// and of each frame after it all.
@@ -30,23 +39,15 @@ impl<O: Object> Driven<O> {
         })
     }
 
-    /// An event happens.
-    fn happen(&mut self, event: Event<O::Alloc>) -> Result<(), Fault>
-        requires { EventFits event }
-    {
-        self.world.run(&[event])
-    }
-
     /// The event of the line happens.
-    fn play_event(&mut self, line: Line) -> Result<(), Fault> {
-        let event = event_of(self.alloc, line)?;
-        self.happen(event)
+    fn happen(&mut self, line: Line) -> Result<(), Fault> {
+        run_lines(&mut self.world, self.alloc, &[line])
     }
 
     /// So many calls of client 7 are submitted at node 1, from number 1 on.
     fn issue_all(&mut self, many: u8) -> Result<(), Fault> {
         for before in 0..many {
-            self.play_event(Line::Issue(1, before.saturating_add(1)))?;
+            self.happen(Line::Issue(1, before.saturating_add(1)))?;
         }
         Ok(())
     }
@@ -75,7 +76,7 @@ impl<O: Object> Driven<O> {
         match self.receivers.smallest() {
             Some(receiver) => {
                 self.receivers = self.receivers.less(ProcSet::only(receiver));
-                self.happen(Event::Deliver(receiver, self.frame))
+                self.happen(Line::Hand(receiver.number(), self.frame))
             }
             None => Ok(()),
         }
@@ -95,7 +96,7 @@ impl<O: Object> Driven<O> {
             Line::Pump(turns) => self.pump(turns),
             Line::Issues(many) => self.issue_all(many),
             Line::Show => write_world(shown, &self.world),
-            _ => self.play_event(line),
+            _ => self.happen(line),
         }
     }
 }

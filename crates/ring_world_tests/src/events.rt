@@ -33,7 +33,7 @@ pub enum Line {
 }
 
 /// The processor of this number.
-pub fn processor(number: u8) -> Result<Proc, Fault> {
+fn processor(number: u8) -> Result<Proc, Fault> {
     let any = Fixed::new(MOST_PROCESSORS)?;
     any.proc(number)
 }
@@ -64,7 +64,7 @@ fn noise<A: Allocator + Copy>(alloc: A, node: Proc) -> Result<Event<A>, Fault>
 }
 
 /// The event of a line that is one.
-pub fn event_of<A: Allocator + Copy>(alloc: A, line: Line) -> Result<Event<A>, Fault>
+fn event_of<A: Allocator + Copy>(alloc: A, line: Line) -> Result<Event<A>, Fault>
     ensures { IfOk result (λ event. EventFits event) }
 {
     match line {

@@ -4,7 +4,7 @@
 
 mod knowing;
 
-pub use knowing::{agreed, explained, goes_on};
+pub use knowing::run;
 
 #[cfg(test)]
 mod driven;

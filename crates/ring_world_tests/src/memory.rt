@@ -1,6 +1,7 @@
 //! Each request for memory of a short run refused in turn.
 
-use crate::events::{Line, events_of};
+use crate::driven::run_lines;
+use crate::events::Line;
 use refusing_alloc::Refusing;
 use ring_base::{Fault, Fixed};
 use ring_object::Object;
@@ -35,9 +36,7 @@ fn opened<O: Object>(heap: O::Alloc) -> Result<(World<O>, u64), Fault> {
 
 /// Runs the short run from this place on.
 fn run_from<O: Object>(world: &mut World<O>, ample: O::Alloc, place: usize) -> Result<(), Fault> {
-    let rest = SHORT_RUN.get(place..).unwrap_or(&[]);
-    let events = events_of(ample, rest)?;
-    world.run(&events)
+    run_lines(world, ample, SHORT_RUN.get(place..).unwrap_or(&[]))
 }
 
 /// How often the world itself was refused memory in the short run, all of which it does: it tells how many events it had done.

@@ -3,11 +3,7 @@
 
 use crate::driven::played;
 use crate::events::Line;
-use crate::knowing::{agreed, explained, goes_on};
-use ring_base::{Fault, Fixed, Kind, State};
-use ring_object::Object;
 use ring_things::Counters;
-use ring_world::{Event, World};
 use std::test::Fail;
 
 /// One node alone forms its ring, and answers a call as its token comes the second time after the call went out.
@@ -132,28 +128,5 @@ fn worlds_show_what_is_worked_out(rt: HostRuntime) -> Result<(), Fail> {
         let shown = played::<Counters>(rt.alloc(), count, lines)?;
         assert_eq!(rt; shown.as_str(), want);
     }
-    Ok(())
-}
-
-/// What is seen of one node that is handed its first two frames, where the caller knows what a run keeps: how many of the
-/// last events were done, and the node's state.
-fn seen_by_knowing<O: Object>(alloc: O::Alloc) -> Result<(u64, State), Fault> {
-    let fixed = Fixed::new(1)?;
-    let node = fixed.proc(1)?;
-    let mut world = World::<O>::new(alloc, fixed)?;
-    explained(&mut world, &[Event::Timeout(node, Kind::Join)])?;
-    goes_on(&mut world, &[Event::Deliver(node, 1)])?;
-    agreed(
-        &mut world,
-        &[Event::Deliver(node, 1), Event::Deliver(node, 2)],
-    )?;
-    let node = world.node(world.fixed().proc(1)?);
-    Ok((world.done(), node.state()))
-}
-
-#[test]
-fn a_caller_knows(rt: HostRuntime) -> Result<(), Fail> {
-    let seen = seen_by_knowing::<Counters>(rt.alloc())?;
-    assert_eq!(rt; seen, (2, State::Recovery));
     Ok(())
 }
