@@ -1,7 +1,7 @@
 -- The events so far keep the limits.
 use Rattle.std.specs.List.{AllByRecursion}
 use Rattle.ring_history.specs.Limits.{EventFits}
-use Rattle.ring_world_tests.proofs.memory.events_from.Given as goal
+use Rattle.ring_world_tests.proofs.events.events_of.Given as goal
 
 abbrev pub invariant-loop-line : goal.invariant-loop-line
 invariant-loop-line g l = AllByRecursion EventFits l.events.items

@@ -1,18 +1,18 @@
-// Not proved yet: its three tests ran and passed, no check has run. Dependencies: refusing_alloc ring_base ring_object ring_payload ring_session ring_wire ring_things ring_history ring_world.
 //! What no contract of worlds of nodes says: worked runs of one node and of three, that each call succeeds where memory
 //! is left, and each request for memory of a short run refused in turn; and what a caller knows of a world after a run.
 #![tactic(auto)]
+
+mod knowing;
+
+pub use knowing::run;
 
 #[cfg(test)]
 mod driven;
 #[cfg(test)]
 mod events;
-mod knowing;
 #[cfg(test)]
 mod memory;
 #[cfg(test)]
 mod seen;
 #[cfg(test)]
 mod tests;
-
-pub use knowing::{explained, goes_on};

@@ -1,0 +1,139 @@
+//! Each request for memory of a short run refused in turn.
+
+use crate::driven::run_lines;
+use crate::events::Line;
+use refusing_alloc::Refusing;
+use ring_base::{Fault, Fixed};
+use ring_object::Object;
+use ring_things::Counters;
+use ring_world::{Event, Told, World};
+use std::alloc::Allocator;
+use std::process::Abort;
+use std::test::Fail;
+
+/// One node forms its ring, takes a call while it does, and one in the ring, and answers both.
+const SHORT_RUN: [Line; 9] = [
+    Line::Join(1),
+    Line::Hand(1, 1),
+    Line::Issue(1, 1),
+    Line::Hand(1, 2),
+    Line::Hand(1, 3),
+    Line::Hand(1, 4),
+    Line::Issue(1, 2),
+    Line::Hand(1, 5),
+    Line::Hand(1, 6),
+];
+
+/// A world of one node at its opening, made at the second try if it was refused memory, and how often it was.
+fn opened<O: Object>(heap: O::Alloc) -> Result<(World<O>, u64), Fault> {
+    let fixed = Fixed::new(1)?;
+    match World::new(heap, fixed) {
+        Ok(world) => Ok((world, 0)),
+        Err(Fault::Memory) => Ok((World::new(heap, fixed)?, 1)),
+        Err(fault) => Err(fault),
+    }
+}
+
+/// Runs the short run from this place on.
+fn run_from<O: Object>(world: &mut World<O>, ample: O::Alloc, place: usize) -> Result<(), Fault> {
+    run_lines(world, ample, SHORT_RUN.get(place..).unwrap_or(&[]))
+}
+
+/// How often the world itself was refused memory in the short run, all of which it does: it tells how many events it had done.
+fn refused_runs<O: Object>(world: &mut World<O>, ample: O::Alloc) -> Result<u64, Fault> {
+    match run_from(world, ample, 0) {
+        Ok(()) => Ok(0),
+        Err(Fault::Memory) => {
+            let done = world.done() as usize;
+            run_from(world, ample, done)?;
+            Ok(1)
+        }
+        Err(fault) => Err(fault),
+    }
+}
+
+/// How often a node was refused memory in its step, which stands as its stop.
+fn stops<A: Allocator + Copy>(events: &[Event<A>]) -> u64 {
+    let mut stops = 0u64;
+    for event in events {
+        if let Event::Stop(_) = event {
+            stops = stops.saturating_add(1);
+        }
+    }
+    stops
+}
+
+/// How many calls were answered, and how many submits were refused memory.
+fn answers_and_refusals<A: Allocator + Copy>(told: &[Told<A>]) -> (u64, u64) {
+    let (mut answers, mut refusals) = (0u64, 0u64);
+    for one in told {
+        match one {
+            Told::Answer(_, _, _) => answers = answers.saturating_add(1),
+            Told::Refused(_, _, reason) => {
+                let is_of_memory = *reason == Fault::Memory.number();
+                refusals = refusals.saturating_add(u64::from(is_of_memory));
+            }
+        }
+    }
+    (answers, refusals)
+}
+
+/// How often memory was refused in the steps and submits of the short run. Where no step was, both calls are answered, but
+/// for one whose submit was refused.
+fn refused_events<O: Object>(rt: &impl Abort, world: &World<O>) -> u64 {
+    let stops = stops(world.events());
+    let (answers, refusals) = answers_and_refusals(world.told());
+    assert!(rt; stops == 1 || answers.saturating_add(refusals) == 2);
+    stops.saturating_add(refusals)
+}
+
+/// How often memory was refused to the order.
+fn refused_orders<O: Object>(world: &World<O>) -> Result<u64, Fault> {
+    match world.order() {
+        Ok(_) => Ok(0),
+        Err(Fault::Memory) => {
+            world.order()?;
+            Ok(1)
+        }
+        Err(fault) => Err(fault),
+    }
+}
+
+/// How often memory was refused to the copies of the committed places.
+fn refused_copies<O: Object>(world: &World<O>) -> Result<u64, Fault> {
+    let node = world.fixed().proc(1)?;
+    match world.committed(node) {
+        Ok(_) => Ok(0),
+        Err(Fault::Memory) => {
+            world.committed(node)?;
+            Ok(1)
+        }
+        Err(fault) => Err(fault),
+    }
+}
+
+/// How often memory was refused to a world that is opened, does the short run, and tells its order and a committed log.
+fn refusals<O: Object>(rt: &impl Abort, heap: O::Alloc, ample: O::Alloc) -> Result<u64, Fault> {
+    let (mut world, opening) = opened::<O>(heap)?;
+    let runs = refused_runs(&mut world, ample)?;
+    let events = refused_events(rt, &world);
+    let orders = refused_orders(&world)?;
+    let copies = refused_copies(&world)?;
+    let all = opening.saturating_add(runs).saturating_add(events);
+    Ok(all.saturating_add(orders).saturating_add(copies))
+}
+
+#[test]
+fn each_request_is_refused_in_turn(rt: HostRuntime) -> Result<(), Fail> {
+    let ample = Refusing::new(rt.alloc(), u64::MAX);
+    let heap = Refusing::new(rt.alloc(), u64::MAX);
+    assert_eq!(rt; refusals::<Counters<&Refusing>>(&rt, &heap, &ample)?, 0);
+    let requests = heap.requests();
+    assert!(rt; requests > 30, "{requests}");
+    for passed in 0..requests {
+        let heap = Refusing::new(rt.alloc(), passed);
+        let refused = refusals::<Counters<&Refusing>>(&rt, &heap, &ample)?;
+        assert_eq!(rt; refused, 1, "at {passed}");
+    }
+    Ok(())
+}
