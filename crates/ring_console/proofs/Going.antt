@@ -7,7 +7,7 @@ use Rattle.ring_history.specs.declared.event.Event.{Event}
 use Rattle.ring_script.specs.declared.line.Line.{Line}
 use Rattle.ring_script.specs.declared.line.Line.TheVariants.{Call, Deliver, Timeout, Noise, Stop, Cut, Heal, Pump, Show}
 use Rattle.ring_pump.specs.declared.pairs.Pair.{Pair}
-use Rattle.ring_world.specs.Played.{Played, Goes}
+use Rattle.ring_pump.specs.Played.{Played, Goes}
 use Rattle.ring_console.specs.Running.{RunView, hears, Rests, Comes, Turns, BreaksTurn, TurnsTimes, Pumps, Does, Breaks, Ends}
 
 module _ {O A : Type 0} (object : Sequential O) where

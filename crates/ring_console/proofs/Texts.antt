@@ -14,7 +14,7 @@ use Rattle.ring_script.specs.declared.line.Line.TheVariants.{Call, Deliver, Time
 use Rattle.ring_script.specs.declared.scripts.Numbered.{Numbered}
 use Rattle.ring_report.specs.declared.failure.Failure.{Failure}
 use Rattle.ring_report.specs.declared.failure.Failure.TheVariants.{Refused, BadFrame, BadScript, Output}
-use Rattle.ring_world.specs.Played.{Played}
+use Rattle.ring_pump.specs.Played.{Played}
 use Rattle.ring_history.specs.declared.told.Told.{Told}
 use Rattle.ring_report.specs.Texts.{line_of}
 use Rattle.ring_console.specs.Printed.{told_text, one_text}

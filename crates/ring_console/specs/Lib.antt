@@ -1,2 +1,3 @@
+pub use Rattle.ring_pump.specs.Played
 pub mod Printed
 pub mod Running

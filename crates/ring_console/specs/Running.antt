@@ -18,9 +18,9 @@ use Rattle.ring_script.specs.declared.scripts.Numbered.{Numbered}
 use Rattle.ring_report.specs.declared.failure.Failure.{Failure}
 use Rattle.ring_report.specs.declared.failure.Failure.TheVariants.{Output, Refused}
 use Rattle.ring_report.specs.Texts.{line_of}
-use Rattle.ring_pump.specs.declared.pairs.Pair.{Pair}
+pub use Rattle.ring_pump.specs.declared.pairs.Pair.{Pair}
 use Rattle.ring_pump.specs.Pumping.{Pumped, Rests as PumpRests, Happens as PumpHappens}
-use Rattle.ring_world.specs.Played.{Played, played_opening, world_of}
+use Rattle.ring_pump.specs.Played.{Played, played_opening, world_of}
 use Rattle.ring_console.specs.Printed.{told_text, node_text, order_text, legal_text}
 
 -- What contracts see of a run.

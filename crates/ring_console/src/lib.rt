@@ -8,9 +8,8 @@ mod run;
 mod running;
 
 pub use ring_listing::frames;
-pub use ring_pump::Pair;
+pub use ring_pump::{Pair, World};
 pub use ring_report::{Failure, report};
 pub use ring_script::{Groups, Line, Numbered, Rings, Script, ScriptFault};
-pub use ring_world::World;
 pub use run::Run;
 pub use running::{Things, script, script_check};

@@ -16,10 +16,9 @@ use crate::printed::{print_node, print_order, print_told};
 use ring_base::{Fault, Fixed, Proc};
 use ring_history::Event;
 use ring_object::Object;
-use ring_pump::{Pair, Pump};
+use ring_pump::{Pair, Pump, World};
 use ring_report::Failure;
 use ring_script::{Groups, Line, Script};
-use ring_world::World;
 use std::io::Write;
 use std::marker::Model;
 

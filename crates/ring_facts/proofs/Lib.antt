@@ -7,6 +7,8 @@
 --   was handed to it.
 -- Between: The facts hold as well between a step of a node's core and what the node then hands over: the cores are still those of a run of ring
 --   cores.
+pub use Rattle.ring_projection.proofs.Events
+pub use Rattle.ring_ready.proofs.Installed
 pub use Rattle.ring_texts.proofs.Worlds
 pub mod Lives
 pub mod Members

@@ -10,8 +10,8 @@ use Rattle.ring_object.specs.Operations.{Sequential}
 use Rattle.ring_payload.specs.declared.call.Call.{Call}
 use Rattle.ring_session.specs.SessionAnswer.{reply_in}
 use Rattle.ring_wire.specs.declared.frame.Frame.{Frame}
-use Rattle.ring_core.specs.State.{Sent, Carried}
-use Rattle.ring_ticket.specs.declared.answered.Answered.{Answered}
+use Rattle.ring_machine.specs.State.{Sent, Carried}
+use Rattle.ring_machine.specs.Stepping.{Answered}
 use Rattle.ring_machine.specs.declared.input.Input.{Input}
 use Rattle.ring_machine.specs.declared.input.Input.TheVariants.{Frame as FrameInput, Timeout as TimeInput}
 use Rattle.ring_machine.specs.Nodes.{Node, node_opening, node_committed, node_stopped}

@@ -5,6 +5,8 @@
 -- Steps: Each event of a run is a step by the rules of the one order, where the lives before and after it are orderly.
 -- Runs: In every run of at most 16 nodes the order explains the history, grows, and has what each node committed as a front.
 -- Bases: No base lacks committed places: it is so of the lives between a step of a core and what its node hands over, which are orderly too.
+pub use Rattle.ring_facts.proofs.Events
+pub use Rattle.ring_facts.proofs.Installed
 pub mod Told
 pub mod Handing
 pub mod Worlds

@@ -30,6 +30,7 @@ use Rattle.ring_history.specs.Worlds.{stopped_if, frame_at, stepped_if, handed_i
 use Rattle.ring_order.specs.Facts.{IsStay}
 use Rattle.ring_order.specs.Time.{IsKnownCall}
 use Rattle.std.specs.List.{AllByRecursion as Each}
+pub use Rattle.ring_facts.proofs.Worlds.{lives_on}
 use Rattle.ring_linear.proofs.Handing.{NodeKnows, step-known, submitted-known, stopped-known, knows-more}
 
 abbrev pub IssuedIn : {A : Type 0} → List (Item A) → Call A → Type 0

@@ -8,7 +8,7 @@ use Rattle.ring_machine.specs.Nodes.{node_committed}
 use Rattle.ring_history.specs.declared.event.Event.{Event}
 use Rattle.ring_history.specs.Orders.{EachGrows, AreOneLog, IsOrderStep}
 use Rattle.ring_history.specs.Worlds.{World, world_opening, happens, run, committed_in, moment_of}
-use Rattle.ring_discipline.proofs.Worlds.{lives_on}
+use Rattle.ring_linear.proofs.Worlds.{lives_on}
 use Rattle.ring_linear.proofs.Worlds.{WorldKnows, opening-knows, run-knows, event-knows}
 use Rattle.ring_linear.proofs.Orderly.{orderly, orderly-after}
 use Rattle.ring_linear.proofs.Steps.{order-step, committed-at, one-list}

@@ -1,3 +1,4 @@
+pub use Rattle.ring_core.specs.State
 pub mod Lives
 pub mod Nodes
 pub mod Dues

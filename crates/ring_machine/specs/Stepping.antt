@@ -14,7 +14,7 @@ use Rattle.ring_core.specs.State.{Core, Sent, Stepped}
 use Rattle.ring_core.specs.Stepping.{ring_step, after_inputs}
 use Rattle.ring_log.specs.Stays.{Stay, hands}
 use Rattle.ring_log.specs.Lives.{committed_of, is_sound}
-use Rattle.ring_ticket.specs.declared.answered.Answered.{Answered}
+pub use Rattle.ring_ticket.specs.declared.answered.Answered.{Answered}
 use Rattle.ring_ticket.specs.Tickets.{answers_after}
 use Rattle.ring_machine.specs.declared.input.Input.{Input}
 use Rattle.ring_machine.specs.declared.input.Input.TheVariants.{Frame, Noise, Timeout, Stop}

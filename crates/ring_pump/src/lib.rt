@@ -6,3 +6,4 @@ mod pump;
 
 pub use pairs::Pair;
 pub use pump::Pump;
+pub use ring_world::World;

@@ -1,3 +1,8 @@
+pub use Rattle.ring_commit.specs.Outcomes
+pub use Rattle.ring_commit.specs.Reports
+pub use Rattle.ring_commit.specs.Rounds
+pub use Rattle.ring_window.specs.Bits
+pub use Rattle.ring_window.specs.Held
 pub mod Chosen
 pub mod Plans
 pub mod Wrapping

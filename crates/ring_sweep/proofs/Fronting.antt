@@ -8,7 +8,7 @@ use Rattle.ring_base.specs.Fronts.{IsFront, front_trans, front_get}
 use Rattle.ring_payload.specs.declared.call.Call.{Call}
 use Rattle.ring_session.specs.Deduplicated.{count_of, client_count, takes_effect, deduplicated}
 use Rattle.ring_session.specs.DeduplicatedLaws.{deduplicated-push, deduplicated-front, get-push_last}
-use Rattle.ring_world.proofs.Playing.{take_more}
+use Rattle.ring_console.proofs.Playing.{take_more}
 
 -- So many of these calls were looked at, and so many places of the order are those that took effect.
 pub record IsInFront {A : Type 0} (calls order : List (Call A)) (k place : ℕ) : Type 0 where

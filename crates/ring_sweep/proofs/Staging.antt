@@ -10,13 +10,13 @@ use Rattle.ring_history.specs.declared.event.Event.TheVariants as events
 use Rattle.ring_script.specs.declared.line.Line.{Line}
 use Rattle.ring_script.specs.declared.line.Line.TheVariants.{Call, Deliver, Timeout, Noise, Stop, Cut, Heal, Pump, Show}
 use Rattle.ring_script.specs.declared.scripts.Numbered.{Numbered}
-use Rattle.ring_world.specs.Played.{Played, Goes as PlayedGoes}
+use Rattle.ring_console.specs.Played.{Played, Goes as PlayedGoes}
 use Rattle.ring_script.specs.Fits.{IsFit}
-use Rattle.ring_pump.specs.declared.pairs.Pair.{Pair}
+use Rattle.ring_console.specs.Running.{Pair}
 use Rattle.ring_console.specs.Running.{RunView, Does, Ends, Happens}
 use Rattle.ring_sweep.specs.declared.upset.Upset.{Upset}
 use Rattle.ring_sweep.specs.Variants.{turn, steps_in, steps_of, is_first_heard, is_event, bit, line_of_upset, Passes, IsDue, IsVariant}
-use Rattle.ring_world.proofs.Playing.{take_more}
+use Rattle.ring_console.proofs.Playing.{take_more}
 use Rattle.ring_sweep.specs.Stages.{Stage, stage, IsCopyOf, is_due, Strikes, PutsIn, Readies, Steps, Goes}
 
 -- nothing is due where nothing is pending

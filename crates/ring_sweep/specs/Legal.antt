@@ -8,7 +8,7 @@ use Rattle.ring_session.specs.Deduplicated.{deduplicated}
 use Rattle.ring_machine.specs.Nodes.{node_committed}
 use Rattle.ring_history.specs.Histories.{IsLinearization}
 use Rattle.ring_history.specs.Worlds.{order}
-use Rattle.ring_world.specs.Played.{Played, world_of}
+use Rattle.ring_console.specs.Played.{Played, world_of}
 
 module _ {O : Type 0} (object : Sequential O) where
   -- the calls that take effect of what each node committed are a front of these

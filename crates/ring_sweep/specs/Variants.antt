@@ -8,7 +8,7 @@ use Rattle.ring_script.specs.Cuts.{apart}
 use Rattle.ring_script.specs.declared.line.Line.{Line}
 use Rattle.ring_script.specs.declared.line.Line.TheVariants.{Call, Deliver, Timeout, Noise, Stop, Cut, Heal, Pump, Show}
 use Rattle.ring_script.specs.declared.scripts.Numbered.{Numbered}
-use Rattle.ring_pump.specs.declared.pairs.Pair.{Pair}
+use Rattle.ring_console.specs.Running.{Pair}
 use Rattle.ring_console.specs.Running.{RunView, run_opening, hears, Does}
 use Rattle.ring_sweep.specs.declared.upset.Blow.{Blow}
 use Rattle.ring_sweep.specs.declared.upset.Blow.TheVariants as blows

@@ -9,4 +9,5 @@ mod upset;
 mod variant;
 
 pub use laws::variants_law;
+pub use ring_console::{Failure, frames, report, script, script_check};
 pub use sweeping::{sweep, sweep_watched};

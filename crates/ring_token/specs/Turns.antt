@@ -5,7 +5,7 @@ use Rattle.std.specs.List.{list_all}
 use Rattle.ring_base.specs.Rings.{same_ring}
 use Rattle.ring_base.specs.Numbers.{max_number, greatest}
 use Rattle.ring_base.specs.declared.ring_id.RingId.{RingId}
-use Rattle.ring_payload.specs.declared.content.Payload.{Payload}
+use Rattle.ring_wire.specs.Messages.{Payload}
 use Rattle.ring_wire.specs.declared.token.Token.{Token}
 
 -- a visit as a fact: the token as it came, the front once the new messages were held, these, and the token as it went

@@ -3,7 +3,7 @@
 ghost use Rattle.std.specs.Prelude.{◌≡◌, ℕ, ◌+◌, ◌<◌, ◌≤◌, ◌&&◌, List, length, nat_lt, nat_le, true};
 ghost use Rattle.ring_base.specs.Numbers.{max_number};
 ghost use Rattle.ring_base.specs.Rings.{same_ring};
-ghost use Rattle.ring_payload.specs.declared.content.Payload.{Payload as OnePayload};
+ghost use Rattle.ring_wire.specs.Messages.{Payload as OnePayload};
 ghost use Rattle.ring_token.specs.Turns.{is_accepted};
 ghost use Rattle.ring_token.specs.Visits.{may_set, token_after};
 ghost use Rattle.ring_token.specs.Histories.{unvisited, turn_by, with_turn, with_raise, mark_of};

@@ -1,3 +1,4 @@
+pub use Rattle.ring_payload.specs.Limits
 pub mod Ascending
 pub mod Commits
 pub mod Entries

@@ -11,7 +11,7 @@ use Rattle.ring_layout.specs.Reading.{IsFormat, such_at, made_at, ◌⊕◌}
 use Rattle.ring_layout.specs.Formats.{Format, word8, ◌&◌, tested_format}
 use Rattle.ring_layout.specs.Processors.{proc, proc_spelling}
 use Rattle.ring_layout.specs.Rings.{ring, ring_spelling, RingFits}
-use Rattle.ring_payload.specs.declared.content.Payload.{Payload}
+pub use Rattle.ring_payload.specs.declared.content.Payload.{Payload}
 use Rattle.ring_payload.specs.declared.content.Payload.TheVariants.{Call, Wrapped, End, Head, Part, Pack, Snap}
 use Rattle.ring_payload.specs.Payloads.{payload, payload_spelling, PayloadFits}
 use Rattle.ring_wire.specs.declared.message.Message.{Message}

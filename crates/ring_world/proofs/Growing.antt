@@ -23,7 +23,7 @@ use Rattle.ring_machine.specs.Stepping.{settled, walked, after_core, node_step}
 use Rattle.ring_history.specs.declared.event.Event.{Event}
 use Rattle.ring_history.specs.Orders.{EachGrows}
 use Rattle.ring_history.specs.Worlds.{World, world_opening, run, happens, put, is_node, after_step, stepped, stepped_if, committed_in}
-use Rattle.ring_discipline.proofs.Worlds.{lives_on}
+use Rattle.ring_linear.proofs.Worlds.{lives_on}
 use Rattle.ring_linear.proofs.Orderly.{run-more, orderly, orderly-after}
 use Rattle.ring_linear.proofs.Steps.{order-step, committed-at}
 use Rattle.ring_linear.proofs.Worlds.{WorldKnows, run-knows, opening-knows}

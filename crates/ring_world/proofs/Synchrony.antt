@@ -7,9 +7,9 @@ use Rattle.ring_history.specs.declared.event.Event.{Event}
 use Rattle.ring_history.specs.Worlds.{world_opening, run}
 use Rattle.ring_chain.specs.Told.{NameSameMembers}
 use Rattle.ring_chain.proofs.Parts.{unformed_same_members}
-use Rattle.ring_projection.proofs.Events.{ring_run}
-use Rattle.ring_ready.proofs.Installed.{all_synchronous}
-use Rattle.ring_views.specs.Synchrony.{IsVirtuallySynchronous}
+use Rattle.ring_linear.proofs.Events.{ring_run}
+use Rattle.ring_linear.proofs.Installed.{all_synchronous}
+use Rattle.ring_linear.specs.Synchrony.{IsVirtuallySynchronous}
 use Rattle.ring_world.specs.Synchronous.{IsSynchronous}
 
 pub synchronous_run : {O A : Type 0} (object : Sequential O) (group : Group) (events : List (Event A))

@@ -2,8 +2,8 @@
 use Rattle.ring_base.specs.Group.{Group}
 use Rattle.ring_history.specs.Worlds.{World}
 use Rattle.ring_chain.specs.Told.{NameSameMembers}
-use Rattle.ring_projection.specs.Projection.{IsRingRun, ring_part}
-use Rattle.ring_views.specs.Synchrony.{IsVirtuallySynchronous}
+use Rattle.ring_linear.specs.Projection.{IsRingRun, ring_part}
+use Rattle.ring_linear.specs.Synchrony.{IsVirtuallySynchronous}
 
 -- the nodes' cores and frames are those of a run of ring cores, by which these gave the outputs that make it
 -- synchronous; and all who take part in a ring name the same members of it

@@ -14,7 +14,7 @@ use Rattle.ring_history.specs.declared.event.Event.TheVariants.{Issue}
 use Rattle.ring_history.specs.declared.told.Told.{Told}
 use Rattle.ring_history.specs.declared.told.Told.TheVariants.{Refused}
 use Rattle.ring_history.specs.Worlds.{World, issued_if, issued_or, is_node}
-use Rattle.ring_world.specs.Played.{Played, Goes, world_of, told_behind}
+use Rattle.ring_pump.specs.Played.{Played, Goes, world_of, told_behind}
 
 -- the refusals that a submit at a node has
 abbrev pub IsOne : Fault → Type 0

@@ -16,7 +16,7 @@ use Rattle.ring_history.specs.declared.event.Event.TheVariants.{Issue, Deliver, 
 use Rattle.ring_history.specs.declared.told.Told.{Told}
 use Rattle.ring_history.specs.declared.told.Told.TheVariants.{Answer, Refused}
 use Rattle.ring_history.specs.Worlds.{World}
-use Rattle.ring_world.specs.Played.{world_of}
+use Rattle.ring_pump.specs.Played.{world_of}
 use Rattle.ring_pump.specs.declared.pairs.Pair.{Pair}
 use Rattle.ring_pump.specs.Pumping.{Pumped, Rests, Happens}
 

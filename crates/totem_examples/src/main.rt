@@ -3,8 +3,7 @@
 //! only where each printed just that.
 #![tactic(auto)]
 
-use ring_console::script;
-use ring_sweep::sweep;
+use ring_sweep::{script, sweep};
 use std::process::ExitCode;
 use std::rt::Files;
 use std::{fs, io};
