@@ -7,14 +7,13 @@ ghost use Rattle.ring_session.specs.Deduplicated.{deduplicated};
 ghost use Rattle.ring_history.specs.Histories.{IsLinearization};
 ghost use Rattle.ring_history.specs.Worlds.{order, run, world_opening};
 ghost use Rattle.ring_machine.specs.Nodes.{node_committed};
-ghost use Rattle.ring_lines.specs.Answers.{told_at};
-ghost use Rattle.ring_lines.specs.Events.{answers_of, events_of};
-ghost use Rattle.ring_lines.specs.Lines.{steps_of};
+ghost use Rattle.ring_book.specs.Answers.{told_at};
+ghost use Rattle.ring_book.specs.Events.{answers_of, events_of};
+ghost use Rattle.ring_book.specs.Lines.{steps_of};
 
 use ring_base::{Fault, Proc};
-use ring_book::{Book, BookName, Cell};
+use ring_book::{Book, BookName, Cell, linear_law};
 use ring_history::Item;
-use ring_linear::laws::linear_law;
 use ring_object::Object;
 use ring_payload::Call;
 use ring_session::Answer;

@@ -4,10 +4,10 @@ use Rattle.std.proofs.Common.{◌++◌, List, [], ◌∷◌, inl, inr, Result, O
 use Rattle.std.proofs.Common.{append-nil, append_assoc}
 use Rattle.std.specs.Prelude.{IfOk, Bool, true}
 use Rattle.ring_base.specs.Group.{Group}
+use Rattle.ring_base.proofs.Rows.{drop-next}
 use Rattle.std.specs.Io.KnownBytes.{Appends}
 use Rattle.std.proofs.KnownBytes.{Appends-trans}
 use Rattle.std.proofs.lemmas.List.{take-append-drop}
-use Rattle.ring_ticket.proofs.Waits.{drop-next}
 use Rattle.ring_object.specs.Operations.{Sequential}
 use Rattle.ring_script.specs.declared.line.Line.{Line}
 use Rattle.ring_script.specs.declared.line.Line.TheVariants.{Call, Deliver, Timeout, Noise, Stop, Cut, Heal, Pump, Show}

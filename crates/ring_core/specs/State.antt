@@ -1,7 +1,7 @@
 -- A processor's ring core, what it is now and all that ever happened to it: Rings and states, rules 3 to 6 of
 -- docs/PROTOCOL.md. Each list of facts is newest first, and nothing ever leaves it: what the program forgets is never
 -- looked at again.
-use Rattle.std.specs.Prelude.{ℕ, List, [], ◌∷◌, Option, None}
+use Rattle.std.specs.Prelude.{ℕ, Bool, true, false, List, [], ◌∷◌, Option, None}
 use Rattle.ring_base.specs.Processors.{only, everybody}
 use Rattle.ring_base.specs.declared.ring_id.RingId.{RingId}
 use Rattle.ring_payload.specs.declared.content.Payload.{Payload}
@@ -14,7 +14,7 @@ use Rattle.ring_join.specs.Gathering.{Gathering, entered}
 use Rattle.ring_recover.specs.Configuration.{Configuration}
 use Rattle.ring_core.specs.declared.out.Out.{Out}
 use Rattle.ring_base.specs.declared.state.State.{State}
-use Rattle.ring_base.specs.declared.state.State.TheVariants.{Gather, Operational, Stopped}
+use Rattle.ring_base.specs.declared.state.State.TheVariants.{Gather, Commit, Recovery, Operational, Stopped}
 
 -- a frame with the set of its receivers
 pub record Sent (A : Type 0) : Type 0 where
@@ -111,3 +111,10 @@ formed n me = record (opening n me) { state = Operational; running = all_of n; i
 -- a core that has stopped, for good
 abbrev pub halted : {A : Type 0} → Core A → Core A
 halted c = record c { state = Stopped }
+
+abbrev pub is_stopped : State → Bool
+is_stopped Stopped = true
+is_stopped Gather = false
+is_stopped Commit = false
+is_stopped Recovery = false
+is_stopped Operational = false

@@ -1,6 +1,6 @@
 -- One call more: the session table tells whether it takes effect.
-use Rattle.std.proofs.Common.{◌≡◌, ℕ, zero, suc, Bool, true, false, List, [], ◌∷◌, ◌++◌, take}
-use Rattle.std.proofs.Common.{Some, slice_get, refl, ap, sym, ◌∙◌, append-nil}
+use Rattle.std.proofs.Common.{◌≡◌, Bool, true, false, List, [], ◌∷◌, ◌++◌}
+use Rattle.std.proofs.Common.{refl, ap, sym, ◌∙◌, append-nil}
 use Rattle.std.specs.Prelude.{if◌then◌else◌}
 use Rattle.std.proofs.lemmas.List.Sums.{fold-append}
 use Rattle.ring_payload.specs.declared.call.Call.{Call}
@@ -38,10 +38,3 @@ effects-push before found found' c told law h answer after b is more = record {
       ∙ (ap (λ xs. xs ++ (if takes_effect (deduplicated before) c then c ∷ [] else [])) h.calls_are
       ∙ sym (deduplicated-push before c)));
 }
-
--- one element more of a front
-pub take-next : {X : Type 0} (xs : List X) (k : ℕ) (x : X) → slice_get xs k ≡ Some x → take (suc k) xs ≡ take k xs ++ x ∷ []
-take-next [] zero x h = absurd cc
-take-next [] (suc k) x h = absurd cc
-take-next (y ∷ xs) zero x h = cc
-take-next (y ∷ xs) (suc k) x h = ap (λ zs. y ∷ zs) (take-next xs k x h)

@@ -25,6 +25,7 @@ pub use input::LineInput;
 pub use line::{Line, is_found, stands};
 pub use log::{Segment, note};
 pub use orders::order;
+pub use ring_linear::laws::linear_law;
 pub use spelled::SpelledFrame;
 pub use step::Step;
 pub use stories::{FrameStory, StepStory};

@@ -1,15 +1,14 @@
 -- A node: its ring core, its life and its tickets, and what these say of its log: The replicated log, rules 1 and 18 of docs/PROTOCOL.md.
-use Rattle.std.specs.Prelude.{ℕ, Bool, true, false, ◌&&◌, List, [], Option, Some, None}
+use Rattle.std.specs.Prelude.{ℕ, Bool, false, ◌&&◌, List, [], Option, Some, None}
 use Rattle.ring_base.specs.Group.{Group}
 use Rattle.ring_base.specs.Rings.{same_ring}
 use Rattle.ring_base.specs.declared.ring_id.RingId.{RingId}
-use Rattle.ring_base.specs.declared.state.State.{State}
-use Rattle.ring_base.specs.declared.state.State.TheVariants.{Gather, Commit, Recovery, Operational, Stopped}
 use Rattle.ring_object.specs.Operations.{Sequential}
 use Rattle.ring_payload.specs.declared.call.Call.{Call}
 use Rattle.ring_session.specs.declared.answer.Answer.{Answer}
 use Rattle.ring_core.specs.Joining.{is_operational}
 use Rattle.ring_core.specs.State.{Core, opening, halted}
+pub use Rattle.ring_core.specs.State.{is_stopped}
 use Rattle.ring_log.specs.Stays.{Stay, born}
 use Rattle.ring_log.specs.Lives.{log_of, last_of, committed_of}
 use Rattle.ring_ticket.specs.Tickets.{Asked, unanswered, all_answers, kept_answers, answer_to}
@@ -45,13 +44,6 @@ abbrev pub node_stopped : {A : Type 0} → Node A → Node A
 node_stopped n = record n { core = halted n.core }
 
 -- Where a node stands
-
-abbrev pub is_stopped : State → Bool
-is_stopped Stopped = true
-is_stopped Gather = false
-is_stopped Commit = false
-is_stopped Recovery = false
-is_stopped Operational = false
 
 -- the core is Operational in this very ring
 abbrev pub runs : {A : Type 0} → Core A → RingId → Bool

@@ -42,6 +42,13 @@ pub fn told_both<T, F, G>(past: &Past<T>, first: &F, second: &G) -> Past<T>
     past_of(&(past, first, second))
 }
 
+/// A value as it is now, as contracts see it.
+pub fn seen<T>(value: &T) -> Past<T>
+    ensures { result.value ≡ value.now }
+{
+    past_of(&value)
+}
+
 /// The lists of facts that a processor opens with.
 pub fn opened<A: Allocator + Copy>(fixed: Fixed, me: Proc) -> Past<Story<A>>
     ensures { result.value ≡ history_of (opening fixed.count me) }
@@ -77,11 +84,11 @@ pub fn with_visit<A: Allocator + Copy>(past: &Past<Story<A>>, visit: &Visit<A>) 
 /// A full commit token raises the mark of an old ring.
 pub fn with_plan<A: Allocator + Copy>(
     past: &Past<Story<A>>,
-    token: &CommitToken,
+    token: &Past<CommitToken>,
     old: RingId,
     mark: u64,
 ) -> Past<Story<A>>
-    ensures { result.value ≡ with_plan past.now.value token.now old mark }
+    ensures { result.value ≡ with_plan past.now.value token.now.value old mark }
 {
     told(past, &(token, old, mark))
 }

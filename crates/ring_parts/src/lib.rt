@@ -10,7 +10,7 @@ mod wrapping;
 
 pub use giving::{give_agreed, give_aside, give_rest, give_safe};
 pub use history::{
-    Story, formed_of, none, one_first, one_last, opened, told_both, with_install, with_plan,
+    Story, formed_of, none, one_first, one_last, opened, seen, told_both, with_install, with_plan,
     with_ring, with_visit,
 };
 pub use part::Part;

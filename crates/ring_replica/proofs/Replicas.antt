@@ -23,7 +23,7 @@ use Rattle.ring_ticket.specs.Recent.{kept_answer}
 use Rattle.ring_ticket.specs.declared.pending.Pending.{Pending}
 use Rattle.ring_ticket.specs.Pendings.{Tickets, none_given, is_full, with_ticket, with_answers, answers_behind, pending_from, AreTickets}
 use Rattle.ring_ticket.specs.Tickets.{unanswered, answers_after}
-use Rattle.ring_ticket.specs.Waiting.{done_after}
+use Rattle.ring_ticket.specs.Effects.{done_after}
 use Rattle.ring_ticket.proofs.Effects.{length-deduplicated, deduplicated_after-few}
 use Rattle.ring_ticket.proofs.Pendings.{are-answers, are-kept, are-given, are-full, are-replies}
 use Rattle.ring_replica.specs.Courses.{Course, course_opening, Moment, handed_if, dues_by}

@@ -8,7 +8,7 @@ ghost use Rattle.ring_session.specs.Deduplicated.{deduplicated};
 ghost use Rattle.ring_session.specs.Table.{table_next};
 ghost use Rattle.ring_ticket.specs.Pendings.{answers_behind};
 ghost use Rattle.ring_ticket.specs.Tickets.{answers_after};
-ghost use Rattle.ring_ticket.specs.Waiting.{done_after};
+ghost use Rattle.ring_ticket.specs.Effects.{done_after};
 ghost use Rattle.ring_replica.specs.Courses.{rises};
 ghost use Rattle.ring_replica.specs.Replicas.{IsDone, replica_opening, replica_committed, replica_log, replica_stopped};
 ghost use Rattle.ring_replica.specs.Replicas.{replica_reply, submit_refusal, has_adopted_running, replica_given};

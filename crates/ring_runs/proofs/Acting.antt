@@ -4,7 +4,8 @@ use Rattle.std.proofs.Common.{if◌then◌else◌, ap, ◌∙◌, sym}
 use Rattle.std.proofs.lemmas.List.Elements.{filter-append}
 use Rattle.ring_moves.specs.declared.event.RingEvent.{RingEvent}
 use Rattle.ring_runs.specs.Running.{Ran, all_ran, more}
-use Rattle.ring_runs.proofs.Openings.{ran_none, take_more, take_whole}
+use Rattle.ring_base.proofs.Rows.{take-more}
+use Rattle.ring_runs.proofs.Openings.{ran_none, take_whole}
 
 pub acted_more : {A : Type 0} (acts : RingEvent A → Bool) (r s t : Ran A) (es : List (RingEvent A)) (i : ℕ) (e : RingEvent A) →
     s ≡ all_ran r (filter acts (take i es)) →
@@ -13,7 +14,7 @@ acted_more {A} acts r s t es i e a h b =
     let with_events : List (RingEvent A) → Ran A = λ xs. record r { events = xs } in
     b ∙ ap (λ q. all_ran q (filter acts (e ∷ []))) a
     ∙ ap with_events (append_assoc r.events (filter acts (take i es)) (filter acts (e ∷ []))
-    ∙ ap (λ xs. r.events ++ xs) (sym (filter-append acts (take i es) (e ∷ [])) ∙ ap (filter acts) (sym (take_more es i e h))))
+    ∙ ap (λ xs. r.events ++ xs) (sym (filter-append acts (take i es) (e ∷ [])) ∙ ap (filter acts) (sym (take-more es i e h))))
 
 pub acted_whole : {A : Type 0} (acts : RingEvent A → Bool) (r s : Ran A) (es : List (RingEvent A)) (i : ℕ) → s ≡ all_ran r (filter acts (take i es)) →
     length es ≤ i →

@@ -1,10 +1,8 @@
--- Silent: The step of a core that has stopped gives nothing and changes nothing.
 -- Places: Where the frames stand among what was given, and which each of them is.
 -- Ties: What the code keeps goes on telling the world: after a step, a stop, and where nothing happens.
 -- Openings: The opening of all in Gather, and what a whole run gives.
 -- Forming: The opening of all in one ring, whose representative has visited the first token.
 -- Acting: Of the events those happen that act.
-pub mod Silent
 pub mod Places
 pub mod Ties
 pub mod Openings

@@ -1,9 +1,10 @@
 -- The opening of all in Gather, and what a whole run gives.
-use Rattle.std.proofs.Common.{◌≡◌, ℕ, zero, suc, ◌+◌, ◌<◌, ◌≤◌, take, append_assoc, add-one, Result, Ok, Err, OnErr, List, [], ◌∷◌, ◌++◌}
+use Rattle.std.proofs.Common.{◌≡◌, ℕ, zero, suc, ◌+◌, ◌<◌, ◌≤◌, take, append_assoc, Result, Ok, Err, OnErr, List, [], ◌∷◌, ◌++◌}
 use Rattle.std.proofs.Common.{map, length, Some, None, slice_get, refl, ap, ◌∙◌, sym, arith}
 use Rattle.std.proofs.lemmas.List.{append-nil, map-append, length-map}
 use Rattle.ring_base.specs.Numbers.{numbers_from}
 use Rattle.ring_base.specs.Passing.{length-numbers_from}
+use Rattle.ring_base.proofs.Rows.{take-more}
 use Rattle.ring_core.specs.declared.out.Out.{Out}
 use Rattle.ring_core.specs.State.{Core, opening}
 use Rattle.ring_moves.specs.declared.event.RingEvent.{RingEvent}
@@ -49,20 +50,12 @@ ran_none {A} r =
     let with_events : List (RingEvent A) → Ran A = λ es. record r { events = es } in
     ap with_events (sym (append-nil r.events))
 
-take_next : {X : Type 0} (xs : List X) (i : ℕ) (x : X) → slice_get xs i ≡ Some x → take (suc i) xs ≡ take i xs ++ x ∷ []
-take_next [] i x e = absurd (let q : ⊥ = cc in q)
-take_next (y ∷ xs) zero x e = (let q : y ≡ x = cc e in ap (λ z. z ∷ []) q)
-take_next (y ∷ xs) (suc i) x e = ap (λ zs. y ∷ zs) (take_next xs i x e)
-
-pub take_more : {X : Type 0} (xs : List X) (i : ℕ) (x : X) → slice_get xs i ≡ Some x → take (i + 1) xs ≡ take i xs ++ x ∷ []
-take_more xs i x e = ap (λ n. take n xs) (add-one i) ∙ take_next xs i x e
-
 pub ran_more : {A : Type 0} (r s t : Ran A) (es : List (RingEvent A)) (i : ℕ) (e : RingEvent A) → s ≡ all_ran r (take i es) → slice_get es i ≡ Some e →
     t ≡ more s e →
     t ≡ all_ran r (take (i + 1) es)
 ran_more {A} r s t es i e a h b =
     let with_events : List (RingEvent A) → Ran A = λ xs. record r { events = xs } in
-    b ∙ ap (λ q. more q e) a ∙ ap with_events (append_assoc r.events (take i es) (e ∷ []) ∙ ap (λ xs. r.events ++ xs) (sym (take_more es i e h)))
+    b ∙ ap (λ q. more q e) a ∙ ap with_events (append_assoc r.events (take i es) (e ∷ []) ∙ ap (λ xs. r.events ++ xs) (sym (take-more es i e h)))
 
 pub take_whole : {X : Type 0} (xs : List X) (i : ℕ) → length xs ≤ i → take i xs ≡ xs
 take_whole [] zero l = refl

@@ -15,7 +15,7 @@ use Rattle.ring_wire.specs.declared.frame.Frame.{Frame}
 use Rattle.ring_core.specs.declared.input.Input.{Input}
 use Rattle.ring_core.specs.declared.input.Input.TheVariants.{Frame as FrameInput, Timeout as TimeInput, Send as SendInput}
 use Rattle.ring_core.specs.declared.out.Out.{Out}
-use Rattle.ring_core.specs.State.{Core, Sent, Carried, halted}
+use Rattle.ring_core.specs.State.{Core, Sent, Carried, halted, is_stopped}
 use Rattle.ring_core.specs.Stepping.{ring_step}
 use Rattle.ring_moves.specs.declared.event.RingEvent.{RingEvent}
 use Rattle.ring_moves.specs.Worlds.{World, happens, run, unformed, ring_formed, put, carried_by, after_step, is_node, stepped_if, stepped}
@@ -26,8 +26,7 @@ use Rattle.ring_srp.specs.Allowing.{InputFits as CoreInputFits}
 use Rattle.ring_runs.specs.Running.{Ran, ran_from, world_of, more, opening_frames, carried_of, frames_of, places_from, frame_for, IsWorld}
 use Rattle.ring_base.specs.declared.fault.Fault.{Fault}
 use Rattle.ring_base.specs.declared.fault.Fault.TheVariants.{Memory, Stopped as StoppedFault}
-use Rattle.ring_srp.specs.Machines.{is_stopped}
-use Rattle.ring_runs.proofs.Silent.{stopped_step, stopped_halts}
+use Rattle.ring_srp.proofs.Silent.{stopped_step, stopped_halts}
 use Rattle.ring_runs.proofs.Places.{frames_by}
 
 -- what fits a world's input fits a core's

@@ -1,6 +1,6 @@
 -- What holds of the session table's answers: a reply is the sequential object's at the one place where its call takes
 -- effect, and no later call changes it.
-use Rattle.std.proofs.Common.{◌≡◌, ℕ, zero, suc, ◌+◌, ◌<◌, ◌≤◌, ◌==◌, ◌&&◌, nat_lt, Bool, true, false, List, [], ◌∷◌}
+use Rattle.std.proofs.Common.{◌≡◌, ℕ, suc, ◌+◌, ◌<◌, ◌≤◌, ◌==◌, ◌&&◌, nat_lt, Bool, true, false, List, [], ◌∷◌}
 use Rattle.std.proofs.Common.{◌++◌, length, take, drop, Option, Some, None, position, slice_get, get_or, refl, ap, sym}
 use Rattle.std.proofs.Common.{◌∙◌, arith, ◌⊎◌, inl, inr, if◌then◌else◌}
 use Rattle.std.specs.Prelude.{slice_index_or}
@@ -10,6 +10,7 @@ use Rattle.std.proofs.lemmas.Bool.{cond-true, eqb-true, and_parts}
 use Rattle.std.proofs.lemmas.List.{append-nil, map-append, length-map, length-append, take-append-le, take-append-drop, take-take, take_all, get_or_append_left}
 use Rattle.std.proofs.lemmas.List.Quantifiers.{position-Some}
 use Rattle.std.proofs.lemmas.Option.{slice_get_within, slice_get-get_or}
+use Rattle.ring_base.proofs.Rows.{take-found}
 use Rattle.std.proofs.lemmas.Slice.Eq.{bytes_eq-Decides}
 use Rattle.ring_base.specs.Fronts.{IsFront, front_trans, front_length, front_get}
 use Rattle.ring_base.specs.declared.fault.Fault.TheVariants.{Stale, NumberGap, SessionsFull}
@@ -59,12 +60,6 @@ one_reply {O} {A} object order numbered c d r s x y client number =
 
 -- ---- places
 
--- the places before the next one
-take_next : {X : Type 0} (xs : List X) (p : ℕ) (x : X) → slice_get xs p ≡ Some x → take (suc p) xs ≡ take p xs ++ x ∷ []
-take_next [] p x at = absurd (cc at)
-take_next (y ∷ ys) zero x at = cc at
-take_next (y ∷ ys) (suc p) x at = ap (λ w. y ∷ w) (take_next ys p x at)
-
 front_take : {X : Type 0} (k : ℕ) (xs : List X) → IsFront (take k xs) xs
 front_take k xs = (drop k xs, take-append-drop k xs)
 
@@ -79,7 +74,7 @@ pub takes_effect-front : {A : Type 0} (calls : List (Call A)) (p : ℕ) (c : Cal
 takes_effect-front {A} calls p c at taken =
     let kept = deduplicated (take p calls) in
     let grown : deduplicated (take (suc p) calls) ≡ kept ++ c ∷ [] =
-    ap deduplicated (take_next calls p c at) ∙ deduplicated-push (take p calls) c ∙ ap (λ w. kept ++ w) (cond-true (takes_effect kept c) (c ∷ []) [] taken) in
+    ap deduplicated (take-found calls p c at) ∙ deduplicated-push (take p calls) c ∙ ap (λ w. kept ++ w) (cond-true (takes_effect kept c) (c ∷ []) [] taken) in
     ([], append-nil (kept ++ c ∷ []) ∙ sym grown)
 
 effect_front : {A : Type 0} (calls : List (Call A)) (p : ℕ) (c : Call A) → StandsAt calls p c

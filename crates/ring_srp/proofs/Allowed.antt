@@ -33,8 +33,8 @@ use Rattle.ring_core.specs.Deciding.{Ignore, Enqueue, Take, Visit, Fill, Learn, 
 use Rattle.ring_core.specs.Deciding.{heard_in_gather, heard_elsewhere, overhear, decide_join, decide_round}
 use Rattle.ring_core.specs.Deciding.{decide_commit, decide_frame, decide_if_named, decide_time, decide_user}
 use Rattle.ring_core.specs.Deciding.{decide_payload, decide}
-use Rattle.ring_srp.specs.Allowing.{Allows, InputFits, TokenGoes, VisitAllowed}
-use Rattle.ring_srp.specs.Machines.{is_running}
+use Rattle.ring_acts.specs.Allowing.{Allows, InputFits, TokenGoes, VisitAllowed}
+use Rattle.ring_acts.specs.Machines.{is_running}
 
 -- Tokens
 

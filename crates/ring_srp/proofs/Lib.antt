@@ -1,37 +1,14 @@
 -- Lent: What the proofs of crates above cite of ring_parts.
--- Parts: What the window and the visits of one ring say is what the core says of that ring.
--- Standing: What a core keeps stands on, act by act.
--- Receivers: A commit token that is filled in goes to a member, and comes from one.
--- Learns: Recovery begins: what a full commit token says of the old ring fits what is kept of it, and of the ring that runs from now on nothing is
---   known yet.
--- Installs: The running ring is installed: what is kept of it is what is kept of the installed ring from now on, and what it gives comes in parts.
 -- Allowed: What an act rests on was tested as it was decided.
 -- Marks: No act makes more of the installed ring safe than was in its front before.
 -- Outputs: What the parts of a step send and give, one after another, is what the step sends and gives.
--- Proposals: Who proposes a ring is one of its members, and the ring is newer than all that it took part in.
 -- Sending: A payload that is sent is queued or dropped, and nothing comes out.
--- Starting: A core that opens in a ring holds nothing, and has visited and raised nothing.
+-- Silent: The step of a core that has stopped gives nothing and changes nothing.
 -- Stopping: A core that has not stopped is the one that is kept.
--- Users: What a window has of its ring's users' messages is what the core says of that ring.
--- Turned: A core whose token goes on: what is kept of its rings stands on.
--- Held: What a core keeps stands on as messages are held: one of the ring in use; and in Recovery what it wraps, of the old ring.
--- Wraps: What is kept in Recovery tells what a visit sends there.
--- Visits: A visit, part by part: what was asked for goes out again, what is new goes out and is held, and what the token then is.
 pub mod Lent
-pub mod Parts
-pub mod Standing
-pub mod Receivers
-pub mod Learns
-pub mod Installs
 pub mod Allowed
 pub mod Marks
 pub mod Outputs
-pub mod Proposals
 pub mod Sending
-pub mod Starting
+pub mod Silent
 pub mod Stopping
-pub mod Users
-pub mod Turned
-pub mod Held
-pub mod Wraps
-pub mod Visits

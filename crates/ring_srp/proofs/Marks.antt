@@ -10,8 +10,7 @@ use Rattle.ring_base.specs.declared.ring_id.RingId.{RingId}
 use Rattle.ring_wire.specs.declared.commit.CommitToken.{CommitToken}
 use Rattle.ring_wire.specs.declared.entries.CommitEntry.{CommitEntry}
 use Rattle.ring_token.specs.Turns.{Turn, Raise, turns_of, mark_by, raised_to, safe_mark}
-use Rattle.ring_window.specs.Windows.{Windowed}
-use Rattle.ring_token.specs.Histories.{TokenHistory, last_aru}
+use Rattle.ring_token.specs.Histories.{last_aru}
 use Rattle.ring_commit.specs.Reports.{same_entry, reports_of, safe_of, none_behind, is_sound}
 use Rattle.ring_commit.specs.Rounds.{position_of_hop, is_own}
 use Rattle.ring_commit.specs.declared.configuration.Configuration.{Configuration}
@@ -23,8 +22,7 @@ use Rattle.ring_core.specs.Handing.{takes_second_round}
 use Rattle.ring_core.specs.Deciding.{Act, Ignore, Enqueue, Repeat, Announce, Invite, GiveUp, Regather, Agree, Widen}
 use Rattle.ring_core.specs.Deciding.{RegatherAndAgree, RegatherAndWiden, Take, Visit, Fill, Learn}
 use Rattle.ring_core.specs.Acting.{act, may_follow, proposed_after, done}
-use Rattle.ring_srp.specs.Allowing.{Allows}
-use Rattle.ring_srp.specs.Machines.{IsPart}
+use Rattle.ring_acts.specs.Allowing.{Allows}
 
 -- A visit: its mark is the lesser of two numbers, of which the earlier was in the front
 
@@ -150,10 +148,11 @@ done_mark c a m h l =
     ∙ after_mark (may_follow a && proposes (act c a).core) (act c a) c.installed.ring in
     subst (λ n. n ≤ front c c.installed.ring) (sym e) (acted_mark c a m h l)
 
--- the same, of what the code keeps and answers
-pub may_give : {A : Type 0} (m c new : Core A) (a : Act A) (window : Windowed A) (visit : TokenHistory A) (reached : ℕ) → m ≡ c
-    → IsPart m m.installed.ring window visit → Allows c a → new ≡ (done c a).core → reached ≡ front c c.installed.ring → mark new new.installed.ring ≤ reached
-may_give {A} m c new a window visit reached v part allows e r =
-    let kept : IsPart c c.installed.ring window visit = subst (λ (x : Core A). IsPart x x.installed.ring window visit) v part in
-    let bound : mark (done c a).core (done c a).core.installed.ring ≤ front c c.installed.ring = done_mark c a allows kept.reached kept.led in
+-- the same, of what the code answers
+pub may_give : {A : Type 0} (c new : Core A) (a : Act A) (reached : ℕ) → Allows c a → new ≡ (done c a).core
+    → reached ≡ front c c.installed.ring → mark c c.installed.ring ≤ reached → last_aru (turns_of c.installed.ring c.turns) ≤ reached
+    → mark new new.installed.ring ≤ reached
+may_give {A} c new a reached allows e r safe led =
+    let bound : mark (done c a).core (done c a).core.installed.ring ≤ front c c.installed.ring =
+    done_mark c a allows (omega (arith, safe, r)) (omega (arith, led, r)) in
     rw (e, r) bound

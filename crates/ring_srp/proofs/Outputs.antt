@@ -1,6 +1,6 @@
 -- What the parts of a step send and give, one after another, is what the step sends and gives.
-use Rattle.std.proofs.Common.{◌≡◌, ℕ, Bool, true, false, List, [], ◌++◌, map, refl, ap, sym, subst, ◌∙◌}
-use Rattle.std.specs.Prelude.{not, ◌==◌, ◌&&◌, OnOk, OnErr, Ok, Err, Result}
+use Rattle.std.proofs.Common.{◌≡◌, ℕ, Bool, true, false, List, [], ◌++◌, map, refl, ap, sym, ◌∙◌}
+use Rattle.std.specs.Prelude.{not, ◌==◌, ◌&&◌}
 use Rattle.std.proofs.lemmas.List.{append-nil, map-append, append_assoc}
 use Rattle.std.proofs.lemmas.List.Elements.{filter-append}
 use Rattle.ring_base.specs.Processors.{nobody}
@@ -18,21 +18,6 @@ use Rattle.ring_core.specs.Views.{front, mark}
 use Rattle.ring_core.specs.Visiting.{visited}
 use Rattle.ring_core.specs.Giving.{addressed, sent, delivered_from, given, may_install, settle, delivered}
 use Rattle.ring_core.specs.Stepping.{ring_step}
-
--- what holds of a result that is a value
-
-pub ok_to : {T E X : Type 0} (r : Result T E) (a b d : X) → b ≡ d → OnOk r (a ≡ b) → OnOk r (a ≡ d)
-ok_to (Ok x) a b d e h = h ∙ e
-ok_to (Err x) a b d e h = tt
-
-pub ok_always : {T E P : Type 0} (r : Result T E) → P → OnOk r P
-ok_always (Ok x) p = p
-ok_always (Err x) p = tt
-
--- what holds of either outcome holds of the new value
-pub ok_or_err : {T E X : Type 0} (P : X → Type 0) (r : Result T E) (a b d : X) → OnOk r (a ≡ b) → OnErr r (a ≡ d) → P b → P d → P a
-ok_or_err P (Ok x) a b d h k p q = subst P (sym h) p
-ok_or_err P (Err x) a b d h k p q = subst P (sym k) q
 
 pub sent-append : {A : Type 0} (a b : List (Sent A)) → sent (a ++ b) ≡ sent a ++ sent b
 sent-append {A} a b =

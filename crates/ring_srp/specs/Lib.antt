@@ -1,8 +1,3 @@
-pub mod Acts
-pub mod Machines
-pub mod Allowing
-pub mod Passing
+pub use Rattle.ring_acts.specs.Allowing
+pub use Rattle.ring_acts.specs.Machines
 pub mod Ended
-pub mod Learns
-pub mod Installs
-pub mod Sending

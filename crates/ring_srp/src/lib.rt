@@ -2,20 +2,8 @@
 //! out of it. It knows no clock and no network.
 #![tactic(auto)]
 
-mod act;
-mod deciding;
-mod gathering;
-mod giving;
-mod handing;
-mod holding;
-mod installing;
-mod learning;
-mod machine;
-mod passing;
 mod srp;
 mod stepping;
-mod visiting;
-mod wrapping;
 
 pub use ring_core::{Input, Out};
 pub use srp::Srp;

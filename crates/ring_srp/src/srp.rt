@@ -3,20 +3,20 @@
 ghost use Rattle.std.specs.Prelude.{◌≡◌, ◌≤◌, false, [], None, if◌then◌else◌, IfOk, IfErr, OnOk, OnErr};
 ghost use Rattle.ring_base.specs.declared.fault.Fault.TheVariants.{Memory, Stopped as StoppedFault};
 ghost use Rattle.ring_core.specs.Giving.{sent};
-ghost use Rattle.ring_core.specs.State.{all_of, opening, formed, halted};
+ghost use Rattle.ring_core.specs.State.{all_of, opening, formed, halted, is_stopped};
 ghost use Rattle.ring_core.specs.Stepping.{ring_step};
 ghost use Rattle.ring_core.specs.Visiting.{visited};
 ghost use Rattle.ring_core.specs.declared.input.Input.TheVariants.{Frame as FrameInput, Send as SendInput};
 ghost use Rattle.ring_wire.specs.Frames.{FrameFits};
-ghost use Rattle.ring_srp.specs.Allowing.{InputFits};
-ghost use Rattle.ring_srp.specs.Machines.{is_stopped};
+ghost use Rattle.ring_acts.specs.Allowing.{InputFits};
 ghost use Rattle.ring_token.specs.Turns.{first_token};
 
-use crate::deciding::first_token;
-use crate::machine::{Machine, all_of};
-use ring_base::{Fault, Fixed, Past, Proc, RingId, State, past_of};
+use crate::stepping::{hear, send, step};
+use ring_acts::{Machine, all_of, first_token};
+use ring_base::{Fault, Fixed, Past, Proc, RingId, State};
 use ring_commit::Configuration;
 use ring_core::{Input, Out};
+use ring_parts::seen;
 use ring_payload::Payload;
 use ring_wire::Frame;
 use std::alloc::{Allocator, Global};
@@ -52,7 +52,7 @@ impl<A: Allocator + Copy> Srp<A> {
         ensures refused { IfErr result (λ fault. fault ≡ Memory) }
     {
         let machine = Machine::new(alloc, fixed, me)?;
-        let last = machine.installed;
+        let last = machine.installed();
         let before = seen(&machine);
         Ok(Srp {
             machine: Some(machine),
@@ -69,7 +69,7 @@ impl<A: Allocator + Copy> Srp<A> {
         ensures refused { IfErr result (λ fault. fault ≡ Memory) }
     {
         let machine = Machine::formed(alloc, fixed, me)?;
-        let last = machine.installed;
+        let last = machine.installed();
         let before = seen(&machine);
         Ok(Srp {
             machine: Some(machine),
@@ -88,9 +88,9 @@ impl<A: Allocator + Copy> Srp<A> {
     {
         let mut machine = Machine::formed(alloc, fixed, Proc::new(1))?;
         let token = first_token(all_of(fixed).ring);
-        let mut outs = Vec::with_capacity(alloc, machine.room_for_visit(&token))?;
+        let mut outs = machine.outputs(machine.room_for_visit(&token))?;
         machine.visit(&token, &mut outs)?;
-        let last = machine.installed;
+        let last = machine.installed();
         let before = seen(&machine);
         let srp = Srp {
             machine: Some(machine),
@@ -114,9 +114,9 @@ impl<A: Allocator + Copy> Srp<A> {
         let Some(machine) = &mut self.machine else {
             return Err(Fault::Stopped);
         };
-        let last = machine.installed;
+        let last = machine.installed();
         let before = seen(machine);
-        match machine.step(input) {
+        match step(machine, input) {
             Ok(outs) => Ok(outs),
             Err(refused) => {
                 let_go(&mut self.machine);
@@ -139,9 +139,9 @@ impl<A: Allocator + Copy> Srp<A> {
         let Some(machine) = &mut self.machine else {
             return Err(Fault::Stopped);
         };
-        let last = machine.installed;
+        let last = machine.installed();
         let before = seen(machine);
-        match machine.hear(frame) {
+        match hear(machine, frame) {
             Ok(outs) => Ok(outs),
             Err(refused) => {
                 let_go(&mut self.machine);
@@ -165,7 +165,7 @@ impl<A: Allocator + Copy> Srp<A> {
         let Some(machine) = &mut self.machine else {
             return Err(Fault::Stopped);
         };
-        machine.send(payload)
+        send(machine, payload)
     }
 
     /// Stops it for good. All that it kept is given back.
@@ -173,7 +173,7 @@ impl<A: Allocator + Copy> Srp<A> {
         ensures { self.new ≡ halted self.old }
     {
         if let Some(machine) = &self.machine {
-            let last = machine.installed;
+            let last = machine.installed();
             let before = seen(machine);
             self.machine = None;
             self.last = last;
@@ -186,7 +186,7 @@ impl<A: Allocator + Copy> Srp<A> {
         ensures { result ≡ self.now.state }
     {
         match &self.machine {
-            Some(machine) => machine.state,
+            Some(machine) => machine.state(),
             None => State::Stopped,
         }
     }
@@ -196,7 +196,7 @@ impl<A: Allocator + Copy> Srp<A> {
         ensures { result ≡ self.now.installed.ring }
     {
         match &self.machine {
-            Some(machine) => machine.installed.ring,
+            Some(machine) => machine.installed().ring,
             None => self.last.ring,
         }
     }
@@ -208,11 +208,4 @@ fn let_go<A: Allocator + Copy>(machine: &mut Option<Machine<A>>)
     ensures { machine.new ≡ None }
 {
     *machine = None;
-}
-
-/// A value as it is now, as contracts see it.
-fn seen<T>(value: &T) -> Past<T>
-    ensures { result.value ≡ value.now }
-{
-    past_of(&value)
 }

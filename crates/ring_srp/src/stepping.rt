@@ -8,12 +8,11 @@ ghost use Rattle.ring_core.specs.Deciding.{Visit as VisitAct};
 ghost use Rattle.ring_core.specs.Giving.{sent, may_install, delivered};
 ghost use Rattle.ring_core.specs.Stepping.{ring_step};
 ghost use Rattle.ring_core.specs.declared.input.Input.TheVariants.{Frame as FrameInput, Send as SendInput};
-ghost use Rattle.ring_srp.specs.Acts.{act_of};
-ghost use Rattle.ring_srp.specs.Allowing.{Allows, InputFits, VisitAllowed};
-ghost use Rattle.ring_srp.specs.Machines.{is_stopped};
+ghost use Rattle.ring_acts.specs.Acts.{act_of};
+ghost use Rattle.ring_acts.specs.Allowing.{Allows, InputFits, VisitAllowed};
+ghost use Rattle.ring_core.specs.State.{is_stopped};
 
-use crate::act::Act;
-use crate::machine::Machine;
+use ring_acts::{Act, Machine};
 use ring_base::{Fault, State};
 use ring_core::{Input, Out};
 use ring_packing::is_queued;
@@ -21,197 +20,194 @@ use ring_payload::Payload;
 use ring_wire::{Frame, Token};
 use std::alloc::Allocator;
 
-impl<A: Allocator + Copy> Machine<A> {
-    /// One step.
-    pub(crate) fn step(&mut self, input: Input<A>) -> Result<Vec<Out<A>, A>, Fault>
-        requires { InputFits input }
-        ensures outs { IfOk result (λ outs. outs.items ≡ (ring_step self.old input).outs) }
-        ensures core { OnOk result (self.new ≡ (ring_step self.old input).core) }
-        ensures running { is_stopped self.old.state ≡ false }
-        ensures refused { IfErr result (λ fault. fault ≡ Memory) }
-    {
-        let before = self.reached();
-        let what = self.decide(input);
-        let mut outs = Vec::with_capacity(self.alloc, self.room_for(&what))?;
-        self.carry_out(what, &mut outs)?;
-        self.give(before, &mut outs)?;
-        self.install_if_due(&mut outs)?;
-        Ok(outs)
-    }
+/// One step.
+pub(crate) fn step<A: Allocator + Copy>(
+    machine: &mut Machine<A>,
+    input: Input<A>,
+) -> Result<Vec<Out<A>, A>, Fault>
+    requires { InputFits input }
+    ensures outs { IfOk result (λ outs. outs.items ≡ (ring_step machine.old input).outs) }
+    ensures core { OnOk result (machine.new ≡ (ring_step machine.old input).core) }
+    ensures running { is_stopped machine.old.state ≡ false }
+    ensures refused { IfErr result (λ fault. fault ≡ Memory) }
+{
+    let before = machine.reached();
+    let what = machine.decide(input);
+    let mut outs = machine.outputs(room_for(machine, &what))?;
+    carry_out(machine, what, &mut outs)?;
+    machine.give(before, &mut outs)?;
+    machine.install_if_due(&mut outs)?;
+    Ok(outs)
+}
 
-    /// The same for a frame that the caller keeps. A token that is visited isn't copied.
-    pub(crate) fn hear(&mut self, frame: &Frame<A>) -> Result<Vec<Out<A>, A>, Fault>
-        requires { FrameFits frame.now }
-        ensures outs { IfOk result (λ outs. outs.items ≡ (ring_step self.old (FrameInput frame.now)).outs) }
-        ensures core { OnOk result (self.new ≡ (ring_step self.old (FrameInput frame.now)).core) }
-        ensures running { OnOk result (is_stopped self.old.state ≡ false) }
-        ensures refused { IfErr result (λ fault. fault ≡ Memory) }
-    {
-        match self.visited_by(frame) {
-            Some(token) => self.pass_by(token),
-            None => self.step_copy(frame),
-        }
+/// The same for a frame that the caller keeps. A token that is visited isn't copied.
+pub(crate) fn hear<A: Allocator + Copy>(
+    machine: &mut Machine<A>,
+    frame: &Frame<A>,
+) -> Result<Vec<Out<A>, A>, Fault>
+    requires { FrameFits frame.now }
+    ensures outs { IfOk result (λ outs. outs.items ≡ (ring_step machine.old (FrameInput frame.now)).outs) }
+    ensures core { OnOk result (machine.new ≡ (ring_step machine.old (FrameInput frame.now)).core) }
+    ensures running { OnOk result (is_stopped machine.old.state ≡ false) }
+    ensures refused { IfErr result (λ fault. fault ≡ Memory) }
+{
+    match machine.visited_by(frame) {
+        Some(token) => pass_by(machine, token),
+        None => step_copy(machine, frame),
     }
+}
 
-    /// One step, of a copy of a frame.
-    #[inline(never)]
-    fn step_copy(&mut self, frame: &Frame<A>) -> Result<Vec<Out<A>, A>, Fault>
-        requires { FrameFits frame.now }
-        ensures outs { IfOk result (λ outs. outs.items ≡ (ring_step self.old (FrameInput frame.now)).outs) }
-        ensures core { OnOk result (self.new ≡ (ring_step self.old (FrameInput frame.now)).core) }
-        ensures running { OnOk result (is_stopped self.old.state ≡ false) }
-        ensures refused { IfErr result (λ fault. fault ≡ Memory) }
-    {
-        let copy = copied(frame)?;
-        self.step(Input::Frame(copy))
+/// One step, of a copy of a frame.
+#[inline(never)]
+fn step_copy<A: Allocator + Copy>(
+    machine: &mut Machine<A>,
+    frame: &Frame<A>,
+) -> Result<Vec<Out<A>, A>, Fault>
+    requires { FrameFits frame.now }
+    ensures outs { IfOk result (λ outs. outs.items ≡ (ring_step machine.old (FrameInput frame.now)).outs) }
+    ensures core { OnOk result (machine.new ≡ (ring_step machine.old (FrameInput frame.now)).core) }
+    ensures running { OnOk result (is_stopped machine.old.state ≡ false) }
+    ensures refused { IfErr result (λ fault. fault ≡ Memory) }
+{
+    let copy = copied(frame)?;
+    step(machine, Input::Frame(copy))
+}
+
+/// One step, of a token that is visited.
+fn pass_by<A: Allocator + Copy>(
+    machine: &mut Machine<A>,
+    token: &Token,
+) -> Result<Vec<Out<A>, A>, Fault>
+    requires { VisitAllowed machine.old token.now }
+    ensures outs { IfOk result (λ outs. outs.items ≡ (delivered machine.old (done machine.old (VisitAct token.now))).outs) }
+    ensures core { OnOk result (machine.new ≡ (delivered machine.old (done machine.old (VisitAct token.now))).core) }
+    ensures running { is_stopped machine.old.state ≡ false }
+    ensures refused { IfErr result (λ fault. fault ≡ Memory) }
+{
+    let before = machine.reached();
+    let mut outs = machine.outputs(machine.room_for_visit(token))?;
+    visit_through(machine, token, &mut outs)?;
+    machine.give(before, &mut outs)?;
+    machine.install_if_due(&mut outs)?;
+    Ok(outs)
+}
+
+/// A token is visited, and then a ring may be proposed.
+fn visit_through<A: Allocator + Copy>(
+    machine: &mut Machine<A>,
+    token: &Token,
+    outs: &mut Vec<Out<A>, A>,
+) -> Result<(), Fault>
+    requires { VisitAllowed machine.old token.now }
+    ensures core { OnOk result (machine.new ≡ (done machine.old (VisitAct token.now)).core) }
+    ensures outs { OnOk result (outs.new.items ≡ outs.old.items ++ sent (done machine.old (VisitAct token.now)).sends) }
+    ensures refused { IfErr result (λ fault. fault ≡ Memory) }
+{
+    machine.visit(token, outs)?;
+    machine.propose_if_due(outs)
+}
+
+/// For how many outputs an act needs room that is told beforehand.
+fn room_for<A: Allocator + Copy>(machine: &Machine<A>, what: &Act<A>) -> usize
+    ensures { result ≤ 50 }
+{
+    match what {
+        Act::Visit(token) => machine.room_for_visit(token),
+        _ => 0,
     }
+}
 
-    /// One step, of a token that is visited.
-    fn pass_by(&mut self, token: &Token) -> Result<Vec<Out<A>, A>, Fault>
-        requires { VisitAllowed self.old token.now }
-        ensures outs { IfOk result (λ outs. outs.items ≡ (delivered self.old (done self.old (VisitAct token.now))).outs) }
-        ensures core { OnOk result (self.new ≡ (delivered self.old (done self.old (VisitAct token.now))).core) }
-        ensures running { is_stopped self.old.state ≡ false }
-        ensures refused { IfErr result (λ fault. fault ≡ Memory) }
-    {
-        let before = self.reached();
-        let mut outs = Vec::with_capacity(self.alloc, self.room_for_visit(token))?;
-        self.visit_through(token, &mut outs)?;
-        self.give(before, &mut outs)?;
-        self.install_if_due(&mut outs)?;
-        Ok(outs)
-    }
-
-    /// A token is visited, and then a ring may be proposed.
-    fn visit_through(&mut self, token: &Token, outs: &mut Vec<Out<A>, A>) -> Result<(), Fault>
-        requires { VisitAllowed self.old token.now }
-        ensures core { OnOk result (self.new ≡ (done self.old (VisitAct token.now)).core) }
-        ensures outs { OnOk result (outs.new.items ≡ outs.old.items ++ sent (done self.old (VisitAct token.now)).sends) }
-        ensures refused { IfErr result (λ fault. fault ≡ Memory) }
-    {
-        self.visit(token, outs)?;
-        self.propose_if_due(outs)
-    }
-
-    /// For how many outputs a visit needs room that is told beforehand: it sends again what was asked for, then its new messages
-    /// and the token; the new messages may be agreed at once, and the safe mark may rise.
-    pub(crate) fn room_for_visit(&self, token: &Token) -> usize
-        ensures { result ≤ 50 }
-    {
-        token.requests.as_slice().len() + 2 * self.most_new() + 2
-    }
-
-    /// For how many outputs an act needs room that is told beforehand.
-    fn room_for(&self, what: &Act<A>) -> usize
-        ensures { result ≤ 50 }
-    {
-        match what {
-            Act::Visit(token) => self.room_for_visit(token),
-            _ => 0,
-        }
-    }
-
-    /// A visit sends no more new messages than this.
-    fn most_new(&self) -> usize
-        ensures { result ≤ 8 }
-    {
-        match self.state {
-            State::Operational => self.queue.len().min(8),
-            _ => 8,
-        }
-    }
-
-    /// A payload goes to the end of the queue.
-    pub(crate) fn enqueue(&mut self, payload: Payload<A>) -> Result<(), Fault>
-        ensures ok { OnOk result (self.new ≡ record self.old { queue = self.old.queue ++ payload ∷ [] }) }
-        ensures kept { OnErr result (self.new ≡ self.old) }
-        ensures refused { IfErr result (λ fault. fault ≡ Memory) }
-    {
-        self.queue.push_back(payload)?;
-        Ok(())
-    }
-
-    /// A payload is queued in Operational where it may be, and dropped elsewhere. Nothing comes out.
-    pub(crate) fn send(&mut self, payload: Payload<A>) -> Result<(), Fault>
-        requires { may_install self.old ≡ false }
-        ensures ok { OnOk result (self.new ≡ (ring_step self.old (SendInput payload)).core) }
-        ensures silent { OnOk result ((ring_step self.old (SendInput payload)).outs ≡ []) }
-        ensures kept { OnErr result (self.new ≡ self.old) }
-        ensures running { is_stopped self.old.state ≡ false }
-        ensures refused { IfErr result (λ fault. fault ≡ Memory) }
-    {
-        match self.state {
-            State::Operational => {
-                if is_queued(&payload) {
-                    self.enqueue(payload)
-                } else {
-                    Ok(())
-                }
-            }
-            _ => Ok(()),
-        }
-    }
-
-    /// What an input came to is done, and then a ring may be proposed.
-    fn carry_out(&mut self, what: Act<A>, outs: &mut Vec<Out<A>, A>) -> Result<(), Fault>
-        requires { Allows self.old (act_of what) }
-        ensures core { OnOk result (self.new ≡ (done self.old (act_of what)).core) }
-        ensures outs { OnOk result (outs.new.items ≡ outs.old.items ++ sent (done self.old (act_of what)).sends) }
-        ensures refused { IfErr result (λ fault. fault ≡ Memory) }
-    {
-        let follows = may_follow(&what);
-        self.act(what, outs)?;
-        if follows {
-            self.propose_if_due(outs)
-        } else {
-            Ok(())
-        }
-    }
-
-    /// What an input came to is done.
-    fn act(&mut self, what: Act<A>, outs: &mut Vec<Out<A>, A>) -> Result<(), Fault>
-        requires { Allows self.old (act_of what) }
-        ensures core { OnOk result (self.new ≡ (act self.old (act_of what)).core) }
-        ensures outs { OnOk result (outs.new.items ≡ outs.old.items ++ sent (act self.old (act_of what)).sends) }
-        ensures refused { IfErr result (λ fault. fault ≡ Memory) }
-    {
-        match what {
-            Act::Ignore => Ok(()),
-            Act::Enqueue(payload) => self.enqueue(payload),
-            Act::Repeat => self.repeat(outs),
-            Act::Announce => self.announce(outs),
-            Act::Invite => self.invite(outs),
-            Act::GiveUp => {
-                self.give_up();
-                self.announce(outs)
-            }
-            Act::Regather => {
-                self.regather();
-                self.announce(outs)
-            }
-            Act::Agree(join) => {
-                self.agree(&join);
+/// A payload is queued in Operational where it may be, and dropped elsewhere. Nothing comes out.
+pub(crate) fn send<A: Allocator + Copy>(
+    machine: &mut Machine<A>,
+    payload: Payload<A>,
+) -> Result<(), Fault>
+    requires { may_install machine.old ≡ false }
+    ensures ok { OnOk result (machine.new ≡ (ring_step machine.old (SendInput payload)).core) }
+    ensures silent { OnOk result ((ring_step machine.old (SendInput payload)).outs ≡ []) }
+    ensures kept { OnErr result (machine.new ≡ machine.old) }
+    ensures running { is_stopped machine.old.state ≡ false }
+    ensures refused { IfErr result (λ fault. fault ≡ Memory) }
+{
+    match machine.state() {
+        State::Operational => {
+            if is_queued(&payload) {
+                machine.enqueue(payload)
+            } else {
                 Ok(())
             }
-            Act::Widen(join) => {
-                self.widen(&join);
-                self.announce(outs)
-            }
-            Act::RegatherAndAgree(join) => {
-                self.regather();
-                self.agree(&join);
-                self.announce(outs)
-            }
-            Act::RegatherAndWiden(join) => {
-                self.regather();
-                self.widen(&join);
-                self.announce(outs)
-            }
-            Act::Take(message) => self.take(message),
-            Act::Visit(token) => self.visit(&token, outs),
-            Act::Fill(boxed) => self.fill(boxed.token(), outs),
-            Act::Learn(boxed) => self.learn(boxed.token(), outs),
         }
+        _ => Ok(()),
+    }
+}
+
+/// What an input came to is done, and then a ring may be proposed.
+fn carry_out<A: Allocator + Copy>(
+    machine: &mut Machine<A>,
+    what: Act<A>,
+    outs: &mut Vec<Out<A>, A>,
+) -> Result<(), Fault>
+    requires { Allows machine.old (act_of what) }
+    ensures core { OnOk result (machine.new ≡ (done machine.old (act_of what)).core) }
+    ensures outs { OnOk result (outs.new.items ≡ outs.old.items ++ sent (done machine.old (act_of what)).sends) }
+    ensures refused { IfErr result (λ fault. fault ≡ Memory) }
+{
+    let follows = may_follow(&what);
+    act(machine, what, outs)?;
+    if follows {
+        machine.propose_if_due(outs)
+    } else {
+        Ok(())
+    }
+}
+
+/// What an input came to is done.
+fn act<A: Allocator + Copy>(
+    machine: &mut Machine<A>,
+    what: Act<A>,
+    outs: &mut Vec<Out<A>, A>,
+) -> Result<(), Fault>
+    requires { Allows machine.old (act_of what) }
+    ensures core { OnOk result (machine.new ≡ (act machine.old (act_of what)).core) }
+    ensures outs { OnOk result (outs.new.items ≡ outs.old.items ++ sent (act machine.old (act_of what)).sends) }
+    ensures refused { IfErr result (λ fault. fault ≡ Memory) }
+{
+    match what {
+        Act::Ignore => Ok(()),
+        Act::Enqueue(payload) => machine.enqueue(payload),
+        Act::Repeat => machine.repeat(outs),
+        Act::Announce => machine.announce(outs),
+        Act::Invite => machine.invite(outs),
+        Act::GiveUp => {
+            machine.give_up();
+            machine.announce(outs)
+        }
+        Act::Regather => {
+            machine.regather();
+            machine.announce(outs)
+        }
+        Act::Agree(join) => {
+            machine.agree(&join);
+            Ok(())
+        }
+        Act::Widen(join) => {
+            machine.widen(&join);
+            machine.announce(outs)
+        }
+        Act::RegatherAndAgree(join) => {
+            machine.regather();
+            machine.agree(&join);
+            machine.announce(outs)
+        }
+        Act::RegatherAndWiden(join) => {
+            machine.regather();
+            machine.widen(&join);
+            machine.announce(outs)
+        }
+        Act::Take(message) => machine.take(message),
+        Act::Visit(token) => machine.visit(&token, outs),
+        Act::Fill(boxed) => machine.fill(boxed, outs),
+        Act::Learn(boxed) => machine.learn(boxed, outs),
     }
 }
 

@@ -8,7 +8,7 @@ use Rattle.ring_base.specs.Fronts.{IsFront, front_trans, front_get}
 use Rattle.ring_payload.specs.declared.call.Call.{Call}
 use Rattle.ring_session.specs.Deduplicated.{count_of, client_count, takes_effect, deduplicated}
 use Rattle.ring_session.specs.DeduplicatedLaws.{deduplicated-push, deduplicated-front, get-push_last}
-use Rattle.ring_console.proofs.Playing.{take_more}
+use Rattle.ring_base.proofs.Rows.{take-more}
 
 -- So many of these calls were looked at, and so many places of the order are those that took effect.
 pub record IsInFront {A : Type 0} (calls order : List (Call A)) (k place : ℕ) : Type 0 where
@@ -19,7 +19,7 @@ module _ {A : Type 0} (calls order : List (Call A)) (k place : ℕ) (c : Call A)
     (so_far : IsInFront calls order k place) where
   pushed : (b : Bool) → takes_effect (take place order) c ≡ b → deduplicated (take (k + 1) calls) ≡ take place order ++ (if b then c ∷ [] else [])
   pushed b is =
-      ap deduplicated (take_more calls k c here)
+      ap deduplicated (take-more calls k c here)
       ∙ (deduplicated-push (take k calls) c
       ∙ ap (λ kept. kept ++ (if takes_effect kept c then c ∷ [] else [])) so_far.same
       ∙ ap (λ (t : Bool). take place order ++ (if t then c ∷ [] else [])) is)
@@ -28,7 +28,7 @@ module _ {A : Type 0} (calls order : List (Call A)) (k place : ℕ) (c : Call A)
   pub front_next : takes_effect (take place order) c ≡ true → slice_get order place ≡ Some c → IsInFront calls order (k + 1) (place + 1)
   front_next takes next = record {
     within = let inside = slice_get_within order place c next in omega (arith, inside);
-    same = pushed true takes ∙ sym (take_more order place c next);
+    same = pushed true takes ∙ sym (take-more order place c next);
   }
 
   -- the call takes no effect

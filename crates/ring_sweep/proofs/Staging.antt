@@ -16,7 +16,7 @@ use Rattle.ring_console.specs.Running.{Pair}
 use Rattle.ring_console.specs.Running.{RunView, Does, Ends, Happens}
 use Rattle.ring_sweep.specs.declared.upset.Upset.{Upset}
 use Rattle.ring_sweep.specs.Variants.{turn, steps_in, steps_of, is_first_heard, is_event, bit, line_of_upset, Passes, IsDue, IsVariant}
-use Rattle.ring_console.proofs.Playing.{take_more}
+use Rattle.ring_base.proofs.Rows.{take-more}
 use Rattle.ring_sweep.specs.Stages.{Stage, stage, IsCopyOf, is_due, Strikes, PutsIn, Readies, Steps, Goes}
 
 -- nothing is due where nothing is pending
@@ -249,7 +249,7 @@ module _ {O A : Type 0} (object : Sequential O) where
       → Goes object (steps_of (take k lines)) s m → Goes object (steps_in l.line) m t → Goes object (steps_of (take (k + 1) lines)) s t
   goes_line lines k l s m t here h more =
       let steps : steps_of (take (k + 1) lines) ≡ steps_of (take k lines) ++ steps_in l.line =
-      ap steps_of (take_more lines k l here)
+      ap steps_of (take-more lines k l here)
       ∙ (flat_map-append (λ (x : Numbered A). steps_in x.line) (take k lines) (l ∷ [])
       ∙ ap (λ (ls : List (Line A)). steps_of (take k lines) ++ ls) (append-nil (steps_in l.line))) in
       subst (λ (ls : List (Line A)). Goes object ls s t) (sym steps)

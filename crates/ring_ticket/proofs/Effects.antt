@@ -11,7 +11,7 @@ use Rattle.ring_session.specs.declared.answer.Answer.{Answer}
 use Rattle.ring_session.specs.SessionAnswer.{is_done}
 use Rattle.ring_session.specs.Table.{Table, opening, table_answer, table_next, table_after}
 use Rattle.ring_session.proofs.TableLaws.{table_effect}
-use Rattle.ring_ticket.specs.Waiting.{done_after}
+use Rattle.ring_ticket.specs.Effects.{done_after}
 
 -- a list with one element more, or the same
 length-push_if : {X : Type 0} (xs : List X) (x : X) (b : Bool) → length (xs ++ (if b then x ∷ [] else [])) ≡ length xs + (if b then 1 else 0)

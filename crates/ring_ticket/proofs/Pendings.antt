@@ -7,6 +7,7 @@ use Rattle.std.specs.List.{AllByRecursion}
 use Rattle.std.proofs.lemmas.Bool.{eq-eqb, ne_eqb, le-leb}
 use Rattle.std.proofs.lemmas.List.{append-nil}
 use Rattle.ring_base.specs.Numbers.{max_number}
+use Rattle.std.proofs.lemmas.List.Sums.{fold-append}
 use Rattle.ring_object.specs.Operations.{Sequential}
 use Rattle.ring_payload.specs.declared.call.Call.{Call}
 use Rattle.ring_session.specs.declared.answer.Answer.{Answer}
@@ -20,7 +21,7 @@ use Rattle.ring_ticket.specs.Tickets.{Asked, first_place, place_of, unanswered, 
 use Rattle.ring_ticket.specs.Tickets.{answers_after, all_answers, kept_answers, answer_to}
 use Rattle.ring_ticket.specs.Pendings.{Tickets, is_full, with_ticket, stands_in, answer_for, answers_to, answers_behind}
 use Rattle.ring_ticket.specs.Pendings.{left_by, with_answers, pending_from, AreTickets}
-use Rattle.ring_ticket.proofs.Places.{first_place-below, or_else, place-push, fold-push}
+use Rattle.ring_ticket.proofs.Places.{first_place-below, or_else, place-push}
 use Rattle.ring_ticket.proofs.Telling.{first_place-late, answers_after-push, answers_after-append, kept-more, kept_answer-map}
 
 -- ---- places of calls committed later
@@ -138,7 +139,7 @@ module _ {O A : Type 0} (object : Sequential O) where
       let pending = pending_from committed 0 asked in
       let assoc : committed ++ (before ++ c ∷ []) ≡ all ++ c ∷ [] = sym (append_assoc committed before (c ∷ [])) in
       let table : table_next object (table_after object all) c ≡ table_after object (committed ++ (before ++ c ∷ [])) =
-      sym (fold-push object [] (opening object.initial) all c) ∙ ap (λ (w : List (Call A)). table_after object w) (sym assoc) in
+      sym (fold-append (table_next object) (opening object.initial) all (c ∷ [])) ∙ ap (λ (w : List (Call A)). table_after object w) (sym assoc) in
       ap (λ w. w ++ answers_behind object (table_next object (table_after object all) c) pending (before ++ c ∷ []) more)
       (answers-at committed before c 0 asked early)
       ∙ ap (λ w. answers_at object (all ++ c ∷ []) (length all) 0 asked ++ w)

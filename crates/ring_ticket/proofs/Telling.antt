@@ -1,19 +1,18 @@
 -- All answers of a node: they grow at the end, a new ticket changes none, and the last of them are kept.
 use Rattle.std.proofs.Common.{◌≡◌, ℕ, zero, suc, ◌+◌, ◌-◌, ◌==◌, ◌&&◌, nat_le, ◌<◌, ◌≤◌, Bool, true, false, List, []}
-use Rattle.std.proofs.Common.{◌∷◌, ◌++◌, length, take, drop, get_or, map, Option, Some, None, is_none, refl, ap, sym}
+use Rattle.std.proofs.Common.{◌∷◌, ◌++◌, length, take, drop, get_or, map, Option, Some, None, refl, ap, sym}
 use Rattle.std.proofs.Common.{◌∙◌, arith, append_assoc, length-append, if◌then◌else◌}
 use Rattle.std.proofs.lemmas.Bool.{cond-false, and_left, lt-leb}
 use Rattle.std.proofs.lemmas.List.{append-nil, drop-append-le, drop-drop, length-drop}
+use Rattle.ring_base.proofs.Rows.{drop-next, take-next}
 use Rattle.ring_object.specs.Operations.{Sequential}
 use Rattle.ring_payload.specs.declared.call.Call.{Call}
 use Rattle.ring_session.specs.declared.answer.Answer.{Answer}
 use Rattle.ring_session.specs.SessionAnswer.{is_same, session_answer}
 use Rattle.ring_ticket.specs.declared.answered.Answered.{Answered}
 use Rattle.ring_ticket.specs.declared.recent.Kept.{Kept}
-use Rattle.ring_ticket.specs.Tickets.{Asked, first_place, place_of, is_place, unanswered, answered, answers_at, answers_after, kept_answers, answer_to}
+use Rattle.ring_ticket.specs.Tickets.{Asked, first_place, place_of, is_place, answered, answers_at, answers_after, kept_answers, answer_to}
 use Rattle.ring_ticket.specs.Recent.{last_kept, kept_of, kept_answer}
-use Rattle.ring_ticket.specs.Waiting.{waiting_from}
-use Rattle.ring_ticket.proofs.Waits.{drop-next, take-next}
 
 -- ---- a new ticket
 
@@ -26,37 +25,6 @@ late-step c since at ds d late e = cond-false (nat_le since at && is_same c d) (
 pub first_place-late : {A : Type 0} (c : Call A) (since at : ℕ) (ds : List (Call A)) → at + length ds ≤ since → first_place c since at ds ≡ None
 first_place-late c since at [] late = refl
 first_place-late c since at (d ∷ ds) late = late-step c since at ds d (lt-leb since at (omega arith)) (first_place-late c since (at + 1) ds (omega arith))
-
-waiting-step : {A : Type 0} (committed : List (Call A)) (i : ℕ) (ts : List (Asked A)) (t : Asked A) (b : Bool) (m : ℕ)
-    → waiting_from committed (i + 1) (ts ++ t ∷ []) ≡ waiting_from committed (i + 1) ts ++ m ∷ []
-    → (if b then i ∷ waiting_from committed (i + 1) (ts ++ t ∷ []) else waiting_from committed (i + 1) (ts ++ t ∷ []))
-    ≡ (if b then i ∷ waiting_from committed (i + 1) ts else waiting_from committed (i + 1) ts) ++ m ∷ []
-waiting-step committed i ts t true m e = ap (λ w. i ∷ w) e
-waiting-step committed i ts t false m e = e
-
--- a new ticket waits
-pub waiting_from-push : {A : Type 0} (committed : List (Call A)) (i : ℕ) (ts : List (Asked A)) (t : Asked A)
-    → length committed ≤ t.since → waiting_from committed i (ts ++ t ∷ []) ≡ waiting_from committed i ts
-    ++ (i + length ts) ∷ []
-waiting_from-push committed i [] t late =
-    ap (λ o. if is_none o then i ∷ [] else []) (first_place-late t.call t.since 0 committed (omega arith))
-    ∙ (let e : i ≡ i + 0 = omega arith in ap (λ k. k ∷ []) e)
-waiting_from-push committed i (u ∷ ts) t late =
-    waiting-step committed i ts t (is_none (place_of committed u)) (i + suc (length ts))
-    (let e : i + 1 + length ts ≡ i + suc (length ts) = omega arith in waiting_from-push committed (i + 1) ts t late
-    ∙ ap (λ k. waiting_from committed (i + 1) ts ++ k ∷ []) e)
-
-unanswered-step : {A : Type 0} (i : ℕ) (t : Asked A) (ts : List (Asked A)) (ws : List ℕ) (b : Bool)
-    → length ts ≡ length ws → length (if b then t ∷ ts else ts) ≡ length (if b then i ∷ ws else ws)
-unanswered-step i t ts ws true e = ap suc e
-unanswered-step i t ts ws false e = e
-
--- as many tickets are unanswered as wait
-pub length-unanswered : {A : Type 0} (committed : List (Call A)) (i : ℕ) (ts : List (Asked A))
-    → length (unanswered committed ts) ≡ length (waiting_from committed i ts)
-length-unanswered committed i [] = refl
-length-unanswered committed i (t ∷ ts) = unanswered-step i t (unanswered committed ts)
-    (waiting_from committed (i + 1) ts) (is_none (place_of committed t)) (length-unanswered committed (i + 1) ts)
 
 module _ {O A : Type 0} (object : Sequential O) where
   answers_at-push : (committed : List (Call A)) (place i : ℕ) (ts : List (Asked A)) (t : Asked A)

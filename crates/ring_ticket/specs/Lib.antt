@@ -1,4 +1,4 @@
 pub mod Tickets
-pub mod Waiting
+pub mod Effects
 pub mod Recent
 pub mod Pendings

@@ -3,10 +3,10 @@
 ghost use Rattle.std.specs.Prelude.{◌≡◌, ◌≤◌, ◌<◌, [], ◌++◌, fold, true, false, not, IfOk, IfErr, OnOk, length};
 ghost use Rattle.std.specs.Vec.{vec_capacity};
 ghost use Rattle.ring_base.specs.declared.fault.Fault.TheVariants.{Memory, PendingFull};
-ghost use Rattle.ring_session.specs.SessionAnswer.{is_same};
+ghost use Rattle.ring_session.specs.SessionAnswer.{is_done, is_same};
 ghost use Rattle.ring_session.specs.Table.{table_next};
 ghost use Rattle.ring_ticket.specs.Recent.{kept_answer};
-ghost use Rattle.ring_ticket.specs.Waiting.{done_after};
+ghost use Rattle.ring_ticket.specs.Effects.{done_after};
 ghost use Rattle.ring_ticket.specs.Pendings.{none_given, is_full, with_ticket, stands_in, answers_to, answers_behind, left_by, with_answers};
 
 use crate::MAX_UNANSWERED;
@@ -14,12 +14,11 @@ use crate::answered::Answered;
 use crate::pending::Pending;
 use crate::recent::Recent;
 use crate::ticket::Ticket;
-use crate::waiting::{copy_of, is_done, is_same};
 use ring_base::{Fault, MAX};
 use ring_object::Object;
 use ring_payload::Call;
 use ring_session::{Answer, Sessions};
-use std::alloc::{Allocator, Global};
+use std::alloc::{AllocError, Allocator, Global};
 use std::marker::Model;
 
 /// The tickets of a node: how many it gave, which of them have no answer yet, and the answers given last. Its room is
@@ -104,6 +103,29 @@ impl<A: Allocator + Copy + Drop> Tickets<A> {
     {
         self.recent.answer_to(ticket)
     }
+}
+
+/// Whether the two are one call: of one client and number, and with the same operation.
+fn is_same<A: Allocator + Copy>(call: &Call<A>, other: &Call<A>) -> bool
+    ensures { result ≡ is_same call.now other.now }
+{
+    other.client == call.client
+        && other.number == call.number
+        && other.op.as_slice() == call.op.as_slice()
+}
+
+/// A copy of the call.
+pub fn copy_of<A: Allocator + Copy>(call: &Call<A>) -> Result<Call<A>, AllocError>
+    ensures { IfOk result (λ copy. copy ≡ call.now) }
+{
+    call.clone()
+}
+
+/// Whether the answer tells that its call takes effect now.
+fn is_done(answer: &Answer) -> bool
+    ensures { result ≡ is_done answer.now }
+{
+    matches!(answer, Answer::Done(_))
 }
 
 /// Lets the tickets go whose call was committed.

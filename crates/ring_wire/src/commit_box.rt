@@ -6,6 +6,7 @@ ghost use Rattle.ring_layout.specs.Reading.{Appends, Gives};
 ghost use Rattle.ring_wire.specs.declared.commit.CommitToken.{CommitToken as OneToken};
 
 use crate::commit::CommitToken;
+use crate::entries::CommitEntry;
 use bytes::BytesMut;
 use ring_base::Fault;
 use ring_layout::{Decode, Encode, Reader};
@@ -42,6 +43,22 @@ impl<A: Allocator + Copy> CommitBox<A> {
         ensures { result.now ≡ self.now }
     {
         &self.token
+    }
+
+    /// The token goes one hop further.
+    pub fn hop_on(&mut self)
+        requires { self.old.hop < 255 }
+        ensures { self.new ≡ record self.old { hop = self.old.hop + 1 } }
+    {
+        self.token.hop += 1;
+    }
+
+    /// The report of one member more stands behind the others.
+    pub fn report(&mut self, entry: CommitEntry)
+        requires { length self.old.entries < 16 }
+        ensures { self.new ≡ record self.old { entries = self.old.entries ++ entry ∷ [] } }
+    {
+        self.token.entries.push(entry);
     }
 }
 

@@ -7,7 +7,7 @@ use Rattle.std.proofs.lemmas.Bool.Decides.{nat_tests}
 use Rattle.std.proofs.lemmas.List.{map-append}
 use Rattle.ring_machine.specs.Nodes.{Node, node_committed}
 use Rattle.ring_world.specs.Ordering.{IsLongest, logs_of}
-use Rattle.ring_world.proofs.Playing.{take_more}
+use Rattle.ring_base.proofs.Rows.{take-more}
 use Rattle.ring_payload.specs.declared.call.Call.{Call}
 use Rattle.ring_session.specs.Deduplicated.{deduplicated}
 use Rattle.ring_history.specs.Orders.{longer, order_of}
@@ -62,7 +62,7 @@ get-take (x ∷ xs) (suc k) y e = get-take xs k y e
 
 module _ {A : Type 0} (nodes : List (Node A)) (i : ℕ) (n : Node A) (at : slice_get nodes i ≡ Some n) where
   next-order : order_of (logs_of (take (i + 1) nodes)) ≡ longer (order_of (logs_of (take i nodes))) (deduplicated (node_committed n))
-  next-order = ap (λ xs. order_of (logs_of xs)) (take_more nodes i n at)
+  next-order = ap (λ xs. order_of (logs_of xs)) (take-more nodes i n at)
       ∙ ap order_of (map-append node_committed (take i nodes) (n ∷ [])) ∙ order-push (logs_of (take i nodes))
       (node_committed n)
 
@@ -82,4 +82,4 @@ module _ {A : Type 0} (nodes : List (Node A)) (i : ℕ) (n : Node A) (at : slice
   pub still-longest : (o : Option ℕ) → length (deduplicated (node_committed n)) ≤ length
       (order_of (logs_of (take i nodes))) → IsLongest (take i nodes) o → IsLongest (take (i + 1) nodes) o
   still-longest None l h = stays l ∙ h
-  still-longest (Some k) l h = (h.0, (ap (λ xs. slice_get xs k) (take_more nodes i n at) ∙ get-before (take i nodes) (n ∷ []) k h.0 h.1), stays l ∙ h.2)
+  still-longest (Some k) l h = (h.0, (ap (λ xs. slice_get xs k) (take-more nodes i n at) ∙ get-before (take i nodes) (n ∷ []) k h.0 h.1), stays l ∙ h.2)

@@ -1,17 +1,13 @@
 -- A run goes on event by event, and only adds to what was.
-use Rattle.std.proofs.Common.{◌≡◌, ℕ, ◌+◌, take, Some, slice_get, add-one, List, [], ◌∷◌}
+use Rattle.std.proofs.Common.{◌≡◌, ℕ, ◌+◌, List, [], ◌∷◌}
 use Rattle.std.proofs.Common.{◌++◌, refl, ap, ◌∙◌, sym, subst, inl, inr, append-nil, append_assoc}
 use Rattle.ring_base.specs.Group.{Group}
 use Rattle.ring_object.specs.Operations.{Sequential}
-use Rattle.ring_effects.proofs.Adding.{take-next}
 use Rattle.ring_history.specs.declared.event.Event.{Event}
 use Rattle.ring_history.specs.declared.event.Event.TheVariants.{Stop}
 use Rattle.ring_history.specs.declared.told.Told.{Told}
 use Rattle.ring_history.specs.Worlds.{World, world_opening, happens, run}
 use Rattle.ring_world.specs.Played.{Played, world_of, Goes, Plays}
-
-pub take_more : {X : Type 0} (xs : List X) (i : ℕ) (x : X) → slice_get xs i ≡ Some x → take (i + 1) xs ≡ take i xs ++ x ∷ []
-take_more xs i x e = ap (λ n. take n xs) (add-one i) ∙ take-next xs i x e
 
 module _ {O A : Type 0} (object : Sequential O) where
   -- how many were done is another matter

@@ -3,7 +3,7 @@ use Rattle.std.proofs.lemmas.List.{take_all}
 use Rattle.std.proofs.lemmas.Option.{slice_get_read}
 use Rattle.ring_base.proofs.Each.{each-get}
 use Rattle.ring_core.specs.State.{Sent}
-use Rattle.ring_effects.proofs.Adding.{take-next}
+use Rattle.ring_base.proofs.Rows.{take-found}
 use Rattle.ring_wire.specs.Frames.{FrameFits}
 use Rattle.ring_lines.specs.Machines.{SentFits}
 use Rattle.ring_lines.proofs.frames.spell_all.Goals as goal
@@ -29,6 +29,6 @@ loop-sent-preserved g c =
     rw add-one record {
       items = pushed
           ∙ (ap (λ xs. xs ++ c.in_ok-spell.field-0 ∷ []) c.loop-sent.invariant.items
-          ∙ (ap (λ x. take k c.args.sends.now ++ x ∷ []) spelled ∙ sym (take-next c.args.sends.now k s at)));
+          ∙ (ap (λ x. take k c.args.sends.now ++ x ∷ []) spelled ∙ sym (take-found c.args.sends.now k s at)));
       room = c.spell.ensures.room;
     }

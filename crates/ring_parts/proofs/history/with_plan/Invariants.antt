@@ -3,4 +3,4 @@ use Rattle.ring_parts.specs.Histories.{with_plan}
 use Rattle.ring_parts.proofs.history.with_plan.Given as goal
 
 abbrev pub ghost-told : goal.ghost-told
-ghost-told g a = λ h f. with_plan h f.0.now f.1 f.2
+ghost-told g a = λ h f. with_plan h f.0.now.value f.1 f.2

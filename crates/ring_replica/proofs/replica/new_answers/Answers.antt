@@ -1,11 +1,10 @@
 -- The new places' calls are told so many effects, and no more than they are.
-use Rattle.std.proofs.Common.{◌≡◌, ◌+◌, ◌-◌, true, List, [], length, take, drop, fold, ap, sym, ◌∙◌, arith, length-take, length-drop}
+use Rattle.std.proofs.Common.{◌+◌, ◌-◌, [], length, drop, fold, ap, ◌∙◌, arith, length-take, length-drop}
 use Rattle.std.proofs.lemmas.List.{take_rest}
-use Rattle.ring_payload.specs.declared.call.Call.{Call}
 use Rattle.ring_log.specs.Logs.{committed_calls}
 use Rattle.ring_session.specs.Table.{table_next}
 use Rattle.ring_ticket.specs.Pendings.{answers_behind}
-use Rattle.ring_ticket.specs.Waiting.{done_after}
+use Rattle.ring_ticket.specs.Effects.{done_after}
 use Rattle.ring_ticket.proofs.Effects.{done_after-few}
 use Rattle.ring_replica.proofs.replica.new_answers.Goals as goal
 

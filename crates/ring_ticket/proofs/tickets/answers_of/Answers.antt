@@ -1,10 +1,10 @@
 -- One committed call more: it goes through the sessions, and its answer to the tickets of the same call.
 use Rattle.std.proofs.Common.{ℕ, ◌+◌, [], drop, fold, refl, ap, sym, ◌∙◌, arith, if◌then◌else◌}
 use Rattle.ring_session.specs.Table.{table_next}
-use Rattle.ring_ticket.specs.Waiting.{done_after}
+use Rattle.ring_ticket.specs.Effects.{done_after}
 use Rattle.ring_ticket.specs.Pendings.{answers_behind}
 use Rattle.ring_ticket.proofs.Effects.{done-next}
-use Rattle.ring_ticket.proofs.Waits.{drop-next, take-next}
+use Rattle.ring_base.proofs.Rows.{drop-next, take-next}
 use Rattle.ring_ticket.proofs.Pendings.{answers-on}
 use Rattle.ring_ticket.proofs.tickets.answers_of.Goals as goal
 use Rattle.ring_ticket.proofs.tickets.answers_of.Goals.{then-is_done, else-is_done}

@@ -1,7 +1,7 @@
 -- What is done so far, and what the calls to come do.
 use Rattle.std.proofs.Common.{◌≡◌, ◌+◌, ◌++◌, ◌≤◌, [], take, drop, fold}
 use Rattle.ring_session.specs.Table.{table_next}
-use Rattle.ring_ticket.specs.Waiting.{done_after}
+use Rattle.ring_ticket.specs.Effects.{done_after}
 use Rattle.ring_ticket.specs.Pendings.{answers_behind}
 use Rattle.ring_ticket.proofs.tickets.answers_of.Given as goal
 

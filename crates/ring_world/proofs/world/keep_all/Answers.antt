@@ -5,7 +5,7 @@ use Rattle.std.proofs.lemmas.Option.{slice_get_read}
 use Rattle.ring_core.specs.State.{Sent, Carried}
 use Rattle.ring_history.specs.Worlds.{carried}
 use Rattle.ring_world.specs.Stored.{HasRoom}
-use Rattle.ring_world.proofs.Playing.{take_more}
+use Rattle.ring_base.proofs.Rows.{take-more}
 use Rattle.ring_world.proofs.world.keep_all.Goals as goal
 
 pub loop-sent-preserved : goal.loop-sent-preserved
@@ -20,6 +20,6 @@ loop-sent-preserved g c =
       c.keep.ensures.frames ∙ ap (λ (s : Sent g.row.A.Denot). c.loop-sent.frames.frames ++ carries s ∷ [])
           c.sent.view_is ∙ ap (λ fs. fs ++ carries x ∷ []) c.loop-sent.invariant.0
           ∙ append_assoc c.args.frames.now.frames (carried c.args.from (take i xs)) (carries x ∷ [])
-          ∙ ap (λ fs. c.args.frames.now.frames ++ fs) (sym (map-append carries (take i xs) (x ∷ [])) ∙ ap (map carries) (sym (take_more xs i x at))),
+          ∙ ap (λ fs. c.args.frames.now.frames ++ fs) (sym (map-append carries (take i xs) (x ∷ [])) ∙ ap (map carries) (sym (take-more xs i x at))),
       c.keep.ensures.room (length xs - (i + 1)) (subst (λ n. HasRoom n c.loop-sent.frames) (sym left) c.loop-sent.invariant.1),
     )

@@ -7,7 +7,7 @@ use Rattle.ring_session.specs.Deduplicated.{deduplicated}
 use Rattle.ring_session.specs.Table.{table_next}
 use Rattle.ring_ticket.specs.Pendings.{answers_behind}
 use Rattle.ring_ticket.specs.Tickets.{answers_after}
-use Rattle.ring_ticket.specs.Waiting.{done_after}
+use Rattle.ring_ticket.specs.Effects.{done_after}
 use Rattle.ring_replica.specs.Courses.{Course}
 use Rattle.ring_machine.specs.Lives.{lived_through}
 use Rattle.ring_replica.specs.Replicas.{ReplicaStepped, told_replica, replica_stopped}

@@ -27,4 +27,4 @@ returns-clause-outs g c =
     let same = c.in_ok-machine.ensures.ok ∙ ap (λ me. formed n me) c.new.ensures in
     let first = c.first_token-token.ensures ∙ ap (λ (p : Configuration). first_token p.ring) c.all_of.ensures in
     first_alone n c.in_ok-machine.machine c.first_token-token.result c.in_ok-outs.outs.items c.visit.new.outs.items
-    c.in_ok-outs.ensures.items c.in_ok-visit.ensures.outs same first
+    c.in_ok-outs.ensures.ok c.in_ok-visit.ensures.outs same first

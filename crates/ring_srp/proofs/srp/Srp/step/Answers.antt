@@ -1,9 +1,8 @@
 -- The machine's step is the core's.
 use Rattle.std.proofs.Common.{◌≡◌, false, ap, ◌∙◌, subst}
-use Rattle.ring_core.specs.State.{Core}
+use Rattle.ring_core.specs.State.{Core, is_stopped}
 use Rattle.ring_core.specs.Giving.{may_install}
 use Rattle.ring_core.specs.Stepping.{ring_step}
-use Rattle.ring_srp.specs.Machines.{is_stopped}
 use Rattle.ring_srp.proofs.Outputs.{step_settles}
 use Rattle.ring_srp.proofs.Stopping.{runs_as}
 use Rattle.ring_srp.proofs.srp.Srp.step.Goals as goal

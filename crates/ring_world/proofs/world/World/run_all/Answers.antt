@@ -3,7 +3,8 @@ use Rattle.std.proofs.Common.{◌+◌, List, take, length, refl, ap, ◌∙◌, 
 use Rattle.std.proofs.lemmas.Option.{slice_get_read}
 use Rattle.ring_history.specs.declared.event.Event.{Event}
 use Rattle.ring_world.specs.Played.{Played, Plays}
-use Rattle.ring_world.proofs.Playing.{plays_more, take_more}
+use Rattle.ring_base.proofs.Rows.{take-more}
+use Rattle.ring_world.proofs.Playing.{plays_more}
 use Rattle.ring_world.proofs.world.World.run_all.Goals as goal
 
 pub count-requires : goal.count-requires
@@ -22,6 +23,6 @@ loop-event-preserved g c =
     let more = plays_more object (take i es) e (q.done + 1) c.args.self.now c.loop-event.self q c.loop-event.invariant.0 c.in_ok-happen.ensures.ok in (
       subst (λ (r : Played g.row.O-Alloc.Denot). Plays object (take (i + 1) es) c.args.self.now r) (sym c.count.ensures)
           (subst (λ (xs : List (Event g.row.O-Alloc.Denot)). Plays object xs c.args.self.now
-          (record q { done = q.done + 1 })) (sym (take_more es i e at)) more),
+          (record q { done = q.done + 1 })) (sym (take-more es i e at)) more),
       ap (λ (r : Played g.row.O-Alloc.Denot). r.done) c.count.ensures ∙ ap (λ n. n + 1) (c.in_ok-happen.ensures.done ∙ c.loop-event.invariant.1),
     )

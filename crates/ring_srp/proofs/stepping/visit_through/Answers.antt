@@ -1,0 +1,18 @@
+-- A proposal stands after what the visit sent.
+use Rattle.std.proofs.Common.{refl}
+use Rattle.ring_core.specs.Deciding.{Visit}
+use Rattle.ring_acts.proofs.Results.{ok_to}
+use Rattle.ring_srp.proofs.Outputs.{done_core, done_sends}
+use Rattle.ring_srp.proofs.stepping.visit_through.Goals as goal
+
+pub returns-clause-core : goal.returns-clause-core
+returns-clause-core g c =
+    ok_to c.propose_if_due.result _ _ _
+    (done_core c.args.machine.now c.visit.new.self (Visit c.args.token.now) refl c.in_ok-visit.ensures.core) c.propose_if_due.ensures.core
+
+pub returns-clause-outs : goal.returns-clause-outs
+returns-clause-outs g c =
+    ok_to c.propose_if_due.result _ _ _
+    (done_sends c.args.machine.now c.visit.new.self (Visit c.args.token.now) c.args.outs.now.items c.visit.new.outs.items _
+    refl c.in_ok-visit.ensures.core c.in_ok-visit.ensures.outs refl)
+    c.propose_if_due.ensures.outs
