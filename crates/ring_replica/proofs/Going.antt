@@ -299,18 +299,18 @@ pub record IsWalked {A : Type 0} (m : Moment A) (first : List (Stay A)) (ys : Li
   pub sent : fine ≡ true → sends ≡ sends-before ++ filter_map send_of ys
   pub handed : fine ≡ true → due ≡ due-before ++ dues_by m first ys
 
-pub walked-none : {A : Type 0} (m : Moment A) (first : List (Stay A)) (fine : Bool) (sends : List (Sent A)) (due : List (Payload A)) → fine ≡ true
+pub walked-none : {A : Type 0} {m : Moment A} {first : List (Stay A)} {fine : Bool} {sends : List (Sent A)} {due : List (Payload A)} → fine ≡ true
     → is_sound m.group first ≡ true → IsWalked m first [] fine first sends sends due due
-walked-none m first fine sends due f t =
+walked-none {sends} {due} f t =
     record { sound = f ∙ sym t; lives = λ _. refl; sent = λ _. sym (append-nil sends); handed = λ _. sym (append-nil due) }
 
-pub walked-more : {A : Type 0} (m : Moment A) (first : List (Stay A)) (ys : List (Out A)) (o : Out A) (fine fine' : Bool) (life life' : List (Stay A))
+walked-on : {A : Type 0} (m : Moment A) (first : List (Stay A)) (ys : List (Out A)) (o : Out A) (fine fine' : Bool) (life life' : List (Stay A))
     (sends-before sends sends' : List (Sent A)) (due-before due due' : List (Payload A))
     → IsWalked m first ys fine life sends-before sends due-before due
     → fine' ≡ fine && is_sound m.group (lived life o) → (fine' ≡ true → life' ≡ lived life o)
     → (fine' ≡ true → sends' ≡ sends ++ filter_map send_of (o ∷ [])) → (fine' ≡ true → due' ≡ due ++ dues_at m life o)
     → IsWalked m first (ys ++ o ∷ []) fine' life' sends-before sends' due-before due'
-walked-more {A} m first ys o false fine' life life' sends-before sends sends' due-before due due' w e lives sent handed =
+walked-on {A} m first ys o false fine' life life' sends-before sends sends' due-before due due' w e lives sent handed =
     let never : fine' ≡ true → ⊥ = λ t. (let y = sym e ∙ t in cc y) in
     record {
       sound = e ∙ sym (ap (is_sound m.group) (lived-push first ys o) ∙ unsound-lived m.group (lived_through first ys) o (sym w.sound));
@@ -318,7 +318,7 @@ walked-more {A} m first ys o false fine' life life' sends-before sends sends' du
       sent = λ t. absurd (never t);
       handed = λ t. absurd (never t);
     }
-walked-more {A} m first ys o true fine' life life' sends-before sends sends' due-before due due' w e lives sent handed =
+walked-on {A} m first ys o true fine' life life' sends-before sends sends' due-before due due' w e lives sent handed =
     let was = w.lives refl in
     let now = lived-push first ys o in
     record {
@@ -330,25 +330,38 @@ walked-more {A} m first ys o true fine' life life' sends-before sends sends' due
           ∙ append_assoc due-before (dues_by m first ys) (dues_at m (lived_through first ys) o) ∙ ap (λ l. due-before ++ l) (sym (dues-push m first ys o));
     }
 
-pub moment-same : {A : Type 0} (a b : Group) (p q : ℕ) (running : Option RingId) (pending : List (Pending A)) (committed : ℕ) → a ≡ b → p ≡ q
-    → record { group = a; me = p; running = running; pending = pending; committed = committed }
-    ≡ (let m : Moment A = record {
-      group = b;
-      me = q;
-      running = running;
-      pending = pending;
-      committed = committed;
-    } in m)
-moment-same {A} a b p q running pending committed e f =
-    let by_group : Group → Moment A = λ x. record { group = x; me = p; running = running; pending = pending; committed = committed } in
-    let by_me : ℕ → Moment A = λ x. record { group = b; me = x; running = running; pending = pending; committed = committed } in
-    ap by_group e ∙ ap by_me f
+-- one output more, of a moment of the same node
+pub walked-more : {A : Type 0} {m : Moment A} {first : List (Stay A)} {ys : List (Out A)} {fine fine' : Bool} {life life' : List (Stay A)}
+    {sends-before sends sends' : List (Sent A)} {due-before due due' : List (Payload A)} {group : Group} {me : ℕ} (o : Out A)
+    → IsWalked m first ys fine life sends-before sends due-before due → group ≡ m.group → me ≡ m.me
+    → fine' ≡ fine && is_sound group (lived life o) → (fine' ≡ true → life' ≡ lived life o)
+    → (fine' ≡ true → sends' ≡ sends ++ filter_map send_of (o ∷ []))
+    → (fine' ≡ true → due' ≡ due ++ dues_at (record m { group = group; me = me }) life o)
+    → IsWalked m first (ys ++ o ∷ []) fine' life' sends-before sends' due-before due'
+walked-more {A} {m} {first} {ys} {fine} {fine'} {life} {life'} {sends-before} {sends} {sends'} {due-before} {due} {due'} {me} o w same at e lives sent handed =
+    let by_group : Group → Moment A = λ x. record m { group = x; me = me } in
+    let by_me : ℕ → Moment A = λ x. record m { me = x } in
+    walked-on m first ys o fine fine' life life' sends-before sends sends' due-before due due' w
+    (e ∙ ap (λ gr. fine && is_sound gr (lived life o)) same) lives sent
+    (λ t. handed t ∙ ap (λ x. due ++ dues_at x life o) (ap by_group same ∙ ap by_me at))
+
+-- once they are all
+pub walked-all : {A : Type 0} {m : Moment A} {first : List (Stay A)} {ys outs : List (Out A)} {fine : Bool} {life : List (Stay A)}
+    {sends-before sends : List (Sent A)} {due-before due : List (Payload A)}
+    → IsWalked m first ys fine life sends-before sends due-before due → ys ≡ outs → IsWalked m first outs fine life sends-before sends due-before due
+walked-all {m} {first} {fine} {life} {sends-before} {sends} {due-before} {due} w all =
+    subst (λ l. IsWalked m first l fine life sends-before sends due-before due) all w
 
 -- no mark falls at any of them
-pub rises-at : {A : Type 0} (life : List (Stay A)) (outs : List (Out A)) (k : ℕ) (o : Out A) → rises life outs ≡ true → slice_get outs k ≡ Some o
+rises-at : {A : Type 0} (life : List (Stay A)) (outs : List (Out A)) (k : ℕ) (o : Out A) → rises life outs ≡ true → slice_get outs k ≡ Some o
     → rises_at (lived_through life (take k outs)) o ≡ true
 rises-at life [] k o t e = absurd (cc e)
 rises-at life (y ∷ ys) zero o t e =
     let same : y ≡ o = cc e in
     ap (rises_at life) (sym same) ∙ (and_parts (rises_at life y) (rises (lived life y) ys) t).0
 rises-at life (y ∷ ys) (suc k) o t e = rises-at (lived life y) ys k o (and_parts (rises_at life y) (rises (lived life y) ys) t).1 e
+
+pub rises-next : {A : Type 0} (first : List (Stay A)) (outs : List (Out A)) {ys : List (Out A)} {life : List (Stay A)} {o : Out A}
+    → rises first outs ≡ true → ys ≡ take (length ys) outs → slice_get outs (length ys) ≡ Some o → life ≡ lived_through first ys → rises_at life o ≡ true
+rises-next first outs {ys} {o} t front stands lives =
+    ap (λ l. rises_at l o) lives ∙ ap (λ l. rises_at (lived_through first l) o) front ∙ rises-at first outs (length ys) o t stands

@@ -4,6 +4,7 @@
 -- Silent: The step of a node that has stopped gives nothing and changes nothing.
 -- Growing: In a run what a node committed only grows, so the copies of the calls that it answers are left.
 -- Events: Of the events that stand nothing is told but answers, and refusals whatever the memory.
+-- Standing: Where a node stands in the lists that the code of a world keeps, and what they are with another node in its place.
 -- Ties: What the code keeps goes on telling the world, event by event.
 -- Refusals: What a refusal tells, and room for fewer.
 -- Handing: What is handed to a node is the frame that was sent to it, if any.
@@ -19,6 +20,7 @@ pub mod Silent
 pub mod Growing
 pub mod Refusals
 pub mod Events
+pub mod Standing
 pub mod Ties
 pub mod Handing
 pub mod Playing

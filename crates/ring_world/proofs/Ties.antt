@@ -1,23 +1,22 @@
 -- What the code keeps goes on telling the world, event by event.
-use Rattle.std.proofs.Common.{◌≡◌, ℕ, zero, suc, ◌-◌, ◌<◌, ◌≤◌, true, false, ◌==◌, List, [], ◌∷◌, ◌++◌, length, drop}
-use Rattle.std.proofs.Common.{Option, Some, None, slice_get, get_or, refl, ap, ◌∙◌, sym, subst, arith, inl, inr}
-use Rattle.std.proofs.Common.{append-nil}
-use Rattle.std.specs.Prelude.{not, slice_set, MatchOption}
+use Rattle.std.proofs.Common.{◌≡◌, ℕ, ◌≤◌, true, List, [], ◌∷◌, ◌++◌, length, drop}
+use Rattle.std.proofs.Common.{Option, Some, None, get_or, refl, ap, ◌∙◌, sym, subst, inl, inr, append-nil}
+use Rattle.std.specs.Prelude.{not, slice_set, MatchOption, if◌then◌else◌}
+use Rattle.std.specs.List.{AllByRecursion}
 use Rattle.std.proofs.Math.Seq.{drop-append_seam}
-use Rattle.std.proofs.lemmas.Bool.{cond-true, cond-false, and_from, le-leb, eqb-true, eqb-false, eq-eqb, cases_Bool}
-use Rattle.std.proofs.lemmas.Bool.Decides.{nat_tests}
-use Rattle.std.proofs.lemmas.Option.{get_or_from_slice_get}
+use Rattle.std.proofs.lemmas.Bool.{and_from}
 use Rattle.ring_base.specs.Group.{Group}
 use Rattle.ring_base.proofs.Each.{each-push}
+use Rattle.ring_wire.specs.Frames.{FrameFits}
 use Rattle.ring_object.specs.Operations.{Sequential}
-use Rattle.ring_core.specs.State.{Carried}
+use Rattle.ring_core.specs.State.{Sent, Carried}
 use Rattle.ring_machine.specs.declared.input.Input.{Input}
 use Rattle.ring_machine.specs.Nodes.{Node, node_committed, node_stopped, is_stopped}
-use Rattle.ring_machine.specs.Stepping.{node_step, submit_fault, submitted, due_by_submit}
+use Rattle.ring_machine.specs.Stepping.{Answered, node_step, submit_fault, submitted, due_by_submit}
 use Rattle.ring_ticket.specs.Tickets.{Asked}
 use Rattle.ring_base.specs.declared.fault.Fault.{Fault}
-use Rattle.ring_base.specs.declared.fault.Fault.TheVariants.{Memory}
-use Rattle.ring_world.proofs.Refusals.{not_memory}
+use Rattle.ring_base.specs.declared.fault.Fault.TheVariants.{Memory, Stopped as StoppedFault}
+use Rattle.ring_world.proofs.Refusals.{not_memory, was_stopped, was_running}
 use Rattle.ring_base.specs.Fault.{fault_number}
 use Rattle.ring_payload.specs.declared.call.Call.{Call}
 use Rattle.ring_history.specs.declared.event.Event.{Event}
@@ -27,441 +26,352 @@ use Rattle.ring_history.specs.declared.item.Item.TheVariants.{Issue as IssuedIte
 use Rattle.ring_history.specs.declared.told.Told.{Told}
 use Rattle.ring_history.specs.declared.told.Told.TheVariants.{Refused as ToldRefused}
 use Rattle.ring_history.specs.Limits.{EventFits}
-use Rattle.ring_history.specs.Worlds.{World, world_opening, run, happens, put, is_node, after_step, stepped, stepped_if}
+use Rattle.ring_history.specs.Worlds.{World, world_opening, run, happens, put, after_step, stepped, stepped_if}
 use Rattle.ring_history.specs.Worlds.{stopped_if, issued_or, issued_if, carried, items_of, told_by}
 use Rattle.ring_linear.proofs.Orderly.{run-more}
 use Rattle.ring_world.specs.Played.{Played, told_of_events, IsCopy, world_of, told_behind, step_in, runs_in, Goes}
 use Rattle.ring_world.specs.Spares.{Spares, AllLeft, Holds, after_answers}
 use Rattle.ring_world.specs.Keeping.{KeepsCopies, IsKept, IsWorld}
-use Rattle.ring_world.proofs.Spared.{get-set_same, get-set_other, set-length, holds-more}
+use Rattle.ring_world.proofs.Spared.{set-length, holds-more}
 use Rattle.ring_world.proofs.Events.{tells_answers, tells_refusal, tells_memory}
 use Rattle.ring_world.proofs.Silent.{silent, stopped_node}
 use Rattle.ring_world.proofs.Growing.{hands-committed, step-grows, step-goes}
+use Rattle.ring_world.proofs.Standing.{Stands, high, known, node_is, copies_are, copies_set, copies_same, put_kept, same_nodes}
 
 -- Copies of events
 
-pub copy_fits : {A : Type 0} (e d : Event A) → IsCopy e d → EventFits e → EventFits d
+copy_fits : {A : Type 0} (e d : Event A) → IsCopy e d → EventFits e → EventFits d
 copy_fits (Issue i c) d copy fits = subst EventFits (sym copy) fits
 copy_fits (Deliver i k) d copy fits = subst EventFits (sym copy) tt
 copy_fits (Noise i bytes) d copy fits = subst EventFits (sym copy.1) tt
 copy_fits (Timeout i kind) d copy fits = subst EventFits (sym copy) tt
 copy_fits (Stop i) d copy fits = subst EventFits (sym copy) tt
 
-pub steps_fits : {A : Type 0} (w : World A) (e : Event A) (i : ℕ) → step_in w e ≡ Some i → EventFits e
+steps_fits : {A : Type 0} (w : World A) (e : Event A) (i : ℕ) → step_in w e ≡ Some i → EventFits e
 steps_fits w (Issue j c) i e = absurd (let q : ⊥ = cc e in q)
 steps_fits w (Deliver j k) i e = tt
 steps_fits w (Noise j bytes) i e = tt
 steps_fits w (Timeout j kind) i e = tt
 steps_fits w (Stop j) i e = tt
 
-eq_test : (i j : ℕ) → i ≡ j → (i == j) ≡ true
-eq_test i j e = eq-eqb i j e
-
-not_test : (i j : ℕ) → (i ≡ j → ⊥) → (i == j) ≡ false
-not_test i j f = elim (cases_Bool (i == j)) [ inl t ↦ absurd (f (eqb-true i j t)) | inr e ↦ e ]
-
-set-same : {X : Type 0} (xs : List X) (i : ℕ) (x : X) → slice_get xs i ≡ Some x → slice_set xs i x ≡ xs
-set-same [] i x e = absurd (let q : ⊥ = cc e in q)
-set-same (y ∷ xs) zero x e = (let q : y ≡ x = cc e in ap (λ z. z ∷ xs) (sym q))
-set-same (y ∷ xs) (suc i) x e = ap (λ zs. y ∷ zs) (set-same xs i x e)
-
-pub set-set : {X : Type 0} (xs : List X) (i : ℕ) (x y : X) → slice_set (slice_set xs i x) i y ≡ slice_set xs i y
-set-set [] i x y = refl
-set-set (z ∷ xs) zero x y = refl
-set-set (z ∷ xs) (suc i) x y = ap (λ zs. z ∷ zs) (set-set xs i x y)
-
-pub at-set : {X : Type 0} (xs : List X) (i : ℕ) (x y : X) → i < length xs → y ≡ get_or (slice_set xs i x) i y → y ≡ x
-at-set [] i x y l e = absurd (omega (arith, l))
-at-set (z ∷ xs) zero x y l e = e
-at-set (z ∷ xs) (suc i) x y l e = at-set xs i x y (omega (arith, l)) e
-
 submitted-committed : {A : Type 0} (n : Node A) (c : Call A) → node_committed (submitted n c) ≡ node_committed n
 submitted-committed n c = hands-committed n.group (due_by_submit n c) n.life
 
-at-get : {X : Type 0} (xs : List X) (i : ℕ) (x y : X) → slice_get xs i ≡ Some y → x ≡ get_or xs i x → x ≡ y
-at-get xs i x y e is = is ∙ get_or_from_slice_get xs i y x e
+copy_happens : {O A : Type 0} (object : Sequential O) (w : World A) (e d : Event A) → IsCopy e d → happens object w d ≡ happens object w e
+copy_happens object w (Issue i c) d copy = ap (happens object w) copy
+copy_happens object w (Deliver i k) d copy = ap (happens object w) copy
+copy_happens object w (Noise i bytes) d copy = ap (happens object w) copy.1
+copy_happens object w (Timeout i kind) d copy = ap (happens object w) copy
+copy_happens object w (Stop i) d copy = ap (happens object w) copy
 
-module _ {O A : Type 0} (object : Sequential O) where
-  copy_happens : (w : World A) (e d : Event A) → IsCopy e d → happens object w d ≡ happens object w e
-  copy_happens w (Issue i c) d copy = ap (happens object w) copy
-  copy_happens w (Deliver i k) d copy = ap (happens object w) copy
-  copy_happens w (Noise i bytes) d copy = ap (happens object w) copy.1
-  copy_happens w (Timeout i kind) d copy = ap (happens object w) copy
-  copy_happens w (Stop i) d copy = ap (happens object w) copy
+-- what is told
+told_more : {O A : Type 0} (object : Sequential O) (w v : World A) (e : Event A) (more : List (Told A)) → happens object w e ≡ v
+    → v.told ≡ w.told ++ more → told_behind object w e ≡ more
+told_more {A = A} object w v e more is t = ap (drop (length w.told)) (ap (λ (x : World A). x.told) is ∙ t) ∙ drop-append_seam w.told more
 
+idle_is : {O A : Type 0} (object : Sequential O) {p old : Played A} (e : Event A) → p ≡ old
+    → happens object (world_of object old) e ≡ world_of object old → happens object (world_of object p) e ≡ world_of object p
+idle_is {A = A} object e was same = subst (λ (r : Played A). happens object (world_of object r) e ≡ world_of object r) (sym was) same
+
+module _ {O A : Type 0} {object : Sequential O} where
   -- an event more
-  pub tells : (group : Group) (events : List (Event A)) (nodes nodes' : List (Node A))
-      (spares spares' : List (Spares A)) (frames frames' : List (Carried A)) (history history' : List (Item A))
-      (told told' : List (Told A)) (d : Event A) (v : World A) →
-      IsWorld object group events nodes spares frames history told → EventFits d → happens object (run object (world_opening group) events) d ≡ v →
-      v.group ≡ (run object (world_opening group) events).group → IsKept v nodes' spares' frames' history' told' →
-      IsWorld object group (events ++ d ∷ []) nodes' spares' frames' history' told'
-  tells group events nodes nodes' spares spares' frames frames' history history' told told' d v h fits is same kept =
-      let next : run object (world_opening group) (events ++ d ∷ []) ≡ v = run-more object (world_opening group) events d ∙ is in
-      record {
+  tells : {group : Group} {events es : List (Event A)} {nodes nodes' : List (Node A)} {spares spares' : List (Spares A)}
+      {frames frames' : List (Carried A)} {history history' : List (Item A)} {told told' : List (Told A)} {v : World A} (e d : Event A) →
+      IsWorld object group events nodes spares frames history told → IsCopy e d → EventFits e →
+      happens object (run object (world_opening group) events) e ≡ v → v.group ≡ (run object (world_opening group) events).group →
+      IsKept v nodes' spares' frames' history' told' → es ≡ events ++ d ∷ [] →
+      IsWorld object group es nodes' spares' frames' history' told'
+  tells {group} {events} {nodes'} {spares'} {frames'} {history'} {told'} {v} e d h copy fits is same kept es_is =
+      let opening = world_opening group in
+      let next : run object opening (events ++ d ∷ []) ≡ v =
+      run-more object opening events d ∙ copy_happens object (run object opening events) e d copy ∙ is in
+      rw es_is record {
         kept = subst (λ (x : World A). IsKept x nodes' spares' frames' history' told') (sym next) kept;
         same = ap (λ (x : World A). x.group) next ∙ same ∙ h.same;
-        fit = each-push EventFits events d h.fit fits;
+        fit = each-push EventFits events d h.fit (copy_fits e d copy fits);
         few = h.few;
       }
 
-  -- what is told
-  told_more : (w v : World A) (e : Event A) (more : List (Told A)) → happens object w e ≡ v → v.told ≡ w.told ++ more → told_behind object w e ≡ more
-  told_more w v e more is t = ap (drop (length w.told)) (ap (λ (x : World A). x.told) is ∙ t) ∙ drop-append_seam w.told more
+  is_done : {p old : Played A} {es : List (Event A)} {ts : List (Told A)} {done : ℕ} {v : World A} (e d : Event A) (more : List (Told A)) → p ≡ old
+      → IsCopy e d → happens object (world_of object p) e ≡ v → v.told ≡ (world_of object p).told ++ more →
+      es ≡ p.events ++ d ∷ [] → ts ≡ p.told ++ more → Goes object e old (record { group = p.group; events = es; told = ts; done = done })
+  is_done {p} {es = es} {ts = ts} {done = done} {v = v} e d more was copy is t es_is ts_is =
+      let q : Played A = record { group = p.group; events = es; told = ts; done = done } in
+      subst (λ (r : Played A). Goes object e r q) was (inl (record {
+        kept = d;
+        copy = copy;
+        group = refl;
+        events = es_is;
+        told = ts_is ∙ ap (λ xs. p.told ++ xs) (sym (told_more object (world_of object p) v e more is t));
+      }))
 
-  pub is_done : (p q : Played A) (e d : Event A) (more : List (Told A)) (v : World A) → IsCopy e d
-      → happens object (world_of object p) e ≡ v → v.told ≡ (world_of object p).told ++ more →
-      q.group ≡ p.group → q.events ≡ p.events ++ d ∷ [] → q.told ≡ p.told ++ more → Goes object e p q
-  is_done p q e d more v copy is t a b c =
-      inl (record { kept = d; copy = copy; group = a; events = b; told = c ∙ ap (λ ts. p.told ++ ts) (sym (told_more (world_of object p) v e more is t)) })
+  -- An event that changes nothing
 
-  module _ (p : Played A) (nodes : List (Node A)) (spares : List (Spares A)) (frames : List (Carried A)) (history : List (Item A))
-      (h : IsWorld object p.group p.events nodes spares frames history p.told) where
-    abbrev w : World A
-    w = world_of object p
+  module _ {p old : Played A} {es : List (Event A)} (e d : Event A) (was : p ≡ old)
+      (same : happens object (world_of object old) e ≡ world_of object old) (copy : IsCopy e d) (es_is : es ≡ p.events ++ d ∷ []) where
+    pub idle_world : {nodes : List (Node A)} {spares : List (Spares A)} {frames : List (Carried A)} {history : List (Item A)} → EventFits e
+        → IsWorld object p.group p.events nodes spares frames history p.told → IsWorld object p.group es nodes spares frames history p.told
+    idle_world fits h = tells e d h copy fits (idle_is object e was same) refl h.kept es_is
 
-    -- an event that changes nothing
-    pub idle_world : (e d : Event A) → IsCopy e d → EventFits e → happens object w e ≡ w → IsWorld object p.group
-        (p.events ++ d ∷ []) nodes spares frames history p.told
-    idle_world e d copy fits is =
-        tells p.group p.events nodes nodes spares spares frames frames history history p.told p.told d w h (copy_fits e d copy fits)
-        (copy_happens w e d copy ∙ is) refl h.kept
+    pub idle_goes : {done : ℕ} → Goes object e old (record { group = p.group; events = es; told = p.told; done = done })
+    idle_goes = is_done e d [] was copy (idle_is object e was same) (sym (append-nil (world_of object p).told)) es_is (sym (append-nil p.told))
 
-    pub idle_goes : (q : Played A) (e d : Event A) → IsCopy e d → happens object w e ≡ w → q.group ≡ p.group
-        → q.events ≡ p.events ++ d ∷ [] → q.told ≡ p.told → Goes object e p q
-    idle_goes q e d copy is a b c = is_done p q e d [] w copy is (sym (append-nil w.told)) a b (c ∙ sym (append-nil p.told))
+-- what the step of a node gives, and the node after it
+pub record IsStep {O A : Type 0} (object : Sequential O) (n : Node A) (input : Input A) (after : Node A)
+    (sent : List (Sent A)) (answered : List (Answered A)) : Type 0 where
+  pub node : after ≡ (node_step object n input).node
+  pub sends : sent ≡ (node_step object n input).sends
+  pub answers : answered ≡ (node_step object n input).answers
 
-    pub unknown : (i : ℕ) → 1 ≤ i → length nodes ≤ i - 1 → is_node w i ≡ false
-    unknown i low far =
-        let many = h.kept.many in
-        let past : w.group.count ≤ i - 1 = omega (arith, far, many) in
-        grind (arith, nat_tests, low, past)
+module _ {O A : Type 0} {object : Sequential O} {p old : Played A} {nodes : List (Node A)} {spares : List (Spares A)}
+    {frames : List (Carried A)} {history : List (Item A)} {i m : ℕ} (here : Stands object p old nodes spares frames history i m) where
+  abbrev w : World A
+  w = world_of object p
 
-    -- a node that is there
-    module _ (i m : ℕ) (low : 1 ≤ i) (at : m ≡ i - 1) (inside : m < length nodes) where
-      count : w.group.count ≡ p.group.count
-      count = ap (λ (g : Group). g.count) h.same
+  abbrev kept : IsKept w nodes spares frames history p.told
+  kept = here.world.kept
 
-      below : m < w.group.count
-      below = (let many = h.kept.many in omega (arith, inside, many))
+  -- It stepped
 
-      next : suc m ≡ i
-      next = omega (arith, low, at)
+  module _ {n after : Node A} {input : Input A} {sent : List (Sent A)} {answered : List (Answered A)} (found : n ≡ get_or nodes m n)
+      (gave : IsStep object n input after sent answered) where
+    gives : IsStep object (w.nodes i) input after sent answered
+    gives = subst (λ (x : Node A). IsStep object x input after sent answered) (node_is here found) gave
 
-      pub high : i ≤ p.group.count
-      high = (let b = below in let n = next in let c = count in omega (arith, b, n, c))
+    pub sends_fit : AllByRecursion (λ (s : Sent A). FrameFits s.frame) (node_step object (w.nodes i) input).sends
+        → AllByRecursion (λ (s : Sent A). FrameFits s.frame) sent
+    sends_fit fit = subst (AllByRecursion (λ (s : Sent A). FrameFits s.frame)) (sym gives.sends) fit
 
-      pub known : is_node w i ≡ true
-      known = (let b = below in let n = next in and_from _ _ (le-leb 1 i low) (le-leb i w.group.count (omega (arith, b, n))))
+    pub answers_few : length (node_step object (w.nodes i) input).answers ≤ 64 → length answered ≤ 64
+    answers_few few = subst (λ l. l ≤ 64) (sym (ap length gives.answers)) few
 
-      pub node_is : (d : Node A) → d ≡ get_or nodes m d → d ≡ w.nodes i
-      node_is d is = at-get nodes m d (w.nodes (suc m)) (h.kept.nodes_are m below) is ∙ ap w.nodes next
+    module _ {s : Spares A} (e : Event A) (spare : s ≡ get_or spares m s)
+        (same : happens object (world_of object old) e ≡ stepped object (world_of object old) i input) where
+      step_is : happens object w e ≡ after_step w i (node_step object (w.nodes i) input)
+      step_is = subst (λ (r : Played A). happens object (world_of object r) e ≡ stepped object (world_of object r) i input) (sym here.was) same
+          ∙ ap (λ b. stepped_if object b w i input) (known here)
 
-      pub copies_are : (s : Spares A) → s ≡ get_or spares m s → KeepsCopies (w.nodes i) s
-      copies_are s is =
-          let c = h.kept.copies m below in
-          subst (λ (t : Spares A). KeepsCopies (w.nodes i) t) (sym (at-get spares m s c.0 c.1 is)) (subst (λ j. KeepsCopies (w.nodes j) c.0) next c.2)
-
-      pub spare_there : m < length spares
-      spare_there = (let b = below in let many = h.kept.copies_many in omega (arith, b, many))
-
-      put_at : (n : Node A) (j : ℕ) → j ≡ m → put w.nodes i n (suc j) ≡ n
-      put_at n j e = cond-true (suc j == i) n (w.nodes (suc j)) (let q : suc j ≡ i = ap suc e ∙ next in eq_test (suc j) i q)
-
-      put_other : (n : Node A) (j : ℕ) → (j ≡ m → ⊥) → put w.nodes i n (suc j) ≡ w.nodes (suc j)
-      put_other n j f = cond-false (suc j == i) n (w.nodes (suc j)) (not_test (suc j) i (λ q. f (let x = next in omega (arith, q, x))))
-
-      nodes_put : (n : Node A) (j : ℕ) → j < w.group.count → slice_get (slice_set nodes m n) j ≡ Some (put w.nodes i n (suc j))
-      nodes_put n j l = elim (cases_Bool (j == m)) [
-        | inl t ↦
-            let e = eqb-true j m t in
-            ap (slice_get (slice_set nodes m n)) e ∙ get-set_same nodes m n (w.nodes (suc m)) (h.kept.nodes_are m below) ∙ ap Some (sym (put_at n j e))
-        | inr f ↦
-            let e = eqb-false j m f in
-            get-set_other nodes m j n e ∙ h.kept.nodes_are j l ∙ ap Some (sym (put_other n j e))
-      ]
-
-      abbrev Copied : Node A → List (Spares A) → Type 0
-      Copied n ss = (j : ℕ) → j < w.group.count → (s : Spares A) × (slice_get ss j ≡ Some s) × KeepsCopies (put w.nodes i n (suc j)) s
-
-      copies_set : (n : Node A) (s : Spares A) → KeepsCopies n s → Copied n (slice_set spares m s)
-      copies_set n s k j l = elim (cases_Bool (j == m)) [
-        | inl t ↦
-            let e = eqb-true j m t in
-            let c = h.kept.copies m below in
-            (s, (ap (slice_get (slice_set spares m s)) e ∙ get-set_same spares m s c.0 c.1), subst (λ (x : Node A). KeepsCopies x s) (sym (put_at n j e)) k)
-        | inr f ↦
-            let e = eqb-false j m f in
-            let c = h.kept.copies j l in
-            (c.0, (get-set_other spares m j s e ∙ c.1), subst (λ (x : Node A). KeepsCopies x c.0) (sym (put_other n j e)) c.2)
-      ]
-
-      copies_same : (n : Node A) → ((s : Spares A) → KeepsCopies (w.nodes i) s → KeepsCopies n s) → Copied n spares
-      copies_same n k j l = elim (cases_Bool (j == m)) [
-        | inl t ↦
-            let e = eqb-true j m t in
-            let c = h.kept.copies j l in
-            let here = subst (λ x. KeepsCopies (w.nodes x) c.0) (ap suc e ∙ next) c.2 in
-            (c.0, c.1, subst (λ (x : Node A). KeepsCopies x c.0) (sym (put_at n j e)) (k c.0 here))
-        | inr f ↦
-            let e = eqb-false j m f in
-            let c = h.kept.copies j l in
-            (c.0, c.1, subst (λ (x : Node A). KeepsCopies x c.0) (sym (put_other n j e)) c.2)
-      ]
-
-      -- a node is another
-      put_kept : (n : Node A) (nodes' : List (Node A)) (ss : List (Spares A)) (fs : List (Carried A))
-          (is : List (Item A)) (ts : List (Told A)) (v : World A) → nodes' ≡ slice_set nodes m n → v.group ≡ w.group
-          → v.nodes ≡ put w.nodes i n →
-          v.frames ≡ fs → v.history ≡ is → v.told ≡ told_of_events ts → Copied n ss → length ss ≡ length spares → IsKept v nodes' ss fs is ts
-      put_kept n nodes' ss fs is ts v set g ns f hs t copied many =
-          let cs : v.group.count ≡ w.group.count = ap (λ (x : Group). x.count) g in
-          record {
-            nodes_are = λ j l. ap (λ xs. slice_get xs j) set ∙ nodes_put n j (omega (arith, l, cs)) ∙ ap (λ (x : ℕ → Node A). Some (x (suc j))) (sym ns);
-            many = ap length set ∙ set-length nodes m n ∙ h.kept.many ∙ sym cs;
-            copies = λ j l. (let c = copied j (omega (arith, l, cs)) in (c.0, c.1, subst (λ (x : ℕ → Node A). KeepsCopies (x (suc j)) c.0) (sym ns) c.2));
-            copies_many = many ∙ h.kept.copies_many ∙ sym cs;
-            frames_are = sym f;
-            history_is = sym hs;
-            told_is = sym t;
-          }
-
-      -- it stepped
-
-      step_is : (input : Input A) → stepped object w i input ≡ after_step w i (node_step object (w.nodes i) input)
-      step_is input = ap (λ b. stepped_if object b w i input) known
+      step_keeps : AllLeft s.calls (node_step object (w.nodes i) input).answers
+          × Holds (after_answers s.calls (node_step object (w.nodes i) input).answers) (node_step object (w.nodes i) input).node.tickets
+          (node_committed (node_step object (w.nodes i) input).node)
+      step_keeps =
+          let was = subst (λ (r : Played A). happens object (world_of object r) e ≡ stepped object (world_of object r) i input) (sym here.was) same in
+          step-goes object (w.nodes i) input s.calls
+          (step-grows object p.group here.world.few p.events e i input here.low (high here) (known here) was) (copies_are here spare)
 
       -- what a step answers has its copies
-      pub answers_left : (e : Event A) (input : Input A) (s : Spares A)
-          → happens object w e ≡ stepped object w i input → KeepsCopies (w.nodes i) s
-          → AllLeft s.calls (node_step object (w.nodes i) input).answers
-      answers_left e input s is k =
-          (step-goes object (w.nodes i) input s.calls (step-grows object p.group h.few p.events e i input low high known is) k).0
+      pub answers_left : AllLeft s.calls answered
+      answers_left = subst (AllLeft s.calls) (sym gives.answers) step_keeps.0
 
-      pub step_world : (e d : Event A) (input : Input A) → IsCopy e d → EventFits e
-          → happens object w e ≡ stepped object w i input → (n : Node A) (s s' : Spares A) (nodes' : List (Node A))
-          (ss : List (Spares A)) (fs : List (Carried A)) (is : List (Item A)) (ts : List (Told A)) →
-          KeepsCopies (w.nodes i) s → n ≡ (node_step object (w.nodes i) input).node → nodes' ≡ slice_set nodes m n
-          → ss ≡ slice_set spares m s' → s'.calls ≡ after_answers s.calls
-          (node_step object (w.nodes i) input).answers →
-          fs ≡ frames ++ carried i (node_step object (w.nodes i) input).sends → is ≡ history ++ items_of (node_step object (w.nodes i) input).answers →
-          ts ≡ p.told ++ told_by i (node_step object (w.nodes i) input).answers →
-          IsWorld object p.group (p.events ++ d ∷ []) nodes' ss fs is ts
-      step_world e d input copy fits same n s s' nodes' ss fs is ts k n_is ns ss_is s_is fs_is is_is ts_is =
+      pub step_world : {es : List (Event A)} {fs : List (Carried A)} {is : List (Item A)} {ts : List (Told A)} (d : Event A) (s' : Spares A) → IsCopy e d
+          → step_in (world_of object old) e ≡ Some i → es ≡ p.events ++ d ∷ [] → s'.calls ≡ after_answers s.calls answered
+          → fs ≡ frames ++ carried i sent → is ≡ history ++ items_of answered → ts ≡ p.told ++ told_by i answered
+          → IsWorld object p.group es (slice_set nodes m after) (slice_set spares m s') fs is ts
+      step_world d s' copy steps es_is s_is fs_is is_is ts_is =
           let st = node_step object (w.nodes i) input in
-          let v = after_step w i st in
-          let holds = (step-goes object (w.nodes i) input s.calls (step-grows object p.group h.few p.events e i input low high known same) k).1 in
-          let keeps : KeepsCopies n s' = subst (λ cs. Holds cs n.tickets (node_committed n)) (sym s_is)
-          (subst (λ (x : Node A). Holds (after_answers s.calls st.answers) x.tickets (node_committed x)) (sym n_is) holds) in
-          tells p.group p.events nodes nodes' spares ss frames fs history is p.told ts d v h (copy_fits e d copy fits)
-          (copy_happens w e d copy ∙ same ∙ step_is input) refl
-          (put_kept n nodes' ss fs is ts v ns refl (ap (λ (x : Node A). put w.nodes i x) (sym n_is))
-          (ap (λ xs. xs ++ carried i st.sends) (sym h.kept.frames_are) ∙ sym fs_is)
-          (ap (λ xs. xs ++ items_of st.answers) (sym h.kept.history_is) ∙ sym is_is)
-          (sym (ap told_of_events ts_is ∙ tells_answers p.told w.told h.kept.told_is i st.answers))
-          (subst (Copied n) (sym ss_is) (copies_set n s' keeps)) (ap length ss_is ∙ set-length spares m s'))
+          let keeps : KeepsCopies after s' = subst (λ cs. Holds cs after.tickets (node_committed after)) (sym (s_is ∙ ap (after_answers s.calls) gives.answers))
+          (subst (λ (x : Node A). Holds (after_answers s.calls st.answers) x.tickets (node_committed x)) (sym gives.node) step_keeps.1) in
+          tells e d here.world copy (steps_fits (world_of object old) e i steps) step_is refl
+          (put_kept here after refl (ap (λ (x : Node A). put w.nodes i x) (sym gives.node))
+          (ap (λ xs. xs ++ carried i st.sends) (sym kept.frames_are) ∙ sym (fs_is ∙ ap (λ xs. frames ++ carried i xs) gives.sends))
+          (ap (λ xs. xs ++ items_of st.answers) (sym kept.history_is) ∙ sym (is_is ∙ ap (λ xs. history ++ items_of xs) gives.answers))
+          (sym (ap told_of_events (ts_is ∙ ap (λ xs. p.told ++ told_by i xs) gives.answers) ∙ tells_answers p.told w.told kept.told_is i st.answers))
+          (copies_set here after s' keeps) (set-length spares m s')) es_is
 
-      pub step_goes : (q : Played A) (e d : Event A) (input : Input A) → IsCopy e d
-          → happens object w e ≡ stepped object w i input → q.group ≡ p.group → q.events ≡ p.events ++ d ∷ [] →
-          q.told ≡ p.told ++ told_by i (node_step object (w.nodes i) input).answers → Goes object e p q
-      step_goes q e d input copy same a b c =
-          is_done p q e d (told_by i (node_step object (w.nodes i) input).answers)
-          (after_step w i (node_step object (w.nodes i) input)) copy (same ∙ step_is input) refl a b c
+      pub step_goes : {es : List (Event A)} {ts : List (Told A)} {done : ℕ} (d : Event A) → IsCopy e d → es ≡ p.events ++ d ∷ []
+          → ts ≡ p.told ++ told_by i answered → Goes object e old (record { group = p.group; events = es; told = ts; done = done })
+      step_goes d copy es_is ts_is = is_done e d (told_by i (node_step object (w.nodes i) input).answers) here.was copy step_is refl es_is
+          (ts_is ∙ ap (λ xs. p.told ++ told_by i xs) gives.answers)
 
-      -- it had stopped, and is what it was
+  -- It stops
 
-      halted_keeps : (s : Spares A) → KeepsCopies (w.nodes i) s → KeepsCopies (node_stopped (w.nodes i)) s
-      halted_keeps s k = k
+  halted_keeps : (s : Spares A) → KeepsCopies (w.nodes i) s → KeepsCopies (node_stopped (w.nodes i)) s
+  halted_keeps s k = k
 
-      silent_is : (e : Event A) (input : Input A) → happens object w e ≡ stepped object w i input
-          → is_stopped (w.nodes i).core.state ≡ true → happens object w e ≡ stopped_if true w i
-      silent_is e input same t =
-          let n = w.nodes i in
-          let g = silent object n input t in
+  stop_is : happens object w (Stop i) ≡ stopped_if true w i
+  stop_is = ap (λ b. stopped_if b w i) (known here)
+
+  halted_kept : {n after : Node A} → n ≡ get_or nodes m n → after ≡ node_stopped n
+      → IsKept (stopped_if true w i) (slice_set nodes m after) spares frames history p.told
+  halted_kept found halted =
+      let now = node_stopped (w.nodes i) in
+      rw (halted ∙ ap node_stopped (node_is here found)) (put_kept here now refl refl (sym kept.frames_are)
+      (sym kept.history_is) (sym kept.told_is) (copies_same here now halted_keeps) refl)
+
+  pub stop_world : {n after : Node A} {es : List (Event A)} → n ≡ get_or nodes m n → after ≡ node_stopped n → es ≡ p.events ++ Stop i ∷ []
+      → IsWorld object p.group es (slice_set nodes m after) spares frames history p.told
+  stop_world found halted es_is = tells (Stop i) (Stop i) here.world refl tt stop_is refl (halted_kept found halted) es_is
+
+  pub stop_goes : {e : Event A} {es : List (Event A)} {done : ℕ} → e ≡ Stop i → es ≡ p.events ++ Stop i ∷ []
+      → Goes object e old (record { group = p.group; events = es; told = p.told; done = done })
+  stop_goes {es = es} {done = done} event es_is =
+      let q : Played A = record { group = p.group; events = es; told = p.told; done = done } in
+      subst (λ (e : Event A). Goes object e old q) (sym event)
+      (is_done (Stop i) (Stop i) [] here.was refl stop_is (sym (append-nil w.told)) es_is (sym (append-nil p.told)))
+
+  -- Its step was refused
+
+  module _ {n : Node A} {fault : Fault} (e : Event A) (found : n ≡ get_or nodes m n)
+      (refused : fault ≡ (if is_stopped n.core.state then StoppedFault else Memory)) where
+    -- for it had stopped, and is what it was
+    module _ (d : Event A) (input : Input A) (stopped : fault ≡ StoppedFault) (copy : IsCopy e d)
+        (same : happens object (world_of object old) e ≡ stepped object (world_of object old) i input) where
+      silent_is : happens object w e ≡ stopped_if true w i
+      silent_is =
+          let was = subst (λ (r : Played A). happens object (world_of object r) e ≡ stepped object (world_of object r) i input) (sym here.was) same in
+          let node = w.nodes i in
+          let t : is_stopped node.core.state ≡ true = ap (λ (x : Node A). is_stopped x.core.state) (sym (node_is here found))
+          ∙ was_stopped (is_stopped n.core.state) fault refused stopped in
+          let g = silent object node input t in
           let one : (ℕ → Node A) → World A = λ ns. record w {
             nodes = ns;
             frames = w.frames ++ carried i
-                (node_step object n input).sends;
-            history = w.history ++ items_of (node_step object n input).answers;
-            told = w.told ++ told_by i (node_step object n input).answers;
+                (node_step object node input).sends;
+            history = w.history ++ items_of (node_step object node input).answers;
+            told = w.told ++ told_by i (node_step object node input).answers;
           } in
           let two : List (Carried A) → World A = λ fs. record w {
-            nodes = put w.nodes i (node_stopped n);
+            nodes = put w.nodes i (node_stopped node);
             frames = fs;
-            history = w.history ++ items_of (node_step object n input).answers;
+            history = w.history ++ items_of (node_step object node input).answers;
             told = w.told ++ told_by i
-                (node_step object n input).answers;
+                (node_step object node input).answers;
           } in
           let three : List (Item A) → World A = λ is. record w {
-            nodes = put w.nodes i (node_stopped n);
+            nodes = put w.nodes i (node_stopped node);
             history = is;
-            told = w.told ++ told_by i (node_step object n input).answers;
+            told = w.told ++ told_by i (node_step object node input).answers;
           } in
-          let four : List (Told A) → World A = λ ts. record w { nodes = put w.nodes i (node_stopped n); told = ts } in
-          same ∙ step_is input ∙ ap one (ap (put w.nodes i) (g.node ∙ sym (stopped_node n t)))
+          let four : List (Told A) → World A = λ ts. record w { nodes = put w.nodes i (node_stopped node); told = ts } in
+          was ∙ ap (λ b. stepped_if object b w i input) (known here) ∙ ap one (ap (put w.nodes i) (g.node ∙ sym (stopped_node node t)))
           ∙ ap two (ap (λ xs. w.frames ++ carried i xs) g.sends ∙ append-nil w.frames)
           ∙ ap three (ap (λ xs. w.history ++ items_of xs) g.answers ∙ append-nil w.history)
           ∙ ap four (ap (λ xs. w.told ++ told_by i xs) g.answers ∙ append-nil w.told)
 
-      halted_kept : (n : Node A) (nodes' : List (Node A)) → n ≡ node_stopped (w.nodes i)
-          → nodes' ≡ slice_set nodes m n → IsKept (stopped_if true w i) nodes' spares frames history p.told
-      halted_kept n nodes' n_is ns =
-          put_kept (node_stopped (w.nodes i)) nodes' spares frames history p.told (stopped_if true w i)
-          (ns ∙ ap (slice_set nodes m) n_is) refl refl (sym h.kept.frames_are) (sym h.kept.history_is)
-          (sym h.kept.told_is) (copies_same (node_stopped (w.nodes i)) halted_keeps) refl
+      pub silent_world : {after : Node A} {es : List (Event A)} → after ≡ node_stopped n → step_in (world_of object old) e ≡ Some i
+          → es ≡ p.events ++ d ∷ [] → IsWorld object p.group es (slice_set nodes m after) spares frames history p.told
+      silent_world halted steps es_is =
+          tells e d here.world copy (steps_fits (world_of object old) e i steps) silent_is refl (halted_kept found halted) es_is
 
-      pub silent_world : (e d : Event A) (input : Input A) → IsCopy e d → EventFits e
-          → happens object w e ≡ stepped object w i input → (n : Node A) (nodes' : List (Node A))
-          → is_stopped (w.nodes i).core.state ≡ true →
-          n ≡ node_stopped (w.nodes i) → nodes' ≡ slice_set nodes m n → IsWorld object p.group (p.events ++ d ∷ []) nodes' spares frames history p.told
-      silent_world e d input copy fits same n nodes' t n_is ns =
-          tells p.group p.events nodes nodes' spares spares frames frames history history p.told p.told d (stopped_if true w i) h
-          (copy_fits e d copy fits) (copy_happens w e d copy ∙ silent_is e input same t) refl
-          (halted_kept n nodes' n_is ns)
+      pub silent_goes : {es : List (Event A)} {done : ℕ} → es ≡ p.events ++ d ∷ []
+          → Goes object e old (record { group = p.group; events = es; told = p.told; done = done })
+      silent_goes es_is = is_done e d [] here.was copy silent_is (sym (append-nil w.told)) es_is (sym (append-nil p.told))
 
-      pub silent_goes : (q : Played A) (e d : Event A) (input : Input A) → IsCopy e d
-          → happens object w e ≡ stepped object w i input → is_stopped (w.nodes i).core.state ≡ true →
-          q.group ≡ p.group → q.events ≡ p.events ++ d ∷ [] → q.told ≡ p.told → Goes object e p q
-      silent_goes q e d input copy same t a b c =
-          is_done p q e d [] (stopped_if true w i) copy (silent_is e input same t) (sym (append-nil w.told)) a b (c ∙ sym (append-nil p.told))
+    -- for want of memory
+    pub refused_goes : {es : List (Event A)} {done : ℕ} → (fault ≡ StoppedFault → ⊥) → step_in (world_of object old) e ≡ Some i
+        → es ≡ p.events ++ Stop i ∷ [] → Goes object e old (record { group = p.group; events = es; told = p.told; done = done })
+    refused_goes {es} {done} running steps es_is =
+        let q : Played A = record { group = p.group; events = es; told = p.told; done = done } in
+        let runs = ap (λ (x : Node A). is_stopped x.core.state) (sym (node_is here found)) ∙ was_running (is_stopped n.core.state) fault refused running in
+        let runs_here : runs_in w i ≡ true = and_from _ _ (known here) (ap not runs) in
+        subst (λ (r : Played A). Goes object e r q) here.was (inr (inl (record {
+          node = i;
+          steps = subst (λ (r : Played A). step_in (world_of object r) e ≡ Some i) (sym here.was) steps;
+          known = runs_here;
+          group = refl;
+          events = es_is;
+          told = refl;
+        })))
 
-      -- it stops
+  -- A call is submitted
 
-      pub stop_is : happens object w (Stop i) ≡ stopped_if true w i
-      stop_is = ap (λ b. stopped_if b w i) known
+  module _ {n : Node A} {e : Event A} {c : Call A} (d : Event A) (event : e ≡ Issue i c) (copied : IsCopy e d) (found : n ≡ get_or nodes m n) where
+    copy : IsCopy (Issue i c) d
+    copy = subst (λ (x : Event A). IsCopy x d) event copied
 
-      pub stop_world : (n : Node A) (nodes' : List (Node A)) → n ≡ node_stopped (w.nodes i)
-          → nodes' ≡ slice_set nodes m n → IsWorld object p.group (p.events ++ Stop i ∷ []) nodes' spares frames history p.told
-      stop_world n nodes' n_is ns =
-          tells p.group p.events nodes nodes' spares spares frames frames history history p.told p.told (Stop i)
-          (stopped_if true w i) h tt stop_is refl (halted_kept n nodes' n_is ns)
+    goes : (q : Played A) → Goes object (Issue i c) old q → Goes object e old q
+    goes q g = subst (λ (x : Event A). Goes object x old q) (sym event) g
 
-      pub stop_goes : (q : Played A) → q.group ≡ p.group → q.events ≡ p.events ++ Stop i ∷ [] → q.told ≡ p.told → Goes object (Stop i) p q
-      stop_goes q a b c = is_done p q (Stop i) (Stop i) [] (stopped_if true w i) refl stop_is (sym (append-nil w.told)) a b (c ∙ sym (append-nil p.told))
+    issue_is : (o : Option Fault) → submit_fault n ≡ o → happens object w (Issue i c) ≡ issued_or o w i c
+    issue_is o is = ap (λ b. issued_if b w i c) (known here) ∙ ap (λ x. issued_or x w i c) (ap submit_fault (sym (node_is here found)) ∙ is)
 
-      -- memory was refused to its step
-      runs : is_stopped (w.nodes i).core.state ≡ false → runs_in w i ≡ true
-      runs f = and_from _ _ known (ap not f)
+    pub issue_world : {s : Spares A} {after : Node A} {es : List (Event A)} {is : List (Item A)} {a b : Call A} (s' : Spares A) → EventFits e
+        → submit_fault n ≡ None → after ≡ submitted n c → s ≡ get_or spares m s → a ≡ c → s'.calls ≡ s.calls ++ Some a ∷ []
+        → b ≡ c → is ≡ history ++ IssuedItem b ∷ [] → es ≡ p.events ++ d ∷ []
+        → IsWorld object p.group es (slice_set nodes m after) (slice_set spares m s') frames is p.told
+    issue_world {s} {after} s' fits free after_is spare a_is s_is b_is is_is es_is =
+        let node = w.nodes i in
+        let t : Asked A = record { call = c; since = length (node_committed node) } in
+        let now : after ≡ submitted node c = after_is ∙ ap (λ (x : Node A). submitted x c) (node_is here found) in
+        let calls : s'.calls ≡ s.calls ++ Some c ∷ [] = s_is ∙ ap (λ x. s.calls ++ Some x ∷ []) a_is in
+        let more : Holds (s.calls ++ Some c ∷ []) (submitted node c).tickets (node_committed node) =
+        holds-more s.calls node.tickets (node_committed node) t (copies_are here spare) in
+        let holds : Holds (s.calls ++ Some c ∷ []) (submitted node c).tickets (node_committed (submitted node c)) =
+        subst (Holds (s.calls ++ Some c ∷ []) (submitted node c).tickets) (sym (submitted-committed node c)) more in
+        let keeps : KeepsCopies after s' = subst (λ cs. Holds cs after.tickets (node_committed after)) (sym calls)
+        (subst (λ (x : Node A). Holds (s.calls ++ Some c ∷ []) x.tickets (node_committed x)) (sym now) holds) in
+        tells (Issue i c) d here.world copy (subst EventFits event fits) (issue_is None free) refl
+        (put_kept here after refl (ap (λ (x : Node A). put w.nodes i x) (sym now)) (sym kept.frames_are)
+        (ap (λ xs. xs ++ IssuedItem c ∷ []) (sym kept.history_is) ∙ sym (is_is ∙ ap (λ x. history ++ IssuedItem x ∷ []) b_is))
+        (sym kept.told_is) (copies_set here after s' keeps) (set-length spares m s')) es_is
 
-      pub refused_goes : (q : Played A) (e : Event A) → step_in w e ≡ Some i → is_stopped (w.nodes i).core.state
-          ≡ false → q.group ≡ p.group → q.events ≡ p.events ++ Stop i ∷ [] → q.told ≡ p.told → Goes object e p q
-      refused_goes q e steps f a b c = inr (inl (record { node = i; steps = steps; known = runs f; group = a; events = b; told = c }))
+    pub issue_goes : {es : List (Event A)} {done : ℕ} → submit_fault n ≡ None → es ≡ p.events ++ d ∷ []
+        → Goes object e old (record { group = p.group; events = es; told = p.told; done = done })
+    issue_goes {es} {done} free es_is = goes (record { group = p.group; events = es; told = p.told; done = done })
+        (is_done (Issue i c) d [] here.was copy (issue_is None free) (sym (append-nil w.told)) es_is (sym (append-nil p.told)))
 
-      -- a call is submitted
+    -- and is refused, for one reason or the other
+    module _ {fault : Fault} {b : Call A} {es : List (Event A)} {ts : List (Told A)}
+        (why : MatchOption (submit_fault n) (fault ≡ Memory) (λ first. fault ≡ first)) (b_is : b ≡ c) (out : fault ≡ Memory → es ≡ p.events)
+        (stays : (fault ≡ Memory → ⊥) → es ≡ p.events ++ d ∷ []) (ts_is : ts ≡ p.told ++ ToldRefused i b (fault_number fault) ∷ []) where
+      told_is : {f : Fault} → fault ≡ f → ts ≡ p.told ++ ToldRefused i c (fault_number f) ∷ []
+      told_is same = ts_is ∙ ap (λ x. p.told ++ ToldRefused i x (fault_number fault) ∷ []) b_is
+          ∙ ap (λ x. p.told ++ ToldRefused i c (fault_number x) ∷ []) same
 
-      -- copies that are as they were
-      kept_spares : (s : Spares A) (ss : List (Spares A)) → ss ≡ slice_set spares m s → KeepsCopies (w.nodes i) s
-          → (ts now : List (Told A)) → told_of_events ts ≡ now → IsKept (record w { told = now }) nodes ss frames history ts
-      kept_spares s ss is k ts now t = record {
-        nodes_are = h.kept.nodes_are;
-        many = h.kept.many;
-        copies = λ j l. elim (cases_Bool (j == m)) [
-          | inl t ↦
-              let e = eqb-true j m t in
-              let c = h.kept.copies m below in (
-                s,
-                (ap (λ xs. slice_get xs j) is ∙ ap (slice_get (slice_set spares m s)) e
-                    ∙ get-set_same spares m s c.0 c.1),
-                subst (λ x. KeepsCopies (w.nodes x) s) (sym (ap suc e ∙ next)) k,
-              )
-          | inr f ↦
-              let e = eqb-false j m f in
-              let c = h.kept.copies j l in
-              (c.0, (ap (λ xs. slice_get xs j) is ∙ get-set_other spares m j s e ∙ c.1), c.2)
-        ];
-        copies_many = ap length is ∙ set-length spares m s ∙ h.kept.copies_many;
-        frames_are = h.kept.frames_are;
-        history_is = h.kept.history_is;
-        told_is = t;
+      events_are : (f : Fault) → submit_fault n ≡ Some f → fault ≡ f → es ≡ p.events ++ d ∷ []
+      events_are f is same = stays (λ q. not_memory n f is (sym same ∙ q))
+
+      refused_world : (o : Option Fault) → submit_fault n ≡ o → MatchOption o (fault ≡ Memory) (λ first. fault ≡ first) → EventFits e
+          → IsWorld object p.group es nodes spares frames history ts
+      refused_world None is first fits = rw (out first) record {
+        kept = record {
+          nodes_are = kept.nodes_are;
+          many = kept.many;
+          copies = kept.copies;
+          copies_many = kept.copies_many;
+          frames_are = kept.frames_are;
+          history_is = kept.history_is;
+          told_is = ap told_of_events (told_is first) ∙ tells_memory p.told w.told kept.told_is i c;
+        };
+        same = here.world.same;
+        fit = here.world.fit;
+        few = here.world.few;
       }
+      refused_world (Some f) is first fits =
+          let node = node_is here found in
+          let told = ap told_of_events (told_is first) ∙ tells_refusal p.told w.told kept.told_is n f i c is in
+          let now : IsKept (issued_or (Some f) w i c) nodes spares frames history ts = record {
+            nodes_are = kept.nodes_are;
+            many = kept.many;
+            copies = kept.copies;
+            copies_many = kept.copies_many;
+            frames_are = kept.frames_are;
+            history_is = kept.history_is;
+            told_is = told;
+          } in
+          tells (Issue i c) d here.world copy (subst EventFits event fits) (issue_is (Some f) is) refl now (events_are f is first)
 
-      pub same_world : (s : Spares A) (ss : List (Spares A)) → ss ≡ slice_set spares m s → KeepsCopies (w.nodes i) s
-          → (ts : List (Told A)) → told_of_events ts ≡ w.told → IsWorld object p.group p.events nodes ss frames history ts
-      same_world s ss is k ts t = record { kept = kept_spares s ss is k ts w.told t; same = h.same; fit = h.fit; few = h.few }
+      pub refusal_world : {after : Node A} → after ≡ n → EventFits e → IsWorld object p.group es (slice_set nodes m after) spares frames history ts
+      refusal_world same fits =
+          subst (λ ns. IsWorld object p.group es ns spares frames history ts) (sym (same_nodes here (same ∙ node_is here found)))
+          (refused_world (submit_fault n) refl why fits)
 
-      pub same_nodes : (n : Node A) → n ≡ w.nodes i → slice_set nodes m n ≡ nodes
-      same_nodes n is = ap (slice_set nodes m) is ∙ set-same nodes m (w.nodes i) (h.kept.nodes_are m below ∙ ap (λ j. Some (w.nodes j)) next)
+      refused_to : {done : ℕ} (o : Option Fault) → submit_fault n ≡ o → MatchOption o (fault ≡ Memory) (λ first. fault ≡ first)
+          → Goes object (Issue i c) old (record { group = p.group; events = es; told = ts; done = done })
+      refused_to {done} None is first =
+          let q : Played A = record { group = p.group; events = es; told = ts; done = done } in
+          subst (λ (r : Played A). Goes object (Issue i c) r q) here.was (inr (inr (record {
+            node = i;
+            call = c;
+            issues = refl;
+            known = known here;
+            taken = ap submit_fault (sym (node_is here found)) ∙ is;
+            group = refl;
+            events = out first;
+            told = told_is first;
+          })))
+      refused_to (Some f) is first = is_done (Issue i c) d (ToldRefused i c (fault_number f) ∷ []) here.was copy (issue_is (Some f) is) refl
+          (events_are f is first) (told_is first)
 
-      issue_is : (c : Call A) (o : Option Fault) → submit_fault (w.nodes i) ≡ o → happens object w (Issue i c) ≡ issued_or o w i c
-      issue_is c o is = ap (λ b. issued_if b w i c) known ∙ ap (λ x. issued_or x w i c) is
-
-      pub issue_world : (c : Call A) (d : Event A) → IsCopy (Issue i c) d → EventFits (Issue i c)
-          → submit_fault (w.nodes i) ≡ None → (n : Node A) (s s' : Spares A) (nodes' : List (Node A))
-          (ss : List (Spares A)) (is : List (Item A)) →
-          KeepsCopies (w.nodes i) s → n ≡ submitted (w.nodes i) c → nodes' ≡ slice_set nodes m n
-          → ss ≡ slice_set spares m s' → s'.calls ≡ s.calls ++ Some c ∷ [] → is ≡ history ++ IssuedItem c ∷ [] →
-          IsWorld object p.group (p.events ++ d ∷ []) nodes' ss frames is p.told
-      issue_world c d copy fits free n s s' nodes' ss is k n_is ns ss_is s_is is_is =
-          let v = issued_or None w i c in
-          let t : Asked A = record { call = c; since = length (node_committed (w.nodes i)) } in
-          let more : Holds (s.calls ++ Some c ∷ []) (submitted (w.nodes i) c).tickets (node_committed (w.nodes i)) =
-          holds-more s.calls (w.nodes i).tickets (node_committed (w.nodes i)) t k in
-          let now : Holds (s.calls ++ Some c ∷ []) (submitted (w.nodes i) c).tickets (node_committed (submitted (w.nodes i) c)) =
-          subst (Holds (s.calls ++ Some c ∷ []) (submitted (w.nodes i) c).tickets) (sym (submitted-committed (w.nodes i) c)) more in
-          let keeps : KeepsCopies n s' = subst (λ cs. Holds cs n.tickets (node_committed n)) (sym s_is)
-          (subst (λ (x : Node A). Holds (s.calls ++ Some c ∷ []) x.tickets (node_committed x)) (sym n_is) now) in
-          tells p.group p.events nodes nodes' spares ss frames frames history is p.told p.told d v h
-          (copy_fits (Issue i c) d copy fits) (copy_happens w (Issue i c) d copy ∙ issue_is c None free) refl
-          (put_kept n nodes' ss frames is p.told v ns refl (ap (λ (x : Node A). put w.nodes i x) (sym n_is))
-          (sym h.kept.frames_are) (ap (λ xs. xs ++ IssuedItem c ∷ []) (sym h.kept.history_is) ∙ sym is_is)
-          (sym h.kept.told_is)
-          (subst (Copied n) (sym ss_is) (copies_set n s' keeps)) (ap length ss_is ∙ set-length spares m s'))
-
-      pub issue_goes : (q : Played A) (c : Call A) (d : Event A) → IsCopy (Issue i c) d → submit_fault (w.nodes i)
-          ≡ None → q.group ≡ p.group → q.events ≡ p.events ++ d ∷ [] → q.told ≡ p.told →
-          Goes object (Issue i c) p q
-      issue_goes q c d copy free a b t = is_done p q (Issue i c) d [] (issued_or None w i c) copy
-          (issue_is c None free) (sym (append-nil w.told)) a b (t ∙ sym (append-nil p.told))
-
-      -- and is refused
-      pub told_world : (c : Call A) (d : Event A) (f : Fault) → IsCopy (Issue i c) d → EventFits (Issue i c)
-          → submit_fault (w.nodes i) ≡ Some f → (s : Spares A) (ss : List (Spares A)) → ss ≡ slice_set spares m s
-          → KeepsCopies (w.nodes i) s → (ts : List (Told A)) → ts ≡ p.told ++ ToldRefused i c (fault_number f) ∷ [] →
-          IsWorld object p.group (p.events ++ d ∷ []) nodes ss frames history ts
-      told_world c d f copy fits is s ss ss_is k ts t =
-          let v = issued_or (Some f) w i c in
-          tells p.group p.events nodes nodes spares ss frames frames history history p.told ts d v h
-          (copy_fits (Issue i c) d copy fits) (copy_happens w (Issue i c) d copy ∙ issue_is c (Some f) is) refl
-          (kept_spares s ss ss_is k ts v.told
-          (ap told_of_events t ∙ tells_refusal p.told w.told h.kept.told_is (w.nodes i) f i c is))
-
-      pub told_goes : (q : Played A) (c : Call A) (d : Event A) (f : Fault) → IsCopy (Issue i c) d
-          → submit_fault (w.nodes i) ≡ Some f → q.group ≡ p.group → q.events ≡ p.events ++ d ∷ [] →
-          q.told ≡ p.told ++ ToldRefused i c (fault_number f) ∷ [] → Goes object (Issue i c) p q
-      told_goes q c d f copy is a b t = is_done p q (Issue i c) d (ToldRefused i c (fault_number f) ∷ [])
-          (issued_or (Some f) w i c) copy (issue_is c (Some f) is) refl a b t
-
-      -- for want of memory
-      pub left_out : (q : Played A) (c : Call A) → submit_fault (w.nodes i) ≡ None → q.group ≡ p.group
-          → q.events ≡ p.events → q.told ≡ p.told ++ ToldRefused i c 11 ∷ [] → Goes object (Issue i c) p q
-      left_out q c free a b t = inr (inr (record { node = i; call = c; issues = refl; known = known; taken = free; group = a; events = b; told = t }))
-
-      -- for one reason or the other
-      pub refusal_world : (c : Call A) (d : Event A) (fault : Fault) (o : Option Fault) → IsCopy (Issue i c) d
-          → EventFits (Issue i c) → submit_fault (w.nodes i) ≡ o → MatchOption o (fault ≡ Memory)
-          (λ first. fault ≡ first) →
-          (es : List (Event A)) → (fault ≡ Memory → es ≡ p.events) → ((fault ≡ Memory → ⊥) → es ≡ p.events ++ d ∷ [])
-          → (s : Spares A) (ss : List (Spares A)) → ss ≡ slice_set spares m s → KeepsCopies (w.nodes i) s →
-          (ts : List (Told A)) → ts ≡ p.told ++ ToldRefused i c (fault_number fault) ∷ [] →
-          IsWorld object p.group es nodes ss frames history ts
-      refusal_world c d fault None copy fits is f_is es out stays s ss ss_is k ts t =
-          subst (λ xs. IsWorld object p.group xs nodes ss frames history ts) (sym (out f_is)) (same_world s ss ss_is k ts
-          (ap told_of_events (t ∙ ap (λ f. p.told ++ ToldRefused i c (fault_number f) ∷ []) f_is)
-          ∙ tells_memory p.told w.told h.kept.told_is i c))
-      refusal_world c d fault (Some f) copy fits is f_is es out stays s ss ss_is k ts t =
-          subst (λ xs. IsWorld object p.group xs nodes ss frames history ts)
-          (sym (stays (λ q. not_memory (w.nodes i) f is (sym f_is ∙ q)))) (told_world c d f copy fits is s ss ss_is k ts
-          (t ∙ ap (λ x. p.told ++ ToldRefused i c (fault_number x) ∷ []) f_is))
-
-      pub refusal_goes : (q : Played A) (c : Call A) (d : Event A) (fault : Fault) (o : Option Fault)
-          → IsCopy (Issue i c) d → submit_fault (w.nodes i) ≡ o → MatchOption o (fault ≡ Memory)
-          (λ first. fault ≡ first) →
-          q.group ≡ p.group → (fault ≡ Memory → q.events ≡ p.events)
-          → ((fault ≡ Memory → ⊥) → q.events ≡ p.events ++ d ∷ []) → q.told ≡ p.told ++ ToldRefused i c
-          (fault_number fault) ∷ [] →
-          Goes object (Issue i c) p q
-      refusal_goes q c d fault None copy is f_is a out stays t = left_out q c is a (out f_is)
-          (t ∙ ap (λ f. p.told ++ ToldRefused i c (fault_number f) ∷ []) f_is)
-      refusal_goes q c d fault (Some f) copy is f_is a out stays t =
-          told_goes q c d f copy is a (stays (λ x. not_memory (w.nodes i) f is (sym f_is ∙ x)))
-          (t ∙ ap (λ x. p.told ++ ToldRefused i c (fault_number x) ∷ []) f_is)
+      pub refusal_goes : {done : ℕ} → Goes object e old (record { group = p.group; events = es; told = ts; done = done })
+      refusal_goes {done} = goes (record { group = p.group; events = es; told = ts; done = done }) (refused_to (submit_fault n) refl why)

@@ -26,8 +26,7 @@ invariant_of-self g c =
     take_rest calls s.committed ∙ ap (drop s.committed) calls_are in
     let ahead = c.self.invariant.ahead runs in
     record {
-      kept = finished-replica object s.course s.sessions s.tickets s.places s.committed s.stopped tale c.self.invariant.kept c.args.answers.now c.keep.new.self
-          c.length-self-inside.result (length calls) c.done.result.value runs logged all
+      kept = finished-replica c.self.invariant.kept runs logged all
           (c.requires.answers
           ∙ ap (λ (v : Replica _). answers_after object v.tickets (replica_committed v)
           (drop (length (replica_committed v)) (committed_of v.group v.ahead))) (sym told))
