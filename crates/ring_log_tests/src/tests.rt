@@ -40,22 +40,6 @@ fn part<A: Allocator + Copy>(alloc: A, first: u64, count: u64) -> Result<Payload
     Ok(Payload::Part(Part { first, calls }))
 }
 
-#[test]
-fn longer_log_of_an_older_primary_loses(rt: HostRuntime) -> Result<(), Fail> {
-    let mut exchange = Exchange::new(rt.alloc(), three());
-    assert!(rt; exchange.hear(Proc::new(1), &head(4, 3, 0))?.is_none());
-    assert!(rt; exchange.hear(Proc::new(2), &head(8, 2, 0))?.is_none());
-    assert_eq!(rt; exchange.wanted(), None);
-    assert!(rt; exchange.hear(Proc::new(3), &head(8, 2, 0))?.is_none());
-    let wanted = Wanted {
-        owner: Proc::new(2),
-        from: 0,
-        to: 2,
-    };
-    assert_eq!(rt; exchange.wanted(), Some(wanted));
-    Ok(())
-}
-
 /// Hears a payload, again where it was refused memory, and counts the refusals.
 fn heard<A: Allocator + Copy>(
     exchange: &mut Exchange<A>,
@@ -77,6 +61,48 @@ fn heard<A: Allocator + Copy>(
     }
 }
 
+/// Hears a payload with which the exchange does not end.
+fn unfinished<A: Allocator + Copy>(
+    rt: &impl Abort,
+    exchange: &mut Exchange<A>,
+    sender: u8,
+    payload: &Payload<A>,
+    refused: &mut u64,
+) -> Result<(), Fault> {
+    let base = heard(exchange, sender, payload, refused)?;
+    assert!(rt; base.is_none());
+    Ok(())
+}
+
+/// Hears Heads, each of a sender, of its last primary, its length and how much of it is committed.
+fn state_all<A: Allocator + Copy>(
+    rt: &impl Abort,
+    exchange: &mut Exchange<A>,
+    heads: &[(u8, u64, u64, u64)],
+    refused: &mut u64,
+) -> Result<(), Fault> {
+    for (sender, last, length, committed) in heads {
+        let head = head(*last, *length, *committed);
+        unfinished(rt, exchange, *sender, &head, refused)?;
+    }
+    Ok(())
+}
+
+#[test]
+fn longer_log_of_an_older_primary_loses(rt: HostRuntime) -> Result<(), Fail> {
+    let mut exchange = Exchange::new(rt.alloc(), three());
+    state_all(&rt, &mut exchange, &[(1, 4, 3, 0), (2, 8, 2, 0)], &mut 0)?;
+    assert_eq!(rt; exchange.wanted(), None);
+    state_all(&rt, &mut exchange, &[(3, 8, 2, 0)], &mut 0)?;
+    let wanted = Wanted {
+        owner: Proc::new(2),
+        from: 0,
+        to: 2,
+    };
+    assert_eq!(rt; exchange.wanted(), Some(wanted));
+    Ok(())
+}
+
 /// The exchange once each Head was heard: it wants the places 9 to 19 of processor 1's log.
 fn stated<A: Allocator + Copy>(
     rt: &impl Abort,
@@ -84,9 +110,8 @@ fn stated<A: Allocator + Copy>(
     refused: &mut u64,
 ) -> Result<Exchange<A>, Fault> {
     let mut exchange = Exchange::new(heap, three());
-    assert!(rt; heard(&mut exchange, 1, &head(8, 20, 16), refused)?.is_none());
-    assert!(rt; heard(&mut exchange, 2, &head(8, 18, 16), refused)?.is_none());
-    assert!(rt; heard(&mut exchange, 3, &head(4, 9, 9), refused)?.is_none());
+    let heads = [(1, 8, 20, 16), (2, 8, 18, 16), (3, 4, 9, 9)];
+    state_all(rt, &mut exchange, &heads, refused)?;
     Ok(exchange)
 }
 
@@ -97,11 +122,11 @@ fn brought<A: Allocator + Copy>(
     refused: &mut u64,
 ) -> Result<Option<Base<A>>, Fault> {
     let mut exchange = stated(rt, heap, refused)?;
-    let first = part(heap, 9, 7)?;
+    for (sender, first, count) in [(1, 16, 4), (2, 9, 7), (1, 9, 7)] {
+        let part = part(heap, first, count)?;
+        unfinished(rt, &mut exchange, sender, &part, refused)?;
+    }
     let last = part(heap, 16, 4)?;
-    assert!(rt; heard(&mut exchange, 1, &last, refused)?.is_none());
-    assert!(rt; heard(&mut exchange, 2, &first, refused)?.is_none());
-    assert!(rt; heard(&mut exchange, 1, &first, refused)?.is_none());
     heard(&mut exchange, 1, &last, refused)
 }
 
@@ -133,61 +158,76 @@ fn adopted<A: Allocator + Copy>(
     Ok(log)
 }
 
-#[test]
-fn wanted_places_make_the_log(rt: HostRuntime) -> Result<(), Fail> {
-    let mut log = adopted(&rt, rt.alloc(), &mut 0)?;
+/// The places that the exchange wants.
+fn wanted() -> Wanted {
+    Wanted {
+        owner: Proc::new(1),
+        from: 9,
+        to: 20,
+    }
+}
+
+/// The log has twenty places, client 7's call of number p + 1 at place p.
+fn assert_twenty<A: Allocator + Copy>(rt: &impl Abort, log: &Log<A>) {
     assert_eq!(rt; log.length(), 20);
     let mut place = 0u64;
     for call in log.calls() {
         place = place.saturating_add(1);
         assert_eq!(rt; call.number, place);
     }
+}
+
+/// The first places of the Parts of a log that are wanted, and how many places each has.
+fn sizes<A: Allocator + Copy>(alloc: A, log: &Log<A>) -> Result<Vec<(u64, usize), A>, Fault> {
+    let mut sizes = Vec::new(alloc);
+    for part in log.parts(alloc, &wanted())? {
+        sizes.push((part.first, part.calls.as_slice().len()))?;
+    }
+    Ok(sizes)
+}
+
+#[test]
+fn wanted_places_make_the_log(rt: HostRuntime) -> Result<(), Fail> {
+    let mut log = adopted(&rt, rt.alloc(), &mut 0)?;
+    assert_twenty(&rt, &log);
     log.commit_upto(16);
     log.commit_upto(9);
     assert_eq!(rt; log.committed_calls().len(), 16);
     let head = log.head();
     assert_eq!(rt; (head.length, head.committed, head.trimmed), (20, 16, 0));
-    let wanted = Wanted {
-        owner: Proc::new(1),
-        from: 9,
-        to: 20,
-    };
-    let mut sizes = Vec::new(rt.alloc());
-    for part in log.parts(rt.alloc(), &wanted)? {
-        sizes.push((part.first, part.calls.as_slice().len()))?;
-    }
+    let sizes = sizes(rt.alloc(), &log)?;
     assert_eq!(rt; sizes.as_slice(), [(9, 7), (16, 4)].as_slice());
     Ok(())
 }
 
-#[test]
-fn base_that_drops_committed_places_is_told(rt: HostRuntime) -> Result<(), Fail> {
-    let mut log = Log::new(rt.alloc());
-    for call in calls(rt.alloc(), 1, 4)?.into_vec() {
+/// A log of three places, of which two are committed.
+fn two_committed<A: Allocator + Copy>(alloc: A) -> Result<Log<A>, Fault> {
+    let mut log = Log::new(alloc);
+    for call in calls(alloc, 1, 4)?.into_vec() {
         log.append(call)?;
     }
     log.commit_upto(2);
-    let same = calls(rt.alloc(), 2, 3)?;
-    let other = calls(rt.alloc(), 3, 5)?;
-    let short = calls(rt.alloc(), 1, 2)?;
-    assert!(rt;
-        log.may_adopt(&Base {
-            from: 1,
-            calls: same
-        })
-    );
-    assert!(rt;
-        !log.may_adopt(&Base {
-            from: 1,
-            calls: other
-        })
-    );
-    assert!(rt;
-        !log.may_adopt(&Base {
-            from: 0,
-            calls: short
-        })
-    );
+    Ok(log)
+}
+
+/// Whether a log may adopt a base that keeps so many of its places and has these of client 7's calls behind them.
+fn may_adopt<A: Allocator + Copy>(
+    alloc: A,
+    log: &Log<A>,
+    from: u64,
+    numbers: (u64, u64),
+) -> Result<bool, Fault> {
+    let calls = calls(alloc, numbers.0, numbers.1)?;
+    Ok(log.may_adopt(&Base { from, calls }))
+}
+
+#[test]
+fn base_that_drops_committed_places_is_told(rt: HostRuntime) -> Result<(), Fail> {
+    let alloc = rt.alloc();
+    let log = two_committed(alloc)?;
+    assert!(rt; may_adopt(alloc, &log, 1, (2, 3))?);
+    assert!(rt; !may_adopt(alloc, &log, 1, (3, 5))?);
+    assert!(rt; !may_adopt(alloc, &log, 0, (1, 2))?);
     Ok(())
 }
 
@@ -198,12 +238,7 @@ fn parted<A: Allocator + Copy>(
     refused: &mut u64,
 ) -> Result<usize, Fault> {
     let log = adopted(rt, heap, refused)?;
-    let wanted = Wanted {
-        owner: Proc::new(1),
-        from: 9,
-        to: 20,
-    };
-    Ok(log.parts(heap, &wanted)?.len())
+    Ok(log.parts(heap, &wanted())?.len())
 }
 
 #[test]

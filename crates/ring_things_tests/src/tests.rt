@@ -3,7 +3,7 @@ use refusing_alloc::{Refusing, refuse_in_turn};
 use ring_base::Fault;
 use ring_object::{Object, Reply, object_law};
 use ring_things::{Counters, Names, Queue, Registers, Shelf};
-use std::alloc::{AllocError, Allocator, Global};
+use std::alloc::{AllocError, Global};
 use std::process::Abort;
 
 /// The four objects on one shelf.
@@ -217,32 +217,49 @@ fn laws_hold(_rt: HostRuntime) {
     object_law::<Things<Global>>();
 }
 
-/// Takes memory in each way in which an object can.
-fn work<A: Allocator + Copy + Drop>(alloc: A) -> Result<(), Fault> {
-    let mut things: Things<A> = Shelf::start(alloc)?;
+/// Changes a shelf's objects in each way in which they take memory.
+fn change<O: Object>(things: &mut O) -> Result<(), Fault> {
     for i in 0..20u8 {
         things.apply(&[1, 1, i, 0, 0, 0, 0, 0, 0, 0, 1])?;
         things.apply(&[2, 1, 0, 0, 0, 0, 0, 0, 0, i])?;
         things.apply(&[3, 1, i])?;
     }
-    let mut snapshot = Vec::new(alloc);
-    things.snapshot(&mut snapshot)?;
-    let back: Things<A> = Shelf::restore(alloc, snapshot.as_slice())?;
-    let mut again = Vec::new(alloc);
-    back.snapshot(&mut again)?;
-    if again.as_slice() != snapshot.as_slice() {
-        return Err(Fault::BadSnapshot);
-    }
     Ok(())
+}
+
+/// An object's snapshot.
+fn snapshot_of<O: Object>(alloc: O::Alloc, object: &O) -> Result<Vec<u8, O::Alloc>, Fault> {
+    let mut snapshot = Vec::new(alloc);
+    object.snapshot(&mut snapshot)?;
+    Ok(snapshot)
+}
+
+/// The snapshot of the object that is restored from one.
+fn snapshot_again<O: Object>(alloc: O::Alloc, snapshot: &[u8]) -> Result<Vec<u8, O::Alloc>, Fault> {
+    let back = O::restore(alloc, snapshot)?;
+    snapshot_of(alloc, &back)
+}
+
+/// Takes memory in each way in which an object can.
+fn work<O: Object>(alloc: O::Alloc) -> Result<(), Fault> {
+    let mut things = O::start(alloc)?;
+    change(&mut things)?;
+    let snapshot = snapshot_of(alloc, &things)?;
+    let again = snapshot_again::<O>(alloc, snapshot.as_slice())?;
+    if again.as_slice() == snapshot.as_slice() {
+        Ok(())
+    } else {
+        Err(Fault::BadSnapshot)
+    }
 }
 
 /// The only fault is want of memory, and it comes with each request that is refused.
 #[test]
 fn refused_memory_is_answered(rt: HostRuntime) {
-    assert_eq!(rt; work(rt.alloc()), Ok(()));
+    assert_eq!(rt; work::<Things<Global>>(rt.alloc()), Ok(()));
     let refused = refuse_in_turn(
         rt.alloc(),
-        &|heap: &Refusing| match work(heap) {
+        &|heap: &Refusing| match work::<Things<&Refusing>>(heap) {
             Err(Fault::Memory) => Err(AllocError),
             _ => Ok(()),
         },
