@@ -8,15 +8,6 @@ use ring_things::Counters;
 use std::process::Abort;
 use std::test::Fail;
 
-/// A node at its opening, made at the second try if it was refused memory, and how often it was.
-fn opened<O: Object>(heap: O::Alloc, ample: O::Alloc) -> Result<(Driven<O>, u64), Fault> {
-    match Driven::new(heap, ample) {
-        Ok(driven) => Ok((driven, 0)),
-        Err(Fault::Memory) => Ok((Driven::new(heap, ample)?, 1)),
-        Err(fault) => Err(fault),
-    }
-}
-
 /// How often the submit of the call of this number was refused memory before it was done. A refusal leaves the node as it
 /// was.
 fn refused_submits<O: Object>(
@@ -84,12 +75,39 @@ fn refused_in_run<O: Object>(rt: &impl Abort, driven: &mut Driven<O>) -> Result<
     Ok(all)
 }
 
-/// How often a node was refused memory that forms its ring and answers two calls, or stops before.
-fn refusals<O: Object>(rt: &impl Abort, heap: O::Alloc, ample: O::Alloc) -> Result<u64, Fault> {
-    let (mut driven, opening) = opened::<O>(heap, ample)?;
-    let run = refused_in_run(rt, &mut driven)?;
+/// A node that still runs at the end has committed and answered both calls.
+fn assert_ended<O: Object>(rt: &impl Abort, driven: &Driven<O>) {
     assert!(rt; driven.is_stopped() || driven.told() == (2, 2));
-    Ok(opening.saturating_add(run))
+}
+
+/// How often a node is refused memory that forms its ring and answers two calls, or stops before, after so many refusals.
+fn refused_then<O: Object>(
+    rt: &impl Abort,
+    driven: &mut Driven<O>,
+    before: u64,
+) -> Result<u64, Fault> {
+    let refused = refused_in_run(rt, driven)?;
+    assert_ended(rt, driven);
+    Ok(refused.saturating_add(before))
+}
+
+/// The same of a node whose opening was refused memory once.
+fn refused_again<O: Object>(
+    rt: &impl Abort,
+    heap: O::Alloc,
+    ample: O::Alloc,
+) -> Result<u64, Fault> {
+    let mut driven = Driven::<O>::new(heap, ample)?;
+    refused_then(rt, &mut driven, 1)
+}
+
+/// The same of a node with its opening, which is tried again if it is refused memory.
+fn refusals<O: Object>(rt: &impl Abort, heap: O::Alloc, ample: O::Alloc) -> Result<u64, Fault> {
+    match Driven::<O>::new(heap, ample) {
+        Ok(mut driven) => refused_then(rt, &mut driven, 0),
+        Err(Fault::Memory) => refused_again::<O>(rt, heap, ample),
+        Err(fault) => Err(fault),
+    }
 }
 
 #[test]

@@ -79,13 +79,21 @@ fn assert_stops<O: Object>(rt: &impl Abort, driven: &mut Driven<O>) -> Result<()
 }
 
 /// The answers of a run, which the node tells once it was stopped too.
-fn answers<O: Object>(rt: &impl Abort, alloc: O::Alloc) -> Result<[Option<Answer>; 2], Fault> {
-    let mut driven = Driven::<O>::new(alloc, alloc)?;
-    let tickets = answered(rt, &mut driven)?;
+fn told_answers<O: Object>(
+    rt: &impl Abort,
+    driven: &mut Driven<O>,
+) -> Result<[Option<Answer>; 2], Fault> {
+    let tickets = answered(rt, driven)?;
     let answers = driven.replies(tickets);
-    assert_stops(rt, &mut driven)?;
+    assert_stops(rt, driven)?;
     assert_eq!(rt; driven.replies(tickets), answers);
     Ok(answers)
+}
+
+/// The same of a node at its opening.
+fn answers<O: Object>(rt: &impl Abort, alloc: O::Alloc) -> Result<[Option<Answer>; 2], Fault> {
+    let mut driven = Driven::<O>::new(alloc, alloc)?;
+    told_answers(rt, &mut driven)
 }
 
 #[test]
@@ -95,17 +103,28 @@ fn the_first_replies(rt: HostRuntime) -> Result<(), Fail> {
     Ok(())
 }
 
-/// What is seen of a node that was made here, and did its first step in another thread.
+/// What is seen of a node that did its first step in another thread.
+fn stepped_there<O: Object + Send, R: Threads>(
+    rt: &R,
+    driven: &mut Driven<O>,
+) -> Result<Seen, Fault>
+where
+    O::Alloc: Send,
+{
+    lend(&driven.node);
+    let lent = &mut *driven;
+    let (stepped, ()) = thread::join(rt, move || lent.step(0), || ());
+    stepped?;
+    Ok(driven.seen())
+}
+
+/// The same of a node that was made here.
 fn seen_there<O: Object + Send, R: Threads>(rt: &R, alloc: O::Alloc) -> Result<Seen, Fault>
 where
     O::Alloc: Send,
 {
     let mut driven = Driven::<O>::new(alloc, alloc)?;
-    lend(&driven.node);
-    let lent = &mut driven;
-    let (stepped, ()) = thread::join(rt, move || lent.step(0), || ());
-    stepped?;
-    Ok(driven.seen())
+    stepped_there(rt, &mut driven)
 }
 
 #[test]
