@@ -19,6 +19,15 @@ struct Way {
 }
 
 impl Way {
+    /// Nothing is on its way.
+    fn new(alloc: Global) -> Way {
+        Way {
+            open: VecDeque::new(alloc),
+            seen: 0,
+            frames: 0,
+        }
+    }
+
     /// The frames among what was given since are on their way.
     fn follow(&mut self, outs: &[(Proc, Out)]) -> Result<(), Fault> {
         for given in outs.iter().skip(self.seen) {
@@ -40,31 +49,64 @@ impl Way {
     }
 }
 
-/// These lines, and then so many turns: in each the first frame on its way comes to its receiver. Answers all lines.
+/// The line of the frame that comes next, if one is on its way.
+fn next_line(alloc: Global, way: &mut Way, outs: &[(Proc, Out)]) -> Result<Option<String>, Fault> {
+    way.follow(outs)?;
+    match way.open.pop_front() {
+        Some((node, frame)) => Ok(Some(format!(in alloc; "hand {node} {frame}")?)),
+        None => Ok(None),
+    }
+}
+
+/// The event of a line happens, and the line stands behind the others.
+fn happened(
+    alloc: Global,
+    fixed: Fixed,
+    cores: Cores,
+    line: &str,
+    lines: &mut String,
+) -> Result<Cores, Fault> {
+    writeln!(lines, "{line}")?;
+    let event = event_of(alloc, fixed, line)?;
+    cores.happens(&event)
+}
+
+/// The processors, once what these lines say has happened.
+fn opened(alloc: Global, fixed: Fixed, opening: &str, lines: &mut String) -> Result<Cores, Fault> {
+    let mut cores = Cores::unformed(alloc, fixed)?;
+    for line in opening.lines() {
+        cores = happened(alloc, fixed, cores, line, lines)?;
+    }
+    Ok(cores)
+}
+
+/// In each of so many turns the first frame on its way comes to its receiver.
+fn turn(
+    alloc: Global,
+    fixed: Fixed,
+    mut cores: Cores,
+    turns: u64,
+    lines: &mut String,
+) -> Result<(), Fault> {
+    let mut way = Way::new(alloc);
+    for _ in 0..turns {
+        match next_line(alloc, &mut way, cores.outs())? {
+            Some(line) => cores = happened(alloc, fixed, cores, line.as_str(), lines)?,
+            None => return Ok(()),
+        }
+    }
+    Ok(())
+}
+
+/// These lines, and then so many turns. Answers all lines.
 pub(crate) fn pumped(
     alloc: Global,
     fixed: Fixed,
     opening: &str,
     turns: u64,
 ) -> Result<String, Fault> {
-    let mut cores = Cores::unformed(alloc, fixed)?;
     let mut lines = String::new(alloc);
-    let mut way = Way {
-        open: VecDeque::new(alloc),
-        seen: 0,
-        frames: 0,
-    };
-    for line in opening.lines() {
-        cores = cores.happens(&event_of(alloc, fixed, line)?)?;
-        writeln!(lines, "{line}")?;
-    }
-    for _ in 0..turns {
-        way.follow(cores.outs())?;
-        let Some((node, frame)) = way.open.pop_front() else {
-            return Ok(lines);
-        };
-        cores = cores.happens(&RingEvent::Deliver(node, frame))?;
-        writeln!(lines, "hand {node} {frame}")?;
-    }
+    let cores = opened(alloc, fixed, opening, &mut lines)?;
+    turn(alloc, fixed, cores, turns, &mut lines)?;
     Ok(lines)
 }

@@ -86,6 +86,32 @@ pub(crate) enum Opening {
 /// What a run comes to: how many events were done, and what was given, unless memory was refused.
 pub(crate) type Ran<A> = (u64, Option<Vec<(Proc, Out<A>), A>>);
 
+/// Runs events from Gather, with the memory of the processors in `heap`.
+fn ran_from_gather<A: Allocator + Copy>(
+    heap: A,
+    fixed: Fixed,
+    events: &[RingEvent<A>],
+) -> Result<Ran<A>, Fault>
+    requires { AllByRecursion EventFits events.now }
+{
+    let mut rings = Rings::new(heap, fixed)?;
+    let outs = rings.run(events).ok();
+    Ok((rings.done(), outs))
+}
+
+/// The same on a formed ring.
+fn ran_on_formed_ring<A: Allocator + Copy>(
+    heap: A,
+    fixed: Fixed,
+    events: &[RingEvent<A>],
+) -> Result<Ran<A>, Fault>
+    requires { AllByRecursion EventFits events.now }
+{
+    let mut ring = FixedRing::new(heap, fixed)?;
+    let outs = ring.run(events).ok();
+    Ok((ring.done(), outs))
+}
+
 /// Runs the events of the first lines, whose payloads lie in `ample`, with so many processors and their memory in `heap`.
 /// Refused where the opening was refused memory.
 pub(crate) fn ran<A: Allocator + Copy>(
@@ -98,15 +124,7 @@ pub(crate) fn ran<A: Allocator + Copy>(
     let fixed = Fixed::new(processors)?;
     let events = events_of(ample, fixed, script, count)?;
     match opening {
-        Opening::Gather => {
-            let mut rings = Rings::new(heap, fixed)?;
-            let outs = rings.run(&events).ok();
-            Ok((rings.done(), outs))
-        }
-        Opening::FormedRing => {
-            let mut ring = FixedRing::new(heap, fixed)?;
-            let outs = ring.run(&events).ok();
-            Ok((ring.done(), outs))
-        }
+        Opening::Gather => ran_from_gather(heap, fixed, &events),
+        Opening::FormedRing => ran_on_formed_ring(heap, fixed, &events),
     }
 }
