@@ -99,6 +99,15 @@ impl<O: Object> Driven<O> {
             _ => self.happen(line),
         }
     }
+
+    /// What all the lines say is done, or shown.
+    fn play_all(&mut self, lines: &[Line]) -> Result<String<O::Alloc>, Fault> {
+        let mut shown = String::new(self.alloc);
+        for line in lines {
+            self.play(*line, &mut shown)?;
+        }
+        Ok(shown)
+    }
 }
 
 /// What the lines show of a world of so many nodes.
@@ -108,9 +117,5 @@ pub fn played<O: Object>(
     lines: &[Line],
 ) -> Result<String<O::Alloc>, Fault> {
     let mut driven = Driven::<O>::new(alloc, count)?;
-    let mut shown = String::new(alloc);
-    for line in lines {
-        driven.play(*line, &mut shown)?;
-    }
-    Ok(shown)
+    driven.play_all(lines)
 }

@@ -24,16 +24,6 @@ const SHORT_RUN: [Line; 9] = [
     Line::Hand(1, 6),
 ];
 
-/// A world of one node at its opening, made at the second try if it was refused memory, and how often it was.
-fn opened<O: Object>(heap: O::Alloc) -> Result<(World<O>, u64), Fault> {
-    let fixed = Fixed::new(1)?;
-    match World::new(heap, fixed) {
-        Ok(world) => Ok((world, 0)),
-        Err(Fault::Memory) => Ok((World::new(heap, fixed)?, 1)),
-        Err(fault) => Err(fault),
-    }
-}
-
 /// Runs the short run from this place on.
 fn run_from<O: Object>(world: &mut World<O>, ample: O::Alloc, place: usize) -> Result<(), Fault> {
     run_lines(world, ample, SHORT_RUN.get(place..).unwrap_or(&[]))
@@ -112,15 +102,39 @@ fn refused_copies<O: Object>(world: &World<O>) -> Result<u64, Fault> {
     }
 }
 
-/// How often memory was refused to a world that is opened, does the short run, and tells its order and a committed log.
-fn refusals<O: Object>(rt: &impl Abort, heap: O::Alloc, ample: O::Alloc) -> Result<u64, Fault> {
-    let (mut world, opening) = opened::<O>(heap)?;
-    let runs = refused_runs(&mut world, ample)?;
-    let events = refused_events(rt, &world);
-    let orders = refused_orders(&world)?;
-    let copies = refused_copies(&world)?;
-    let all = opening.saturating_add(runs).saturating_add(events);
+/// How often memory was refused to a world that does the short run and tells its order and a committed log, after so many
+/// refusals.
+fn refused_then<O: Object>(
+    rt: &impl Abort,
+    world: &mut World<O>,
+    ample: O::Alloc,
+    before: u64,
+) -> Result<u64, Fault> {
+    let runs = refused_runs(world, ample)?;
+    let events = refused_events(rt, world);
+    let orders = refused_orders(world)?;
+    let copies = refused_copies(world)?;
+    let all = before.saturating_add(runs).saturating_add(events);
     Ok(all.saturating_add(orders).saturating_add(copies))
+}
+
+/// The same of a world whose opening was refused memory once.
+fn refused_again<O: Object>(
+    rt: &impl Abort,
+    heap: O::Alloc,
+    ample: O::Alloc,
+) -> Result<u64, Fault> {
+    let mut world = World::<O>::new(heap, Fixed::new(1)?)?;
+    refused_then(rt, &mut world, ample, 1)
+}
+
+/// The same of a world with its opening, which is tried again if it is refused memory.
+fn refusals<O: Object>(rt: &impl Abort, heap: O::Alloc, ample: O::Alloc) -> Result<u64, Fault> {
+    match World::<O>::new(heap, Fixed::new(1)?) {
+        Ok(mut world) => refused_then(rt, &mut world, ample, 0),
+        Err(Fault::Memory) => refused_again::<O>(rt, heap, ample),
+        Err(fault) => Err(fault),
+    }
 }
 
 #[test]
