@@ -6,7 +6,8 @@ use ring_base::Fault;
 use ring_client::{Client, Port};
 use ring_object::Reply;
 use ring_session::Answer;
-use std::alloc::Allocator;
+use std::alloc::{Allocator, Global};
+use std::process::Abort;
 use std::test::Fail;
 
 /// The reply that the third port gives.
@@ -36,29 +37,50 @@ fn asked_ports<P: Port>(client: &Client<P>) -> usize {
         .count()
 }
 
-/// Each port's copy of the call is a request. One that is refused leaves the client as it was at the first port, and the
-/// call open at a later one; tried again, the call is answered.
-#[test]
-fn each_request_is_refused_in_turn(rt: HostRuntime) -> Result<(), Fail> {
-    let ample = Refusing::new(rt.alloc(), u64::MAX);
-    for passed in 0..3u64 {
-        let heap = Refusing::new(rt.alloc(), passed);
-        let mut client = client_of(&heap, &ample)?;
-        assert_eq!(rt; client.call(b"a"), Err(Fault::Memory), "at {passed}");
-        assert_eq!(rt; asked_ports(&client) as u64, passed);
-        assert_eq!(rt; client.is_open(), passed > 0);
-        assert_eq!(rt; client.next_number(), Some(1));
-        let told = if client.is_open() {
-            client.again()
-        } else {
-            client.call(b"a")
-        };
-        assert_eq!(rt; told, Ok(replied()));
-        assert_eq!(rt; client.next_number(), Some(2));
+/// What a client is told that calls, or tries its open call again.
+fn called<P: Port>(client: &mut Client<P>) -> Result<Reply, Fault> {
+    if client.is_open() {
+        client.again()
+    } else {
+        client.call(b"a")
     }
-    let heap = Refusing::new(rt.alloc(), 3);
+}
+
+/// A call whose copy for one port is refused memory, after so many copies: at the first port it leaves the client as it was,
+/// at a later one the call open. Tried again, it is answered.
+fn assert_refused_once<P: Port>(rt: &impl Abort, client: &mut Client<P>, passed: u64) {
+    assert_eq!(rt; called(client), Err(Fault::Memory), "at {passed}");
+    assert_eq!(rt; asked_ports(client) as u64, passed);
+    assert_eq!(rt; client.is_open(), passed > 0);
+    assert_eq!(rt; client.next_number(), Some(1));
+    assert_eq!(rt; called(client), Ok(replied()));
+    assert_eq!(rt; client.next_number(), Some(2));
+}
+
+/// The same of a new client.
+fn assert_refused(rt: &impl Abort, alloc: Global, passed: u64) -> Result<(), Fault> {
+    let ample = Refusing::new(alloc, u64::MAX);
+    let heap = Refusing::new(alloc, passed);
+    let mut client = client_of(&heap, &ample)?;
+    assert_refused_once(rt, &mut client, passed);
+    Ok(())
+}
+
+/// How many requests for memory a call makes that isn't refused any.
+fn requests(rt: &impl Abort, alloc: Global) -> Result<u64, Fault> {
+    let ample = Refusing::new(alloc, u64::MAX);
+    let heap = Refusing::new(alloc, u64::MAX);
     let mut client = client_of(&heap, &ample)?;
     assert_eq!(rt; client.call(b"a"), Ok(replied()));
-    assert_eq!(rt; heap.requests(), 3);
+    Ok(heap.requests())
+}
+
+/// Each port's copy of the call is a request.
+#[test]
+fn each_request_is_refused_in_turn(rt: HostRuntime) -> Result<(), Fail> {
+    for passed in 0..3 {
+        assert_refused(&rt, rt.alloc(), passed)?;
+    }
+    assert_eq!(rt; requests(&rt, rt.alloc())?, 3);
     Ok(())
 }

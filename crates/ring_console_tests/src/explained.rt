@@ -4,6 +4,7 @@ use refusing_alloc::{Refusing, refuse_in_turn};
 use ring_base::Fault;
 use ring_console::{Rings, Run, Script, ScriptFault, Things};
 use ring_history::is_linearization;
+use ring_object::Object;
 use std::alloc::{AllocError, Allocator, Global};
 
 /// Two clients; the first of them tries its call twice.
@@ -19,19 +20,28 @@ fn fault_of(fault: ScriptFault) -> Fault {
     }
 }
 
-/// Whether the order of the script's world explains its history, as far as the script came.
-fn is_explained<A: Allocator + Copy + Drop>(heap: A, alloc: Global) -> Result<bool, Fault> {
-    let script = Script::read(heap, &mut TWO_CLIENTS.as_bytes(), Rings::OfMany).map_err(fault_of)?;
+/// Whether the order of a run's world explains its history.
+fn order_explains<O: Object>(heap: O::Alloc, run: &Run<O>) -> Result<bool, Fault> {
+    let order = run.world().order()?;
+    is_linearization::<O>(heap, order.as_slice(), run.world().history())
+}
+
+/// Whether what a script comes to is explained, as far as it comes.
+pub fn is_explained<A: Allocator + Copy + Drop>(
+    heap: A,
+    alloc: Global,
+    text: &str,
+) -> Result<bool, Fault> {
+    let script = Script::read(heap, &mut text.as_bytes(), Rings::OfMany).map_err(fault_of)?;
     let mut run = Run::<Things<A>>::new(heap, script.nodes)?;
     let mut out = Vec::<u8>::new(alloc);
     let _ = run.take(script, &mut out);
-    let order = run.world().order()?;
-    is_linearization::<Things<A>>(heap, order.as_slice(), run.world().history())
+    order_explains(heap, &run)
 }
 
 /// Answers an error exactly where memory was refused and all is explained; where it isn't, the other answer.
 fn one_refused(heap: &Refusing, alloc: Global) -> Result<(), AllocError> {
-    match is_explained(heap, alloc) {
+    match is_explained(heap, alloc, TWO_CLIENTS) {
         Ok(true) | Err(Fault::Memory) => refusal_of(heap.has_refused()),
         _ => refusal_of(!heap.has_refused()),
     }
@@ -44,7 +54,7 @@ fn refusal_of(is_refused: bool) -> Result<(), AllocError> {
 #[test]
 fn each_refused_run_is_explained(rt: HostRuntime) {
     let alloc = rt.alloc();
-    assert!(rt; is_explained(alloc, alloc) == Ok(true));
+    assert!(rt; is_explained(alloc, alloc, TWO_CLIENTS) == Ok(true));
     let requests = refuse_in_turn(alloc, &|heap: &Refusing| one_refused(heap, alloc));
     assert!(rt; requests > Some(20), "{requests:?}");
 }

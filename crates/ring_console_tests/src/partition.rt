@@ -1,10 +1,10 @@
 //! What is printed of a network that splits and merges where memory is refused on the way.
 
+use crate::explained::is_explained;
 use refusing_alloc::{Refusing, refuse_in_turn};
 use ring_base::Fault;
-use ring_console::{Rings, Run, Script, Things, script_check};
-use ring_history::is_linearization;
-use std::alloc::{AllocError, Allocator, Global};
+use ring_console::script_check;
+use std::alloc::{AllocError, Global};
 use std::str;
 
 /// A call is sent at node 1, which a cut parts from the others before it is safe. It is tried again at node 2, and the parts
@@ -19,22 +19,13 @@ const CUT_AND_MERGED_LINES: &str =
     node 1 operational 3.1 committed 2 log 2\nnode 2 operational 3.1 committed 2 log 2\n\
     node 3 operational 3.1 committed 2 log 2\norder 2\nlegal yes\n";
 
-/// Whether the order of the script's world explains its history, as far as the script came. `Memory` where it did not begin.
-fn is_explained<A: Allocator + Copy + Drop>(heap: A, alloc: Global) -> Result<bool, Fault> {
-    let Ok(script) = Script::read(heap, &mut CUT_AND_MERGED.as_bytes(), Rings::OfMany) else {
-        return Err(Fault::Memory);
-    };
-    let mut run = Run::<Things<A>>::new(heap, script.nodes)?;
-    let mut out = Vec::<u8>::new(alloc);
-    let _ = run.take(script, &mut out);
-    let order = run.world().order()?;
-    is_linearization::<Things<A>>(heap, order.as_slice(), run.world().history())
-}
-
 /// Whether all is explained, as far as the script comes where the request after so many others is refused.
 fn is_explained_past(alloc: Global, passed: u64) -> bool {
     let heap = Refusing::new(alloc, passed);
-    matches!(is_explained(&heap, alloc), Ok(true) | Err(Fault::Memory))
+    matches!(
+        is_explained(&heap, alloc, CUT_AND_MERGED),
+        Ok(true) | Err(Fault::Memory)
+    )
 }
 
 /// Whether the text has a line that tells of a refused call, for want of memory.

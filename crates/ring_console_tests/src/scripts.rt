@@ -135,6 +135,29 @@ fn rings_of_one_allow_one_node_and_its_join_timeout(rt: HostRuntime) {
     }
 }
 
+/// What a line asks for.
+fn write_line(out: &mut String, line: &Line<Global>) -> Result<(), Fail> {
+    match line {
+        Line::Call { node, call } => {
+            let (node, client, number) = (node.number(), call.client, call.number);
+            write!(out, "call {node} {client}.{number};")?;
+        }
+        Line::Deliver { node, frame } => write!(out, "deliver {} {frame:?};", node.number())?,
+        Line::Timeout { node, kind } => write!(out, "timeout {} {kind:?};", node.number())?,
+        Line::Noise { node, bytes } => write!(out, "noise {} {bytes:?};", node.number())?,
+        Line::Stop { node } => write!(out, "stop {};", node.number())?,
+        Line::Cut(groups) => {
+            let is_joined = groups.are_together(Proc::new(1), Proc::new(3));
+            let is_parted = !groups.are_together(Proc::new(2), Proc::new(3));
+            write!(out, "cut {is_joined} {is_parted};")?;
+        }
+        Line::Heal => write!(out, "heal;")?,
+        Line::Pump { turns } => write!(out, "pump {turns};")?,
+        Line::Show => write!(out, "show;")?,
+    }
+    Ok(())
+}
+
 /// The script's lines, each as its number and what it asks for.
 fn lines_of(alloc: Global, text: &str) -> Result<String, Fail> {
     let script = Script::parse(alloc, text.as_bytes(), Rings::OfMany).map_err(|_| "no script")?;
@@ -142,24 +165,7 @@ fn lines_of(alloc: Global, text: &str) -> Result<String, Fail> {
     for numbered in &script.lines {
         let number = numbered.number;
         write!(out, "{number} ")?;
-        match &numbered.line {
-            Line::Call { node, call } => {
-                let (node, client, number) = (node.number(), call.client, call.number);
-                write!(out, "call {node} {client}.{number};")?;
-            }
-            Line::Deliver { node, frame } => write!(out, "deliver {} {frame:?};", node.number())?,
-            Line::Timeout { node, kind } => write!(out, "timeout {} {kind:?};", node.number())?,
-            Line::Noise { node, bytes } => write!(out, "noise {} {bytes:?};", node.number())?,
-            Line::Stop { node } => write!(out, "stop {};", node.number())?,
-            Line::Cut(groups) => {
-                let is_joined = groups.are_together(Proc::new(1), Proc::new(3));
-                let is_parted = !groups.are_together(Proc::new(2), Proc::new(3));
-                write!(out, "cut {is_joined} {is_parted};")?;
-            }
-            Line::Heal => write!(out, "heal;")?,
-            Line::Pump { turns } => write!(out, "pump {turns};")?,
-            Line::Show => write!(out, "show;")?,
-        }
+        write_line(&mut out, &numbered.line)?;
     }
     Ok(out)
 }
