@@ -39,12 +39,17 @@ fn count_of(reply: &Reply) -> u8 {
 }
 
 /// Submits client 7's call number 1, and hands the node its own frames until the call is answered.
-fn answered<O: Object>(alloc: O::Alloc) -> Result<Option<Answer>, Fault> {
-    let mut node = Alone::<O>::new(alloc)?;
+fn ask<O: Object>(node: &mut Alone<O>) -> Result<Option<Answer>, Fault> {
     let ticket = node.submit(7, 1, &ADD)?;
     node.time()?;
     for _ in 0..FRAMES {
         node.hear()?;
     }
     Ok(node.reply(ticket))
+}
+
+/// The answer of a node at its opening.
+fn answered<O: Object>(alloc: O::Alloc) -> Result<Option<Answer>, Fault> {
+    let mut node = Alone::<O>::new(alloc)?;
+    ask(&mut node)
 }
