@@ -69,20 +69,35 @@ fn main(rt: HostRuntime) -> ExitCode {
     ExitCode::from(u8::from(printed.is_err()))
 }
 
-/// The calls, and what comes of them.
-fn tell<O: Object>(alloc: O::Alloc) -> Result<Story, Fault> {
-    let fixed = Fixed::new(3)?;
-    let (first, second) = (fixed.proc(1)?, fixed.proc(2)?);
+/// A network of three nodes, of which this one hears nobody.
+fn cut_network<O: Object>(alloc: O::Alloc, fixed: Fixed, alone: Proc) -> Result<Shared<O>, Fault> {
     let mut network = Network::new(alloc, World::<O>::new(alloc, fixed)?);
-    network.cut(fixed.everybody().less(ProcSet::only(first)));
-    let shared = Rc::new(alloc, RefCell::new(network))?;
+    network.cut(fixed.everybody().less(ProcSet::only(alone)));
+    Ok(Rc::new(alloc, RefCell::new(network))?)
+}
+
+/// A client with a port to each of two of its nodes.
+fn client_of<O: Object>(
+    alloc: O::Alloc,
+    shared: &Shared<O>,
+    first: Proc,
+    second: Proc,
+) -> Result<Client<WorldPort<O>>, Fault> {
     let mut ports = Vec::new(alloc);
     ports.push(WorldPort::new(shared.clone()?, first))?;
     ports.push(WorldPort::new(shared.clone()?, second))?;
-    let mut client = Client::new(alloc, 7, ports, POLLS);
+    Ok(Client::new(alloc, 7, ports, POLLS))
+}
+
+/// The calls, between which all nodes hear each other again, and what comes of them.
+fn call_twice<O: Object>(
+    client: &mut Client<WorldPort<O>>,
+    shared: &Shared<O>,
+    first: Proc,
+) -> Result<Story, Fault> {
     let added = client.call(&ADD)?;
-    let vain = vain_polls(&client);
-    let (committed, order) = heal(&shared, first)?;
+    let vain = vain_polls(client);
+    let (committed, order) = heal(shared, first)?;
     let read = client.call(&READ)?;
     Ok(Story {
         vain,
@@ -91,6 +106,15 @@ fn tell<O: Object>(alloc: O::Alloc) -> Result<Story, Fault> {
         order,
         read: count_of(&read),
     })
+}
+
+/// The story of three nodes at their opening.
+fn tell<O: Object>(alloc: O::Alloc) -> Result<Story, Fault> {
+    let fixed = Fixed::new(3)?;
+    let (first, second) = (fixed.proc(1)?, fixed.proc(2)?);
+    let shared = cut_network::<O>(alloc, fixed, first)?;
+    let mut client = client_of(alloc, &shared, first, second)?;
+    call_twice(&mut client, &shared, first)
 }
 
 /// How often the first of the client's nodes was polled for its last call, if all these polls were in vain.
