@@ -6,10 +6,10 @@
 ghost use Rattle.std.specs.Prelude.{◌≡◌, ◌<◌, ℕ, IfSome, alloc_error};
 ghost use Rattle.refusing_alloc.specs.Refusing.{passed_before, MayAnswer};
 
+mod requests;
+
 use requests::Requests;
 use std::alloc::{AllocError, Allocator, Global};
-
-mod requests;
 
 /// Passes each request on to `inner`, except for one, which it refuses.
 ///

@@ -1,5 +1,6 @@
 -- One element more of a list that is gone through.
 use Rattle.std.proofs.Common.{◌≡◌, ℕ, zero, suc, ◌+◌, ◌<◌, List, [], ◌∷◌, ◌++◌, length, take, drop, get_or, slice_get, Some, ap, sym, ◌∙◌, add-one, arith}
+use Rattle.std.proofs.Common.{◌-◌}
 
 -- what is left of a list begins with the element at the place
 pub drop-next : {X : Type 0} (xs : List X) (i : ℕ) (x : X) → i < length xs → x ≡ get_or xs i x → drop i xs ≡ x ∷ drop (i + 1) xs
@@ -25,3 +26,7 @@ take-found (y ∷ xs) (suc i) x e = ap (λ w. y ∷ w) (take-found xs i x e)
 
 pub take-more : {X : Type 0} (xs : List X) (i : ℕ) (x : X) → slice_get xs i ≡ Some x → take (i + 1) xs ≡ take i xs ++ x ∷ []
 take-more xs i x e = ap (λ n. take n xs) (add-one i) ∙ take-found xs i x e
+
+-- how many are left: one, and what is left after it
+pub left-next : (most counter : ℕ) → counter < most → most - counter ≡ suc (most - (counter + 1))
+left-next most counter l = omega arith

@@ -7,24 +7,24 @@ use Rattle.std.proofs.lemmas.Bool.Decides.{nat_tests}
 use Rattle.rtrb.specs.Ring.{sent, received, known_items, known_free, IsPair, producer_capacity, SameProducer, SameConsumer}
 use mathlib.Core.List.{IsPrefix}
 use Rattle.ring_session.specs.declared.answer.Answer.{Answer}
-use Rattle.ring_lines.specs.Answers.{answer_in, told_at, told_by, told_from, told_to}
+use Rattle.ring_book_lines.specs.Answers.{answer_in, told_at, told_by, told_from, told_to}
 use Rattle.ring_book.specs.Books.{most_places, IsBook, IsEnd, IsTold, End}
 use Rattle.ring_book.specs.Told.{ToldView, IsRoomier, AreRoomier}
 use Rattle.ring_book.specs.Cells.{IsCell, AllOf}
 use Rattle.ring_book.specs.Ends.{Name, Ring, ring_of_producer, ring_of_consumer}
-use Rattle.ring_lines.specs.Lines.{steps_of, IsFound}
-use Rattle.ring_lines.specs.Machines.{Machine}
-use Rattle.ring_lines.specs.Logs.{LogView, longer_by, logged_by, log_in}
+use Rattle.ring_book_lines.specs.Lines.{steps_of, IsFound}
+use Rattle.ring_book_lines.specs.Machines.{Machine}
+use Rattle.ring_book_lines.specs.Logs.{LogView, longer_by, logged_by}
 use Rattle.ring_book.specs.Openings.{Writer}
-use Rattle.ring_lines.specs.Runs.{Leads, IsInside, IsBookRun, AllFound}
-use Rattle.ring_lines.specs.Steps.{StepView, LineView}
+use Rattle.ring_book_lines.specs.Runs.{Leads, IsInside, IsBookRun, AllFound}
+use Rattle.ring_book_lines.specs.Steps.{StepView, LineView}
 use Rattle.ring_book.proofs.Journaling.{AllOf-last, ring_stays}
-use Rattle.ring_lines.proofs.Leading.{steps_of-own, steps_of-other, steps_of-skip}
-use Rattle.ring_lines.proofs.Logging.{log_in-snoc}
+use Rattle.ring_book_lines.proofs.Leading.{steps_of-own, steps_of-other, steps_of-skip}
+use Rattle.ring_book_lines.proofs.Logging.{log_in-snoc}
 use Rattle.std.specs.List.{AllByRecursion as Each}
 use Rattle.ring_base.proofs.Each.{each-get, each-placed, each-push}
-use Rattle.ring_book.proofs.Places.{set_cases}
-use Rattle.ring_lines.proofs.Telling.{told_from-snoc, length-told_by}
+use Rattle.ring_base.proofs.ListPlaces.{set_cases}
+use Rattle.ring_book_lines.proofs.AnswersByTicket.{told_from-snoc, length-told_by}
 
 pub end_ring : {A : Type 0} (c d : End A) → SameConsumer c d → ring_of_consumer d ≡ ring_of_consumer c
 end_ring c d h = cc
@@ -380,12 +380,6 @@ told_answers lines reserved i node ticket t is at low =
 -- a node past the group's has no answer
 pub none_answers : {A : Type 0} (n node ticket : ℕ) (ls : List (LineView A)) → n < node → Each (IsInside n) ls → None ≡ answer_in ls node ticket
 none_answers {A} n node ticket ls past h = sym (ap (λ (ss : List (StepView A)). told_at (told_from [] ss) ticket) (none_past n node ls past h))
-
--- no item stands at a place past the end
-pub none-length : {X : Type 0} (xs : List X) (i : ℕ) → slice_get xs i ≡ None → length xs ≤ i
-none-length [] i h = omega arith
-none-length (x ∷ xs) zero h = absurd cc
-none-length (x ∷ xs) (suc i) h = let k = none-length xs i h in omega (arith, k)
 
 -- lists of answers with as much room
 pub roomier-refl : (xs : List ToldView) → AreRoomier xs xs

@@ -3,11 +3,11 @@ use Rattle.std.proofs.Common.{◌≡◌, ℕ, ◌≤◌, ◌++◌, List, [], ◌
 use Rattle.rtrb.specs.Ring.{sent, SameProducer}
 use Rattle.ring_book.specs.Cells.{IsCell, AllOf}
 use Rattle.ring_book.specs.Ends.{Name, ring_of_producer}
-use Rattle.ring_lines.specs.Machines.{Machine}
+use Rattle.ring_book_lines.specs.Machines.{Machine}
 use Rattle.ring_book.specs.Openings.{Writer}
-use Rattle.ring_lines.specs.Runs.{IsStep}
-use Rattle.ring_lines.specs.Steps.{StepView}
-use Rattle.ring_lines.proofs.Leading.{Leads-snoc}
+use Rattle.ring_book_lines.specs.Runs.{IsStep}
+use Rattle.ring_book_lines.specs.Steps.{StepView}
+use Rattle.ring_book_lines.proofs.Leading.{Leads-snoc}
 
 pub ring_stays : {A : Type 0} (p q : Writer A) → SameProducer p q → ring_of_producer q ≡ ring_of_producer p
 ring_stays p q h = cc

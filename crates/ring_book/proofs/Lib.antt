@@ -1,14 +1,12 @@
--- Keeping: What keeps the limits of frames: a node does along its steps.
+-- NodeFrameLimits: What keeps the limits of frames: a node does along its steps.
 -- Stops: What it means that a node's step was refused.
 -- Journaling: A cell whose journal got one more step.
--- Places: Lists, by place.
 -- Entering: A step goes from a cell's journal to the book.
 -- Looking: What the book finds at the end of a cell's ring.
 -- Opened: Openings that grow.
-pub mod Keeping
+pub mod NodeFrameLimits
 pub mod Stops
 pub mod Journaling
-pub mod Places
 pub mod Entering
 pub mod Looking
 pub mod Opened

@@ -3,10 +3,10 @@ use Rattle.std.proofs.Common.{◌≡◌, ℕ, suc, Bool, ◌-◌, ◌<◌, ◌++
 use Rattle.std.proofs.lemmas.Option.{slice_get_read}
 use Rattle.rtrb.specs.Ring.{sent, received, known_items, ConsumerLooked, ProducerLooked}
 use mathlib.Core.List.{IsPrefix}
-use Rattle.ring_lines.specs.Lines.{steps_of, IsFound}
-use Rattle.ring_lines.specs.Logs.{LogView}
-use Rattle.ring_lines.specs.Machines.{Machine}
-use Rattle.ring_lines.specs.Steps.{StepView, LineView}
+use Rattle.ring_book_lines.specs.Lines.{steps_of, IsFound}
+use Rattle.ring_book_lines.specs.Logs.{LogView}
+use Rattle.ring_book_lines.specs.Machines.{Machine}
+use Rattle.ring_book_lines.specs.Steps.{StepView, LineView}
 use Rattle.ring_book.specs.Books.{IsBook, IsEnd, End}
 use Rattle.ring_book.specs.Cells.{IsCell}
 use Rattle.ring_book.specs.Ends.{Name}

@@ -4,12 +4,12 @@ use Rattle.std.proofs.Common.{subst, sym, ◌∙◌, length, arith, drop, Some, 
 use Rattle.rtrb.specs.Ring.{received, consumer_capacity, IsPair}
 use Rattle.std.specs.List.{AllByRecursion as Each}
 use Rattle.ring_base.proofs.Each.{each-get}
-use Rattle.ring_lines.specs.Logs.{no_log}
+use Rattle.ring_book_lines.specs.Logs.{no_log}
 use Rattle.ring_book.specs.Books.{End, IsBook}
 use Rattle.ring_book.specs.Told.{ToldView}
 use Rattle.ring_book.specs.Cells.{IsCell}
 use Rattle.ring_book.specs.Ends.{Name, Ring, ring_of_producer, ring_of_consumer}
-use Rattle.ring_lines.specs.Machines.{Machine}
+use Rattle.ring_book_lines.specs.Machines.{Machine}
 use Rattle.ring_book.specs.Openings.{Writer, IsStart, IsStartEnd, AllStart, AllStartEnds, rings_of}
 
 pub AllStart-snoc : {S A : Type 0} (m : Machine S A) (i j : ℕ) (ns : List S) (ps : List (Writer A)) (n : S)

@@ -4,15 +4,15 @@ use Rattle.std.specs.Prelude.{ℕ, suc, Option, ◌≡◌, ◌≤◌, ◌+◌, �
 use Rattle.rtrb.specs.declared.consumer.Consumer.{Consumer}
 use Rattle.rtrb.specs.declared.AnyItems.{AnyItems}
 use Rattle.rtrb.specs.Ring.{received, consumer_capacity}
-use Rattle.ring_lines.specs.Answers.{told_to}
+use Rattle.ring_book_lines.specs.Answers.{told_to}
 use Rattle.ring_book.specs.Ends.{Name, ring_of_consumer}
-use Rattle.ring_lines.specs.Lines.{steps_of, IsFound}
-use Rattle.ring_lines.specs.Machines.{Machine}
-use Rattle.ring_lines.specs.Logs.{LogView, log_in}
-use Rattle.ring_lines.specs.Runs.{IsBookRun}
+use Rattle.ring_book_lines.specs.Lines.{steps_of, IsFound}
+use Rattle.ring_book_lines.specs.Machines.{Machine}
+use Rattle.ring_book_lines.specs.Logs.{LogView, log_in}
+use Rattle.ring_book_lines.specs.Runs.{IsBookRun}
 use Rattle.ring_book.specs.Seen.{CellView, BookView}
 use Rattle.ring_book.specs.Told.{ToldView}
-use Rattle.ring_lines.specs.Steps.{StepView, LineView}
+use Rattle.ring_book_lines.specs.Steps.{StepView, LineView}
 
 -- a book has at most so many lines
 abbrev pub most_places : ℕ

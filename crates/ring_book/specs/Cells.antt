@@ -6,16 +6,16 @@ use Rattle.rtrb.specs.declared.AnyItems.{AnyItems}
 use Rattle.rtrb.specs.Ring.{sent, known_free, producer_capacity}
 use Rattle.ring_base.specs.declared.fault.Fault.{Fault}
 use Rattle.ring_base.specs.declared.fault.Fault.TheVariants.{Stopped, Stranger, Memory}
-use Rattle.ring_machine.specs.declared.input.Input.{Input}
-use Rattle.ring_machine.specs.declared.input.Input.TheVariants.{Stop}
-use Rattle.ring_lines.specs.declared.frame_ref.FrameRef.{FrameRef}
-use Rattle.ring_lines.specs.declared.input.LineInput.{LineInput}
-use Rattle.ring_lines.specs.declared.input.LineInput.TheVariants.{Came}
+use Rattle.ring_rules.specs.declared.input.Input.{Input}
+use Rattle.ring_rules.specs.declared.input.Input.TheVariants.{Stop}
+use Rattle.ring_book_lines.specs.declared.frame_ref.FrameRef.{FrameRef}
+use Rattle.ring_book_lines.specs.declared.input.LineInput.{LineInput}
+use Rattle.ring_book_lines.specs.declared.input.LineInput.TheVariants.{Came}
 use Rattle.ring_book.specs.Ends.{Name, ring_of_producer}
-use Rattle.ring_lines.specs.Machines.{Machine}
-use Rattle.ring_lines.specs.Runs.{Leads, IsStep}
+use Rattle.ring_book_lines.specs.Machines.{Machine}
+use Rattle.ring_book_lines.specs.Runs.{Leads, IsStep}
 use Rattle.ring_book.specs.Seen.{CellView}
-use Rattle.ring_lines.specs.Steps.{StepView}
+use Rattle.ring_book_lines.specs.Steps.{StepView}
 
 -- they are steps of this node
 abbrev pub AllOf : {A : Type 0} → ℕ → List (StepView A) → Type 0

@@ -5,7 +5,7 @@ use Rattle.std.specs.Borrow.{Bor}
 use Rattle.ring_base.specs.declared.fault.Fault.{Fault}
 use Rattle.ring_base.specs.declared.fault.Fault.TheVariants.{Stranger}
 use Rattle.ring_book.specs.Books.{Enters, IsStrange}
-use Rattle.ring_lines.specs.Steps.{LineView}
+use Rattle.ring_book_lines.specs.Steps.{LineView}
 use Rattle.ring_book.specs.Seen.{CellView, BookView}
 
 -- At Ok the step went to the end, and its line is lent; at Stranger both are as they were.

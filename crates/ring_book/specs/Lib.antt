@@ -1,6 +1,3 @@
-pub use Rattle.ring_lines.specs.Answers
-pub use Rattle.ring_lines.specs.Events
-pub use Rattle.ring_lines.specs.Lines
 pub mod Ends
 pub mod Seen
 pub mod Told

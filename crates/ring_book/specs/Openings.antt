@@ -6,9 +6,9 @@ use Rattle.rtrb.specs.declared.AnyItems.{AnyItems}
 use Rattle.rtrb.specs.Ring.{sent, known_free, producer_capacity, received, consumer_capacity}
 use Rattle.ring_book.specs.Books.{End}
 use Rattle.ring_book.specs.Ends.{Ring, ring_of_producer, ring_of_consumer}
-use Rattle.ring_lines.specs.Machines.{Machine}
+use Rattle.ring_book_lines.specs.Machines.{Machine}
 use Rattle.ring_book.specs.Seen.{CellView, BookView}
-use Rattle.ring_lines.specs.Steps.{StepView}
+use Rattle.ring_book_lines.specs.Steps.{StepView}
 
 abbrev pub Writer : Type 0 → Type 0
 Writer A = Producer (StepView A) A AnyItems

@@ -1,7 +1,7 @@
 -- What contracts see of a cell and of a book.
 -- The book and the threads, of docs/PROTOCOL.md.
 use Rattle.std.specs.Prelude.{ℕ, Bool, List}
-use Rattle.ring_lines.specs.Steps.{StepView, LineView}
+use Rattle.ring_book_lines.specs.Steps.{StepView, LineView}
 
 -- A node with its processor, and its journal; `ahead` says that the journal's last step is not entered yet.
 pub record CellView (S A : Type 0) : Type 0 where

@@ -7,7 +7,7 @@ ghost use Rattle.std.specs.List.{AllByRecursion};
 ghost use Rattle.std.specs.Option.{option_copied};
 ghost use Rattle.ring_base.specs.declared.fault.Fault.TheVariants.{BookFull, Memory, Stranger};
 ghost use Rattle.ring_book.specs.Told.{AreRoomier};
-ghost use Rattle.ring_lines.specs.Lines.{Stands};
+ghost use Rattle.ring_book_lines.specs.Lines.{Stands};
 
 use crate::PLACES;
 use crate::cell::Cell;
@@ -15,13 +15,12 @@ use crate::name::BookName;
 use crate::told::Told;
 use bytes::BytesMut;
 use ring_base::{Fault, Proc};
-use ring_history::Item;
-use ring_lines::laws::lines_law;
-use ring_lines::{FrameRef, Line, Segment, Step, history, is_found, note, order, stands};
+use ring_book_lines::laws::lines_law;
+use ring_book_lines::{FrameRef, Line, Segment, Step, history, is_found, note, order, stands};
 use ring_object::Object;
 use ring_payload::Call;
-use ring_session::Answer;
-use ring_ticket::Ticket;
+use ring_rules::Item;
+use ring_session::{Answer, Ticket};
 use rtrb::Consumer;
 use std::alloc::Allocator;
 use std::marker::{Model, PhantomData};
@@ -51,7 +50,7 @@ pub struct Book<O: Object, K: BookName<O::Alloc>> {
 impl<O: Object, K: BookName<O::Alloc>> Model for Book<O, K> {
     ghost use Rattle.std.specs.Prelude.{◌+◌, length, vec_capacity};
     ghost use Rattle.ring_book.specs.Books.{IsBook};
-    ghost use Rattle.ring_lines.specs.Machines.{node_machine};
+    ghost use Rattle.ring_book_lines.specs.Machines.{node_machine};
     ghost use Rattle.ring_book.specs.Seen.{BookView};
 
     ghost Value = { BookView O.Alloc };
@@ -68,15 +67,15 @@ impl<O: Object, K: BookName<O::Alloc>> Book<O, K> {
     ghost use mathlib.Core.Option.{none};
     ghost use denote.Follow.{follows_so};
     ghost use Rattle.ring_book.specs.contracts.book.Book.{the_row};
-    ghost use Rattle.ring_lines.specs.Answers.{answer_in};
+    ghost use Rattle.ring_book_lines.specs.Answers.{answer_in};
     ghost use Rattle.ring_book.specs.Books.{most_places, Enters, IsStrange, IsBook};
     ghost use Rattle.ring_book.specs.Entered.{EnterGives};
-    ghost use Rattle.ring_lines.specs.Events.{IsRun, events_of, history_of};
-    ghost use Rattle.ring_lines.specs.Lines.{sent_at, steps_of};
-    ghost use Rattle.ring_lines.specs.Puts.{IsPut};
-    ghost use Rattle.ring_lines.specs.Machines.{node_machine};
+    ghost use Rattle.ring_book_lines.specs.Events.{IsRun, events_of, history_of};
+    ghost use Rattle.ring_book_lines.specs.Lines.{sent_at, steps_of};
+    ghost use Rattle.ring_book_lines.specs.Puts.{IsPut};
+    ghost use Rattle.ring_book_lines.specs.Machines.{node_machine};
     ghost use Rattle.ring_book.specs.Openings.{new_book};
-    ghost use Rattle.ring_history.specs.Worlds.{run, world_opening, order as order_in};
+    ghost use Rattle.ring_rules.specs.Worlds.{run, world_opening, order as order_in};
 
     // A book without lines.
     pub(crate) fn new(
@@ -102,7 +101,7 @@ impl<O: Object, K: BookName<O::Alloc>> Book<O, K> {
     }
 
     /// Law: the list is a run of the group. Its inputs are the events of a run of a world of nodes, with just these frames,
-    /// answers and committed calls: of the very run of which `linear_law` of ring_linear speaks. So `order` and `history` are
+    /// answers and committed calls: of the very run of which `linear_law` of ring_order_proof speaks. So `order` and `history` are
     /// that run's, and `answer` tells what the session table answers to the ticket, a place among its node's calls
     /// (`calls`), along the node's committed log (`answers`).
     pub fn run_law(&self)

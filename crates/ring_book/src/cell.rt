@@ -1,19 +1,19 @@
 //! What a node's lock holds.
 
 ghost use Rattle.std.specs.Prelude.{◌≡◌, OnErr, MatchResult};
-ghost use Rattle.ring_lines.specs.declared.input.LineInput.TheVariants.{Called, Came};
-ghost use Rattle.ring_machine.specs.Limits.{InputFits};
+ghost use Rattle.ring_book_lines.specs.declared.input.LineInput.TheVariants.{Called, Came};
+ghost use Rattle.ring_rules.specs.NodeLimits.{InputFits};
 ghost use Rattle.ring_payload.specs.Calls.{CallFits};
 
 use crate::name::BookName;
 use bytes::BytesMut;
 use ring_base::{Fault, Proc};
-use ring_lines::{FrameRef, Frames, LineInput, Step};
-use ring_machine::Input;
+use ring_book_lines::{FrameRef, Frames, LineInput, Step};
 use ring_node::{Node, Outs};
 use ring_object::Object;
 use ring_payload::Call;
-use ring_ticket::Ticket;
+use ring_rules::Input;
+use ring_session::Ticket;
 use rtrb::Producer;
 use std::marker::{Model, PhantomData};
 
@@ -34,10 +34,10 @@ pub struct Cell<O: Object, K: BookName<O::Alloc>> {
 impl<O: Object, K: BookName<O::Alloc>> Model for Cell<O, K> {
     ghost use Rattle.rtrb.specs.Ring.{sent};
     ghost use Rattle.std.specs.Prelude.{◌+◌, length};
-    ghost use Rattle.ring_frames.proofs.Nodes.{NodeFits};
-    ghost use Rattle.ring_machine.specs.Nodes.{Node as ToldNode};
+    ghost use Rattle.ring_order_proof.proofs.NodeLimits.{NodeFits};
+    ghost use Rattle.ring_rules.specs.Nodes.{Node as ToldNode};
     ghost use Rattle.ring_book.specs.Cells.{IsCell};
-    ghost use Rattle.ring_lines.specs.Machines.{node_machine};
+    ghost use Rattle.ring_book_lines.specs.Machines.{node_machine};
     ghost use Rattle.ring_book.specs.Seen.{CellView};
 
     ghost Value = { CellView (ToldNode O.Alloc) O.Alloc };
@@ -51,7 +51,7 @@ impl<O: Object, K: BookName<O::Alloc>> Model for Cell<O, K> {
 impl<O: Object, K: BookName<O::Alloc>> Cell<O, K> {
     ghost use Rattle.std.specs.Prelude.{length};
     ghost use Rattle.ring_book.specs.Cells.{Journals, StepRefused, SubmitRefused};
-    ghost use Rattle.ring_lines.specs.Machines.{node_machine};
+    ghost use Rattle.ring_book_lines.specs.Machines.{node_machine};
 
     /// The node.
     pub fn node(&self) -> &Node<O>

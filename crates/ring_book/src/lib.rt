@@ -12,7 +12,7 @@ pub use book::{Book, Place};
 pub use cell::Cell;
 pub use name::BookName;
 pub use opening::Opening;
-pub use ring_lines::{Cause, FrameRef, Frames, Line, linear_law};
+pub use ring_book_lines::{Cause, FrameRef, Frames, Line, linear_law};
 
 /// How many places a book has.
 pub const PLACES: u32 = 262144;

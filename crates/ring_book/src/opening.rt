@@ -2,7 +2,7 @@
 
 ghost use Rattle.std.specs.Prelude.{◌≡◌, IfOk, IfErr};
 ghost use Rattle.ring_base.specs.declared.fault.Fault.TheVariants.{Memory};
-ghost use Rattle.ring_lines.specs.Machines.{node_machine};
+ghost use Rattle.ring_book_lines.specs.Machines.{node_machine};
 ghost use Rattle.ring_book.specs.Openings.{new_book, new_cells};
 
 use crate::book::Book;
@@ -11,7 +11,7 @@ use crate::name::BookName;
 use crate::told::Told;
 use bytes::BytesMut;
 use ring_base::{Fault, Fixed, Proc};
-use ring_lines::{FRAME_BYTES, Step};
+use ring_book_lines::{FRAME_BYTES, Step};
 use ring_node::Node;
 use ring_object::Object;
 use rtrb::{Consumer, Producer, RingBuffer};
@@ -31,7 +31,7 @@ pub struct Opening<O: Object> {
 impl<O: Object> Model for Opening<O> {
     ghost use Rattle.std.specs.Prelude.{length, ◌≡◌, ◌≤◌};
     ghost use Rattle.ring_book.specs.Ends.{Name};
-    ghost use Rattle.ring_lines.specs.Machines.{node_machine};
+    ghost use Rattle.ring_book_lines.specs.Machines.{node_machine};
     ghost use Rattle.ring_book.specs.Openings.{rings_of, AllStart, AllStartEnds};
 
     ghost Value = { Name O.Alloc };

@@ -2,12 +2,11 @@
 
 ghost use Rattle.std.specs.Prelude.{◌≡◌, ◌+◌, ◌<◌, ◌≤◌, [], length, OnOk, IfErr};
 ghost use Rattle.ring_base.specs.declared.fault.Fault.TheVariants.{Memory};
-ghost use Rattle.ring_lines.specs.Answers.{told_at, told_by};
+ghost use Rattle.ring_book_lines.specs.Answers.{told_at, told_by};
 
 use ring_base::Fault;
-use ring_lines::{Step, tell};
-use ring_session::Answer;
-use ring_ticket::Ticket;
+use ring_book_lines::{Step, tell};
+use ring_session::{Answer, Ticket};
 use std::alloc::{Allocator, Global};
 use std::marker::Model;
 

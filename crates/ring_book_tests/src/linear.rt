@@ -4,20 +4,19 @@ ghost use Rattle.std.specs.Prelude.{◌≡◌, ◌≤◌, IfOk, IfErr};
 ghost use Rattle.ring_base.specs.Fronts.{IsFront};
 ghost use Rattle.ring_base.specs.declared.fault.Fault.TheVariants.{Memory};
 ghost use Rattle.ring_session.specs.Deduplicated.{deduplicated};
-ghost use Rattle.ring_history.specs.Histories.{IsLinearization};
-ghost use Rattle.ring_history.specs.Worlds.{order, run, world_opening};
-ghost use Rattle.ring_machine.specs.Nodes.{node_committed};
-ghost use Rattle.ring_book.specs.Answers.{told_at};
-ghost use Rattle.ring_book.specs.Events.{answers_of, events_of};
-ghost use Rattle.ring_book.specs.Lines.{steps_of};
+ghost use Rattle.ring_rules.specs.Histories.{IsLinearization};
+ghost use Rattle.ring_rules.specs.Worlds.{order, run, world_opening};
+ghost use Rattle.ring_rules.specs.Nodes.{node_committed};
+ghost use Rattle.ring_book_lines.specs.Answers.{told_at};
+ghost use Rattle.ring_book_lines.specs.Events.{answers_of, events_of};
+ghost use Rattle.ring_book_lines.specs.Lines.{steps_of};
 
 use ring_base::{Fault, Proc};
-use ring_book::{Book, BookName, Cell, linear_law};
-use ring_history::Item;
-use ring_object::Object;
 use ring_payload::Call;
-use ring_session::Answer;
-use ring_ticket::Ticket;
+use ring_rules::Item;
+use ring_session::{Answer, Ticket};
+use ring_book::{Book, BookName, Cell, linear_law};
+use ring_object::Object;
 use std::alloc::{Allocator, Global};
 
 /// What a book shows: its history, and an order of calls that explains it.

@@ -1,6 +1,6 @@
 -- One more poll of a port, and one more port.
-use Rattle.std.proofs.Common.{◌≡◌, ℕ, zero, suc, ◌+◌, ◌-◌, ◌^◌, ◌<◌, min, List, [], ◌∷◌, length, take, drop, Option}
-use Rattle.std.proofs.Common.{Some, None, IfSome, All, slice_get, slice_set, refl, ap, sym, subst, ◌∙◌, arith}
+use Rattle.std.proofs.Common.{◌≡◌, ℕ, ◌+◌, ◌-◌, ◌^◌, ◌<◌, min, List, length, take, drop, Option}
+use Rattle.std.proofs.Common.{Some, None, IfSome, All, slice_set, ap, sym, subst, ◌∙◌, arith}
 use Rattle.std.proofs.Common.{length-set, drop-drop, drop-set-lt}
 use Rattle.std.proofs.lemmas.List.{take-set, take_more_set}
 use Rattle.std.proofs.lemmas.List.Elements.{All-push}
@@ -8,6 +8,7 @@ use Rattle.ring_session.specs.declared.answer.Answer.{Answer}
 use Rattle.ring_client.specs.declared.asked.Asked.{Asked}
 use Rattle.ring_client.specs.Asking.{polled, IsInVain, HasAnswered}
 use Rattle.ring_client.specs.Outcomes.{AreAsked, HasAnswer}
+use Rattle.ring_base.proofs.ListPlaces.{get-set}
 
 -- a poll after so many without an answer, if it gives one
 pub answered-poll : (call before after : Asked) (turns counter : ℕ) (result : Option Answer) → counter < turns → turns < 2 ^ 64
@@ -16,11 +17,6 @@ answered-poll call before after turns counter None within fits is polls = tt
 answered-poll call before after turns counter (Some answer) within fits is polls =
     let more : min (counter + 1) (2 ^ 64 - 1) ≡ counter + 1 = omega arith in
     (counter + 1, omega arith, omega arith, polls ∙ ap (polled (Some answer)) is ∙ ap (λ (n : ℕ). record (call) { polls = n; answer = Some answer }) more)
-
-get-set : {X : Type 0} (xs : List X) (i : ℕ) (x : X) → i < length xs → slice_get (slice_set xs i x) i ≡ Some x
-get-set [] i x within = absurd (omega arith)
-get-set (y ∷ xs) zero x within = refl
-get-set (y ∷ xs) (suc i) x within = get-set xs i x (omega arith)
 
 module _ {P : Type 0} (asked : P → Asked) (call : Asked) (turns : ℕ) (old ports : List P) (i : ℕ) (port : P) where
   untouched_behind : drop i ports ≡ drop i old → drop (i + 1) (slice_set ports i port) ≡ drop (i + 1) old

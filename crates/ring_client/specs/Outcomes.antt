@@ -2,8 +2,8 @@
 use Rattle.std.specs.Prelude.{◌≡◌, ℕ, ◌+◌, ◌<◌, ◌≤◌, List, All, length, take, drop, slice_get, Some}
 use Rattle.ring_session.specs.declared.answer.Answer.{Answer}
 use Rattle.ring_client.specs.declared.asked.Asked.{Asked}
-use Rattle.ring_client.specs.declared.asking.Outcome.{Outcome}
-use Rattle.ring_client.specs.declared.asking.Outcome.TheVariants.{Answered, Unanswered, Unasked, CutOff}
+use Rattle.ring_client.specs.declared.asking.CallOutcome.{CallOutcome}
+use Rattle.ring_client.specs.declared.asking.CallOutcome.TheVariants.{Answered, Unanswered, Unasked, CutOff}
 use Rattle.ring_client.specs.Asking.{IsTold, IsInVain, HasAnswered}
 
 -- the ports, the call as one that was just submitted it tells it, the polls that each has, the ports before and after
@@ -28,7 +28,7 @@ module _ {P : Type 0} (asked : P → Asked) (call : Asked) (turns : ℕ) (old ne
   abbrev pub AreCutOff : Type 0
   AreCutOff = (count : ℕ) × (1 ≤ count) × (count < length old) × AreAsked count
 
-  abbrev pub IsOutcome : Outcome → Type 0
+  abbrev pub IsOutcome : CallOutcome → Type 0
   IsOutcome (Answered answer) = IsTold answer × HasAnswer answer
   IsOutcome Unanswered = AreAsked (length old)
   IsOutcome Unasked = (1 ≤ length old) × (new ≡ old)

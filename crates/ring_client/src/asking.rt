@@ -39,7 +39,7 @@ impl Question {
 
 /// What comes of a call at the ports.
 #[derive(Clone, Copy)]
-pub enum Outcome {
+pub enum CallOutcome {
     /// A port gave this answer.
     Answered(Answer),
     /// Each port was asked in vain.
@@ -56,22 +56,22 @@ pub fn ask_in_turn<P: Port>(
     alloc: P::Alloc,
     question: &Question,
     turns: u64,
-) -> Outcome
+) -> CallOutcome
     ensures { IsOutcome P.asked_of (just_submitted question.now.client question.now.number question.now.op) turns ports.old ports.new result }
 {
     for i in 0..ports.len() {
         let Ok(call) = question.call(alloc) else {
             return if i == 0 {
-                Outcome::Unasked
+                CallOutcome::Unasked
             } else {
-                Outcome::CutOff
+                CallOutcome::CutOff
             };
         };
         if let Some(answer) = ask(&mut ports[i], &call, turns) {
-            return Outcome::Answered(answer);
+            return CallOutcome::Answered(answer);
         }
     }
-    Outcome::Unanswered
+    CallOutcome::Unanswered
 }
 
 /// Submits a call at a port, and gives the answer if it comes within so many polls.

@@ -4,7 +4,7 @@ ghost use Rattle.std.specs.Prelude.{◌≡◌, ℕ, ◌<◌, ◌^◌, nat_lt, Li
 ghost use Rattle.ring_client.specs.Calling.{IsReady, IsShort, IsReplied, AskingRefused, CallRefused, AgainRefused};
 
 use crate::asked::Op;
-use crate::asking::{Outcome, Question, ask_in_turn, reply_of};
+use crate::asking::{CallOutcome, Question, ask_in_turn, reply_of};
 use crate::port::Port;
 use ring_base::Fault;
 use ring_object::Reply;
@@ -128,18 +128,18 @@ impl<P: Port> Client<P> {
             op,
         };
         match ask_in_turn(self.ports.as_mut_slice(), self.alloc, &question, self.turns) {
-            Outcome::Answered(answer) => {
+            CallOutcome::Answered(answer) => {
                 self.open_call = None;
                 let reply = reply_of(answer)?;
                 self.replied += 1;
                 Ok(reply)
             }
-            Outcome::Unanswered => {
+            CallOutcome::Unanswered => {
                 self.open_call = Some(op);
                 Err(Fault::NoAnswer)
             }
-            Outcome::Unasked => Err(Fault::Memory),
-            Outcome::CutOff => {
+            CallOutcome::Unasked => Err(Fault::Memory),
+            CallOutcome::CutOff => {
                 self.open_call = Some(op);
                 Err(Fault::Memory)
             }

@@ -3,7 +3,7 @@
 
 ghost use Rattle.std.specs.Prelude.{IfOk, IfSome};
 ghost use Rattle.ring_client.specs.Asking.{IsTold};
-ghost use Rattle.ring_machine.specs.Limits.{InputFits};
+ghost use Rattle.ring_rules.specs.NodeLimits.{InputFits};
 
 use crate::scripted::told;
 use ring_base::{Fault, Fixed, Kind};
@@ -11,9 +11,8 @@ use ring_client::{Asked, Client, Port};
 use ring_node::{Input, Node};
 use ring_object::{Object, Reply};
 use ring_payload::Call;
-use ring_session::Answer;
+use ring_session::{Answer, Ticket};
 use ring_things::Counters;
-use ring_ticket::Ticket;
 use ring_wire::{Frame, Wire};
 use std::alloc::Allocator;
 use std::process::Abort;

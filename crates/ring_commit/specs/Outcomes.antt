@@ -4,8 +4,8 @@ use Rattle.ring_base.specs.Numbers.{max_number}
 use Rattle.ring_wire.specs.declared.commit.CommitToken.{CommitToken}
 use Rattle.ring_wire.specs.declared.entries.CommitEntry.{CommitEntry}
 use Rattle.ring_wire.specs.declared.token.Token.{Token}
-use Rattle.ring_commit.specs.declared.outcome.Outcome.{Outcome}
-use Rattle.ring_commit.specs.declared.outcome.Outcome.TheVariants.{Pass, Recover, Start, Ignored}
+use Rattle.ring_commit.specs.declared.outcome.CommitOutcome.{CommitOutcome}
+use Rattle.ring_commit.specs.declared.outcome.CommitOutcome.TheVariants.{Pass, Recover, Start, Ignored}
 use Rattle.ring_commit.specs.Reports.{Configuration}
 use Rattle.ring_commit.specs.Rounds.{receiver, hopped, proposal, is_first_round, is_second_round, is_start}
 
@@ -14,17 +14,17 @@ abbrev pub is_at : ℕ → CommitToken → Bool
 is_at me k = receiver k == me
 
 -- who has consensus proposes a number up to the greatest
-abbrev pub proposed : ℕ → ℕ → ℕ → CommitEntry → Outcome
+abbrev pub proposed : ℕ → ℕ → ℕ → CommitEntry → CommitOutcome
 proposed me number members own = if nat_le number max_number then Pass (proposal me number members own) else Ignored
 
 -- in Gather: the first round
-abbrev pub filled : ℕ → ℕ → ℕ → CommitEntry → CommitToken → Outcome
+abbrev pub filled : ℕ → ℕ → ℕ → CommitEntry → CommitToken → CommitOutcome
 filled me floor candidates own k = if is_at me k && is_first_round floor candidates k then Pass (hopped k (own ∷ [])) else Ignored
 
 -- in Commit: the second round
-abbrev pub learned : ℕ → Configuration → CommitEntry → CommitToken → Outcome
+abbrev pub learned : ℕ → Configuration → CommitEntry → CommitToken → CommitOutcome
 learned me running own k = if is_at me k && is_second_round running own k then Recover (hopped k []) else Ignored
 
 -- in Recovery: the end of the second round; the token that it starts is visited if it is accepted
-abbrev pub started : ℕ → Configuration → Token → CommitToken → Outcome
+abbrev pub started : ℕ → Configuration → Token → CommitToken → CommitOutcome
 started me running first k = if is_at me k && is_start running k then Start first else Ignored

@@ -6,7 +6,7 @@ pub mod outcome;
 mod rounds;
 
 pub use configuration::Configuration;
-pub use outcome::Outcome;
+pub use outcome::CommitOutcome;
 pub use rounds::{
     fill, is_at, is_first_round, is_second_round, is_start, learn, propose, receiver, safe_of,
     start,

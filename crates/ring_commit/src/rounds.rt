@@ -8,7 +8,7 @@ ghost use Rattle.ring_commit.specs.Rounds.{position_of_hop, receiver, hopped, pr
 ghost use Rattle.ring_commit.specs.Outcomes.{is_at, proposed, filled, learned, started};
 
 use crate::configuration::Configuration;
-use crate::outcome::Outcome;
+use crate::outcome::CommitOutcome;
 use ring_base::{MAX, Proc, ProcSet, RingId};
 use ring_wire::{CommitEntry, CommitToken, Entries, Token};
 
@@ -79,11 +79,11 @@ pub fn safe_of(old: &RingId, entries: &[CommitEntry]) -> u64
 
 /// Proposes a ring of these members, whose number is one more than the greatest that is known. Its commit
 /// token goes to the next member with the node's own entry. No number above 2^62 is proposed.
-pub fn propose(me: Proc, greatest: u64, members: ProcSet, own: CommitEntry) -> Outcome
+pub fn propose(me: Proc, greatest: u64, members: ProcSet, own: CommitEntry) -> CommitOutcome
     ensures { result ≡ proposed me (suc greatest) members own }
 {
     if greatest >= MAX {
-        return Outcome::Ignored;
+        return CommitOutcome::Ignored;
     }
     let mut entries = Entries::new();
     entries.push(own);
@@ -91,7 +91,7 @@ pub fn propose(me: Proc, greatest: u64, members: ProcSet, own: CommitEntry) -> O
         seq: greatest + 1,
         rep: me,
     };
-    Outcome::Pass(CommitToken {
+    CommitOutcome::Pass(CommitToken {
         ring,
         members,
         hop: 1,
@@ -106,19 +106,19 @@ pub fn fill(
     candidates: ProcSet,
     own: CommitEntry,
     mut token: CommitToken,
-) -> Outcome
+) -> CommitOutcome
     requires { length token.entries ≡ entries_at token.hop (size token.members) }
     ensures { result ≡ filled me floor candidates own token }
 {
     if !is_at(me, &token) {
-        return Outcome::Ignored;
+        return CommitOutcome::Ignored;
     }
     if !is_first_round(floor, candidates, &token) {
-        return Outcome::Ignored;
+        return CommitOutcome::Ignored;
     }
     token.hop += 1;
     token.entries.push(own);
-    Outcome::Pass(token)
+    CommitOutcome::Pass(token)
 }
 
 /// The second round, in Commit: the token goes on as it is. Its entries are what recovery goes by.
@@ -127,28 +127,28 @@ pub fn learn(
     running: &Configuration,
     own: &CommitEntry,
     mut token: CommitToken,
-) -> Outcome
+) -> CommitOutcome
     ensures { result ≡ learned me running.now own.now token }
 {
     if !is_at(me, &token) {
-        return Outcome::Ignored;
+        return CommitOutcome::Ignored;
     }
     if !is_second_round(running, own, &token) {
-        return Outcome::Ignored;
+        return CommitOutcome::Ignored;
     }
     token.hop += 1;
-    Outcome::Recover(token)
+    CommitOutcome::Recover(token)
 }
 
 /// The end of the second round, in Recovery: the representative visits the token that the caller gives as the first
 /// of the ring.
-pub fn start(me: Proc, running: &Configuration, first: Token, token: &CommitToken) -> Outcome
+pub fn start(me: Proc, running: &Configuration, first: Token, token: &CommitToken) -> CommitOutcome
     ensures { result ≡ started me running.now first token.now }
 {
     if is_at(me, token) && is_start(running, token) {
-        Outcome::Start(first)
+        CommitOutcome::Start(first)
     } else {
-        Outcome::Ignored
+        CommitOutcome::Ignored
     }
 }
 

@@ -1,5 +1,6 @@
--- Going: What one event and one turn do to a run.
--- Texts: What is printed, one line of a script after another.
-pub use Rattle.ring_pump.proofs.Playing
-pub mod Going
-pub mod Texts
+-- RunGoesOn: What one event and one turn do to a run.
+-- PrintedLines: What is printed, one line of a script after another.
+pub mod RunGoesOn
+pub mod PrintedLines
+mod ListedLemmas
+mod ListingLemmas

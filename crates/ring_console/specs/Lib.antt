@@ -1,3 +1,4 @@
-pub use Rattle.ring_pump.specs.Played
 pub mod Printed
 pub mod Running
+pub mod Listed
+pub mod Listings

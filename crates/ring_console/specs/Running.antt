@@ -7,20 +7,20 @@ use Rattle.ring_base.specs.Group.{Group}
 use Rattle.ring_base.specs.Processors.{has}
 use Rattle.ring_base.specs.declared.fault.Fault.TheVariants.{Memory}
 use Rattle.ring_object.specs.Operations.{Sequential}
-use Rattle.ring_machine.specs.Nodes.{Node, node_committed, node_log}
-use Rattle.ring_history.specs.declared.event.Event.{Event}
-use Rattle.ring_history.specs.declared.event.Event.TheVariants as events
-use Rattle.ring_history.specs.Histories.{IsLinearization}
-use Rattle.ring_history.specs.Worlds.{World, order}
+use Rattle.ring_rules.specs.Nodes.{Node, node_committed, node_log}
+use Rattle.ring_rules.specs.declared.event.Event.{Event}
+use Rattle.ring_rules.specs.declared.event.Event.TheVariants as events
+use Rattle.ring_rules.specs.Histories.{IsLinearization}
+use Rattle.ring_rules.specs.Worlds.{World, order}
 use Rattle.ring_script.specs.declared.line.Line.{Line}
 use Rattle.ring_script.specs.declared.line.Line.TheVariants.{Call, Deliver, Timeout, Noise, Stop, Cut, Heal, Pump, Show}
 use Rattle.ring_script.specs.declared.scripts.Numbered.{Numbered}
 use Rattle.ring_report.specs.declared.failure.Failure.{Failure}
 use Rattle.ring_report.specs.declared.failure.Failure.TheVariants.{Output, Refused}
 use Rattle.ring_report.specs.Texts.{line_of}
-pub use Rattle.ring_pump.specs.declared.pairs.Pair.{Pair}
-use Rattle.ring_pump.specs.Pumping.{Pumped, Rests as PumpRests, Happens as PumpHappens}
-use Rattle.ring_pump.specs.Played.{Played, played_opening, world_of}
+pub use Rattle.ring_world.specs.declared.pairs.Pair.{Pair}
+use Rattle.ring_world.specs.Pumping.{Pumped, Rests as PumpRests, Happens as PumpHappens}
+use Rattle.ring_world.specs.Played.{Played, played_opening, world_of}
 use Rattle.ring_console.specs.Printed.{told_text, node_text, order_text, legal_text}
 
 -- What contracts see of a run.

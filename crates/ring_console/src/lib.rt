@@ -3,13 +3,16 @@
 //! the exit status.
 #![tactic(auto)]
 
+mod ahead;
+mod listed;
+mod listing;
 mod printed;
 mod run;
 mod running;
 
-pub use ring_listing::frames;
-pub use ring_pump::{Pair, World};
+pub use listing::frames;
 pub use ring_report::{Failure, report};
 pub use ring_script::{Groups, Line, Numbered, Rings, Script, ScriptFault};
+pub use ring_world::{Pair, World};
 pub use run::Run;
 pub use running::{Things, script, script_check};

@@ -7,10 +7,10 @@ ghost use Rattle.ring_report.specs.Texts.{line_of};
 ghost use Rattle.ring_console.specs.Printed.{one_text, told_text, answer_text, refused_text, node_text, order_text, legal_text, state_text};
 
 use ring_base::{Proc, RingId, State};
-use ring_history::Told;
 use ring_object::Reply;
 use ring_payload::Call;
 use ring_report::Failure;
+use ring_rules::Told;
 use ring_session::Answer;
 use std::alloc::Allocator;
 use std::io::Write;

@@ -4,8 +4,8 @@ ghost use Rattle.std.specs.Prelude.{◌≡◌, ◌≤◌, true, false, []};
 ghost use Rattle.std.specs.Prelude.{Some, None, length, drop, slice_get, IfOk, IfErr, OnOk, OnErr, IsTrue};
 ghost use Rattle.std.specs.Io.KnownBytes.{Appends};
 ghost use Rattle.ring_base.specs.declared.fault.Fault.TheVariants.{Memory};
-ghost use Rattle.ring_history.specs.Limits.{EventFits};
-ghost use Rattle.ring_pump.specs.Pairs.{Takes};
+ghost use Rattle.ring_rules.specs.WorldLimits.{EventFits};
+ghost use Rattle.ring_world.specs.Pairs.{Takes};
 ghost use Rattle.ring_report.specs.declared.failure.Failure.TheVariants.{Output};
 ghost use Rattle.ring_script.specs.Fits.{IsFit, AreFit};
 ghost use Rattle.ring_console.specs.Printed.{told_text};
@@ -14,11 +14,11 @@ ghost use Rattle.ring_console.specs.Running.{Comes, Pumps, BreaksPump, Ends, End
 
 use crate::printed::{print_node, print_order, print_told};
 use ring_base::{Fault, Fixed, Proc};
-use ring_history::Event;
 use ring_object::Object;
-use ring_pump::{Pair, Pump, World};
 use ring_report::Failure;
+use ring_rules::Event;
 use ring_script::{Groups, Line, Script};
+use ring_world::{Pair, Pump, World};
 use std::io::Write;
 use std::marker::Model;
 

@@ -13,7 +13,7 @@ ghost use Rattle.ring_console.specs.Running.{Prints, IsTextOf, IsLegal, IsOutput
 use crate::printed::print_legal;
 use crate::run::Run;
 use ring_base::Fault;
-use ring_history::is_linearization;
+use ring_checker::is_linearization;
 use ring_object::Object;
 use ring_report::{Failure, Lent, exit_status, report};
 use ring_script::{Rings, Script};

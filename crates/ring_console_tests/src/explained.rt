@@ -2,8 +2,8 @@
 
 use refusing_alloc::{Refusing, refuse_in_turn};
 use ring_base::Fault;
+use ring_checker::is_linearization;
 use ring_console::{Rings, Run, Script, ScriptFault, Things};
-use ring_history::is_linearization;
 use ring_object::Object;
 use std::alloc::{AllocError, Allocator, Global};
 

@@ -1,8 +1,8 @@
 -- A processor's ring core, what it is now and all that ever happened to it: Rings and states, rules 3 to 6 of
 -- docs/PROTOCOL.md. Each list of facts is newest first, and nothing ever leaves it: what the program forgets is never
 -- looked at again.
-use Rattle.std.specs.Prelude.{ℕ, Bool, true, false, List, [], ◌∷◌, Option, None}
-use Rattle.ring_base.specs.Processors.{only, everybody}
+use Rattle.std.specs.Prelude.{ℕ, zero, suc, Bool, true, false, if◌then◌else◌, List, [], ◌∷◌, Option, Some, None, slice_get}
+use Rattle.ring_base.specs.Processors.{has, only, everybody}
 use Rattle.ring_base.specs.declared.ring_id.RingId.{RingId}
 use Rattle.ring_payload.specs.declared.content.Payload.{Payload}
 use Rattle.ring_wire.specs.declared.commit.CommitToken.{CommitToken}
@@ -11,7 +11,7 @@ use Rattle.ring_wire.specs.declared.frame.Frame.{Frame}
 use Rattle.ring_wire.specs.declared.message.Message.{Message}
 use Rattle.ring_token.specs.Turns.{Turn, Raise}
 use Rattle.ring_join.specs.Gathering.{Gathering, entered}
-use Rattle.ring_recover.specs.Configuration.{Configuration}
+use Rattle.ring_commit.specs.declared.configuration.Configuration.{Configuration}
 use Rattle.ring_core.specs.declared.out.Out.{Out}
 use Rattle.ring_base.specs.declared.state.State.{State}
 use Rattle.ring_base.specs.declared.state.State.TheVariants.{Gather, Commit, Recovery, Operational, Stopped}
@@ -26,6 +26,16 @@ pub record Carried (A : Type 0) : Type 0 where
   pub from : ℕ
   pub to : ℕ
   pub frame : Frame A
+
+-- frames are numbered from 1
+abbrev pub frame_at : {A : Type 0} → List (Carried A) → ℕ → Option (Carried A)
+frame_at frames zero = None
+frame_at frames (suc k) = slice_get frames k
+
+-- the frame, if it was sent to this processor
+abbrev pub frame_for : {A : Type 0} → ℕ → Option (Carried A) → Option (Frame A)
+frame_for i None = None
+frame_for i (Some f) = if has f.to i then Some f.frame else None
 
 -- what was reported on the way into a ring
 pub record Report : Type 0 where

@@ -3,7 +3,11 @@
 #![tactic(auto)]
 
 pub mod input;
+mod naming;
 pub mod out;
+mod sent;
 
 pub use input::Input;
+pub use naming::is_named;
 pub use out::Out;
+pub use sent::Sent;

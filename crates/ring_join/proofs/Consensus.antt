@@ -1,5 +1,5 @@
 -- Consensus is of those that said exactly the sets of the node.
-use Rattle.std.proofs.Common.{◌≡◌, ℕ, zero, suc, ◌<◌, ◌≤◌, true, inl, inr, List, [], ◌∷◌, length, refl, sym, ap, ◌∙◌, arith}
+use Rattle.std.proofs.Common.{◌≡◌, ℕ, zero, suc, ◌<◌, ◌≤◌, true, inl, inr, List, [], ◌∷◌, length, refl, sym, ap, ◌∙◌, arith, Bool, false, if◌then◌else◌}
 use Rattle.std.specs.Prelude.{slice_index_or}
 use Rattle.std.specs.Prelude.{◌↔◌}
 use Rattle.std.specs.List.{AllByRecursion, Any}
@@ -7,6 +7,8 @@ use Rattle.ring_base.specs.Processors.{IsMember, only}
 use Rattle.ring_base.specs.Members.{nobody_member, only_members, union_members, within_members}
 use Rattle.ring_wire.specs.declared.join.Join.{Join}
 use Rattle.ring_join.specs.Gathering.{Gathering, SaysSame, senders, agreeing, candidates, has_consensus, HasConsensus, AllSaySame, AllAreProcs}
+use Rattle.ring_join.specs.Gathering.{is_unheard, has_same_sets, has_smaller_sets, hearing}
+use Rattle.ring_join.specs.declared.hearing.Hearing.TheVariants.{Ignored, Agrees, Widens}
 
 -- an element has it, or a later one
 any-here : {X : Type 0} (P : X → Type 0) (x : X) (xs : List X) → P x → Any P (x ∷ xs)
@@ -49,3 +51,14 @@ consensus me g low p h = (
         | inr q ↦ (union_members (only me) (senders g.heard) i).1 (inr (sender_at g i g.heard q.0 q.1 p q.2 q.3 q.4))
       ]),
 )
+
+-- of these tests the second passed
+agrees_by : (u s w : Bool) → (if u then Ignored else if s then Agrees else if w then Ignored else Widens) ≡ Agrees → s ≡ true
+agrees_by true s w e = (let q : Ignored ≡ Agrees = e in cc)
+agrees_by false true w e = refl
+agrees_by false false true e = (let q : Ignored ≡ Agrees = e in cc)
+agrees_by false false false e = (let q : Widens ≡ Agrees = e in cc)
+
+-- a join that agrees has the same sets
+pub agrees_same : (me : ℕ) (g : Gathering) (j : Join) → hearing me g j ≡ Agrees → has_same_sets g j ≡ true
+agrees_same me g j e = agrees_by (is_unheard me g j) (has_same_sets g j) (has_smaller_sets g j) e

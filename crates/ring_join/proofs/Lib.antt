@@ -1,6 +1,6 @@
 -- Consensus: Consensus is of those that said exactly the sets of the node.
--- Counting: One more join that counts.
+-- JoinCounted: One more join that counts.
 -- Widening: Widening always changes a set.
 pub mod Consensus
-pub mod Counting
+pub mod JoinCounted
 pub mod Widening

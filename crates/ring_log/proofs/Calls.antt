@@ -1,25 +1,22 @@
 -- Calls that begin others, compared one by one; and the committed places of a log, as it changes.
-use Rattle.std.proofs.Common.{◌≡◌, ℕ, zero, suc, ◌+◌, ◌-◌, ◌<◌, ◌≤◌, ◌==◌, ◌&&◌, min, max, Bool, true, false, List, []}
+use Rattle.std.proofs.Common.{◌≡◌, ℕ, zero, suc, ◌+◌, ◌-◌, ◌<◌, ◌==◌, ◌&&◌, min, max, Bool, true, false, List, []}
 use Rattle.std.proofs.Common.{◌∷◌, ◌++◌, length, take, drop, ◌↔◌, IsTrue, refl, ap, sym, ◌∙◌, arith, length-append, inl}
 use Rattle.std.proofs.Common.{inr}
 use Rattle.std.specs.Bool.{Decides, one_answer}
 use Rattle.std.specs.Str.{bytes_eq}
 use Rattle.std.specs.Cmp.Lexicographic.{pointwise_decides}
-use Rattle.std.proofs.lemmas.Bool.{cases_lt, eqb-true, eq-eqb, and_parts}
-use Rattle.std.proofs.lemmas.List.{append-nil, take-append-drop, take-append-le, take-take, length-take, length-take-le, drop_all, take_rest}
+use Rattle.std.proofs.lemmas.Bool.{cases_lt, eqb-true, eq-eqb, and_parts, and_from}
+use Rattle.std.proofs.lemmas.List.{append-nil, take-append-drop, take-append-le, length-take, length-take-le, drop_all, take_rest}
 use Rattle.std.proofs.lemmas.Slice.Eq.{bytes_eq-Decides}
 use Rattle.ring_base.specs.Fronts.{IsFront}
 use Rattle.ring_base.specs.declared.ring_id.RingId.{RingId}
+use Rattle.ring_base.proofs.ListFronts.{take-longer}
 use Rattle.ring_payload.specs.declared.call.Call.{Call as OneCall}
 use Rattle.ring_log.specs.declared.base.Base.{Base}
 use Rattle.ring_log.specs.Exchanges.{based}
 use Rattle.ring_log.specs.Logs.{Log, appended, adopted, committed_upto, committed_calls, same_call, begins, is_log_length, is_adoptable, IsLog, KeepsCommitted}
 
 -- ---- one call
-
-both : (a b : Bool) → a ≡ true → b ≡ true → a && b ≡ true
-both true b first second = second
-both false b first second = absurd (cc first)
 
 same_call-true : {A : Type 0} (c d : OneCall A) → same_call c d ≡ true → c ≡ d
 same_call-true {A} c d same =
@@ -33,10 +30,10 @@ same_call-true {A} c d same =
     let of_op : List ℕ → OneCall A = λ o. record { client = d.client; number = d.number; op = o } in
     ap of_client client ∙ ap of_number number ∙ ap of_op op
 
-same_call-self : {A : Type 0} (c : OneCall A) → same_call c c ≡ true
+pub same_call-self : {A : Type 0} (c : OneCall A) → same_call c c ≡ true
 same_call-self c =
-    both ((c.client == c.client) && (c.number == c.number)) (bytes_eq c.op c.op)
-    (both (c.client == c.client) (c.number == c.number) (eq-eqb c.client c.client refl) (eq-eqb c.number c.number refl))
+    and_from ((c.client == c.client) && (c.number == c.number)) (bytes_eq c.op c.op)
+    (and_from (c.client == c.client) (c.number == c.number) (eq-eqb c.client c.client refl) (eq-eqb c.number c.number refl))
     ((bytes_eq-Decides c.op c.op).1 refl)
 
 same_call-equal : {A : Type 0} (c d : OneCall A) → c ≡ d → same_call c d ≡ true
@@ -109,9 +106,6 @@ adoptable committed from same kept own front calls brought begun fits is_front i
 front-same : {X : Type 0} (xs ys : List X) → xs ≡ ys → IsFront xs ys
 front-same xs ys same = ([], append-nil xs ∙ same)
 
-front-take : {X : Type 0} (m n : ℕ) (xs : List X) → m ≤ n → IsFront (take m xs) (take n xs)
-front-take m n xs le = (drop m (take n xs), ap (λ w. w ++ drop m (take n xs)) (sym (take-take m n xs le)) ∙ take-append-drop m (take n xs))
-
 pub committed-first : {A : Type 0} (log : Log A) → IsLog log → IsFront (committed_calls log) log.calls × (length (committed_calls log) ≡ log.committed)
 committed-first log is = ((drop log.committed log.calls, take-append-drop log.committed log.calls), length-take-le log.committed log.calls is)
 
@@ -124,7 +118,7 @@ committed-appended log call is = record {
 pub committed-raised : {A : Type 0} (log : Log A) (n : ℕ) → IsLog log → KeepsCommitted log (committed_upto log n)
 committed-raised log n is = record {
   log = omega arith;
-  front = front-take log.committed (max log.committed (min n (length log.calls))) log.calls (omega arith);
+  front = take-longer log.committed (max log.committed (min n (length log.calls))) log.calls (omega arith);
 }
 
 -- the base begins with the committed places, so these stay as they are

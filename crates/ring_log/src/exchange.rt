@@ -1,6 +1,6 @@
 //! The exchange of a primary ring.
 
-ghost use Rattle.std.specs.Prelude.{◌≡◌, ◌+◌, ◌^◌, ◌<◌, length, true, IfOk, IfErr, OnOk, OnErr};
+ghost use Rattle.std.specs.Prelude.{◌≡◌, ◌+◌, ◌^◌, ◌<◌, ◌==◌, nat_le, length, true, IfOk, IfErr, OnOk, OnErr};
 ghost use Rattle.ring_base.specs.declared.fault.Fault.TheVariants.{Memory};
 ghost use Rattle.ring_log.specs.Exchanges.{opened, wanted, heard, hear_head, hear_part, is_next, is_wanted, is_whole, base_at, handed_out, relieved};
 
@@ -108,10 +108,9 @@ impl<A: Allocator + Copy> Exchange<A> {
         ensures refused { IfErr result (λ fault. fault ≡ Memory) }
     {
         if self.is_wanted(sender, part) {
-            let mut calls = part.calls.clone()?.into_vec();
-            let count = calls.len() as u64;
-            self.brought.append(&mut calls)?;
-            self.places += count;
+            let calls = part.calls.as_slice();
+            self.brought.extend_from_slice(calls)?;
+            self.places += calls.len() as u64;
         }
         Ok(())
     }
@@ -149,10 +148,24 @@ fn is_next<A: Allocator + Copy>(wanted: &Wanted, places: u64, sender: Proc, part
     ensures value { result ≡ is_next wanted.now places sender part.now }
     ensures room { result ≡ true → places + length part.now.calls < 2 ^ 64 }
 {
+    if sender != wanted.owner {
+        return false;
+    }
     let count = part.calls.as_slice().len() as u64;
-    sender == wanted.owner
-        && wanted.from <= part.first
-        && part.first - wanted.from == places
-        && part.first <= wanted.to
-        && count <= wanted.to - part.first
+    begins_at(wanted, places, part.first) && ends_within(wanted, part.first, count)
+}
+
+/// Whether the place is the one behind so many of those wanted.
+fn begins_at(wanted: &Wanted, places: u64, first: u64) -> bool
+    ensures { result ≡ (first == wanted.now.from + places) }
+{
+    wanted.from <= first && first - wanted.from == places
+}
+
+/// Whether so many places from this one on don't pass the end of those wanted.
+fn ends_within(wanted: &Wanted, first: u64, count: u64) -> bool
+    ensures value { result ≡ nat_le (first + count) wanted.now.to }
+    ensures room { result ≡ true → first + count < 2 ^ 64 }
+{
+    first <= wanted.to && count <= wanted.to - first
 }

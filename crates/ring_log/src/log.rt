@@ -1,6 +1,6 @@
 //! A node's log.
 
-ghost use Rattle.std.specs.Prelude.{◌≡◌, ◌+◌, length, IfOk, IfErr, OnOk, OnErr};
+ghost use Rattle.std.specs.Prelude.{◌≡◌, ◌+◌, ◌++◌, length, IfOk, IfErr, OnOk, OnErr};
 ghost use Rattle.ring_base.specs.declared.fault.Fault.TheVariants.{Memory};
 ghost use Rattle.ring_log.specs.Parts.{parts_between};
 ghost use Rattle.ring_log.specs.Logs.{empty, appended, adopted, committed_upto, committed_calls, head_of, is_log_length, is_adoptable};
@@ -50,6 +50,16 @@ impl<A: Allocator + Copy> Log<A> {
         ensures refused { IfErr result (λ fault. fault ≡ Memory) }
     {
         self.calls.push(call)?;
+        Ok(())
+    }
+
+    /// Adds calls at the end, in their order. They are moved, and none is copied. `Memory` leaves the log as it was.
+    pub fn append_all(&mut self, mut calls: Vec<Call<A>, A>) -> Result<(), Fault>
+        ensures ok { OnOk result (self.new ≡ record self.old { calls = self.old.calls ++ calls.items }) }
+        ensures err { OnErr result (self.new ≡ self.old) }
+        ensures refused { IfErr result (λ fault. fault ≡ Memory) }
+    {
+        self.calls.append(&mut calls)?;
         Ok(())
     }
 

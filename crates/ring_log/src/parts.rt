@@ -12,7 +12,7 @@ use std::alloc::Allocator;
 const PLACES: usize = 7;
 
 /// The Parts of places, of which the first is the place `at`. Refused with `Memory` alone.
-#[tactic(auto, using(crate::proofs::Fronts::map_numbers, crate::proofs::Fronts::take_shorter))]
+#[tactic(auto, using(ring_base::proofs::ListPlaces::map_numbers, ring_base::proofs::ListFronts::take_shorter))]
 pub(crate) fn parts_of<A: Allocator + Copy>(
     alloc: A,
     at: u64,
@@ -40,9 +40,5 @@ fn copied<A: Allocator + Copy>(alloc: A, calls: &[Call<A>]) -> Result<Calls<A>, 
     ensures ok { IfOk result (λ copy. copy ≡ calls.now) }
     ensures refused { IfErr result (λ fault. fault ≡ Memory) }
 {
-    let mut copy = Vec::new(alloc);
-    for call in calls {
-        copy.push(call.clone()?)?;
-    }
-    Ok(Calls::from_vec(copy))
+    Ok(Calls::from_vec(calls.to_vec(alloc)?))
 }

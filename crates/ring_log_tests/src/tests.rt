@@ -1,11 +1,10 @@
 //! Exchanges of three members, and the logs that they make.
 
-use refusing_alloc::Refusing;
+use refusing_alloc::{Refusing, refuse_in_turn};
 use ring_base::{Fault, Proc, ProcSet, RingId};
 use ring_log::{Base, Exchange, Log, Wanted};
 use ring_payload::{Call, Calls, Head, Part, Payload};
-use std::alloc::Allocator;
-use std::process::Abort;
+use std::alloc::{AllocError, Allocator};
 use std::test::Fail;
 
 /// Processors 1 to 3.
@@ -61,101 +60,130 @@ fn heard<A: Allocator + Copy>(
     }
 }
 
-/// Hears a payload with which the exchange does not end.
-fn unfinished<A: Allocator + Copy>(
-    rt: &impl Abort,
+/// Whether the exchange hears a payload and does not end with it.
+fn goes_on<A: Allocator + Copy>(
     exchange: &mut Exchange<A>,
     sender: u8,
     payload: &Payload<A>,
     refused: &mut u64,
-) -> Result<(), Fault> {
-    let base = heard(exchange, sender, payload, refused)?;
-    assert!(rt; base.is_none());
-    Ok(())
+) -> Result<bool, Fault> {
+    Ok(heard(exchange, sender, payload, refused)?.is_none())
 }
 
-/// Hears Heads, each of a sender, of its last primary, its length and how much of it is committed.
-fn state_all<A: Allocator + Copy>(
-    rt: &impl Abort,
+/// Hears Heads, each of a sender, of its last primary, its length and how much of it is committed. Whether it goes on after
+/// each.
+fn states_all<A: Allocator + Copy>(
     exchange: &mut Exchange<A>,
     heads: &[(u8, u64, u64, u64)],
     refused: &mut u64,
-) -> Result<(), Fault> {
+) -> Result<bool, Fault> {
     for (sender, last, length, committed) in heads {
         let head = head(*last, *length, *committed);
-        unfinished(rt, exchange, *sender, &head, refused)?;
+        if !goes_on(exchange, *sender, &head, refused)? {
+            return Ok(false);
+        }
     }
-    Ok(())
+    Ok(true)
 }
 
 #[test]
 fn longer_log_of_an_older_primary_loses(rt: HostRuntime) -> Result<(), Fail> {
     let mut exchange = Exchange::new(rt.alloc(), three());
-    state_all(&rt, &mut exchange, &[(1, 4, 3, 0), (2, 8, 2, 0)], &mut 0)?;
-    assert_eq!(rt; exchange.wanted(), None);
-    state_all(&rt, &mut exchange, &[(3, 8, 2, 0)], &mut 0)?;
+    assert!(rt; states_all(&mut exchange, &[(1, 4, 3, 0), (2, 8, 2, 0)], &mut 0)?);
+    assert!(rt; exchange.wanted().is_none());
+    assert!(rt; states_all(&mut exchange, &[(3, 8, 2, 0)], &mut 0)?);
     let wanted = Wanted {
         owner: Proc::new(2),
         from: 0,
         to: 2,
     };
-    assert_eq!(rt; exchange.wanted(), Some(wanted));
+    assert!(rt; exchange.wanted() == Some(wanted));
     Ok(())
 }
 
-/// The exchange once each Head was heard: it wants the places 9 to 19 of processor 1's log.
-fn stated<A: Allocator + Copy>(
-    rt: &impl Abort,
+/// Each of three Heads is heard: the places 9 to 19 of processor 1's log are wanted.
+const HEADS: [(u8, u64, u64, u64); 3] = [(1, 8, 20, 16), (2, 8, 18, 16), (3, 4, 9, 9)];
+
+/// Parts by their sender, first place and count. One that doesn't continue, and one of another sender, are ignored.
+const PARTS: [(u8, u64, u64); 3] = [(1, 16, 4), (2, 9, 7), (1, 9, 7)];
+
+/// Whether the exchange hears this Part, and goes on.
+fn goes_past<A: Allocator + Copy>(
     heap: A,
+    exchange: &mut Exchange<A>,
+    (sender, first, count): (u8, u64, u64),
     refused: &mut u64,
-) -> Result<Exchange<A>, Fault> {
-    let mut exchange = Exchange::new(heap, three());
-    let heads = [(1, 8, 20, 16), (2, 8, 18, 16), (3, 4, 9, 9)];
-    state_all(rt, &mut exchange, &heads, refused)?;
-    Ok(exchange)
+) -> Result<bool, Fault> {
+    let part = part(heap, first, count)?;
+    goes_on(exchange, sender, &part, refused)
 }
 
-/// The base, once both Parts were heard. One that doesn't continue, and one of another sender, are ignored before.
-fn brought<A: Allocator + Copy>(
-    rt: &impl Abort,
+/// Whether the exchange hears the Heads and those Parts, and goes on.
+fn waits<A: Allocator + Copy>(
     heap: A,
+    exchange: &mut Exchange<A>,
+    refused: &mut u64,
+) -> Result<bool, Fault> {
+    if !states_all(exchange, &HEADS, refused)? {
+        return Ok(false);
+    }
+    for part in PARTS {
+        if !goes_past(heap, exchange, part, refused)? {
+            return Ok(false);
+        }
+    }
+    Ok(true)
+}
+
+/// The base that the last Part brings, if the exchange went on so far.
+fn ended<A: Allocator + Copy>(
+    heap: A,
+    exchange: &mut Exchange<A>,
     refused: &mut u64,
 ) -> Result<Option<Base<A>>, Fault> {
-    let mut exchange = stated(rt, heap, refused)?;
-    for (sender, first, count) in [(1, 16, 4), (2, 9, 7), (1, 9, 7)] {
-        let part = part(heap, first, count)?;
-        unfinished(rt, &mut exchange, sender, &part, refused)?;
+    if !waits(heap, exchange, refused)? {
+        return Ok(None);
     }
     let last = part(heap, 16, 4)?;
-    heard(&mut exchange, 1, &last, refused)
+    heard(exchange, 1, &last, refused)
 }
 
-/// A log of nine places.
-fn nine<A: Allocator + Copy>(heap: A) -> Result<Log<A>, Fault> {
-    let mut log = Log::new(heap);
-    for call in calls(heap, 1, 10)?.into_vec() {
-        log.append(call)?;
+/// The base that a new exchange brings.
+fn brought<A: Allocator + Copy>(heap: A, refused: &mut u64) -> Result<Option<Base<A>>, Fault> {
+    let mut exchange = Exchange::new(heap, three());
+    ended(heap, &mut exchange, refused)
+}
+
+/// Appends client 7's calls of the numbers before this one.
+fn append_before<A: Allocator + Copy>(heap: A, log: &mut Log<A>, end: u64) -> Result<(), Fault> {
+    for number in 1..end {
+        log.append(Call::new(heap, 7, number, &[1, 1])?)?;
     }
-    Ok(log)
+    Ok(())
 }
 
-/// The log of processor 3, of nine places, after the exchange.
-fn adopted<A: Allocator + Copy>(
-    rt: &impl Abort,
-    heap: A,
-    refused: &mut u64,
-) -> Result<Log<A>, Fault> {
-    let base = brought(rt, heap, refused)?;
-    let mut log = nine(heap)?;
+/// Adopts the base with ring 12.1 as last primary. Whether there is one, and the log may adopt it.
+fn adopts<A: Allocator + Copy>(log: &mut Log<A>, base: Option<Base<A>>) -> Result<bool, Fault> {
+    let Some(base) = base else {
+        return Ok(false);
+    };
+    if !log.may_adopt(&base) {
+        return Ok(false);
+    }
     let rep = Proc::new(1);
-    match base {
-        Some(base) => {
-            assert!(rt; log.may_adopt(&base));
-            log.adopt(RingId { seq: 12, rep }, base)?;
-        }
-        None => assert!(rt; false),
-    }
-    Ok(log)
+    log.adopt(RingId { seq: 12, rep }, base)?;
+    Ok(true)
+}
+
+/// The log of processor 3, of nine places, adopts what the exchange brings. Whether it may.
+fn catches_up<A: Allocator + Copy>(
+    heap: A,
+    log: &mut Log<A>,
+    refused: &mut u64,
+) -> Result<bool, Fault> {
+    let base = brought(heap, refused)?;
+    append_before(heap, log, 10)?;
+    adopts(log, base)
 }
 
 /// The places that the exchange wants.
@@ -167,47 +195,49 @@ fn wanted() -> Wanted {
     }
 }
 
-/// The log has twenty places, client 7's call of number p + 1 at place p.
-fn assert_twenty<A: Allocator + Copy>(rt: &impl Abort, log: &Log<A>) {
-    assert_eq!(rt; log.length(), 20);
+/// Whether the log has twenty places, client 7's call of number p + 1 at place p.
+fn has_twenty<A: Allocator + Copy>(log: &Log<A>) -> bool {
     let mut place = 0u64;
     for call in log.calls() {
         place = place.saturating_add(1);
-        assert_eq!(rt; call.number, place);
+        if call.number != place {
+            return false;
+        }
     }
+    place == 20 && log.length() == 20
 }
 
 /// The first places of the Parts of a log that are wanted, and how many places each has.
 fn sizes<A: Allocator + Copy>(alloc: A, log: &Log<A>) -> Result<Vec<(u64, usize), A>, Fault> {
+    let parts = log.parts(alloc, &wanted())?;
     let mut sizes = Vec::new(alloc);
-    for part in log.parts(alloc, &wanted())? {
+    for part in parts.as_slice() {
         sizes.push((part.first, part.calls.as_slice().len()))?;
     }
     Ok(sizes)
 }
 
-#[test]
-fn wanted_places_make_the_log(rt: HostRuntime) -> Result<(), Fail> {
-    let mut log = adopted(&rt, rt.alloc(), &mut 0)?;
-    assert_twenty(&rt, &log);
+/// How much of the log is committed, and its Head's three lengths, once it was committed up to 16 and then less.
+fn committed<A: Allocator + Copy>(log: &mut Log<A>) -> (usize, u64, u64, u64) {
     log.commit_upto(16);
     log.commit_upto(9);
-    assert_eq!(rt; log.committed_calls().len(), 16);
     let head = log.head();
-    assert_eq!(rt; (head.length, head.committed, head.trimmed), (20, 16, 0));
-    let sizes = sizes(rt.alloc(), &log)?;
-    assert_eq!(rt; sizes.as_slice(), [(9, 7), (16, 4)].as_slice());
-    Ok(())
+    (
+        log.committed_calls().len(),
+        head.length,
+        head.committed,
+        head.trimmed,
+    )
 }
 
-/// A log of three places, of which two are committed.
-fn two_committed<A: Allocator + Copy>(alloc: A) -> Result<Log<A>, Fault> {
-    let mut log = Log::new(alloc);
-    for call in calls(alloc, 1, 4)?.into_vec() {
-        log.append(call)?;
-    }
-    log.commit_upto(2);
-    Ok(log)
+#[test]
+fn wanted_places_make_the_log(rt: HostRuntime) -> Result<(), Fail> {
+    let mut log = Log::new(rt.alloc());
+    assert!(rt; catches_up(rt.alloc(), &mut log, &mut 0)? && has_twenty(&log));
+    assert!(rt; committed(&mut log) == (16, 20, 16, 0));
+    let sizes = sizes(rt.alloc(), &log)?;
+    assert!(rt; sizes.as_slice() == [(9, 7), (16, 4)].as_slice());
+    Ok(())
 }
 
 /// Whether a log may adopt a base that keeps so many of its places and has these of client 7's calls behind them.
@@ -221,39 +251,58 @@ fn may_adopt<A: Allocator + Copy>(
     Ok(log.may_adopt(&Base { from, calls }))
 }
 
+/// A log of three places, of which two are committed.
 #[test]
 fn base_that_drops_committed_places_is_told(rt: HostRuntime) -> Result<(), Fail> {
-    let alloc = rt.alloc();
-    let log = two_committed(alloc)?;
-    assert!(rt; may_adopt(alloc, &log, 1, (2, 3))?);
-    assert!(rt; !may_adopt(alloc, &log, 1, (3, 5))?);
-    assert!(rt; !may_adopt(alloc, &log, 0, (1, 2))?);
+    let mut log = Log::new(rt.alloc());
+    append_before(rt.alloc(), &mut log, 4)?;
+    log.commit_upto(2);
+    for (from, numbers, may) in [(1, (2, 3), true), (1, (3, 5), false), (0, (1, 2), false)] {
+        assert!(rt;
+            may_adopt(rt.alloc(), &log, from, numbers)? == may,
+            "{from}"
+        );
+    }
     Ok(())
 }
 
-/// In how many Parts the owner sends what is wanted of that log.
-fn parted<A: Allocator + Copy>(
-    rt: &impl Abort,
+/// In how many Parts the owner sends what is wanted of the log that caught up, none where it may not.
+fn parts_of<A: Allocator + Copy>(
     heap: A,
+    log: &mut Log<A>,
     refused: &mut u64,
 ) -> Result<usize, Fault> {
-    let log = adopted(rt, heap, refused)?;
+    if !catches_up(heap, log, refused)? {
+        return Ok(0);
+    }
     Ok(log.parts(heap, &wanted())?.len())
 }
 
-#[test]
-fn each_request_is_refused_in_turn(rt: HostRuntime) -> Result<(), Fail> {
-    let heap = Refusing::new(rt.alloc(), u64::MAX);
-    assert_eq!(rt; parted(&rt, &heap, &mut 0)?, 2);
-    let requests = heap.requests();
-    assert!(rt; requests > 6, "{requests}");
-    for passed in 0..requests {
-        let heap = Refusing::new(rt.alloc(), passed);
-        let mut refused = 0;
-        match parted(&rt, &heap, &mut refused) {
-            Ok(parts) => assert_eq!(rt; (parts, refused), (2, 1)),
-            Err(fault) => assert_eq!(rt; (fault, refused), (Fault::Memory, 0)),
-        }
+/// The same of a new log.
+fn parted<A: Allocator + Copy>(heap: A, refused: &mut u64) -> Result<usize, Fault> {
+    let mut log = Log::new(heap);
+    parts_of(heap, &mut log, refused)
+}
+
+/// What `refuse_in_turn` asks: an error where a request was refused. Then it is a payload that is heard again, or the end of
+/// all; where this was wrong, the other answer.
+fn parted_or_refused(heap: &Refusing) -> Result<(), AllocError> {
+    let mut refused = 0;
+    let parts = parted(heap, &mut refused);
+    let is_right = match (parts, heap.has_refused()) {
+        (Ok(2), is_refused) => refused == u64::from(is_refused),
+        (Err(Fault::Memory), true) => refused == 0,
+        _ => false,
+    };
+    if is_right == heap.has_refused() {
+        Err(AllocError)
+    } else {
+        Ok(())
     }
-    Ok(())
+}
+
+#[test]
+fn each_request_is_refused_in_turn(rt: HostRuntime) {
+    let requests = refuse_in_turn(rt.alloc(), &|heap: &Refusing| parted_or_refused(heap));
+    assert!(rt; requests > Some(6));
 }

@@ -6,9 +6,9 @@ use Rattle.ring_core.specs.State.{Core, halted}
 use Rattle.ring_core.specs.Stepping.{ring_step}
 use Rattle.ring_core.specs.declared.input.Input.{Input}
 use Rattle.ring_core.specs.declared.out.Out.{Out}
-use Rattle.ring_machine.specs.Nodes.{Node, is_stopped}
+use Rattle.ring_rules.specs.Nodes.{Node, is_stopped}
 use Rattle.ring_replica.specs.Replicas.{Replica, ReplicaStepped, IsDone, replica_step, running_of}
-use Rattle.ring_marks.specs.Marks.{IsMarked}
+use Rattle.ring_replica.specs.Marks.{IsMarked}
 
 -- a core that runs, or what it was before the node stopped
 abbrev pub core_told : {A : Type 0} → Bool → Core A → Core A → Core A

@@ -5,24 +5,23 @@ ghost use Rattle.ring_base.specs.declared.fault.Fault.TheVariants.{Memory, Stopp
 ghost use Rattle.ring_wire.specs.Frames.{FrameFits};
 ghost use Rattle.ring_core.specs.Stepping.{ring_step};
 ghost use Rattle.ring_core.specs.declared.input.Input.TheVariants.{Frame as FrameInput};
-ghost use Rattle.ring_srp.specs.Allowing.{InputFits as CoreInputFits};
+ghost use Rattle.ring_srp_acts.specs.Allowing.{InputFits as CoreInputFits};
 ghost use Rattle.ring_session.specs.Deduplicated.{deduplicated};
-ghost use Rattle.ring_machine.specs.Nodes.{node_opening, node_committed, node_log, node_reply, node_stopped, is_stopped};
-ghost use Rattle.ring_machine.specs.Stepping.{after_core, node_step, submit_fault, submitted};
-ghost use Rattle.ring_machine.specs.Limits.{InputFits};
-ghost use Rattle.ring_machine.specs.declared.input.Input.TheVariants.{Stop as StopInput};
+ghost use Rattle.ring_rules.specs.Nodes.{node_opening, node_committed, node_log, node_reply, node_stopped, is_stopped};
+ghost use Rattle.ring_rules.specs.Stepping.{after_core, node_step, submit_fault, submitted};
+ghost use Rattle.ring_rules.specs.NodeLimits.{InputFits};
+ghost use Rattle.ring_rules.specs.declared.input.Input.TheVariants.{Stop as StopInput};
 
 use crate::driving::{advance, advance_on, running, seen};
 use crate::outs::Outs;
 use ring_base::{Fault, Fixed, Past, Proc, RingId, State};
 use ring_core::Input as CoreInput;
-use ring_machine::Input;
 use ring_object::Object;
 use ring_payload::{Call, Payload};
 use ring_replica::Replica;
-use ring_session::Answer;
+use ring_rules::Input;
+use ring_session::{Answer, Ticket, copy_of};
 use ring_srp::Srp;
-use ring_ticket::{Ticket, copy_of};
 use ring_wire::Frame;
 use std::marker::Model;
 
@@ -39,7 +38,7 @@ pub struct Node<O: Object> {
 }
 
 impl<O: Object> Model for Node<O> {
-    ghost use Rattle.ring_machine.specs.Nodes.{Node as ToldNode};
+    ghost use Rattle.ring_rules.specs.Nodes.{Node as ToldNode};
     ghost use Rattle.ring_node.specs.Kept.{told_node, IsNode};
 
     ghost Value = { ToldNode O.Alloc };

@@ -4,7 +4,7 @@ ghost use Rattle.std.specs.Prelude.{◌≡◌, []};
 
 use ring_payload::Call;
 use ring_replica::Sent;
-use ring_ticket::Answered;
+use ring_session::Answered;
 use std::alloc::{Allocator, Global};
 
 /// What a step of a node gives: the frames sent, with their receivers, the answers, by the order of their places, then of

@@ -7,8 +7,7 @@ use ring_base::{Fault, Fixed, Kind, State};
 use ring_node::{Input, Node, Outs};
 use ring_object::Object;
 use ring_payload::Call;
-use ring_session::Answer;
-use ring_ticket::Ticket;
+use ring_session::{Answer, Ticket};
 use ring_wire::{Frame, Wire};
 use std::alloc::Allocator;
 

@@ -219,3 +219,8 @@ user-queued (Head head) h = refl
 user-queued (Part part) h = refl
 user-queued (Pack pack) h = refl
 user-queued (Snap snap) h = refl
+
+-- of no payloads nothing is packed
+pub packed_none : {A : Type 0} → (n : ℕ) → packed {A = A} n [] ≡ []
+packed_none zero = refl
+packed_none (suc n) = refl

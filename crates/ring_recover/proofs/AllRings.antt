@@ -1,6 +1,5 @@
 -- A node keeps the messages of all rings in one list, and a window those of one ring: what recovery asks of the old ring and of the new is the same of both.
 use Rattle.std.proofs.Common.{◌≡◌, ℕ, ◌+◌, ◌-◌, Bool, List, [], ◌∷◌, ◌++◌, filter, filter_map, Option, Some, None, ap, ◌∙◌}
-use mathlib.Core.Path.{fun_ext}
 use Rattle.std.specs.Prelude.{not, ◌&&◌, nat_le, nat_lt, if◌then◌else◌}
 use Rattle.std.specs.List.{list_all}
 use Rattle.ring_base.specs.Numbers.{numbers_from}
@@ -10,18 +9,12 @@ use Rattle.ring_payload.specs.Kinds.{is_user, payload_of}
 use Rattle.ring_payload.specs.declared.content.Wrapped.{Wrapped as WrappedMessage}
 use Rattle.ring_wire.specs.declared.message.Message.{Message}
 use Rattle.ring_window.specs.Held.{found, holds, of_ring, highest, front_of}
-use Rattle.ring_window.proofs.OfRing.{found_of_ring, holds_of_ring, highest_of_ring, front_of_ring, is_new_of_ring}
+use Rattle.ring_window.proofs.OfRing.{highest_of_ring, front_of_ring, is_new_of_ring, all_of_ring, all_found}
 use Rattle.ring_recover.specs.Plans.{Plan, safe, low, gap, known_above_safe}
 use Rattle.ring_recover.specs.Wrapping.{is_wrapped, left_to_wrap, inner_if_new}
 use Rattle.ring_recover.specs.Recovering.{Recovering, first_number, next_to_wrap}
 use Rattle.ring_recover.specs.Installing.{in_front, is_ready, is_ready_by}
 use Rattle.ring_recover.specs.Deliveries.{is_complete, sent_by_mate, regular_part, transitional_part, past_gap_part, delivery, finish, rests}
-
-all_found : {A : Type 0} (held : List (Message A)) (ring : RingId) → found (of_ring ring held) ring ≡ found held ring
-all_found held ring = fun_ext (λ n. found_of_ring held ring n)
-
-all_holds : {A : Type 0} (held : List (Message A)) (ring : RingId) → holds (of_ring ring held) ring ≡ holds held ring
-all_holds held ring = fun_ext (λ n. holds_of_ring held ring n)
 
 -- What is handed on
 
@@ -53,7 +46,7 @@ inner_of_ring {A} old mark held w =
 pub complete_of_ring : {A : Type 0} (p : Plan) (held : List (Message A)) → is_complete p (of_ring p.old held) ≡ is_complete p held
 complete_of_ring p held =
     ap (λ n. nat_le (safe p) n && list_all (holds (of_ring p.old held) p.old) (known_above_safe p)) (front_of_ring held p.old)
-    ∙ ap (λ (t : ℕ → Bool). nat_le (safe p) (front_of held p.old) && list_all t (known_above_safe p)) (all_holds held p.old)
+    ∙ ap (λ (t : ℕ → Bool). nat_le (safe p) (front_of held p.old) && list_all t (known_above_safe p)) (all_of_ring held p.old)
 
 past_gap_of_ring : {A : Type 0} (p : Plan) (held : List (Message A)) → past_gap_part p (of_ring p.old held) ≡ past_gap_part p held
 past_gap_of_ring {A} p held = ap (λ (f : ℕ → Option (Message A)). filter

@@ -1,18 +1,19 @@
 -- Two members that come from one old ring make one plan, and then deliver the same.
-use Rattle.std.proofs.Common.{◌≡◌, ℕ, Bool, true, ◌&&◌, List, [], ◌∷◌, ◌++◌, filter, filter_map, length, Option, Some}
-use Rattle.std.proofs.Common.{None, slice_get, refl, sym, ap, subst, ◌∙◌, inl, inr, leb}
+use Rattle.std.proofs.Common.{◌≡◌, ℕ, true, ◌&&◌, List, [], ◌∷◌, ◌++◌, filter, filter_map, length, Option, Some}
+use Rattle.std.proofs.Common.{None, slice_get, refl, sym, ap, subst, ◌∙◌, leb}
 use Rattle.std.specs.List.{list_all, AllByRecursion}
-use Rattle.std.proofs.lemmas.Bool.{cond_both, cond-true, cond-false, cases_Bool, and_parts, or_cases}
+use Rattle.std.proofs.lemmas.Bool.{cond_both, and_parts}
 use Rattle.std.specs.Prelude.{nat_lt}
-use Rattle.ring_base.proofs.Each.{each-append}
+use Rattle.ring_base.proofs.Each.{each-append, each-filter}
 use Rattle.ring_base.specs.Processors.{has, size, position_of}
 use Rattle.ring_base.specs.declared.ring_id.RingId.{RingId}
 use Rattle.ring_wire.specs.declared.commit.CommitToken.{CommitToken}
 use Rattle.ring_wire.specs.declared.entries.CommitEntry.{CommitEntry}
 use Rattle.ring_wire.specs.declared.message.Message.{Message}
-use Rattle.ring_window.specs.Held.{is_numbered, found, holds, front_of}
+use Rattle.ring_window.specs.Held.{found, holds, front_of}
 use Rattle.ring_commit.specs.Reports.{is_sound}
 use Rattle.ring_payload.specs.Kinds.{is_user}
+use Rattle.ring_window.proofs.Finding.{holds-found}
 use Rattle.ring_recover.specs.Plans.{Plan, plan_of, plan_if_sound, plan_from, safe, gap, known_above_safe}
 use Rattle.ring_recover.specs.Deliveries.{is_complete, is_from_mate, transitional_part, past_gap_part, finish, rests, SameText}
 
@@ -42,17 +43,6 @@ one_plan k i j p q e f same = plan_from_is k i p e ∙ ap (λ (r : RingId). plan
 
 -- One delivery
 
--- what is held is found
-pub holds-found : {A : Type 0} → (held : List (Message A)) (ring : RingId) (n : ℕ) → holds held ring n ≡ true → (x : Message A) × (found held ring n ≡ Some x)
-holds-found [] ring n h = absurd (let q : ⊥ = cc in q)
-holds-found {A} (y ∷ held) ring n h =
-    elim (cases_Bool (is_numbered ring n y)) [
-      | inl e ↦ (y, cond-true (is_numbered ring n y) (Some y) (found held ring n) e)
-      | inr e ↦ (let r = holds-found held ring n (elim (or_cases (is_numbered ring n y) (holds held ring n) h)
-          [ inl t ↦ absurd (let q : ⊥ = cc in q) | inr t ↦ t ]) in
-          (r.0, cond-false (is_numbered ring n y) (Some y) (found held ring n) e ∙ r.1))
-    ]
-
 -- numbers that both hold
 abbrev Both : {A : Type 0} → RingId → List (Message A) → List (Message A) → ℕ → Type 0
 Both ring a b n = found a ring n ≡ found b ring n
@@ -72,12 +62,6 @@ each_found ring a b same (n ∷ ns) h k =
     let p = and_parts (holds a ring n) (list_all (holds a ring) ns) h in
     let q = and_parts (holds b ring n) (list_all (holds b ring) ns) k in
     (found_same ring a b same n p.0 q.0, each_found ring a b same ns p.1 q.1)
-
--- what a filter leaves has it too
-each-filter : {X : Type 0} (P : X → Type 0) (t : X → Bool) (xs : List X) → AllByRecursion P xs → AllByRecursion P (filter t xs)
-each-filter P t [] h = tt
-each-filter P t (x ∷ xs) h = cond_both (t x) (x ∷ filter t xs) (filter t xs) (λ (ys : List _). AllByRecursion P ys)
-    (λ e. (h.0, each-filter P t xs h.1)) (λ e. each-filter P t xs h.1)
 
 -- so the same senders come from the old ring, and the same messages stand there
 mates_same : {A : Type 0} → (p : Plan) (a b : List (Message A)) (ns : List ℕ) → AllByRecursion (Both p.old a b) ns

@@ -11,25 +11,17 @@ use Rattle.ring_base.specs.Numbers.{numbers_from}
 use Rattle.ring_base.specs.Passing.{length-numbers_from}
 use Rattle.ring_base.specs.Rings.{same_ring}
 use Rattle.ring_base.specs.declared.ring_id.RingId.{RingId}
+use Rattle.ring_base.proofs.ListPlaces.{numbers-append}
 use Rattle.ring_wire.specs.declared.message.Message.{Message}
 use Rattle.ring_window.specs.Held.{is_numbered, found, holds, front_of}
 use Rattle.ring_window.specs.Windows.{Windowed, kept}
-use Rattle.ring_window.proofs.Fronts.{front_is, front_grows}
+use Rattle.ring_window.proofs.HeldFront.{front_is, front_grows}
+use Rattle.ring_window.proofs.Finding.{holds-found}
 use Rattle.ring_recover.specs.Installing.{in_front}
-use Rattle.ring_recover.proofs.Finishing.{holds-found}
 
 -- the ring's messages up to a number
 abbrev pub up_to : {A : Type 0} → List (Message A) → RingId → ℕ → List (Message A)
 up_to held ring k = filter_map (found held ring) (numbers_from 1 k)
-
--- a row in two parts
-row_parts : (first a b : ℕ) → numbers_from first (a + b) ≡ numbers_from first a ++ numbers_from (first + a) b
-row_parts first zero b = (let e : first ≡ first + 0 = omega arith in let n : zero + b ≡ b = omega arith in ap (numbers_from first) n
-    ∙ ap (λ k. numbers_from k b) e)
-row_parts first (suc a) b =
-    let n : suc a + b ≡ suc (a + b) = omega arith in
-    let e : suc first + a ≡ first + suc a = omega arith in
-    ap (numbers_from first) n ∙ ap (λ xs. first ∷ xs) (row_parts (suc first) a b) ∙ ap (λ k. first ∷ numbers_from (suc first) a ++ numbers_from k b) e
 
 few_by : {A : Type 0} (o : Option (Message A)) (xs : List (Message A)) (n : ℕ) → length xs ≤ n → length (cons_option o xs) ≤ suc n
 few_by None xs n l = omega arith
@@ -37,7 +29,7 @@ few_by (Some x) xs n l = omega arith
 
 module _ {A : Type 0} (held : List (Message A)) (ring : RingId) where
   parts : (a b : ℕ) → up_to held ring (a + b) ≡ up_to held ring a ++ filter_map (found held ring) (numbers_from (1 + a) b)
-  parts a b = ap (filter_map (found held ring)) (row_parts 1 a b) ∙ filter_map-append (found held ring) (numbers_from 1 a) (numbers_from (1 + a) b)
+  parts a b = ap (filter_map (found held ring)) (sym (numbers-append 1 a b)) ∙ filter_map-append (found held ring) (numbers_from 1 a) (numbers_from (1 + a) b)
 
   -- one number more
   pub up_to_some : (k : ℕ) (x : Message A) → found held ring (k + 1) ≡ Some x → up_to held ring (k + 1) ≡ up_to held ring k ++ x ∷ []

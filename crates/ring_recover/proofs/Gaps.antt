@@ -1,5 +1,4 @@
--- The gap by the bits of what is known: the first bit that is clear, of the 256 numbers after the greatest safe mark, stands for it, or none is and
--- it lies beyond.
+-- The gap by the bits of what is known: the first bit that is clear stands for it, or none is and it lies beyond.
 use Rattle.std.proofs.Common.{◌≡◌, ℕ, zero, suc, ◌+◌, ◌-◌, ◌<◌, ◌≤◌, Bool, true, false, List, [], ◌∷◌, map, filter, refl, ap, ◌∙◌, sym, inl, inr, arith}
 use Rattle.std.specs.Prelude.{◌&&◌, nat_lt, nat_le}
 use Rattle.std.specs.Cmp.{both_ways}
@@ -12,7 +11,7 @@ use Rattle.ring_window.specs.Bits.{is_set, IsFirstClear}
 use Rattle.ring_recover.specs.Chosen.{chosen}
 use Rattle.ring_recover.specs.Plans.{Plan, safe, low, least, least_mark, gap, is_reported, is_known}
 use Rattle.ring_recover.specs.Deliveries.{is_from_mate, regular_part, transitional_part, past_gap_part}
-use Rattle.ring_recover.proofs.Choosing.{chosen_by, both_on, first_of_row}
+use Rattle.ring_recover.proofs.NumbersPassing.{chosen_by, both_on, first_of_row}
 
 -- How far a test passes
 

@@ -14,15 +14,15 @@ use Rattle.ring_wire.specs.declared.message.Message.{Message}
 use Rattle.ring_window.specs.Bits.{is_set}
 use Rattle.ring_window.specs.Held.{found, holds, highest, front_of}
 use Rattle.ring_window.specs.Windows.{Windowed, kept}
-use Rattle.ring_window.proofs.Fronts.{highest_covers}
+use Rattle.ring_window.proofs.HeldFront.{highest_covers}
 use Rattle.ring_window.proofs.Windows.{found_none}
 use Rattle.ring_commit.specs.Reports.{reports_of, safe_of, none_behind, is_sound}
 use Rattle.ring_recover.specs.Chosen.{chosen}
 use Rattle.ring_recover.specs.Plans.{Plan, plan_of, plan_if_sound, plan_from, least, low, safe, is_reported, is_known, known_above_safe}
 use Rattle.ring_recover.specs.Wrapping.{is_wrap_of, is_wrapped}
-use Rattle.ring_recover.specs.Recovering.{Recovering, with_seen, old_of, IsKept, is_from}
+use Rattle.ring_recover.specs.Recovering.{Recovering, with_seen, old_of, IsPlanKept, is_from}
 use Rattle.ring_recover.specs.Deliveries.{is_complete, sent_by_mate, is_from_mate}
-use Rattle.ring_recover.proofs.Choosing.{chosen_by, chosen_each}
+use Rattle.ring_recover.proofs.NumbersPassing.{chosen_by, chosen_each}
 
 -- From a commit token
 
@@ -82,10 +82,6 @@ safe_low (e ∷ reports) h = least_behind (safe_of (e ∷ reports)) e reports h
 
 -- What is kept
 
-or_none : (b : Bool) → (b || false) ≡ b
-or_none true = refl
-or_none false = refl
-
 or_swap : (a b : Bool) → (a || b) ≡ (b || a)
 or_swap true true = refl
 or_swap true false = refl
@@ -93,10 +89,10 @@ or_swap false true = refl
 or_swap false false = refl
 
 module _ {A : Type 0} (r : Recovering A) (x : Message A) (old : RingId) (mates least_one high front : ℕ) (known wrapped more : List ℕ) (ended now : Bool) where
-  pub kept_seen : IsKept r old mates least_one high front known wrapped ended
+  pub kept_seen : IsPlanKept r old mates least_one high front known wrapped ended
       → ((j : ℕ) → j < 256 → is_set more j ≡ (is_set wrapped j || is_wrap_of old (high + 1 + j) x.payload))
       → now ≡ (ended || (is_end x.payload && (x.sender == r.me)))
-      → IsKept (with_seen r x) old mates least_one high front known more now
+      → IsPlanKept (with_seen r x) old mates least_one high front known more now
   kept_seen k w e =
       record {
         old_is = k.old_is;
@@ -116,7 +112,7 @@ module _ {A : Type 0} (r : Recovering A) (x : Message A) (old : RingId) (mates l
 
 -- what is known above the greatest safe mark
 pub kept_known : {A : Type 0} (r : Recovering A) (old : RingId) (mates least_one high front : ℕ) (known wrapped : List ℕ) (ended : Bool)
-    → IsKept r old mates least_one high front known wrapped ended
+    → IsPlanKept r old mates least_one high front known wrapped ended
     → chosen high known ≡ known_above_safe r.plan
 kept_known r old mates least_one high front known wrapped ended k =
     ap (λ n. chosen n known) k.safe_is ∙ chosen_by (is_known r.plan) (safe r.plan) known (λ j l. k.known_is j l
@@ -180,7 +176,7 @@ not_all p after words j l s f = elim (cases_Bool (list_all p (chosen after words
 ]
 
 module _ {A : Type 0} (r : Recovering A) (old : RingId) (mates least_one high front : ℕ) (known wrapped : List ℕ) (ended : Bool)
-    (k : IsKept r old mates least_one high front known wrapped ended) where
+    (k : IsPlanKept r old mates least_one high front known wrapped ended) where
   pub kept_bits : (j : ℕ) → j < 256 → is_set known j ≡ is_known r.plan (safe r.plan + 1 + j)
   kept_bits j l = k.known_is j l ∙ ap (λ n. is_known r.plan (n + 1 + j)) k.safe_is
 

@@ -1,9 +1,3 @@
-pub use Rattle.ring_commit.specs.Outcomes
-pub use Rattle.ring_commit.specs.Reports
-pub use Rattle.ring_commit.specs.declared.configuration.Configuration
-pub use Rattle.ring_commit.specs.Rounds
-pub use Rattle.ring_window.specs.Bits
-pub use Rattle.ring_window.specs.Held
 pub mod Chosen
 pub mod Plans
 pub mod Wrapping

@@ -43,7 +43,7 @@ old_of me k =
 
 -- What the code keeps: four numbers and sets of the plan, a bit for each of the 256 numbers after the greatest safe mark that tells whether one of
 -- those from the old ring holds it, another that tells whether it was seen wrapped, and whether the own End was seen
-pub record IsKept {A : Type 0} (r : Recovering A) (old : RingId) (mates least high front : ℕ) (known wrapped : List ℕ) (ended : Bool) : Type 0 where
+pub record IsPlanKept {A : Type 0} (r : Recovering A) (old : RingId) (mates least high front : ℕ) (known wrapped : List ℕ) (ended : Bool) : Type 0 where
   pub old_is : old ≡ r.plan.old
   pub mates_is : mates ≡ r.plan.mates
   pub least_is : least ≡ least_mark r.plan

@@ -60,13 +60,13 @@ pub struct Plan<A: Allocator + Copy = Global> {
 }
 
 impl<A: Allocator + Copy> Model for Plan<A> {
-    ghost use Rattle.ring_recover.specs.Recovering.{Recovering as OneRecovering, IsKept};
+    ghost use Rattle.ring_recover.specs.Recovering.{Recovering as OneRecovering, IsPlanKept};
 
     ghost Value = { OneRecovering A };
 
     ghost view = { λ p. record { me = p.me; plan = p.plan.value; seen = p.seen.value } };
 
-    ghost invariant = { λ p. IsKept (record { me = p.me; plan = p.plan.value; seen = p.seen.value }) p.old_ring p.mates
+    ghost invariant = { λ p. IsPlanKept (record { me = p.me; plan = p.plan.value; seen = p.seen.value }) p.old_ring p.mates
         p.least p.safe p.low p.known.words p.wrapped.words p.ended };
 }
 

@@ -1,23 +1,22 @@
 -- What a message, a safe mark and a new ring make of what a node keeps, by the life that they make.
-use Rattle.std.proofs.Common.{◌≡◌, ℕ, zero, suc, ◌≤◌, ◌&&◌, nat_le, min, max, Bool, true, false, List, [], ◌∷◌, ◌++◌}
-use Rattle.std.proofs.Common.{length, take, drop, Option, Some, None, ◌⊎◌, inl, inr, refl, ap, sym, ◌∙◌, subst, arith}
+use Rattle.std.proofs.Common.{◌≡◌, ℕ, ◌≤◌, nat_le, min, max, Bool, true, false, List, [], ◌∷◌, ◌++◌}
+use Rattle.std.proofs.Common.{length, Option, Some, None, ◌⊎◌, inl, inr, refl, ap, sym, ◌∙◌, subst, arith}
 use Rattle.std.proofs.Common.{append_assoc, if◌then◌else◌}
 use Rattle.std.specs.Prelude.{nat_lt}
-use Rattle.std.proofs.lemmas.Bool.{cond_both, cond-true, and_parts, leb-true, le-leb, ltb-true, ltb-false}
+use Rattle.std.proofs.lemmas.Bool.{cond_both, cond-true, leb-true, le-leb, ltb-true, ltb-false}
 use Rattle.std.proofs.lemmas.List.{append-nil}
-use Rattle.ring_base.specs.Fronts.{IsFront, front_trans, front_length, front_append}
+use Rattle.ring_base.specs.Fronts.{IsFront, front_length, front_append}
 use Rattle.ring_base.specs.Group.{Group, is_primary}
 use Rattle.ring_base.specs.declared.ring_id.RingId.{RingId}
 use Rattle.ring_payload.specs.declared.call.Call.{Call as OneCall}
 use Rattle.ring_wire.specs.declared.message.Message.{Message}
 use Rattle.ring_log.specs.Exchanges.{opened}
-use Rattle.ring_log.specs.Logs.{Log, begins, is_log_length, committed_upto}
+use Rattle.ring_log.specs.Logs.{Log, committed_upto}
 use Rattle.ring_log.specs.Stays.{Stay}
 use Rattle.ring_log.specs.Lives.{Whole, whole_from, exchanged, calls_in, own_base, log_by, log_of, last_of, upto}
-use Rattle.ring_log.specs.Lives.{longer, committed_by, committed_of, kept_of, keeps_committed, is_sound}
-use Rattle.ring_log.proofs.Calls.{begins-Decides}
-use Rattle.ring_order.proofs.Wholes.{grown, exchanged-front, log_on, log-front, base-front}
-use Rattle.ring_order.proofs.Committed.{upto-front}
+use Rattle.ring_log.specs.Lives.{longer, committed_by, committed_of, kept_of}
+use Rattle.ring_log_proof.proofs.Wholes.{grown, exchanged-front, log-front}
+use Rattle.ring_log_proof.proofs.Committed.{upto-front}
 use Rattle.ring_replica.specs.declared.reach.Reach.{Reach}
 use Rattle.ring_replica.specs.Courses.{reached, reach_of, reaches_from, behind, left, covered}
 
@@ -37,48 +36,6 @@ none-front {A} group m xs ys f none = by (exchanged group m xs) refl
     by : (o : Option (Whole A)) → exchanged group m xs ≡ o → exchanged group m xs ≡ None
     by None e = e
     by (Some w) e = absurd (some-none (grown w f.0) (sym (exchanged-front group m xs ys w e f) ∙ none))
-
-longer-front : {A : Type 0} (old new log : List (OneCall A)) → IsFront old log → IsFront new log → IsFront (longer old new) log
-longer-front old new log f g = cond_both (nat_lt (length old) (length new)) new old (λ l. IsFront l log) (λ t. g) (λ e. f)
-
-begins-front : {A : Type 0} (front calls : List (OneCall A)) → begins front calls ≡ true → IsFront front calls
-begins-front front calls t = let e = (begins-Decides front calls).0 t in (
-  drop (length front) calls,
-  ap (λ w. w ++ drop (length front) calls) e ∙ back (length front) calls,
-)
-  where
-    back : {X : Type 0} (n : ℕ) (xs : List X) → take n xs ++ drop n xs ≡ xs
-    back zero xs = refl
-    back (suc n) [] = refl
-    back (suc n) (x ∷ xs) = ap (λ w. x ∷ w) (back n xs)
-
--- the new stay's part of it
-front-step : {A : Type 0} (group : Group) (s : Stay A) (older : List (Stay A)) (whole safe : Option (Whole A)) → exchanged group s.members s.heard ≡ whole
-    → exchanged group s.members (upto s.mark s.heard) ≡ safe → keeps_committed (log_of group older) (committed_of group older) whole ≡ true
-    → IsFront (committed_of group older) (log_of group older)
-    → IsFront (committed_by (log_of group older) (committed_of group older) safe) (log_by (log_of group older) whole)
-front-step group s older None None e k t f = f
-front-step group s older None (Some v) e k t f =
-    absurd (some-none (grown v (upto-front s.mark s.heard).0)
-    (sym (exchanged-front group s.members (upto s.mark s.heard) s.heard v k (upto-front s.mark s.heard)) ∙ e))
-front-step group s older (Some w) None e k t f =
-    let own = own_base (log_of group older) in
-    front_trans (committed_of group older) (own w.exchange) (log_on own w) (begins-front (committed_of group older) (own w.exchange) t) (base-front own w)
-front-step group s older (Some w) (Some v) e k t f =
-    let own = own_base (log_of group older) in
-    longer-front (committed_of group older) (log_on own v) (log_on own w)
-    (front_trans (committed_of group older) (own w.exchange) (log_on own w) (begins-front (committed_of group older) (own w.exchange) t) (base-front own w))
-    (log-front own group s.members (upto s.mark s.heard) s.heard v w k e (upto-front s.mark s.heard))
-
-pub sound-front : {A : Type 0} (group : Group) (life : List (Stay A)) → is_sound group life ≡ true → IsFront (committed_of group life) (log_of group life)
-sound-front group [] t = ([], refl)
-sound-front group (s ∷ older) t =
-    let outer = and_parts (is_sound group older && keeps_committed (log_of group older) (committed_of group older) (exchanged group s.members s.heard))
-    (is_log_length (length (log_of group (s ∷ older)))) t in
-    let inner = and_parts (is_sound group older) (keeps_committed (log_of group older) (committed_of group older)
-    (exchanged group s.members s.heard)) outer.0 in
-    front-step group s older (exchanged group s.members s.heard) (exchanged group s.members (upto s.mark s.heard)) refl refl inner.1
-    (sound-front group older inner.0)
 
 -- ---- what a mark covers
 

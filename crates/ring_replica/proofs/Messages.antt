@@ -21,17 +21,18 @@ use Rattle.ring_log.specs.Logs.{Log, begins, is_log_length, is_adoptable, commit
 use Rattle.ring_log.specs.Stays.{Stay}
 use Rattle.ring_log.specs.Lives.{Whole, heard_by, whole_from, after_all, exchanged, calls_in, own_base, log_by, log_of}
 use Rattle.ring_log.specs.Lives.{last_by, last_of, upto, committed_by, committed_of, kept_of, keeps_committed, is_sound}
-use Rattle.ring_log.proofs.Hearing.{stated, has-nobody, relieved-open, opened-open, push-none, push-some, none-open, some-whole, handed-based}
-use Rattle.ring_order.proofs.Wholes.{calls_in-append}
-use Rattle.ring_order.proofs.Committed.{upto-front}
-use Rattle.ring_ticket.specs.declared.pending.Pending.{Pending}
+use Rattle.ring_log.proofs.WholeExchanges.{stated, has-nobody, relieved-open, opened-open, push-none, push-some, none-open, some-whole, handed-based}
+use Rattle.ring_log_proof.proofs.Wholes.{calls_in-append}
+use Rattle.ring_log_proof.proofs.Committed.{upto-front}
+use Rattle.ring_log_proof.proofs.CommittedGrows.{committed_front}
+use Rattle.ring_session.specs.declared.pending.Pending.{Pending}
 use Rattle.ring_replica.specs.declared.setting.Setting.{Setting}
 use Rattle.ring_replica.specs.declared.stage.Stage.{Stage}
 use Rattle.ring_replica.specs.declared.stage.Stage.TheVariants.{Apart, Exchanging, Adopted}
-use Rattle.ring_machine.specs.Dues.{is_stated, parts_due, due_when_stated}
+use Rattle.ring_rules.specs.Dues.{is_stated, parts_due, due_when_stated}
 use Rattle.ring_replica.specs.Courses.{staged, stage_in, reached, reach_of, reach_at, calls_left, parts_asked, if_runs}
 use Rattle.ring_replica.specs.Courses.{Took, took_base, took, Moment, dues_heard}
-use Rattle.ring_replica.proofs.Courses.{none-front, sound-front}
+use Rattle.ring_replica.proofs.Courses.{none-front}
 
 -- ---- an exchange that isn't whole
 
@@ -277,7 +278,7 @@ module _ {A : Type 0} (group : Group) (s : Stay A) (older : List (Stay A)) (x : 
   first-same : exchanged group s.members s.heard ≡ None → is_sound group (s ∷ older) ≡ true → log ≡ kept_of group (s ∷ older)
       → committed_calls log ≡ committed_of group older
   first-same e t is =
-      let front = sound-front group (s ∷ older) t in
+      let front = committed_front group (s ∷ older) t in
       let safe : exchanged group s.members (upto s.mark s.heard) ≡ None =
       none-front group s.members (upto s.mark s.heard) s.heard (upto-front s.mark s.heard) e in
       ap committed_calls is ∙ take-front-is (committed_of group (s ∷ older)) (log_of group (s ∷ older)) front

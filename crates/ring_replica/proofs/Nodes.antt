@@ -21,13 +21,13 @@ use Rattle.ring_core.specs.declared.out.Out.TheVariants.{Send, Agreed, Safe, Tra
 use Rattle.ring_log.specs.Exchanges.{Exchange, opened, is_whole}
 use Rattle.ring_log.specs.Stays.{Stay, hands}
 use Rattle.ring_log.specs.Lives.{after_all, log_of, last_of, committed_of, is_sound}
-use Rattle.ring_ticket.specs.Tickets.{Asked, place_of, unanswered, answers_after}
-use Rattle.ring_ticket.specs.declared.pending.Pending.{Pending}
-use Rattle.ring_ticket.specs.Pendings.{pending_from, stands_in}
-use Rattle.ring_machine.specs.Lives.{lived, lived_through}
-use Rattle.ring_machine.specs.Nodes.{Node, node_committed, node_pending, is_stopped, runs, runs_some}
-use Rattle.ring_machine.specs.Dues.{calls_due, due_when_stated, due_when_whole, due_in_stay, due_at_agreed, due_at, due_by}
-use Rattle.ring_machine.specs.Stepping.{handed_over, walked, settled, after_core, submitted, submit_fault, send_of}
+use Rattle.ring_session.specs.Tickets.{Asked, place_of, unanswered, answers_after}
+use Rattle.ring_session.specs.declared.pending.Pending.{Pending}
+use Rattle.ring_session.specs.Pendings.{pending_from, stands_in}
+use Rattle.ring_rules.specs.Lives.{lived, lived_through}
+use Rattle.ring_rules.specs.Nodes.{Node, node_committed, node_pending, is_stopped, runs, runs_some}
+use Rattle.ring_rules.specs.Dues.{calls_due, due_when_stated, due_when_whole, due_in_stay, due_at_agreed, due_at, due_by}
+use Rattle.ring_rules.specs.Stepping.{handed_over, walked, settled, after_core, submitted, submit_fault, send_of}
 use Rattle.ring_replica.specs.Courses.{Moment, is_running, calls_left, dues_when_whole, dues_in_stay, dues_heard, dues_at, dues_by, handed_if}
 use Rattle.ring_replica.specs.Replicas.{replica_of, running_of, moment_of, is_running_some, submit_refusal}
 use Rattle.ring_replica.specs.Replicas.{replica_given, replica_settled, replica_step, node_by, node_given}

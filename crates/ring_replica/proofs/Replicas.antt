@@ -6,6 +6,7 @@ use Rattle.ring_base.specs.Fronts.{IsFront}
 use Rattle.ring_base.specs.Group.{Group}
 use Rattle.ring_base.specs.Numbers.{max_number}
 use Rattle.ring_base.specs.declared.fault.Fault.TheVariants.{PendingFull, Stopped}
+use Rattle.ring_base.proofs.ListFronts.{take-whole}
 use Rattle.ring_object.specs.Operations.{Sequential}
 use Rattle.ring_payload.specs.declared.call.Call.{Call as OneCall}
 use Rattle.ring_session.specs.Deduplicated.{deduplicated}
@@ -13,30 +14,26 @@ use Rattle.ring_session.specs.Table.{Table, opening, table_after}
 use Rattle.ring_log.specs.Logs.{Log, committed_calls}
 use Rattle.ring_log.specs.Stays.{Stay, born, hands}
 use Rattle.ring_log.specs.Lives.{log_of, committed_of, kept_of, is_sound}
-use Rattle.ring_ticket.specs.declared.answered.Answered.{Answered}
-use Rattle.ring_ticket.specs.Recent.{kept_answer}
-use Rattle.ring_ticket.specs.Pendings.{Tickets, none_given, is_full, with_ticket, with_answers, AreTickets}
-use Rattle.ring_ticket.specs.Tickets.{unanswered, answers_after}
-use Rattle.ring_ticket.proofs.Effects.{deduplicated_after-few}
-use Rattle.ring_ticket.proofs.Pendings.{are-kept, are-given, are-full, are-replies}
+use Rattle.ring_log_proof.proofs.CommittedGrows.{committed_front}
+use Rattle.ring_log.proofs.CommittedOf.{hands-committed}
+use Rattle.ring_session.specs.declared.answered.Answered.{Answered}
+use Rattle.ring_session.specs.Recent.{kept_answer}
+use Rattle.ring_session.specs.Pendings.{Tickets, none_given, is_full, with_ticket, with_answers, AreTickets}
+use Rattle.ring_session.specs.Tickets.{unanswered, answers_after}
+use Rattle.ring_session.proofs.TicketEffects.{deduplicated_after-few}
+use Rattle.ring_session.proofs.Pendings.{are-kept, are-given, are-full, are-replies}
 use Rattle.ring_replica.specs.Courses.{Course, course_opening, handed_if}
 use Rattle.ring_replica.specs.Replicas.{Replica, Tale, tale_opening, tale_done, tale_given}
 use Rattle.ring_replica.specs.Replicas.{replica_reply, submit_refusal}
 use Rattle.ring_replica.specs.Replicas.{told_replica, IsReplica, IsCounted}
-use Rattle.ring_replica.proofs.Courses.{sound-front}
-use Rattle.ring_replica.proofs.Going.{kept-born, hands-log, hands-committed}
+use Rattle.ring_replica.proofs.CourseGoesOn.{kept-born, hands-log}
 
 -- ---- the committed places
-
-take-whole : {X : Type 0} (xs ys : List X) → IsFront xs ys → take (length xs) ys ≡ xs
-take-whole [] ys f = refl
-take-whole (a ∷ xs) [] f = absurd (cc (f.1))
-take-whole (a ∷ xs) (b ∷ ys) f = let rest : take (length xs) ys ≡ xs = take-whole xs ys (f.0, cc (f.1)) in cc (f.1, rest)
 
 -- those of a sound life's log are those of the life
 pub committed-is : {A : Type 0} (group : Group) (life : List (Stay A)) (log : Log A) → is_sound group life ≡ true → log ≡ kept_of group life
     → committed_calls log ≡ committed_of group life
-committed-is group life log t e = ap committed_calls e ∙ take-whole (committed_of group life) (log_of group life) (sound-front group life t)
+committed-is group life log t e = ap committed_calls e ∙ take-whole (committed_of group life) (log_of group life) (committed_front group life t)
 
 -- what stands behind a front
 pub behind-front : {X : Type 0} (xs ys : List X) → IsFront xs ys → xs ++ drop (length xs) ys ≡ ys
@@ -50,7 +47,7 @@ opened-replica {O} {A} object group me table is =
     let k = kept-born {A = A} group me in
     let log : [] ≡ log_of group (born {A = A} me) = ap (λ (l : Log A). l.calls) k.logged in
     let none : committed_of group (born {A = A} me) ≡ [] =
-    sym (take-whole (committed_of group (born {A = A} me)) (log_of group (born me)) (sound-front group (born me) k.sound))
+    sym (take-whole (committed_of group (born {A = A} me)) (log_of group (born me)) (committed_front group (born me) k.sound))
     ∙ take-nothing (length (committed_of group (born {A = A} me))) (log_of group (born me)) (sym log) in
     record {
       logged = ap length log;

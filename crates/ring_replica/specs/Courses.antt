@@ -17,10 +17,10 @@ use Rattle.ring_log.specs.Exchanges.{Exchange, opened, wanted, heard, is_whole, 
 use Rattle.ring_log.specs.Logs.{Log, empty, adopted, is_adoptable, is_log_length}
 use Rattle.ring_log.specs.Stays.{Stay, born}
 use Rattle.ring_log.specs.Lives.{Whole, whole_from, after_all, exchanged, own_base, calls_in, log_of, upto, kept_of, is_sound}
-use Rattle.ring_ticket.specs.declared.pending.Pending.{Pending}
-use Rattle.ring_ticket.specs.Pendings.{stands_in}
-use Rattle.ring_machine.specs.Dues.{parts_due, due_at_regular, due_when_stated}
-use Rattle.ring_machine.specs.Lives.{lived}
+use Rattle.ring_session.specs.declared.pending.Pending.{Pending}
+use Rattle.ring_session.specs.Pendings.{stands_in}
+use Rattle.ring_rules.specs.Dues.{parts_due, due_at_regular, due_when_stated}
+use Rattle.ring_rules.specs.Lives.{lived}
 use Rattle.ring_replica.specs.declared.setting.Setting.{Setting}
 use Rattle.ring_replica.specs.declared.reach.Reach.{Reach}
 use Rattle.ring_replica.specs.declared.stage.Stage.{Stage}
@@ -77,7 +77,7 @@ abbrev pub course_opening : {A : Type 0} → Group → ℕ → Course A
 course_opening group me = record { group = group; me = me; life = born me; log = empty; fine = true }
 
 -- what is kept of a sound life
-pub record IsKept {A : Type 0} (group : Group) (life : List (Stay A)) (log : Log A) (ring : RingId) (stage : Stage A)
+pub record IsCourseKept {A : Type 0} (group : Group) (life : List (Stay A)) (log : Log A) (ring : RingId) (stage : Stage A)
     (mark : ℕ) (reaches : List Reach) : Type 0 where
   pub stay : Stay A
   pub older : List (Stay A)
@@ -90,7 +90,7 @@ pub record IsKept {A : Type 0} (group : Group) (life : List (Stay A)) (log : Log
   pub sound : is_sound group life ≡ true
 
 abbrev pub IsCourse : {A : Type 0} → Group → List (Stay A) → Bool → Log A → RingId → Stage A → ℕ → List Reach → Type 0
-IsCourse group life fine log ring stage mark reaches = fine ≡ true → IsKept group life log ring stage mark reaches
+IsCourse group life fine log ring stage mark reaches = fine ≡ true → IsCourseKept group life log ring stage mark reaches
 
 -- What a message makes of it
 

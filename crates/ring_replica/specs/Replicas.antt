@@ -18,13 +18,13 @@ use Rattle.ring_core.specs.declared.out.Out.{Out}
 use Rattle.ring_log.specs.Logs.{committed_calls}
 use Rattle.ring_log.specs.Stays.{Stay, born, hands}
 use Rattle.ring_log.specs.Lives.{log_of, last_of, committed_of, is_sound}
-use Rattle.ring_ticket.specs.declared.answered.Answered.{Answered}
-use Rattle.ring_ticket.specs.Pendings.{Tickets, AreTickets, pending_from}
-use Rattle.ring_ticket.specs.Tickets.{Asked, unanswered, answers_after, all_answers, kept_answers, answer_to}
+use Rattle.ring_session.specs.declared.answered.Answered.{Answered}
+use Rattle.ring_session.specs.Pendings.{Tickets, AreTickets, pending_from}
+use Rattle.ring_session.specs.Tickets.{Asked, unanswered, answers_after, all_answers, kept_answers, answer_to}
 use Rattle.ring_replica.specs.Courses.{Course, Moment, is_running, handed_if, dues_by}
-use Rattle.ring_machine.specs.Lives.{lived_through}
-use Rattle.ring_machine.specs.Nodes.{Node, node_stopped}
-use Rattle.ring_machine.specs.Stepping.{send_of, handed_over, NodeStepped, quiet}
+use Rattle.ring_rules.specs.Lives.{lived_through}
+use Rattle.ring_rules.specs.Nodes.{Node, node_stopped}
+use Rattle.ring_rules.specs.Stepping.{send_of, handed_over, NodeStepped, quiet}
 
 pub record Replica (A : Type 0) : Type 0 where
   pub group : Group

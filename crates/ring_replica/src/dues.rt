@@ -10,7 +10,7 @@ use crate::setting::Setting;
 use ring_base::Fault;
 use ring_log::{Log, Wanted};
 use ring_payload::{Call, Payload};
-use ring_ticket::{Pending, copy_of, stands_in};
+use ring_session::{Pending, copy_of, stands_in};
 use std::alloc::Allocator;
 
 /// Adds the Parts that the log's owner sends where something is wanted of it that wasn't, and the ring runs. Refused with

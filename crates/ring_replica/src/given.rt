@@ -2,9 +2,9 @@
 
 ghost use Rattle.std.specs.Prelude.{◌≡◌, []};
 
-use crate::sent::Sent;
+use ring_core::Sent;
 use ring_payload::{Call, Payload};
-use ring_ticket::Answered;
+use ring_session::Answered;
 use std::alloc::{Allocator, Global};
 
 /// What a step of the core gives by a node's replica: the frames sent, what is to be handed to the core, in its order, the

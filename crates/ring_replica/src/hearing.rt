@@ -13,7 +13,7 @@ use crate::stage::Stage;
 use ring_base::Fault;
 use ring_log::{Base, Exchange, Log};
 use ring_payload::{Call, Payload};
-use ring_ticket::Pending;
+use ring_session::Pending;
 use ring_wire::Message;
 use std::alloc::Allocator;
 

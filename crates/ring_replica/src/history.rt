@@ -26,11 +26,11 @@ impl<A: Allocator + Copy> Model for Life<A> {
 }
 
 /// The life of a node up to its last step, and its tickets. No value of it is made.
-pub struct Story<A: Allocator + Copy = Global> {
+pub struct ReplicaStory<A: Allocator + Copy = Global> {
     allocator: PhantomData<A>,
 }
 
-impl<A: Allocator + Copy> Model for Story<A> {
+impl<A: Allocator + Copy> Model for ReplicaStory<A> {
     ghost use Rattle.ring_replica.specs.Replicas.{Tale, tale_opening};
 
     ghost Value = { Tale A };
@@ -103,7 +103,7 @@ pub(crate) fn handed_call<A: Allocator + Copy>(
 }
 
 /// The story of a processor at the opening.
-pub(crate) fn opened<A: Allocator + Copy>(me: Proc) -> Past<Story<A>>
+pub(crate) fn opened<A: Allocator + Copy>(me: Proc) -> Past<ReplicaStory<A>>
     ensures { result.value ≡ tale_opening me }
 {
     past_of(&me)
@@ -111,9 +111,9 @@ pub(crate) fn opened<A: Allocator + Copy>(me: Proc) -> Past<Story<A>>
 
 /// A step is done.
 pub(crate) fn done<A: Allocator + Copy>(
-    story: &Past<Story<A>>,
+    story: &Past<ReplicaStory<A>>,
     life: &Past<Life<A>>,
-) -> Past<Story<A>>
+) -> Past<ReplicaStory<A>>
     ensures { result.value ≡ tale_done story.now.value life.now.value }
 {
     told(story, life)
@@ -121,11 +121,11 @@ pub(crate) fn done<A: Allocator + Copy>(
 
 /// The call was given a ticket when so many places were committed, and handed to the core, or wasn't.
 pub(crate) fn given<A: Allocator + Copy>(
-    story: &Past<Story<A>>,
+    story: &Past<ReplicaStory<A>>,
     call: &Call<A>,
     runs: bool,
     committed: u64,
-) -> Past<Story<A>>
+) -> Past<ReplicaStory<A>>
     ensures { result.value ≡ tale_given story.now.value call.now runs committed }
 {
     told(story, &(call, runs, committed))

@@ -8,14 +8,15 @@ mod given;
 mod hearing;
 mod history;
 mod laws;
+mod mark_laws;
 mod reach;
 mod replica;
-mod sent;
 mod setting;
 mod stage;
 
 pub use course::Course;
 pub use given::Given;
 pub use laws::replica_law;
+pub use mark_laws::marks_law;
 pub use replica::Replica;
-pub use sent::Sent;
+pub use ring_core::Sent;

@@ -6,9 +6,9 @@ ghost use Rattle.ring_log.specs.Logs.{committed_calls};
 ghost use Rattle.ring_log.specs.Lives.{committed_of};
 ghost use Rattle.ring_session.specs.Deduplicated.{deduplicated};
 ghost use Rattle.ring_session.specs.Table.{table_next};
-ghost use Rattle.ring_ticket.specs.Pendings.{answers_behind};
-ghost use Rattle.ring_ticket.specs.Tickets.{answers_after};
-ghost use Rattle.ring_ticket.specs.Effects.{done_after};
+ghost use Rattle.ring_session.specs.Pendings.{answers_behind};
+ghost use Rattle.ring_session.specs.Tickets.{answers_after};
+ghost use Rattle.ring_session.specs.TicketEffects.{done_after};
 ghost use Rattle.ring_replica.specs.Courses.{rises};
 ghost use Rattle.ring_replica.specs.Replicas.{IsDone, replica_opening, replica_committed, replica_log, replica_stopped};
 ghost use Rattle.ring_replica.specs.Replicas.{replica_reply, submit_refusal, has_adopted_running, replica_given};
@@ -16,14 +16,13 @@ ghost use Rattle.ring_replica.specs.Replicas.{replica_step, replica_done};
 
 use crate::course::Course;
 use crate::given::Given;
-use crate::history::{Story, done, given, opened};
+use crate::history::{ReplicaStory, done, given, opened};
 use ring_base::{Fault, Fixed, Past, Proc, RingId};
 use ring_core::Out;
 use ring_log::Log;
 use ring_object::Object;
 use ring_payload::Call;
-use ring_session::{Answer, Sessions};
-use ring_ticket::{Answered, Pending, Ticket, Tickets, answers_of};
+use ring_session::{Answer, Answered, Pending, Sessions, Ticket, Tickets, answers_of};
 use std::alloc::Allocator;
 use std::marker::Model;
 
@@ -45,7 +44,7 @@ pub struct Replica<O: Object> {
     effects: u64,
     reached: u64,
     stopped: bool,
-    story: Past<Story<O::Alloc>>,
+    story: Past<ReplicaStory<O::Alloc>>,
 }
 
 impl<O: Object> Model for Replica<O> {

@@ -2,7 +2,7 @@
 use Rattle.std.proofs.Common.{◌≡◌, ℕ, ◌+◌, ◌≤◌, Bool, true, false, take, filter, append_assoc, List, [], ◌∷◌, ◌++◌, length, Some, slice_get}
 use Rattle.std.proofs.Common.{if◌then◌else◌, ap, ◌∙◌, sym}
 use Rattle.std.proofs.lemmas.List.Elements.{filter-append}
-use Rattle.ring_moves.specs.declared.event.RingEvent.{RingEvent}
+use Rattle.ring_core_proof.specs.declared.event.RingEvent.{RingEvent}
 use Rattle.ring_runs.specs.Running.{Ran, all_ran, more}
 use Rattle.ring_base.proofs.Rows.{take-more}
 use Rattle.ring_runs.proofs.Openings.{ran_none, take_whole}

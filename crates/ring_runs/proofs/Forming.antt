@@ -7,7 +7,7 @@ use Rattle.std.proofs.lemmas.List.{append-nil, map-append, length-map}
 use Rattle.ring_base.specs.Numbers.{numbers_from}
 use Rattle.ring_base.specs.Passing.{length-numbers_from}
 use Rattle.ring_base.specs.Processors.{nobody}
-use Rattle.ring_payload.specs.Packing.{packed}
+use Rattle.ring_base.proofs.ListPlaces.{numbers-append, get-numbers}
 use Rattle.ring_payload.specs.declared.content.Payload.{Payload}
 use Rattle.ring_token.specs.Turns.{first_token}
 use Rattle.ring_token.specs.Visits.{numbered}
@@ -16,18 +16,13 @@ use Rattle.ring_core.specs.declared.out.Out.TheVariants.{Send as SendOut}
 use Rattle.ring_core.specs.State.{Core, Sent, all_of, formed}
 use Rattle.ring_core.specs.Giving.{sent}
 use Rattle.ring_core.specs.Visiting.{room_at, new_payloads, to_others, to_next, forwarded}
-use Rattle.ring_moves.specs.Worlds.{put, carried_by, carried_from, started}
-use Rattle.ring_moves.proofs.Lifting.{outs_carried}
-use Rattle.ring_limits.proofs.Runs.{start_fits}
-use Rattle.ring_chain.proofs.Formed.{numbers-append}
+use Rattle.ring_core_proof.specs.Worlds.{put, carried_by, carried_from, started}
+use Rattle.ring_core_proof.proofs.Lifting.{outs_carried}
+use Rattle.ring_core_proof.proofs.RunLimits.{start_fits}
+use Rattle.ring_payload.proofs.Packing.{packed_none}
 use Rattle.ring_runs.specs.Running.{Ran, none_ran_formed, world_of, opening_frames, IsWorld}
-use Rattle.ring_runs.proofs.Openings.{get-numbers}
 
 -- The first visit sends the token alone
-
-packed_none : {A : Type 0} (n : ℕ) → packed {A = A} n [] ≡ []
-packed_none zero = refl
-packed_none (suc n) = refl
 
 one_addressed : {A : Type 0} (s : Sent A) → length (sent (s ∷ [])) ≤ 1
 one_addressed {A} s =

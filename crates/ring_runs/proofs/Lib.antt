@@ -1,10 +1,10 @@
--- Places: Where the frames stand among what was given, and which each of them is.
--- Ties: What the code keeps goes on telling the world: after a step, a stop, and where nothing happens.
+-- FramePlaces: Where the frames stand among what was given, and which each of them is.
+-- WorldOfCores: What the code keeps goes on telling the world: after a step, a stop, and where nothing happens.
 -- Openings: The opening of all in Gather, and what a whole run gives.
 -- Forming: The opening of all in one ring, whose representative has visited the first token.
 -- Acting: Of the events those happen that act.
-pub mod Places
-pub mod Ties
+pub mod FramePlaces
+pub mod WorldOfCores
 pub mod Openings
 pub mod Forming
 pub mod Acting

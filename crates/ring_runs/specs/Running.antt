@@ -5,9 +5,9 @@ use Rattle.ring_wire.specs.declared.frame.Frame.{Frame}
 use Rattle.ring_core.specs.declared.out.Out.{Out}
 use Rattle.ring_core.specs.declared.out.Out.TheVariants.{Send as SendOut, Agreed, Safe, Trans, Rest, Regular}
 use Rattle.ring_core.specs.State.{Core, Sent, Carried}
-use Rattle.ring_moves.specs.declared.event.RingEvent.{RingEvent}
-use Rattle.ring_moves.specs.Worlds.{World, carried_by, unformed, ring_formed, run}
-use Rattle.ring_limits.specs.Limits.{WorldFits}
+use Rattle.ring_core_proof.specs.declared.event.RingEvent.{RingEvent}
+use Rattle.ring_core_proof.specs.Worlds.{World, carried_by, unformed, ring_formed, run}
+use Rattle.ring_core_proof.specs.Limits.{WorldFits}
 
 -- What happened
 
@@ -83,11 +83,6 @@ frame_in i (Regular ring set) = None
 abbrev pub standing_in : {A : Type 0} → ℕ → Option (ℕ × Out A) → Option (Frame A)
 standing_in i None = None
 standing_in i (Some given) = frame_in i given.1
-
--- a frame that was sent to this processor
-abbrev pub frame_for : {A : Type 0} → ℕ → Option (Carried A) → Option (Frame A)
-frame_for i None = None
-frame_for i (Some f) = if has f.to i then Some f.frame else None
 
 pub record IsWorld {A : Type 0} (w : World A) (cores : List (Core A)) (first : Option (Sent A)) (outs : List (ℕ × Out A)) (places : List ℕ) : Type 0 where
   pub cores_are : (i : ℕ) → i < w.total → slice_get cores i ≡ Some (w.cores (suc i))

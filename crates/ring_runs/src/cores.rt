@@ -3,17 +3,17 @@
 ghost use Rattle.std.specs.Prelude.{◌≡◌, [], ◌∷◌, ◌++◌, ◌≤◌, ◌-◌, length, map, filter_map, IfOk, IfErr, OnOk, option_copied};
 ghost use Rattle.ring_base.specs.declared.fault.Fault.TheVariants.{Memory};
 ghost use Rattle.ring_base.specs.Numbers.{numbers_from};
-ghost use Rattle.ring_core.specs.State.{formed, opening};
-ghost use Rattle.ring_limits.specs.Limits.{EventFits, InputFits};
-ghost use Rattle.ring_moves.specs.declared.event.RingEvent.TheVariants.{Deliver, Stop};
-ghost use Rattle.ring_moves.specs.Worlds.{carried_by, stepped, frame_at, happens};
-ghost use Rattle.ring_runs.specs.Running.{places_from, places_of, frame_for, world_of, more, none_ran, none_ran_formed, opening_frames};
+ghost use Rattle.ring_core.specs.State.{formed, opening, frame_at, frame_for};
+ghost use Rattle.ring_core_proof.specs.Limits.{EventFits, InputFits};
+ghost use Rattle.ring_core_proof.specs.declared.event.RingEvent.TheVariants.{Deliver, Stop};
+ghost use Rattle.ring_core_proof.specs.Worlds.{carried_by, stepped, happens};
+ghost use Rattle.ring_runs.specs.Running.{places_from, places_of, world_of, more, none_ran, none_ran_formed, opening_frames};
 
-use crate::history::{Story, more, ring_formed, unformed};
-use crate::sent::{Sent, copied, copied_payload, later_frame, numbered_frame};
+use crate::history::{WorldStory, more, ring_formed, unformed};
+use crate::sent::{copied, copied_payload, later_frame, numbered_frame};
 use ring_base::{Fault, Fixed, Past, Proc};
-use ring_core::{Input, Out};
-use ring_moves::RingEvent;
+use ring_core::{Input, Out, Sent};
+use ring_core_proof::RingEvent;
 use ring_srp::Srp;
 use ring_wire::Frame;
 use std::alloc::{Allocator, Global};
@@ -30,7 +30,7 @@ pub struct Cores<A: Allocator + Copy = Global> {
     outs: Vec<(Proc, Out<A>), A>,
     /// Where each frame stands among it.
     places: Vec<usize, A>,
-    past: Past<Story<A>>,
+    past: Past<WorldStory<A>>,
 }
 
 impl<A: Allocator + Copy> Model for Cores<A> {

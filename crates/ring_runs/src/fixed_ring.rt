@@ -5,18 +5,18 @@ ghost use Rattle.std.specs.List.{AllByRecursion};
 ghost use Rattle.ring_base.specs.declared.fault.Fault.TheVariants.{Memory};
 ghost use Rattle.ring_base.specs.declared.ring_id.RingId.{RingId as OneRing};
 ghost use Rattle.ring_base.specs.Numbers.{numbers_from};
-ghost use Rattle.ring_chain.specs.Told.{AllIsOfFormed, ToldIsHeld, agreed_numbers};
+ghost use Rattle.ring_chain_proof.specs.ChainTold.{AllIsOfFormed, ToldIsHeld, agreed_numbers};
 ghost use Rattle.ring_core.specs.State.{all_of};
 ghost use Rattle.ring_core.specs.Views.{front};
-ghost use Rattle.ring_limits.specs.Limits.{EventFits};
-ghost use Rattle.ring_moves.specs.Texts.{HasOneText};
-ghost use Rattle.ring_moves.specs.Worlds.{acts_on_formed, run_formed};
+ghost use Rattle.ring_core_proof.specs.Limits.{EventFits};
+ghost use Rattle.ring_core_proof.specs.Texts.{HasOneText};
+ghost use Rattle.ring_core_proof.specs.Worlds.{acts_on_formed, run_formed};
 ghost use Rattle.ring_runs.specs.Running.{world_of, all_ran};
 
 use crate::cores::Cores;
 use ring_base::{Fault, Fixed, Kind, Proc};
 use ring_core::Out;
-use ring_moves::RingEvent;
+use ring_core_proof::RingEvent;
 use std::alloc::{Allocator, Global};
 use std::marker::Model;
 

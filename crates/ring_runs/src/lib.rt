@@ -9,5 +9,5 @@ mod sent;
 
 pub use cores::Cores;
 pub use fixed_ring::FixedRing;
-pub use ring_moves::RingEvent;
+pub use ring_core_proof::RingEvent;
 pub use rings::Rings;

@@ -3,17 +3,17 @@
 ghost use Rattle.std.specs.Prelude.{◌≡◌, ℕ, ◌<◌, true, false, length, IfOk, IfErr, OnOk, OnErr};
 ghost use Rattle.std.specs.List.{AllByRecursion};
 ghost use Rattle.ring_base.specs.declared.fault.Fault.TheVariants.{Memory};
-ghost use Rattle.ring_chain.specs.Told.{NameSameMembers};
-ghost use Rattle.ring_limits.specs.Limits.{EventFits};
-ghost use Rattle.ring_moves.specs.Worlds.{run, unformed};
-ghost use Rattle.ring_moves.specs.CommitRounds.{CommitRounds};
+ghost use Rattle.ring_chain_proof.specs.ChainTold.{NameSameMembers};
+ghost use Rattle.ring_core_proof.specs.Limits.{EventFits};
+ghost use Rattle.ring_core_proof.specs.Worlds.{run, unformed};
+ghost use Rattle.ring_core_proof.specs.CommitRounds.{CommitRounds};
 ghost use Rattle.ring_runs.specs.Running.{world_of, all_ran};
-ghost use Rattle.ring_views.specs.Synchrony.{IsVirtuallySynchronous};
+ghost use Rattle.ring_synchrony_proof.specs.Synchrony.{IsVirtuallySynchronous};
 
 use crate::cores::Cores;
 use ring_base::{Fault, Fixed, Proc};
 use ring_core::Out;
-use ring_moves::RingEvent;
+use ring_core_proof::RingEvent;
 use std::alloc::{Allocator, Global};
 use std::marker::Model;
 

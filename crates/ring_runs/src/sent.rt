@@ -3,39 +3,14 @@
 ghost use Rattle.std.specs.Prelude.{◌≡◌, ◌++◌, slice_get, IfOk, IfErr, if◌then◌else◌, Some, None, option_copied};
 ghost use Rattle.ring_base.specs.Processors.{has};
 ghost use Rattle.ring_base.specs.declared.fault.Fault.TheVariants.{Memory};
-ghost use Rattle.ring_moves.specs.Worlds.{frame_at};
-ghost use Rattle.ring_runs.specs.Running.{frame_in, standing_in, frames_of, frame_for, opening_frames, places_from};
+ghost use Rattle.ring_core.specs.State.{frame_at, frame_for};
+ghost use Rattle.ring_runs.specs.Running.{frame_in, standing_in, frames_of, opening_frames, places_from};
 
 use ring_base::{Fault, Proc, ProcSet};
-use ring_core::Out;
+use ring_core::{Out, Sent};
 use ring_payload::Payload;
 use ring_wire::Frame;
-use std::alloc::{Allocator, Global};
-use std::marker::Model;
-
-/// A frame with its receivers.
-#[derive(Drop)]
-pub(crate) struct Sent<A: Allocator + Copy = Global> {
-    pub(crate) to: ProcSet,
-    pub(crate) frame: Frame<A>,
-}
-
-impl<A: Allocator + Copy> Model for Sent<A> {
-    ghost use Rattle.ring_core.specs.State.{Sent as OneSent};
-
-    ghost Value = { OneSent A };
-
-    ghost view = { λ s. record { to = s.to; frame = s.frame } };
-}
-
-impl<A: Allocator + Copy> Sent<A> {
-    /// The frame, if it was sent to this processor.
-    fn to_node(&self, node: Proc) -> Option<&Frame<A>>
-        ensures { option_copied result ≡ (if has self.now.to node then Some self.now.frame else None) }
-    {
-        addressed(node, self.to, &self.frame)
-    }
-}
+use std::alloc::Allocator;
 
 /// The frame, if it was sent to this processor.
 fn addressed<A: Allocator + Copy>(node: Proc, to: ProcSet, frame: &Frame<A>) -> Option<&Frame<A>>
@@ -115,7 +90,7 @@ pub(crate) fn later_frame<'a, A: Allocator + Copy>(
         return None;
     }
     if number < 2 {
-        return first.to_node(node);
+        return addressed(node, first.to, &first.frame);
     }
     given_frame(places, outs, node, number - 2)
 }

@@ -2,7 +2,7 @@
 
 ghost use Rattle.std.specs.Prelude.{IfOk};
 ghost use Rattle.std.specs.List.{AllByRecursion};
-ghost use Rattle.ring_limits.specs.Limits.{EventFits};
+ghost use Rattle.ring_core_proof.specs.Limits.{EventFits};
 ghost use Rattle.ring_payload.specs.Payloads.{PayloadFits};
 
 use ring_base::{Fault, Fixed, Kind, Proc};

@@ -6,9 +6,9 @@
 -- Numerals: What `parse` gives of a decimal word.
 -- Pieces: The first piece of a text, and the first line, by where the separator stands.
 -- Readings: The lines of a text, read one after the other.
--- Refusals: Refusals that pass on.
+-- RefusalsPassOn: Refusals that pass on.
 -- Spelling: How the arguments of an operation are spelled, one after another.
--- Together: Which nodes a cut keeps together.
+-- CutGroups: Which nodes a cut keeps together: the group kept for a processor is the only one that it is in.
 -- Voting: A line of votes, read word by word.
 pub mod Among
 pub mod Cutting
@@ -18,7 +18,7 @@ pub mod Lengths
 pub mod Numerals
 pub mod Pieces
 pub mod Readings
-pub mod Refusals
+pub mod RefusalsPassOn
 pub mod Spelling
-pub mod Together
+pub mod CutGroups
 pub mod Voting

@@ -4,7 +4,7 @@ use Rattle.ring_base.specs.declared.fault.Fault.{Fault}
 use Rattle.std.proofs.lemmas.List.{at_drop_more, at_drop_all}
 use Rattle.ring_script.specs.declared.operation.Argument.{Argument}
 use Rattle.ring_script.specs.Reading.{Refuses}
-use Rattle.ring_script.proofs.Refusals.{Refuses-on}
+use Rattle.ring_script.proofs.RefusalsPassOn.{Refuses-on}
 use Rattle.ring_script.specs.Operations.{argument_after, arguments_after}
 
 -- the argument at a place, and the ones after it

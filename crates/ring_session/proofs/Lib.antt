@@ -1,9 +1,19 @@
 -- Entries: One entry of a list of ascending keys put in, written over or taken out.
 -- OneEffectLaws: Each client's call has one effect and one reply.
--- Steps: What the code's writes make of a table.
--- TableLaws: The table after a list of calls holds each client's last call that took effect, with its reply, and so gives the answers that the list
---   alone determines.
+-- TableWrites: What the code's writes make of a table.
+-- TableLaws: The table after a list of calls holds each client's last call that took effect, with its reply, and gives the answers that the list
+--   determines.
+-- Adding: One call more: the session table tells whether it takes effect.
+-- TicketPlaces: How the tickets' places come as one more call is committed, and what the session table answers at them.
+-- AnswersGrow: All answers of a node: they grow at the end, a new ticket changes none, and the last of them are kept.
+-- TicketEffects: How many calls take effect: as many as the session table tells so, and no more than there are.
+-- Pendings: What is kept of tickets is what all tickets and all committed calls make it, and the answers of a step are those of the definition.
 pub mod Entries
 pub mod OneEffectLaws
-pub mod Steps
+pub mod TableWrites
 pub mod TableLaws
+pub mod Adding
+pub mod TicketPlaces
+pub mod AnswersGrow
+pub mod TicketEffects
+pub mod Pendings

@@ -1,5 +1,4 @@
--- The table after a list of calls holds each client's last call that took effect, with its reply, and so gives the
--- answers that the list alone determines.
+-- The table after a list of calls holds each client's last call that took effect, with its reply, and gives the answers that the list determines.
 use Rattle.std.proofs.Common.{◌≡◌, ℕ, ◌+◌, ◌<◌, ◌==◌, ◌&&◌, ◌||◌, nat_lt, Bool, true, false, List, [], ◌∷◌, ◌++◌}
 use Rattle.std.proofs.Common.{length, take, Option, Some, None, is_some, position, slice_get, get_or, refl, ap, sym}
 use Rattle.std.proofs.Common.{subst, ◌∙◌, arith, append_assoc, fold, inl, inr, if◌then◌else◌}
@@ -19,12 +18,13 @@ use Rattle.std.proofs.lemmas.Option.{slice_get_within, get_or_from_slice_get}
 use Rattle.std.proofs.lemmas.Slice.Eq.{bytes_eq-Decides}
 use Rattle.ring_base.specs.Fronts.{front_get, front_append}
 use Rattle.ring_base.specs.declared.fault.Fault.TheVariants.{Conflict, Stale, NumberGap, SessionsFull}
+use Rattle.ring_base.proofs.ListPlaces.{get-last}
 use Rattle.ring_object.specs.Operations.{Sequential, content_after}
 use Rattle.ring_payload.specs.declared.call.Call.{Call}
 use Rattle.ring_session.specs.declared.answer.Answer.{Answer}
 use Rattle.ring_session.specs.declared.answer.Answer.TheVariants.{Done, Kept}
 use Rattle.ring_session.specs.Deduplicated.{is_of, count_of, client_count, most_clients, may_call, takes_effect, deduplicated, StandsAt, operations}
-use Rattle.ring_session.specs.DeduplicatedLaws.{get-push_last, count_of-push_own, count_of-push_other}
+use Rattle.ring_session.specs.DeduplicatedLaws.{count_of-push_own, count_of-push_other}
 use Rattle.ring_session.specs.DeduplicatedLaws.{deduplicated-push, deduplicated-front, deduplicated-numbered}
 use Rattle.ring_session.specs.DeduplicatedLaws.{numbered_once, takes_effect-number}
 use Rattle.ring_session.specs.SessionAnswer.{refusal, is_same, repeated, answer_after, call_reply, session_answer, is_done}
@@ -139,7 +139,7 @@ module _ {O A : Type 0} (object : Sequential O) where
       (Some (last_call c (object.reply (content_after object object.initial (operations (deduplicated calls))) c.op)))
   last-same calls c taken =
       let kept = deduplicated calls in
-      (takes_effect-number kept c taken ∙ sym (count_of-push_own kept c), (length kept, get-push_last kept c, call_reply-push kept c))
+      (takes_effect-number kept c taken ∙ sym (count_of-push_own kept c), (length kept, get-last kept c, call_reply-push kept c))
 
   -- and leaves each other client's as it was
   last-other : (kept : List (Call A)) (c : Call A) (client : ℕ) (o : Option LastCall) → (client ≡ c.client → ⊥)
@@ -326,7 +326,7 @@ module _ {O A : Type 0} (object : Sequential O) where
       let tested : by_list kept table c last (may_call kept c.client) ≡ table_answer object table c =
       ap (λ n. by_list kept table c n (may_call kept c.client)) (sym (last_number-is object kept c.client (session_of table c.client) (holds.known c.client)))
       ∙ ap (by_list kept table c (last_number (session_of table c.client))) (sym (room-is object calls table c.client holds)) in
-      session_answer-at object (calls ++ c ∷ []) (length calls) c (get-push_last calls c)
+      session_answer-at object (calls ++ c ∷ []) (length calls) c (get-last calls c)
       ∙ ap (λ w. Some (answer_after replies (deduplicated w) c)) (take_at calls (c ∷ []) (length calls) refl)
       ∙ ap Some (listed ∙ tested)
 

@@ -1,34 +1,19 @@
 -- What holds of the calls that take effect: more calls only add to their end, each client's are numbered 1, 2, .., so
 -- that each call stands once, and each was in the list.
-use Rattle.std.proofs.Common.{◌≡◌, ℕ, zero, suc, ◌+◌, ◌<◌, ◌≤◌, ◌==◌, Bool, true, false, List, [], ◌∷◌, ◌++◌, length}
-use Rattle.std.proofs.Common.{take, Some, slice_get, get_or, refl, ap, sym, subst, ◌∙◌, arith, append_assoc, ◌⊎◌, inl}
+use Rattle.std.proofs.Common.{◌≡◌, ℕ, zero, suc, ◌+◌, ◌<◌, ◌≤◌, ◌==◌, Bool, true, false, List, [], ◌∷◌, ◌++◌}
+use Rattle.std.proofs.Common.{take, get_or, refl, ap, sym, subst, ◌∙◌, arith, append_assoc, inl}
 use Rattle.std.proofs.Common.{inr, if◌then◌else◌}
 use Rattle.std.proofs.lemmas.Bool.{cond-true, cond-false, eq-eqb, ne_eqb, eqb-true, and_parts}
-use Rattle.std.proofs.lemmas.List.{append-nil, take-append-le, take_at, take-take}
+use Rattle.std.proofs.lemmas.List.{append-nil, take_at, take-take}
 use Rattle.std.proofs.lemmas.List.Sums.{sum_by_push, sum_by_more, sum_by-take-le}
 use Rattle.std.proofs.lemmas.Option.{slice_get_within, get_or_from_slice_get}
 use Rattle.ring_base.specs.Fronts.{IsFront}
+use Rattle.ring_base.proofs.ListFronts.{take-front}
+use Rattle.ring_base.proofs.ListPlaces.{get-push}
 use Rattle.ring_payload.specs.declared.call.Call.{Call}
 use Rattle.ring_session.specs.Deduplicated.{is_of, count_of, may_call, takes_effect, deduplicated_after, deduplicated, StandsAt, IsNumbered}
 
 -- ---- places of a list
-
--- a front of as many places
-pub take_front : {X : Type 0} (xs ys : List X) (k : ℕ) → IsFront xs ys → k ≤ length xs → take k ys ≡ take k xs
-take_front xs ys k front le = ap (take k) (sym front.1) ∙ take-append-le k xs front.0 le
-
--- what stands in a list with one more at its end stood there before, or is the last
-pub get-push : {X : Type 0} (xs : List X) (y : X) (k : ℕ) (z : X) → slice_get (xs ++ y ∷ []) k ≡ Some z
-    → (slice_get xs k ≡ Some z) ⊎ ((k ≡ length xs) × (y ≡ z))
-get-push [] y zero z e = inr (refl, cc e)
-get-push [] y (suc k) z e = absurd (cc e)
-get-push (x ∷ xs) y zero z e = inl e
-get-push (x ∷ xs) y (suc k) z e = elim (get-push xs y k z e) [ inl h ↦ inl h | inr h ↦ inr (omega (arith, h.0), h.1) ]
-
--- the last element
-pub get-push_last : {X : Type 0} (xs : List X) (y : X) → slice_get (xs ++ y ∷ []) (length xs) ≡ Some y
-get-push_last [] y = refl
-get-push_last (x ∷ xs) y = get-push_last xs y
 
 -- ---- counts
 
@@ -99,7 +84,7 @@ numbered_push : {A : Type 0} (kept : List (Call A)) (c : Call A) → IsNumbered 
 numbered_push {A} kept c numbered taken p d at =
     elim (get-push kept c p d at) as (λ _. d.number ≡ count_of d.client (take p (kept ++ c ∷ [])) + 1) [
       | inl before ↦
-          let same : take p (kept ++ c ∷ []) ≡ take p kept = take_front kept (kept ++ c ∷ []) p (c ∷ [], refl)
+          let same : take p (kept ++ c ∷ []) ≡ take p kept = take-front kept (kept ++ c ∷ []) p (c ∷ [], refl)
           (omega (arith, slice_get_within kept p d before)) in
           numbered p d before ∙ ap (λ w. count_of d.client w + 1) (sym same)
       | inr last ↦

@@ -4,3 +4,9 @@ pub mod OneEffect
 pub mod SessionAnswer
 pub mod SessionAnswerLaws
 pub mod Table
+pub mod Nothing
+pub mod Effects
+pub mod Tickets
+pub mod TicketEffects
+pub mod Recent
+pub mod Pendings

@@ -11,6 +11,8 @@ use Rattle.std.proofs.lemmas.List.{append-nil, map-append, length-map, length-ap
 use Rattle.std.proofs.lemmas.List.Quantifiers.{position-Some}
 use Rattle.std.proofs.lemmas.Option.{slice_get_within, slice_get-get_or}
 use Rattle.ring_base.proofs.Rows.{take-found}
+use Rattle.ring_base.proofs.ListFronts.{taken-front, take-front}
+use Rattle.ring_base.proofs.ListPlaces.{get-last}
 use Rattle.std.proofs.lemmas.Slice.Eq.{bytes_eq-Decides}
 use Rattle.ring_base.specs.Fronts.{IsFront, front_trans, front_length, front_get}
 use Rattle.ring_base.specs.declared.fault.Fault.TheVariants.{Stale, NumberGap, SessionsFull}
@@ -19,7 +21,7 @@ use Rattle.ring_payload.specs.declared.call.Call.{Call}
 use Rattle.ring_session.specs.declared.answer.Answer.{Answer}
 use Rattle.ring_session.specs.declared.answer.Answer.TheVariants.{Done, Kept}
 use Rattle.ring_session.specs.Deduplicated.{count_of, may_call, takes_effect, deduplicated, StandsAt, IsNumbered, operations}
-use Rattle.ring_session.specs.DeduplicatedLaws.{take_front, get-push_last, count_of-take, deduplicated-push}
+use Rattle.ring_session.specs.DeduplicatedLaws.{count_of-take, deduplicated-push}
 use Rattle.ring_session.specs.DeduplicatedLaws.{deduplicated-front, deduplicated-numbered, takes_effect-number}
 use Rattle.ring_session.specs.DeduplicatedLaws.{numbered_once}
 use Rattle.ring_session.specs.SessionAnswer.{refusal, is_same, repeated, answer_after, reply_in, call_reply, session_answer, IsReplyIn}
@@ -60,12 +62,9 @@ one_reply {O} {A} object order numbered c d r s x y client number =
 
 -- ---- places
 
-front_take : {X : Type 0} (k : ℕ) (xs : List X) → IsFront (take k xs) xs
-front_take k xs = (drop k xs, take-append-drop k xs)
-
 -- the calls that took effect before a place are a front
 before_front : {A : Type 0} (calls : List (Call A)) (p : ℕ) → IsFront (deduplicated (take p calls)) (deduplicated calls)
-before_front calls p = deduplicated-front (take p calls) calls (front_take p calls)
+before_front calls p = deduplicated-front (take p calls) calls (taken-front p calls)
 
 -- a call that takes effect at its place comes right behind those that did before
 pub takes_effect-front : {A : Type 0} (calls : List (Call A)) (p : ℕ) (c : Call A) → StandsAt calls p c
@@ -142,7 +141,7 @@ session_answer-front {O} {A} object xs ys p c at front =
     let grows = deduplicated-front xs ys front in
     let all : ℕ → List ℕ = call_reply object (deduplicated xs) in
     let more : ℕ → List ℕ = call_reply object (deduplicated ys) in
-    let before : take p ys ≡ take p xs = take_front xs ys p front (omega (arith, slice_get_within xs p c at)) in
+    let before : take p ys ≡ take p xs = take-front xs ys p front (omega (arith, slice_get_within xs p c at)) in
     let same : (q : ℕ) → q < length (deduplicated xs) → more q ≡ all q = λ q within. call_reply-front object
     (deduplicated xs) (deduplicated ys) q grows within in
     session_answer-at object ys p c (front_get xs ys p c front at)
@@ -175,7 +174,7 @@ answered {O} {A} object calls p c a r at answer is =
     elim (replied_cases (c.number == count_of c.client kept + 1) (may_call kept c.client)
     (c.number == count_of c.client kept) (nat_lt c.number (count_of c.client kept)) replies (length kept)
     (position (is_same c) kept) r brings) [
-      | inl now ↦ (length kept, front_get (kept ++ c ∷ []) (deduplicated calls) (length kept) c (effect_front calls p c at now.0) (get-push_last kept c), now.1)
+      | inl now ↦ (length kept, front_get (kept ++ c ∷ []) (deduplicated calls) (length kept) c (effect_front calls p c at now.0) (get-last kept c), now.1)
       | inr before ↦ (before.0, front_get kept (deduplicated calls) before.0 c (before_front calls p) (position-is_same kept c before.0 before.1), before.2)
     ]
 
@@ -225,7 +224,7 @@ no_later_effect {A} calls p q c d at at' taken taken' client number lt =
     front_get (before ++ c ∷ []) kept (length before) c
     (front_trans (before ++ c ∷ []) (deduplicated (take (suc p) calls)) kept (takes_effect-front calls p c at taken)
     (deduplicated-front (take (suc p) calls) (take q calls) part))
-    (get-push_last before c) in
+    (get-last before c) in
     let first = deduplicated-numbered (take q calls) (length before) c stands in
     let second = takes_effect-number kept d taken' in
     let more = count_of-take kept (length before) (length kept) c stands (slice_get_within kept (length before) c stands) in

@@ -1,5 +1,5 @@
 -- What an act rests on was tested as it was decided.
-use Rattle.std.proofs.Common.{◌≡◌, ℕ, Bool, true, false, if◌then◌else◌, refl, ap, arith}
+use Rattle.std.proofs.Common.{◌≡◌, ℕ, Bool, true, false, refl, ap, arith}
 use Rattle.std.proofs.lemmas.Bool.{cond_both, and_parts}
 use Rattle.ring_base.specs.declared.kind.Kind.{Kind}
 use Rattle.ring_base.specs.declared.kind.Kind.TheVariants.{Retransmit, Join as JoinTime, Consensus, Loss}
@@ -13,12 +13,12 @@ use Rattle.ring_wire.specs.Frames.{FrameFits}
 use Rattle.ring_wire.specs.Tokens.{TokenFits}
 use Rattle.ring_wire.specs.declared.commit.CommitToken.{CommitToken}
 use Rattle.ring_wire.specs.declared.frame.Frame.{Frame}
-use Rattle.ring_wire.specs.declared.frame.Frame.TheVariants.{Message as MessageFrame, Token as TokenFrame, Join as JoinFrame, Commit as CommitFrame}
+use Rattle.ring_wire.specs.declared.frame.Frame.TheVariants.{Message as MessageFrame, Token as TokenFrame, Join as JoinFrame}
+use Rattle.ring_wire.specs.declared.frame.Frame.TheVariants.{Commit as CommitFrame}
 use Rattle.ring_wire.specs.declared.join.Join.{Join}
 use Rattle.ring_wire.specs.declared.message.Message.{Message}
 use Rattle.ring_wire.specs.declared.token.Token.{Token}
 use Rattle.ring_token.specs.Turns.{first_token}
-use Rattle.ring_join.specs.Gathering.{Gathering, is_unheard, has_same_sets, has_smaller_sets, hearing}
 use Rattle.ring_join.specs.declared.hearing.Hearing.{Hearing}
 use Rattle.ring_join.specs.declared.hearing.Hearing.TheVariants.{Ignored, Agrees, Widens}
 use Rattle.ring_commit.specs.Outcomes.{is_at}
@@ -33,8 +33,9 @@ use Rattle.ring_core.specs.Deciding.{Ignore, Enqueue, Take, Visit, Fill, Learn, 
 use Rattle.ring_core.specs.Deciding.{heard_in_gather, heard_elsewhere, overhear, decide_join, decide_round}
 use Rattle.ring_core.specs.Deciding.{decide_commit, decide_frame, decide_if_named, decide_time, decide_user}
 use Rattle.ring_core.specs.Deciding.{decide_payload, decide}
-use Rattle.ring_acts.specs.Allowing.{Allows, InputFits, TokenGoes, VisitAllowed}
-use Rattle.ring_acts.specs.Machines.{is_running}
+use Rattle.ring_srp_acts.specs.Allowing.{Allows, InputFits, TokenGoes, VisitAllowed}
+use Rattle.ring_srp_acts.specs.Machines.{is_running}
+use Rattle.ring_join.proofs.Consensus.{agrees_same}
 
 -- Tokens
 
@@ -61,16 +62,6 @@ in_message : {A : Type 0} (c : Core A) (x : Message A) → Allows c (decide_mess
 in_message c x = cond_both (is_taken c x) (Take x) Ignore (Allows c) (λ e. e) (λ e. tt)
 
 -- Joins
-
--- of these tests the second passed
-agrees_by : (u s w : Bool) → (if u then Ignored else if s then Agrees else if w then Ignored else Widens) ≡ Agrees → s ≡ true
-agrees_by true s w e = (let q : Ignored ≡ Agrees = e in cc)
-agrees_by false true w e = refl
-agrees_by false false true e = (let q : Ignored ≡ Agrees = e in cc)
-agrees_by false false false e = (let q : Widens ≡ Agrees = e in cc)
-
-agrees_same : (me : ℕ) (g : Gathering) (j : Join) → hearing me g j ≡ Agrees → has_same_sets g j ≡ true
-agrees_same me g j e = agrees_by (is_unheard me g j) (has_same_sets g j) (has_smaller_sets g j) e
 
 in_gather : {A : Type 0} (c : Core A) (j : Join) (x : Hearing) → c.state ≡ Gather → hears c j ≡ x → Allows c (heard_in_gather x j)
 in_gather c j Ignored h e = tt

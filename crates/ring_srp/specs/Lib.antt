@@ -1,3 +1,1 @@
-pub use Rattle.ring_acts.specs.Allowing
-pub use Rattle.ring_acts.specs.Machines
 pub mod Ended

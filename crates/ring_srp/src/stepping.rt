@@ -8,15 +8,15 @@ ghost use Rattle.ring_core.specs.Deciding.{Visit as VisitAct};
 ghost use Rattle.ring_core.specs.Giving.{sent, may_install, delivered};
 ghost use Rattle.ring_core.specs.Stepping.{ring_step};
 ghost use Rattle.ring_core.specs.declared.input.Input.TheVariants.{Frame as FrameInput, Send as SendInput};
-ghost use Rattle.ring_acts.specs.Acts.{act_of};
-ghost use Rattle.ring_acts.specs.Allowing.{Allows, InputFits, VisitAllowed};
+ghost use Rattle.ring_srp_acts.specs.Acts.{act_of};
+ghost use Rattle.ring_srp_acts.specs.Allowing.{Allows, InputFits, VisitAllowed};
 ghost use Rattle.ring_core.specs.State.{is_stopped};
 
-use ring_acts::{Act, Machine};
 use ring_base::{Fault, State};
 use ring_core::{Input, Out};
-use ring_packing::is_queued;
 use ring_payload::Payload;
+use ring_srp_acts::{Act, Machine};
+use ring_srp_state::is_queued;
 use ring_wire::{Frame, Token};
 use std::alloc::Allocator;
 

@@ -1,14 +1,15 @@
 -- Whether the calls that take effect of a list are a front of another.
-use Rattle.std.proofs.Common.{◌≡◌, ℕ, ◌+◌, ◌<◌, ◌≤◌, ◌==◌, Bool, true, false, List, [], ◌∷◌, ◌++◌, take, drop, length}
-use Rattle.std.proofs.Common.{Option, Some, None, slice_get, sym, ap, subst, ◌∙◌, arith, append-nil}
+use Rattle.std.proofs.Common.{◌≡◌, ℕ, ◌+◌, ◌≤◌, Bool, true, false, List, [], ◌∷◌, ◌++◌, take, drop, length}
+use Rattle.std.proofs.Common.{Some, slice_get, sym, ap, subst, ◌∙◌, arith, append-nil}
 use Rattle.std.specs.Prelude.{if◌then◌else◌}
 use Rattle.std.proofs.lemmas.List.{take-append-drop, length-take, take_all}
 use Rattle.std.proofs.lemmas.Option.{slice_get_within}
 use Rattle.ring_base.specs.Fronts.{IsFront, front_trans, front_get}
 use Rattle.ring_payload.specs.declared.call.Call.{Call}
-use Rattle.ring_session.specs.Deduplicated.{count_of, client_count, takes_effect, deduplicated}
-use Rattle.ring_session.specs.DeduplicatedLaws.{deduplicated-push, deduplicated-front, get-push_last}
+use Rattle.ring_session.specs.Deduplicated.{takes_effect, deduplicated}
+use Rattle.ring_session.specs.DeduplicatedLaws.{deduplicated-push, deduplicated-front}
 use Rattle.ring_base.proofs.Rows.{take-more}
+use Rattle.ring_base.proofs.ListPlaces.{get-last}
 
 -- So many of these calls were looked at, and so many places of the order are those that took effect.
 pub record IsInFront {A : Type 0} (calls order : List (Call A)) (k place : ℕ) : Type 0 where
@@ -44,7 +45,7 @@ module _ {A : Type 0} (calls order : List (Call A)) (k place : ℕ) (c : Call A)
       let whole = front_trans (take place order ++ c ∷ []) (deduplicated calls) order part front in
       let many : length (take place order) ≡ place = grind (arith, length-take place order, so_far.within) in
       subst (λ (n : ℕ). slice_get order n ≡ Some c) many
-      (front_get (take place order ++ c ∷ []) order (length (take place order)) c whole (get-push_last (take place order) c))
+      (front_get (take place order ++ c ∷ []) order (length (take place order)) c whole (get-last (take place order) c))
 
 -- all calls were looked at
 pub front_all : {A : Type 0} (calls order : List (Call A)) (k place : ℕ) → length calls ≤ k → IsInFront calls order k place

@@ -4,10 +4,10 @@ use Rattle.std.proofs.lemmas.Bool.{cases_lt}
 use Rattle.ring_base.specs.Fronts.{IsFront}
 use Rattle.ring_object.specs.Operations.{Sequential}
 use Rattle.ring_payload.specs.declared.call.Call.{Call}
-use Rattle.ring_history.specs.declared.item.Item.{Item}
-use Rattle.ring_history.specs.Histories.{IsLinearization}
-use Rattle.ring_history.specs.Worlds.{order}
-use Rattle.ring_console.specs.Played.{Played, world_of}
+use Rattle.ring_rules.specs.declared.item.Item.{Item}
+use Rattle.ring_rules.specs.Histories.{IsLinearization}
+use Rattle.ring_rules.specs.Worlds.{order}
+use Rattle.ring_world.specs.Played.{Played, world_of}
 use Rattle.ring_sweep.specs.Legal.{IsLegal, AreFronts}
 
 -- it holds of each number from 1 up to this one

@@ -6,11 +6,11 @@ use Rattle.std.proofs.lemmas.Grind.{flat_map-append, replicate_next}
 use Rattle.std.proofs.lemmas.List.{replicate-append-replicate}
 use Rattle.std.specs.Prelude.{Vec, replicate}
 use Rattle.ring_object.specs.Operations.{Sequential}
-use Rattle.ring_history.specs.declared.event.Event.TheVariants as events
+use Rattle.ring_rules.specs.declared.event.Event.TheVariants as events
 use Rattle.ring_script.specs.declared.line.Line.{Line}
 use Rattle.ring_script.specs.declared.line.Line.TheVariants.{Call, Deliver, Timeout, Noise, Stop, Cut, Heal, Pump, Show}
 use Rattle.ring_script.specs.declared.scripts.Numbered.{Numbered}
-use Rattle.ring_console.specs.Played.{Played, Goes as PlayedGoes}
+use Rattle.ring_world.specs.Played.{Played, Goes as PlayedGoes}
 use Rattle.ring_script.specs.Fits.{IsFit}
 use Rattle.ring_console.specs.Running.{Pair}
 use Rattle.ring_console.specs.Running.{RunView, Does, Ends, Happens}

@@ -5,10 +5,10 @@ use Rattle.ring_base.specs.Fronts.{IsFront}
 use Rattle.ring_object.specs.Operations.{Sequential}
 use Rattle.ring_payload.specs.declared.call.Call.{Call}
 use Rattle.ring_session.specs.Deduplicated.{deduplicated}
-use Rattle.ring_machine.specs.Nodes.{node_committed}
-use Rattle.ring_history.specs.Histories.{IsLinearization}
-use Rattle.ring_history.specs.Worlds.{order}
-use Rattle.ring_console.specs.Played.{Played, world_of}
+use Rattle.ring_rules.specs.Nodes.{node_committed}
+use Rattle.ring_rules.specs.Histories.{IsLinearization}
+use Rattle.ring_rules.specs.Worlds.{order}
+use Rattle.ring_world.specs.Played.{Played, world_of}
 
 module _ {O : Type 0} (object : Sequential O) where
   -- the calls that take effect of what each node committed are a front of these

@@ -7,8 +7,8 @@ ghost use Rattle.ring_session.specs.Deduplicated.{count_of, client_count, takes_
 ghost use Rattle.ring_sweep.specs.Legal.{IsLegal, AreFronts};
 
 use ring_base::{Fault, Proc};
+use ring_checker::is_linearization;
 use ring_console::World;
-use ring_history::is_linearization;
 use ring_object::Object;
 use ring_payload::Call;
 use std::alloc::Allocator;

@@ -5,19 +5,17 @@ use Rattle.std.proofs.Common.{append_assoc, append-nil}
 use Rattle.std.proofs.lemmas.Bool.{false≢true}
 use Rattle.std.specs.Option.{option_map, option_and_then}
 use Rattle.ring_things.specs.Names.{next_name, names_of}
-
-one_more : (count i : ℕ) → i < count → count - i ≡ suc (count - (i + 1))
-one_more count i less = omega arith
+use Rattle.ring_base.proofs.Rows.{left-next}
 
 -- a name and the others
 pub names_of-next : (count i : ℕ) (last bytes name : List ℕ) → i < count → next_name last bytes ≡ Some name →
     names_of (count - i) last bytes ≡ option_map (λ names. name ∷ names) (names_of (count - (i + 1)) name (drop (suc (length name)) bytes))
 unfolding names_of
-names_of-next count i last bytes name less is = rw (one_more count i less, is) refl
+names_of-next count i last bytes name less is = rw (left-next count i less, is) refl
 
 pub names_of-none : (count i : ℕ) (last bytes : List ℕ) → i < count → next_name last bytes ≡ None → names_of (count - i) last bytes ≡ None
 unfolding names_of
-names_of-none count i last bytes less is = rw (one_more count i less, is) refl
+names_of-none count i last bytes less is = rw (left-next count i less, is) refl
 
 -- nothing is left to read
 pub names_of-end : (count i : ℕ) (last bytes : List ℕ) → count ≤ i → names_of (count - i) last bytes ≡ (if length bytes == 0 then Some [] else None)
@@ -47,7 +45,7 @@ pub next_there : (count i : ℕ) (last bytes : List ℕ) → i < count → is_so
 unfolding names_of
 next_there count i last bytes less there = front_there (λ name. option_map (λ names. name ∷ names)
     (names_of (count - (i + 1)) name (drop (suc (length name)) bytes))) (next_name last bytes)
-    (rw (one_more count i less) at there)
+    (rw (left-next count i less) at there)
 
 -- nothing more was read
 pub option_map-end : {A : Type 0} (xs : List A) (test : Bool) (o : Option (List A)) → is_some o ≡ true

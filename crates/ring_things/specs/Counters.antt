@@ -3,27 +3,32 @@
 use Rattle.std.specs.Prelude.{ℕ, ◌+◌, ◌^◌, Bool, ◌==◌, nat_lt, ◌&&◌, if◌then◌else◌, List, [], ◌∷◌, length, slice_index, slice_set, Option, Some, None, is_some}
 use Rattle.byteorder.specs.Endian.{big_bytes, big_number}
 use Rattle.ring_object.specs.Operations.{unreadable}
-use Rattle.ring_things.specs.declared.counters.Operation.{Operation}
-use Rattle.ring_things.specs.declared.counters.Operation.TheVariants.{Add, Read}
+use Rattle.ring_things.specs.declared.counters.Asked.{Asked}
+use Rattle.ring_things.specs.declared.counters.Asked.TheVariants.{Add, Read}
 
 -- the operation that these bytes are: a code, a key, and what the code asks for
-abbrev pub reading : List ℕ → Option Operation
+abbrev pub reading : List ℕ → Option Asked
 reading (code ∷ key ∷ rest) =
     if code == 1 && length rest == 8 then Some (Add key (big_number 8 rest))
     else if code == 2 && length rest == 0 then Some (Read key)
     else None
 reading _ = None
 
+-- the bytes of an operation
+abbrev pub spelling : Asked → List ℕ
+spelling (Add key amount) = 1 ∷ key ∷ big_bytes 8 amount
+spelling (Read key) = 2 ∷ key ∷ []
+
 abbrev pub is_readable : List ℕ → Bool
 is_readable op = is_some (reading op)
 
-abbrev pub reply_to : List ℕ → Option Operation → List ℕ
+abbrev pub reply_to : List ℕ → Option Asked → List ℕ
 reply_to counts (Some (Add key amount)) =
     if nat_lt (slice_index counts key + amount) (2 ^ 64) then 0 ∷ big_bytes 8 (slice_index counts key + amount) else 1 ∷ []
 reply_to counts (Some (Read key)) = 0 ∷ big_bytes 8 (slice_index counts key)
 reply_to counts None = unreadable
 
-abbrev pub after : List ℕ → Option Operation → List ℕ
+abbrev pub after : List ℕ → Option Asked → List ℕ
 after counts (Some (Add key amount)) =
     if nat_lt (slice_index counts key + amount) (2 ^ 64) then slice_set counts key (slice_index counts key + amount) else counts
 after counts (Some (Read key)) = counts

@@ -7,10 +7,10 @@ use Rattle.ring_things.specs.Guards.{unread}
 use Rattle.ring_things.specs.Replies.{code_fits, code_and_value_fits}
 use Rattle.ring_things.specs.Values.{IsValues, IsValues-set}
 use Rattle.ring_things.specs.Counters.{reading, is_readable, reply, next, reply_to, after}
-use Rattle.ring_things.specs.declared.counters.Operation.{Operation}
-use Rattle.ring_things.specs.declared.counters.Operation.TheVariants.{Add, Read}
+use Rattle.ring_things.specs.declared.counters.Asked.{Asked}
+use Rattle.ring_things.specs.declared.counters.Asked.TheVariants.{Add, Read}
 
-after_kept : (counts : List ℕ) (op : Option Operation) → IsValues counts → IsValues (after counts op)
+after_kept : (counts : List ℕ) (op : Option Asked) → IsValues counts → IsValues (after counts op)
 after_kept counts (Some (Add key amount)) is =
     let count = slice_index counts key + amount in
     cond_both (nat_lt count (2 ^ 64)) _ _ IsValues (λ fits. IsValues-set counts key count (ltb-true _ _ fits) is) (λ _. is)
@@ -20,7 +20,7 @@ after_kept counts None is = is
 pub next_kept : (counts op : List ℕ) → AreBytes op → IsValues counts → IsValues (next counts op)
 next_kept counts op are is = after_kept counts (reading op) is
 
-reply_fits : (counts : List ℕ) (op : Option Operation) → IsReply (reply_to counts op)
+reply_fits : (counts : List ℕ) (op : Option Asked) → IsReply (reply_to counts op)
 reply_fits counts (Some (Add key amount)) =
     let count = slice_index counts key + amount in
     cond_both (nat_lt count (2 ^ 64)) _ _ IsReply (λ _. code_and_value_fits 0 count (omega arith)) (λ _. code_fits 1 (omega arith))

@@ -7,9 +7,6 @@ pub guarded : {A : Type 0} (test : Bool) (found : Option A) (y : A) → (if test
 guarded true found y is = (refl, is)
 guarded false found y is = absurd cc
 
-pub same_some : {A : Type 0} (x y : A) → Some x ≡ Some y → x ≡ y
-same_some x y is = cc
-
 -- what a function gave of what was found
 pub and_then_some : {A B : Type 0} (f : A → Option B) (found : Option A) (y : B) → option_and_then f found ≡ Some y
     → (x : A) × (found ≡ Some x) × (f x ≡ Some y)

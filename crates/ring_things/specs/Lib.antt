@@ -5,6 +5,7 @@ pub mod Names
 pub mod NamesLaws
 pub mod Numbers
 pub mod Outcome
+pub mod OutcomeLaws
 pub mod Queue
 pub mod QueueLaws
 pub mod Registers

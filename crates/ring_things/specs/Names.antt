@@ -13,8 +13,8 @@ use Rattle.std.specs.Cmp.Lexicographic.{slice_cmp}
 use Rattle.byteorder.specs.Endian.{big_bytes, big_number}
 use Rattle.ring_object.specs.Bytes.{AreBytes}
 use Rattle.ring_object.specs.Operations.{unreadable}
-use Rattle.ring_things.specs.declared.names.Operation.{Operation}
-use Rattle.ring_things.specs.declared.names.Operation.TheVariants.{Insert, Remove, Has}
+use Rattle.ring_things.specs.declared.names.Asked.{Asked}
+use Rattle.ring_things.specs.declared.names.Asked.TheVariants.{Insert, Remove, Has}
 
 -- the most names that a set may hold
 abbrev pub most : ℕ
@@ -73,7 +73,7 @@ pub record IsMissing (name : List ℕ) (names : List (List ℕ)) (place : ℕ) :
   pub others : names ≡ without name names
 
 -- what a code asks for with a name
-abbrev pub asking : ℕ → List ℕ → Option Operation
+abbrev pub asking : ℕ → List ℕ → Option Asked
 asking code name =
     if code == 1 then Some (Insert name)
     else if code == 2 then Some (Remove name)
@@ -81,20 +81,26 @@ asking code name =
     else None
 
 -- the operation that these bytes are: a code and a name
-abbrev pub reading : List ℕ → Option Operation
+abbrev pub reading : List ℕ → Option Asked
 reading (code ∷ name) = if is_name name then asking code name else None
 reading [] = None
+
+-- the bytes of an operation
+abbrev pub spelling : Asked → List ℕ
+spelling (Insert name) = 1 ∷ name
+spelling (Remove name) = 2 ∷ name
+spelling (Has name) = 3 ∷ name
 
 abbrev pub is_readable : List ℕ → Bool
 is_readable op = is_some (reading op)
 
-abbrev pub reply_to : List (List ℕ) → Option Operation → List ℕ
+abbrev pub reply_to : List (List ℕ) → Option Asked → List ℕ
 reply_to names (Some (Insert name)) = if has name names then 1 ∷ [] else if length names == most then 2 ∷ [] else 0 ∷ []
 reply_to names (Some (Remove name)) = if has name names then 0 ∷ [] else 1 ∷ []
 reply_to names (Some (Has name)) = if has name names then 0 ∷ [] else 1 ∷ []
 reply_to names None = unreadable
 
-abbrev pub after : List (List ℕ) → Option Operation → List (List ℕ)
+abbrev pub after : List (List ℕ) → Option Asked → List (List ℕ)
 after names (Some (Insert name)) = if has name names then names else if length names == most then names else with_name name names
 after names (Some (Remove name)) = without name names
 after names (Some (Has name)) = names

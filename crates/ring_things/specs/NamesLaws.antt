@@ -10,6 +10,7 @@ use Rattle.std.specs.declared.cmp.Ordering.TheVariants.{Less, Equal, Greater}
 use Rattle.std.proofs.lemmas.Cmp.{nat_list_cmp_total}
 use Rattle.std.proofs.lemmas.Bool.{cond_both, cond-true, eqb-false, leb-true, le-leb, and_parts, and_from, or_parts}
 use Rattle.std.proofs.lemmas.List.{length-append, length-drop, length-take, take-append-drop, drop_at, take_at, nil_from_length}
+use Rattle.std.proofs.lemmas.Option.{same_Some}
 use Rattle.std.proofs.lemmas.List.Concat.{flat_map-cons}
 use Rattle.std.proofs.lemmas.List.Elements.{All-nil, All-cons, All-head, All-tail, All-drop, All-take, All-append}
 use Rattle.std.proofs.lemmas.List.Elements.{All-weaker, All-filter, All-from_recursion, recursion_from_All}
@@ -18,21 +19,21 @@ use Rattle.byteorder.specs.Endian.{big_number}
 use Rattle.ring_object.specs.Bytes.{AreBytes}
 use Rattle.ring_object.specs.Operations.{IsReply, unreadable}
 use Rattle.ring_object.specs.Snapshots.{Restores}
-use Rattle.ring_things.specs.Guards.{guarded, same_some, and_then_some, map_some, unread}
+use Rattle.ring_things.specs.Guards.{guarded, and_then_some, map_some, unread}
 use Rattle.ring_things.specs.Numbers.{exact_2, apart, together}
 use Rattle.ring_things.specs.Replies.{code_fits, AreBytes-rest, AreBytes-drop, AreBytes-take}
 use Rattle.ring_things.specs.Names.{most, IsName, is_name, by_bytes, AreAscending, IsSet, same, has, below, with_name}
 use Rattle.ring_things.specs.Names.{without, asking, reading, is_readable, reply, next, reply_to, after, spelled}
 use Rattle.ring_things.specs.Names.{snapshot_of, next_name, names_of, set_of}
-use Rattle.ring_things.specs.declared.names.Operation.{Operation}
-use Rattle.ring_things.specs.declared.names.Operation.TheVariants.{Insert, Remove, Has}
+use Rattle.ring_things.specs.declared.names.Asked.{Asked}
+use Rattle.ring_things.specs.declared.names.Asked.TheVariants.{Insert, Remove, Has}
 
 pub empty_IsSet : IsSet []
 unfolding IsStrictlySortedBy
 empty_IsSet = record { few = omega arith; each = All-nil IsName; ascending = tt }
 
 -- what is asked for is a name
-abbrev pub Fits : Option Operation → Type 0
+abbrev pub Fits : Option Asked → Type 0
 Fits (Some (Insert name)) = IsName name
 Fits (Some (Remove name)) = IsName name
 Fits (Some (Has name)) = IsName name
@@ -115,7 +116,7 @@ IsSet-without name names is = record {
   ascending = IsStrictlySortedBy-filter by_bytes (λ other. not (same name other)) names is.ascending;
 }
 
-after_kept : (names : List (List ℕ)) (op : Option Operation) → Fits op → IsSet names → IsSet (after names op)
+after_kept : (names : List (List ℕ)) (op : Option Asked) → Fits op → IsSet names → IsSet (after names op)
 after_kept names (Some (Insert name)) fits is =
     cond_both (has name names) _ _ IsSet (λ _. is)
     (λ missing. cond_both (length names == most) _ _ IsSet (λ _. is) (λ room. IsSet-with_name name names fits missing
@@ -127,7 +128,7 @@ after_kept names None fits is = is
 pub next_kept : (names : List (List ℕ)) (op : List ℕ) → AreBytes op → IsSet names → IsSet (next names op)
 next_kept names op are is = after_kept names (reading op) (reading_fits op are) is
 
-reply_fits : (names : List (List ℕ)) (op : Option Operation) → IsReply (reply_to names op)
+reply_fits : (names : List (List ℕ)) (op : Option Asked) → IsReply (reply_to names op)
 reply_fits names (Some (Insert name)) =
     cond_both (has name names) _ _ IsReply (λ _. code_fits 1 (omega arith))
     (λ _. cond_both (length names == most) _ _ IsReply (λ _. code_fits 2 (omega arith)) (λ _. code_fits 0 (omega arith)))
@@ -176,7 +177,7 @@ next_exact last (len ∷ rest) name are is =
     let b = and_parts (nat_le len (length rest)) _ a.1 in
     let size : length (take len rest) ≡ len = omega (arith, length-take len rest, leb-true _ _ b.0) in
     let P : List ℕ → Type 0 = λ x. IsNext last (len ∷ rest) x in
-    subst P (same_some _ _ g.1) (record {
+    subst P (same_Some _ _ g.1) (record {
       is = record {
         some = omega (arith, size, leb-true _ _ sizes.0);
         short = omega (arith, size, leb-true _ _ sizes.1);
@@ -199,7 +200,7 @@ exact zero last bytes names are is =
     let g = guarded (length bytes == 0) (Some []) names is in
     let none : bytes ≡ [] = nil_from_length bytes (eqb-true _ _ g.0) in
     let P : List (List ℕ) → Type 0 = λ xs. AreNext 0 last bytes xs in
-    subst P (same_some _ _ g.1) (record { many = refl; each = All-nil IsName; ascending = (tt, tt); text = sym none })
+    subst P (same_Some _ _ g.1) (record { many = refl; each = All-nil IsName; ascending = (tt, tt); text = sym none })
 exact (suc count) last bytes names are is =
     let found = and_then_some _ (next_name last bytes) names is in
     let name = found.0 in

@@ -1,5 +1,6 @@
 -- Numbers of a width in bytes, big-endian, one after the other; and that they read back.
 use Rattle.std.proofs.Common.{◌≡◌, ℕ, zero, suc, ◌*◌, ◌^◌, ◌<◌, ◌≤◌, List, [], ◌∷◌, ◌++◌, length, get_or, take, drop, All, refl, sym, ap, ◌∙◌, arith, inl, inr}
+use Rattle.std.proofs.Common.{append-nil}
 use Rattle.std.specs.List.{flat_map}
 use Rattle.std.proofs.lemmas.Bool.{cases_lt}
 use Rattle.std.proofs.lemmas.List.{drop_at, take-append-drop, length-append, length-take, length-drop, get_or_past, nil_from_length}
@@ -102,6 +103,11 @@ spelled-numbers_of width exact (suc count) bytes len are =
           (numbers_of width count (drop width bytes)),
       others,
     ) (big_bytes-big_number width exact bytes (omega arith) are)
+
+-- the number that its bytes make is it
+pub big_number-whole : (width number : ℕ) → number < 256 ^ width → big_number width (big_bytes width number) ≡ number
+big_number-whole width number fits =
+    ap (big_number width) (sym (append-nil (big_bytes width number))) ∙ big_number-reads_back width number [] fits
 
 -- a number and the text behind it stand apart
 pub apart : (width number : ℕ) (text : List ℕ) → number < 256 ^ width →

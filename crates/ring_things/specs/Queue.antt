@@ -4,8 +4,8 @@ use Rattle.std.specs.Prelude.{ℕ, ◌*◌, ◌≤◌, Bool, ◌==◌, nat_le, �
 use Rattle.byteorder.specs.Endian.{big_bytes, big_number}
 use Rattle.ring_object.specs.Operations.{unreadable}
 use Rattle.ring_things.specs.Numbers.{spelled, numbers_of, AreNumbers}
-use Rattle.ring_things.specs.declared.queue.Operation.{Operation}
-use Rattle.ring_things.specs.declared.queue.Operation.TheVariants.{Push, Pop, Count}
+use Rattle.ring_things.specs.declared.queue.Asked.{Asked}
+use Rattle.ring_things.specs.declared.queue.Asked.TheVariants.{Push, Pop, Count}
 
 -- the most values that a queue may hold
 abbrev pub most : ℕ
@@ -16,7 +16,7 @@ pub record IsQueue (items : List ℕ) : Type 0 where
   pub numbers : AreNumbers 8 items
 
 -- the operation that these bytes are: a code, and the value that it asks for
-abbrev pub reading : List ℕ → Option Operation
+abbrev pub reading : List ℕ → Option Asked
 reading (code ∷ rest) =
     if code == 1 && length rest == 8 then Some (Push (big_number 8 rest))
     else if code == 2 && length rest == 0 then Some Pop
@@ -24,17 +24,23 @@ reading (code ∷ rest) =
     else None
 reading [] = None
 
+-- the bytes of an operation
+abbrev pub spelling : Asked → List ℕ
+spelling (Push value) = 1 ∷ big_bytes 8 value
+spelling Pop = 2 ∷ []
+spelling Count = 3 ∷ []
+
 abbrev pub is_readable : List ℕ → Bool
 is_readable op = is_some (reading op)
 
-abbrev pub reply_to : List ℕ → Option Operation → List ℕ
+abbrev pub reply_to : List ℕ → Option Asked → List ℕ
 reply_to items (Some (Push value)) = if length items == most then 1 ∷ [] else 0 ∷ []
 reply_to [] (Some Pop) = 1 ∷ []
 reply_to (item ∷ items) (Some Pop) = 0 ∷ big_bytes 8 item
 reply_to items (Some Count) = 0 ∷ big_bytes 8 (length items)
 reply_to items None = unreadable
 
-abbrev pub after : List ℕ → Option Operation → List ℕ
+abbrev pub after : List ℕ → Option Asked → List ℕ
 after items (Some (Push value)) = if length items == most then items else items ++ value ∷ []
 after items (Some Pop) = drop 1 items
 after items (Some Count) = items

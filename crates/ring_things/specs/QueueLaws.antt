@@ -3,25 +3,26 @@ use Rattle.std.proofs.Common.{◌≡◌, ℕ, ◌*◌, ◌^◌, ◌<◌, ◌≤�
 use Rattle.std.proofs.Common.{Option, Some, None, refl, ap, ◌∙◌, subst, arith, eqb-true, eq-eqb}
 use Rattle.std.proofs.lemmas.Bool.{cond_both, cond-true, eqb-false, leb-true, le-leb, and_parts, and_from}
 use Rattle.std.proofs.lemmas.List.{length_push, length-drop}
+use Rattle.std.proofs.lemmas.Option.{same_Some}
 use Rattle.std.proofs.lemmas.List.Elements.{All-nil, All-push, All-drop}
 use Rattle.byteorder.specs.Endian.{big_number}
 use Rattle.ring_object.specs.Bytes.{AreBytes}
 use Rattle.ring_object.specs.Operations.{IsReply, unreadable}
 use Rattle.ring_object.specs.Snapshots.{Restores}
-use Rattle.ring_things.specs.Guards.{guarded, same_some, unread}
+use Rattle.ring_things.specs.Guards.{guarded, unread}
 use Rattle.ring_things.specs.Numbers.{spelled, numbers_of, big_number-lt, exact_2, exact_8, apart, together}
 use Rattle.ring_things.specs.Numbers.{length-spelled, length-numbers_of, AreNumbers-numbers_of, numbers_of-spelled}
 use Rattle.ring_things.specs.Numbers.{spelled-numbers_of}
 use Rattle.ring_things.specs.Replies.{code_fits, code_and_value_fits, AreBytes-rest, AreBytes-drop}
 use Rattle.ring_things.specs.Queue.{most, IsQueue, reading, is_readable, reply, next, reply_to, after, snapshot_of, is_snapshot, queue_of}
-use Rattle.ring_things.specs.declared.queue.Operation.{Operation}
-use Rattle.ring_things.specs.declared.queue.Operation.TheVariants.{Push, Pop, Count}
+use Rattle.ring_things.specs.declared.queue.Asked.{Asked}
+use Rattle.ring_things.specs.declared.queue.Asked.TheVariants.{Push, Pop, Count}
 
 pub empty_IsQueue : IsQueue []
 empty_IsQueue = record { few = omega arith; numbers = All-nil (λ number. number < 256 ^ 8) }
 
 -- what is pushed fits a value
-abbrev Fits : Option Operation → Type 0
+abbrev Fits : Option Asked → Type 0
 Fits (Some (Push value)) = value < 256 ^ 8
 Fits _ = Unit {0}
 
@@ -32,7 +33,7 @@ reading_fits (code ∷ rest) are =
     (λ _. cond_both (code == 2 && length rest == 0) _ _ Fits (λ _. tt)
     (λ _. cond_both (code == 3 && length rest == 0) _ _ Fits (λ _. tt) (λ _. tt)))
 
-after_kept : (items : List ℕ) (op : Option Operation) → Fits op → IsQueue items → IsQueue (after items op)
+after_kept : (items : List ℕ) (op : Option Asked) → Fits op → IsQueue items → IsQueue (after items op)
 after_kept items (Some (Push value)) fits is =
     cond_both (length items == most) _ _ IsQueue (λ _. is) (λ room. record {
       few = omega (arith, length_push items value, is.few, eqb-false _ _ room);
@@ -48,7 +49,7 @@ after_kept items None fits is = is
 pub next_kept : (items op : List ℕ) → AreBytes op → IsQueue items → IsQueue (next items op)
 next_kept items op are is = after_kept items (reading op) (reading_fits op are) is
 
-reply_fits : (items : List ℕ) (op : Option Operation) → IsReply (reply_to items op)
+reply_fits : (items : List ℕ) (op : Option Asked) → IsReply (reply_to items op)
 reply_fits items (Some (Push value)) = cond_both (length items == most) _ _ IsReply (λ _. code_fits 1 (omega arith)) (λ _. code_fits 0 (omega arith))
 reply_fits [] (Some Pop) = code_fits 1 (omega arith)
 reply_fits (item ∷ items) (Some Pop) = code_and_value_fits 0 item (omega arith)
@@ -85,7 +86,7 @@ only bytes items are is =
     let len : length (numbers_of 8 count rest) ≡ count = length-numbers_of 8 count rest in
     let values : spelled 8 (numbers_of 8 count rest) ≡ rest = spelled-numbers_of 8 exact_8 count rest (eqb-true _ _ b.1) (AreBytes-drop 2 bytes are) in
     let P : List ℕ → Type 0 = λ xs. IsQueue xs × (snapshot_of xs ≡ bytes) in
-    subst P (same_some _ _ g.1) (
+    subst P (same_Some _ _ g.1) (
       IsQueue-numbers_of count rest (leb-true _ _ b.0) (AreBytes-drop 2 bytes are),
       together 2 exact_2 bytes (leb-true _ _ a.0) are (length (numbers_of 8 count rest))
           (spelled 8 (numbers_of 8 count rest)) len values,

@@ -1,13 +1,13 @@
 -- Registers as a table: how an operation is read, what is replied to it, and which values stand after it.
 -- Objects, of docs/PROTOCOL.md; Operations and replies, and Snapshots, of docs/FORMATS.md.
-use Rattle.std.specs.Prelude.{ℕ, Bool, ◌==◌, ◌&&◌, if◌then◌else◌, List, [], ◌∷◌, length, drop, slice_index, slice_set, Option, Some, None, is_some}
+use Rattle.std.specs.Prelude.{ℕ, Bool, ◌==◌, ◌&&◌, if◌then◌else◌, List, [], ◌∷◌, ◌++◌, length, drop, slice_index, slice_set, Option, Some, None, is_some}
 use Rattle.byteorder.specs.Endian.{big_bytes, big_number}
 use Rattle.ring_object.specs.Operations.{unreadable}
-use Rattle.ring_things.specs.declared.registers.Operation.{Operation}
-use Rattle.ring_things.specs.declared.registers.Operation.TheVariants.{Get, Put, CompareAndSet}
+use Rattle.ring_things.specs.declared.registers.Asked.{Asked}
+use Rattle.ring_things.specs.declared.registers.Asked.TheVariants.{Get, Put, CompareAndSet}
 
 -- the operation that these bytes are: a code, a key, and what the code asks for
-abbrev pub reading : List ℕ → Option Operation
+abbrev pub reading : List ℕ → Option Asked
 reading (code ∷ key ∷ rest) =
     if code == 1 && length rest == 0 then Some (Get key)
     else if code == 2 && length rest == 8 then Some (Put key (big_number 8 rest))
@@ -15,17 +15,23 @@ reading (code ∷ key ∷ rest) =
     else None
 reading _ = None
 
+-- the bytes of an operation
+abbrev pub spelling : Asked → List ℕ
+spelling (Get key) = 1 ∷ key ∷ []
+spelling (Put key value) = 2 ∷ key ∷ big_bytes 8 value
+spelling (CompareAndSet key expected new) = 3 ∷ key ∷ big_bytes 8 expected ++ big_bytes 8 new
+
 abbrev pub is_readable : List ℕ → Bool
 is_readable op = is_some (reading op)
 
-abbrev pub reply_to : List ℕ → Option Operation → List ℕ
+abbrev pub reply_to : List ℕ → Option Asked → List ℕ
 reply_to values (Some (Get key)) = 0 ∷ big_bytes 8 (slice_index values key)
 reply_to values (Some (Put key value)) = 0 ∷ []
 reply_to values (Some (CompareAndSet key expected new)) =
     if slice_index values key == expected then 0 ∷ [] else 1 ∷ big_bytes 8 (slice_index values key)
 reply_to values None = unreadable
 
-abbrev pub after : List ℕ → Option Operation → List ℕ
+abbrev pub after : List ℕ → Option Asked → List ℕ
 after values (Some (Get key)) = values
 after values (Some (Put key value)) = slice_set values key value
 after values (Some (CompareAndSet key expected new)) =

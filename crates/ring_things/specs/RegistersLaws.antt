@@ -8,11 +8,11 @@ use Rattle.ring_things.specs.Numbers.{big_number-lt}
 use Rattle.ring_things.specs.Replies.{code_fits, code_and_value_fits, AreBytes-rest, AreBytes-drop}
 use Rattle.ring_things.specs.Values.{IsValues, IsValues-set}
 use Rattle.ring_things.specs.Registers.{reading, is_readable, reply, next, reply_to, after}
-use Rattle.ring_things.specs.declared.registers.Operation.{Operation}
-use Rattle.ring_things.specs.declared.registers.Operation.TheVariants.{Get, Put, CompareAndSet}
+use Rattle.ring_things.specs.declared.registers.Asked.{Asked}
+use Rattle.ring_things.specs.declared.registers.Asked.TheVariants.{Get, Put, CompareAndSet}
 
 -- what is written fits a value
-abbrev Fits : Option Operation → Type 0
+abbrev Fits : Option Asked → Type 0
 Fits (Some (Put key value)) = value < 256 ^ 8
 Fits (Some (CompareAndSet key expected new)) = new < 256 ^ 8
 Fits _ = Unit {0}
@@ -26,7 +26,7 @@ reading_fits (code ∷ key ∷ rest) are =
     (λ _. cond_both (code == 2 && length rest == 8) _ _ Fits (λ _. big_number-lt 8 rest bytes)
     (λ _. cond_both (code == 3 && length rest == 16) _ _ Fits (λ _. big_number-lt 8 (drop 8 rest) (AreBytes-drop 8 rest bytes)) (λ _. tt)))
 
-after_kept : (values : List ℕ) (op : Option Operation) → Fits op → IsValues values → IsValues (after values op)
+after_kept : (values : List ℕ) (op : Option Asked) → Fits op → IsValues values → IsValues (after values op)
 after_kept values (Some (Get key)) fits is = is
 after_kept values (Some (Put key value)) fits is = IsValues-set values key value fits is
 after_kept values (Some (CompareAndSet key expected new)) fits is =
@@ -36,7 +36,7 @@ after_kept values None fits is = is
 pub next_kept : (values op : List ℕ) → AreBytes op → IsValues values → IsValues (next values op)
 next_kept values op are is = after_kept values (reading op) (reading_fits op are) is
 
-reply_fits : (values : List ℕ) (op : Option Operation) → IsReply (reply_to values op)
+reply_fits : (values : List ℕ) (op : Option Asked) → IsReply (reply_to values op)
 reply_fits values (Some (Get key)) = code_and_value_fits 0 (slice_index values key) (omega arith)
 reply_fits values (Some (Put key value)) = code_fits 0 (omega arith)
 reply_fits values (Some (CompareAndSet key expected new)) =

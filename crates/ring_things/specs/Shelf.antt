@@ -4,6 +4,15 @@ use Rattle.std.specs.Prelude.{ℕ, Bool, false, ◌==◌, nat_le, ◌&&◌, if�
 use Rattle.std.specs.Option.{option_and_then}
 use Rattle.byteorder.specs.Endian.{big_bytes, big_number}
 use Rattle.ring_object.specs.Operations.{unreadable}
+use Rattle.ring_things.specs.declared.shelf.Place.{Place}
+use Rattle.ring_things.specs.declared.shelf.Place.TheVariants.{First, Second, Third, Fourth}
+
+-- the number of the object that stands here
+abbrev pub number_of : Place → ℕ
+number_of First = 0
+number_of Second = 1
+number_of Third = 2
+number_of Fourth = 3
 
 -- the first byte names the object
 abbrev pub shelf_readable : (List ℕ → Bool) → (List ℕ → Bool) → (List ℕ → Bool) → (List ℕ → Bool) → List ℕ → Bool

@@ -4,12 +4,13 @@ use Rattle.std.proofs.Common.{[], ◌∷◌, ◌++◌, length, take, drop, Optio
 use Rattle.std.proofs.Common.{eqb-true, append_assoc}
 use Rattle.std.proofs.lemmas.Bool.{cond_both, cond-true, leb-true, le-leb, and_parts, and_from}
 use Rattle.std.proofs.lemmas.List.{length-append, length-take, take-append-drop, take_at, drop_at, nil_from_length, append-nil}
+use Rattle.std.proofs.lemmas.Option.{same_Some}
 use Rattle.byteorder.specs.Endian.{big_bytes, big_number}
 use Rattle.byteorder.specs.Numbers.{big_number-reads_back, length-bytes_high_first}
 use Rattle.ring_object.specs.Bytes.{AreBytes}
 use Rattle.ring_object.specs.Operations.{IsReply, unreadable}
 use Rattle.ring_object.specs.Snapshots.{Restores}
-use Rattle.ring_things.specs.Guards.{guarded, same_some, and_then_some}
+use Rattle.ring_things.specs.Guards.{guarded, and_then_some}
 use Rattle.ring_things.specs.Numbers.{IsExact, exact_8, big_bytes-big_number}
 use Rattle.ring_things.specs.Replies.{code_fits, AreBytes-rest, AreBytes-drop, AreBytes-take}
 use Rattle.ring_things.specs.Shelf.{shelf_readable, shelf_reply, shelf_next, sized, first_text, texts_of}
@@ -114,7 +115,7 @@ first_text-exact width exact bytes parts are is =
     let size : length (take number behind) ≡ number = omega (arith, length-take number behind, leb-true _ _ tests.1) in
     let behind_bytes = AreBytes-drop width bytes are in
     let Holds : List ℕ × List ℕ → Type 0 = λ x. IsFirst width bytes x in
-    subst Holds (same_some _ _ g.1) (record {
+    subst Holds (same_Some _ _ g.1) (record {
       whole = append_assoc (big_bytes width (length (take number behind))) (take number behind) (drop number behind)
           ∙ rw (size, take-append-drop number behind) (big_bytes-big_number width exact bytes (leb-true _ _ tests.0) are);
       text = AreBytes-take number behind behind_bytes;
@@ -170,7 +171,7 @@ texts_of-exact bytes texts are is =
     let none : s.0.1 ≡ [] = nil_from_length s.0.1 (eqb-true _ _ g.0) in
     let last : sized 8 s.0.0 ≡ r.0.1 = sym (append-nil (sized 8 s.0.0)) ∙ ap (λ x. sized 8 s.0.0 ++ x) (sym none) ∙ d.whole in
     let Holds : List ℕ × List ℕ × List ℕ × List ℕ → Type 0 = λ x. AreTexts bytes x in
-    subst Holds (same_some _ _ g.1) (record {
+    subst Holds (same_Some _ _ g.1) (record {
       whole = rw (last, c.whole, b.whole) a.whole;
       first = a.text;
       second = b.text;
@@ -179,7 +180,7 @@ texts_of-exact bytes texts are is =
     })
 
 both_some : {A B : Type 0} (a : Option A) (b : Option B) (x : A × B) → both_of a b ≡ Some x → (a ≡ Some x.0) × (b ≡ Some x.1)
-both_some {A} {B} (Some a) (Some b) x is = (ap Some (ap (λ (y : A × B). y.0) (same_some _ _ is)), ap Some (ap (λ (y : A × B). y.1) (same_some _ _ is)))
+both_some {A} {B} (Some a) (Some b) x is = (ap Some (ap (λ (y : A × B). y.0) (same_Some _ _ is)), ap Some (ap (λ (y : A × B). y.1) (same_Some _ _ is)))
 both_some (Some a) None x is = absurd cc
 both_some None b x is = absurd cc
 
@@ -189,7 +190,7 @@ module _ {P Q R S : Type 0} (IsP : P → Type 0) (IsQ : Q → Type 0) (IsR : R �
     (lp : Restores IsP sp rp) (lq : Restores IsQ sq rq) (lr : Restores IsR sr rr) (ls : Restores IsS ss rs) where
   four_some : (pairs : Option ((P × Q) × (R × S))) (objects : P × Q × R × S) → four_of pairs ≡ Some objects
       → pairs ≡ Some ((objects.0, objects.1), (objects.2, objects.3))
-  four_some (Some x) objects is = ap Some (ap (λ (y : P × Q × R × S). ((y.0, y.1), (y.2, y.3))) (same_some _ _ is))
+  four_some (Some x) objects is = ap Some (ap (λ (y : P × Q × R × S). ((y.0, y.1), (y.2, y.3))) (same_Some _ _ is))
   four_some None objects is = absurd cc
 
   same : (objects : P × Q × R × S) → AreContents IsP IsQ IsR IsS objects → length (shelf_snapshot sp sq sr ss objects)

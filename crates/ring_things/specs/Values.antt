@@ -3,10 +3,11 @@ use Rattle.std.proofs.Common.{◌≡◌, ℕ, ◌*◌, ◌^◌, ◌<◌, ◌==�
 use Rattle.std.proofs.Common.{replicate, Option, Some, None, sym, ap, ◌∙◌, subst, arith, eqb-true, eq-eqb}
 use Rattle.std.proofs.lemmas.Bool.{cond-true}
 use Rattle.std.proofs.lemmas.List.{length-replicate}
+use Rattle.std.proofs.lemmas.Option.{same_Some}
 use Rattle.std.proofs.lemmas.List.Elements.{All-set, All-replicate}
 use Rattle.ring_object.specs.Bytes.{AreBytes}
 use Rattle.ring_object.specs.Snapshots.{Restores}
-use Rattle.ring_things.specs.Guards.{guarded, same_some}
+use Rattle.ring_things.specs.Guards.{guarded}
 use Rattle.ring_things.specs.Numbers.{spelled, numbers_of, AreNumbers, exact_8, length-spelled, length-numbers_of}
 use Rattle.ring_things.specs.Numbers.{AreNumbers-numbers_of, numbers_of-spelled, spelled-numbers_of}
 
@@ -40,7 +41,7 @@ only : (bytes values : List ℕ) → AreBytes bytes → values_of bytes ≡ Some
 only bytes values are is =
     let g = guarded (length bytes == 8 * keys) (Some (numbers_of 8 keys bytes)) values is in
     let P : List ℕ → Type 0 = λ v. IsValues v × (spelled 8 v ≡ bytes) in
-    subst P (same_some _ _ g.1) (IsValues-numbers_of bytes are, spelled-numbers_of 8 exact_8 256 bytes (eqb-true _ _ g.0) are)
+    subst P (same_Some _ _ g.1) (IsValues-numbers_of bytes are, spelled-numbers_of 8 exact_8 256 bytes (eqb-true _ _ g.0) are)
 
 pub values_restore : Restores IsValues (λ values. spelled 8 values) values_of
 values_restore = record { same = λ values is short. restored values is; only = only }

@@ -1,8 +1,9 @@
 //! Counters: a count for each of 256 keys, that is added to and read.
 
-ghost use Rattle.std.specs.Prelude.{◌≡◌};
-ghost use Rattle.ring_things.specs.Counters.{reading};
+ghost use Rattle.std.specs.Prelude.{◌≡◌, Some};
+ghost use Rattle.ring_things.specs.Counters.{reading, spelling};
 
+use crate::operations::{Operation, keyed, keyed_with};
 use crate::replies::{Outcome, reply, reply_with};
 use crate::values::Values;
 use byteorder::{BigEndian, ByteOrder};
@@ -66,15 +67,15 @@ impl<A: Allocator + Copy + Drop> Object for Counters<A> {
     }
 
     fn apply(&mut self, op: &[u8]) -> Result<Reply, Fault> {
-        Ok(match Operation::read(op) {
-            Some(Operation::Add(key, amount)) => match self.counts.get(key).checked_add(amount) {
+        Ok(match Asked::read(op) {
+            Some(Asked::Add(key, amount)) => match self.counts.get(key).checked_add(amount) {
                 Some(count) => {
                     self.counts.set(key, count);
                     reply_with(Outcome::Done, count)
                 }
                 None => reply(Outcome::NotDone),
             },
-            Some(Operation::Read(key)) => reply_with(Outcome::Done, self.counts.get(key)),
+            Some(Asked::Read(key)) => reply_with(Outcome::Done, self.counts.get(key)),
             None => reply(Outcome::Unreadable),
         })
     }
@@ -89,24 +90,46 @@ impl<A: Allocator + Copy + Drop> Object for Counters<A> {
     }
 }
 
+/// The operations of counters.
+impl Counters {
+    ghost use Rattle.ring_things.specs.declared.counters.Asked.TheVariants.{Add, Read};
+
+    /// Add this amount to the count under this key: `01`, the key, and the amount in 8 bytes.
+    #[tactic(auto, using(crate::proofs::OperationsRead::add_read))]
+    pub fn add(key: u8, amount: u64) -> Operation
+        ensures bytes { result ≡ spelling (Add key amount) }
+        ensures read { reading result ≡ Some (Add key amount) }
+    {
+        keyed_with(1, key, amount)
+    }
+
+    /// Read the count under this key: `02` and the key.
+    pub fn read(key: u8) -> Operation
+        ensures bytes { result ≡ spelling (Read key) }
+        ensures read { reading result ≡ Some (Read key) }
+    {
+        keyed(2, key)
+    }
+}
+
 /// What may be asked of counters.
-enum Operation {
+enum Asked {
     /// To the count under this key, this amount.
     Add(u8, u64),
     /// Under this key.
     Read(u8),
 }
 
-impl Operation {
-    fn read(op: &[u8]) -> Option<Operation>
+impl Asked {
+    fn read(op: &[u8]) -> Option<Asked>
         ensures { result ≡ reading op.now }
     {
         let [code, key, rest @ ..] = op else {
             return None;
         };
         match (*code, rest.len()) {
-            (1, 8) => Some(Operation::Add(*key, BigEndian::read_u64(rest))),
-            (2, 0) => Some(Operation::Read(*key)),
+            (1, 8) => Some(Asked::Add(*key, BigEndian::read_u64(rest))),
+            (2, 0) => Some(Asked::Read(*key)),
             _ => None,
         }
     }

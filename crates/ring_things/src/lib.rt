@@ -9,6 +9,7 @@
 mod counters;
 mod names;
 mod numbers;
+mod operations;
 mod queue;
 mod registers;
 mod replies;
@@ -17,6 +18,8 @@ mod values;
 
 pub use counters::Counters;
 pub use names::Names;
+pub use operations::{Operation, ShelfOperation};
 pub use queue::Queue;
 pub use registers::Registers;
-pub use shelf::Shelf;
+pub use replies::{Outcome, Replied, reply, reply_with};
+pub use shelf::{Place, Shelf};

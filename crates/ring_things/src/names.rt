@@ -1,12 +1,13 @@
 //! A set of names.
 
-ghost use Rattle.std.specs.Prelude.{◌≡◌, ◌<◌, ◌≤◌, true, suc, [], ◌++◌, length, take, drop, All, vec_len};
+ghost use Rattle.std.specs.Prelude.{◌≡◌, ◌<◌, ◌≤◌, true, suc, [], ◌∷◌, ◌++◌, length, take, drop, All, vec_len};
 ghost use Rattle.std.specs.Prelude.{Some, is_some, IfSome, IfOk, IfErr, OnOk, OnErr};
 ghost use Rattle.std.specs.Ordering.{is_lt};
-ghost use Rattle.ring_things.specs.Names.{most, reading, by_bytes, AreAscending, IsName, IsFound, IsMissing};
+ghost use Rattle.ring_things.specs.Names.{most, reading, spelling, by_bytes, AreAscending, IsName, IsFound, IsMissing};
 ghost use Rattle.ring_things.specs.Names.{next_name as name_at, names_of, snapshot_of};
 ghost use Rattle.ring_things.specs.NamesLaws.{Fits};
 
+use crate::operations::{Operation, headed};
 use crate::replies::{Outcome, reply};
 use byteorder::{BigEndian, ByteOrder};
 use ring_base::Fault;
@@ -17,8 +18,11 @@ use std::marker::Model;
 /// How many names a set may hold.
 const MOST: usize = 1024;
 
+/// The greatest length of a name.
+const LONGEST: usize = 64;
+
 /// A name, 1 to 64 bytes.
-type Name = Short<64>;
+type Name = Short<LONGEST>;
 
 /// A set of at most 1,024 names of 1 to 64 bytes, at the start none. A name is found in logarithmic time.
 ///
@@ -80,13 +84,13 @@ impl<A: Allocator + Copy + Drop> Object for Names<A> {
     }
 
     fn apply(&mut self, op: &[u8]) -> Result<Reply, Fault> {
-        let Some(operation) = Operation::read(op) else {
+        let Some(operation) = Asked::read(op) else {
             return Ok(reply(Outcome::Unreadable));
         };
         match operation {
-            Operation::Insert(name) => self.insert(name),
-            Operation::Remove(name) => Ok(self.remove(&name)),
-            Operation::Has(name) => Ok(self.has(&name)),
+            Asked::Insert(name) => self.put_in(name),
+            Asked::Remove(name) => Ok(self.take_out(&name)),
+            Asked::Has(name) => Ok(self.reply_of(&name)),
         }
     }
 
@@ -115,10 +119,10 @@ impl<A: Allocator + Copy + Drop> Object for Names<A> {
 
 impl<A: Allocator + Copy + Drop> Names<A> {
     ghost use Rattle.ring_things.specs.Names.{reply_to, after};
-    ghost use Rattle.ring_things.specs.declared.names.Operation.TheVariants.{Insert, Remove, Has};
+    ghost use Rattle.ring_things.specs.declared.names.Asked.TheVariants.{Insert, Remove, Has};
 
     /// Puts the name into the set, if there is room.
-    fn insert(&mut self, name: Name) -> Result<Reply, Fault>
+    fn put_in(&mut self, name: Name) -> Result<Reply, Fault>
         requires { IsName name }
         ensures reply { IfOk result (λ r. r ≡ reply_to self.old (Some (Insert name))) }
         ensures ok { OnOk result (self.new ≡ after self.old (Some (Insert name))) }
@@ -138,7 +142,7 @@ impl<A: Allocator + Copy + Drop> Names<A> {
     }
 
     /// Takes the name out of the set.
-    fn remove(&mut self, name: &Name) -> Reply
+    fn take_out(&mut self, name: &Name) -> Reply
         ensures reply { result ≡ reply_to self.old (Some (Remove name.now)) }
         ensures after { self.new ≡ after self.old (Some (Remove name.now)) }
     {
@@ -152,7 +156,7 @@ impl<A: Allocator + Copy + Drop> Names<A> {
     }
 
     /// Whether the name is in the set.
-    fn has(&self, name: &Name) -> Reply
+    fn reply_of(&self, name: &Name) -> Reply
         ensures { result ≡ reply_to self.now (Some (Has name.now)) }
     {
         match place_of(self.names.as_slice(), name) {
@@ -162,29 +166,82 @@ impl<A: Allocator + Copy + Drop> Names<A> {
     }
 }
 
+/// The operations of a set of names. A name has 1 to 64 bytes: exactly one of more is refused, with `OpTooLong`.
+impl Names {
+    ghost use Rattle.ring_things.specs.declared.names.Asked.TheVariants.{Insert, Remove, Has};
+
+    /// Put this name into the set: `01` and the name.
+    #[tactic(auto, using(crate::proofs::OperationsRead::named_read))]
+    pub fn insert(name: &[u8]) -> Result<Operation, Fault>
+        requires { 1 ≤ length name.now }
+        ensures bytes { IfOk result (λ op. op ≡ spelling (Insert name.now)) }
+        ensures read { IfOk result (λ op. reading op ≡ Some (Insert name.now)) }
+        ensures short { OnOk result (length name.now ≤ 64) }
+        ensures long { IfErr result (λ fault. (64 < length name.now) × (fault ≡ Fault.OpTooLong)) }
+    {
+        named(1, name)
+    }
+
+    /// Take this name out of the set: `02` and the name.
+    #[tactic(auto, using(crate::proofs::OperationsRead::named_read))]
+    pub fn remove(name: &[u8]) -> Result<Operation, Fault>
+        requires { 1 ≤ length name.now }
+        ensures bytes { IfOk result (λ op. op ≡ spelling (Remove name.now)) }
+        ensures read { IfOk result (λ op. reading op ≡ Some (Remove name.now)) }
+        ensures short { OnOk result (length name.now ≤ 64) }
+        ensures long { IfErr result (λ fault. (64 < length name.now) × (fault ≡ Fault.OpTooLong)) }
+    {
+        named(2, name)
+    }
+
+    /// Ask whether this name is in the set: `03` and the name.
+    #[tactic(auto, using(crate::proofs::OperationsRead::named_read))]
+    pub fn has(name: &[u8]) -> Result<Operation, Fault>
+        requires { 1 ≤ length name.now }
+        ensures bytes { IfOk result (λ op. op ≡ spelling (Has name.now)) }
+        ensures read { IfOk result (λ op. reading op ≡ Some (Has name.now)) }
+        ensures short { OnOk result (length name.now ≤ 64) }
+        ensures long { IfErr result (λ fault. (64 < length name.now) × (fault ≡ Fault.OpTooLong)) }
+    {
+        named(3, name)
+    }
+}
+
+/// A code and a name; `OpTooLong` where the name is too long.
+fn named(code: u8, name: &[u8]) -> Result<Operation, Fault>
+    ensures bytes { IfOk result (λ op. op ≡ code ∷ name.now) }
+    ensures short { OnOk result (length name.now ≤ 64) }
+    ensures long { IfErr result (λ fault. (64 < length name.now) × (fault ≡ Fault.OpTooLong)) }
+{
+    if name.len() > LONGEST {
+        return Err(Fault::OpTooLong);
+    }
+    Ok(headed(code, name))
+}
+
 /// What may be asked of a set of names.
-enum Operation {
+enum Asked {
     Insert(Name),
     Remove(Name),
     Has(Name),
 }
 
-impl Operation {
-    fn read(op: &[u8]) -> Option<Operation>
+impl Asked {
+    fn read(op: &[u8]) -> Option<Asked>
         ensures value { result ≡ reading op.now }
         ensures fits { Fits result }
     {
         let [code, name @ ..] = op else {
             return None;
         };
-        if name.is_empty() || name.len() > 64 {
+        if name.is_empty() || name.len() > LONGEST {
             return None;
         }
         let name = Name::from_slice(name);
         match *code {
-            1 => Some(Operation::Insert(name)),
-            2 => Some(Operation::Remove(name)),
-            3 => Some(Operation::Has(name)),
+            1 => Some(Asked::Insert(name)),
+            2 => Some(Asked::Remove(name)),
+            3 => Some(Asked::Has(name)),
             _ => None,
         }
     }
@@ -214,7 +271,7 @@ fn next_name(last: &Name, bytes: &[u8]) -> Option<Name>
         return None;
     };
     let len = *len as usize;
-    if len < 1 || len > 64 || len > rest.len() {
+    if len < 1 || len > LONGEST || len > rest.len() {
         return None;
     }
     let name = Name::from_slice(&rest[..len]);

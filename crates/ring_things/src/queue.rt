@@ -1,9 +1,10 @@
 //! A queue: values that come out in the order in which they went in.
 
-ghost use Rattle.std.specs.Prelude.{◌≡◌, ◌+◌, ◌*◌, ◌≤◌, ◌++◌, length, IfOk, IfErr, OnOk};
-ghost use Rattle.ring_things.specs.Queue.{reading};
+ghost use Rattle.std.specs.Prelude.{◌≡◌, ◌+◌, ◌*◌, ◌≤◌, ◌++◌, length, Some, IfOk, IfErr, OnOk};
+ghost use Rattle.ring_things.specs.Queue.{reading, spelling};
 
 use crate::numbers::{append_numbers, read_numbers};
+use crate::operations::Operation;
 use crate::replies::{Outcome, reply, reply_with};
 use byteorder::{BigEndian, ByteOrder};
 use ring_base::Fault;
@@ -74,19 +75,19 @@ impl<A: Allocator + Copy + Drop> Object for Queue<A> {
     }
 
     fn apply(&mut self, op: &[u8]) -> Result<Reply, Fault> {
-        Ok(match Operation::read(op) {
-            Some(Operation::Push(value)) => {
+        Ok(match Asked::read(op) {
+            Some(Asked::Push(value)) => {
                 if self.items.len() == MOST {
                     return Ok(reply(Outcome::NotDone));
                 }
                 self.items.push_back(value)?;
                 reply(Outcome::Done)
             }
-            Some(Operation::Pop) => match self.items.pop_front() {
+            Some(Asked::Pop) => match self.items.pop_front() {
                 Some(value) => reply_with(Outcome::Done, value),
                 None => reply(Outcome::NotDone),
             },
-            Some(Operation::Count) => reply_with(Outcome::Done, self.items.len() as u64),
+            Some(Asked::Count) => reply_with(Outcome::Done, self.items.len() as u64),
             None => reply(Outcome::Unreadable),
         })
     }
@@ -117,25 +118,57 @@ impl<A: Allocator + Copy + Drop> Object for Queue<A> {
     }
 }
 
+/// The operations of a queue.
+impl Queue {
+    ghost use Rattle.ring_things.specs.declared.queue.Asked.TheVariants.{Push, Pop, Count};
+
+    /// Put this value last: `01` and the value in 8 bytes.
+    #[tactic(auto, using(crate::proofs::OperationsRead::push_read))]
+    pub fn push(value: u64) -> Operation
+        ensures bytes { result ≡ spelling (Push value) }
+        ensures read { reading result ≡ Some (Push value) }
+    {
+        let mut bytes = [1; 9];
+        BigEndian::write_u64(&mut bytes[1..], value);
+        Operation::from_slice(&bytes)
+    }
+
+    /// Take the first value out: `02`.
+    pub fn pop() -> Operation
+        ensures bytes { result ≡ spelling Pop }
+        ensures read { reading result ≡ Some Pop }
+    {
+        Operation::from_slice(&[2])
+    }
+
+    /// How many values there are: `03`.
+    pub fn length() -> Operation
+        ensures bytes { result ≡ spelling Count }
+        ensures read { reading result ≡ Some Count }
+    {
+        Operation::from_slice(&[3])
+    }
+}
+
 /// What may be asked of a queue.
-enum Operation {
+enum Asked {
     /// This value.
     Push(u64),
     Pop,
     Count,
 }
 
-impl Operation {
-    fn read(op: &[u8]) -> Option<Operation>
+impl Asked {
+    fn read(op: &[u8]) -> Option<Asked>
         ensures { result ≡ reading op.now }
     {
         let [code, rest @ ..] = op else {
             return None;
         };
         match (*code, rest.len()) {
-            (1, 8) => Some(Operation::Push(BigEndian::read_u64(rest))),
-            (2, 0) => Some(Operation::Pop),
-            (3, 0) => Some(Operation::Count),
+            (1, 8) => Some(Asked::Push(BigEndian::read_u64(rest))),
+            (2, 0) => Some(Asked::Pop),
+            (3, 0) => Some(Asked::Count),
             _ => None,
         }
     }

@@ -1,8 +1,9 @@
 //! Registers: a value for each of 256 keys, that is read, put, or put where it is as expected.
 
-ghost use Rattle.std.specs.Prelude.{◌≡◌};
-ghost use Rattle.ring_things.specs.Registers.{reading};
+ghost use Rattle.std.specs.Prelude.{◌≡◌, Some};
+ghost use Rattle.ring_things.specs.Registers.{reading, spelling};
 
+use crate::operations::{Operation, keyed, keyed_with};
 use crate::replies::{Outcome, reply, reply_with};
 use crate::values::Values;
 use byteorder::{BigEndian, ByteOrder};
@@ -67,13 +68,13 @@ impl<A: Allocator + Copy + Drop> Object for Registers<A> {
     }
 
     fn apply(&mut self, op: &[u8]) -> Result<Reply, Fault> {
-        Ok(match Operation::read(op) {
-            Some(Operation::Get(key)) => reply_with(Outcome::Done, self.values.get(key)),
-            Some(Operation::Put(key, value)) => {
+        Ok(match Asked::read(op) {
+            Some(Asked::Get(key)) => reply_with(Outcome::Done, self.values.get(key)),
+            Some(Asked::Put(key, value)) => {
                 self.values.set(key, value);
                 reply(Outcome::Done)
             }
-            Some(Operation::CompareAndSet(key, expected, new)) => {
+            Some(Asked::CompareAndSet(key, expected, new)) => {
                 let value = self.values.get(key);
                 if value != expected {
                     return Ok(reply_with(Outcome::NotDone, value));
@@ -95,8 +96,43 @@ impl<A: Allocator + Copy + Drop> Object for Registers<A> {
     }
 }
 
+/// The operations of registers.
+impl Registers {
+    ghost use Rattle.ring_things.specs.declared.registers.Asked.TheVariants.{Get, Put, CompareAndSet};
+
+    /// Get the value under this key: `01` and the key.
+    pub fn get(key: u8) -> Operation
+        ensures bytes { result ≡ spelling (Get key) }
+        ensures read { reading result ≡ Some (Get key) }
+    {
+        keyed(1, key)
+    }
+
+    /// Put this value under this key: `02`, the key, and the value in 8 bytes.
+    #[tactic(auto, using(crate::proofs::OperationsRead::put_read))]
+    pub fn put(key: u8, value: u64) -> Operation
+        ensures bytes { result ≡ spelling (Put key value) }
+        ensures read { reading result ≡ Some (Put key value) }
+    {
+        keyed_with(2, key, value)
+    }
+
+    /// Put the new value under this key where the expected one stands: `03`, the key, and both values in 8 bytes each.
+    #[tactic(auto, using(crate::proofs::OperationsRead::compare_and_set_read))]
+    pub fn compare_and_set(key: u8, expected: u64, new: u64) -> Operation
+        ensures bytes { result ≡ spelling (CompareAndSet key expected new) }
+        ensures read { reading result ≡ Some (CompareAndSet key expected new) }
+    {
+        let mut bytes = [3; 18];
+        bytes[1] = key;
+        BigEndian::write_u64(&mut bytes[2..], expected);
+        BigEndian::write_u64(&mut bytes[10..], new);
+        Operation::from_slice(&bytes)
+    }
+}
+
 /// What may be asked of registers.
-enum Operation {
+enum Asked {
     /// Under this key.
     Get(u8),
     /// Under this key, this value.
@@ -105,20 +141,20 @@ enum Operation {
     CompareAndSet(u8, u64, u64),
 }
 
-impl Operation {
-    fn read(op: &[u8]) -> Option<Operation>
+impl Asked {
+    fn read(op: &[u8]) -> Option<Asked>
         ensures { result ≡ reading op.now }
     {
         let [code, key, rest @ ..] = op else {
             return None;
         };
         match (*code, rest.len()) {
-            (1, 0) => Some(Operation::Get(*key)),
-            (2, 8) => Some(Operation::Put(*key, BigEndian::read_u64(rest))),
+            (1, 0) => Some(Asked::Get(*key)),
+            (2, 8) => Some(Asked::Put(*key, BigEndian::read_u64(rest))),
             (3, 16) => {
                 let expected = BigEndian::read_u64(rest);
                 let new = BigEndian::read_u64(&rest[8..]);
-                Some(Operation::CompareAndSet(*key, expected, new))
+                Some(Asked::CompareAndSet(*key, expected, new))
             }
             _ => None,
         }

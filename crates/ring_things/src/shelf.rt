@@ -1,11 +1,12 @@
 //! Four objects as one.
 
-ghost use Rattle.std.specs.Prelude.{◌≡◌, ◌++◌, take, Option, IfErr, OnOk, OnErr, vec_len};
+ghost use Rattle.std.specs.Prelude.{◌≡◌, ◌∷◌, ◌++◌, take, Option, IfErr, OnOk, OnErr, vec_len};
 ghost use Rattle.std.specs.Option.{option_map};
 ghost use Rattle.ring_object.specs.Snapshots.{IsRestored};
-ghost use Rattle.ring_things.specs.Shelf.{sized, first_text, texts_of, shelf_snapshot, both_of};
+ghost use Rattle.ring_things.specs.Shelf.{number_of, sized, first_text, texts_of, shelf_snapshot, both_of};
 ghost use Rattle.ring_things.specs.ShelfLaws.{AreContents};
 
+use crate::operations::{Operation, ShelfOperation, headed};
 use crate::replies::{Outcome, reply};
 use byteorder::{BigEndian, ByteOrder};
 use ring_base::Fault;
@@ -128,6 +129,24 @@ impl<
             third,
             fourth,
         })
+    }
+}
+
+/// Where an object stands on a shelf.
+#[derive(Clone, Copy, Debug, PartialEq, Eq)]
+pub enum Place {
+    First = 0,
+    Second = 1,
+    Third = 2,
+    Fourth = 3,
+}
+
+impl Place {
+    /// This operation of the object that stands here: the object's number in a byte, and its operation.
+    pub fn operation(self, operation: &Operation) -> ShelfOperation
+        ensures { result ≡ number_of self ∷ operation.now }
+    {
+        headed(self as u8, operation.as_slice())
     }
 }
 

@@ -6,6 +6,7 @@ use Rattle.std.specs.List.{AllByRecursion}
 use Rattle.std.specs.List.Sorted.{IsStrictlyIncreasing}
 use Rattle.std.proofs.lemmas.Bool.{cases_lt, cond_both, cond-true, cond-false, lt-ltb, le-ltb, eq-eqb, ne_eqb}
 use Rattle.ring_base.specs.Numbers.{insert_ascending, merged}
+use Rattle.ring_base.proofs.ListFronts.{take-nil}
 use Rattle.ring_token.specs.Requesting.{least_first, after}
 use Rattle.ring_wire.specs.Ascending.{IsStrictlyIncreasing-rest}
 
@@ -209,13 +210,9 @@ all_taken sofar xs ys all l t =
     let e : 32 - length sofar ≡ 0 = omega arith in
     sym (append-nil sofar) ∙ ap (λ k. sofar ++ take k (merged xs ys)) (sym e) ∙ t.is
 
-take_nothing : (n : ℕ) → take {A = ℕ} n [] ≡ []
-take_nothing zero = refl
-take_nothing (suc n) = refl
-
 pub none_left : (sofar xs ys all : List ℕ) → least_first xs ys ≡ None → AreTaken sofar xs ys all → sofar ≡ all
 none_left sofar xs ys all e t =
-    sym (append-nil sofar) ∙ ap (λ k. sofar ++ k) (sym (take_nothing (32 - length sofar)))
+    sym (append-nil sofar) ∙ ap (λ k. sofar ++ k) (sym (take-nil (32 - length sofar)))
     ∙ ap (λ k. sofar ++ take (32 - length sofar) k) (sym (nothing_left xs ys e)) ∙ t.is
 
 pub begun : (stays missing : List ℕ) → IsStrictlyIncreasing stays → AreTaken [] stays missing (take 32 (merged stays missing))

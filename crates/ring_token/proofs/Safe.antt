@@ -1,6 +1,8 @@
--- The safe lemma. After a visit that forwarded an aru of at least s, either all fronts since reach s and so does the
--- aru, or the aru is below s and is held back by a member that had its turn since. In the second case nobody else may
--- raise it, so after a whole round it is still below s: where it is not, all fronts reach s.
+-- The safe lemma: what a visit forwarded as an aru, and a whole round did not lower, all fronts reach.
+
+-- After a visit that forwarded an aru of at least s, either all fronts since reach s and so does the aru, or the aru
+-- is below s and is held back by a member that had its turn since. In the second case nobody else may raise it, so
+-- after a whole round it is still below s: where it is not, all fronts reach s.
 use Rattle.std.proofs.Common.{◌≡◌, ℕ, suc, ◌+◌, ◌-◌, ◌<◌, ◌≤◌, min, ◌==◌, ◌⊎◌, inl, inr, Option, Some, List, [], ◌∷◌}
 use Rattle.std.proofs.Common.{◌++◌, length, length-append, refl, sym, ap, subst, arith, ◌∙◌, eqb-true}
 use Rattle.std.specs.List.{AllByRecursion}
@@ -11,7 +13,7 @@ use Rattle.ring_wire.specs.declared.token.Token.{Token}
 use Rattle.ring_token.specs.Turns.{mark_by, mark_after}
 use Rattle.ring_token.specs.Visits.{aru_after, aru_id_after}
 use Rattle.ring_token.specs.Rounds.{VisitBy, arrived, IsNext, AreVisits, forwarded_by, HaveGrown, MarksAreSafe, PairsAreSafe}
-use Rattle.ring_base.proofs.Turning.{member_of, turns_differ, turns_differ_at, turns_return, turns_reach}
+use Rattle.ring_base.proofs.TurnsRound.{member_of, turns_differ, turns_differ_at, turns_return, turns_reach}
 use Rattle.ring_token.proofs.Arus.{Sets, Stays, aru_step}
 
 -- none of these members lacked a number up to s

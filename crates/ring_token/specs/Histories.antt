@@ -48,7 +48,7 @@ last_aru [] = 0
 last_aru (v ∷ turns) = v.went.aru
 
 -- it is all of one ring, and the three numbers kept are what they should be
-pub record IsKept {A : Type 0} (h : TokenHistory A) (next aru safe : ℕ) : Type 0 where
+pub record IsTokenKept {A : Type 0} (h : TokenHistory A) (next aru safe : ℕ) : Type 0 where
   pub turns_in : AllByRecursion (λ (v : Turn A). v.came.ring ≡ h.ring) h.turns
   pub raises_in : AllByRecursion (λ (x : Raise). x.ring ≡ h.ring) h.raises
   pub next_is : next ≡ next_number h.turns

@@ -43,13 +43,13 @@ pub struct Visit<A: Allocator + Copy = Global> {
 
 impl<A: Allocator + Copy> Model for Visit<A> {
     ghost use Rattle.std.specs.Prelude.{◌≡◌};
-    ghost use Rattle.ring_token.specs.Histories.{TokenHistory as OneHistory, IsKept};
+    ghost use Rattle.ring_token.specs.Histories.{TokenHistory as OneHistory, IsTokenKept};
 
     ghost Value = { OneHistory A };
 
     ghost view = { λ v. v.past.value };
 
-    ghost invariant = { λ v. (v.me ≡ v.past.value.me) × (v.ring ≡ v.past.value.ring) × IsKept v.past.value v.next v.aru v.safe };
+    ghost invariant = { λ v. (v.me ≡ v.past.value.me) × (v.ring ≡ v.past.value.ring) × IsTokenKept v.past.value v.next v.aru v.safe };
 }
 
 impl<A: Allocator + Copy> Visit<A> {

@@ -5,14 +5,15 @@ use Rattle.std.specs.Prelude.{not, slice_index}
 use Rattle.std.proofs.lemmas.Bool.{cases_lt, cond-true, cond-false}
 use Rattle.std.proofs.lemmas.List.{append-nil, ext_get_or, length_push}
 use Rattle.ring_base.specs.Numbers.{numbers_from, word_of}
+use Rattle.ring_base.proofs.ListFronts.{take-nil}
 use Rattle.ring_wire.specs.declared.message.Message.{Message}
 use Rattle.ring_window.specs.Bits.{is_set, IsFirstClear, bytes_of, held_bits}
 use Rattle.ring_window.specs.Held.{holds, front_of}
 use Rattle.ring_window.specs.Windows.{Windowed, first_missing}
 use Rattle.ring_window.specs.Places.{IsWindow}
 use Rattle.ring_window.proofs.Bits.{byte_at}
-use Rattle.ring_window.proofs.Fronts.{front_is}
-use Rattle.ring_window.proofs.Words.{word_of-same}
+use Rattle.ring_window.proofs.HeldFront.{front_is}
+use Rattle.ring_window.proofs.WordBits.{word_of-same}
 
 -- numbers that don't pass are left out
 passed : (p : ℕ → Bool) (first count k : ℕ) → k ≤ count → ((n : ℕ) → first ≤ n → n < first + k → p n ≡ false)
@@ -60,7 +61,7 @@ pub record IsCounted {A : Type 0} (w : Windowed A) (words : List ℕ) (upto end 
   pub clear : is_set words offset ≡ false
   pub so_far : found ++ take (32 - length found) (lacks w offset (end - offset)) ≡ first_missing w upto
 
-length-bytes_of : (test : ℕ → Bool) (first count : ℕ) → length (bytes_of test first count) ≡ count
+pub length-bytes_of : (test : ℕ → Bool) (first count : ℕ) → length (bytes_of test first count) ≡ count
 length-bytes_of test first zero = refl
 length-bytes_of test first (suc count) = ap suc (length-bytes_of test (first + 8) count)
 
@@ -127,16 +128,12 @@ module _ {A : Type 0} (w : Windowed A) (front top : ℕ) (words : List ℕ) (pla
       ) in i.bits (front - w.mark + 8 * k + j) ∙ ap (λ n. holds w.held w.ring n) e))
       ∙ sym (byte_at (holds w.held w.ring) first 32 k (omega arith)))
 
-take_nil : (k : ℕ) → take {A = ℕ} k [] ≡ []
-take_nil zero = refl
-take_nil (suc k) = refl
-
 -- it ends at the limit, or with as many as a token may ask for
 pub counted_all : {A : Type 0} (w : Windowed A) (words : List ℕ) (upto end offset : ℕ) (found : List ℕ) → IsCounted w words upto end offset found
     → end ≤ offset → found ≡ first_missing w upto
 counted_all w words upto end offset found c l =
     let n : end - offset ≡ 0 = omega arith in
-    sym (append-nil found) ∙ sym (ap (λ xs. found ++ xs) (take_nil (32 - length found)))
+    sym (append-nil found) ∙ sym (ap (λ xs. found ++ xs) (take-nil (32 - length found)))
     ∙ sym (ap (λ q. found ++ take (32 - length found) (lacks w offset q)) n) ∙ c.so_far
 
 pub counted_full : {A : Type 0} (w : Windowed A) (words : List ℕ) (upto end offset : ℕ) (found : List ℕ) → IsCounted w words upto end offset found

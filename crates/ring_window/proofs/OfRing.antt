@@ -36,7 +36,7 @@ holds_of_ring (x ∷ held) ring n = elim (cases_Bool (same_ring x.ring ring)) [
   | inr e ↦ rw (cond-false (same_ring x.ring ring) (x ∷ of_ring ring held) (of_ring ring held) e, holds_of_ring held ring n, e) refl
 ]
 
-all_of_ring : {A : Type 0} (held : List (Message A)) (ring : RingId) → holds (of_ring ring held) ring ≡ holds held ring
+pub all_of_ring : {A : Type 0} (held : List (Message A)) (ring : RingId) → holds (of_ring ring held) ring ≡ holds held ring
 all_of_ring held ring = fun_ext (λ n. holds_of_ring held ring n)
 
 pub highest_of_ring : {A : Type 0} (held : List (Message A)) (ring : RingId) → highest (of_ring ring held) ring ≡ highest held ring
@@ -59,3 +59,6 @@ missing_of_ring held ring mark upto =
 pub held_bits_of_ring : {A : Type 0} (held : List (Message A)) (ring : RingId) → held_bits (of_ring ring held) ring ≡ held_bits held ring
 held_bits_of_ring held ring = ap (λ (p : ℕ → Bool). bytes_of p (front_of (of_ring ring held) ring + 1) 32) (all_of_ring held ring)
     ∙ ap (λ n. bytes_of (holds held ring) (n + 1) 32) (front_of_ring held ring)
+
+pub all_found : {A : Type 0} (held : List (Message A)) (ring : RingId) → found (of_ring ring held) ring ≡ found held ring
+all_found held ring = fun_ext (λ n. found_of_ring held ring n)

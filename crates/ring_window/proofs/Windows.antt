@@ -13,7 +13,7 @@ use Rattle.ring_window.specs.Bits.{is_set, IsFirstClear}
 use Rattle.ring_window.specs.Held.{is_numbered, found, holds, of_ring, highest, is_new, IsFrontIn}
 use Rattle.ring_window.specs.Windows.{Windowed, opened, takes, kept}
 use Rattle.ring_window.specs.Places.{place_of, in_place, IsWindow}
-use Rattle.ring_window.proofs.Fronts.{front_is, front_only, highest_covers}
+use Rattle.ring_window.proofs.HeldFront.{front_is, front_only, highest_covers}
 
 -- ---- what is found is held
 

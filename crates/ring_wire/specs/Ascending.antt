@@ -11,7 +11,7 @@ ascends low high [] = true
 ascends low high (x ∷ xs) = nat_lt low x && (nat_le x high && ascends x high xs)
 
 -- above low, and not above high
-abbrev Between : ℕ → ℕ → ℕ → Type 0
+abbrev pub Between : ℕ → ℕ → ℕ → Type 0
 Between low high x = (low < x) × (x ≤ high)
 
 from_lower : (a b high : ℕ) (xs : List ℕ) → a ≤ b → AllByRecursion (Between b high) xs → AllByRecursion (Between a high) xs

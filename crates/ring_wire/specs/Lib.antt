@@ -1,4 +1,3 @@
-pub use Rattle.ring_payload.specs.Limits
 pub mod Ascending
 pub mod Commits
 pub mod Entries

@@ -30,9 +30,19 @@ fn token_of(alloc: Global, requests: u8) -> Result<Vec<u8>, Fail> {
     framed(alloc, 1, 2, body.as_slice())
 }
 
+/// Whether a token with so many requests has so many bytes, and is a frame as wanted.
+fn is_token_as_wanted(
+    alloc: Global,
+    requests: u8,
+    length: usize,
+    wanted: bool,
+) -> Result<bool, Fail> {
+    let bytes = token_of(alloc, requests)?;
+    is_as_wanted(alloc, bytes.as_slice(), length, wanted)
+}
+
 #[test]
 fn requests_of_a_token(rt: HostRuntime) -> Result<(), Fail> {
-    let alloc = rt.alloc();
     for (requests, length, wanted) in [
         (0, 43, true),
         (1, 51, true),
@@ -40,11 +50,8 @@ fn requests_of_a_token(rt: HostRuntime) -> Result<(), Fail> {
         (33, 307, false),
         (255, 2083, false),
     ] {
-        let bytes = token_of(alloc, requests)?;
-        assert!(rt;
-            is_as_wanted(alloc, bytes.as_slice(), length, wanted)?,
-            "{requests}"
-        );
+        let is = is_token_as_wanted(rt.alloc(), requests, length, wanted)?;
+        assert!(rt; is, "{requests}");
     }
     Ok(())
 }
@@ -63,55 +70,62 @@ fn commit_of(alloc: Global, members: [u8; 2], hop: u8, entries: &[u8]) -> Result
     framed(alloc, 1, 4, body.as_slice())
 }
 
-/// Sixteen processors, and one of them again.
-const PROCESSORS: [u8; 17] = [1, 2, 3, 4, 5, 6, 7, 8, 9, 10, 11, 12, 13, 14, 15, 16, 16];
+/// The hop of a commit token, the processors of its entries, how many bytes it has, and whether it is a frame.
+type CommitRow = (u8, &'static [u8], usize, bool);
 
-/// Sixteen members: each has one entry, up to the hop.
-#[test]
-fn entries_of_sixteen_members(rt: HostRuntime) -> Result<(), Fail> {
-    let alloc = rt.alloc();
-    for (hop, entries, length, wanted) in [
-        (1, &PROCESSORS[..1], 77, true),
-        (15, &PROCESSORS[..15], 875, true),
-        (16, &PROCESSORS[..16], 932, true),
-        (17, &PROCESSORS[..16], 932, true),
-        (32, &PROCESSORS[..16], 932, true),
-        (33, &PROCESSORS[..16], 932, false),
-        (0, &PROCESSORS[..0], 20, false),
-        (16, &PROCESSORS[..15], 875, false),
-        (15, &PROCESSORS[..16], 932, false),
-        (16, &PROCESSORS[..17], 989, false),
-        (17, &PROCESSORS[..17], 989, false),
-    ] {
-        let bytes = commit_of(alloc, [0xff, 0xff], hop, entries)?;
-        assert!(rt;
-            is_as_wanted(alloc, bytes.as_slice(), length, wanted)?,
-            "{hop}"
-        );
-    }
-    Ok(())
+/// Whether the commit token of these members is as wanted.
+fn is_commit_as_wanted(alloc: Global, members: [u8; 2], row: &CommitRow) -> Result<bool, Fail> {
+    let (hop, entries, length, wanted) = *row;
+    let bytes = commit_of(alloc, members, hop, entries)?;
+    is_as_wanted(alloc, bytes.as_slice(), length, wanted)
 }
 
+/// Sixteen processors.
+const PROCESSORS: [u8; 16] = [1, 2, 3, 4, 5, 6, 7, 8, 9, 10, 11, 12, 13, 14, 15, 16];
+
+/// One of them less.
+const FIFTEEN: [u8; 15] = [1, 2, 3, 4, 5, 6, 7, 8, 9, 10, 11, 12, 13, 14, 15];
+
+/// One of them twice.
+const SEVENTEEN: [u8; 17] = [1, 2, 3, 4, 5, 6, 7, 8, 9, 10, 11, 12, 13, 14, 15, 16, 16];
+
+/// Sixteen members: each has one entry, up to the hop.
+const OF_SIXTEEN: [CommitRow; 11] = [
+    (1, &[1], 77, true),
+    (15, &FIFTEEN, 875, true),
+    (16, &PROCESSORS, 932, true),
+    (17, &PROCESSORS, 932, true),
+    (32, &PROCESSORS, 932, true),
+    (33, &PROCESSORS, 932, false),
+    (0, &[], 20, false),
+    (16, &FIFTEEN, 875, false),
+    (15, &PROCESSORS, 932, false),
+    (16, &SEVENTEEN, 989, false),
+    (17, &SEVENTEEN, 989, false),
+];
+
 /// The entries are those of the members, ascending: here of 1 and 3.
+const OF_TWO: [CommitRow; 9] = [
+    (1, &[1], 77, true),
+    (1, &[3], 77, false),
+    (2, &[1, 3], 134, true),
+    (2, &[1, 2], 134, false),
+    (2, &[3, 1], 134, false),
+    (3, &[1, 3], 134, true),
+    (3, &[1], 77, false),
+    (4, &[1, 3], 134, true),
+    (5, &[1, 3], 134, false),
+];
+
 #[test]
-fn entries_of_two_members(rt: HostRuntime) -> Result<(), Fail> {
-    let alloc = rt.alloc();
-    for (hop, entries, length, wanted) in [
-        (1, &[1u8][..], 77, true),
-        (1, &[3][..], 77, false),
-        (2, &[1, 3][..], 134, true),
-        (2, &[1, 2][..], 134, false),
-        (2, &[3, 1][..], 134, false),
-        (3, &[1, 3][..], 134, true),
-        (3, &[1][..], 77, false),
-        (4, &[1, 3][..], 134, true),
-        (5, &[1, 3][..], 134, false),
-    ] {
-        let bytes = commit_of(alloc, [0, 5], hop, entries)?;
-        assert!(rt;
-            is_as_wanted(alloc, bytes.as_slice(), length, wanted)?,
-            "{hop}"
-        );
+fn entries_of_a_commit_token(rt: HostRuntime) -> Result<(), Fail> {
+    for row in &OF_SIXTEEN {
+        let is = is_commit_as_wanted(rt.alloc(), [0xff, 0xff], row)?;
+        assert!(rt; is, "hop {} of sixteen members", row.0);
+    }
+    for row in &OF_TWO {
+        let is = is_commit_as_wanted(rt.alloc(), [0, 5], row)?;
+        assert!(rt; is, "hop {} of two members", row.0);
     }
     Ok(())
 }
@@ -150,83 +164,77 @@ pub fn payload_of(alloc: Global, start: &[u8], calls: u8, op_bytes: u16) -> Resu
     Ok(payload)
 }
 
-#[test]
-fn bytes_of_a_call(rt: HostRuntime) -> Result<(), Fail> {
-    let alloc = rt.alloc();
-    for (wraps, op_bytes, length, wanted) in [
-        (false, 0, 41, true),
-        (false, 1024, 1065, true),
-        (false, 1025, 1066, false),
-        (true, 0, 60, true),
-        (true, 1024, 1084, true),
-        (true, 1025, 1085, false),
-    ] {
-        let payload = payload_of(alloc, &[1], 1, op_bytes)?;
-        let bytes = message_of(alloc, wraps, payload.as_slice())?;
-        assert!(rt;
-            is_as_wanted(alloc, bytes.as_slice(), length, wanted)?,
-            "{op_bytes}"
-        );
-    }
-    Ok(())
-}
+/// Whether a payload is wrapped, how many calls it has, of operations of so many bytes, how many bytes the message has, and
+/// whether it is a frame.
+type CallsRow = (bool, u8, u16, usize, bool);
+
+const ONE_CALL: [CallsRow; 6] = [
+    (false, 1, 0, 41, true),
+    (false, 1, 1024, 1065, true),
+    (false, 1, 1025, 1066, false),
+    (true, 1, 0, 60, true),
+    (true, 1, 1024, 1084, true),
+    (true, 1, 1025, 1085, false),
+];
 
 /// The greatest frame is the wrapped part of seven calls of 1,024 bytes each.
-#[test]
-fn calls_of_a_part(rt: HostRuntime) -> Result<(), Fail> {
-    let alloc = rt.alloc();
-    for (wraps, calls, op_bytes, length, wanted) in [
-        (false, 0, 0, 36, false),
-        (false, 1, 0, 50, true),
-        (false, 7, 0, 134, true),
-        (false, 8, 0, 148, false),
-        (false, 7, 1024, 7302, true),
-        (false, 7, 1025, 7309, false),
-        (false, 8, 1024, 8340, false),
-        (true, 0, 0, 55, false),
-        (true, 7, 0, 153, true),
-        (true, 8, 0, 167, false),
-        (true, 7, 1024, 7321, true),
-        (true, 7, 1025, 7328, false),
-        (true, 8, 1024, 8359, false),
-    ] {
-        let payload = payload_of(alloc, &[5, 0, 0, 0, 0, 0, 0, 0, 0, calls], calls, op_bytes)?;
-        let bytes = message_of(alloc, wraps, payload.as_slice())?;
-        assert!(rt;
-            is_as_wanted(alloc, bytes.as_slice(), length, wanted)?,
-            "{calls} of {op_bytes}"
-        );
-    }
-    Ok(())
-}
+const PARTS: [CallsRow; 13] = [
+    (false, 0, 0, 36, false),
+    (false, 1, 0, 50, true),
+    (false, 7, 0, 134, true),
+    (false, 8, 0, 148, false),
+    (false, 7, 1024, 7302, true),
+    (false, 7, 1025, 7309, false),
+    (false, 8, 1024, 8340, false),
+    (true, 0, 0, 55, false),
+    (true, 7, 0, 153, true),
+    (true, 8, 0, 167, false),
+    (true, 7, 1024, 7321, true),
+    (true, 7, 1025, 7328, false),
+    (true, 8, 1024, 8359, false),
+];
 
 /// A pack has 2 to 16 calls, and at most 7,276 bytes: seven calls of 1,024 bytes and no eighth.
+const PACKS: [CallsRow; 15] = [
+    (false, 0, 0, 28, false),
+    (false, 1, 0, 42, false),
+    (false, 2, 0, 56, true),
+    (false, 16, 0, 252, true),
+    (false, 17, 0, 266, false),
+    (false, 7, 1024, 7294, true),
+    (false, 8, 1024, 8332, false),
+    (false, 8, 895, 7300, true),
+    (false, 8, 896, 7308, false),
+    (true, 1, 0, 61, false),
+    (true, 2, 0, 75, true),
+    (true, 16, 0, 271, true),
+    (true, 17, 0, 285, false),
+    (true, 7, 1024, 7313, true),
+    (true, 8, 1024, 8351, false),
+];
+
+/// Whether the message is as wanted whose payload starts so.
+fn are_calls_as_wanted(alloc: Global, start: &[u8], row: &CallsRow) -> Result<bool, Fail> {
+    let (wraps, calls, op_bytes, length, wanted) = *row;
+    let payload = payload_of(alloc, start, calls, op_bytes)?;
+    let bytes = message_of(alloc, wraps, payload.as_slice())?;
+    is_as_wanted(alloc, bytes.as_slice(), length, wanted)
+}
+
 #[test]
-fn calls_of_a_pack(rt: HostRuntime) -> Result<(), Fail> {
-    let alloc = rt.alloc();
-    for (wraps, calls, op_bytes, length, wanted) in [
-        (false, 0, 0, 28, false),
-        (false, 1, 0, 42, false),
-        (false, 2, 0, 56, true),
-        (false, 16, 0, 252, true),
-        (false, 17, 0, 266, false),
-        (false, 7, 1024, 7294, true),
-        (false, 8, 1024, 8332, false),
-        (false, 8, 895, 7300, true),
-        (false, 8, 896, 7308, false),
-        (true, 1, 0, 61, false),
-        (true, 2, 0, 75, true),
-        (true, 16, 0, 271, true),
-        (true, 17, 0, 285, false),
-        (true, 7, 1024, 7313, true),
-        (true, 8, 1024, 8351, false),
-    ] {
-        let payload = payload_of(alloc, &[6, calls], calls, op_bytes)?;
-        let bytes = message_of(alloc, wraps, payload.as_slice())?;
-        assert!(rt;
-            is_as_wanted(alloc, bytes.as_slice(), length, wanted)?,
-            "{calls} of {op_bytes}"
-        );
+fn calls_of_a_message(rt: HostRuntime) -> Result<(), Fail> {
+    for row in &ONE_CALL {
+        let are = are_calls_as_wanted(rt.alloc(), &[1], row)?;
+        assert!(rt; are, "a call of {}", row.2);
+    }
+    for row in &PARTS {
+        let start = [5, 0, 0, 0, 0, 0, 0, 0, 0, row.1];
+        let are = are_calls_as_wanted(rt.alloc(), &start, row)?;
+        assert!(rt; are, "a part of {} of {}", row.1, row.2);
+    }
+    for row in &PACKS {
+        let are = are_calls_as_wanted(rt.alloc(), &[6, row.1], row)?;
+        assert!(rt; are, "a pack of {} of {}", row.1, row.2);
     }
     Ok(())
 }
@@ -276,15 +284,33 @@ fn piece_of(alloc: Global, row: &PieceRow) -> Result<Vec<u8>, Fail> {
     Ok(payload)
 }
 
+/// Whether the bytes may stand as a payload in a message, and as what is wrapped.
+fn standing(alloc: Global, payload: &[u8]) -> Result<(bool, bool), Fail> {
+    let alone = message_of(alloc, false, payload)?;
+    let inside = message_of(alloc, true, payload)?;
+    Ok((
+        is_frame(alloc, alone.as_slice())?,
+        is_frame(alloc, inside.as_slice())?,
+    ))
+}
+
+/// The same of a piece.
+fn piece_standing(alloc: Global, row: &PieceRow) -> Result<(bool, bool), Fail> {
+    let payload = piece_of(alloc, row)?;
+    standing(alloc, payload.as_slice())
+}
+
 #[test]
 fn pieces_of_a_snapshot(rt: HostRuntime) -> Result<(), Fail> {
-    let alloc = rt.alloc();
-    for (i, row) in PIECES.iter().enumerate() {
-        let payload = piece_of(alloc, row)?;
-        for wraps in [false, true] {
-            let bytes = message_of(alloc, wraps, payload.as_slice())?;
-            assert_eq!(rt; is_frame(alloc, bytes.as_slice())?, row.4, "{i}");
-        }
+    for row in &PIECES {
+        let standing = piece_standing(rt.alloc(), row)?;
+        assert!(rt;
+            standing == (row.4, row.4),
+            "{} from {} of {}",
+            row.3,
+            row.2,
+            row.1
+        );
     }
     Ok(())
 }
@@ -344,25 +370,17 @@ const PAYLOADS: [Inner; 9] = [
     (&[], false, false),
 ];
 
-/// Whether the payload may stand in a message, and as what is wrapped.
-fn standing(alloc: Global, payload: &[&str]) -> Result<(bool, bool), Fail> {
+/// Whether the payload of these texts may stand in a message, and as what is wrapped.
+fn text_standing(alloc: Global, payload: &[&str]) -> Result<(bool, bool), Fail> {
     let bytes = bytes_of(alloc, payload)?;
-    let alone = message_of(alloc, false, bytes.as_slice())?;
-    let inside = message_of(alloc, true, bytes.as_slice())?;
-    Ok((
-        is_frame(alloc, alone.as_slice())?,
-        is_frame(alloc, inside.as_slice())?,
-    ))
+    standing(alloc, bytes.as_slice())
 }
 
 #[test]
 fn what_may_be_wrapped(rt: HostRuntime) -> Result<(), Fail> {
     for (payload, alone, inside) in PAYLOADS {
-        assert_eq!(rt;
-            standing(rt.alloc(), payload)?,
-            (alone, inside),
-            "{payload:?}"
-        );
+        let standing = text_standing(rt.alloc(), payload)?;
+        assert!(rt; standing == (alone, inside));
     }
     Ok(())
 }

@@ -165,7 +165,8 @@ const ALL: [(&[&str], &str); 14] = [
 #[test]
 fn each_limit(rt: HostRuntime) -> Result<(), Fail> {
     for (vector, rows) in ALL {
-        assert_eq!(rt; first_wrong(rt.alloc(), vector, rows)?, None);
+        let wrong = first_wrong(rt.alloc(), vector, rows)?;
+        assert!(rt; wrong.is_none(), "{}", wrong.unwrap_or(""));
     }
     Ok(())
 }

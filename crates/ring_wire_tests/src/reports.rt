@@ -30,13 +30,19 @@ fn report(bytes: &mut [u8], front: u64, mark: u64, bits: &[usize]) {
     }
 }
 
-/// The first row that is not as wanted.
+/// Whether the vector with this report is a frame or none, as wanted.
+fn is_as_wanted(alloc: Global, vector: &[&str], row: &Report) -> Result<bool, Fail> {
+    let (front, mark, bits, wanted) = *row;
+    let mut bytes = bytes_of(alloc, vector)?;
+    report(bytes.as_mut_slice(), front, mark, bits);
+    Ok(is_frame(alloc, bytes.as_slice())? == wanted)
+}
+
+/// The place of the first row that is not as wanted.
 fn first_wrong(alloc: Global, vector: &[&str], reports: &[Report]) -> Result<Option<usize>, Fail> {
-    for (row, (front, mark, bits, wanted)) in reports.iter().enumerate() {
-        let mut bytes = bytes_of(alloc, vector)?;
-        report(bytes.as_mut_slice(), *front, *mark, bits);
-        if is_frame(alloc, bytes.as_slice())? != *wanted {
-            return Ok(Some(row));
+    for (at, row) in reports.iter().enumerate() {
+        if !is_as_wanted(alloc, vector, row)? {
+            return Ok(Some(at));
         }
     }
     Ok(None)
@@ -92,17 +98,14 @@ const NOTHING: [Report; 6] = [
 ];
 
 #[test]
-fn reports_of_an_old_ring(rt: HostRuntime) -> Result<(), Fail> {
-    assert_eq!(rt;
-        first_wrong(rt.alloc(), &COMMIT_AFTER_A_RING, &FRONTS)?,
-        None
-    );
-    assert_eq!(rt; first_wrong(rt.alloc(), &COMMIT_AFTER_A_RING, &HELD)?, None);
-    Ok(())
-}
-
-#[test]
-fn reports_of_no_ring(rt: HostRuntime) -> Result<(), Fail> {
-    assert_eq!(rt; first_wrong(rt.alloc(), &COMMIT, &NOTHING)?, None);
+fn reports_of_rings(rt: HostRuntime) -> Result<(), Fail> {
+    for (vector, reports) in [
+        (&COMMIT_AFTER_A_RING, &FRONTS[..]),
+        (&COMMIT_AFTER_A_RING, &HELD),
+        (&COMMIT, &NOTHING),
+    ] {
+        let wrong = first_wrong(rt.alloc(), vector, reports)?;
+        assert!(rt; wrong.is_none(), "row {}", wrong.unwrap_or(0));
+    }
     Ok(())
 }

@@ -2,17 +2,14 @@
 
 use crate::spelled::bytes_of;
 use crate::vectors::{
-    COMMIT, COMMIT_AFTER_A_RING, EACH_KIND, EACH_PAYLOAD, END, HEAD, HEAD_OF_NONE, JOIN, MESSAGE,
-    PACK, PART, SNAP, TOKEN, TRIMMED_HEAD, WRAPPED,
+    COMMIT, COMMIT_AFTER_A_RING, EACH_PAYLOAD, END, HEAD, HEAD_OF_NONE, JOIN, MESSAGE, PACK, PART,
+    SNAP, TOKEN, TRIMMED_HEAD, WRAPPED,
 };
 use bytes::BytesMut;
 use refusing_alloc::Refusing;
 use ring_base::{Fault, Proc, ProcSet, RingId};
 use ring_payload::{Call, Calls, Head, Payload};
-use ring_wire::{
-    CommitEntry, CommitToken, Entries, Frame, Join, Requests, Token, Wire, decode_frame,
-    one_spelling_law, short_law, spelling_law,
-};
+use ring_wire::{CommitEntry, CommitToken, Entries, Frame, Join, Requests, Token, Wire, decode_frame, one_spelling_law, short_law, spelling_law};
 use std::alloc::Global;
 use std::test::Fail;
 
@@ -121,7 +118,7 @@ fn spell_a_vector(alloc: Global, vector: &[&str]) -> Result<bool, Fail> {
 #[test]
 fn fields_of_the_vectors(rt: HostRuntime) -> Result<(), Fail> {
     for vector in [&JOIN[..], &TOKEN[..], &COMMIT[..]] {
-        assert!(rt; spell_a_vector(rt.alloc(), vector)?, "{vector:?}");
+        assert!(rt; spell_a_vector(rt.alloc(), vector)?);
     }
     Ok(())
 }
@@ -157,7 +154,8 @@ fn fields_of_the_messages(rt: HostRuntime) -> Result<(), Fail> {
     ] {
         assert!(rt;
             spell_a_message(rt.alloc(), vector, message, payload)?,
-            "{vector:?}"
+            "tag {}",
+            payload[0]
         );
     }
     Ok(())
@@ -176,20 +174,20 @@ fn is_itself_alone(frames: &[Frame], at: usize) -> Result<bool, Fail> {
     Ok(frame.is_same(&frame.clone()?))
 }
 
+/// Reads the frames that the vectors spell.
+fn read_all(alloc: Global, frames: &mut Vec<Frame>, vectors: &[&[&str]]) -> Result<(), Fail> {
+    for vector in vectors {
+        frames.push(frame_of(alloc, vector)?)?;
+    }
+    Ok(())
+}
+
 #[test]
 fn same_frames(rt: HostRuntime) -> Result<(), Fail> {
     let mut frames = Vec::new(rt.alloc());
-    for vector in EACH_PAYLOAD {
-        frames.push(frame_of(rt.alloc(), vector)?)?;
-    }
-    for vector in [
-        EACH_KIND[0],
-        EACH_KIND[1],
-        EACH_KIND[3],
-        &COMMIT_AFTER_A_RING,
-    ] {
-        frames.push(frame_of(rt.alloc(), vector)?)?;
-    }
+    read_all(rt.alloc(), &mut frames, &EACH_PAYLOAD)?;
+    let others: [&[&str]; 4] = [&JOIN, &TOKEN, &COMMIT, &COMMIT_AFTER_A_RING];
+    read_all(rt.alloc(), &mut frames, &others)?;
     for at in 0..frames.len() {
         assert!(rt; is_itself_alone(frames.as_slice(), at)?, "{at}");
     }
@@ -238,48 +236,61 @@ fn call_of<'a>(
     number: u64,
     length: usize,
 ) -> Result<Call<&'a Refusing>, Fault> {
-    let mut op = Vec::new(alloc);
-    for _ in 0..length {
-        op.push(7)?;
-    }
+    let op = vec![in alloc; 7u8; length]?;
     Call::new(heap, 1, number, op.as_slice())
 }
 
 /// A new call is refused in this order: too long, number 0, want of memory.
 #[test]
 fn new_calls(rt: HostRuntime) -> Result<(), Fail> {
-    let alloc = rt.alloc();
-    let heap = Refusing::new(alloc, 0);
-    assert_eq!(rt;
-        call_of(&heap, alloc, 0, 1025).err(),
-        Some(Fault::OpTooLong)
-    );
-    assert_eq!(rt;
-        call_of(&heap, alloc, 0, 1024).err(),
-        Some(Fault::NumberGap)
-    );
-    assert_eq!(rt; call_of(&heap, alloc, 1, 1024).err(), Some(Fault::Memory));
-    let call = call_of(&heap, alloc, 1, 1024)?;
-    assert_eq!(rt;
-        (call.client, call.number, call.op.as_slice().len()),
-        (1, 1, 1024)
-    );
+    let heap = Refusing::new(rt.alloc(), 0);
+    for (number, length, fault) in [
+        (0, 1025, Fault::OpTooLong),
+        (0, 1024, Fault::NumberGap),
+        (1, 1024, Fault::Memory),
+    ] {
+        let refused = call_of(&heap, rt.alloc(), number, length).err();
+        assert!(rt; refused == Some(fault), "{fault}");
+    }
+    let call = call_of(&heap, rt.alloc(), 1, 1024)?;
+    assert!(rt; (call.client, call.number, call.op.as_slice().len()) == (1, 1, 1024));
     Ok(())
+}
+
+/// Client 7's first two calls.
+fn two_calls(alloc: Global) -> Result<Calls, Fault> {
+    let mut list = Vec::new(alloc);
+    list.push(Call::new(alloc, 7, 1, &[])?)?;
+    list.push(Call::new(alloc, 7, 2, &[])?)?;
+    Ok(Calls::from_vec(list))
+}
+
+/// Whether these are client 7's first two calls.
+fn are_two(calls: &[Call]) -> bool {
+    match calls {
+        [one, two] => (one.client, one.number, two.client, two.number) == (7, 1, 7, 2),
+        _ => false,
+    }
 }
 
 /// A list of calls comes out as it went in.
 #[test]
 fn lists_of_calls(rt: HostRuntime) -> Result<(), Fail> {
-    let mut list: Vec<Call> = Vec::new(rt.alloc());
-    for number in 1..3 {
-        list.push(Call::new(rt.alloc(), 7, number, &[])?)?;
-    }
-    let calls = Calls::from_vec(list).clone()?;
-    assert_eq!(rt; calls.as_slice().len(), 2);
-    for (i, call) in calls.into_vec().iter().enumerate() {
-        assert_eq!(rt; (call.client, call.number), (7, i as u64 + 1));
-    }
+    let calls = two_calls(rt.alloc())?.clone()?;
+    assert!(rt; are_two(calls.as_slice()));
+    assert!(rt; are_two(calls.into_vec().as_slice()));
     Ok(())
+}
+
+/// Whether it is one entry, of which these two bits alone are looked for and set: 1 and 253.
+fn has_two_bits(entries: &[CommitEntry]) -> bool {
+    match entries {
+        [entry] => {
+            let has = entry.is_held(1) && entry.is_held(253);
+            has && !entry.is_held(0) && !entry.is_held(254)
+        }
+        _ => false,
+    }
 }
 
 /// Bit 1 and bit 253 of a front 2 stand for the numbers 4 and 256.
@@ -287,7 +298,7 @@ fn lists_of_calls(rt: HostRuntime) -> Result<(), Fail> {
 fn lists_in_place(rt: HostRuntime) {
     let mut requests = Requests::new();
     requests.push(9);
-    assert_eq!(rt; requests.copied().as_slice(), [9].as_slice());
+    assert!(rt; requests.copied().as_slice() == [9].as_slice());
     let mut entries = Entries::new();
     let mut held = [0; 32];
     held[0] = 2;
@@ -296,12 +307,7 @@ fn lists_in_place(rt: HostRuntime) {
         held,
         ..CommitEntry::default()
     });
-    let copy = entries.copied();
-    assert_eq!(rt; copy.as_slice().len(), 1);
-    for entry in copy.as_slice() {
-        assert!(rt; entry.is_held(1) && entry.is_held(253));
-        assert!(rt; !entry.is_held(0) && !entry.is_held(254));
-    }
+    assert!(rt; has_two_bits(entries.copied().as_slice()));
 }
 
 /// The laws are calls like any other.

@@ -25,42 +25,36 @@ fn vectors_both_ways(rt: HostRuntime) -> Result<(), Fail> {
     Ok(())
 }
 
-/// How many proper fronts there are, the empty one included, and how many of them are frames.
-fn fronts(alloc: Global, vector: &[u8]) -> Result<(u32, u32), Fault> {
+/// How many proper fronts a vector has, the empty one included, and how many of them are frames.
+fn fronts(alloc: Global, vector: &[&str]) -> Result<(u32, u32), Fail> {
+    let bytes = bytes_of(alloc, vector)?;
+    Ok(fronts_of(alloc, bytes.as_slice())?)
+}
+
+fn fronts_of(alloc: Global, bytes: &[u8]) -> Result<(u32, u32), Fault> {
     let mut all = 0u32;
     let mut frames = 0u32;
-    for length in 0..vector.len() {
+    for length in 0..bytes.len() {
         all = all.wrapping_add(1);
-        if is_frame(alloc, &vector[..length])? {
+        if is_frame(alloc, &bytes[..length])? {
             frames = frames.wrapping_add(1);
         }
     }
     Ok((all, frames))
 }
 
-/// 21 + 59 + 52 + 77 proper fronts, and none is a frame.
-#[test]
-fn no_front_is_a_frame(rt: HostRuntime) -> Result<(), Fail> {
-    let alloc = rt.alloc();
-    for (vector, length) in [
-        (EACH_KIND[0], 21),
-        (EACH_KIND[1], 59),
-        (EACH_KIND[2], 52),
-        (EACH_KIND[3], 77),
-    ] {
-        let bytes = bytes_of(alloc, vector)?;
-        assert_eq!(rt; fronts(alloc, bytes.as_slice()), Ok((length, 0)));
-    }
-    Ok(())
+/// Of the inputs that differ from a vector in one bit: how many there are, and how many are frames.
+fn bit_changes(alloc: Global, vector: &[&str]) -> Result<(u32, u32), Fail> {
+    let bytes = bytes_of(alloc, vector)?;
+    Ok(bit_changes_of(alloc, bytes.as_slice())?)
 }
 
-/// Of the inputs that differ from a vector in one bit: how many there are, and how many are frames.
-fn bit_changes(alloc: Global, vector: &[u8]) -> Result<(u32, u32), Fault> {
+fn bit_changes_of(alloc: Global, bytes: &[u8]) -> Result<(u32, u32), Fault> {
     let mut all = 0u32;
     let mut frames = 0u32;
-    for (place, byte) in vector.iter().enumerate() {
+    for (place, byte) in bytes.iter().enumerate() {
         for bit in 0..8u32 {
-            let changed = patched(alloc, vector, place, &[*byte ^ (1 << bit)])?;
+            let changed = patched(alloc, bytes, place, &[*byte ^ (1 << bit)])?;
             all = all.wrapping_add(1);
             if is_frame(alloc, changed.as_slice())? {
                 frames = frames.wrapping_add(1);
@@ -70,17 +64,13 @@ fn bit_changes(alloc: Global, vector: &[u8]) -> Result<(u32, u32), Fault> {
     Ok((all, frames))
 }
 
+/// 21 + 59 + 52 + 77 proper fronts, and none is a frame; eight times as many bits, and how many of the changes are frames.
 #[test]
-fn one_bit_changed(rt: HostRuntime) -> Result<(), Fail> {
-    let alloc = rt.alloc();
-    for (vector, all, frames) in [
-        (EACH_KIND[0], 168, 78),
-        (EACH_KIND[1], 472, 192),
-        (EACH_KIND[2], 416, 312),
-        (EACH_KIND[3], 616, 76),
-    ] {
-        let bytes = bytes_of(alloc, vector)?;
-        assert_eq!(rt; bit_changes(alloc, bytes.as_slice()), Ok((all, frames)));
+fn fronts_and_changed_bits(rt: HostRuntime) -> Result<(), Fail> {
+    let table = [(21, 168, 78), (59, 472, 192), (52, 416, 312), (77, 616, 76)];
+    for (vector, (length, all, frames)) in EACH_KIND.iter().zip(table) {
+        assert!(rt; fronts(rt.alloc(), vector)? == (length, 0), "{length}");
+        assert!(rt; bit_changes(rt.alloc(), vector)? == (all, frames), "{all}");
     }
     Ok(())
 }
@@ -97,17 +87,22 @@ fn length_of_join(alloc: Global, bytes: &[u8]) -> Result<Option<usize>, Fault> {
 fn a_frame_at_the_front(rt: HostRuntime) -> Result<(), Fail> {
     let mut two = bytes_of(rt.alloc(), &JOIN)?;
     two.extend_from_slice(bytes_of(rt.alloc(), &TOKEN)?.as_slice())?;
-    assert_eq!(rt; length_of_join(rt.alloc(), two.as_slice()), Ok(Some(21)));
-    assert_eq!(rt; is_frame(rt.alloc(), two.as_slice()), Ok(false));
+    assert!(rt; length_of_join(rt.alloc(), two.as_slice()) == Ok(Some(21)));
+    assert!(rt; is_frame(rt.alloc(), two.as_slice()) == Ok(false));
     Ok(())
+}
+
+/// Whether the vector with a byte more is a frame.
+fn is_frame_with_more(alloc: Global, vector: &[&str]) -> Result<bool, Fail> {
+    let mut longer = bytes_of(alloc, vector)?;
+    longer.push(0)?;
+    Ok(is_frame(alloc, longer.as_slice())?)
 }
 
 #[test]
 fn a_byte_left_over(rt: HostRuntime) -> Result<(), Fail> {
     for vector in EACH_KIND {
-        let mut longer = bytes_of(rt.alloc(), vector)?;
-        longer.push(0)?;
-        assert_eq!(rt; is_frame(rt.alloc(), longer.as_slice()), Ok(false));
+        assert!(rt; !is_frame_with_more(rt.alloc(), vector)?);
     }
     Ok(())
 }

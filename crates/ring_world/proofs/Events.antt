@@ -7,14 +7,14 @@ use Rattle.ring_base.specs.declared.fault.Fault.{Fault}
 use Rattle.ring_base.specs.declared.fault.Fault.TheVariants.{NotMember, PendingFull, OpTooLong, Conflict, Stale, NumberGap, SessionsFull}
 use Rattle.ring_base.specs.declared.fault.Fault.TheVariants.{Stopped, BookFull, Stranger, Memory, BadFrame, BadScript, NoAnswer, BadSnapshot}
 use Rattle.ring_payload.specs.declared.call.Call.{Call}
-use Rattle.ring_ticket.specs.declared.answered.Answered.{Answered}
-use Rattle.ring_machine.specs.Nodes.{Node}
-use Rattle.ring_machine.specs.Stepping.{submit_fault}
-use Rattle.ring_history.specs.declared.told.Told.{Told}
-use Rattle.ring_history.specs.declared.told.Told.TheVariants.{Answer as ToldAnswer, Refused as ToldRefused}
-use Rattle.ring_history.specs.Worlds.{told_by}
+use Rattle.ring_session.specs.declared.answered.Answered.{Answered}
+use Rattle.ring_rules.specs.Nodes.{Node}
+use Rattle.ring_rules.specs.Stepping.{submit_fault}
+use Rattle.ring_rules.specs.declared.told.Told.{Told}
+use Rattle.ring_rules.specs.declared.told.Told.TheVariants.{Answer as ToldAnswer, Refused as ToldRefused}
+use Rattle.ring_rules.specs.Worlds.{told_by}
 use Rattle.ring_world.specs.Played.{is_of_memory, told_of_events}
-use Rattle.ring_world.proofs.Refusals.{not_memory}
+use Rattle.ring_world.proofs.SubmitRefused.{not_memory}
 
 pub told_of_events-append : {A : Type 0} (xs ys : List (Told A)) → told_of_events (xs ++ ys) ≡ told_of_events xs ++ told_of_events ys
 told_of_events-append {A} xs ys = filter-append (λ (t : Told A). not (is_of_memory t)) xs ys

@@ -4,13 +4,13 @@ use Rattle.std.proofs.lemmas.Option.{get_or_from_slice_get, slice_get_within}
 use Rattle.ring_base.specs.Numbers.{numbers_from}
 use Rattle.ring_object.specs.Operations.{Sequential}
 use Rattle.ring_core.specs.State.{Carried}
-use Rattle.ring_machine.specs.Nodes.{Node, node_committed}
+use Rattle.ring_rules.specs.Nodes.{Node, node_committed}
 use Rattle.ring_session.specs.Deduplicated.{deduplicated}
-use Rattle.ring_history.specs.declared.item.Item.{Item}
-use Rattle.ring_history.specs.declared.told.Told.{Told}
-use Rattle.ring_history.specs.Orders.{order_of}
-use Rattle.ring_history.specs.Worlds.{World, committed_in, order}
-use Rattle.ring_world.specs.Keeping.{IsKept, IsWorld}
+use Rattle.ring_rules.specs.declared.item.Item.{Item}
+use Rattle.ring_rules.specs.declared.told.Told.{Told}
+use Rattle.ring_rules.specs.Orders.{order_of}
+use Rattle.ring_rules.specs.Worlds.{World, committed_in, order}
+use Rattle.ring_world.specs.Keeping.{IsWorldKept, IsWorld}
 use Rattle.ring_world.specs.Ordering.{IsLongest, logs_of}
 use Rattle.ring_world.specs.Played.{Played, world_of}
 use Rattle.ring_world.specs.Spares.{Spares}
@@ -24,7 +24,7 @@ numbered g f (x ∷ xs) first h =
     ap (λ y. g y ∷ map g xs) same ∙ ap (λ ys. g (f first) ∷ ys) (numbered g f xs (suc first) (λ i j l q. h (suc i) j (omega (arith, l)) (omega (arith, q))))
 
 pub logs-kept : {A : Type 0} (w : World A) (nodes : List (Node A)) (spares : List (Spares A))
-    (frames : List (Carried A)) (history : List (Item A)) (told : List (Told A)) → IsKept w nodes spares frames history told
+    (frames : List (Carried A)) (history : List (Item A)) (told : List (Told A)) → IsWorldKept w nodes spares frames history told
     → logs_of nodes ≡ committed_in w
 logs-kept w nodes spares frames history told h =
     numbered node_committed w.nodes nodes 1 (λ i j l q. h.nodes_are i (let m = h.many in omega (arith, l, m))

@@ -5,12 +5,13 @@ use Rattle.std.specs.Prelude.{nat_lt}
 use Rattle.std.proofs.lemmas.Bool.{cond-true, cond-false, cases_Bool, lt-ltb, le-ltb}
 use Rattle.std.proofs.lemmas.Bool.Decides.{nat_tests}
 use Rattle.std.proofs.lemmas.List.{map-append}
-use Rattle.ring_machine.specs.Nodes.{Node, node_committed}
+use Rattle.ring_rules.specs.Nodes.{Node, node_committed}
 use Rattle.ring_world.specs.Ordering.{IsLongest, logs_of}
 use Rattle.ring_base.proofs.Rows.{take-more}
+use Rattle.ring_base.proofs.ListPlaces.{get-left}
 use Rattle.ring_payload.specs.declared.call.Call.{Call}
 use Rattle.ring_session.specs.Deduplicated.{deduplicated}
-use Rattle.ring_history.specs.Orders.{longer, order_of}
+use Rattle.ring_rules.specs.Orders.{longer, order_of}
 
 module _ {X : Type 0} where
   later : (xs ys : List X) → nat_lt (length xs) (length ys) ≡ true → longer xs ys ≡ ys
@@ -50,11 +51,6 @@ order-push (one ∷ logs) log = ap (longer (deduplicated one)) (order-push logs 
 
 -- a node more
 
-pub get-before : {X : Type 0} (xs ys : List X) (k : ℕ) (y : X) → slice_get xs k ≡ Some y → slice_get (xs ++ ys) k ≡ Some y
-get-before [] ys k y e = absurd (let q : ⊥ = cc e in q)
-get-before (x ∷ xs) ys zero y e = e
-get-before (x ∷ xs) ys (suc k) y e = get-before xs ys k y e
-
 get-take : {X : Type 0} (xs : List X) (k : ℕ) (y : X) → slice_get xs k ≡ Some y → slice_get (take (suc k) xs) k ≡ Some y
 get-take [] k y e = absurd (let q : ⊥ = cc e in q)
 get-take (x ∷ xs) zero y e = e
@@ -82,4 +78,4 @@ module _ {A : Type 0} (nodes : List (Node A)) (i : ℕ) (n : Node A) (at : slice
   pub still-longest : (o : Option ℕ) → length (deduplicated (node_committed n)) ≤ length
       (order_of (logs_of (take i nodes))) → IsLongest (take i nodes) o → IsLongest (take (i + 1) nodes) o
   still-longest None l h = stays l ∙ h
-  still-longest (Some k) l h = (h.0, (ap (λ xs. slice_get xs k) (take-more nodes i n at) ∙ get-before (take i nodes) (n ∷ []) k h.0 h.1), stays l ∙ h.2)
+  still-longest (Some k) l h = (h.0, (ap (λ xs. slice_get xs k) (take-more nodes i n at) ∙ get-left (take i nodes) (n ∷ []) k h.0 h.1), stays l ∙ h.2)

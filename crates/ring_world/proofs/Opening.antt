@@ -1,34 +1,20 @@
 -- The opening world: its nodes are at their opening, and no ticket waits for an answer.
-use Rattle.std.proofs.Common.{◌≡◌, ℕ, zero, suc, ◌+◌, ◌<◌, ◌≤◌, List, [], ◌∷◌, ◌++◌, map, length, Some, slice_get, refl, ap, ◌∙◌, sym, arith}
-use Rattle.std.proofs.lemmas.List.{map-append, length-map}
+use Rattle.std.proofs.Common.{◌≡◌, ℕ, zero, suc, ◌+◌, ◌<◌, ◌≤◌, List, [], ◌∷◌, map, length, Some, slice_get, refl, ap, ◌∙◌, arith}
+use Rattle.std.proofs.lemmas.List.{length-map}
 use Rattle.std.specs.List.{AllByRecursion}
 use Rattle.ring_base.specs.Group.{Group}
 use Rattle.ring_base.specs.Numbers.{numbers_from}
 use Rattle.ring_base.specs.Passing.{length-numbers_from}
+use Rattle.ring_base.proofs.ListPlaces.{get-numbers}
 use Rattle.ring_object.specs.Operations.{Sequential}
 use Rattle.ring_payload.specs.declared.call.Call.{Call}
 use Rattle.ring_core.specs.State.{Carried}
-use Rattle.ring_machine.specs.Nodes.{Node, node_opening, node_committed}
-use Rattle.ring_history.specs.declared.event.Event.{Event}
-use Rattle.ring_history.specs.declared.item.Item.{Item}
-use Rattle.ring_history.specs.declared.told.Told.{Told}
-use Rattle.ring_chain.proofs.Formed.{numbers-append}
+use Rattle.ring_rules.specs.Nodes.{Node, node_opening, node_committed}
+use Rattle.ring_rules.specs.declared.event.Event.{Event}
+use Rattle.ring_rules.specs.declared.item.Item.{Item}
+use Rattle.ring_rules.specs.declared.told.Told.{Told}
 use Rattle.ring_world.specs.Spares.{Spares, Holds}
 use Rattle.ring_world.specs.Keeping.{KeepsCopies, IsWorld}
-
--- one more of a row
-pub opened_more : {X : Type 0} (f : ℕ → X) (xs ys : List X) (k : ℕ) (x : X) (me : ℕ) → xs ≡ map f (numbers_from 1 k) → ys ≡ xs ++ x ∷ [] → x ≡ f me
-    → me ≡ k + 1 → ys ≡ map f (numbers_from 1 (k + 1))
-opened_more f xs ys k x me a b c d =
-    let last : me ≡ 1 + k = omega (arith, d) in
-    b ∙ ap (λ zs. zs ++ x ∷ []) a ∙ ap (λ y. map f (numbers_from 1 k) ++ y ∷ []) (c ∙ ap f last)
-    ∙ sym (map-append f (numbers_from 1 k) ((1 + k) ∷ [])) ∙ ap (map f) (numbers-append 1 k 1)
-
-get-numbers : {X : Type 0} (f : ℕ → X) (first n i : ℕ) → i < n → slice_get (map f (numbers_from first n)) i ≡ Some (f (first + i))
-get-numbers f first zero i l = absurd (omega (arith, l))
-get-numbers f first (suc n) zero l = ap (λ k. Some (f k)) (let e : first ≡ first + 0 = omega arith in e)
-get-numbers f first (suc n) (suc i) l =
-    get-numbers f (suc first) n i (omega (arith, l)) ∙ ap (λ k. Some (f k)) (let e : suc first + i ≡ first + suc i = omega arith in e)
 
 none_asked : {A : Type 0} (committed : List (Call A)) (s : Spares A) → s.calls ≡ [] → Holds s.calls [] committed
 none_asked committed s none = record { many = ap length none; each = λ k t asked. absurd (let q : ⊥ = cc asked in q) }

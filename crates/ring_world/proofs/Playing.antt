@@ -3,10 +3,10 @@ use Rattle.std.proofs.Common.{◌≡◌, ℕ, ◌+◌, List, [], ◌∷◌}
 use Rattle.std.proofs.Common.{◌++◌, refl, ap, ◌∙◌, sym, subst, inl, inr, append-nil, append_assoc}
 use Rattle.ring_base.specs.Group.{Group}
 use Rattle.ring_object.specs.Operations.{Sequential}
-use Rattle.ring_history.specs.declared.event.Event.{Event}
-use Rattle.ring_history.specs.declared.event.Event.TheVariants.{Stop}
-use Rattle.ring_history.specs.declared.told.Told.{Told}
-use Rattle.ring_history.specs.Worlds.{World, world_opening, happens, run}
+use Rattle.ring_rules.specs.declared.event.Event.{Event}
+use Rattle.ring_rules.specs.declared.event.Event.TheVariants.{Stop}
+use Rattle.ring_rules.specs.declared.told.Told.{Told}
+use Rattle.ring_rules.specs.Worlds.{World, world_opening, happens, run}
 use Rattle.ring_world.specs.Played.{Played, world_of, Goes, Plays}
 
 module _ {O A : Type 0} (object : Sequential O) where

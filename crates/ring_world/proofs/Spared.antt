@@ -1,18 +1,18 @@
 -- The second copies of the calls that wait: what a step answers has its copy, and those that wait on keep theirs.
 use Rattle.std.proofs.Common.{◌≡◌, ℕ, zero, suc, ◌+◌, ◌<◌, Bool, true, false, List, [], ◌∷◌, ◌++◌, length, Option, Some}
-use Rattle.std.proofs.Common.{None, slice_get, refl, ap, ◌∙◌, sym, subst, arith, append-nil, append_assoc, ◌⊎◌, inl}
+use Rattle.std.proofs.Common.{None, slice_get, refl, ap, ◌∙◌, sym, subst, arith, append-nil, append_assoc, inl}
 use Rattle.std.proofs.Common.{inr}
 use Rattle.std.specs.Prelude.{if◌then◌else◌, slice_set}
-use Rattle.std.proofs.lemmas.Bool.{eqb-true}
 use Rattle.ring_object.specs.Operations.{Sequential}
 use Rattle.ring_payload.specs.declared.call.Call.{Call}
+use Rattle.ring_order_proof.proofs.RepliesTold.{is_place-true}
 use Rattle.ring_session.specs.declared.answer.Answer.{Answer}
 use Rattle.ring_session.specs.SessionAnswer.{session_answer}
-use Rattle.ring_ticket.specs.declared.answered.Answered.{Answered}
-use Rattle.ring_ticket.specs.Tickets.{Asked, place_of, is_place, answered, answers_at, answers_after}
-use Rattle.ring_ticket.proofs.Places.{first_place-below, or_else, last_place, first_place-push}
+use Rattle.ring_session.specs.declared.answered.Answered.{Answered}
+use Rattle.ring_session.specs.Tickets.{Asked, place_of, is_place, answered, answers_at, answers_after}
+use Rattle.ring_session.proofs.TicketPlaces.{first_place-below, or_else, last_place, first_place-push}
 use Rattle.ring_world.specs.Spares.{IsLeft, AllLeft, without, after_answers, Holds}
-use Rattle.ring_world.proofs.Longer.{get-before}
+use Rattle.ring_base.proofs.ListPlaces.{get-push, get-last, get-left, push-length}
 
 -- Places of what is set
 
@@ -66,12 +66,8 @@ module _ {A : Type 0} (committed : List (Call A)) (d : Call A) where
   waits_on t e = split_none (place_of committed t) (last_place t.call t.since (0 + length committed) d)
       (sym (first_place-push t.call t.since 0 committed d) ∙ e)
 
-at_place : (place : ℕ) (o : Option ℕ) → is_place place o ≡ true → o ≡ Some place
-at_place place None e = absurd (let q : ⊥ = cc e in q)
-at_place place (Some p) e = ap Some (eqb-true p place e)
-
 not_place : (place : ℕ) (o : Option ℕ) → is_place place o ≡ true → o ≡ None → ⊥
-not_place place o e n = (let s = at_place place o e in let q : ⊥ = cc (sym s ∙ n) in q)
+not_place place o e n = (let s = is_place-true place o e in let q : ⊥ = cc (sym s ∙ n) in q)
 
 module _ {O A : Type 0} (object : Sequential O) where
   -- the answers of one place, to the tickets from this one on
@@ -154,7 +150,7 @@ module _ {O A : Type 0} (object : Sequential O) where
     one true None calls ticket t ts e wait rest = passed committed d calls ticket t ts wait rest
     one true (Some a) calls ticket t ts e wait rest =
         let at : ticket + 0 ≡ ticket = omega arith in
-        let here = subst (λ n. IsLeft calls n t.call) at (wait zero t refl (was_waiting committed d t (at_place (length committed) (place_of now t) e))) in
+        let here = subst (λ n. IsLeft calls n t.call) at (wait zero t refl (was_waiting committed d t (is_place-true (length committed) (place_of now t) e))) in
         taken now calls ticket t ts (answers_at object now (length committed) (ticket + 1) ts) a here (not_place (length committed) (place_of now t) e)
         (rest (without calls ticket) (λ k u at_u w.
         let n : ticket + suc k ≡ (ticket + 1) + k = omega arith in
@@ -195,27 +191,13 @@ module _ {O A : Type 0} (object : Sequential O) where
 
 -- A ticket more
 
-get-push : {X : Type 0} (xs : List X) (x : X) (k : ℕ) (y : X) → slice_get (xs ++ x ∷ []) k ≡ Some y → (slice_get xs k ≡ Some y) ⊎ ((k ≡ length xs) × (x ≡ y))
-get-push [] x zero y e = inr (refl, cc e)
-get-push [] x (suc k) y e = absurd (let q : ⊥ = cc e in q)
-get-push (z ∷ xs) x zero y e = inl e
-get-push (z ∷ xs) x (suc k) y e = elim (get-push xs x k y e) [ inl h ↦ inl h | inr h ↦ inr (ap suc h.0, h.1) ]
-
-get-last : {X : Type 0} (xs : List X) (x : X) → slice_get (xs ++ x ∷ []) (length xs) ≡ Some x
-get-last [] x = refl
-get-last (y ∷ xs) x = get-last xs x
-
-push-length : {X : Type 0} (xs : List X) (x : X) → length (xs ++ x ∷ []) ≡ suc (length xs)
-push-length [] x = refl
-push-length (y ∷ xs) x = ap suc (push-length xs x)
-
 pub holds-more : {A : Type 0} (calls : List (Option (Call A))) (tickets : List (Asked A)) (committed : List (Call A))
     (t : Asked A) → Holds calls tickets committed →
     Holds (calls ++ Some t.call ∷ []) (tickets ++ t ∷ []) committed
 holds-more {A} calls tickets committed t h = record {
   many = push-length calls (Some t.call) ∙ ap suc h.many ∙ sym (push-length tickets t);
   each = λ k u e w. elim (get-push tickets t k u e) [
-    | inl there ↦ get-before calls (Some t.call ∷ []) k (Some u.call) (h.each k u there w)
+    | inl there ↦ get-left calls (Some t.call ∷ []) k (Some u.call) (h.each k u there w)
     | inr last ↦
         let at : k ≡ length calls = last.0 ∙ sym h.many in
         subst (λ n. slice_get (calls ++ Some t.call ∷ []) n ≡ Some (Some u.call)) (sym at)

@@ -13,10 +13,9 @@ use Rattle.ring_wire.specs.declared.frame.Frame.{Frame}
 use Rattle.ring_wire.specs.Frames.{spelling_of, FrameFits}
 use Rattle.ring_wire.specs.Fronts.{IsReadFault, IsGot, IsNoFront}
 use Rattle.ring_wire.specs.Spells.{Spells}
-use Rattle.ring_core.specs.State.{Carried}
-use Rattle.ring_history.specs.Worlds.{frame_at}
+use Rattle.ring_core.specs.State.{Carried, frame_at, frame_for}
 use Rattle.ring_world.specs.declared.frames.Mark.{Mark}
-use Rattle.ring_world.specs.Stored.{text_of, mark_of, marks_from, AreFrames, mark_at, mark_for, frame_for}
+use Rattle.ring_world.specs.Stored.{text_of, mark_of, marks_from, AreFrames, mark_at, mark_for}
 
 -- One more
 

@@ -2,14 +2,14 @@
 use Rattle.std.proofs.Common.{List, subst}
 use Rattle.ring_base.specs.Group.{Group}
 use Rattle.ring_object.specs.Operations.{Sequential}
-use Rattle.ring_moves.specs.Worlds.{World as RingWorld}
-use Rattle.ring_history.specs.declared.event.Event.{Event}
-use Rattle.ring_history.specs.Worlds.{world_opening, run}
-use Rattle.ring_chain.specs.Told.{NameSameMembers}
-use Rattle.ring_chain.proofs.Parts.{unformed_same_members}
-use Rattle.ring_linear.proofs.Events.{ring_run}
-use Rattle.ring_linear.proofs.Installed.{all_synchronous}
-use Rattle.ring_linear.specs.Synchrony.{IsVirtuallySynchronous}
+use Rattle.ring_core_proof.specs.Worlds.{World as RingWorld}
+use Rattle.ring_rules.specs.declared.event.Event.{Event}
+use Rattle.ring_rules.specs.Worlds.{world_opening, run}
+use Rattle.ring_chain_proof.specs.ChainTold.{NameSameMembers}
+use Rattle.ring_chain_proof.proofs.TakingPart.{unformed_same_members}
+use Rattle.ring_order_proof.proofs.ProjectedEvents.{ring_run}
+use Rattle.ring_synchrony_proof.proofs.Installed.{all_synchronous}
+use Rattle.ring_synchrony_proof.specs.Synchrony.{IsVirtuallySynchronous}
 use Rattle.ring_world.specs.Synchronous.{IsSynchronous}
 
 pub synchronous_run : {O A : Type 0} (object : Sequential O) (group : Group) (events : List (Event A))

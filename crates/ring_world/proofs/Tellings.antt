@@ -4,11 +4,11 @@ use Rattle.std.proofs.Common.{◌∙◌, sym, subst, arith, append-nil, append_a
 use Rattle.std.proofs.lemmas.List.{map-append}
 use Rattle.ring_payload.specs.declared.call.Call.{Call}
 use Rattle.ring_session.specs.SessionAnswer.{reply_in}
-use Rattle.ring_ticket.specs.declared.answered.Answered.{Answered}
-use Rattle.ring_history.specs.declared.item.Item.{Item}
-use Rattle.ring_history.specs.declared.told.Told.{Told}
-use Rattle.ring_history.specs.declared.told.Told.TheVariants.{Answer as ToldAnswer}
-use Rattle.ring_history.specs.Worlds.{items_of, replied, told_by}
+use Rattle.ring_session.specs.declared.answered.Answered.{Answered}
+use Rattle.ring_rules.specs.declared.item.Item.{Item}
+use Rattle.ring_rules.specs.declared.told.Told.{Told}
+use Rattle.ring_rules.specs.declared.told.Told.TheVariants.{Answer as ToldAnswer}
+use Rattle.ring_rules.specs.Worlds.{items_of, replied, told_by}
 use Rattle.ring_world.specs.Spares.{IsLeft, AllLeft, without, after_answers}
 
 -- what the answers add

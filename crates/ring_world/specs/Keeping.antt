@@ -4,12 +4,12 @@ use Rattle.std.specs.List.{AllByRecursion}
 use Rattle.ring_base.specs.Group.{Group}
 use Rattle.ring_object.specs.Operations.{Sequential}
 use Rattle.ring_core.specs.State.{Carried}
-use Rattle.ring_machine.specs.Nodes.{Node, node_committed}
-use Rattle.ring_history.specs.declared.event.Event.{Event}
-use Rattle.ring_history.specs.declared.item.Item.{Item}
-use Rattle.ring_history.specs.declared.told.Told.{Told}
-use Rattle.ring_history.specs.Limits.{EventFits}
-use Rattle.ring_history.specs.Worlds.{World, world_opening, run}
+use Rattle.ring_rules.specs.Nodes.{Node, node_committed}
+use Rattle.ring_rules.specs.declared.event.Event.{Event}
+use Rattle.ring_rules.specs.declared.item.Item.{Item}
+use Rattle.ring_rules.specs.declared.told.Told.{Told}
+use Rattle.ring_rules.specs.WorldLimits.{EventFits}
+use Rattle.ring_rules.specs.Worlds.{World, world_opening, run}
 use Rattle.ring_world.specs.Played.{told_of_events}
 use Rattle.ring_world.specs.Spares.{Spares, Holds}
 
@@ -18,7 +18,7 @@ abbrev pub KeepsCopies : {A : Type 0} → Node A → Spares A → Type 0
 KeepsCopies n s = Holds s.calls n.tickets (node_committed n)
 
 -- nodes, their copies, frames and history are those of the world, and so is what was told of its events
-pub record IsKept {A : Type 0} (w : World A) (nodes : List (Node A)) (spares : List (Spares A))
+pub record IsWorldKept {A : Type 0} (w : World A) (nodes : List (Node A)) (spares : List (Spares A))
     (frames : List (Carried A)) (history : List (Item A)) (told : List (Told A)) : Type 0 where
   pub nodes_are : (i : ℕ) → i < w.group.count → slice_get nodes i ≡ Some (w.nodes (suc i))
   pub many : length nodes ≡ w.group.count
@@ -32,7 +32,7 @@ pub record IsKept {A : Type 0} (w : World A) (nodes : List (Node A)) (spares : L
 pub record IsWorld {O A : Type 0} (object : Sequential O) (group : Group) (events : List (Event A))
     (nodes : List (Node A)) (spares : List (Spares A)) (frames : List (Carried A))
     (history : List (Item A)) (told : List (Told A)) : Type 0 where
-  pub kept : IsKept (run object (world_opening group) events) nodes spares frames history told
+  pub kept : IsWorldKept (run object (world_opening group) events) nodes spares frames history told
   pub same : (run object (world_opening group) events).group ≡ group
   pub fit : AllByRecursion EventFits events
   pub few : group.count ≤ 16

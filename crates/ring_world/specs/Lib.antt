@@ -4,3 +4,5 @@ pub mod Played
 pub mod Ordering
 pub mod Keeping
 pub mod Synchronous
+pub mod Pairs
+pub mod Pumping

@@ -2,8 +2,8 @@
 use Rattle.std.specs.Prelude.{◌≡◌, ℕ, List, [], map, Option, Some, None, slice_get}
 use Rattle.ring_payload.specs.declared.call.Call.{Call}
 use Rattle.ring_session.specs.Deduplicated.{deduplicated}
-use Rattle.ring_machine.specs.Nodes.{Node, node_committed}
-use Rattle.ring_history.specs.Orders.{order_of}
+use Rattle.ring_rules.specs.Nodes.{Node, node_committed}
+use Rattle.ring_rules.specs.Orders.{order_of}
 
 -- what nodes committed
 abbrev pub logs_of : {A : Type 0} → List (Node A) → List (List (Call A))

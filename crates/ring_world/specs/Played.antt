@@ -6,14 +6,14 @@ use Rattle.ring_base.specs.Group.{Group}
 use Rattle.ring_base.specs.Processors.{has}
 use Rattle.ring_object.specs.Operations.{Sequential}
 use Rattle.ring_payload.specs.declared.call.Call.{Call}
-use Rattle.ring_core.specs.State.{Carried}
-use Rattle.ring_machine.specs.Nodes.{is_stopped}
-use Rattle.ring_machine.specs.Stepping.{submit_fault}
-use Rattle.ring_history.specs.declared.event.Event.{Event}
-use Rattle.ring_history.specs.declared.event.Event.TheVariants.{Issue, Deliver, Noise, Timeout, Stop}
-use Rattle.ring_history.specs.declared.told.Told.{Told}
-use Rattle.ring_history.specs.declared.told.Told.TheVariants.{Answer, Refused}
-use Rattle.ring_history.specs.Worlds.{World, world_opening, run, happens, is_node, frame_at}
+use Rattle.ring_core.specs.State.{Carried, frame_at}
+use Rattle.ring_rules.specs.Nodes.{is_stopped}
+use Rattle.ring_rules.specs.Stepping.{submit_fault}
+use Rattle.ring_rules.specs.declared.event.Event.{Event}
+use Rattle.ring_rules.specs.declared.event.Event.TheVariants.{Issue, Deliver, Noise, Timeout, Stop}
+use Rattle.ring_rules.specs.declared.told.Told.{Told}
+use Rattle.ring_rules.specs.declared.told.Told.TheVariants.{Answer, Refused}
+use Rattle.ring_rules.specs.Worlds.{World, world_opening, run, happens, is_node}
 
 -- all events since the opening, what was told, and how many events of the last run were done
 pub record Played (A : Type 0) : Type 0 where

@@ -2,8 +2,8 @@
 -- So a step that answers needs no memory for what it adds to the history. The replicated log, rules 13 to 15 of docs/PROTOCOL.md.
 use Rattle.std.specs.Prelude.{◌≡◌, ℕ, List, [], ◌∷◌, length, Option, Some, None, slice_get, slice_set}
 use Rattle.ring_payload.specs.declared.call.Call.{Call}
-use Rattle.ring_ticket.specs.declared.answered.Answered.{Answered}
-use Rattle.ring_ticket.specs.Tickets.{Asked, place_of}
+use Rattle.ring_session.specs.declared.answered.Answered.{Answered}
+use Rattle.ring_session.specs.Tickets.{Asked, place_of}
 
 -- what contracts see: by ticket, the copy that is left, and for how many more there is a place
 pub record Spares (A : Type 0) : Type 0 where

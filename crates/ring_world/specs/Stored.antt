@@ -3,7 +3,6 @@
 use Rattle.std.specs.Prelude.{◌≡◌, ℕ, zero, suc, ◌+◌, ◌*◌, ◌≤◌, List, [], ◌∷◌, ◌++◌, length, if◌then◌else◌, Option, Some, None, slice_get}
 use Rattle.std.specs.List.{AllByRecursion}
 use Rattle.ring_base.specs.Processors.{has}
-use Rattle.ring_wire.specs.declared.frame.Frame.{Frame}
 use Rattle.ring_wire.specs.Frames.{spelling_of, FrameFits}
 use Rattle.ring_core.specs.State.{Carried}
 use Rattle.ring_world.specs.declared.frames.Mark.{Mark}
@@ -45,11 +44,6 @@ pub record AreFrames {A : Type 0} (frames : List (Carried A)) (bytes : List ℕ)
 abbrev pub mark_at : List Mark → ℕ → Option Mark
 mark_at marks zero = None
 mark_at marks (suc k) = slice_get marks k
-
--- the frame, if it was sent to this processor
-abbrev pub frame_for : {A : Type 0} → ℕ → Option (Carried A) → Option (Frame A)
-frame_for i None = None
-frame_for i (Some f) = if has f.to i then Some f.frame else None
 
 abbrev pub mark_for : ℕ → Option Mark → Option Mark
 mark_for i None = None

@@ -1,9 +1,9 @@
 -- The ring part of a world is virtually synchronous. Outputs, rule 11 of docs/PROTOCOL.md.
 use Rattle.ring_base.specs.Group.{Group}
-use Rattle.ring_history.specs.Worlds.{World}
-use Rattle.ring_chain.specs.Told.{NameSameMembers}
-use Rattle.ring_linear.specs.Projection.{IsRingRun, ring_part}
-use Rattle.ring_linear.specs.Synchrony.{IsVirtuallySynchronous}
+use Rattle.ring_rules.specs.Worlds.{World}
+use Rattle.ring_chain_proof.specs.ChainTold.{NameSameMembers}
+use Rattle.ring_order_proof.specs.Projection.{IsRingRun, ring_part}
+use Rattle.ring_synchrony_proof.specs.Synchrony.{IsVirtuallySynchronous}
 
 -- the nodes' cores and frames are those of a run of ring cores, by which these gave the outputs that make it
 -- synchronous; and all who take part in a ring name the same members of it

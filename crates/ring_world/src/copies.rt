@@ -5,8 +5,8 @@ ghost use Rattle.ring_base.specs.declared.fault.Fault.TheVariants.{Memory};
 ghost use Rattle.ring_world.specs.Played.{IsCopy};
 
 use ring_base::Fault;
-use ring_history::Event;
 use ring_payload::Call;
+use ring_rules::Event;
 use std::alloc::Allocator;
 
 /// A copy of the call, or `Memory`.

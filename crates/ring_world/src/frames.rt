@@ -5,9 +5,8 @@ ghost use Rattle.ring_base.specs.declared.fault.Fault.TheVariants.{Memory};
 ghost use Rattle.ring_wire.specs.declared.frame.Frame.{Frame as OneFrame};
 ghost use Rattle.ring_wire.specs.Frames.{FrameFits};
 ghost use Rattle.ring_wire.specs.Spells.{Spells};
-ghost use Rattle.ring_core.specs.State.{Carried};
-ghost use Rattle.ring_history.specs.Worlds.{frame_at};
-ghost use Rattle.ring_world.specs.Stored.{HasRoom, frame_for, mark_at, mark_for};
+ghost use Rattle.ring_core.specs.State.{Carried, frame_at, frame_for};
+ghost use Rattle.ring_world.specs.Stored.{HasRoom, mark_at, mark_for};
 
 use bytes::BytesMut;
 use ring_base::{Fault, Past, Proc, ProcSet, past_of};

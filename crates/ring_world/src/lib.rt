@@ -4,11 +4,15 @@
 mod copies;
 mod frames;
 mod order;
+mod pairs;
+mod pump;
 mod spares;
 mod telling;
 mod world;
 
-pub use ring_history::{Event, Item, Told, is_linearization};
-pub use ring_linear::laws::linear_law;
+pub use pairs::Pair;
+pub use pump::Pump;
 pub use ring_node::Node;
+pub use ring_order_proof::laws::linear_law;
+pub use ring_rules::{Event, Item, Told};
 pub use world::World;

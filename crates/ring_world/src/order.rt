@@ -1,8 +1,8 @@
 //! Which node's log gives the longest order.
 
 ghost use Rattle.std.specs.Prelude.{◌≡◌, ◌<◌, length, MatchOption, Some};
-ghost use Rattle.ring_history.specs.Orders.{order_of};
-ghost use Rattle.ring_machine.specs.Nodes.{Node as ToldNode, node_committed};
+ghost use Rattle.ring_rules.specs.Orders.{order_of};
+ghost use Rattle.ring_rules.specs.Nodes.{Node as ToldNode, node_committed};
 ghost use Rattle.ring_world.specs.Ordering.{IsLongest, logs_of};
 
 use ring_node::Node;

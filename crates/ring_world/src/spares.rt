@@ -7,7 +7,7 @@ ghost use Rattle.ring_world.specs.Spares.{IsLeft, without};
 
 use ring_base::Fault;
 use ring_payload::Call;
-use ring_ticket::Ticket;
+use ring_session::Ticket;
 use std::alloc::{Allocator, Global};
 use std::marker::Model;
 

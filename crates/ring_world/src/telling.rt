@@ -2,16 +2,15 @@
 
 ghost use Rattle.std.specs.Prelude.{◌≡◌, ℕ, ◌+◌, ◌≤◌, [], ◌∷◌, ◌++◌, length, vec_len, vec_capacity};
 ghost use Rattle.ring_session.specs.SessionAnswer.{reply_in};
-ghost use Rattle.ring_history.specs.Worlds.{items_of, replied, told_by};
-ghost use Rattle.ring_history.specs.declared.told.Told.TheVariants.{Answer as ToldAnswer};
+ghost use Rattle.ring_rules.specs.Worlds.{items_of, replied, told_by};
+ghost use Rattle.ring_rules.specs.declared.told.Told.TheVariants.{Answer as ToldAnswer};
 ghost use Rattle.ring_world.specs.Spares.{IsLeft, AllLeft, without, after_answers};
 
 use crate::spares::Spares;
 use ring_base::Proc;
-use ring_history::{Item, Told};
 use ring_payload::Call;
-use ring_session::Answer;
-use ring_ticket::Answered;
+use ring_rules::{Item, Told};
+use ring_session::{Answer, Answered};
 use std::alloc::Allocator;
 
 /// Tells the answers of a node, in order. There is room, and the copies of their calls are left.

@@ -5,19 +5,15 @@ use Rattle.std.proofs.lemmas.Option.{slice_get_past}
 use Rattle.ring_base.specs.Fault.{fault_number}
 use Rattle.ring_base.specs.declared.fault.Fault.{Fault}
 use Rattle.ring_base.specs.declared.fault.Fault.TheVariants.{PendingFull, Stopped, Memory}
+use Rattle.ring_base.proofs.ListPlaces.{get-last}
 use Rattle.ring_object.specs.Operations.{Sequential}
 use Rattle.ring_payload.specs.declared.call.Call.{Call}
-use Rattle.ring_history.specs.declared.event.Event.TheVariants.{Issue}
-use Rattle.ring_history.specs.declared.told.Told.{Told}
-use Rattle.ring_history.specs.declared.told.Told.TheVariants.{Refused}
+use Rattle.ring_rules.specs.declared.event.Event.TheVariants.{Issue}
+use Rattle.ring_rules.specs.declared.told.Told.{Told}
+use Rattle.ring_rules.specs.declared.told.Told.TheVariants.{Refused}
 use Rattle.ring_world_port.specs.Network.{Networked, IsIssued, IsNotIssued, refusal_in, fault_of}
-use Rattle.ring_pump.specs.Pumping.{Happens}
-use Rattle.ring_world_port.proofs.Telling.{IsOne, submit_tells}
-
--- what stands right behind a list
-behind : {X : Type 0} (xs : List X) (x : X) → slice_get (xs ++ x ∷ []) (length xs) ≡ Some x
-behind [] x = refl
-behind (y ∷ ys) x = behind ys x
+use Rattle.ring_world.specs.Pumping.{Happens}
+use Rattle.ring_world_port.proofs.SubmitTells.{IsOne, submit_tells}
 
 -- a refusal of a submit is the one of its number
 of_number : (fault : Fault) → IsOne fault → fault_of (fault_number fault) ≡ fault
@@ -35,7 +31,7 @@ nothing_there before after place at same =
 refusal_there : {A : Type 0} (i : ℕ) (c : Call A) (before after : List (Told A)) (place : ℕ) (fault : Fault)
     → place ≡ length before → IsOne fault → after ≡ before ++ Refused i c (fault_number fault) ∷ [] → refusal_in (slice_get after place) ≡ Some fault
 refusal_there i c before after place fault at one more =
-    let there : slice_get after place ≡ Some (Refused i c (fault_number fault)) = rw (at, more) (behind before (Refused i c (fault_number fault))) in
+    let there : slice_get after place ≡ Some (Refused i c (fault_number fault)) = rw (at, more) (get-last before (Refused i c (fault_number fault))) in
     rw there (ap (λ f. Some f) (of_number fault one))
 
 module _ {O : Type 0} (object : Sequential O) where

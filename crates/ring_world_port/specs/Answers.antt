@@ -4,8 +4,8 @@ use Rattle.std.specs.Str.{bytes_eq}
 use Rattle.ring_payload.specs.declared.call.Call.{Call}
 use Rattle.ring_session.specs.declared.answer.Answer.{Answer as OneAnswer}
 use Rattle.ring_session.specs.declared.answer.Answer.TheVariants.{Done, Kept, Refused as RefusedAnswer}
-use Rattle.ring_history.specs.declared.told.Told.{Told}
-use Rattle.ring_history.specs.declared.told.Told.TheVariants.{Answer, Refused}
+use Rattle.ring_rules.specs.declared.told.Told.{Told}
+use Rattle.ring_rules.specs.declared.told.Told.TheVariants.{Answer, Refused}
 use Rattle.ring_world_port.specs.declared.answers.Question.{Question}
 
 -- whether this node's call is the one asked for: of this client and number, and with this operation

@@ -11,14 +11,14 @@ use Rattle.ring_base.specs.declared.state.State.{State}
 use Rattle.ring_base.specs.declared.state.State.TheVariants.{Gather, Commit, Recovery, Operational, Stopped}
 use Rattle.ring_object.specs.Operations.{Sequential}
 use Rattle.ring_payload.specs.declared.call.Call.{Call}
-use Rattle.ring_history.specs.declared.event.Event.{Event}
-use Rattle.ring_history.specs.declared.event.Event.TheVariants.{Issue, Deliver, Timeout}
-use Rattle.ring_history.specs.declared.told.Told.{Told}
-use Rattle.ring_history.specs.declared.told.Told.TheVariants.{Answer, Refused}
-use Rattle.ring_history.specs.Worlds.{World}
-use Rattle.ring_pump.specs.Played.{world_of}
-use Rattle.ring_pump.specs.declared.pairs.Pair.{Pair}
-use Rattle.ring_pump.specs.Pumping.{Pumped, Rests, Happens}
+use Rattle.ring_rules.specs.declared.event.Event.{Event}
+use Rattle.ring_rules.specs.declared.event.Event.TheVariants.{Issue, Deliver, Timeout}
+use Rattle.ring_rules.specs.declared.told.Told.{Told}
+use Rattle.ring_rules.specs.declared.told.Told.TheVariants.{Answer, Refused}
+use Rattle.ring_rules.specs.Worlds.{World}
+use Rattle.ring_world.specs.Played.{world_of}
+use Rattle.ring_world.specs.declared.pairs.Pair.{Pair}
+use Rattle.ring_world.specs.Pumping.{Pumped, Rests, Happens}
 
 -- What contracts see.
 pub record Networked (A : Type 0) : Type 0 where

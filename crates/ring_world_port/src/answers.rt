@@ -6,8 +6,8 @@ ghost use Rattle.ring_world_port.specs.Answers.{is_asked, tellable, answer_of, a
 
 use ring_base::Proc;
 use ring_client::Op;
-use ring_history::Told;
 use ring_payload::Call;
+use ring_rules::Told;
 use ring_session::Answer;
 use std::alloc::Allocator;
 

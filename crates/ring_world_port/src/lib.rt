@@ -10,5 +10,5 @@ mod port;
 
 pub use network::Network;
 pub use port::{Shared, Ticket, WorldPort};
-pub use ring_history::Event;
-pub use ring_pump::World;
+pub use ring_rules::Event;
+pub use ring_world::World;

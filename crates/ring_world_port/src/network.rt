@@ -4,22 +4,21 @@ ghost use Rattle.std.specs.Prelude.{◌≡◌, ◌<◌, ◌≤◌, ◌⊎◌, dr
 ghost use Rattle.ring_base.specs.Processors.{everybody, common};
 ghost use Rattle.ring_base.specs.declared.fault.Fault.TheVariants.{Memory};
 ghost use Rattle.ring_client.specs.Asking.{IsTold};
-ghost use Rattle.ring_history.specs.Limits.{EventFits};
-ghost use Rattle.ring_pump.specs.Pairs.{frames_of, all_pairs};
-ghost use Rattle.ring_pump.specs.Pumping.{Happens, Rests};
-ghost use Rattle.ring_pump.specs.Played.{world_of};
+ghost use Rattle.ring_rules.specs.WorldLimits.{EventFits};
+ghost use Rattle.ring_world.specs.Pairs.{frames_of, all_pairs};
+ghost use Rattle.ring_world.specs.Pumping.{Happens, Rests};
+ghost use Rattle.ring_world.specs.Played.{world_of};
 ghost use Rattle.ring_world_port.specs.Answers.{answer_in};
 ghost use Rattle.ring_world_port.specs.Network.{Stays, IsIssued, IsNotIssued, HappensIf, HasTurned, LosesTurn};
 ghost use Rattle.ring_world_port.specs.Network.{following, fault_of, hears, arrival, kind_in, timeout_in, refusal_in};
 
 use crate::answers::Question;
 use ring_base::{Fault, Kind, Proc, ProcSet, State};
-use ring_history::{Event, Told};
 use ring_object::Object;
 use ring_payload::{Call, MOST_OPERATION};
-use ring_pump::{Pair, Pump, World};
-use ring_session::Answer;
-use ring_ticket::copy_of;
+use ring_rules::{Event, Told};
+use ring_session::{Answer, copy_of};
+use ring_world::{Pair, Pump, World};
 use std::alloc::Allocator;
 use std::marker::Model;
 

@@ -2,7 +2,7 @@
 
 ghost use Rattle.std.specs.Prelude.{IfOk};
 ghost use Rattle.std.specs.List.{AllByRecursion};
-ghost use Rattle.ring_history.specs.Limits.{EventFits};
+ghost use Rattle.ring_rules.specs.WorldLimits.{EventFits};
 ghost use Rattle.ring_payload.specs.Calls.{CallFits};
 
 use ring_base::{Fault, Fixed, Kind, MOST_PROCESSORS, Proc};

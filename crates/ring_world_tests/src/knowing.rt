@@ -4,10 +4,10 @@ ghost use Rattle.std.specs.Prelude.{ℕ, ◌≤◌, length};
 ghost use Rattle.std.specs.List.{AllByRecursion};
 ghost use Rattle.ring_base.specs.Fronts.{IsFront};
 ghost use Rattle.ring_session.specs.Deduplicated.{deduplicated};
-ghost use Rattle.ring_history.specs.Histories.{IsLinearization};
-ghost use Rattle.ring_history.specs.Limits.{EventFits};
-ghost use Rattle.ring_history.specs.Worlds.{order};
-ghost use Rattle.ring_machine.specs.Nodes.{node_committed};
+ghost use Rattle.ring_rules.specs.Histories.{IsLinearization};
+ghost use Rattle.ring_rules.specs.WorldLimits.{EventFits};
+ghost use Rattle.ring_rules.specs.Worlds.{order};
+ghost use Rattle.ring_rules.specs.Nodes.{node_committed};
 ghost use Rattle.ring_world.specs.Played.{world_of};
 
 use ring_base::Fault;

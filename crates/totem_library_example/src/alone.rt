@@ -1,14 +1,13 @@
 //! A node that is alone in its group, and hears the frames that it sends.
 
-ghost use Rattle.ring_machine.specs.Limits.{InputFits};
+ghost use Rattle.ring_rules.specs.NodeLimits.{InputFits};
 
 use ring_base::{Fault, Fixed, Kind};
 use ring_node::{Input, Node};
 use ring_object::Object;
 use ring_payload::Call;
 use ring_replica::Sent;
-use ring_session::Answer;
-use ring_ticket::Ticket;
+use ring_session::{Answer, Ticket};
 use std::marker::Model;
 
 /// A node of a group of one, and the frames that its last step sent. Contracts see a `Node` that keeps the limits of frames,
@@ -22,9 +21,9 @@ pub struct Alone<O: Object> {
 
 impl<O: Object> Model for Alone<O> {
     ghost use Rattle.std.specs.List.{AllByRecursion};
-    ghost use Rattle.ring_frames.proofs.Nodes.{NodeFits};
-    ghost use Rattle.ring_limits.proofs.Acts.{SentFits};
-    ghost use Rattle.ring_machine.specs.Nodes.{Node as ToldNode};
+    ghost use Rattle.ring_order_proof.proofs.NodeLimits.{NodeFits};
+    ghost use Rattle.ring_core_proof.specs.Limits.{SentFits};
+    ghost use Rattle.ring_rules.specs.Nodes.{Node as ToldNode};
 
     ghost Value = { ToldNode O.Alloc };
 

@@ -1,9 +1,9 @@
 use Rattle.std.proofs.Common.{subst, sym}
 use Rattle.ring_base.specs.Fronts.{IsFront}
 use Rattle.ring_session.specs.Deduplicated.{deduplicated}
-use Rattle.ring_history.specs.Worlds.{order, run, world_opening}
-use Rattle.ring_machine.specs.Nodes.{node_committed}
-use Rattle.ring_book.specs.Events.{events_of}
+use Rattle.ring_rules.specs.Worlds.{order, run, world_opening}
+use Rattle.ring_rules.specs.Nodes.{node_committed}
+use Rattle.ring_book_lines.specs.Events.{events_of}
 use Rattle.ring_book_tests.proofs.linear.in_order.Goals as goal
 
 pub returns : goal.returns

@@ -1,6 +1,6 @@
 use Rattle.std.proofs.Common.{◌≡◌, ◌<◌, Some, slice_get, length, refl, arith}
 use Rattle.std.proofs.lemmas.Option.{slice_get_read}
-use Rattle.ring_console.proofs.Texts.{told_more}
+use Rattle.ring_console.proofs.PrintedLines.{told_more}
 use Rattle.ring_console.proofs.printed.print_told.Goals as goal
 
 pub loop-one-preserved : goal.loop-one-preserved

@@ -3,7 +3,7 @@ use Rattle.std.proofs.KnownBytes.{Appends-nil}
 use Rattle.ring_report.specs.Texts.{line_of}
 use Rattle.ring_console.specs.Printed.{legal_text}
 use Rattle.ring_console.specs.Running.{legal_line}
-use Rattle.ring_console.proofs.Texts.{whole_text}
+use Rattle.ring_console.proofs.PrintedLines.{whole_text}
 use Rattle.ring_console.proofs.running.run_script.Goals as goal
 
 pub returns-then-not-is_checked-clause-ok : goal.returns-then-not-is_checked-clause-ok

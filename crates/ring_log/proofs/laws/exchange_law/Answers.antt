@@ -1,4 +1,4 @@
-use Rattle.ring_log.proofs.Hearing.{handed, ends, later, handed-based}
+use Rattle.ring_log.proofs.WholeExchanges.{handed, ends, later, handed-based}
 use Rattle.ring_log.proofs.laws.exchange_law.Goals as goal
 
 pub returns-clause-handed : goal.returns-clause-handed

@@ -1,6 +1,7 @@
 use Rattle.std.proofs.Common.{◌*◌, drop, refl}
 use Rattle.ring_log.specs.Parts.{nth_part}
-use Rattle.ring_log.proofs.Fronts.{map_numbers, take_shorter, rest_whole}
+use Rattle.ring_base.proofs.ListPlaces.{map_numbers}
+use Rattle.ring_base.proofs.ListFronts.{take_shorter, rest_whole}
 use Rattle.ring_log.proofs.parts.parts_of.Goals as goal
 
 pub loop-k-preserved : goal.loop-k-preserved

@@ -2,11 +2,11 @@
 use Rattle.std.proofs.Common.{◌≡◌, ap, ◌∙◌, subst}
 use Rattle.std.specs.Prelude.{IfOk, OnOk}
 use Rattle.ring_core.specs.State.{Core}
-use Rattle.ring_machine.specs.Nodes.{is_stopped}
+use Rattle.ring_rules.specs.Nodes.{is_stopped}
 use Rattle.ring_replica.specs.Courses.{rises}
 use Rattle.ring_replica.specs.Replicas.{ReplicaStepped, replica_done}
-use Rattle.ring_marks.proofs.Marks.{rises_step, going_step}
-use Rattle.ring_node.proofs.Steps.{followed-as, followed-core}
+use Rattle.ring_replica.proofs.StayMarks.{rises_step, going_step}
+use Rattle.ring_node.proofs.NodeSteps.{followed-as, followed-core}
 use Rattle.ring_node.proofs.driving.advance.Goals as goal
 
 pub follow-requires-clause-rises : goal.follow-requires-clause-rises

@@ -1,9 +1,10 @@
 -- The replica ends the step that it took.
 use Rattle.std.proofs.Common.{ap, sym, ◌∙◌}
 use Rattle.ring_replica.specs.Replicas.{replica_done, replica_step}
-use Rattle.ring_node.proofs.Steps.{ends-as, stopped-as, left-as, err-always}
+use Rattle.ring_node.proofs.NodeSteps.{ends-as, stopped-as, left-as}
 use Rattle.ring_node.proofs.driving.follow.Goals as goal
 use Rattle.ring_node.proofs.driving.follow.Goals.{then-not-is_stopped, else-not-is_stopped}
+use Rattle.ring_base.proofs.Results.{on-err}
 
 pub finish-requires-clause-answers : goal.finish-requires-clause-answers
 finish-requires-clause-answers g c =
@@ -13,7 +14,7 @@ finish-requires-clause-answers g c =
 
 pub returns-in_err-hand_over-clause-err : goal.returns-in_err-hand_over-clause-err
 returns-in_err-hand_over-clause-err g c =
-    err-always c.from_residual-in_err-hand_over.result
+    on-err c.from_residual-in_err-hand_over.result _
     (left-as g.O.Object.sequential c.running-running.result c.args.replica.now c.args.outs.items c.step.new.self c.in_ok-given.ensures.ok)
 
 pub returns-clause-replica : goal.returns-clause-replica

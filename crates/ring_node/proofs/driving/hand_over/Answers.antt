@@ -7,10 +7,10 @@ use Rattle.ring_base.specs.declared.fault.Fault.TheVariants.{Memory, Stopped as 
 use Rattle.ring_core.specs.State.{Core}
 use Rattle.ring_core.specs.Stepping.{ring_step}
 use Rattle.ring_core.specs.declared.input.Input.TheVariants.{Send as SendInput}
-use Rattle.ring_machine.specs.Nodes.{is_stopped}
-use Rattle.ring_machine.specs.Stepping.{handed_over}
-use Rattle.ring_marks.proofs.Marks.{going_step}
-use Rattle.ring_node.proofs.Steps.{handed-next}
+use Rattle.ring_rules.specs.Nodes.{is_stopped}
+use Rattle.ring_rules.specs.Stepping.{handed_over}
+use Rattle.ring_replica.proofs.StayMarks.{going_step}
+use Rattle.ring_node.proofs.NodeSteps.{handed-next}
 use Rattle.ring_node.proofs.driving.hand_over.Goals as goal
 
 pub loop-payload-init : goal.loop-payload-init

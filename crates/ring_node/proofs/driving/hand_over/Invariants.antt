@@ -1,7 +1,7 @@
 -- What the payloads so far made of the core, which runs.
 use Rattle.std.proofs.Common.{◌≡◌, false}
-use Rattle.ring_machine.specs.Nodes.{is_stopped}
-use Rattle.ring_machine.specs.Stepping.{handed_over}
+use Rattle.ring_rules.specs.Nodes.{is_stopped}
+use Rattle.ring_rules.specs.Stepping.{handed_over}
 use Rattle.ring_node.proofs.driving.hand_over.Given as goal
 
 abbrev pub invariant-loop-payload : goal.invariant-loop-payload

@@ -1,7 +1,7 @@
 -- One that is set and not held is enough.
 use Rattle.std.proofs.Common.{sym, ◌∙◌, arith}
 use Rattle.ring_window.specs.Held.{holds}
-use Rattle.ring_recover.proofs.Choosing.{chosen_pass}
+use Rattle.ring_recover.proofs.NumbersPassing.{chosen_pass}
 use Rattle.ring_recover.proofs.Planning.{not_all}
 use Rattle.ring_recover.proofs.plan.are_held.Goals as goal
 

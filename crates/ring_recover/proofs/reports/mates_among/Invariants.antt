@@ -1,7 +1,7 @@
 -- Those gathered and those to come are all.
 use Rattle.std.proofs.Common.{drop}
 use Rattle.ring_base.specs.Processors.{elements}
-use Rattle.ring_recover.proofs.Mates.{IsGathered}
+use Rattle.ring_recover.proofs.GatheredMates.{IsGathered}
 use Rattle.ring_recover.proofs.reports.mates_among.Given as goal
 
 abbrev pub invariant-loop-entry : goal.invariant-loop-entry

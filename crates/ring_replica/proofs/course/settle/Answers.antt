@@ -2,7 +2,7 @@
 use Rattle.std.proofs.Common.{sym, subst}
 use Rattle.ring_base.specs.Fronts.{IsFront}
 use Rattle.ring_log.specs.Logs.{committed_calls}
-use Rattle.ring_replica.proofs.Lists.{committed-raised}
+use Rattle.ring_replica.proofs.LogChanges.{committed-raised}
 use Rattle.ring_replica.proofs.course.settle.Goals as goal
 
 pub returns-clause-front : goal.returns-clause-front

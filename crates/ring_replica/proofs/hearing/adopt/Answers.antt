@@ -5,7 +5,7 @@ use Rattle.std.proofs.lemmas.List.{take_rest}
 use Rattle.ring_log.specs.Logs.{adopted, Log}
 use Rattle.ring_log.proofs.Calls.{drop-min}
 use Rattle.ring_replica.specs.Courses.{calls_left}
-use Rattle.ring_replica.proofs.Lists.{committed-same, committed-adopted}
+use Rattle.ring_replica.proofs.LogChanges.{committed-same, committed-adopted}
 use Rattle.ring_replica.proofs.hearing.adopt.Goals as goal
 
 pub returns-in_err-adopt-clause-front : goal.returns-in_err-adopt-clause-front

@@ -1,6 +1,6 @@
 -- The committed places stay, however many calls were appended.
 use Rattle.std.proofs.Common.{◌∙◌}
-use Rattle.ring_replica.proofs.Lists.{committed-appended}
+use Rattle.ring_replica.proofs.LogChanges.{committed-appended}
 use Rattle.ring_replica.proofs.hearing.append_all.Goals as goal
 
 pub returns-in_err-append-clause-front : goal.returns-in_err-append-clause-front

@@ -1,6 +1,6 @@
 -- One call more leaves the committed places.
 use Rattle.std.proofs.Common.{[], ◌∷◌}
-use Rattle.ring_replica.proofs.Lists.{committed-appended}
+use Rattle.ring_replica.proofs.LogChanges.{committed-appended}
 use Rattle.ring_replica.proofs.hearing.append_calls.Goals as goal
 
 pub returns-in-Call-clause-front : goal.returns-in-Call-clause-front

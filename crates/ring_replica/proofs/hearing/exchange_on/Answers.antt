@@ -1,7 +1,7 @@
 -- The Parts come before the calls.
 use Rattle.std.proofs.Common.{ap, ◌∙◌}
 use Rattle.ring_log.specs.Exchanges.{wanted}
-use Rattle.ring_replica.proofs.Lists.{due-together}
+use Rattle.ring_replica.proofs.LogChanges.{due-together}
 use Rattle.ring_replica.proofs.hearing.exchange_on.Goals as goal
 
 pub returns-clause-due : goal.returns-clause-due

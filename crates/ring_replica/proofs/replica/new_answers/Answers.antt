@@ -3,9 +3,9 @@ use Rattle.std.proofs.Common.{◌+◌, ◌-◌, [], length, drop, fold, ap, ◌�
 use Rattle.std.proofs.lemmas.List.{take_rest}
 use Rattle.ring_log.specs.Logs.{committed_calls}
 use Rattle.ring_session.specs.Table.{table_next}
-use Rattle.ring_ticket.specs.Pendings.{answers_behind}
-use Rattle.ring_ticket.specs.Effects.{done_after}
-use Rattle.ring_ticket.proofs.Effects.{done_after-few}
+use Rattle.ring_session.specs.Pendings.{answers_behind}
+use Rattle.ring_session.specs.TicketEffects.{done_after}
+use Rattle.ring_session.proofs.TicketEffects.{done_after-few}
 use Rattle.ring_replica.proofs.replica.new_answers.Goals as goal
 
 pub overflow_add-result : goal.overflow_add-result

@@ -1,6 +1,6 @@
 -- The places stay those of what was given.
 use Rattle.std.proofs.Common.{◌∙◌}
-use Rattle.ring_runs.proofs.Places.{noted}
+use Rattle.ring_runs.proofs.FramePlaces.{noted}
 use Rattle.ring_runs.proofs.cores.note_one.Goals as goal
 
 pub returns-clause-places : goal.returns-clause-places

@@ -1,6 +1,6 @@
 -- Of one output at most the last is the only one.
 use Rattle.std.proofs.Common.{filter_map, sym, ap, ◌∙◌}
-use Rattle.ring_moves.specs.Worlds.{carried_by}
+use Rattle.ring_core_proof.specs.Worlds.{carried_by}
 use Rattle.ring_runs.proofs.Forming.{last_alone}
 use Rattle.ring_runs.proofs.cores.sent_first.Goals as goal
 

@@ -1,6 +1,6 @@
 -- An event that acts happens, and any other changes nothing.
 use Rattle.std.proofs.Common.{◌≡◌, IfOk, subst, sym, ◌∙◌}
-use Rattle.ring_moves.specs.Worlds.{acts_on_formed}
+use Rattle.ring_core_proof.specs.Worlds.{acts_on_formed}
 use Rattle.ring_runs.specs.Running.{Ran}
 use Rattle.ring_runs.proofs.Acting.{acts_one, acts_none}
 use Rattle.ring_runs.proofs.fixed_ring.acted.Goals as goal

@@ -2,10 +2,11 @@
 use Rattle.std.proofs.Common.{◌+◌, ◌<◌, length, refl, ap, ◌∙◌, arith}
 use Rattle.std.proofs.lemmas.Option.{slice_get_read}
 use Rattle.ring_base.proofs.Each.{each-get}
-use Rattle.ring_limits.specs.Limits.{EventFits}
-use Rattle.ring_moves.specs.Worlds.{acts_on_formed}
+use Rattle.ring_base.proofs.Results.{on-err}
+use Rattle.ring_core_proof.specs.Limits.{EventFits}
+use Rattle.ring_core_proof.specs.Worlds.{acts_on_formed}
 use Rattle.ring_runs.specs.Running.{Ran, world_of}
-use Rattle.ring_runs.proofs.Openings.{on_err, ran_none}
+use Rattle.ring_runs.proofs.Openings.{ran_none}
 use Rattle.ring_runs.proofs.Acting.{acted_more, acted_whole}
 use Rattle.ring_runs.proofs.fixed_ring.run_acting.Goals as goal
 
@@ -36,4 +37,4 @@ returns-clause-outs g c =
 
 pub returns-in_err-world-clause-some : goal.returns-in_err-world-clause-some
 returns-in_err-world-clause-some g c =
-    on_err c.from_residual.result (c.loop-event.done < length c.args.events.now) (omega (arith, c.loop-event.invariant.1, c.loop-event-test.true))
+    on-err c.from_residual.result (c.loop-event.done < length c.args.events.now) (omega (arith, c.loop-event.invariant.1, c.loop-event-test.true))

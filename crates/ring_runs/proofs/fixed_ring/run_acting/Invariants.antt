@@ -1,6 +1,6 @@
 -- The events so far are done.
 use Rattle.std.proofs.Common.{◌≡◌, take, filter}
-use Rattle.ring_moves.specs.Worlds.{acts_on_formed}
+use Rattle.ring_core_proof.specs.Worlds.{acts_on_formed}
 use Rattle.ring_runs.specs.Running.{all_ran}
 use Rattle.ring_runs.proofs.fixed_ring.run_acting.Given as goal
 

@@ -1,5 +1,5 @@
 -- What is lent lives as long as the call.
-use Rattle.ring_srp.proofs.Lent.{lent}
+use Rattle.ring_base.proofs.Lent.{lent}
 use Rattle.ring_runs.proofs.history.told.Goals as goal
 
 pub past_of-requires : goal.past_of-requires

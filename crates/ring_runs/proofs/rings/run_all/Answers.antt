@@ -2,9 +2,10 @@
 use Rattle.std.proofs.Common.{◌+◌, ◌<◌, length, refl, ap, ◌∙◌, arith}
 use Rattle.std.proofs.lemmas.Option.{slice_get_read}
 use Rattle.ring_base.proofs.Each.{each-get}
-use Rattle.ring_limits.specs.Limits.{EventFits}
+use Rattle.ring_base.proofs.Results.{on-err}
+use Rattle.ring_core_proof.specs.Limits.{EventFits}
 use Rattle.ring_runs.specs.Running.{Ran, world_of}
-use Rattle.ring_runs.proofs.Openings.{on_err, ran_none, ran_more, ran_whole}
+use Rattle.ring_runs.proofs.Openings.{ran_none, ran_more, ran_whole}
 use Rattle.ring_runs.proofs.rings.run_all.Goals as goal
 
 pub loop-event-init : goal.loop-event-init
@@ -34,4 +35,4 @@ returns-clause-outs g c =
 
 pub returns-in_err-world-clause-some : goal.returns-in_err-world-clause-some
 returns-in_err-world-clause-some g c =
-    on_err c.from_residual.result (c.loop-event.done < length c.args.events.now) (omega (arith, c.loop-event.invariant.1, c.loop-event-test.true))
+    on-err c.from_residual.result (c.loop-event.done < length c.args.events.now) (omega (arith, c.loop-event.invariant.1, c.loop-event-test.true))

@@ -1,6 +1,7 @@
 use Rattle.std.proofs.Common.{Some, None, slice_get, ap, sym, ◌∙◌}
-use Rattle.ring_runs.specs.Running.{frame_for}
-use Rattle.ring_runs.proofs.Places.{item_copied, given_at, missing_from}
+use Rattle.ring_runs.proofs.FramePlaces.{given_at, missing_from}
+use Rattle.ring_base.proofs.ListPlaces.{item_copied}
+use Rattle.ring_core.specs.State.{frame_for}
 use Rattle.ring_runs.proofs.sent.given_frame.Goals as goal
 
 pub returns-in-Some : goal.returns-in-Some

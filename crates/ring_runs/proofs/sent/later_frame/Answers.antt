@@ -1,6 +1,7 @@
 use Rattle.std.proofs.Common.{◌++◌, Some, ap, sym, ◌∙◌}
-use Rattle.ring_runs.specs.Running.{frame_for, frames_of, opening_frames}
-use Rattle.ring_runs.proofs.Places.{none_at, first_at, later_at}
+use Rattle.ring_runs.specs.Running.{frames_of, opening_frames}
+use Rattle.ring_runs.proofs.FramePlaces.{none_at, first_at, later_at}
+use Rattle.ring_core.specs.State.{frame_for}
 use Rattle.ring_runs.proofs.sent.later_frame.Goals as goal
 
 pub returns-then-number-lt1 : goal.returns-then-number-lt1
@@ -8,7 +9,7 @@ returns-then-number-lt1 g c = sym (none_at c.args.node (opening_frames (Some c.a
 
 pub returns-then-number-lt2 : goal.returns-then-number-lt2
 returns-then-number-lt2 g c =
-    c.to_node.ensures ∙ first_at c.args.node c.args.first.now (frames_of c.args.outs.now) c.args.number c.if-number-lt1.false c.if-number-lt2.true
+    c.addressed.ensures ∙ first_at c.args.node c.args.first.now (frames_of c.args.outs.now) c.args.number c.if-number-lt1.false c.if-number-lt2.true
 
 pub returns : goal.returns
 returns g c =

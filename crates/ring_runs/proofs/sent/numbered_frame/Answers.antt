@@ -1,6 +1,7 @@
 use Rattle.std.proofs.Common.{ap, sym, ◌∙◌}
-use Rattle.ring_runs.specs.Running.{frame_for, frames_of}
-use Rattle.ring_runs.proofs.Places.{none_at, index_at}
+use Rattle.ring_runs.specs.Running.{frames_of}
+use Rattle.ring_runs.proofs.FramePlaces.{none_at, index_at}
+use Rattle.ring_core.specs.State.{frame_for}
 use Rattle.ring_runs.proofs.sent.numbered_frame.Goals as goal
 
 pub returns-then-number-lt1 : goal.returns-then-number-lt1

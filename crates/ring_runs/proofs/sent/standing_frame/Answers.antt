@@ -1,6 +1,6 @@
 use Rattle.std.proofs.Common.{Some, None, ap, ◌∙◌}
 use Rattle.ring_runs.specs.Running.{standing_in}
-use Rattle.ring_runs.proofs.Places.{item_copied}
+use Rattle.ring_base.proofs.ListPlaces.{item_copied}
 use Rattle.ring_runs.proofs.sent.standing_frame.Goals as goal
 
 pub returns-in-Some : goal.returns-in-Some

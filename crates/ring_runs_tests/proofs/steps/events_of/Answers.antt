@@ -2,7 +2,7 @@
 use Rattle.std.proofs.Common.{subst, sym}
 use Rattle.std.specs.List.{AllByRecursion}
 use Rattle.ring_base.proofs.Each.{each-push}
-use Rattle.ring_limits.specs.Limits.{EventFits}
+use Rattle.ring_core_proof.specs.Limits.{EventFits}
 use Rattle.ring_runs_tests.proofs.steps.events_of.Goals as goal
 
 pub loop-line-preserved : goal.loop-line-preserved

@@ -1,4 +1,4 @@
-use Rattle.ring_script.proofs.Together.{are_together, cut_everyone, cut_once, cut_at-together}
+use Rattle.ring_script.proofs.CutGroups.{are_together, cut_everyone, cut_once, cut_at-together}
 use Rattle.ring_script.proofs.laws.cut_law.Goals as goal
 
 pub returns-clause-together : goal.returns-clause-together

@@ -3,7 +3,7 @@ use Rattle.std.proofs.lemmas.List.{take_more_set, length-set}
 use Rattle.std.proofs.lemmas.Result.{err_from_is_err_and}
 use Rattle.ring_base.specs.Group.{Group}
 use Rattle.ring_base.specs.Processors.{IsProc}
-use Rattle.ring_script.proofs.Refusals.{Misses-on}
+use Rattle.ring_script.proofs.RefusalsPassOn.{Misses-on}
 use Rattle.ring_script.proofs.Voting.{votes_more, votes_none, votes_all, votes_made}
 use Rattle.ring_script.specs.Numbers.{number_at}
 use Rattle.ring_script.specs.Votes.{votes_at}

@@ -3,9 +3,9 @@ use Rattle.std.proofs.Common.{◌≡◌, true, List, ◌++◌, refl, sym, ◌∙
 use Rattle.ring_core.specs.State.{Sent}
 use Rattle.ring_core.specs.Acting.{may_follow}
 use Rattle.ring_core.specs.Giving.{sent}
-use Rattle.ring_acts.specs.Acts.{act_of}
-use Rattle.ring_acts.proofs.Results.{ok_to}
-use Rattle.ring_srp.proofs.Outputs.{done_core, done_sends, alone_core, alone_sends}
+use Rattle.ring_srp_acts.specs.Acts.{act_of}
+use Rattle.ring_srp.proofs.StepOutputs.{done_core, done_sends, alone_core, alone_sends}
+use Rattle.ring_base.proofs.Results.{ok_to}
 use Rattle.ring_srp.proofs.stepping.carry_out.Goals as goal
 
 pub returns-then-follows-clause-core : goal.returns-then-follows-clause-core

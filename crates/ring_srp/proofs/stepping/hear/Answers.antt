@@ -4,9 +4,9 @@ use Rattle.std.specs.Prelude.{IfOk, OnOk}
 use Rattle.ring_core.specs.State.{Stepped}
 use Rattle.ring_core.specs.Deciding.{Act, Visit}
 use Rattle.ring_core.specs.declared.input.Input.TheVariants.{Frame as FrameInput}
-use Rattle.ring_acts.specs.Allowing.{Allows}
+use Rattle.ring_srp_acts.specs.Allowing.{Allows}
 use Rattle.ring_srp.proofs.Allowed.{allowed}
-use Rattle.ring_srp.proofs.Outputs.{decided_step}
+use Rattle.ring_srp.proofs.StepOutputs.{decided_step}
 use Rattle.ring_srp.proofs.stepping.hear.Goals as goal
 
 pub pass_by-requires : goal.pass_by-requires

@@ -4,8 +4,9 @@ use Rattle.ring_commit.specs.declared.configuration.Configuration.{Configuration
 use Rattle.ring_core.specs.State.{Core}
 use Rattle.ring_core.specs.Deciding.{Visit}
 use Rattle.ring_core.specs.Acting.{done}
-use Rattle.ring_srp.proofs.Marks.{done_installed, may_give}
-use Rattle.ring_srp.proofs.Outputs.{delivered_core, delivered_outs, given_outs}
+use Rattle.ring_core.proofs.InstalledKept.{done_installed}
+use Rattle.ring_srp.proofs.SafeInFront.{may_give}
+use Rattle.ring_srp.proofs.StepOutputs.{delivered_core, delivered_outs, given_outs}
 use Rattle.ring_srp.proofs.stepping.pass_by.Goals as goal
 
 pub give-requires-clause-ring : goal.give-requires-clause-ring

@@ -1,9 +1,9 @@
 -- A payload is queued or dropped.
 use Rattle.std.proofs.Common.{◌≡◌, true, sym, ◌∙◌}
 use Rattle.ring_base.specs.declared.state.State.TheVariants.{Operational}
+use Rattle.ring_base.proofs.Results.{ok_to, ok_always}
 use Rattle.ring_payload.specs.Packing.{is_queued}
-use Rattle.ring_acts.proofs.Results.{ok_to, ok_always}
-use Rattle.ring_srp.proofs.Sending.{queued, dropped}
+use Rattle.ring_srp.proofs.PayloadSent.{queued, dropped}
 use Rattle.ring_srp.proofs.stepping.send.Goals as goal
 
 pub returns-then-is_queued-clause-ok : goal.returns-then-is_queued-clause-ok

@@ -4,11 +4,12 @@ use Rattle.ring_commit.specs.declared.configuration.Configuration.{Configuration
 use Rattle.ring_core.specs.State.{Core}
 use Rattle.ring_core.specs.Deciding.{Act}
 use Rattle.ring_core.specs.Acting.{done}
-use Rattle.ring_acts.specs.Acts.{act_of}
-use Rattle.ring_acts.specs.Allowing.{Allows}
+use Rattle.ring_srp_acts.specs.Acts.{act_of}
+use Rattle.ring_srp_acts.specs.Allowing.{Allows}
+use Rattle.ring_core.proofs.InstalledKept.{done_installed}
 use Rattle.ring_srp.proofs.Allowed.{allowed}
-use Rattle.ring_srp.proofs.Marks.{done_installed, may_give}
-use Rattle.ring_srp.proofs.Outputs.{step_core, step_outs, given_outs}
+use Rattle.ring_srp.proofs.SafeInFront.{may_give}
+use Rattle.ring_srp.proofs.StepOutputs.{step_core, step_outs, given_outs}
 use Rattle.ring_srp.proofs.stepping.step.Goals as goal
 
 pub carry_out-requires : goal.carry_out-requires

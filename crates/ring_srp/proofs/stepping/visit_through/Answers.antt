@@ -1,8 +1,8 @@
 -- A proposal stands after what the visit sent.
 use Rattle.std.proofs.Common.{refl}
 use Rattle.ring_core.specs.Deciding.{Visit}
-use Rattle.ring_acts.proofs.Results.{ok_to}
-use Rattle.ring_srp.proofs.Outputs.{done_core, done_sends}
+use Rattle.ring_srp.proofs.StepOutputs.{done_core, done_sends}
+use Rattle.ring_base.proofs.Results.{ok_to}
 use Rattle.ring_srp.proofs.stepping.visit_through.Goals as goal
 
 pub returns-clause-core : goal.returns-clause-core

@@ -3,8 +3,8 @@ use Rattle.ring_base.specs.Fronts.{IsFront}
 use Rattle.ring_base.specs.Group.{Group}
 use Rattle.ring_payload.specs.declared.call.Call.{Call}
 use Rattle.ring_session.specs.Deduplicated.{deduplicated}
-use Rattle.ring_machine.specs.Nodes.{node_committed}
-use Rattle.ring_console.specs.Played.{world_of}
+use Rattle.ring_rules.specs.Nodes.{node_committed}
+use Rattle.ring_world.specs.Played.{world_of}
 use Rattle.ring_sweep.proofs.Legality.{up_next}
 use Rattle.ring_sweep.proofs.legal.are_fronts.Goals as goal
 

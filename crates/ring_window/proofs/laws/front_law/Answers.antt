@@ -1,4 +1,4 @@
-use Rattle.ring_window.proofs.Fronts.{front_is, front_only}
+use Rattle.ring_window.proofs.HeldFront.{front_is, front_only}
 use Rattle.ring_window.proofs.laws.front_law.Goals as goal
 
 pub returns-clause-is : goal.returns-clause-is

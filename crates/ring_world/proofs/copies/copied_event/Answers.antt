@@ -1,6 +1,6 @@
 -- Of noise the bytes are copied.
 use Rattle.std.proofs.Common.{refl, subst, sym}
-use Rattle.ring_history.specs.declared.event.Event.TheVariants.{Noise}
+use Rattle.ring_rules.specs.declared.event.Event.TheVariants.{Noise}
 use Rattle.ring_world.specs.Played.{IsCopy}
 use Rattle.ring_world.proofs.copies.copied_event.Goals as goal
 

@@ -1,9 +1,9 @@
 use Rattle.std.proofs.Common.{◌+◌, ◌<◌, ◌≤◌, take, length, Option, ℕ, refl, ap, ◌∙◌, sym, subst, arith}
 use Rattle.std.proofs.lemmas.List.{take_all}
 use Rattle.std.proofs.lemmas.Option.{slice_get_read}
-use Rattle.ring_machine.specs.Nodes.{node_committed}
+use Rattle.ring_rules.specs.Nodes.{node_committed}
 use Rattle.ring_session.specs.Deduplicated.{deduplicated}
-use Rattle.ring_history.specs.Orders.{order_of}
+use Rattle.ring_rules.specs.Orders.{order_of}
 use Rattle.ring_world.specs.Ordering.{IsLongest, logs_of}
 use Rattle.ring_world.proofs.Longer.{replaced, is-longest, stays, still-longest}
 use Rattle.ring_world.proofs.order.longest.Goals as goal

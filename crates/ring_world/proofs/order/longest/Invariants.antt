@@ -1,6 +1,6 @@
 -- The longest of those before.
 use Rattle.std.proofs.Common.{◌≡◌, take, length}
-use Rattle.ring_history.specs.Orders.{order_of}
+use Rattle.ring_rules.specs.Orders.{order_of}
 use Rattle.ring_world.specs.Ordering.{IsLongest, logs_of}
 use Rattle.ring_world.proofs.order.longest.Given as goal
 

@@ -5,8 +5,8 @@ use Rattle.std.proofs.lemmas.List.{map-id}
 use Rattle.std.proofs.lemmas.Iterator.Adapters.{YieldsList-from_vec}
 use Rattle.std.proofs.lemmas.Iterator.Consumers.{YieldsList-end, YieldsList-so_far, YieldsList-turn}
 use Rattle.std.proofs.lemmas.Option.{slice_get_read}
-use Rattle.ring_ticket.specs.declared.answered.Answered.{Answered}
-use Rattle.ring_history.specs.Worlds.{items_of, told_by}
+use Rattle.ring_session.specs.declared.answered.Answered.{Answered}
+use Rattle.ring_rules.specs.Worlds.{items_of, told_by}
 use Rattle.ring_world.specs.Spares.{IsLeft, after_answers}
 use Rattle.ring_world.proofs.Tellings.{none_told, one_told, none_taken, one_taken, left_at}
 use Rattle.ring_world.proofs.telling.tell.Goals as goal

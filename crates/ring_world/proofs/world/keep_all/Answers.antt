@@ -3,7 +3,7 @@ use Rattle.std.proofs.Common.{◌≡◌, ◌+◌, ◌-◌, [], ◌∷◌, ◌++�
 use Rattle.std.proofs.lemmas.List.{map-append}
 use Rattle.std.proofs.lemmas.Option.{slice_get_read}
 use Rattle.ring_core.specs.State.{Sent, Carried}
-use Rattle.ring_history.specs.Worlds.{carried}
+use Rattle.ring_rules.specs.Worlds.{carried}
 use Rattle.ring_world.specs.Stored.{HasRoom}
 use Rattle.ring_base.proofs.Rows.{take-more}
 use Rattle.ring_world.proofs.world.keep_all.Goals as goal

@@ -1,6 +1,6 @@
 -- The frames so far are kept, and there is room for the others.
 use Rattle.std.proofs.Common.{◌≡◌, ◌-◌, ◌++◌, length, take}
-use Rattle.ring_history.specs.Worlds.{carried}
+use Rattle.ring_rules.specs.Worlds.{carried}
 use Rattle.ring_world.specs.Stored.{HasRoom}
 use Rattle.ring_world.proofs.world.keep_all.Given as goal
 

@@ -1,13 +1,13 @@
 -- One more is opened.
 use Rattle.std.proofs.Common.{◌+◌, ◌≤◌, map, ap, ◌∙◌, arith}
 use Rattle.ring_base.specs.Numbers.{numbers_from}
-use Rattle.ring_machine.specs.Nodes.{node_opening}
-use Rattle.ring_world.proofs.Opening.{opened_more}
+use Rattle.ring_base.proofs.ListPlaces.{row-push}
+use Rattle.ring_rules.specs.Nodes.{node_opening}
 use Rattle.ring_world.proofs.world.opened.Goals as goal
 
 pub loop-before-preserved : goal.loop-before-preserved
 loop-before-preserved g c =
-    opened_more (node_opening c.args.fixed) c.loop-before.nodes.items c.push.new.self.items c.loop-before.before c.in_ok-node.node c.new-me.result
+    row-push (node_opening c.args.fixed) c.loop-before.nodes.items c.push.new.self.items c.loop-before.before c.in_ok-node.node c.new-me.result
     c.loop-before.invariant c.in_ok-push.ensures.items c.in_ok-node.ensures.ok c.new-me.ensures
 
 pub new-me-requires : goal.new-me-requires

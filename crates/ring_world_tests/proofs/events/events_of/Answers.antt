@@ -2,7 +2,7 @@
 use Rattle.std.proofs.Common.{subst, sym}
 use Rattle.std.specs.List.{AllByRecursion}
 use Rattle.ring_base.proofs.Each.{each-push}
-use Rattle.ring_history.specs.Limits.{EventFits}
+use Rattle.ring_rules.specs.WorldLimits.{EventFits}
 use Rattle.ring_world_tests.proofs.events.events_of.Goals as goal
 
 pub loop-line-preserved : goal.loop-line-preserved

@@ -1,5 +1,5 @@
 use Rattle.std.proofs.Common.{ap, ◌∙◌}
-use Rattle.ring_base.proofs.Words.{shr_everybody}
+use Rattle.ring_base.proofs.SetWords.{shr_everybody}
 use Rattle.ring_base.specs.Group.{Group}
 use Rattle.ring_base.specs.Members.{everybody_members}
 use Rattle.ring_base.specs.Processors.{everybody}

@@ -1,5 +1,5 @@
 use Rattle.std.proofs.Common.{arith}
-use Rattle.ring_base.proofs.Words.{and_not-less}
+use Rattle.ring_base.proofs.SetWords.{and_not-less}
 use Rattle.ring_base.specs.Members.{less_members}
 use Rattle.ring_base.proofs.proc_set.ProcSet.less.Goals as goal
 

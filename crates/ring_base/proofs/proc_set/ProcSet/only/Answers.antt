@@ -1,5 +1,5 @@
 use Rattle.std.proofs.Common.{arith}
-use Rattle.ring_base.proofs.Words.{shl_only}
+use Rattle.ring_base.proofs.SetWords.{shl_only}
 use Rattle.ring_base.specs.Members.{only_members}
 use Rattle.ring_base.proofs.proc_set.ProcSet.only.Goals as goal
 

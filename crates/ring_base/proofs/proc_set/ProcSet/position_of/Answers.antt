@@ -1,5 +1,5 @@
 use Rattle.std.proofs.Common.{arith}
-use Rattle.ring_base.proofs.Words.{ones-position_of}
+use Rattle.ring_base.proofs.SetWords.{ones-position_of}
 use Rattle.ring_base.specs.Elements.{position_of-inside}
 use Rattle.ring_base.proofs.proc_set.ProcSet.position_of.Goals as goal
 

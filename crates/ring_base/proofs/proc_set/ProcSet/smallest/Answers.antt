@@ -1,5 +1,5 @@
 use Rattle.std.proofs.Common.{arith, ◌∙◌}
-use Rattle.ring_base.proofs.Words.{trailing-member, trailing-smallest}
+use Rattle.ring_base.proofs.SetWords.{trailing-member, trailing-smallest}
 use Rattle.ring_base.proofs.proc_set.ProcSet.smallest.Goals as goal
 
 pub returns-clause-found : goal.returns-clause-found

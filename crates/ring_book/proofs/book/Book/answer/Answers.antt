@@ -1,5 +1,6 @@
 use Rattle.std.proofs.Common.{◌≡◌, ◌-◌, ◌∙◌, None, Some, slice_get, arith, refl, sym}
-use Rattle.ring_book.proofs.Entering.{none_answers, none-length, told_answers}
+use Rattle.ring_book.proofs.Entering.{none_answers, told_answers}
+use Rattle.ring_base.proofs.ListPlaces.{none-length}
 use Rattle.ring_book.proofs.book.Book.answer.Goals as goal
 
 pub returns-in-Some : goal.returns-in-Some

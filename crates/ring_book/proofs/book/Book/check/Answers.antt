@@ -1,7 +1,7 @@
 use Rattle.std.proofs.Common.{refl}
 use Rattle.std.specs.Prelude.{IsTrue, ◌↔◌}
-use Rattle.ring_lines.specs.Lines.{Stands}
-use Rattle.ring_lines.specs.Machines.{node_machine}
+use Rattle.ring_book_lines.specs.Lines.{Stands}
+use Rattle.ring_book_lines.specs.Machines.{node_machine}
 use Rattle.ring_book.proofs.Entering.{book_texts}
 use Rattle.ring_book.proofs.book.Book.check.Goals as goal
 use Rattle.ring_book.proofs.book.Book.check.Goals.{then-stands, else-stands}

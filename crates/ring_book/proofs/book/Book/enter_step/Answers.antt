@@ -2,14 +2,14 @@ use Rattle.std.proofs.Common.{◌≡◌, ℕ, ◌<◌, ◌-◌, ◌++◌, arith,
 use Rattle.rtrb.specs.Ring.{known_items, known_free, sent}
 use mathlib.Core.List.{IsPrefix}
 use Rattle.ring_book.specs.Cells.{AllOf}
-use Rattle.ring_lines.specs.Lines.{steps_of, IsFound}
-use Rattle.ring_lines.specs.Machines.{node_machine}
-use Rattle.ring_lines.specs.Steps.{StepView, LineView}
+use Rattle.ring_book_lines.specs.Lines.{steps_of, IsFound}
+use Rattle.ring_book_lines.specs.Machines.{node_machine}
+use Rattle.ring_book_lines.specs.Steps.{StepView, LineView}
 use Rattle.ring_book.proofs.Entering.{book_looks, all_entered, Popped, book_enters, book_same}
 use Rattle.ring_book.proofs.Entering.{cell_enters, cell_looks, pair_at, pair_stays, popped, free_again}
 use Rattle.ring_book.proofs.Entering.{writers, ring_at}
 use Rattle.ring_book.proofs.Looking.{own_end, own_told, looked, comes, found_first}
-use Rattle.ring_lines.proofs.Leading.{steps_of-own}
+use Rattle.ring_book_lines.proofs.Leading.{steps_of-own}
 use Rattle.ring_book.proofs.Journaling.{AllOf-last}
 use Rattle.ring_book.proofs.book.Book.enter_step.Goals as goal
 

@@ -1,7 +1,7 @@
 use Rattle.std.proofs.Common.{List, subst}
-use Rattle.ring_lines.specs.Machines.{node_machine}
-use Rattle.ring_lines.specs.Runs.{Leads}
-use Rattle.ring_lines.specs.Steps.{StepView}
+use Rattle.ring_book_lines.specs.Machines.{node_machine}
+use Rattle.ring_book_lines.specs.Runs.{Leads}
+use Rattle.ring_book_lines.specs.Steps.{StepView}
 use Rattle.ring_book.proofs.book.Book.node_law.Goals as goal
 
 pub returns-clause-node : goal.returns-clause-node

@@ -1,5 +1,5 @@
 use Rattle.std.proofs.Common.{◌-◌, arith}
-use Rattle.ring_lines.specs.Machines.{node_machine}
+use Rattle.ring_book_lines.specs.Machines.{node_machine}
 use Rattle.ring_book.proofs.Entering.{book_releases}
 use Rattle.ring_book.proofs.book.Book.release.Goals as goal
 

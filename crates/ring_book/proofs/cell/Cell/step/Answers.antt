@@ -1,15 +1,16 @@
-use Rattle.std.proofs.Common.{◌≡◌, ◌+◌, ◌≤◌, refl, subst, sym, ap, Bool, ◌∙◌, length}
+use Rattle.std.proofs.Common.{◌≡◌, ◌+◌, refl, subst, sym, ap, Bool, ◌∙◌, length}
 use Rattle.rtrb.specs.Ring.{sent}
-use Rattle.ring_frames.proofs.Nodes.{NodeFits, stepped_fits}
-use Rattle.ring_machine.specs.declared.input.Input.TheVariants.{Stop}
-use Rattle.ring_machine.specs.Nodes.{Node}
+use Rattle.ring_order_proof.proofs.NodeLimits.{NodeFits, stepped_fits}
+use Rattle.ring_rules.specs.declared.input.Input.TheVariants.{Stop}
+use Rattle.ring_rules.specs.Nodes.{Node}
 use Rattle.ring_book.specs.Cells.{IsCell}
-use Rattle.ring_lines.specs.Machines.{node_machine}
-use Rattle.ring_lines.specs.Runs.{IsStep}
+use Rattle.ring_book_lines.specs.Machines.{node_machine}
+use Rattle.ring_book_lines.specs.Runs.{IsStep}
 use Rattle.ring_book.specs.Seen.{CellView}
 use Rattle.ring_book.proofs.Journaling.{cell_adds}
-use Rattle.ring_book.proofs.Keeping.{node_sound}
-use Rattle.ring_book.proofs.Stops.{memory_runs, other_stopped, stopped_same}
+use Rattle.ring_book.proofs.NodeFrameLimits.{node_sound}
+use Rattle.ring_book.proofs.Stops.{memory_runs, other_stopped}
+use Rattle.ring_rules.proofs.NodeChanges.{stopped_same}
 use Rattle.ring_book.proofs.cell.Cell.step.Goals as goal
 
 pub new-frames-requires : goal.new-frames-requires

@@ -1,11 +1,11 @@
 use Rattle.std.proofs.Common.{◌+◌, refl, subst, ap, Bool, length, ◌∙◌}
 use Rattle.std.proofs.lemmas.Result.{err_from_is_err_and}
-use Rattle.ring_frames.proofs.Nodes.{NodeFits}
+use Rattle.ring_order_proof.proofs.NodeLimits.{NodeFits}
 use Rattle.ring_book.specs.Cells.{IsCell}
-use Rattle.ring_lines.specs.Machines.{node_machine}
-use Rattle.ring_lines.specs.Runs.{IsStep}
+use Rattle.ring_book_lines.specs.Machines.{node_machine}
+use Rattle.ring_book_lines.specs.Runs.{IsStep}
 use Rattle.ring_book.proofs.Journaling.{cell_adds}
-use Rattle.ring_book.proofs.Keeping.{node_sound}
+use Rattle.ring_book.proofs.NodeFrameLimits.{node_sound}
 use Rattle.ring_book.proofs.Stops.{node_refuses}
 use Rattle.ring_book.proofs.cell.Cell.submit.Goals as goal
 

@@ -1,6 +1,6 @@
 use Rattle.std.proofs.Common.{ap, ◌∙◌, ◌≡◌, ◌+◌, ◌++◌, ◌∷◌, [], arith, length-append}
-use Rattle.ring_machine.specs.Nodes.{node_opening}
-use Rattle.ring_lines.specs.Machines.{node_machine}
+use Rattle.ring_rules.specs.Nodes.{node_opening}
+use Rattle.ring_book_lines.specs.Machines.{node_machine}
 use Rattle.ring_book.proofs.Opened.{AllStart-snoc, AllStartEnds-snoc, pair_ring}
 use Rattle.ring_book.proofs.opening.Opening.new.Goals as goal
 

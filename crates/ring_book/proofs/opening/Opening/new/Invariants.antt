@@ -1,5 +1,5 @@
 use Rattle.std.proofs.Common.{◌≡◌, length}
-use Rattle.ring_lines.specs.Machines.{node_machine}
+use Rattle.ring_book_lines.specs.Machines.{node_machine}
 use Rattle.ring_book.specs.Openings.{AllStart, AllStartEnds}
 use Rattle.ring_book.proofs.opening.Opening.new.Given as goal
 

@@ -1,11 +1,11 @@
-use Rattle.ring_frames.proofs.Nodes.{NodeFits, node_opens}
+use Rattle.ring_order_proof.proofs.NodeLimits.{NodeFits, node_opens}
 use Rattle.std.proofs.Common.{◌≡◌, ◌≤◌, ◌<◌, ◌+◌, ℕ, subst, length-append, ◌++◌, ◌∷◌, [], length, arith, sym, ap, ◌∙◌, add-one, false, suc}
 use Rattle.rtrb.specs.Ring.{sent}
 use Rattle.ring_base.specs.Group.{Group}
 use Rattle.ring_base.proofs.Each.{each-push}
 use Rattle.ring_book.specs.Told.{ToldView}
 use Rattle.ring_book.specs.Ends.{ring_of_producer}
-use Rattle.ring_lines.specs.Machines.{node_machine}
+use Rattle.ring_book_lines.specs.Machines.{node_machine}
 use Rattle.ring_book.specs.Openings.{AllStart, rings_of, new_cells, new_cell}
 use Rattle.ring_book.proofs.Opened.{start_cell, start_book, starts_length, drop_next, below_16, count_next, many_next}
 use Rattle.ring_book.proofs.Opened.{all_counted, some_left, some_more, text_room}

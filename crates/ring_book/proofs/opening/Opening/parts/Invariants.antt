@@ -1,5 +1,5 @@
 use Rattle.std.proofs.Common.{◌≡◌, suc, ◌+◌, length, drop}
-use Rattle.ring_lines.specs.Machines.{node_machine}
+use Rattle.ring_book_lines.specs.Machines.{node_machine}
 use Rattle.ring_book.specs.Openings.{AllStart, rings_of, new_cells}
 use Rattle.ring_book.proofs.Opened.{AreNone}
 use Rattle.ring_book.proofs.opening.Opening.parts.Given as goal

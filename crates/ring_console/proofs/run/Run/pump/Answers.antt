@@ -1,7 +1,7 @@
 use Rattle.std.proofs.Common.{◌∙◌, sym, subst, arith}
 use Rattle.ring_console.specs.Running.{RunView, TurnsTimes, BreaksPump}
-use Rattle.ring_console.proofs.Going.{turned, turn_broken, one_more, pumped, none_left}
-use Rattle.ring_console.proofs.Texts.{on_err}
+use Rattle.ring_console.proofs.RunGoesOn.{turned, turn_broken, one_more, pumped, none_left}
+use Rattle.ring_base.proofs.Results.{on-err}
 use Rattle.ring_console.proofs.run.Run.pump.Goals as goal
 
 pub loop-preserved : goal.loop-preserved
@@ -24,7 +24,7 @@ returns-in_default-clause-done g c =
 
 pub returns-in_err-come-clause-breaks : goal.returns-in_err-come-clause-breaks
 returns-in_err-come-clause-breaks g c =
-    on_err c.from_residual.result (BreaksPump g.O.Object.sequential c.args.turns c.args.self.now c.come.new.self) record {
+    on-err c.from_residual.result (BreaksPump g.O.Object.sequential c.args.turns c.args.self.now c.come.new.self) record {
       taken = c.loop.counter;
       less = c.loop-test.true;
       mid = c.loop.self;

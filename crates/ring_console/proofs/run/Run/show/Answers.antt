@@ -4,9 +4,9 @@ use Rattle.std.proofs.KnownBytes.{Appends-trans}
 use Rattle.std.proofs.Math.Numerals.{add-one}
 use Rattle.ring_base.specs.declared.state.State.{State}
 use Rattle.ring_base.specs.declared.ring_id.RingId.{RingId}
-use Rattle.ring_machine.specs.Nodes.{Node, node_committed, node_log}
+use Rattle.ring_rules.specs.Nodes.{Node, node_committed, node_log}
 use Rattle.ring_report.specs.Texts.{line_of}
-use Rattle.ring_pump.specs.Played.{Played, world_of}
+use Rattle.ring_world.specs.Played.{Played, world_of}
 use Rattle.ring_console.specs.Printed.{node_text}
 use Rattle.ring_console.specs.Running.{shown_text, nodes_text}
 use Rattle.ring_console.proofs.run.Run.show.Goals as goal

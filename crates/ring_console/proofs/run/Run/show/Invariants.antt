@@ -1,5 +1,5 @@
 use Rattle.std.specs.Io.KnownBytes.{Appends}
-use Rattle.ring_pump.specs.Played.{world_of}
+use Rattle.ring_world.specs.Played.{world_of}
 use Rattle.ring_console.specs.Running.{nodes_text}
 use Rattle.ring_console.proofs.run.Run.show.Given as goal
 

@@ -9,7 +9,7 @@ use Rattle.ring_base.proofs.Each.{each-get}
 use Rattle.ring_script.specs.declared.scripts.Numbered.{Numbered}
 use Rattle.ring_script.specs.Fits.{IsFit}
 use Rattle.ring_console.specs.Running.{Prints, Runs, Breaks, BreaksRun, text_of}
-use Rattle.ring_console.proofs.Texts.{printed_as, printed_then, Runs-snoc, broken_run, unless_map, unless_both}
+use Rattle.ring_console.proofs.PrintedLines.{printed_as, printed_then, Runs-snoc, broken_run, unless_map, unless_both}
 use Rattle.ring_console.proofs.run.Run.take.Goals as goal
 
 pub take_line-requires : goal.take_line-requires

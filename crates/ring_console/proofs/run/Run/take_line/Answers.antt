@@ -1,7 +1,7 @@
 use Rattle.std.proofs.Common.{◌≡◌, ◌≤◌, length, ◌∙◌, ap, arith}
 use Rattle.ring_base.specs.Fronts.{front_length}
-use Rattle.ring_pump.specs.Played.{Played}
-use Rattle.ring_console.proofs.Going.{ends_told}
+use Rattle.ring_world.specs.Played.{Played}
+use Rattle.ring_console.proofs.RunGoesOn.{ends_told}
 use Rattle.ring_console.proofs.run.Run.take_line.Goals as goal
 
 pub print_since-requires : goal.print_since-requires

@@ -2,7 +2,7 @@
 use Rattle.std.proofs.Common.{refl, ap, ◌≡◌, ◌∙◌, true}
 use Rattle.ring_join.specs.Gathering.{has_same_sets}
 use Rattle.ring_join.specs.Gatherers.{Gatherer, gathering_of}
-use Rattle.ring_join.proofs.Counting.{counted_more}
+use Rattle.ring_join.proofs.JoinCounted.{counted_more}
 use Rattle.ring_join.proofs.gather.Gather.agree.Goals as goal
 
 pub invariant_of-self : goal.invariant_of-self

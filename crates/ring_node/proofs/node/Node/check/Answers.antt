@@ -1,8 +1,9 @@
 -- A submit is refused as the replica refuses it.
 use Rattle.std.proofs.Common.{◌≡◌, Some, None, sym, ap, ◌∙◌}
-use Rattle.ring_machine.specs.Stepping.{submit_fault}
+use Rattle.ring_rules.specs.Stepping.{submit_fault}
 use Rattle.ring_replica.specs.Replicas.{submit_refusal}
-use Rattle.ring_node.proofs.Steps.{fault-is, ok-as, err-as}
+use Rattle.ring_node.proofs.NodeSteps.{fault-is, err-as}
+use Rattle.ring_base.proofs.Results.{on-ok}
 use Rattle.ring_node.proofs.node.Node.check.Goals as goal
 
 pub returns-clause-ok : goal.returns-clause-ok
@@ -10,7 +11,7 @@ returns-clause-ok g c =
     let s = c.self.inside in
     let is : submit_fault c.args.self.now ≡ submit_refusal s.replica = ap submit_fault (sym c.self.view_is)
     ∙ fault-is s.core s.replica s.last s.ended.value c.self.invariant in
-    ok-as c.check.result (submit_refusal s.replica ≡ None) (submit_fault c.args.self.now ≡ None) (λ e. is ∙ e) c.check.ensures.ok
+    on-ok c.check.result (submit_refusal s.replica ≡ None) (submit_fault c.args.self.now ≡ None) (λ e. is ∙ e) c.check.ensures.ok
 
 pub returns-clause-err : goal.returns-clause-err
 returns-clause-err g c =

@@ -2,9 +2,9 @@
 use Rattle.std.proofs.Common.{ap, sym, ◌∙◌}
 use Rattle.ring_core.specs.State.{Core}
 use Rattle.ring_core.specs.Stepping.{ring_step}
-use Rattle.ring_machine.specs.Nodes.{Node, is_stopped}
-use Rattle.ring_machine.specs.Stepping.{after_core}
-use Rattle.ring_node.proofs.Steps.{runs-told, stepped-node, sends-are, answers-are, committed-are, told-as}
+use Rattle.ring_rules.specs.Nodes.{Node, is_stopped}
+use Rattle.ring_rules.specs.Stepping.{after_core}
+use Rattle.ring_node.proofs.NodeSteps.{runs-told, stepped-node, sends-are, answers-are, committed-are, told-as}
 use Rattle.ring_node.proofs.node.Node.drive.Goals as goal
 
 pub invariant_of-self : goal.invariant_of-self

@@ -1,7 +1,7 @@
 -- A node that isn't stopped runs.
 use Rattle.std.proofs.Common.{ap, sym, ◌∙◌}
-use Rattle.ring_machine.specs.Nodes.{Node, is_stopped}
-use Rattle.ring_node.proofs.Steps.{going-told}
+use Rattle.ring_rules.specs.Nodes.{Node, is_stopped}
+use Rattle.ring_node.proofs.NodeSteps.{going-told}
 use Rattle.ring_node.proofs.node.Node.step.Goals as goal
 
 pub returns-in-Noise-clause-runs : goal.returns-in-Noise-clause-runs

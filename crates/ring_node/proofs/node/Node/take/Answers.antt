@@ -4,7 +4,7 @@ use Rattle.ring_payload.specs.declared.content.Payload.TheVariants.{Call}
 use Rattle.ring_core.specs.Stepping.{ring_step}
 use Rattle.ring_core.specs.declared.input.Input.TheVariants.{Send as SendInput}
 use Rattle.ring_node.specs.declared.node.Node.TheInside.{Inside}
-use Rattle.ring_node.proofs.Steps.{given-node}
+use Rattle.ring_node.proofs.NodeSteps.{given-node}
 use Rattle.ring_node.proofs.node.Node.take.Goals as goal
 use Rattle.ring_node.proofs.node.Node.take.Goals.{then-has_adopted+in_ok-copy_of+in_ok-send, else-has_adopted}
 

@@ -1,7 +1,7 @@
 -- An End is counted as its sender's, a users' message as one, and any other as none of these.
 use Rattle.std.proofs.Common.{true, sym, ◌∙◌, ap}
 use Rattle.std.specs.Prelude.{◌||◌}
-use Rattle.ring_recover.proofs.Counting.{or_none, or_right, end_no_user, counted_end, counted_other}
+use Rattle.ring_recover.proofs.EndsCounted.{or_none, or_right, end_no_user, counted_end, counted_other}
 use Rattle.ring_recover.proofs.ends.Ends.count.Goals.{then-is_end, else-is_end+then-is_user, else-is_end+else-is_user}
 use Rattle.ring_recover.proofs.ends.Ends.count.Goals as goal
 

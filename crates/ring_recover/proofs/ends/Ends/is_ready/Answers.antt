@@ -1,6 +1,6 @@
 use Rattle.std.proofs.Common.{sym, ◌∙◌}
 use Rattle.std.proofs.lemmas.Bool.{le-leb}
-use Rattle.ring_recover.proofs.Counting.{ready_then, ready_else, ready_not}
+use Rattle.ring_recover.proofs.EndsCounted.{ready_then, ready_else, ready_not}
 use Rattle.ring_recover.proofs.ends.Ends.is_ready.Goals as goal
 
 pub returns-then-self-mark : goal.returns-then-self-mark

@@ -1,4 +1,4 @@
-use Rattle.ring_recover.proofs.Choosing.{chosen_all}
+use Rattle.ring_recover.proofs.NumbersPassing.{chosen_all}
 use Rattle.ring_recover.proofs.numbers.Numbers.iter.Goals as goal
 
 pub returns : goal.returns

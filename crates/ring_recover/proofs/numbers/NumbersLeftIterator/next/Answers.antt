@@ -1,6 +1,6 @@
 -- The first bit that is set from the offset on is the first number that is left.
 use Rattle.std.proofs.Common.{◌∙◌, refl, sym, arith, ap, length}
-use Rattle.ring_recover.proofs.Choosing.{chosen_none, chosen_next}
+use Rattle.ring_recover.proofs.NumbersPassing.{chosen_none, chosen_next}
 use Rattle.ring_recover.proofs.numbers.NumbersLeftIterator.next.Goals as goal
 
 pub returns-then-found-eq256-clause-steps : goal.returns-then-found-eq256-clause-steps

@@ -1,6 +1,6 @@
 -- One more that passes is set, one that does not stays clear.
 use Rattle.std.proofs.Common.{◌≡◌, ℕ, ◌<◌, Bool, refl, sym, ◌∙◌, arith}
-use Rattle.ring_recover.proofs.Choosing.{such_more}
+use Rattle.ring_recover.proofs.NumbersPassing.{such_more}
 use Rattle.ring_recover.proofs.offsets.Offsets.such.Goals.{then-test, else-test}
 use Rattle.ring_recover.proofs.offsets.Offsets.such.Given as given
 use Rattle.ring_recover.proofs.offsets.Offsets.such.Goals as goal

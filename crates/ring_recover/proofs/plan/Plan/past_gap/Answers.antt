@@ -9,7 +9,7 @@ use Rattle.ring_recover.specs.Chosen.{chosen}
 use Rattle.ring_recover.specs.Plans.{safe}
 use Rattle.ring_recover.specs.Deliveries.{is_complete, is_from_mate, past_gap_part}
 use Rattle.ring_recover.specs.Recovering.{Recovering, is_from}
-use Rattle.ring_recover.proofs.Choosing.{set_inside}
+use Rattle.ring_recover.proofs.NumbersPassing.{set_inside}
 use Rattle.ring_recover.proofs.Gaps.{past_gap_is, implied_by}
 use Rattle.ring_recover.proofs.Planning.{kept_bits, kept_sound, known_reached, from_mate}
 use Rattle.ring_recover.proofs.plan.Plan.past_gap.Goals as goal

@@ -7,7 +7,7 @@ use Rattle.ring_recover.specs.Chosen.{chosen}
 use Rattle.ring_recover.specs.Plans.{safe, least_mark}
 use Rattle.ring_recover.specs.Deliveries.{regular_part}
 use Rattle.ring_recover.specs.Recovering.{Recovering}
-use Rattle.ring_recover.proofs.Choosing.{set_inside}
+use Rattle.ring_recover.proofs.NumbersPassing.{set_inside}
 use Rattle.ring_recover.proofs.Gaps.{regular_is}
 use Rattle.ring_recover.proofs.plan.Plan.regular.Goals as goal
 

@@ -5,7 +5,7 @@ use Rattle.ring_window.specs.Held.{highest}
 use Rattle.ring_window.specs.Windows.{kept}
 use Rattle.ring_recover.specs.Plans.{safe}
 use Rattle.ring_recover.specs.Recovering.{Recovering, is_users, next_to_wrap}
-use Rattle.ring_recover.proofs.Handing.{is_left, search_on, search_ends, left_here, neither}
+use Rattle.ring_recover.proofs.HandedNext.{is_left, search_on, search_ends, left_here, neither}
 use Rattle.ring_recover.proofs.plan.Plan.to_wrap.Goals.{else-not-has-via-then-not-has+else-has_users, else-not-has-via-else-not-has}
 use Rattle.ring_recover.proofs.plan.Plan.to_wrap.Goals as goal
 

@@ -2,7 +2,7 @@
 use Rattle.std.proofs.Common.{◌≡◌, ◌+◌, ◌-◌, ◌≤◌}
 use Rattle.ring_window.specs.Held.{highest}
 use Rattle.ring_recover.specs.Recovering.{Recovering, next_to_wrap}
-use Rattle.ring_recover.proofs.Handing.{next_from}
+use Rattle.ring_recover.proofs.HandedNext.{next_from}
 use Rattle.ring_recover.proofs.plan.Plan.to_wrap.Given as goal
 
 abbrev pub invariant-loop-before : goal.invariant-loop-before

@@ -7,7 +7,7 @@ use Rattle.ring_window.specs.Held.{highest}
 use Rattle.ring_recover.specs.Chosen.{chosen}
 use Rattle.ring_recover.specs.Deliveries.{is_complete, transitional_part}
 use Rattle.ring_recover.specs.Recovering.{Recovering}
-use Rattle.ring_recover.proofs.Choosing.{set_inside}
+use Rattle.ring_recover.proofs.NumbersPassing.{set_inside}
 use Rattle.ring_recover.proofs.Gaps.{transitional_is, implied}
 use Rattle.ring_recover.proofs.Planning.{kept_bits, kept_sound, known_reached}
 use Rattle.ring_recover.proofs.plan.Plan.transitional.Goals as goal

@@ -3,7 +3,7 @@ use Rattle.std.proofs.Common.{◌∷◌, refl, ap, sym, ◌∙◌}
 use Rattle.ring_log.specs.Stays.{stay_in}
 use Rattle.ring_log.specs.Lives.{is_sound}
 use Rattle.ring_replica.specs.Courses.{Course}
-use Rattle.ring_replica.proofs.Going.{kept-enters, kept-as}
+use Rattle.ring_replica.proofs.CourseGoesOn.{kept-enters, kept-as}
 use Rattle.ring_replica.proofs.course.Course.enter.Goals as goal
 
 pub invariant_of-self : goal.invariant_of-self

@@ -1,7 +1,7 @@
 -- What is kept as more is safe.
 use Rattle.std.proofs.Common.{refl, ap, ◌∙◌}
 use Rattle.ring_replica.specs.Courses.{Course, is_risen}
-use Rattle.ring_replica.proofs.Going.{kept-marks, kept-as}
+use Rattle.ring_replica.proofs.CourseGoesOn.{kept-marks, kept-as}
 use Rattle.ring_replica.proofs.course.Course.mark.Goals as goal
 
 pub invariant_of-self : goal.invariant_of-self

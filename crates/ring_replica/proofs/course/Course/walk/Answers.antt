@@ -6,7 +6,7 @@ use Rattle.std.proofs.lemmas.Iterator.Consumers.{YieldsList-end, YieldsList-so_f
 use Rattle.std.proofs.lemmas.Option.{slice_get_read}
 use Rattle.ring_base.specs.Fronts.{front_self, front_trans}
 use Rattle.ring_log.specs.Logs.{committed_calls}
-use Rattle.ring_replica.proofs.Going.{walked-none, walked-more, walked-all, rises-next}
+use Rattle.ring_replica.proofs.CourseGoesOn.{walked-none, walked-more, walked-all, rises-next}
 use Rattle.ring_replica.proofs.course.Course.walk.Goals as goal
 
 pub loop-out-init : goal.loop-out-init

@@ -2,7 +2,7 @@
 use Rattle.std.proofs.Common.{◌≡◌}
 use Rattle.ring_base.specs.Fronts.{IsFront}
 use Rattle.ring_log.specs.Logs.{committed_calls}
-use Rattle.ring_replica.proofs.Going.{IsWalked}
+use Rattle.ring_replica.proofs.CourseGoesOn.{IsWalked}
 use Rattle.ring_replica.proofs.course.Course.walk.Given as goal
 
 abbrev pub invariant-loop-out : goal.invariant-loop-out

@@ -1,6 +1,6 @@
 -- The tickets tell whether one may be given.
-use Rattle.ring_replica.proofs.Lists.{on-ok, if-err}
 use Rattle.ring_replica.proofs.Replicas.{may-give, may-not}
+use Rattle.ring_base.proofs.Results.{on-ok, if-err}
 use Rattle.ring_replica.proofs.replica.Replica.check.Goals as goal
 
 pub returns-clause-ok : goal.returns-clause-ok

@@ -4,8 +4,8 @@ use Rattle.std.proofs.lemmas.List.{take_rest}
 use Rattle.ring_log.specs.Logs.{Log, committed_calls}
 use Rattle.ring_log.specs.Lives.{committed_of}
 use Rattle.ring_session.specs.Deduplicated.{deduplicated}
-use Rattle.ring_ticket.specs.Pendings.{with_answers}
-use Rattle.ring_ticket.specs.Tickets.{answers_after}
+use Rattle.ring_session.specs.Pendings.{with_answers}
+use Rattle.ring_session.specs.Tickets.{answers_after}
 use Rattle.ring_replica.specs.Replicas.{Replica, Tale, told_replica, replica_committed, tale_done}
 use Rattle.ring_replica.proofs.Replicas.{finished-replica, committed-is}
 use Rattle.ring_replica.proofs.replica.Replica.finish.Goals as goal

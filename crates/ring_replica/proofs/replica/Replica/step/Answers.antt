@@ -1,9 +1,9 @@
 -- A step that stops gives nothing and leaves what is told; any other gives what the outputs make of the replica.
 use Rattle.std.proofs.Common.{sym, ◌∙◌, ap}
 use Rattle.ring_replica.specs.Replicas.{ReplicaStepped}
-use Rattle.ring_replica.proofs.Lists.{on-err}
-use Rattle.ring_replica.proofs.Steps.{ready, moved-by, first-within, effects-few, halted-counted, stopped-same, step-halted}
-use Rattle.ring_replica.proofs.Steps.{stepped-counted, sends-are, due-is, answers-are, committed-are, moved-told}
+use Rattle.ring_replica.proofs.ReplicaSteps.{ready, moved-by, first-within, effects-few, halted-counted, stopped-same, step-halted}
+use Rattle.ring_replica.proofs.ReplicaSteps.{stepped-counted, sends-are, due-is, answers-are, committed-are, moved-told}
+use Rattle.ring_base.proofs.Results.{on-err}
 use Rattle.ring_replica.proofs.replica.Replica.step.Goals as goal
 
 pub prove-unreachable-requires : goal.prove-unreachable-requires

@@ -2,10 +2,11 @@
 use Rattle.std.proofs.Common.{option_copied, ap, sym, subst, ◌∙◌}
 use Rattle.ring_wire.specs.Frames.{FrameFits}
 use Rattle.ring_core.specs.declared.input.Input.TheVariants.{Frame as FrameInput}
-use Rattle.ring_limits.specs.Limits.{WorldFits}
-use Rattle.ring_moves.specs.Worlds.{happens, stepped, frame_at}
+use Rattle.ring_core_proof.specs.Limits.{WorldFits}
+use Rattle.ring_core_proof.specs.Worlds.{happens, stepped}
+use Rattle.ring_core.specs.State.{frame_at}
 use Rattle.ring_runs.specs.Running.{Ran, world_of}
-use Rattle.ring_runs.proofs.Ties.{hands, handed_is, frame_fits}
+use Rattle.ring_runs.proofs.WorldOfCores.{hands, handed_is, frame_fits}
 use Rattle.ring_runs.proofs.cores.Cores.deliver.Goals as goal
 
 pub idle-requires : goal.idle-requires

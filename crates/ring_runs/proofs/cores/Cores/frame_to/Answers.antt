@@ -1,7 +1,7 @@
 -- Frames are numbered in the order sent.
 use Rattle.std.proofs.Common.{◌++◌, Some, ap, sym, ◌∙◌}
-use Rattle.ring_moves.specs.Worlds.{frame_at}
-use Rattle.ring_runs.specs.Running.{Ran, world_of, frame_for, frames_of, opening_frames, places_from}
+use Rattle.ring_runs.specs.Running.{Ran, world_of, frames_of, opening_frames, places_from}
+use Rattle.ring_core.specs.State.{frame_at, frame_for}
 use Rattle.ring_runs.proofs.cores.Cores.frame_to.Goals as goal
 
 pub later_frame-requires : goal.later_frame-requires

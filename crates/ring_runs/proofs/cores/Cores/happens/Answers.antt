@@ -2,8 +2,8 @@
 use Rattle.std.proofs.Common.{ap, sym, subst, ◌∙◌}
 use Rattle.ring_payload.specs.Payloads.{PayloadFits}
 use Rattle.ring_core.specs.declared.input.Input.TheVariants.{Send as SendInput}
-use Rattle.ring_limits.specs.Limits.{EventFits}
-use Rattle.ring_moves.specs.Worlds.{happens, stepped}
+use Rattle.ring_core_proof.specs.Limits.{EventFits}
+use Rattle.ring_core_proof.specs.Worlds.{happens, stepped}
 use Rattle.ring_runs.specs.Running.{world_of}
 use Rattle.ring_runs.proofs.cores.Cores.happens.Goals as goal
 

@@ -1,8 +1,8 @@
 -- What is kept tells the same world.
 use Rattle.std.proofs.Common.{◌≡◌, sym, subst}
-use Rattle.ring_moves.specs.Worlds.{happens}
+use Rattle.ring_core_proof.specs.Worlds.{happens}
 use Rattle.ring_runs.specs.Running.{Ran, world_of}
-use Rattle.ring_runs.proofs.Ties.{tells}
+use Rattle.ring_runs.proofs.WorldOfCores.{tells}
 use Rattle.ring_runs.proofs.cores.Cores.idle.Goals as goal
 
 pub invariant_of-self : goal.invariant_of-self

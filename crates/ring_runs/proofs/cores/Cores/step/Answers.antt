@@ -1,9 +1,10 @@
 -- What is kept goes on telling the world.
 use Rattle.std.proofs.Common.{sym, subst, ◌<◌, ◌≡◌, ◌≤◌, ◌-◌, length, ap, ◌∙◌, arith}
 use Rattle.ring_runs.specs.Running.{Ran, world_of}
-use Rattle.ring_moves.specs.Worlds.{happens, stepped}
+use Rattle.ring_core_proof.specs.Worlds.{happens, stepped}
 use Rattle.ring_core.specs.State.{is_stopped}
-use Rattle.ring_runs.proofs.Ties.{stepped_tells, stopped_tells, was_stopped, input_fits, stepped_not}
+use Rattle.ring_runs.proofs.WorldOfCores.{stepped_tells, stopped_tells, input_fits, stepped_not}
+use Rattle.ring_base.proofs.Faults.{was_stopped}
 use Rattle.ring_runs.proofs.cores.Cores.step.Goals as goal
 
 pub idle-requires : goal.idle-requires

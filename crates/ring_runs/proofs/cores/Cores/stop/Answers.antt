@@ -1,8 +1,8 @@
 -- What is kept goes on telling the world.
 use Rattle.std.proofs.Common.{◌≡◌, ◌≤◌, ◌<◌, ◌-◌, length, ap, ◌∙◌, arith}
-use Rattle.ring_moves.specs.Worlds.{happens}
+use Rattle.ring_core_proof.specs.Worlds.{happens}
 use Rattle.ring_runs.specs.Running.{Ran, world_of}
-use Rattle.ring_runs.proofs.Ties.{halted_tells, stopped_not}
+use Rattle.ring_runs.proofs.WorldOfCores.{halted_tells, stopped_not}
 use Rattle.ring_runs.proofs.cores.Cores.stop.Goals as goal
 
 pub idle-requires : goal.idle-requires

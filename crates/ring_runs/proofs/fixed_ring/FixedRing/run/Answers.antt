@@ -1,10 +1,10 @@
 -- What a run on the ring of all gives, and the laws that hold of it.
 use Rattle.std.proofs.Common.{◌≡◌, ◌≤◌, Option, IfOk, filter, ap, subst, ◌∙◌, sym}
-use Rattle.ring_chain.proofs.Everywhere.{formed_text}
-use Rattle.ring_chain.proofs.Formed.{agreed_ascend}
-use Rattle.ring_chain.proofs.Tells.{formed_held}
-use Rattle.ring_chain.proofs.Together.{formed_of_formed}
-use Rattle.ring_moves.specs.Worlds.{acts_on_formed}
+use Rattle.ring_chain_proof.proofs.ChainInRuns.{formed_text}
+use Rattle.ring_chain_proof.proofs.Formed.{agreed_ascend}
+use Rattle.ring_chain_proof.proofs.Tells.{formed_held}
+use Rattle.ring_chain_proof.proofs.OnlyRing.{formed_of_formed}
+use Rattle.ring_core_proof.specs.Worlds.{acts_on_formed}
 use Rattle.ring_runs.specs.Running.{Ran, Prepared, IsPrepared, none_ran_formed, all_ran, world_of}
 use Rattle.ring_runs.proofs.fixed_ring.FixedRing.run.Goals as goal
 

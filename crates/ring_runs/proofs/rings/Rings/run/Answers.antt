@@ -1,8 +1,8 @@
 -- What a run of all from Gather gives, and the laws that hold of it.
 use Rattle.std.proofs.Common.{◌≡◌, Option, IfOk, ap, subst, ◌∙◌, sym}
-use Rattle.ring_chain.proofs.Once.{rounds_of_runs}
-use Rattle.ring_chain.proofs.Parts.{unformed_same_members}
-use Rattle.ring_ready.proofs.Installed.{all_synchronous}
+use Rattle.ring_chain_proof.proofs.Once.{rounds_of_runs}
+use Rattle.ring_chain_proof.proofs.TakingPart.{unformed_same_members}
+use Rattle.ring_synchrony_proof.proofs.Installed.{all_synchronous}
 use Rattle.ring_runs.specs.Running.{Ran, Prepared, IsPrepared, none_ran, all_ran, world_of}
 use Rattle.ring_runs.proofs.rings.Rings.run.Goals as goal
 

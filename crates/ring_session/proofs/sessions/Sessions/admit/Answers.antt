@@ -1,6 +1,6 @@
 use Rattle.std.proofs.Common.{ℕ, List, rules, arith, ap, ◌∙◌}
 use Rattle.ring_session.specs.Table.{LastCall, table_of}
-use Rattle.ring_session.proofs.Steps.{taken_out, IsTable-content, IsTable-new}
+use Rattle.ring_session.proofs.TableWrites.{taken_out, IsTable-content, IsTable-new}
 use Rattle.ring_session.proofs.sessions.Sessions.admit.Goals as goal
 
 pub invariant_of-self-in-Ok : goal.invariant_of-self-in-Ok

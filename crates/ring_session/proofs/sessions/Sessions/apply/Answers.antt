@@ -5,7 +5,7 @@ use Rattle.std.specs.Ordering.{nat_cmp}
 use Rattle.std.proofs.lemmas.Bool.{eqb-true}
 use Rattle.std.proofs.lemmas.Result.{err_from_is_err_and, IfOk-weaker}
 use Rattle.ring_session.specs.Table.{LastCall, table_of, table_answer}
-use Rattle.ring_session.proofs.Steps.{written_same, IsTable-content, IsTable-known, next-known, next-other}
+use Rattle.ring_session.proofs.TableWrites.{written_same, IsTable-content, IsTable-known, next-known, next-other}
 use Rattle.ring_session.proofs.TableLaws.{answer_told}
 use Rattle.ring_session.proofs.sessions.Sessions.apply.Goals as goal
 

@@ -4,7 +4,7 @@ use Rattle.ring_core.specs.State.{formed}
 use Rattle.ring_commit.specs.declared.configuration.Configuration.{Configuration}
 use Rattle.ring_token.specs.Turns.{first_token}
 use Rattle.ring_srp.proofs.Allowed.{first_allowed}
-use Rattle.ring_srp.proofs.Outputs.{first_alone, first_core}
+use Rattle.ring_srp.proofs.StepOutputs.{first_alone, first_core}
 use Rattle.ring_srp.proofs.srp.Srp.started.Goals as goal
 
 pub visit-requires : goal.visit-requires

@@ -3,12 +3,12 @@ use Rattle.std.proofs.Common.{◌≡◌, false, ap, ◌∙◌, subst}
 use Rattle.ring_core.specs.State.{Core, is_stopped}
 use Rattle.ring_core.specs.Giving.{may_install}
 use Rattle.ring_core.specs.Stepping.{ring_step}
-use Rattle.ring_srp.proofs.Outputs.{step_settles}
+use Rattle.ring_core.proofs.Quiet.{stepped_is}
 use Rattle.ring_srp.proofs.Stopping.{runs_as}
 use Rattle.ring_srp.proofs.srp.Srp.step.Goals as goal
 
 pub invariant_of-self-in-Ok-1 : goal.invariant_of-self-in-Ok-1
-invariant_of-self-in-Ok-1 g c = ap (λ (x : Core g.row.A.Denot). may_install x) c.in-Ok.ensures.core ∙ step_settles c.in-Some.machine c.args.input
+invariant_of-self-in-Ok-1 g c = ap (λ (x : Core g.row.A.Denot). may_install x) c.in-Ok.ensures.core ∙ stepped_is c.in-Some.machine c.args.input
 
 pub returns-in-Ok-clause-outs : goal.returns-in-Ok-clause-outs
 returns-in-Ok-clause-outs g c = c.in-Ok.ensures.outs

@@ -1,5 +1,5 @@
 -- Above the least number that is kept is above each visited.
-use Rattle.ring_token.proofs.Keeping.{accepted_by}
+use Rattle.ring_token.proofs.VisitNumbers.{accepted_by}
 use Rattle.ring_token.proofs.visit.Visit.accepts.Goals as goal
 
 pub returns : goal.returns

@@ -1,6 +1,6 @@
 -- The mark is one more that the ring was raised to.
 use contract.BorrowLft.{⊑_meet, ⊑_static, ⊑_refl}
-use Rattle.ring_token.proofs.Keeping.{kept_raise}
+use Rattle.ring_token.proofs.VisitNumbers.{kept_raise}
 use Rattle.ring_token.proofs.visit.Visit.raise.Goals as goal
 
 pub invariant_of-self : goal.invariant_of-self

@@ -4,7 +4,7 @@ use contract.BorrowLft.{⊑_meet, ⊑_static, ⊑_refl}
 use Rattle.ring_wire.specs.declared.token.Token.{Token}
 use Rattle.ring_token.specs.Visits.{token_after}
 use Rattle.ring_token.specs.Histories.{TokenHistory, turn_by}
-use Rattle.ring_token.proofs.Keeping.{kept_turn}
+use Rattle.ring_token.proofs.VisitNumbers.{kept_turn}
 use Rattle.ring_token.proofs.visit.Visit.visit.Goals as goal
 
 pub invariant_of-self : goal.invariant_of-self

@@ -1,5 +1,5 @@
 use Rattle.ring_window.specs.Bits.{is_set}
-use Rattle.ring_window.proofs.Words.{byte_by_tests}
+use Rattle.ring_window.proofs.WordBits.{byte_by_tests}
 use Rattle.ring_window.proofs.held_bits.HeldBits.byte_at.Goals as goal
 
 pub returns : goal.returns

@@ -1,5 +1,5 @@
 use Rattle.std.proofs.Common.{arith}
-use Rattle.ring_window.proofs.Words.{first_here, whole_here}
+use Rattle.ring_window.proofs.WordBits.{first_here, whole_here}
 use Rattle.ring_window.proofs.held_bits.HeldBits.first_clear.Goals as goal
 
 pub returns-then-word : goal.returns-then-word

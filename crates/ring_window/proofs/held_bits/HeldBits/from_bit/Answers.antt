@@ -1,5 +1,5 @@
 use Rattle.std.proofs.Common.{arith}
-use Rattle.ring_window.proofs.Words.{four_words}
+use Rattle.ring_window.proofs.WordBits.{four_words}
 use Rattle.ring_window.proofs.held_bits.HeldBits.from_bit.Goals as goal
 
 pub returns : goal.returns

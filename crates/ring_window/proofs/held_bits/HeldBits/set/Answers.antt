@@ -1,5 +1,5 @@
 use Rattle.std.proofs.Common.{arith}
-use Rattle.ring_window.proofs.Words.{set_this, set_others}
+use Rattle.ring_window.proofs.WordBits.{set_this, set_others}
 use Rattle.ring_window.proofs.held_bits.HeldBits.set.Goals as goal
 
 pub returns-clause-this : goal.returns-clause-this

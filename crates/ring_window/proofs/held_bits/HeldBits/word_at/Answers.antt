@@ -1,5 +1,5 @@
 use Rattle.std.proofs.Common.{◌%◌, refl, arith}
-use Rattle.ring_window.proofs.Words.{word_across}
+use Rattle.ring_window.proofs.WordBits.{word_across}
 use Rattle.ring_window.proofs.held_bits.HeldBits.word_at.Goals as goal
 
 pub returns : goal.returns

@@ -1,8 +1,7 @@
 -- Each mark tells its frame's sender and receivers.
 use Rattle.std.proofs.Common.{ap, ◌∙◌, sym}
 use Rattle.std.specs.Prelude.{option_map}
-use Rattle.ring_core.specs.State.{Carried}
-use Rattle.ring_history.specs.Worlds.{frame_at}
+use Rattle.ring_core.specs.State.{Carried, frame_at}
 use Rattle.ring_world.specs.Stored.{Stored, mark_at}
 use Rattle.ring_world.proofs.Storing.{number_found, number_missing, ends_are}
 use Rattle.ring_world.proofs.frames.Frames.ends.Goals as goal

@@ -2,8 +2,8 @@
 use Rattle.std.proofs.Common.{◌≡◌, ◌≤◌, length, Some, ap, ◌∙◌, sym, subst}
 use Rattle.std.specs.Prelude.{slice_range}
 use Rattle.ring_wire.specs.Frames.{spelling_of}
-use Rattle.ring_world.specs.Stored.{Stored, mark_at, frame_for}
-use Rattle.ring_history.specs.Worlds.{frame_at}
+use Rattle.ring_core.specs.State.{frame_at, frame_for}
+use Rattle.ring_world.specs.Stored.{Stored, mark_at}
 use Rattle.ring_base.specs.declared.fault.Fault.TheVariants.{Memory}
 use Rattle.ring_world.proofs.Storing.{for_found, for_missing, match_ok, match_err}
 use Rattle.ring_world.proofs.frames.Frames.read_to.Goals as goal

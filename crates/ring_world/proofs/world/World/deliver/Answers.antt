@@ -1,11 +1,11 @@
 -- What is handed over is the frame that was sent to the node, which keeps its limits.
 use Rattle.std.proofs.Common.{◌≡◌, Some, ap, ◌∙◌, sym, subst}
-use Rattle.ring_history.specs.Limits.{EventFits}
-use Rattle.ring_machine.specs.declared.input.Input.TheVariants.{Frame as FrameInput}
-use Rattle.ring_history.specs.Worlds.{happens, stepped, frame_at}
+use Rattle.ring_rules.specs.WorldLimits.{EventFits}
+use Rattle.ring_rules.specs.declared.input.Input.TheVariants.{Frame as FrameInput}
+use Rattle.ring_rules.specs.Worlds.{happens, stepped}
 use Rattle.ring_world.specs.Played.{Played, world_of, step_in}
-use Rattle.ring_world.specs.Stored.{frame_for}
-use Rattle.ring_world.proofs.Handing.{hands, handed_is, frame_fits, sent_it}
+use Rattle.ring_world.proofs.FrameHanded.{hands, handed_is, frame_fits, sent_it}
+use Rattle.ring_core.specs.State.{frame_at, frame_for}
 use Rattle.ring_world.proofs.world.World.deliver.Goals as goal
 
 pub step-requires-clause-fits : goal.step-requires-clause-fits

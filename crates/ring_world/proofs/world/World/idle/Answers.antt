@@ -1,6 +1,6 @@
 -- The event is kept, and changes nothing.
 use Rattle.std.proofs.Common.{ap, ◌∙◌, ◌++◌, ◌∷◌, []}
-use Rattle.ring_world.proofs.Ties.{idle_world, idle_goes}
+use Rattle.ring_world.proofs.WorldOfNodes.{idle_world, idle_goes}
 use Rattle.ring_world.proofs.world.World.idle.Goals as goal
 
 pub invariant_of-self-2 : goal.invariant_of-self-2

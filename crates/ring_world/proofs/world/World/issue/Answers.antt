@@ -1,10 +1,10 @@
 -- A submit gives a ticket, whose call has a second copy; or it is refused, and told.
 use Rattle.std.proofs.Common.{◌-◌, ◌<◌, ap, ◌∙◌, sym, subst}
-use Rattle.ring_history.specs.Worlds.{happens, issued_if}
+use Rattle.ring_rules.specs.Worlds.{happens, issued_if}
 use Rattle.ring_world.specs.Played.{Played, world_of}
 use Rattle.ring_world.specs.Spares.{Spares}
-use Rattle.ring_world.proofs.Standing.{Stands, stands, unknown, roomy, spared, spare_put}
-use Rattle.ring_world.proofs.Ties.{issue_world, issue_goes, refusal_world, refusal_goes}
+use Rattle.ring_world.proofs.NodePlaces.{Stands, stands, unknown, roomy, spared, spare_put}
+use Rattle.ring_world.proofs.WorldOfNodes.{issue_world, issue_goes, refusal_world, refusal_goes}
 use Rattle.ring_world.proofs.world.World.issue.Given.{Over}
 use Rattle.ring_world.proofs.world.World.issue.Goals.{In_ok-make_room}
 use Rattle.ring_world.proofs.world.World.issue.Goals as goal

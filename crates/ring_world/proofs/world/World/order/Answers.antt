@@ -1,9 +1,9 @@
 -- The longest of what the nodes committed, repeats removed, is the world's order.
 use Rattle.std.proofs.Common.{◌≡◌, ◌<◌, List, length, ap, ◌∙◌, sym, subst, arith}
 use Rattle.std.specs.Prelude.{IfOk}
-use Rattle.ring_machine.specs.Nodes.{Node}
+use Rattle.ring_rules.specs.Nodes.{Node}
 use Rattle.ring_session.specs.Deduplicated.{deduplicated}
-use Rattle.ring_history.specs.Worlds.{order}
+use Rattle.ring_rules.specs.Worlds.{order}
 use Rattle.ring_world.specs.Ordering.{IsLongest}
 use Rattle.ring_world.specs.Played.{Played, world_of}
 use Rattle.ring_world.proofs.Logs.{logs-order, longest-below, longest-gives, none-longest}

@@ -1,7 +1,7 @@
 -- The longest of what the nodes committed is the world's order.
 use Rattle.std.proofs.Common.{◌≡◌, length, ap, ◌∙◌, subst}
-use Rattle.ring_history.specs.Orders.{order_of}
-use Rattle.ring_history.specs.Worlds.{order}
+use Rattle.ring_rules.specs.Orders.{order_of}
+use Rattle.ring_rules.specs.Worlds.{order}
 use Rattle.ring_world.specs.Ordering.{logs_of}
 use Rattle.ring_world.specs.Played.{Played, world_of}
 use Rattle.ring_world.proofs.Logs.{logs-order}

@@ -2,7 +2,7 @@
 use Rattle.std.proofs.Common.{◌≤◌, take, sym, subst}
 use Rattle.ring_base.specs.Fronts.{IsFront}
 use Rattle.ring_base.specs.Group.{Group}
-use Rattle.ring_history.specs.Worlds.{World, order}
+use Rattle.ring_rules.specs.Worlds.{World, order}
 use Rattle.ring_world.specs.Played.{Played, world_of, Plays}
 use Rattle.ring_world.proofs.Playing.{plays_from, plays_longer, world_later}
 use Rattle.ring_world.proofs.Synchrony.{synchronous_run}

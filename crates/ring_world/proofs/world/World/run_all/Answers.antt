@@ -1,7 +1,7 @@
 -- Event by event.
 use Rattle.std.proofs.Common.{◌+◌, List, take, length, refl, ap, ◌∙◌, sym, subst, arith}
 use Rattle.std.proofs.lemmas.Option.{slice_get_read}
-use Rattle.ring_history.specs.declared.event.Event.{Event}
+use Rattle.ring_rules.specs.declared.event.Event.{Event}
 use Rattle.ring_world.specs.Played.{Played, Plays}
 use Rattle.ring_base.proofs.Rows.{take-more}
 use Rattle.ring_world.proofs.Playing.{plays_more}

@@ -1,11 +1,11 @@
 -- A step of a node is a step of the world, and its answers have their copies; where memory was refused, it stands as a stop.
 use Rattle.std.proofs.Common.{◌-◌, length, ap, ◌∙◌, arith}
-use Rattle.ring_history.specs.Worlds.{stepped_if}
+use Rattle.ring_rules.specs.Worlds.{stepped_if}
 use Rattle.ring_world.specs.Played.{Played, world_of}
-use Rattle.ring_world.proofs.Standing.{Stands, stands, unknown, roomy, spare_there, high}
-use Rattle.ring_world.proofs.Ties.{IsStep, sends_fit, answers_few, answers_left, step_world, step_goes}
-use Rattle.ring_world.proofs.Ties.{silent_world, silent_goes, stop_world, refused_goes}
-use Rattle.ring_world.proofs.Refusals.{room_less}
+use Rattle.ring_world.proofs.NodePlaces.{Stands, stands, unknown, roomy, spare_there, high}
+use Rattle.ring_world.proofs.WorldOfNodes.{IsStep, sends_fit, answers_few, answers_left, step_world, step_goes}
+use Rattle.ring_world.proofs.WorldOfNodes.{silent_world, silent_goes, stop_world, refused_goes}
+use Rattle.ring_world.proofs.SubmitRefused.{room_less}
 use Rattle.ring_world.proofs.world.World.step.Given.{Over}
 use Rattle.ring_world.proofs.world.World.step.Goals.{In_ok-make_room, In-Ok}
 use Rattle.ring_world.proofs.world.World.step.Goals as goal

@@ -1,13 +1,13 @@
 -- The node has stopped, whatever memory does.
 use Rattle.std.proofs.Common.{◌≡◌, ◌-◌, refl, ap, ◌∙◌}
-use Rattle.ring_machine.specs.Nodes.{node_stopped}
-use Rattle.ring_history.specs.Worlds.{happens, stopped_if}
+use Rattle.ring_rules.specs.Nodes.{node_stopped}
+use Rattle.ring_rules.specs.Worlds.{happens, stopped_if}
 use Rattle.ring_world.specs.Played.{world_of}
-use Rattle.ring_world.proofs.Standing.{Stands, stands, unknown, roomy}
-use Rattle.ring_world.proofs.Ties.{stop_world, stop_goes}
-use Rattle.ring_world.proofs.Refusals.{either}
+use Rattle.ring_world.proofs.NodePlaces.{Stands, stands, unknown, roomy}
+use Rattle.ring_world.proofs.WorldOfNodes.{stop_world, stop_goes}
 use Rattle.ring_world.proofs.world.World.stop.Given.{Over}
 use Rattle.ring_world.proofs.world.World.stop.Goals.{After-reserve}
+use Rattle.ring_base.proofs.Results.{either}
 use Rattle.ring_world.proofs.world.World.stop.Goals as goal
 
 -- where the node stands, once there is room

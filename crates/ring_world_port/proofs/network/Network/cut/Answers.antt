@@ -1,5 +1,5 @@
 use Rattle.std.proofs.Common.{◌≡◌, ◌∙◌, sym, ap}
-use Rattle.ring_pump.specs.Played.{Played}
+use Rattle.ring_world.specs.Played.{Played}
 use Rattle.ring_world_port.specs.Network.{Networked}
 use Rattle.ring_world_port.proofs.Groups.{within_common}
 use Rattle.ring_world_port.proofs.network.Network.cut.Goals as goal

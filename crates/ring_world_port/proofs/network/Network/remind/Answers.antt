@@ -1,6 +1,6 @@
 use Rattle.std.proofs.Common.{◌≡◌, ◌%◌, ◌<◌, ◌∙◌, sym, ap, arith}
 use Rattle.ring_base.specs.Processors.{size}
-use Rattle.ring_pump.specs.Played.{Played}
+use Rattle.ring_world.specs.Played.{Played}
 use Rattle.ring_world_port.specs.Network.{Networked}
 use Rattle.ring_world_port.proofs.Groups.{at_known}
 use Rattle.ring_world_port.proofs.network.Network.remind.Goals as goal

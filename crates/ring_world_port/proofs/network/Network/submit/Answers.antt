@@ -1,5 +1,5 @@
 use Rattle.std.proofs.Common.{◌≡◌, ◌∙◌, ap, length}
-use Rattle.ring_pump.specs.Played.{Played}
+use Rattle.ring_world.specs.Played.{Played}
 use Rattle.ring_world_port.proofs.Submits.{issued, not_issued}
 use Rattle.ring_world_port.proofs.network.Network.submit.Goals as goal
 

@@ -1,8 +1,8 @@
 -- The frame that is taken out of those that were sent keeps the limits as each of them does.
 use Rattle.std.proofs.Common.{subst, sym}
 use Rattle.std.specs.List.{AllByRecursion}
-use Rattle.ring_limits.proofs.Acts.{SentFits}
-use Rattle.totem_library_example.proofs.Fits.{each_last}
+use Rattle.totem_library_example.proofs.AloneLimits.{each_last}
+use Rattle.ring_core_proof.specs.Limits.{SentFits}
 use Rattle.totem_library_example.proofs.alone.Alone.hear.Goals as goal
 
 pub step-requires : goal.step-requires

@@ -2,8 +2,8 @@
 use Rattle.std.proofs.Common.{subst, sym, ap}
 use Rattle.std.specs.List.{AllByRecursion}
 use Rattle.ring_base.specs.Group.{Group}
-use Rattle.ring_limits.proofs.Acts.{SentFits}
-use Rattle.totem_library_example.proofs.Fits.{opens}
+use Rattle.totem_library_example.proofs.AloneLimits.{opens}
+use Rattle.ring_core_proof.specs.Limits.{SentFits}
 use Rattle.totem_library_example.proofs.alone.Alone.new.Goals as goal
 
 pub invariant_of-result : goal.invariant_of-result

@@ -1,8 +1,8 @@
 -- A step keeps the limits, and what it sends does.
 use Rattle.std.proofs.Common.{subst, sym}
 use Rattle.std.specs.List.{AllByRecursion}
-use Rattle.ring_frames.proofs.Nodes.{NodeFits, node_halts, stepped_fits}
-use Rattle.ring_limits.proofs.Acts.{SentFits}
+use Rattle.ring_order_proof.proofs.NodeLimits.{NodeFits, node_halts, stepped_fits}
+use Rattle.ring_core_proof.specs.Limits.{SentFits}
 use Rattle.totem_library_example.proofs.alone.Alone.step.Goals as goal
 
 pub invariant_of-self : goal.invariant_of-self

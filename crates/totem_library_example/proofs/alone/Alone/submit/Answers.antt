@@ -1,6 +1,6 @@
 -- The call keeps the limits as it was made, so the submit does.
 use Rattle.std.proofs.Common.{arith}
-use Rattle.totem_library_example.proofs.Fits.{takes, made_fits}
+use Rattle.totem_library_example.proofs.AloneLimits.{takes, made_fits}
 use Rattle.totem_library_example.proofs.alone.Alone.submit.Goals as goal
 
 pub invariant_of-self : goal.invariant_of-self

@@ -1,0 +1,476 @@
+-- A book run is the run of its lines' events.
+use Rattle.std.proofs.Common.{◌≡◌, ℕ, ◌-◌, ◌≤◌, ◌++◌, ◌==◌, Bool, true, false, List, [], ◌∷◌, length}
+use Rattle.std.proofs.Common.{Option, None, Some, slice_get, refl, inl, inr, ap, subst, sym, ◌∙◌, arith, append-nil, append_assoc, eq-eqb}
+use Rattle.std.specs.Prelude.{map, IsSomeAnd}
+use Rattle.std.specs.List.{AllByRecursion as Each}
+use Rattle.std.proofs.lemmas.Bool.{cases_Bool, eqb-true, cond-true, cond-false, and_from, le-leb}
+use Rattle.std.proofs.lemmas.Bool.Decides.{nat_tests}
+use Rattle.std.proofs.lemmas.List.{map-append}
+use Rattle.ring_base.specs.Fronts.{IsFront}
+use Rattle.ring_base.specs.Group.{Group}
+use Rattle.ring_base.specs.Numbers.{numbers_from}
+use Rattle.ring_base.specs.Processors.{has}
+use Rattle.ring_base.specs.declared.fault.Fault.{Fault}
+use Rattle.ring_object.specs.Operations.{Sequential}
+use Rattle.ring_payload.specs.declared.call.Call.{Call}
+use Rattle.ring_session.specs.Deduplicated.{deduplicated}
+use Rattle.ring_session.specs.declared.answer.Answer.{Answer}
+use Rattle.ring_wire.specs.declared.frame.Frame.{Frame}
+use Rattle.ring_core.specs.State.{Carried, frame_at}
+use Rattle.ring_session.specs.Tickets.{Asked, all_answers, asked_calls}
+use Rattle.ring_session.specs.declared.answered.Answered.{Answered}
+use Rattle.ring_rules.specs.declared.input.Input.{Input}
+use Rattle.ring_rules.specs.declared.input.Input.TheVariants.{Frame as Comes, Noise, Timeout, Stop}
+use Rattle.ring_rules.specs.Nodes.{Node, node_committed, node_opening, node_stopped}
+use Rattle.ring_rules.specs.Stepping.{NodeStepped, node_step, submit_fault, submitted}
+use Rattle.ring_rules.specs.WorldLimits.{EventFits}
+use Rattle.ring_rules.specs.Orders.{AreOneLog, order_of}
+use Rattle.ring_rules.proofs.Linear.{all-at}
+use Rattle.ring_rules.proofs.NodeChanges.{submitted-committed}
+use Rattle.ring_rules.specs.Worlds.{World, world_opening, put, is_node, carried, items_of, after_step, issued_or, issued_if}
+use Rattle.ring_rules.specs.Worlds.{stopped_if, stepped_if, handed_if, handed, happens, run, committed_in, order}
+use Rattle.ring_log.proofs.CommittedOf.{born-committed}
+use Rattle.ring_book_lines.specs.declared.frame_ref.FrameRef.{FrameRef}
+use Rattle.ring_book_lines.specs.declared.input.LineInput.{LineInput}
+use Rattle.ring_book_lines.specs.declared.input.LineInput.TheVariants.{Called, Came}
+use Rattle.ring_book_lines.specs.Answers.{by_ticket, told_by, told_from, told_to}
+use Rattle.ring_book_lines.specs.Events.{answers_of, frames_of, frame_number, event_of, events_after}
+use Rattle.ring_book_lines.specs.Events.{events_of, items_in, history_of, IsDone, AreDone, IsRun}
+use Rattle.ring_book_lines.specs.Lines.{steps_of, IsFound}
+use Rattle.ring_book_lines.specs.Logs.{committed_by, committed_to, longest_log}
+use Rattle.ring_book_lines.specs.Machines.{Machine, node_machine}
+use Rattle.ring_book_lines.specs.Orders.{call_in, calls_of}
+use Rattle.ring_book_lines.specs.Runs.{LineFits, Makes, IsStep, Leads, AllFound, IsInside, IsBookRun}
+use Rattle.ring_book_lines.specs.Steps.{StepView, LineView}
+use Rattle.ring_book_lines.proofs.Given.{step-adds, answers_of-stepped, answers_of-submitted}
+use Rattle.ring_book_lines.proofs.CommittedInLines.{grown, one-log-after, one-log-now, committed-after, committed-now}
+use Rattle.ring_order_proof.proofs.Orderly.{run-more}
+use Rattle.ring_book_lines.proofs.Leading.{leads_one, steps_of-own, steps_of-other, steps_of-first, steps_of-skip}
+use Rattle.ring_book_lines.proofs.Logging.{IsGrown, IsLongest, longest-next, order-longest}
+use Rattle.ring_book_lines.proofs.FramesInLines.{number_stands}
+use Rattle.ring_book_lines.proofs.AnswersByTicket.{told_from-snoc}
+
+-- ---- lists of lines with one more
+
+frames_of-snoc : {A : Type 0} (ls : List (LineView A)) (l : LineView A) → frames_of (ls ++ l ∷ []) ≡ frames_of ls ++ carried l.step.node l.step.frames
+frames_of-snoc [] l = append-nil (carried l.step.node l.step.frames)
+frames_of-snoc (x ∷ ls) l = ap (λ ys. carried x.step.node x.step.frames ++ ys) (frames_of-snoc ls l)
+    ∙ sym (append_assoc (carried x.step.node x.step.frames) (frames_of ls) (carried l.step.node l.step.frames))
+
+history_of-snoc : {A : Type 0} (ls : List (LineView A)) (l : LineView A) → history_of (ls ++ l ∷ []) ≡ history_of ls ++ items_in l.step.input l.step.answers
+history_of-snoc [] l = append-nil (items_in l.step.input l.step.answers)
+history_of-snoc (x ∷ ls) l = ap (λ ys. items_in x.step.input x.step.answers ++ ys) (history_of-snoc ls l)
+    ∙ sym (append_assoc (items_in x.step.input x.step.answers) (history_of ls) (items_in l.step.input l.step.answers))
+
+calls_of-snoc : {A : Type 0} (ss : List (StepView A)) (s : StepView A) → calls_of (ss ++ s ∷ []) ≡ calls_of ss ++ call_in s.input
+calls_of-snoc [] s = append-nil (call_in s.input)
+calls_of-snoc (x ∷ ss) s = ap (λ ys. call_in x.input ++ ys) (calls_of-snoc ss s) ∙ sym (append_assoc (call_in x.input) (calls_of ss) (call_in s.input))
+
+committed_by-snoc : {A : Type 0} (ss : List (StepView A)) (s : StepView A) → committed_by (ss ++ s ∷ []) ≡ committed_by ss ++ s.calls
+committed_by-snoc [] s = append-nil s.calls
+committed_by-snoc (x ∷ ss) s = ap (λ ys. x.calls ++ ys) (committed_by-snoc ss s) ∙ sym (append_assoc x.calls (committed_by ss) s.calls)
+
+after-snoc : {A : Type 0} (before ls : List (LineView A)) (l : LineView A)
+    → events_after before (ls ++ l ∷ []) ≡ events_after before ls ++ event_of (before ++ ls) l.step.node l.step.input ∷ []
+after-snoc before [] l = ap (λ (xs : List (LineView _)). event_of xs l.step.node l.step.input ∷ []) (sym (append-nil before))
+after-snoc before (x ∷ ls) l =
+    ap (λ es. event_of before x.step.node x.step.input ∷ es)
+    (after-snoc (before ++ x ∷ []) ls l
+    ∙ ap (λ (xs : List (LineView _)). events_after (before ++ x ∷ []) ls ++ event_of xs l.step.node l.step.input ∷ []) (append_assoc before (x ∷ []) ls))
+
+-- what comes keeps the limits
+event-fits : {A : Type 0} (before : List (LineView A)) (node : ℕ) (input : LineInput A) → LineFits input → EventFits (event_of before node input)
+event-fits before node (Called c) h = h
+event-fits before node (Came (Comes f) at) h = tt
+event-fits before node (Came Noise at) h = tt
+event-fits before node (Came (Timeout kind) at) h = tt
+event-fits before node (Came Stop at) h = tt
+
+module _ {O A : Type 0} (object : Sequential O) (group : Group) where
+  abbrev machine : Machine (Node A) A
+  machine = node_machine object group
+
+  -- ---- one line
+
+  -- what a line makes of the world
+  pub record IsNext (w after : World A) (node : ℕ) (input : LineInput A) (l : StepView A) (u : Node A) : Type 0 where
+    pub group_is : after.group ≡ w.group
+    pub own : after.nodes node ≡ u
+    pub others : (i : ℕ) → (i == node) ≡ false → after.nodes i ≡ w.nodes i
+    pub frames : after.frames ≡ w.frames ++ carried node l.frames
+    pub history : after.history ≡ w.history ++ items_in input l.answers
+
+  put-own : (w : World A) (node : ℕ) (n : Node A) → put w.nodes node n node ≡ n
+  put-own w node n = cond-true (node == node) n (w.nodes node) (eq-eqb node node refl)
+
+  put-other : (w : World A) (node : ℕ) (n : Node A) (i : ℕ) → (i == node) ≡ false → put w.nodes node n i ≡ w.nodes i
+  put-other w node n i e = cond-false (i == node) n (w.nodes i) e
+
+  abbrev issued_in : World A → ℕ → Call A → World A
+  issued_in w node c = issued_or None w node c
+
+  next_issued : (w after : World A) (node : ℕ) (c : Call A) (l : StepView A) (u : Node A) → after ≡ issued_in w node c → u ≡ submitted (w.nodes node) c
+      → l.frames ≡ []
+      → IsNext w after node (Called c) l u
+  next_issued w after node c l u e new none = record {
+    group_is = ap (λ x. x.group) e;
+    own = ap (λ (x : World A). x.nodes node) e ∙ (put-own w node (submitted (w.nodes node) c) ∙ sym new);
+    others = λ i apart. ap (λ (x : World A). x.nodes i) e ∙ put-other w node (submitted (w.nodes node) c) i apart;
+    frames = ap (λ x. x.frames) e ∙ (sym (append-nil w.frames) ∙ ap (λ fs. w.frames ++ carried node fs) (sym none));
+    history = ap (λ x. x.history) e;
+  }
+
+  next_done : (w after : World A) (node : ℕ) (input : Input A) (at : FrameRef) (l : StepView A) (u : Node A) (d : NodeStepped A) → after.group ≡ w.group
+      → after.nodes ≡ put w.nodes node d.node → after.frames ≡ w.frames ++ carried node d.sends → after.history ≡ w.history ++ items_of d.answers
+      → u ≡ d.node → l.frames ≡ d.sends → l.answers ≡ d.answers → IsNext w after node (Came input at) l u
+  next_done w after node input at l u d same nodes frames history new sent told = record {
+    group_is = same;
+    own = ap (λ (f : ℕ → Node A). f node) nodes ∙ (put-own w node d.node ∙ sym new);
+    others = λ i apart. ap (λ (f : ℕ → Node A). f i) nodes ∙ put-other w node d.node i apart;
+    frames = frames ∙ ap (λ fs. w.frames ++ carried node fs) (sym sent);
+    history = history ∙ ap (λ (as' : List _). w.history ++ items_of as') (sym told);
+  }
+
+  -- the frame that comes was sent in the world
+  comes : (o : Option (Carried A)) (w : World A) (node : ℕ) (f : Frame A) (s : Carried A) → o ≡ Some s → s.frame ≡ f → has s.to node ≡ true
+      → is_node w node ≡ true
+      → (handed object w node o ≡ after_step w node (node_step object (w.nodes node) (Comes f)))
+      × IsSomeAnd o (λ (x : Carried A). (x.frame ≡ f) × (has x.to node ≡ true))
+  comes None w node f s e is to known = absurd cc
+  comes (Some x) w node f s e is to known =
+      let one : x ≡ s = cc in
+      let frame : x.frame ≡ f = ap (λ (y : Carried A). y.frame) one ∙ is in
+      let goes : has x.to node ≡ true = ap (λ (y : Carried A). has y.to node) one ∙ to in (
+        ap (λ (b : Bool). handed_if object b w node x.frame) goes ∙ (ap (λ (b : Bool). stepped_if object b w node (Comes x.frame)) known
+            ∙ ap (λ (g : Frame A). after_step w node (node_step object (w.nodes node) (Comes g))) frame),
+        (frame, goes),
+      )
+
+  issues : (o : Option Fault) (w : World A) (node : ℕ) (c : Call A) → o ≡ None → issued_or o w node c ≡ issued_in w node c
+  issues None w node c e = refl
+  issues (Some fault) w node c e = absurd cc
+
+  pub record Follows (w : World A) (before : List (LineView A)) (node : ℕ) (input : LineInput A) (l : StepView A) (u : Node A) : Type 0 where
+    pub done : IsDone object w before node input l
+    pub next : IsNext w (happens object w (event_of before node input)) node input l u
+
+  -- a line of a book run is a line of the run
+  follows : (w : World A) (before : List (LineView A)) (node : ℕ) (input : LineInput A) (l : StepView A) (u : Node A) → is_node w node ≡ true
+      → w.frames ≡ frames_of before
+      → Makes machine (w.nodes node) input l u → IsFound before node input → Follows w before node input l u
+  follows w before node (Called c) l u known e made found = record {
+    done = (made.0, made.2, made.3, made.4);
+    next = next_issued w (happens object w (event_of before node (Called c))) node c l u
+        (ap (λ (b : Bool). issued_if b w node c) known ∙ issues (submit_fault (w.nodes node)) w node c made.0) made.1 made.2;
+  }
+  follows w before node (Came (Comes f) at) l u known e made found =
+      let d = node_step object (w.nodes node) (Comes f) in
+      let t = number_stands before at node f found in
+      let at_there : frame_at w.frames (frame_number before at) ≡ Some t.0 = ap (λ (fs : List (Carried A)). frame_at fs (frame_number before at)) e ∙ t.1.0 in
+      let c = comes (frame_at w.frames (frame_number before at)) w node f t.0 at_there t.1.1.0 t.1.1.1 known in
+      record {
+        done = (made.0, made.2, made.3, made.4, c.1);
+        next = next_done w (happens object w (event_of before node (Came (Comes f) at))) node (Comes f) at l u d
+            (ap (λ (x : World A). x.group) c.0) (ap (λ (x : World A). x.nodes) c.0) (ap (λ (x : World A). x.frames) c.0) (ap (λ (x : World A). x.history) c.0)
+            made.1 made.2 made.3;
+      }
+  follows w before node (Came Noise at) l u known e made found = record {
+    done = (made.0, made.2, made.3, made.4, tt);
+    next = record {
+      group_is = refl;
+      own = sym made.1;
+      others = λ i apart. refl;
+      frames = sym (append-nil w.frames) ∙ ap (λ fs. w.frames ++ carried node fs) (sym made.2);
+      history = sym (append-nil w.history) ∙ ap (λ (as' : List (Answered A)). w.history ++ items_of as') (sym made.3);
+    };
+  }
+  follows w before node (Came (Timeout kind) at) l u known e made found =
+      let d = node_step object (w.nodes node) (Timeout kind) in
+      let is : happens object w (event_of before node (Came (Timeout kind) at)) ≡ after_step w node d =
+      ap (λ (b : Bool). stepped_if object b w node (Timeout kind)) known in
+      record {
+        done = (made.0, made.2, made.3, made.4, tt);
+        next = next_done w (happens object w (event_of before node (Came (Timeout kind) at))) node (Timeout kind) at l u d
+            (ap (λ (x : World A). x.group) is) (ap (λ (x : World A). x.nodes) is) (ap (λ (x : World A). x.frames) is) (ap (λ (x : World A). x.history) is)
+            made.1 made.2 made.3;
+      }
+  follows w before node (Came Stop at) l u known e made found =
+      let n = node_stopped (w.nodes node) in
+      let is : happens object w (event_of before node (Came Stop at)) ≡ record w { nodes = put w.nodes node n } =
+      ap (λ (b : Bool). stopped_if b w node) known in
+      record {
+        done = (made.0, made.2, made.3, made.4, tt);
+        next = next_done w (happens object w (event_of before node (Came Stop at))) node Stop at l u (node_step object (w.nodes node) Stop)
+            (ap (λ (x : World A). x.group) is) (ap (λ (x : World A). x.nodes) is) (ap (λ (x : World A). x.frames) is ∙ sym (append-nil w.frames))
+            (ap (λ (x : World A). x.history) is ∙ sym (append-nil w.history)) made.1 made.2 made.3;
+      }
+
+  -- ---- what the lines say of the world after them
+
+  pub record Says (w : World A) (before : List (LineView A)) : Type 0 where
+    pub group_is : w.group ≡ group
+    pub frames : w.frames ≡ frames_of before
+    pub history : w.history ≡ history_of before
+    pub calls : (i : ℕ) → asked_calls (w.nodes i).tickets ≡ calls_of (steps_of i before)
+    pub answers : (i : ℕ) → answers_of object (w.nodes i) ≡ told_to i before
+    pub committed : (i : ℕ) → node_committed (w.nodes i) ≡ committed_to i before
+    pub longest : IsLongest (λ i. node_committed (w.nodes i)) group.count before
+
+  -- what a step makes of a node's calls, answers and committed log
+  record Makes3 (n u : Node A) (input : LineInput A) (l : StepView A) : Type 0 where
+    calls : asked_calls u.tickets ≡ asked_calls n.tickets ++ call_in input
+    answers : answers_of object u ≡ told_by (answers_of object n) input l.answers
+    committed : node_committed u ≡ node_committed n ++ l.calls
+
+  makes3 : (n u : Node A) (input : LineInput A) (l : StepView A) → Makes machine n input l u → IsFront (node_committed n) (node_committed u)
+      → Makes3 n u input l
+  makes3 n u (Called c) l made front = record {
+    calls = ap (λ (x : Node A). asked_calls x.tickets) made.1
+        ∙ map-append (λ (t : Asked A). t.call) n.tickets (record { call = c; since = length (node_committed n) } ∷ []);
+    answers = ap (λ (x : Node A). answers_of object x) made.1 ∙ answers_of-submitted object n c;
+    committed = ap (λ (x : Node A). node_committed x) made.1
+        ∙ (submitted-committed n c ∙ (sym (append-nil (node_committed n)) ∙ ap (λ cs. node_committed n ++ cs) (sym made.4)));
+  }
+  makes3 n u (Came input at) l made front =
+      let d = node_step object n input in
+      let adds = step-adds object n input (subst (λ (x : Node A). IsFront (node_committed n) (node_committed x)) made.1 front) in
+      record {
+        calls = ap (λ (x : Node A). asked_calls x.tickets) made.1 ∙ (ap asked_calls adds.tickets ∙ sym (append-nil (asked_calls n.tickets)));
+        answers = ap (λ (x : Node A). answers_of object x) made.1
+            ∙ (answers_of-stepped object n d adds ∙ ap (λ (as' : List (Answered A)). told_by (answers_of object n) (Came input at) as') (sym made.3));
+        committed = ap (λ (x : Node A). node_committed x) made.1 ∙ (adds.committed ∙ ap (λ cs. node_committed n ++ cs) (sym made.4));
+      }
+
+  all-fronts : (w : World A) → AreOneLog (committed_in w)
+      → ((i : ℕ) → 1 ≤ i → i ≤ group.count → slice_get (committed_in w) (i - 1) ≡ Some (node_committed (w.nodes i)))
+      → (log : List (Call A)) × ((i : ℕ) → 1 ≤ i → i ≤ group.count → IsFront (node_committed (w.nodes i)) log)
+  all-fronts w one at = (
+    one.0,
+    λ i low high. all-at (λ (calls : List (Call A)). IsFront calls one.0) (committed_in w) (i - 1) (node_committed (w.nodes i)) one.1
+        (at i low high),
+  )
+
+  -- after one line more
+  says-next : (w after : World A) (before : List (LineView A)) (l : LineView A) (u : Node A) → Says w before → 1 ≤ l.step.node → l.step.node ≤ group.count
+      → IsStep machine (w.nodes l.step.node) l.step u → IsNext w after l.step.node l.step.input l.step u
+      → IsFront (node_committed (w.nodes l.step.node)) (node_committed (after.nodes l.step.node)) → AreOneLog (committed_in after)
+      → ((i : ℕ) → 1 ≤ i → i ≤ group.count → slice_get (committed_in after) (i - 1) ≡ Some (node_committed (after.nodes i)))
+      → Says after (before ++ l ∷ [])
+  says-next w after before l u says low high step next front one at =
+      let node = l.step.node in
+      let n = w.nodes node in
+      let m = makes3 n u l.step.input l.step step.makes (subst (λ (x : Node A). IsFront (node_committed n) (node_committed x)) next.own front) in
+      let grow : IsGrown (λ i. node_committed (w.nodes i)) (λ i. node_committed (after.nodes i)) group.count node l.step = record {
+        low = low;
+        high = high;
+        own = ap (λ (x : Node A). node_committed x) next.own ∙ m.committed;
+        others = λ i apart. ap (λ (x : Node A). node_committed x) (next.others i apart);
+        length_is = step.committed ∙ ap (λ (x : Node A). length (node_committed x)) (sym next.own);
+      } in
+      let fronts = all-fronts after one at in
+      record {
+        group_is = next.group_is ∙ says.group_is;
+        frames = next.frames ∙ (ap (λ xs. xs ++ carried node l.step.frames) says.frames ∙ sym (frames_of-snoc before l));
+        history = next.history ∙ (ap (λ xs. xs ++ items_in l.step.input l.step.answers) says.history ∙ sym (history_of-snoc before l));
+        calls = λ i. elim (cases_Bool (i == node)) [
+          | inl t ↦ own-calls i (eqb-true i node t) m
+          | inr f ↦ ap (λ (x : Node A). asked_calls x.tickets) (next.others i f)
+              ∙ (says.calls i ∙ sym (ap calls_of (steps_of-other i before l (apart-sym i node f))))
+        ];
+        answers = λ i. elim (cases_Bool (i == node)) [
+          | inl t ↦ own-answers i (eqb-true i node t) m
+          | inr f ↦ ap (λ (x : Node A). answers_of object x) (next.others i f)
+              ∙ (says.answers i ∙ sym (ap (told_from []) (steps_of-other i before l (apart-sym i node f))))
+        ];
+        committed = λ i. elim (cases_Bool (i == node)) [
+          | inl t ↦ own-committed i (eqb-true i node t) m
+          | inr f ↦ ap (λ (x : Node A). node_committed x) (next.others i f)
+              ∙ (says.committed i ∙ sym (ap committed_by (steps_of-other i before l (apart-sym i node f))))
+        ];
+        longest = longest-next (λ i. node_committed (w.nodes i))
+            (λ i. node_committed (after.nodes i)) group.count node before l grow fronts.0 fronts.1 says.longest;
+      }
+    where
+      apart-sym : (i node : ℕ) → (i == node) ≡ false → (node == i) ≡ false
+      apart-sym i node f = grind (arith, nat_tests, f)
+
+      own-calls : (i : ℕ) → i ≡ l.step.node → Makes3 (w.nodes l.step.node) u l.step.input l.step
+          → asked_calls (after.nodes i).tickets ≡ calls_of (steps_of i (before ++ l ∷ []))
+      own-calls i e m =
+          ap (λ (k : ℕ). asked_calls (after.nodes k).tickets) e
+          ∙ (ap (λ (x : Node A). asked_calls x.tickets) next.own ∙ (m.calls ∙ (ap (λ xs. xs ++ call_in l.step.input) (says.calls l.step.node)
+          ∙ (sym (calls_of-snoc (steps_of l.step.node before) l.step) ∙ (sym (ap calls_of (steps_of-own l.step.node before l refl))
+          ∙ ap (λ (k : ℕ). calls_of (steps_of k (before ++ l ∷ []))) (sym e))))))
+
+      own-answers : (i : ℕ) → i ≡ l.step.node → Makes3 (w.nodes l.step.node) u l.step.input l.step
+          → answers_of object (after.nodes i) ≡ told_to i (before ++ l ∷ [])
+      own-answers i e m =
+          ap (λ (k : ℕ). answers_of object (after.nodes k)) e
+          ∙ (ap (λ (x : Node A). answers_of object x) next.own
+          ∙ (m.answers ∙ (ap (λ (xs : List (Option Answer)). told_by xs l.step.input l.step.answers) (says.answers l.step.node)
+          ∙ (sym (told_from-snoc [] (steps_of l.step.node before) l.step) ∙ (sym (ap (told_from []) (steps_of-own l.step.node before l refl))
+          ∙ ap (λ (k : ℕ). told_to k (before ++ l ∷ [])) (sym e))))))
+
+      own-committed : (i : ℕ) → i ≡ l.step.node → Makes3 (w.nodes l.step.node) u l.step.input l.step
+          → node_committed (after.nodes i) ≡ committed_to i (before ++ l ∷ [])
+      own-committed i e m =
+          ap (λ (k : ℕ). node_committed (after.nodes k)) e
+          ∙ (ap (λ (x : Node A). node_committed x) next.own ∙ (m.committed ∙ (ap (λ xs. xs ++ l.step.calls) (says.committed l.step.node)
+          ∙ (sym (committed_by-snoc (steps_of l.step.node before) l.step) ∙ (sym (ap committed_by (steps_of-own l.step.node before l refl))
+          ∙ ap (λ (k : ℕ). committed_to k (before ++ l ∷ [])) (sym e))))))
+
+-- ---- the whole run
+
+module _ {O A : Type 0} (object : Sequential O) (group : Group) (few : group.count ≤ 16) where
+  abbrev m : Machine (Node A) A
+  m = node_machine object group
+
+  abbrev world : List (LineView A) → World A
+  world lines = run object (world_opening group) (events_of lines)
+
+  world-more : (before : List (LineView A)) (l : LineView A)
+      → world (before ++ l ∷ []) ≡ happens object (world before) (event_of before l.step.node l.step.input)
+  world-more before l =
+      ap (run object (world_opening group)) (after-snoc [] before l)
+      ∙ run-more object (world_opening group) (events_of before) (event_of before l.step.node l.step.input)
+
+  is-known : (w : World A) (i : ℕ) → w.group ≡ group → 1 ≤ i → i ≤ group.count → is_node w i ≡ true
+  is-known w i e low high = and_from _ _ (le-leb 1 i low) (le-leb i w.group.count (omega (arith, high, ap (λ (g : Group). g.count) e)))
+
+  -- each node's steps lead on from this world
+  abbrev Lead : World A → List (LineView A) → Type 0
+  Lead w ls = (i : ℕ) → 1 ≤ i → i ≤ group.count → (t : Node A) × Leads m (w.nodes i) (steps_of i ls) t
+
+  abbrev LeadTo : World A → List (LineView A) → World A → Type 0
+  LeadTo w ls last = (i : ℕ) → 1 ≤ i → i ≤ group.count → Leads m (w.nodes i) (steps_of i ls) (last.nodes i)
+
+  pub record Ran (before ls : List (LineView A)) : Type 0 where
+    pub done : AreDone object (world before) before ls
+    pub fit : Each EventFits (events_after before ls)
+    pub says : Says object group (world (before ++ ls)) (before ++ ls)
+    pub nodes : LeadTo (world before) ls (world (before ++ ls))
+
+  -- the first line of its node
+  first : (w : World A) (l : LineView A) (ls : List (LineView A)) → 1 ≤ l.step.node → l.step.node ≤ group.count → Lead w (l ∷ ls)
+      → (t : Node A) × Leads m (w.nodes l.step.node) (l.step ∷ steps_of l.step.node ls) t
+  first w l ls low high lead =
+      let h = lead l.step.node low high in (
+        h.0,
+        subst (λ (ss : List (StepView A)). Leads m (w.nodes l.step.node) ss h.0)
+            (steps_of-first l.step.node ls l (eq-eqb l.step.node l.step.node refl)) h.1,
+      )
+
+  rest-leads : (w after : World A) (l : LineView A) (ls : List (LineView A)) (u : Node A) → IsNext object group w after l.step.node l.step.input l.step u
+      → ((t : Node A) × Leads m u (steps_of l.step.node ls) t) → Lead w (l ∷ ls) → Lead after ls
+  rest-leads w after l ls u next own lead i low high = elim (cases_Bool (i == l.step.node)) [
+    | inl t ↦
+        let e : i ≡ l.step.node = eqb-true i l.step.node t in
+        let is : after.nodes i ≡ u = ap (λ (k : ℕ). after.nodes k) e ∙ next.own in
+        (own.0, subst (λ (x : Node A). Leads m x (steps_of i ls) own.0) (sym is) (subst (λ (k : ℕ). Leads m u (steps_of k ls) own.0) (sym e) own.1))
+    | inr f ↦
+        let h = lead i low high in
+        let skip = steps_of-skip i ls l (grind (arith, nat_tests, f)) in (
+          h.0,
+          subst (λ (x : Node A). Leads m x (steps_of i ls) h.0) (sym (next.others i f))
+              (subst (λ (ss : List (StepView A)). Leads m (w.nodes i) ss h.0) skip h.1),
+        )
+  ]
+
+  led-on : (w after last : World A) (l : LineView A) (ls : List (LineView A)) (u : Node A) → IsNext object group w after l.step.node l.step.input l.step u
+      → IsStep m (w.nodes l.step.node) l.step u → LeadTo after ls last → LeadTo w (l ∷ ls) last
+  led-on w after last l ls u next step rest i low high = elim (cases_Bool (i == l.step.node)) [
+    | inl t ↦
+        let e : l.step.node ≡ i = sym (eqb-true i l.step.node t) in
+        let is : after.nodes i ≡ u = ap (λ (k : ℕ). after.nodes k) (sym e) ∙ next.own in
+        let more : Leads m u (steps_of i ls) (last.nodes i) = subst (λ (x : Node A). Leads m x (steps_of i ls) (last.nodes i)) is (rest i low high) in
+        let here : IsStep m (w.nodes i) l.step u = subst (λ (k : ℕ). IsStep m (w.nodes k) l.step u) e step in
+        subst (λ (ss : List (StepView A)). Leads m (w.nodes i) ss (last.nodes i)) (sym (steps_of-first i ls l (eq-eqb l.step.node i e))) (u, (here, more))
+    | inr f ↦
+        let skip = steps_of-skip i ls l (grind (arith, nat_tests, f)) in
+        subst (λ (ss : List (StepView A)). Leads m (w.nodes i) ss (last.nodes i)) (sym skip)
+        (subst (λ (x : Node A). Leads m x (steps_of i ls) (last.nodes i)) (next.others i f) (rest i low high))
+  ]
+
+  ran : (before ls : List (LineView A)) → Says object group (world before) before → Lead (world before) ls → Each (IsInside group.count) ls → AllFound before ls
+      → Ran before ls
+  ran before [] says lead inside found =
+      let e : before ++ [] ≡ before = append-nil before in
+      record {
+        done = tt;
+        fit = tt;
+        says = subst (λ (xs : List (LineView A)). Says object group (world xs) xs) (sym e) says;
+        nodes = λ i low high. ap (λ (xs : List (LineView A)). (world xs).nodes i) e;
+      }
+  ran before (l ∷ ls) says lead inside found =
+      let w = world before in
+      let event = event_of before l.step.node l.step.input in
+      let after = happens object w event in
+      let low = inside.0.0 in
+      let high = inside.0.1 in
+      let h = first w l ls low high lead in
+      let u = h.1.0 in
+      let step = h.1.1.0 in
+      let f = follows object group w before l.step.node l.step.input l.step u (is-known w l.step.node says.group_is low high) says.frames step.makes found.0 in
+      let says' = says-next object group w after before l u says low high step f.next (grown object group few (events_of before) event l.step.node low high)
+      (one-log-after object group few (events_of before) event) (committed-after object group few (events_of before) event) in
+      let more = world-more before l in
+      let lead' = rest-leads w after l ls u f.next (h.0, h.1.1.1) lead in
+      let rest = ran (before ++ l ∷ []) ls (subst (λ (x : World A). Says object group x (before ++ l ∷ [])) (sym more) says')
+      (subst (λ (x : World A). Lead x ls) (sym more) lead') inside.1 found.1 in
+      let all : (before ++ l ∷ []) ++ ls ≡ before ++ l ∷ ls = append_assoc before (l ∷ []) ls in
+      record {
+        done = (f.done, subst (λ (x : World A). AreDone object x (before ++ l ∷ []) ls) more rest.done);
+        fit = (event-fits before l.step.node l.step.input step.fits, rest.fit);
+        says = subst (λ (xs : List (LineView A)). Says object group (world xs) xs) all rest.says;
+        nodes = subst (λ (xs : List (LineView A)). LeadTo w (l ∷ ls) (world xs)) all
+            (led-on w after (world ((before ++ l ∷ []) ++ ls)) l ls u f.next step
+            (subst (λ (x : World A). LeadTo x ls (world ((before ++ l ∷ []) ++ ls))) more rest.nodes));
+      }
+
+  says-nothing : Says object group (world []) []
+  says-nothing = record {
+    group_is = refl;
+    frames = refl;
+    history = refl;
+    calls = λ i. refl;
+    answers = λ i. ap (λ (calls : List (Call A)). by_ticket 0 (all_answers object [] calls)) (born-committed group i);
+    committed = λ i. born-committed group i;
+    longest = record {
+      below = tt;
+      total = refl;
+      fronts = λ i low high. subst (λ (calls : List (Call A)). IsFront calls []) (sym (born-committed group i)) ([], refl);
+      some = inl refl;
+    };
+  }
+
+  pub book_ran : (lines : List (LineView A)) → IsBookRun m group.count lines → Ran [] lines
+  book_ran lines r = ran [] lines says-nothing r.nodes r.inside r.found
+
+  pub is_run : (lines : List (LineView A)) → IsBookRun m group.count lines → IsRun object group lines
+  is_run lines r =
+      let n = book_ran lines r in
+      let w = world lines in
+      let counts : w.group.count ≡ group.count = ap (λ (g : Group). g.count) n.says.group_is in
+      record {
+        done = n.done;
+        fit = n.fit;
+        frames = n.says.frames;
+        history = n.says.history;
+        order = order-is lines n.says;
+        calls = λ i low high. n.says.calls i;
+        answers = λ i low high. n.says.answers i;
+        committed = λ i low high. n.says.committed i;
+      }
+    where
+      order-is : (ls : List (LineView A)) → Says object group (world ls) ls → order (world ls) ≡ deduplicated (longest_log ls)
+      order-is ls says =
+          let w = world ls in
+          let same : committed_in w ≡ map (λ i. node_committed (w.nodes i)) (numbers_from 1 group.count) =
+          ap (λ (g : Group). map (λ i. node_committed (w.nodes i)) (numbers_from 1 g.count)) says.group_is in
+          ap order_of same
+          ∙ order-longest (λ i. node_committed (w.nodes i)) group.count ls says.longest (subst AreOneLog same (one-log-now object group few (events_of ls)))
+          (λ j low high. ap (λ (cs : List (List (Call A))). slice_get cs (j - 1)) (sym same) ∙ committed-now object group few (events_of ls) j low high)
+
+  pub node_is : (lines : List (LineView A)) (i : ℕ) (t : Node A) → IsBookRun m group.count lines → 1 ≤ i → i ≤ group.count
+      → Leads m (node_opening group i) (steps_of i lines) t → t ≡ (world lines).nodes i
+  node_is lines i t r low high led = leads_one m (node_opening group i) (steps_of i lines) t ((world lines).nodes i) led ((book_ran lines r).nodes i low high)

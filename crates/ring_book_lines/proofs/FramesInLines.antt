@@ -1,0 +1,105 @@
+-- Frames that stand in the lines, and where they stand among all frames.
+use Rattle.std.proofs.Common.{◌≡◌, ℕ, zero, suc, ◌+◌, ◌++◌, ◌≤◌, ◌∙◌, Bool, true, false, List, []}
+use Rattle.std.proofs.Common.{◌∷◌, Option, None, Some, length, take, slice_get, refl, ap, subst, sym, arith, length-append}
+use Rattle.std.specs.Prelude.{if◌then◌else◌, IsTrue, ◌↔◌}
+use Rattle.std.specs.Option.{option_and_then}
+use Rattle.ring_base.specs.Processors.{has}
+use Rattle.ring_base.proofs.ListPlaces.{get-left}
+use Rattle.ring_core.specs.State.{Sent, Carried, frame_at}
+use Rattle.ring_wire.specs.declared.frame.Frame.{Frame}
+use Rattle.ring_wire.specs.Frames.{FrameFits, frame_format, spelling_of}
+use Rattle.ring_wire.specs.Fronts.{same_front}
+use Rattle.ring_rules.specs.Worlds.{carried}
+use Rattle.ring_book_lines.specs.declared.frame_ref.FrameRef.{FrameRef}
+use Rattle.ring_book_lines.specs.Events.{frames_of, frame_number}
+use Rattle.ring_book_lines.specs.Lines.{frame_for, frame_to, sent_at}
+use Rattle.ring_book_lines.specs.Steps.{LineView}
+
+get-right : {X : Type 0} (xs ys : List X) (k n : ℕ) → n ≡ length xs + k → slice_get (xs ++ ys) n ≡ slice_get ys k
+get-right [] ys k n e = ap (slice_get ys) (omega arith)
+get-right (x ∷ xs) ys k zero e = absurd (omega arith)
+get-right (x ∷ xs) ys k (suc n) e = get-right xs ys k n (omega arith)
+
+-- a frame as its node sent it
+abbrev by_node : {A : Type 0} → ℕ → Sent A → Carried A
+by_node i s = record { from = i; to = s.to; frame = s.frame }
+
+get-carried : {A : Type 0} (i : ℕ) (sends : List (Sent A)) (k : ℕ) (s : Sent A) → slice_get sends k ≡ Some s
+    → slice_get (carried i sends) k ≡ Some (by_node i s)
+get-carried i [] zero s h = absurd cc
+get-carried i [] (suc k) s h = absurd cc
+get-carried {A} i (x ∷ sends) zero s h = let same : x ≡ s = cc in ap (λ (y : Sent A). Some (by_node i y)) same
+get-carried i (x ∷ sends) (suc k) s h = get-carried i sends k s h
+
+frame_stands : {A : Type 0} (ls : List (LineView A)) (i place n : ℕ) (l : LineView A) (s : Sent A) → slice_get ls i ≡ Some l
+    → slice_get l.step.frames place ≡ Some s
+    → n ≡ length (frames_of (take i ls)) + place → slice_get (frames_of ls) n ≡ Some (by_node l.step.node s)
+frame_stands [] zero place n l s h g e = absurd cc
+frame_stands [] (suc i) place n l s h g e = absurd cc
+frame_stands {A} (x ∷ ls) zero place n l s h g e =
+    let same : l ≡ x = cc in
+    let there : slice_get l.step.frames n ≡ Some s = subst (λ (k : ℕ). slice_get l.step.frames k ≡ Some s) (omega arith) g in
+    let first = get-carried l.step.node l.step.frames n s there in
+    get-left (carried x.step.node x.step.frames) (frames_of ls) n (by_node l.step.node s)
+    (subst (λ (y : LineView A). slice_get (carried y.step.node y.step.frames) n ≡ Some (by_node l.step.node s)) same first)
+frame_stands (x ∷ ls) (suc i) place n l s h g e =
+    let k : ℕ = length (frames_of (take i ls)) + place in
+    let at : n ≡ length (carried x.step.node x.step.frames) + k = omega (arith, length-append (carried x.step.node x.step.frames) (frames_of (take i ls))) in
+    get-right (carried x.step.node x.step.frames) (frames_of ls) k n at ∙ frame_stands ls i place k l s h g refl
+
+-- the line and the frame that stand there
+pub record Stood {A : Type 0} (lines : List (LineView A)) (at : FrameRef) (s : Sent A) : Type 0 where
+  pub line : LineView A
+  pub here : slice_get lines at.line ≡ Some line
+  pub among : slice_get line.step.frames at.place ≡ Some s
+
+stood_on : {A : Type 0} (o : Option (LineView A)) (place : ℕ) (s : Sent A) → option_and_then (λ (l : LineView A). slice_get l.step.frames place) o ≡ Some s
+    → (l : LineView A) × ((o ≡ Some l) × (slice_get l.step.frames place ≡ Some s))
+stood_on None place s h = absurd cc
+stood_on (Some l) place s h = (l, (refl, h))
+
+stood : {A : Type 0} (lines : List (LineView A)) (at : FrameRef) (s : Sent A) → sent_at lines at ≡ Some s → Stood lines at s
+stood lines at s h = let t = stood_on (slice_get lines at.line) at.place s h in record { line = t.0; here = t.1.0; among = t.1.1 }
+
+if_some : {X : Type 0} (b : Bool) (o : Option X) (x : X) → (if b then o else None) ≡ Some x → (b ≡ true) × (o ≡ Some x)
+if_some true o x h = (refl, h)
+if_some false o x h = absurd cc
+
+-- a frame that goes to the node
+goes : {A : Type 0} (node : ℕ) (s : Sent A) (f : Frame A) → frame_for node s ≡ Some f → (has s.to node ≡ true) × (s.frame ≡ f)
+goes node s f h = let i = if_some (has s.to node) (Some s.frame) f h in (i.0, cc (i.1))
+
+sent_to : {A : Type 0} (o : Option (Sent A)) (node : ℕ) (f : Frame A) → option_and_then (frame_for node) o ≡ Some f
+    → (s : Sent A) × ((o ≡ Some s) × ((has s.to node ≡ true) × (s.frame ≡ f)))
+sent_to None node f h = absurd cc
+sent_to (Some s) node f h = (s, (refl, goes node s f h))
+
+-- the frame that stands there and goes to the node has its number among all frames
+pub number_stands : {A : Type 0} (ls : List (LineView A)) (at : FrameRef) (node : ℕ) (f : Frame A) → frame_to ls at node ≡ Some f
+    → (s : Carried A) × ((frame_at (frames_of ls) (frame_number ls at) ≡ Some s) × ((s.frame ≡ f) × (has s.to node ≡ true)))
+number_stands ls at node f h =
+    let t = sent_to (sent_at ls at) node f h in
+    let u = stood ls at t.0 t.1.0 in (
+      by_node u.line.step.node t.0,
+      (frame_stands ls at.line at.place (length (frames_of (take at.line ls)) + at.place) u.line t.0 u.here u.among refl, (t.1.1.1, t.1.1.0)),
+    )
+
+-- Look-ups in slices
+
+past : {X : Type 0} (xs : List X) (i : ℕ) → length xs ≤ i → None ≡ slice_get xs i
+past [] zero h = refl
+past [] (suc i) h = refl
+past (x ∷ xs) zero h = absurd (omega arith)
+past (x ∷ xs) (suc i) h = past xs i (omega arith)
+
+-- Spellings
+
+-- a frame has one spelling, and no other frame has it
+one_frame : {A : Type 0} (f g : Frame A) → FrameFits f → FrameFits g → spelling_of f ≡ spelling_of g → f ≡ g
+one_frame f g h k e = (same_front frame_format f g [] [] h k (ap (λ (xs : List ℕ). xs ++ []) e)).0
+
+-- two texts are the same exactly where their frames are
+pub same_frame : {A : Type 0} (f g : Frame A) (bytes text : List ℕ) (b : Bool) → FrameFits f → FrameFits g → bytes ≡ spelling_of f → text ≡ spelling_of g
+    → IsTrue b ↔ (bytes ≡ text) → IsTrue b ↔ (f ≡ g)
+same_frame f g bytes text b h k first second same =
+    ((λ t. one_frame f g h k (sym first ∙ (same.0 t ∙ second))), (λ e. same.1 (first ∙ (ap spelling_of e ∙ sym second))))

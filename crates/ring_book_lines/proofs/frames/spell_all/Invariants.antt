@@ -1,0 +1,8 @@
+use Rattle.std.proofs.Common.{◌≡◌, ◌+◌, ◌≤◌, length, take}
+use Rattle.ring_book_lines.proofs.frames.spell_all.Given as goal
+
+abbrev pub invariant-loop-sent : goal.invariant-loop-sent
+invariant-loop-sent g l = record {
+  items : l.spelled.items ≡ take l.sent-index l.sends;
+  room : 8192 ≤ length l.text.items + l.text.spare;
+}

@@ -1,0 +1,15 @@
+//! What a line is the answer to.
+
+use crate::frame_ref::FrameRef;
+use ring_payload::Call;
+use ring_rules::Input;
+use std::alloc::{Allocator, Global};
+
+/// What happened at a node.
+#[derive(Drop)]
+pub enum LineInput<A: Allocator + Copy = Global> {
+    /// The call was submitted, and the node took it.
+    Called(Call<A>),
+    /// The input came. If it is a frame, the frame stands there in the book.
+    Came(Input<A>, FrameRef),
+}

@@ -1,0 +1,34 @@
+//! The lines of the book: what the nodes of a group did, one after the other. Lists of lines that are runs, what stands in
+//! them, and what they make of answers, histories and the one order.
+#![tactic(auto)]
+
+mod answers;
+mod cause;
+mod frame_ref;
+mod frames;
+mod histories;
+mod input;
+pub mod laws;
+mod line;
+mod log;
+mod orders;
+mod spelled;
+mod step;
+mod stories;
+
+pub use answers::tell;
+pub use cause::Cause;
+pub use frame_ref::FrameRef;
+pub use frames::{Frames, Kept};
+pub use histories::history;
+pub use input::LineInput;
+pub use line::{Line, is_found, stands};
+pub use log::{Segment, note};
+pub use orders::order;
+pub use ring_order_proof::laws::linear_law;
+pub use spelled::SpelledFrame;
+pub use step::Step;
+pub use stories::{FrameStory, StepStory};
+
+/// How many bytes a frame has at most.
+pub const FRAME_BYTES: usize = 8192;

@@ -1,0 +1,63 @@
+//! The order of the calls that take effect.
+
+ghost use Rattle.std.specs.Prelude.{◌≡◌, [], ◌++◌, List, OnOk, IfOk, IfErr, drop, slice_get};
+ghost use Rattle.ring_base.specs.declared.fault.Fault.TheVariants.{Memory};
+ghost use Rattle.ring_payload.specs.declared.call.Call.{Call as OneCall};
+ghost use Rattle.ring_session.specs.Deduplicated.{deduplicated};
+ghost use Rattle.ring_session.specs.Effects.{AreOf};
+ghost use Rattle.ring_book_lines.specs.Logs.{calls_at, calls_on};
+
+use crate::line::Line;
+use crate::log::Segment;
+use ring_base::Fault;
+use ring_payload::Call;
+use ring_session::Effects;
+use std::alloc::Allocator;
+
+/// Of the calls of these segments, those that take effect, in order, or `Memory`.
+pub fn order<A: Allocator + Copy + Drop>(
+    alloc: A,
+    lines: &[Line<A>],
+    segments: &[Segment],
+) -> Result<Vec<Call<A>, A>, Fault>
+    ensures ok { IfOk result (λ order. order.items ≡ deduplicated (calls_at lines.now segments.now)) }
+    ensures refused { IfErr result (λ fault. fault ≡ Memory) }
+{
+    let mut effects = Effects::new(alloc)?;
+    for segment in segments {
+        add_segment(&mut effects, lines, segment)?;
+    }
+    Ok(effects.into_calls())
+}
+
+/// Adds the calls of the segment.
+fn add_segment<A: Allocator + Copy + Drop>(
+    effects: &mut Effects<A>,
+    lines: &[Line<A>],
+    segment: &Segment,
+) -> Result<(), Fault>
+    ensures ok { (before : List (OneCall A)) → AreOf before effects.old →
+        OnOk result (AreOf (before ++ calls_on segment.now.from (slice_get lines.now segment.now.line)) effects.new) }
+    ensures refused { IfErr result (λ fault. fault ≡ Memory) }
+{
+    match lines.get(segment.line as usize) {
+        Some(line) => add_from(effects, line.committed(), segment.from),
+        None => Ok(()),
+    }
+}
+
+/// Adds the calls from this place on.
+fn add_from<A: Allocator + Copy + Drop>(
+    effects: &mut Effects<A>,
+    calls: &[Call<A>],
+    from: usize,
+) -> Result<(), Fault>
+    ensures ok { (before : List (OneCall A)) → AreOf before effects.old →
+        OnOk result (AreOf (before ++ drop from calls.now) effects.new) }
+    ensures refused { IfErr result (λ fault. fault ≡ Memory) }
+{
+    if from >= calls.len() {
+        return Ok(());
+    }
+    effects.add_all(&calls[from..])
+}

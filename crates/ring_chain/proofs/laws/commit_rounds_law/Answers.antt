@@ -1,5 +1,0 @@
-use Rattle.ring_chain.proofs.Once.{rounds_of_runs}
-use Rattle.ring_chain.proofs.laws.commit_rounds_law.Goals as goal
-
-pub returns : goal.returns
-returns g c = rounds_of_runs

@@ -1,0 +1,2 @@
+pub mod ChainWords
+pub mod ChainTold

@@ -1,0 +1,6 @@
+//! The checker: whether one order of calls explains a history of calls and replies.
+#![tactic(auto)]
+
+mod check;
+
+pub use check::is_linearization;

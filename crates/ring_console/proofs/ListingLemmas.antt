@@ -1,0 +1,244 @@
+-- How frames are taken from the front of an input, and how a listing goes on.
+use Rattle.std.proofs.Common.{◌≡◌, ℕ, ◌+◌, ◌-◌, ◌≤◌, true, false, List, [], ◌∷◌, ◌++◌, length, take, drop, Option, Some}
+use Rattle.std.proofs.Common.{None, Result, Ok, Err, refl, sym, ap, subst, ◌∙◌, arith, append_assoc}
+use Rattle.std.specs.Prelude.{IsSome, IfSome, OnOk, IfErr, IsErrAnd}
+use Rattle.std.specs.Io.Iter.{u64_saturate}
+use Rattle.std.specs.Io.KnownBytes.{Keeps, Appends, Consumes, IsAtEnd, prepend_known}
+use Rattle.std.proofs.lemmas.List.{take-append-drop, take_at, take-append-le, append-nil, take_all, drop-drop, length-drop, length-append, flat_map_more}
+use Rattle.std.proofs.KnownBytes.{Appends-trans}
+use Rattle.std.proofs.lemmas.List.Elements.{All-push}
+use Rattle.ring_wire.specs.Frames.{spelling_of, FrameFits, length-frame}
+use Rattle.ring_wire.specs.Fronts.{IsGot}
+use Rattle.ring_wire.specs.declared.frame.Frame.{Frame}
+use Rattle.ring_base.specs.declared.fault.Fault.TheVariants.{Memory}
+use Rattle.ring_report.specs.declared.failure.Failure.{Failure}
+use Rattle.ring_report.specs.declared.failure.Failure.TheVariants.{Refused, BadFrame, BadScript, Output}
+use Rattle.ring_report.specs.Texts.{line_of}
+use Rattle.ring_console.specs.declared.ahead.State.{State}
+use Rattle.ring_console.specs.declared.ahead.State.TheVariants.{Open, Ended, Failed}
+use Rattle.ring_console.specs.Listed.{frame_text, listing_of}
+use Rattle.ring_console.specs.declared.ahead.Ahead.{Ahead}
+use Rattle.ring_console.specs.Listings.{spellings_of, BeginsWithNone, untaken, left_of, IsEndRight, IsNext, IsStop, Lists, IsListed, IsCut}
+
+-- ---- one frame
+
+-- the bytes from a place on, as a slice has them
+pub from_place : (bytes : List ℕ) (start : ℕ) → take (length bytes - start) (drop start bytes) ≡ drop start bytes
+from_place bytes start = let long = length-drop start bytes in take_all (length bytes - start) (drop start bytes) (omega arith)
+
+-- what was got stood at the front of the bytes from a place on
+pub got_front : {A : Type 0} (bytes : List ℕ) (start n : ℕ) (frame : Frame A) → IsGot spelling_of FrameFits
+    (take (length bytes - start) (drop start bytes)) frame n
+    → (drop start bytes ≡ spelling_of frame ++ drop (start + n) bytes) × (length (spelling_of frame) ≡ n)
+got_front bytes start n frame got =
+    let rest = drop start bytes in
+    let whole = from_place bytes start in
+    let front : take n rest ≡ spelling_of frame = subst (λ (t : List ℕ). take n t ≡ spelling_of frame) whole got.front in
+    let within : n ≤ length rest = subst (λ (t : List ℕ). n ≤ length t) whole got.within in
+    let parts : rest ≡ take n rest ++ drop n rest = sym (take-append-drop n rest) in
+    let after : drop n rest ≡ drop (start + n) bytes = drop-drop n start bytes in
+    let sizes = ap length parts ∙ length-append (take n rest) (drop n rest) in
+    let left = length-drop n rest in
+    let size : length (take n rest) ≡ n = omega arith in
+    (parts ∙ ap (λ (t : List ℕ). t ++ drop n rest) front ∙ ap (λ (t : List ℕ). spelling_of frame ++ t) after, sym (ap length front) ∙ size)
+
+-- a frame that was got from there and put into its place is the next
+pub next_put : {A : Type 0} (bytes : List ℕ) (start n from to : ℕ) (place : Option (Frame A)) → IsSome place
+    → IfSome place (λ (frame : Frame A). IsGot spelling_of FrameFits (take (length bytes - start) (drop start bytes)) frame n) → to ≡ u64_saturate (from + n)
+    → IsNext (Some (drop start bytes)) (Some (drop (start + n) bytes)) from to place
+next_put bytes start n from to None some got place = absurd (let no : false ≡ true = some in cc)
+next_put bytes start n from to (Some frame) some got place =
+    let front = got_front bytes start n frame got in
+    (got.fits, front.0, place ∙ ap (λ (m : ℕ). u64_saturate (from + m)) (sym front.1))
+
+-- where so many bytes begin with no frame, more of them don't either
+pub none_longer : (A : Type 0) (bytes more : List ℕ) → 8192 ≤ length bytes → BeginsWithNone A bytes → BeginsWithNone A (bytes ++ more)
+none_longer A bytes more long none frame rest fits e =
+    let n = length (spelling_of frame) in
+    let short = length-frame frame fits in
+    let within : n ≤ length bytes = omega (arith, short, long) in
+    let front : take n bytes ≡ spelling_of frame = sym (take-append-le n bytes more within) ∙ ap (take n) e ∙ take_at (spelling_of frame) rest n refl in
+    none frame (drop n bytes) fits (sym (take-append-drop n bytes) ∙ ap (λ (t : List ℕ). t ++ drop n bytes) front)
+
+-- ---- what was read ahead, and what can still be read
+
+-- the next of what was read ahead is the next of all that is left
+pub next_of_all : {A : Type 0} (bytes bytes' : List ℕ) (rest : Option (List ℕ)) (from to : ℕ)
+    (next : Option (Frame A)) → IsNext (Some bytes) (Some bytes') from to next
+    → (next ≡ None → IsAtEnd rest) → IsNext (prepend_known bytes rest) (prepend_known bytes' rest) from to next
+next_of_all bytes bytes' None from to None (same, none) end = (tt, tt)
+next_of_all bytes bytes' (Some xs) from to None (same, none) end =
+    (ap (λ (t : List ℕ). t ++ xs) same, ap (λ (t : List ℕ). t ++ xs) none ∙ end refl)
+next_of_all bytes bytes' None from to (Some frame) (fits, taken, passed) end = (fits, tt, passed)
+next_of_all bytes bytes' (Some xs) from to (Some frame) (fits, taken, passed) end =
+    (fits, ap (λ (t : List ℕ). t ++ xs) taken ∙ append_assoc (spelling_of frame) bytes' xs, passed)
+
+-- where enough was read ahead, or nothing more can be read, a stop there is a stop of all that is left
+pub stop_of_all : (A : Type 0) (bytes : List ℕ) (rest : Option (List ℕ)) (from : ℕ) (state : State)
+    (failure : Failure) → IsStop A (Some bytes) from state failure
+    → (state ≡ Open → 8192 ≤ length bytes) → (state ≡ Ended → IsAtEnd rest) → IsStop A (prepend_known bytes rest) from state failure
+stop_of_all A bytes rest from state (Refused fault) stop enough ended = stop
+stop_of_all A bytes rest from Failed (BadFrame byte) stop enough ended = stop
+stop_of_all A bytes None from Open (BadFrame byte) stop enough ended = (stop.0, tt)
+stop_of_all A bytes None from Ended (BadFrame byte) stop enough ended = (stop.0, tt)
+stop_of_all A bytes (Some xs) from Open (BadFrame byte) stop enough ended = (stop.0, none_longer A bytes xs (enough refl) stop.1)
+stop_of_all A bytes (Some xs) from Ended (BadFrame byte) stop enough ended =
+    (stop.0, subst (BeginsWithNone A) (sym (ap (λ (t : List ℕ). bytes ++ t) (ended refl) ∙ append-nil bytes)) stop.1)
+stop_of_all A bytes rest from state (BadScript line) stop enough ended = absurd stop
+stop_of_all A bytes rest from state Output stop enough ended = absurd stop
+
+-- where reading did not fail, and no frame begins there, the next frame's place is the one that is told
+pub stop_here : (A : Type 0) (bytes : List ℕ) (from : ℕ) (state : State) → (state ≡ Failed → ⊥)
+    → BeginsWithNone A bytes → IsStop A (Some bytes) from state (BadFrame from)
+stop_here A bytes from Open unfailed none = (refl, none)
+stop_here A bytes from Ended unfailed none = (refl, none)
+stop_here A bytes from Failed unfailed none = absurd (unfailed refl)
+
+-- ---- after a step that keeps what is left
+
+pub next_after : {A : Type 0} (old mid new : Option (List ℕ)) (from to : ℕ) (next : Option (Frame A)) → Keeps old mid
+    → IsNext mid new from to next → IsNext old new from to next
+next_after None mid new from to None kept (same, end) = (tt, end)
+next_after (Some xs) (Some ys) (Some zs) from to None kept (same, end) = (same ∙ kept, end)
+next_after (Some xs) (Some ys) None from to None kept (same, end) = absurd same
+next_after (Some xs) None new from to None kept next = absurd kept
+next_after None mid new from to (Some frame) kept (fits, taken, passed) = (fits, tt, passed)
+next_after (Some xs) (Some ys) (Some zs) from to (Some frame) kept (fits, taken, passed) = (fits, sym kept ∙ taken, passed)
+next_after (Some xs) (Some ys) None from to (Some frame) kept (fits, taken, passed) = absurd taken
+next_after (Some xs) None new from to (Some frame) kept next = absurd kept
+
+pub stop_after : (A : Type 0) (old mid : Option (List ℕ)) (from : ℕ) (state : State) (failure : Failure)
+    → Keeps old mid → IsStop A mid from state failure → IsStop A old from state failure
+stop_after A old mid from state (Refused fault) kept stop = stop
+stop_after A old mid from Failed (BadFrame byte) kept stop = stop
+stop_after A None mid from Open (BadFrame byte) kept stop = (stop.0, tt)
+stop_after A None mid from Ended (BadFrame byte) kept stop = (stop.0, tt)
+stop_after A (Some xs) None from Open (BadFrame byte) kept stop = absurd kept
+stop_after A (Some xs) None from Ended (BadFrame byte) kept stop = absurd kept
+stop_after A (Some xs) (Some ys) from Open (BadFrame byte) kept stop = (stop.0, subst (BeginsWithNone A) kept stop.1)
+stop_after A (Some xs) (Some ys) from Ended (BadFrame byte) kept stop = (stop.0, subst (BeginsWithNone A) kept stop.1)
+stop_after A old mid from state (BadScript line) kept stop = absurd stop
+stop_after A old mid from state Output kept stop = absurd stop
+
+-- ---- a result's facts
+
+-- what follows at `Ok` from two facts there
+pub both_at_ok : {T E : Type 0} (r : Result T E) (P Q R : Type 0) → OnOk r P → OnOk r Q → (P → Q → R) → OnOk r R
+both_at_ok (Ok x) P Q R p q more = more p q
+both_at_ok (Err e) P Q R p q more = tt
+
+-- what follows at `Err` from what is told there
+pub weaker_at_err : {T E : Type 0} (r : Result T E) (P Q : E → Type 0) → IfErr r P → ((e : E) → P e → Q e) → IfErr r Q
+weaker_at_err (Ok x) P Q told more = tt
+weaker_at_err (Err e) P Q told more = more e told
+
+-- what holds of an error holds at `Err`, where that is the error
+pub value_at_err : {T E : Type 0} (r : Result T E) (f : E) (P : E → Type 0) → IsErrAnd r (λ (e : E). e ≡ f) → P f → IfErr r P
+value_at_err (Ok x) f P is p = tt
+value_at_err (Err e) f P is p = subst P (sym is) p
+
+-- ---- a listing that goes on
+
+-- some frames stood at the front of the input and are listed, and the next begins where `ahead` says
+pub record IsSoFar {A : Type 0} (ahead : Ahead A) (input input' out out' : Option (List ℕ)) : Type 0 where
+  pub frames : List (Frame A)
+  pub lists : Lists input (left_of ahead input') out out' frames
+  pub position : ahead.position ≡ u64_saturate (length (spellings_of frames))
+  pub ended : IsEndRight ahead input'
+
+consumes_none : (bytes : List ℕ) (input : Option (List ℕ)) → bytes ≡ [] → Consumes input (prepend_known bytes input) []
+consumes_none bytes None e = tt
+consumes_none bytes (Some xs) e = sym (ap (λ (t : List ℕ). t ++ xs) e)
+
+consumes_same : (input : Option (List ℕ)) → Consumes input input []
+consumes_same None = tt
+consumes_same (Some xs) = refl
+
+appends_none : (out : Option (List ℕ)) → Appends out out []
+appends_none None = tt
+appends_none (Some xs) = sym (append-nil xs)
+
+-- nothing is read yet
+pub so_far_none : {A : Type 0} (ahead : Ahead A) (input out : Option (List ℕ)) → untaken ahead ≡ []
+    → ahead.position ≡ 0 → ahead.state ≡ Open → IsSoFar ahead input input out out
+so_far_none ahead input out empty first fresh = record {
+  frames = [];
+  lists = record { fit = λ k d low. absurd (omega arith); read = consumes_none (untaken ahead) input empty; printed = appends_none out };
+  position = first;
+  ended = λ ended. absurd (let e : Open ≡ Ended = sym fresh ∙ ended in cc);
+}
+
+consumes_more : (a b c : Option (List ℕ)) (xs ys : List ℕ) → Consumes a b xs → Consumes b c ys → Consumes a c (xs ++ ys)
+consumes_more None b c xs ys h k = tt
+consumes_more (Some as') None c xs ys h k = absurd h
+consumes_more (Some as') (Some bs) None xs ys h k = absurd k
+consumes_more (Some as') (Some bs) (Some cs) xs ys h k = h ∙ ap (λ (t : List ℕ). xs ++ t) k ∙ sym (append_assoc xs ys cs)
+
+-- the next place, where places past the greatest stand as that
+saturated : (p p' m n all : ℕ) → p ≡ u64_saturate m → p' ≡ u64_saturate (p + n) → all ≡ m + n → p' ≡ u64_saturate all
+saturated p p' m n all e f sum = omega arith
+
+-- nothing is listed where memory is refused at once
+pub none_cut : (A : Type 0) (input out : Option (List ℕ)) (failure : Failure) → failure ≡ Refused Memory → IsCut A input out out failure
+none_cut A input out failure e =
+    let nothing : Lists {A = A} input input out out [] = record {
+      fit = λ k d low. absurd (omega arith);
+      read = consumes_same input;
+      printed = appends_none out;
+    } in
+    subst (IsCut A input out out) (sym e) ([], input, Open, nothing, refl)
+
+-- one more frame is taken, and its line is printed
+pub so_far_more : {A : Type 0} (ahead ahead' : Ahead A) (input mid last out printed out' : Option (List ℕ))
+    (frame : Frame A) → IsSoFar ahead input mid out printed
+    → IsNext (left_of ahead mid) (left_of ahead' last) ahead.position ahead'.position (Some frame)
+    → Appends printed out' (line_of (frame_text frame)) → IsEndRight ahead' last
+    → IsSoFar ahead' input last out out'
+so_far_more {A} ahead ahead' input mid last out printed out' frame so (fits, taken, passed) line ended =
+    let spelled : spellings_of so.frames ++ spelling_of frame ≡ spellings_of (so.frames ++ frame ∷ []) = flat_map_more spelling_of [] so.frames frame in
+    let lines : listing_of so.frames ++ line_of (frame_text frame) ≡ listing_of (so.frames ++ frame ∷ []) =
+    flat_map_more (λ (one : Frame A). line_of (frame_text one)) [] so.frames frame in
+    let before = so.position in
+    let sizes = sym (ap length spelled) ∙ length-append (spellings_of so.frames) (spelling_of frame) in
+    record {
+      frames = so.frames ++ frame ∷ [];
+      lists = record {
+        fit = All-push FrameFits so.frames frame so.lists.fit fits;
+        read = subst (Consumes input (left_of ahead' last)) spelled (consumes_more input (left_of ahead mid)
+            (left_of ahead' last) (spellings_of so.frames) (spelling_of frame) so.lists.read taken);
+        printed = subst (Appends out out') lines (Appends-trans out printed out' (listing_of so.frames) (line_of (frame_text frame)) so.lists.printed line);
+      };
+      position = saturated _ _ _ _ _ before passed sizes;
+      ended = ended;
+    }
+
+nil_right : (a b : List ℕ) → a ++ b ≡ [] → b ≡ []
+nil_right [] b e = e
+nil_right (x ∷ xs) b e = cc
+
+all_consumed : (input mid last : Option (List ℕ)) (bytes spelled : List ℕ) → Consumes input mid spelled
+    → Keeps mid (prepend_known bytes last) → IsAtEnd (prepend_known bytes last)
+    → Consumes input last spelled × IsAtEnd last
+all_consumed None mid None bytes spelled read kept end = (tt, tt)
+all_consumed None mid (Some zs) bytes spelled read kept end = (tt, nil_right bytes zs end)
+all_consumed (Some xs) None last bytes spelled read kept end = absurd read
+all_consumed (Some xs) (Some ys) None bytes spelled read kept end = absurd kept
+all_consumed (Some xs) (Some ys) (Some zs) bytes spelled read kept end =
+    let none = nil_right bytes zs end in
+    (read ∙ ap (λ (t : List ℕ). spelled ++ t) (sym kept ∙ end ∙ sym none), none)
+
+-- where nothing is left, all of the input is listed
+pub so_far_whole : {A : Type 0} (ahead ahead' : Ahead A) (input mid last out out' : Option (List ℕ)) → IsSoFar ahead input mid out out'
+    → IsNext {A = A} (left_of ahead mid) (left_of ahead' last) ahead.position ahead'.position None → IsListed A input last out out'
+so_far_whole ahead ahead' input mid last out out' so (kept, end) =
+    let whole = all_consumed input (left_of ahead mid) last (untaken ahead') (spellings_of so.frames) so.lists.read kept end in
+    (so.frames, record { fit = so.lists.fit; read = whole.0; printed = so.lists.printed }, whole.1)
+
+-- where there is no next frame, the listing is cut there
+pub so_far_cut : {A : Type 0} (ahead : Ahead A) (input mid out out' : Option (List ℕ)) (state : State) (failure : Failure) → IsSoFar ahead input mid out out'
+    → IsStop A (left_of ahead mid) ahead.position state failure → IsCut A input out out' failure
+so_far_cut {A} ahead input mid out out' state (Refused fault) so stop = (so.frames, left_of ahead mid, state, so.lists, stop)
+so_far_cut {A} ahead input mid out out' state (BadFrame byte) so stop =
+    (so.frames, left_of ahead mid, state, so.lists, subst (λ (p : ℕ). IsStop A (left_of ahead mid) p state (BadFrame byte)) so.position stop)
+so_far_cut {A} ahead input mid out out' state (BadScript line) so stop = absurd stop
+so_far_cut {A} ahead input mid out out' state Output so stop = tt

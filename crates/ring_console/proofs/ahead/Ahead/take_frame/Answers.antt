@@ -1,0 +1,25 @@
+use Rattle.std.proofs.Common.{◌-◌, ◌∙◌, ap, subst}
+use Rattle.std.specs.Prelude.{length, drop, take, IfSome}
+use Rattle.ring_wire.specs.Frames.{spelling_of, FrameFits}
+use Rattle.ring_wire.specs.Fronts.{IsGot}
+use Rattle.ring_wire.specs.declared.frame.Frame.{Frame}
+use Rattle.ring_console.specs.Listings.{BeginsWithNone}
+use Rattle.ring_console.proofs.ListingLemmas.{next_put, from_place, stop_here}
+use Rattle.ring_console.proofs.ahead.Ahead.take_frame.Goals as goal
+
+pub returns-in-Ok-clause-next : goal.returns-in-Ok-clause-next
+returns-in-Ok-clause-next g c =
+    let self = c.args.self.now in
+    let place = c.get_into.new.place in
+    let found : IfSome place (λ (frame : Frame g.row.A.Denot). IsGot spelling_of FrameFits
+    (take (length self.bytes.items - self.taken) (drop self.taken self.bytes.items)) frame c.in-Ok.length)
+    = rw c.deref.ensures.value at c.in-Ok.ensures.found in
+    next_put self.bytes.items self.taken c.in-Ok.length self.position _ place c.in-Ok.ensures.placed found c.saturating_add-self.ensures
+
+pub returns-in-Err-BadFrame-2-clause-stopped : goal.returns-in-Err-BadFrame-2-clause-stopped
+returns-in-Err-BadFrame-2-clause-stopped g c =
+    let self = c.args.self.now in
+    let none : BeginsWithNone g.row.A.Denot (take (length c.deref.result.now - self.taken)
+    (drop self.taken c.deref.result.now)) = c.in-Err-BadFrame.ensures.bad c.in-Err-BadFrame.field-0-is in
+    let here = subst (BeginsWithNone g.row.A.Denot) (from_place c.deref.result.now self.taken ∙ ap (drop self.taken) c.deref.ensures.value) none in
+    stop_here g.row.A.Denot (drop self.taken self.bytes.items) self.position self.state (λ failed. let same = rw failed at c.if-eq-2.ensures in cc) here

@@ -1,0 +1,23 @@
+//! A frame on its way.
+
+use ring_base::ProcSet;
+use ring_wire::Frame;
+use std::alloc::{Allocator, Global};
+use std::marker::Model;
+
+/// A frame with its receivers.
+#[derive(Drop)]
+pub struct Sent<A: Allocator + Copy = Global> {
+    /// The receivers.
+    pub to: ProcSet,
+    /// What goes to them.
+    pub frame: Frame<A>,
+}
+
+impl<A: Allocator + Copy> Model for Sent<A> {
+    ghost use Rattle.ring_core.specs.State.{Sent as ToldSent};
+
+    ghost Value = { ToldSent A };
+
+    ghost view = { λ sent. record { to = sent.to; frame = sent.frame } };
+}

@@ -1,0 +1,26 @@
+-- Each join that a core keeps as heard says exactly its sets.
+use Rattle.std.proofs.Common.{ℕ, List}
+use Rattle.ring_wire.specs.declared.frame.Frame.{Frame}
+use Rattle.ring_join.specs.Gathering.{AllSaySame}
+use Rattle.ring_core.specs.declared.input.Input.{Input}
+use Rattle.ring_core.specs.State.{Core, opening}
+use Rattle.ring_core.specs.Stepping.{after_inputs}
+use Rattle.ring_core_proof.specs.Moves.{Move, Idles, Enters, Learns, Visits, Takes, Installs, moved, MayMove}
+use Rattle.ring_core_proof.proofs.KeptByMoves.{IsKeptByMoves, always}
+
+abbrev pub SayingSame : {A : Type 0} → Core A → Type 0
+SayingSame c = AllSaySame c.gathering
+
+moved_same : {A : Type 0} → (came : Frame A → Type 0) (c : Core A) (m : Move A) → MayMove came c m → SayingSame c → SayingSame (moved c m)
+moved_same came c (Idles state gathering shown queue sends) h s = h.joins s
+moved_same came c (Enters k) h s = s
+moved_same came c (Learns k) h s = s
+moved_same came c (Visits t fresh requests again queue) h s = s
+moved_same came c (Takes x) h s = s
+moved_same came c Installs h s = s
+
+pub saying_same : {A : Type 0} → IsKeptByMoves (SayingSame {A = A})
+saying_same = record { moves = moved_same }
+
+pub all_same : {A : Type 0} → (n me : ℕ) (inputs : List (Input A)) → AllSaySame (after_inputs (opening n me) inputs).gathering
+all_same n me inputs = always SayingSame saying_same (opening n me) inputs tt

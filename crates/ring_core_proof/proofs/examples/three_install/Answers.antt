@@ -1,0 +1,16 @@
+use Rattle.std.proofs.Common.{refl}
+use Rattle.ring_base.specs.Processors.{elements}
+use Rattle.ring_core.specs.Stepping.{ring_step}
+use Rattle.ring_core_proof.proofs.examples.three_install.Goals as goal
+
+pub returns-clause-one : goal.returns-clause-one
+unfolding ring_step elements
+returns-clause-one c = refl
+
+pub returns-clause-two : goal.returns-clause-two
+unfolding ring_step elements
+returns-clause-two c = refl
+
+pub returns-clause-three : goal.returns-clause-three
+unfolding ring_step elements
+returns-clause-three c = refl

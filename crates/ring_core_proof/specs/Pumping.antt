@@ -1,0 +1,35 @@
+-- A network that loses nothing: each frame opens a pair for each of its receivers, and the oldest open pair is handed over next.
+use Rattle.std.specs.Prelude.{ℕ, zero, suc, List, [], ◌∷◌, ◌++◌, map, drop, length}
+use Rattle.ring_base.specs.Processors.{elements}
+use Rattle.ring_core_proof.specs.declared.event.RingEvent.TheVariants.{Deliver}
+use Rattle.ring_core_proof.specs.Worlds.{Carried, World, happens}
+
+-- a world with the open pairs of frame and receiver, oldest first
+pub record Pumped (A : Type 0) : Type 0 where
+  pub world : World A
+  pub pairs : List (ℕ × ℕ)
+
+-- the pairs of frames, of which the first has this number
+abbrev pub pairs_of : {A : Type 0} → ℕ → List (Carried A) → List (ℕ × ℕ)
+pairs_of k [] = []
+pairs_of k (f ∷ rest) = map (λ i. (k, i)) (elements f.to) ++ pairs_of (suc k) rest
+
+-- the pairs of the frames after the first ones
+abbrev pub pairs_after : {A : Type 0} → ℕ → World A → List (ℕ × ℕ)
+pairs_after count w = pairs_of (suc count) (drop count w.frames)
+
+abbrev pub pumped_on : {A : Type 0} → World A → World A → List (ℕ × ℕ) → Pumped A
+pumped_on old new pairs = record { world = new; pairs = pairs ++ pairs_after (length old.frames) new }
+
+-- one pair is handed over
+abbrev pub turn : {A : Type 0} → World A → List (ℕ × ℕ) → Pumped A
+turn w [] = record { world = w; pairs = [] }
+turn w (p ∷ pairs) = pumped_on w (happens w (Deliver p.1 p.0)) pairs
+
+abbrev pub turns : {A : Type 0} → ℕ → Pumped A → Pumped A
+turns zero p = p
+turns (suc k) p = turns k (turn p.world p.pairs)
+
+-- so many pairs, fewer if none is open
+abbrev pub pump : {A : Type 0} → ℕ → World A → Pumped A
+pump k w = turns k (record { world = w; pairs = pairs_after 0 w })

@@ -1,0 +1,57 @@
+-- Recovery of the first ring in the second: what each wraps, what is delivered, and what lies past a gap.
+use Rattle.std.specs.Prelude.{ℕ, List, [], ◌∷◌, ◌++◌, map}
+use Rattle.std.specs.declared.alloc.Global.{Global}
+use Rattle.ring_payload.specs.declared.content.Payload.TheVariants.{End}
+use Rattle.ring_wire.specs.declared.entries.CommitEntry.{CommitEntry}
+use Rattle.ring_wire.specs.declared.message.Message.{Message}
+use Rattle.ring_base.specs.declared.state.State.TheVariants.{Recovery}
+use Rattle.ring_core.specs.State.{Core, formed}
+use Rattle.ring_core_proof.specs.Samples.{first_ring, second_ring, call_at, message_of, report_of, empty_report, commit_of}
+
+-- one of n that recovers, with these reports; members are as many as the reports
+abbrev pub recovering : ℕ → ℕ → ℕ → List (Message Global) → List CommitEntry → Core Global
+recovering n me members held reports =
+    record (formed n me) {
+      state = Recovery;
+      running = record { ring = second_ring; members = members };
+      held = held;
+      plans = commit_of second_ring members 4 reports ∷ [];
+    }
+
+-- Two from one ring: processor 1 holds 1, 2, 4 and processor 2 holds 1, 2, 3
+
+abbrev pub two_reports : List CommitEntry
+two_reports = report_of first_ring 2 0 2 ∷ report_of first_ring 3 0 0 ∷ []
+
+abbrev pub with_four : Core Global
+with_four = recovering 2 1 3 (map (call_at 1) (1 ∷ 2 ∷ 4 ∷ [])) two_reports
+
+abbrev pub with_three : Core Global
+with_three = recovering 2 2 3 (map (call_at 1) (1 ∷ 2 ∷ 3 ∷ [])) two_reports
+
+-- once both hold all
+abbrev pub with_all : ℕ → Core Global
+with_all me = recovering 2 me 3 (map (call_at 1) (1 ∷ 2 ∷ 3 ∷ 4 ∷ [])) two_reports
+
+-- both Ends are held on the second ring, and its safe mark covers them
+abbrev pub with_ends : Core Global → Core Global
+with_ends c =
+    record c {
+      held = message_of second_ring 1 1 End ∷ message_of second_ring 2 2 End ∷ c.held;
+      raises = record { ring = second_ring; mark = 2 } ∷ c.raises;
+    }
+
+-- A gap: processor 1 holds 1, 2, 4 of its own and 5 of processor 3, which does not come along; processor 2 holds 1, 2
+
+abbrev pub gap_reports : List CommitEntry
+gap_reports = report_of first_ring 2 0 6 ∷ report_of first_ring 2 0 0 ∷ []
+
+abbrev pub past_gap : Core Global
+past_gap = recovering 3 1 3 (map (call_at 1) (1 ∷ 2 ∷ 4 ∷ []) ++ call_at 3 5 ∷ []) gap_reports
+
+-- Three, of which the third comes from a ring of its own, and safe marks 1 and 2
+
+abbrev pub mixed : Core Global
+mixed =
+    recovering 3 1 7 (map (call_at 1) (1 ∷ 2 ∷ 4 ∷ []))
+    (report_of first_ring 2 1 2 ∷ report_of first_ring 3 2 0 ∷ empty_report 3 ∷ [])

@@ -1,0 +1,277 @@
+//! Worked examples, computed from the definitions.
+
+ghost use Rattle.std.specs.Prelude.{◌≡◌, ℕ, List, ◌+◌, ◌^◌, ◌-◌, length, drop, [], ◌∷◌, Some, None, map, false, true};
+ghost use Rattle.std.specs.declared.alloc.Global.{Global};
+ghost use Rattle.ring_base.specs.Numbers.{max_number, numbers_from};
+ghost use Rattle.ring_payload.specs.declared.content.Payload.TheVariants.{Call as CallPayload, End};
+ghost use Rattle.ring_wire.specs.declared.frame.Frame.TheVariants.{Message as MessageFrame, Join as JoinFrame, Commit as CommitFrame};
+ghost use Rattle.ring_token.specs.Turns.{first_token, mark_by};
+ghost use Rattle.ring_join.specs.Gathering.{entered, widened, given_up, new_number};
+ghost use Rattle.ring_recover.specs.Plans.{safe, low, gap, least_mark};
+ghost use Rattle.ring_recover.specs.Deliveries.{is_complete, rests, delivery, finish};
+ghost use Rattle.ring_core.specs.declared.input.Input.TheVariants.{Frame as FrameInput, Timeout, Send};
+ghost use Rattle.ring_base.specs.declared.kind.Kind.TheVariants.{Retransmit, Join as JoinTime, Consensus, Loss};
+ghost use Rattle.ring_core.specs.declared.out.Out.TheVariants.{Agreed};
+ghost use Rattle.ring_base.specs.declared.state.State.TheVariants.{Recovery, Operational};
+ghost use Rattle.ring_core.specs.State.{opening, halted};
+ghost use Rattle.ring_core.specs.Views.{front, mark, takes_number, own_entry, plan};
+ghost use Rattle.ring_core.specs.Visiting.{accepts, repeated, offers, new_payloads, forwarded, visited};
+ghost use Rattle.ring_core.specs.Joining.{proposes};
+ghost use Rattle.ring_core.specs.Giving.{may_install};
+ghost use Rattle.ring_core.specs.Deciding.{decide, Ignore, Take, Regather, Agree, Widen, RegatherAndAgree, RegatherAndWiden, Visit, Fill, Learn};
+ghost use Rattle.ring_core.specs.Stepping.{ring_step};
+ghost use Rattle.ring_core_proof.specs.Worlds.{run, run_formed, unformed};
+ghost use Rattle.ring_core_proof.specs.Samples.{first_ring, second_ring, ring_of, add_five, message_of, call_at};
+ghost use Rattle.ring_core_proof.specs.Samples.{wrapped_call, empty_head, token_of, token_frame, token_at, join_of};
+ghost use Rattle.ring_core_proof.specs.Samples.{join_frame, report_of, empty_report, commit_of, commit_frame, holding};
+ghost use Rattle.ring_core_proof.specs.FormedRing.{loss_events, loss_outs, idle_timeouts, repeat_timeout, first_token_again};
+ghost use Rattle.ring_core_proof.specs.FirstRings.{three_after, three_frames, states_of_three, configurations_of};
+ghost use Rattle.ring_core_proof.specs.FirstRings.{first_configurations, silent_events, silent_frames, lone_events};
+ghost use Rattle.ring_core_proof.specs.FirstRings.{lone_outs, lone_hop, three_reports, join_to_others, stop_events};
+ghost use Rattle.ring_core_proof.specs.FirstRings.{idle_events};
+ghost use Rattle.ring_core_proof.specs.SingleSteps.{comes, lacking, having, token_of_ten, asking_token, asks, sends_again};
+ghost use Rattle.ring_core_proof.specs.SingleSteps.{holed, marked, sending, near_greatest, floored, stranger};
+ghost use Rattle.ring_core_proof.specs.SingleSteps.{marked_at_five, asks_three_and_seven, gathering_from, formed_three};
+ghost use Rattle.ring_core_proof.specs.SingleSteps.{opened_three, in_ring_of_two, invitation, gathering_alone, gave_up_two};
+ghost use Rattle.ring_core_proof.specs.SingleSteps.{gives_up_and_proposes, hop_at_three, committing, returned};
+ghost use Rattle.ring_core_proof.specs.PackedCalls.{calls_from, calls_of_size, seven_and, waiting, pack_of, queueing};
+ghost use Rattle.ring_core_proof.specs.PackedCalls.{around_head, two_and_head, five_times, nine_events, nine_outs};
+ghost use Rattle.ring_core_proof.specs.PackedCalls.{packed_message, with_pack, wrapped_pack, handed_on, piece};
+ghost use Rattle.ring_core_proof.specs.Recoveries.{with_four, with_three, with_all, with_ends, past_gap, mixed};
+
+/// Two in a formed ring: a message that is lost once is asked for, sent again, agreed and then safe.
+pub fn formed_ring_of_two()
+    ensures loss { (run_formed 2 loss_events).outs ≡ loss_outs }
+    ensures idle { (run_formed 2 idle_timeouts).outs ≡ [] }
+    ensures again { (run_formed 2 repeat_timeout).outs ≡ first_token_again }
+{}
+
+/// Three gather and hand the commit token round twice.
+pub fn three_gather()
+    ensures frames { (three_after 12).frames ≡ three_frames }
+    ensures states { states_of_three (three_after 12) ≡ Recovery ∷ Recovery ∷ Recovery ∷ [] }
+{}
+
+/// Two give up a silent third.
+pub fn third_is_silent()
+    ensures { (run (unformed 3) silent_events).frames ≡ silent_frames }
+{}
+
+/// Three install their first ring, each once.
+pub fn three_install()
+    ensures one { configurations_of 1 (three_after 100) ≡ first_configurations 1 }
+    ensures two { configurations_of 2 (three_after 100) ≡ first_configurations 2 }
+    ensures three { configurations_of 3 (three_after 100) ≡ first_configurations 3 }
+{}
+
+/// One alone, from its first timeout to a safe call.
+pub fn ring_of_one()
+    ensures { (run (unformed 1) lone_events).outs ≡ lone_outs }
+{}
+
+/// A token at one that lacks messages, the same token again, and one that has them.
+pub fn token_asks_for_messages()
+    ensures asks { (comes lacking token_of_ten).outs ≡ asks }
+    ensures again_outs { (comes (comes lacking token_of_ten).core token_of_ten).outs ≡ [] }
+    ensures again_core { (comes (comes lacking token_of_ten).core token_of_ten).core ≡ (comes lacking token_of_ten).core }
+    ensures sends_again { (comes having asking_token).outs ≡ sends_again }
+{}
+
+/// The safe mark after each of four visits that forwarded 10, 8, 10 and 10.
+pub fn safe_marks()
+    ensures first { mark_by (10 ∷ []) ≡ 0 }
+    ensures second { mark_by (8 ∷ 10 ∷ []) ≡ 8 }
+    ensures third { mark_by (10 ∷ 8 ∷ 10 ∷ []) ≡ 8 }
+    ensures fourth { mark_by (10 ∷ 10 ∷ 8 ∷ 10 ∷ []) ≡ 10 }
+{}
+
+/// Two from one ring wrap what the other lacks, and then deliver the same.
+pub fn plan_of_two()
+    ensures low { low (plan with_four) ≡ 2 }
+    ensures gap { gap (plan with_four) ≡ 5 }
+    ensures first_wraps { offers Recovery with_four 8 ≡ wrapped_call 1 4 ∷ End ∷ [] }
+    ensures second_wraps { offers Recovery with_three 8 ≡ wrapped_call 1 3 ∷ End ∷ [] }
+    ensures not_yet { finish (plan with_four) with_four.held ≡ None }
+    ensures then { finish (plan (with_all 1)) (with_all 1).held ≡ Some (record { regular = []; transitional = 1 ∷ 2 ∷ 3 ∷ 4 ∷ []; past_gap = [] }) }
+    ensures installs { may_install (with_ends (with_all 1)) ≡ true }
+    ensures waits { may_install (with_ends with_four) ≡ false }
+    ensures first_gives { rests (plan (with_all 1)) (with_all 1).held ≡ map (call_at 1) (1 ∷ 2 ∷ 3 ∷ 4 ∷ []) }
+    ensures second_gives { rests (plan (with_all 2)) (with_all 2).held ≡ map (call_at 1) (1 ∷ 2 ∷ 3 ∷ 4 ∷ []) }
+{}
+
+/// A third member comes from another ring; the safe marks are 1 and 2.
+pub fn plan_of_mixed_rings()
+    ensures mates { (plan mixed).mates ≡ 3 }
+    ensures least_mark { least_mark (plan mixed) ≡ 1 }
+    ensures safe { safe (plan mixed) ≡ 2 }
+    ensures low { low (plan mixed) ≡ 2 }
+    ensures gap { gap (plan mixed) ≡ 5 }
+    ensures parts { delivery (plan mixed) mixed.held ≡ record { regular = 2 ∷ []; transitional = 3 ∷ 4 ∷ []; past_gap = [] } }
+{}
+
+/// Past the gap, what an outsider sent is discarded.
+pub fn plan_with_gap()
+    ensures mates { (plan past_gap).mates ≡ 3 }
+    ensures gap { gap (plan past_gap) ≡ 3 }
+    ensures parts { delivery (plan past_gap) past_gap.held ≡ record { regular = []; transitional = 1 ∷ 2 ∷ []; past_gap = 4 ∷ [] } }
+    ensures gives { rests (plan past_gap) past_gap.held ≡ map (call_at 1) (1 ∷ 2 ∷ 4 ∷ []) }
+{}
+
+/// A window with holes, and after its safe mark rose.
+pub fn window_with_holes()
+    ensures front { front (holed (1 ∷ 2 ∷ 4 ∷ 256 ∷ [])) first_ring ≡ 2 }
+    ensures report { own_entry (holed (1 ∷ 2 ∷ 4 ∷ 256 ∷ [])) ≡ report_of first_ring 2 0 (2 + 2 ^ 253) }
+    ensures outside { takes_number (holed (1 ∷ 2 ∷ 4 ∷ 256 ∷ [])) first_ring 257 ≡ false }
+    ensures inside { takes_number (marked 2 (holed (1 ∷ 2 ∷ 4 ∷ 256 ∷ []))) first_ring 257 ≡ true }
+    ensures last { takes_number (marked 2 (holed (1 ∷ 2 ∷ 4 ∷ 256 ∷ 257 ∷ []))) first_ring 258 ≡ true }
+    ensures past { takes_number (marked 2 (holed (1 ∷ 2 ∷ 4 ∷ 256 ∷ 257 ∷ 258 ∷ []))) first_ring 259 ≡ false }
+    ensures later_report { own_entry (marked 2 (holed (1 ∷ 2 ∷ 4 ∷ 256 ∷ 257 ∷ 258 ∷ []))) ≡ report_of first_ring 2 2 (2 + (2 ^ 253 + (2 ^ 254 + 2 ^ 255))) }
+{}
+
+/// The window, a visit's messages, the requests and the greatest numbers are kept.
+pub fn limits()
+    ensures window { length (new_payloads (sending 250) (token_at 5 250)) ≡ 6 }
+    ensures left_over { length (visited (sending 250) (token_at 5 250)).core.queue ≡ 4 }
+    ensures batch { length (new_payloads (sending 10) (token_at 5 10)) ≡ 8 }
+    ensures requests { (forwarded (holding 3 2 []) (token_at 5 50)).requests ≡ numbers_from 1 32 }
+    ensures old_request { repeated marked_at_five asks_three_and_seven ≡ call_at 1 7 ∷ [] }
+    ensures message { length (new_payloads near_greatest (token_at 5 (max_number - 2))) ≡ 2 }
+    ensures token_below { accepts (sending 0) (token_at (max_number - 1) 0) ≡ true }
+    ensures token_greatest { accepts (sending 0) (token_at max_number 0) ≡ false }
+    ensures token_behind { accepts (sending 10) (token_at 5 9) ≡ false }
+    ensures ring_below { proposes (floored (max_number - 1)) ≡ true }
+    ensures ring_greatest { proposes (floored max_number) ≡ false }
+    ensures named { decide (opening 3 1) (FrameInput stranger) ≡ Ignore }
+{}
+
+/// A visit packs the calls in a row of its queue, as many as fit one message; what stands alone goes as it is.
+pub fn packed_calls()
+    ensures nine { new_payloads (queueing (waiting (calls_from 1 9))) (token_at 5 0) ≡ pack_of (calls_from 1 9) ∷ [] }
+    ensures nine_outs { drop 9 (run (unformed 1) nine_events).outs ≡ nine_outs }
+    ensures one { new_payloads (queueing (waiting (calls_from 1 1))) (token_at 5 0) ≡ waiting (calls_from 1 1) }
+    ensures sixteen { new_payloads (queueing (waiting (calls_from 1 16))) (token_at 5 0) ≡ pack_of (calls_from 1 16) ∷ [] }
+    ensures seventeen { new_payloads (queueing (waiting (calls_from 1 17))) (token_at 5 0) ≡ pack_of (calls_from 1 16) ∷ waiting (calls_from 17 1) }
+    ensures long { new_payloads (queueing (waiting (calls_of_size 1024 8))) (token_at 5 0) ≡ pack_of (calls_of_size 1024 7) ∷ waiting (calls_of_size 1024 1) }
+    ensures greatest { new_payloads (queueing (waiting (seven_and 162))) (token_at 5 0) ≡ pack_of (seven_and 162) ∷ [] }
+    ensures past_greatest { new_payloads (queueing (waiting (seven_and 163))) (token_at 5 0) ≡ pack_of (calls_of_size 1000 7) ∷ waiting (calls_of_size 163 1) }
+    ensures around { new_payloads (queueing around_head) (token_at 5 0) ≡ pack_of (calls_from 1 2) ∷ empty_head ∷ pack_of (calls_from 3 3) ∷ [] }
+    ensures batch { length (new_payloads (queueing five_times) (token_at 5 0)) ≡ 8 }
+    ensures left_over { (visited (queueing five_times) (token_at 5 0)).core.queue ≡ two_and_head 9 }
+    ensures window { new_payloads (queueing five_times) (token_at 5 255) ≡ pack_of (calls_from 1 2) ∷ [] }
+    ensures wraps { offers Recovery with_pack 8 ≡ wrapped_pack ∷ End ∷ [] }
+    ensures unwraps { (comes with_three (MessageFrame handed_on)).core.held ≡ packed_message ∷ handed_on ∷ with_three.held }
+{}
+
+/// Corners of the states.
+pub fn corners()
+    ensures left_ring { decide (gathering_from 1) (FrameInput (MessageFrame (call_at 2 1))) ≡ Take (call_at 2 1) }
+    ensures newer_floor { decide (gathering_from 2) (FrameInput (MessageFrame (call_at 2 1))) ≡ Ignore }
+    ensures queue { (ring_step (sending 3) (Timeout Loss)).core.queue ≡ [] }
+    ensures old_join { decide (in_ring_of_two Operational) (FrameInput (JoinFrame (join_of 2 0 7 0))) ≡ Ignore }
+    ensures member_join { decide (in_ring_of_two Operational) (FrameInput (JoinFrame (join_of 2 1 7 0))) ≡ RegatherAndWiden (join_of 2 1 7 0) }
+    ensures outside { decide (in_ring_of_two Operational) (FrameInput (JoinFrame (join_of 3 0 7 0))) ≡ RegatherAndWiden (join_of 3 0 7 0) }
+    ensures outside_ignored { decide (in_ring_of_two Recovery) (FrameInput (JoinFrame (join_of 3 0 7 0))) ≡ Ignore }
+    ensures smaller { decide (in_ring_of_two Operational) (FrameInput (JoinFrame (join_of 2 1 2 0))) ≡ Regather }
+    ensures gives_up_its_judge { (widened 1 (entered 7) (join_of 2 0 7 5)).fail_set ≡ 2 }
+    ensures gives_up_alike { (widened 1 (entered 7) (join_of 2 0 7 4)).fail_set ≡ 4 }
+    ensures no_proposal { (ring_step (opening 1 1) (FrameInput token_of_ten)).outs ≡ [] }
+    ensures repeat_proposes { (ring_step (opening 1 1) (Timeout Retransmit)).outs ≡ lone_hop 1 ∷ [] }
+    ensures invites { (ring_step (in_ring_of_two Operational) (Timeout JoinTime)).outs ≡ invitation }
+    ensures invites_nobody { (ring_step formed_three (Timeout JoinTime)).outs ≡ [] }
+    ensures stopped { (ring_step (halted formed_three) (Timeout Loss)).outs ≡ [] }
+{}
+
+/// Joins in Gather, and what leads there.
+pub fn joins()
+    ensures own { decide (opening 3 1) (FrameInput (join_frame 1 0 7 0)) ≡ Ignore }
+    ensures given_up { decide gave_up_two (FrameInput (join_frame 2 0 7 0)) ≡ Ignore }
+    ensures same { decide (opening 3 1) (FrameInput (join_frame 2 0 7 0)) ≡ Agree (join_of 2 0 7 0) }
+    ensures smaller { decide (opening 3 1) (FrameInput (join_frame 2 0 2 0)) ≡ Ignore }
+    ensures wider { decide (opening 3 1) (FrameInput (join_frame 2 0 7 4)) ≡ Widen (join_of 2 0 7 4) }
+    ensures agrees_at_once { widened 1 gathering_alone (join_of 2 5 3 0) ≡ record { proc_set = 3; fail_set = 0; heard = join_of 2 5 3 0 ∷ [] } }
+    ensures falls_back { widened 1 gathering_alone (join_of 2 5 2 0) ≡ record { proc_set = 3; fail_set = 0; heard = [] } }
+    ensures next_number { new_number 4 (widened 1 gathering_alone (join_of 2 9 3 0)) ≡ 10 }
+    ensures floor_counts { new_number 12 (widened 1 gathering_alone (join_of 2 9 3 0)) ≡ 13 }
+    ensures gives_up { given_up 1 (widened 1 gathering_alone (join_of 2 5 2 0)) ≡ record { proc_set = 3; fail_set = 2; heard = [] } }
+    ensures then_proposes { (ring_step (opening 2 1) (Timeout Consensus)).outs ≡ gives_up_and_proposes }
+    ensures in_commit { decide ((three_after 6).cores 1) (FrameInput (join_frame 2 1 7 0)) ≡ RegatherAndAgree (join_of 2 1 7 0) }
+    ensures old_in_commit { decide ((three_after 6).cores 1) (FrameInput (join_frame 2 0 7 0)) ≡ Ignore }
+    ensures stopped { decide (halted formed_three) (FrameInput (join_frame 2 1 7 0)) ≡ Ignore }
+{}
+
+/// Timeouts by state.
+pub fn timeouts()
+    ensures lost { decide formed_three (Timeout Loss) ≡ Regather }
+    ensures waits { decide formed_three (Timeout Consensus) ≡ Ignore }
+    ensures silent_in_commit { decide ((three_after 6).cores 1) (Timeout JoinTime) ≡ Ignore }
+    ensures nothing_shown { (ring_step opened_three (Timeout Retransmit)).outs ≡ [] }
+    ensures shows_again { (ring_step (comes lacking token_of_ten).core (Timeout Retransmit)).outs ≡ asks }
+    ensures shows_no_more { (ring_step (ring_step (comes lacking token_of_ten).core (Timeout Loss)).core (Timeout Retransmit)).outs ≡ [] }
+{}
+
+/// Tokens that are accepted and that are not, and who sets the aru.
+pub fn tokens()
+    ensures other_ring { decide (gathering_from 1) (FrameInput token_of_ten) ≡ Ignore }
+    ensures in_commit { decide ((three_after 6).cores 1) (FrameInput (token_frame 1 0 0 None [])) ≡ Ignore }
+    ensures of_old_ring { decide with_four (FrameInput token_of_ten) ≡ Ignore }
+    ensures sets_own { forwarded (holding 3 2 (numbers_from 1 10)) (token_of 6 10 8 (Some 2) []) ≡ token_of 7 10 10 None [] }
+    ensures keeps_other { forwarded (holding 3 3 (numbers_from 1 10)) (token_of 6 10 8 (Some 2) []) ≡ token_of 7 10 8 (Some 2) [] }
+    ensures holds_back { forwarded (holding 3 3 (numbers_from 1 7)) (token_of 6 8 8 None []) ≡ token_of 7 8 7 (Some 3) (8 ∷ []) }
+    ensures lowers_other { forwarded (holding 3 3 (numbers_from 1 7)) (token_of 6 10 8 (Some 2) []) ≡ token_of 7 10 7 (Some 3) (8 ∷ 9 ∷ 10 ∷ []) }
+{}
+
+/// Messages that are taken and that are not.
+pub fn messages()
+    ensures taken { decide (holding 3 2 []) (FrameInput (MessageFrame (call_at 1 1))) ≡ Take (call_at 1 1) }
+    ensures held { decide (holding 3 2 (1 ∷ [])) (FrameInput (MessageFrame (call_at 1 1))) ≡ Ignore }
+    ensures outsider { decide (in_ring_of_two Operational) (FrameInput (MessageFrame (call_at 3 1))) ≡ Ignore }
+    ensures last { decide (holding 3 2 []) (FrameInput (MessageFrame (call_at 1 256))) ≡ Take (call_at 1 256) }
+    ensures past { decide (holding 3 2 []) (FrameInput (MessageFrame (call_at 1 257))) ≡ Ignore }
+    ensures in_commit { decide ((three_after 6).cores 1) (FrameInput (MessageFrame (call_at 2 1))) ≡ Ignore }
+    ensures of_old_ring { decide with_four (FrameInput (MessageFrame (call_at 1 3))) ≡ Ignore }
+    ensures unwraps { (ring_step with_four
+        (FrameInput (MessageFrame (message_of second_ring 1 2 (wrapped_call 1 3))))).core.held ≡ call_at 1 3
+        ∷ message_of second_ring 1 2 (wrapped_call 1 3) ∷ with_four.held }
+    ensures agreed { (ring_step with_four
+        (FrameInput (MessageFrame (message_of second_ring 1 2 (wrapped_call 1 3))))).outs ≡ Agreed first_ring 3
+        (call_at 1 3) ∷ Agreed first_ring 4 (call_at 1 4) ∷ [] }
+{}
+
+/// Commit tokens, round by round.
+pub fn commit_tokens()
+    ensures first { decide (opening 3 2) (FrameInput (hop_at_three 1 (empty_report 1 ∷ []))) ≡ Fill (commit_of first_ring 7 1 (empty_report 1 ∷ [])) }
+    ensures elsewhere { decide (opening 3 3) (FrameInput (hop_at_three 1 (empty_report 1 ∷ []))) ≡ Ignore }
+    ensures other_members { decide (opening 3 2) (FrameInput (commit_frame first_ring 3 1 (empty_report 1 ∷ []))) ≡ Ignore }
+    ensures not_above_floor { decide (record (opening 3 2) { running = record { ring = ring_of 1 2; members = 2 } })
+        (FrameInput (hop_at_three 1 (empty_report 1 ∷ []))) ≡ Ignore }
+    ensures too_late { decide (opening 3 1) (FrameInput (hop_at_three 3 three_reports)) ≡ Ignore }
+    ensures again { decide ((three_after 7).cores 2) (FrameInput (hop_at_three 1 (empty_report 1 ∷ []))) ≡ Ignore }
+    ensures second { decide ((three_after 8).cores 1) (FrameInput (hop_at_three 3 three_reports)) ≡ Learn (commit_of first_ring 7 3 three_reports) }
+    ensures report_changed { decide ((three_after 8).cores 1)
+        (FrameInput (hop_at_three 3 (report_of (ring_of 0 1) 1 0 0 ∷ empty_report 2 ∷ empty_report 3 ∷ []))) ≡ Ignore }
+    ensures second_members { decide ((three_after 8).cores 1) (FrameInput (commit_frame first_ring 3 2 (empty_report 1 ∷ empty_report 2 ∷ []))) ≡ Ignore }
+    ensures sound { decide committing (FrameInput (CommitFrame (returned 2))) ≡ Learn (returned 2) }
+    ensures behind { decide committing (FrameInput (CommitFrame (returned 3))) ≡ Ignore }
+    ensures raises_mark { mark (ring_step committing (FrameInput (CommitFrame (returned 2)))).core first_ring ≡ 2 }
+    ensures starts { decide ((three_after 11).cores 1) (FrameInput (hop_at_three 6 three_reports)) ≡ Visit (first_token first_ring) }
+    ensures starts_once { decide ((three_after 12).cores 1) (FrameInput (hop_at_three 6 three_reports)) ≡ Ignore }
+    ensures starts_of_members { decide ((three_after 11).cores 1) (FrameInput (commit_frame first_ring 3 4 (empty_report 1 ∷ empty_report 2 ∷ []))) ≡ Ignore }
+    ensures in_operational { decide formed_three (FrameInput (hop_at_three 6 three_reports)) ≡ Ignore }
+{}
+
+/// What is handed over to send.
+pub fn payloads()
+    ensures queued { (ring_step formed_three (Send (CallPayload add_five))).core.queue ≡ CallPayload add_five ∷ [] }
+    ensures end { decide formed_three (Send End) ≡ Ignore }
+    ensures wrapped { decide formed_three (Send (wrapped_call 1 1)) ≡ Ignore }
+    ensures packed { decide formed_three (Send (pack_of (calls_from 1 2))) ≡ Ignore }
+    ensures piece { (ring_step formed_three (Send piece)).core.queue ≡ piece ∷ [] }
+    ensures in_gather { decide (opening 3 1) (Send (CallPayload add_five)) ≡ Ignore }
+    ensures in_recovery { decide with_four (Send (CallPayload add_five)) ≡ Ignore }
+{}
+
+/// One that stopped gives nothing any more; an unknown processor and an unknown frame change nothing.
+pub fn stops()
+    ensures silent { (run (unformed 3) stop_events).outs ≡ [] }
+    ensures idle { (run (unformed 3) idle_events).frames ≡ join_to_others 1 ∷ [] }
+{}

@@ -1,3 +1,0 @@
-pub use Rattle.ring_facts.specs.Projection
-pub use Rattle.ring_facts.specs.Synchrony
-pub mod Linear

@@ -1,2 +1,0 @@
-mod ListedLemmas
-mod ListingLemmas

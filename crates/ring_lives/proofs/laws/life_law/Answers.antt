@@ -1,8 +1,0 @@
-use Rattle.ring_lives.proofs.Worlds.{lives_are, all_well_told}
-use Rattle.ring_lives.proofs.laws.life_law.Goals as goal
-
-pub returns-clause-lives : goal.returns-clause-lives
-returns-clause-lives g c = lives_are
-
-pub returns-clause-told : goal.returns-clause-told
-returns-clause-told g c = all_well_told

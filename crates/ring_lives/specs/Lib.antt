@@ -1,3 +1,0 @@
-pub use Rattle.ring_chain.specs.Told
-pub use Rattle.ring_chain.specs.Words
-pub mod Tales

@@ -1,8 +1,0 @@
-use Rattle.ring_local.proofs.Everywhere.{local_facts, local_everywhere}
-use Rattle.ring_local.proofs.laws.local_law.Goals as goal
-
-pub returns-clause-core : goal.returns-clause-core
-returns-clause-core g c = local_facts
-
-pub returns-clause-world : goal.returns-clause-world
-returns-clause-world g c = local_everywhere

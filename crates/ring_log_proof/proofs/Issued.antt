@@ -1,0 +1,188 @@
+-- Each call of a log was handed over by some node, as a Call and not only in a Part: what is so of all calls handed over is so of all of logs.
+
+-- By the numbers of rings, since Parts have the places that a log had before their ring.
+use Rattle.std.proofs.Common.{◌≡◌, ℕ, zero, suc, ◌+◌, ◌<◌, List, [], ◌∷◌, ◌++◌, length, take, drop, map, Option, Some, None}
+use Rattle.std.proofs.Common.{inl, inr, refl, ap, sym, subst, arith}
+use Rattle.std.proofs.Common.{sym, subst}
+use Rattle.std.specs.List.{AllByRecursion as Each}
+use Rattle.std.proofs.lemmas.Bool.{cond_both}
+use Rattle.ring_base.specs.Group.{Group}
+use Rattle.ring_base.specs.Processors.{has, only, less}
+use Rattle.ring_base.specs.declared.ring_id.RingId.{RingId}
+use Rattle.ring_base.proofs.Each.{each-weaker, each-append, each-front, each-left, each-right, each-take, each-drop}
+use Rattle.ring_payload.specs.declared.call.Call.{Call as OneCall}
+use Rattle.ring_payload.specs.declared.calls.Part.{Part as OnePart}
+use Rattle.ring_payload.specs.declared.head.Head.{Head as OneHead}
+use Rattle.ring_payload.specs.declared.content.Payload.{Payload}
+use Rattle.ring_payload.specs.declared.content.Payload.TheVariants.{Call, Wrapped, End, Head, Part, Pack, Snap}
+use Rattle.ring_payload.specs.Kinds.{units, calls_of}
+use Rattle.ring_wire.specs.declared.message.Message.{Message}
+use Rattle.ring_log.specs.declared.wanted.Wanted.{Wanted}
+use Rattle.ring_log.specs.Exchanges.{Exchange, opened, wanted, hear_head, is_wanted, hear_part, heard}
+use Rattle.ring_log.specs.Stays.{Stay}
+use Rattle.ring_log.specs.Lives.{Whole, heard_by, after_all, exchanged, calls_in, base_on, own_base, log_by, log_of, head_of_life}
+use Rattle.ring_log_proof.specs.RingFacts.{IsStay, said_by, RingFacts}
+use Rattle.ring_log_proof.specs.Time.{IsKnownCall, OnlyHandsOver}
+use Rattle.ring_log_proof.specs.Discipline.{FollowsHead, KeepsDiscipline}
+use Rattle.ring_log_proof.proofs.Wholes.{exchanged-whole}
+use Rattle.ring_log_proof.proofs.Stays.{above, below-above, stay-trans, older-below}
+use Rattle.ring_log_proof.proofs.Heads.{said-each}
+
+-- the calls that a payload holds
+abbrev pub calls_held : {A : Type 0} → Payload A → List (OneCall A)
+calls_held (Call call) = call ∷ []
+calls_held (Part part) = part.calls
+calls_held (Pack pack) = pack.calls
+calls_held (Head head) = []
+calls_held (Snap snap) = []
+calls_held (Wrapped old) = []
+calls_held End = []
+
+module _ {A : Type 0} (Known : OneCall A → Type 0) where
+  abbrev pub IsKnown : Message A → Type 0
+  IsKnown x = Each Known (calls_held x.payload)
+
+  packed-known : (calls : List (OneCall A)) → Each (λ (payload : Payload A). Each Known (calls_held payload)) (map (λ (c : OneCall A). Call c) calls)
+      → Each Known calls
+  packed-known [] h = tt
+  packed-known (c ∷ calls) h = (h.0.0, packed-known calls h.1)
+
+  unit-known : (payload : Payload A) → Each (λ (unit : Payload A). Each Known (calls_held unit)) (units payload) → Each Known (calls_held payload)
+  unit-known (Pack pack) h = packed-known pack.calls h
+  unit-known (Call call) h = h.0
+  unit-known (Part part) h = h.0
+  unit-known (Head head) h = tt
+  unit-known (Snap snap) h = tt
+  unit-known (Wrapped old) h = tt
+  unit-known End h = tt
+
+  held-known : (payload : Payload A) → Each Known (calls_held payload) → Each Known (calls_of payload)
+  held-known (Pack pack) h = h
+  held-known (Call call) h = h
+  held-known (Part part) h = tt
+  held-known (Head head) h = tt
+  held-known (Snap snap) h = tt
+  held-known (Wrapped old) h = tt
+  held-known End h = tt
+
+  calls-known : (xs : List (Message A)) → Each IsKnown xs → Each Known (calls_in xs)
+  calls-known [] h = tt
+  calls-known (x ∷ xs) h = each-append Known (calls_of x.payload) (calls_in xs) (held-known x.payload h.0) (calls-known xs h.1)
+
+  -- Exchanges
+
+  head-known : (e : Exchange A) (p : ℕ) (head : OneHead) → Each Known e.brought → Each Known (hear_head e p head).brought
+  head-known e p head h = cond_both (has e.unheard p)
+      (record e { unheard = less e.unheard (only p); heads = e.heads ++ record { sender = p; head = head } ∷ [] }) e
+      (λ (x : Exchange A). Each Known x.brought) (λ t. h) (λ f. h)
+
+  part-known : (e : Exchange A) (p : ℕ) (part : OnePart A) → Each Known part.calls → Each Known e.brought → Each Known (hear_part e p part).brought
+  part-known e p part k h =
+      cond_both (is_wanted (wanted e) e.places p part) (record e { places = e.places + length part.calls; brought = e.brought ++ part.calls }) e
+      (λ (x : Exchange A). Each Known x.brought)
+      (λ t. each-append Known e.brought part.calls h k) (λ f. h)
+
+  heard-known : (e : Exchange A) (p : ℕ) (payload : Payload A) → Each Known (calls_held payload) → Each Known e.brought → Each Known (heard e p payload).brought
+  heard-known e p (Head head) k h = head-known e p head h
+  heard-known e p (Part part) k h = part-known e p part k h
+  heard-known e p (Call call) k h = h
+  heard-known e p (Pack pack) k h = h
+  heard-known e p (Snap snap) k h = h
+  heard-known e p (Wrapped old) k h = h
+  heard-known e p End k h = h
+
+  all-known : (e : Exchange A) (xs : List (Message A)) → Each IsKnown xs → Each Known e.brought → Each Known (after_all e xs).brought
+  all-known e [] k h = h
+  all-known e (x ∷ xs) k h = all-known (heard_by e x) xs k.1 (heard-known e x.sender x.payload k.0 h)
+
+  -- Logs
+
+  base-known : (own : List (OneCall A)) (o : Option Wanted) (brought : List (OneCall A)) → Each Known own → Each Known brought
+      → Each Known (base_on own o brought)
+  base-known own None brought h k = h
+  base-known own (Some w) brought h k = each-append Known (take w.from own) brought (each-take Known w.from own h) k
+
+  log-known : (group : Group) (m : ℕ) (xs : List (Message A)) (own : List (OneCall A)) (o : Option (Whole A)) → exchanged group m xs ≡ o → Each IsKnown xs
+      → Each Known own → Each Known (log_by own o)
+  log-known group m xs own None e k h = h
+  log-known group m xs own (Some w) e k h =
+      let by = exchanged-whole group m xs w e in
+      let parts : Each IsKnown (by.front ++ w.rest) = subst (Each IsKnown) (sym by.parts) k in
+      let brought : Each Known w.exchange.brought = subst (λ (x : Exchange A). Each Known x.brought) (sym by.after)
+      (all-known (opened m) by.front (each-left IsKnown by.front w.rest parts) tt) in
+      each-append Known (own_base own w.exchange) (calls_in w.rest) (base-known own (wanted w.exchange) w.exchange.brought h brought)
+      (calls-known w.rest (each-right IsKnown by.front w.rest parts))
+
+  life-known : (group : Group) (life : List (Stay A)) → ((s : Stay A) (older : List (Stay A)) → IsStay life s older → Each IsKnown s.heard)
+      → Each Known (log_of group life)
+  life-known group [] k = tt
+  life-known group (s ∷ older) k =
+      log-known group s.members s.heard (log_of group older) (exchanged group s.members s.heard) refl (k s older (inl (refl, refl)))
+      (life-known group older (λ t before i. k t before (inr i)))
+
+  -- Rings
+
+  module _ (group : Group) (lives : ℕ → List (Stay A)) (members : RingId → ℕ) (text : RingId → List (Message A)) (facts : RingFacts lives members text) where
+    -- all that was handed over in rings below a number
+    abbrev pub HandsBelow : ℕ → Type 0
+    HandsBelow bound = (p : ℕ) (s : Stay A) (older : List (Stay A)) → IsStay (lives p) s older → s.ring.seq < bound
+        → Each (λ (payload : Payload A). Each Known (calls_held payload)) s.sent
+
+    said-known : (bound : ℕ) → HandsBelow bound → (r : RingId) → r.seq < bound → (q : ℕ)
+        → Each (λ (payload : Payload A). Each Known (calls_held payload)) (said_by q (text r))
+    said-known bound hands r low q =
+        let P : Payload A → Type 0 = λ payload. Each Known (calls_held payload) in
+        elim (facts.said q r) as (λ _. Each P (said_by q (text r))) [
+          | inl none ↦ subst (Each P) (sym none) tt
+          | inr at ↦
+              let seqs = ap (λ (k : RingId). k.seq) at.0.ring in
+              each-front P (said_by q (text r)) at.0.stay.sent at.1 (hands q at.0.stay at.0.older at.0.there (omega (arith, low, seqs)))
+        ]
+
+    text-known : (bound : ℕ) → HandsBelow bound → (r : RingId) → r.seq < bound → Each IsKnown (text r)
+    text-known bound hands r low =
+        each-weaker _ _ (λ (x : Message A) h. unit-known x.payload h) (text r)
+        (said-each (λ q payload. Each Known (calls_held payload)) (text r) (said-known bound hands r low))
+
+    -- a log of such rings
+    rings-known : (bound p : ℕ) (life : List (Stay A)) → HandsBelow bound →
+        ((s : Stay A) (older : List (Stay A)) → IsStay life s older → IsStay (lives p) s older × (s.ring.seq < bound))
+        → Each Known (log_of group life)
+    rings-known bound p life hands within =
+        life-known group life (λ s older i.
+        let there = within s older i in
+        each-front IsKnown s.heard (text s.ring) (facts.heard p s older there.0) (text-known bound hands s.ring there.1))
+
+    follows-known : (log : List (OneCall A)) (payloads : List (Payload A)) → Each Known log → Each (FollowsHead log) payloads →
+        Each (IsKnownCall Known) payloads
+        → Each (λ (payload : Payload A). Each Known (calls_held payload)) payloads
+    follows-known log [] k f h = tt
+    follows-known log (payload ∷ payloads) k f h = (one payload f.0 h.0, follows-known log payloads k f.1 h.1)
+      where
+        one : (x : Payload A) → FollowsHead log x → IsKnownCall Known x → Each Known (calls_held x)
+        one (Part part) f h = each-front Known part.calls (drop part.first log) f (each-drop Known part.first log k)
+        one (Call call) f h = (h, tt)
+        one (Head head) f h = tt
+        one (Pack pack) f h = absurd f
+        one (Snap snap) f h = tt
+        one (Wrapped old) f h = tt
+        one End f h = tt
+
+    hands-below : KeepsDiscipline group lives → OnlyHandsOver Known lives → (bound : ℕ) → HandsBelow bound
+    hands-below disc calls zero p s older there low = absurd (omega (arith, low))
+    hands-below disc calls (suc bound) p s older there low =
+        let P : Payload A → Type 0 = λ payload. Each Known (calls_held payload) in
+        elim (disc p s older there) as (λ _. Each P s.sent) [
+          | inl silent ↦ subst (Each P) (sym silent) tt
+          | inr opens ↦
+              let known : Each (IsKnownCall Known) (Head (head_of_life group older) ∷ opens.rest) =
+              subst (Each (IsKnownCall Known)) opens.opens (calls p s older there) in
+              let log = rings-known bound p older (hands-below disc calls bound) (λ t before i.
+              (stay-trans (lives p) s t older before there i, omega (arith, low, older-below (lives p) s t older before (facts.rises p) there i))) in
+              subst (Each P) (sym opens.opens) (tt, follows-known (log_of group older) opens.rest log opens.follows known.1)
+        ]
+
+    pub logs-known : KeepsDiscipline group lives → OnlyHandsOver Known lives → (p : ℕ) → Each Known (log_of group (lives p))
+    logs-known disc calls p =
+        let bound = above (lives p) in
+        rings-known bound p (lives p) (hands-below disc calls bound) (λ s older i. (i, below-above (lives p) bound (facts.rises p) (omega arith) s older i))

@@ -1,0 +1,43 @@
+-- ChosenHead: The chosen Head is one of the Heads, and none is greater; no committed length is below the least.
+-- Wholes: An exchange that was heard whole stays the same as more is heard, and so a ring's log only grows; of two fronts of one text the logs are
+--   fronts of one list.
+-- Stays: The stays of one life: which is below which, and what was before each.
+-- HonestExchanges: What an exchange holds that was heard of honest senders: every member's Head, of which the chosen one's places are wanted, and of these the
+--   first.
+-- Heads: What a ring's text tells of its senders' logs: a Head is that of the sender's life before the ring, and Parts are places of the log that it had
+--   then.
+-- Newest: A life's last primary and log are of the newest ring that was adopted.
+-- Hard: What is safe stays: a log of a primary ring that every member heard is a front of the base of every later primary ring.
+-- Settled: Of two settled lists one is a front of the other; a base, and a log of a life that adopted it, begins with all that was settled in earlier
+--   rings.
+-- Committed: What a node committed is settled, and is a front of its log.
+-- Adopted: What a node makes of an exchange and its own log is the ring's base.
+-- Onward: As lives go on, what is settled stays settled, and what is committed grows.
+-- Worked: The facts of the worked lives, processor by processor.
+-- Refused: What each wrong life breaks.
+-- Moment: One moment: what holds of all lives, whatever the numbers of their rings.
+-- Sound: No base lacks committed places: the test that stops a node never does.
+-- Issued: Each call of a log was handed over by some node, as a Call and not only in a Part: what is so of all calls handed over is so of all of
+--   logs.
+-- Living: Each event of a life lets it go on, and keeps the discipline.
+-- LogsInRuns: Along a run: what each node committed grows, all of it is fronts of one list, and only issued calls are committed.
+-- CommittedGrows: What is committed in a life that is sound is a front of its log, and only grows as the life goes on.
+pub mod ChosenHead
+pub mod Wholes
+pub mod Stays
+pub mod HonestExchanges
+pub mod Heads
+pub mod Newest
+pub mod Hard
+pub mod Settled
+pub mod Committed
+pub mod Adopted
+pub mod Onward
+pub mod Worked
+pub mod Refused
+pub mod Moment
+pub mod Sound
+pub mod Issued
+pub mod Living
+pub mod LogsInRuns
+pub mod CommittedGrows

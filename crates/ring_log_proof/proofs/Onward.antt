@@ -1,0 +1,161 @@
+-- As lives go on, what is settled stays settled, and what is committed grows.
+use Rattle.std.proofs.Common.{◌≡◌, ℕ, ◌≤◌, true, false, List, [], ◌∷◌, ◌++◌, length, Option, Some, None, inl, inr}
+use Rattle.std.proofs.Common.{refl, ap, sym, ◌∙◌, subst, arith}
+use Rattle.std.specs.Prelude.{nat_le, nat_lt}
+use Rattle.std.proofs.lemmas.Bool.{cond_both, leb-true, le-leb, ltb-true, lt-ltb, cases_lt}
+use Rattle.ring_base.specs.Fronts.{IsFront, front_self, front_trans, front_length}
+use Rattle.ring_base.specs.Group.{Group}
+use Rattle.ring_base.specs.Processors.{IsMember}
+use Rattle.ring_base.specs.declared.ring_id.RingId.{RingId}
+use Rattle.ring_payload.specs.declared.call.Call.{Call as OneCall}
+use Rattle.ring_wire.specs.declared.message.Message.{Message}
+use Rattle.ring_log.specs.Stays.{Stay}
+use Rattle.ring_log.specs.Lives.{Whole, exchanged, calls_in, own_base, log_of, upto, longer, committed_by, committed_of, older_at, owner_log, base_of}
+use Rattle.ring_log_proof.specs.RingFacts.{IsStay, StayIn, safe_part, RingFacts}
+use Rattle.ring_log_proof.specs.Discipline.{KeepsDiscipline}
+use Rattle.ring_log_proof.specs.Time.{Grows, LivesOn}
+use Rattle.ring_log_proof.proofs.Wholes.{grown, exchanged-front, log_on, grown-front}
+use Rattle.ring_log_proof.proofs.Stays.{older-in}
+use Rattle.ring_log_proof.proofs.HonestExchanges.{Outcome}
+use Rattle.ring_log_proof.proofs.Heads.{Says, log_before, outcome, base-owner}
+use Rattle.ring_log_proof.proofs.Hard.{shared}
+use Rattle.ring_log_proof.proofs.Settled.{SettledBelow, ground-text}
+
+pub grows-self : {A : Type 0} (s : Stay A) → Grows s s
+grows-self s = record { ring = refl; members = refl; heard = front_self s.heard; mark = omega arith; sent = front_self s.sent }
+
+stay-behind : {A : Type 0} (newer life : List (Stay A)) (s : Stay A) (older : List (Stay A)) → IsStay life s older → IsStay (newer ++ life) s older
+stay-behind [] life s older h = h
+stay-behind (t ∷ newer) life s older h = inr (stay-behind newer life s older h)
+
+-- each stay is still there, over the same life before it
+pub record StillThere {A : Type 0} (after : List (Stay A)) (s : Stay A) (older : List (Stay A)) : Type 0 where
+  pub stay : Stay A
+  pub there : IsStay after stay older
+  pub grows : Grows s stay
+
+pub still-there : {A : Type 0} (life after : List (Stay A)) (s : Stay A) (older : List (Stay A)) → LivesOn life after → IsStay life s older
+    → StillThere after s older
+still-there [] after s older on h = absurd h
+still-there (t ∷ before) after s older on (inl x) = record {
+  stay = on.1;
+  there = subst (λ l. IsStay l on.1 older) (sym on.2) (stay-behind on.0 (on.1 ∷ before) on.1 older (inl (refl, x.1)));
+  grows = subst (λ u. Grows u on.1) x.0 on.3;
+}
+still-there (t ∷ before) after s older on (inr x) = record {
+  stay = s;
+  there = subst (λ l. IsStay l s older) (sym on.2) (stay-behind on.0 (on.1 ∷ before) s older (inr x));
+  grows = grows-self s;
+}
+
+-- Committed lengths never fall
+
+upto-grows : {A : Type 0} (low high : ℕ) (xs ys : List (Message A)) → low ≤ high → IsFront xs ys → IsFront (upto low xs) (upto high ys)
+upto-grows low high [] ys le f = (upto high ys, refl)
+upto-grows low high (x ∷ xs) [] le f = absurd (cc (f.1))
+upto-grows {A} low high (x ∷ xs) (y ∷ ys) le f =
+    let same : y ≡ x = cc (f.1) in
+    subst (λ (z : Message A). IsFront (upto low (x ∷ xs)) (upto high (z ∷ ys))) (sym same)
+    (cond_both (nat_le x.number low) (x ∷ upto low xs) [] (λ l. IsFront l (upto high (x ∷ ys)))
+    (λ t.
+    let more = upto-grows low high xs ys le (f.0, cc (f.1)) in
+    cond_both (nat_le x.number high) (x ∷ upto high ys) [] (λ l. IsFront (x ∷ upto low xs) l)
+    (λ u. (more.0, ap (λ l. x ∷ l) more.1))
+    (λ u. absurd (let k : true ≡ false = sym (le-leb x.number high (omega (arith, le, leb-true x.number low t))) ∙ u in cc k)))
+    (λ t. (upto high (x ∷ ys), refl)))
+
+longer-most : {A : Type 0} (old new : List (OneCall A)) → (length old ≤ length (longer old new)) × (length new ≤ length (longer old new))
+longer-most old new =
+    cond_both (nat_lt (length old) (length new)) new old (λ l. (length old ≤ length l) × (length new ≤ length l))
+    (λ t. (omega (arith, ltb-true (length old) (length new) t), omega arith)) (λ f. (omega arith, not_less (length old) (length new) f))
+  where
+    not_less : (m n : ℕ) → nat_lt m n ≡ false → n ≤ m
+    not_less m n f = elim (cases_lt m n) as (λ _. n ≤ m) [ inl l ↦ absurd (let k : true ≡ false = sym (lt-ltb m n l) ∙ f in cc k) | inr le ↦ le ]
+
+module _ {A : Type 0} (group : Group) where
+  committed-least : (log old : List (OneCall A)) (o : Option (Whole A)) → length old ≤ length (committed_by log old o)
+  committed-least log old None = omega arith
+  committed-least log old (Some w) = (longer-most old (log_on (own_base log) w)).0
+
+  -- rings that come leave what was committed
+  committed-newer : (newer life : List (Stay A)) → length (committed_of group life) ≤ length (committed_of group (newer ++ life))
+  committed-newer [] life = omega arith
+  committed-newer (s ∷ newer) life =
+      let rest = committed-newer newer life in
+      let here = committed-least (log_of group (newer ++ life)) (committed_of group (newer ++ life)) (exchanged group s.members (safe_part s)) in
+      omega arith
+
+  committed-grown : (log old : List (OneCall A)) (m : ℕ) (xs ys : List (Message A)) (o : Option (Whole A)) → exchanged group m xs ≡ o → IsFront xs ys
+      → length (committed_by log old o) ≤ length (committed_by log old (exchanged group m ys))
+  committed-grown log old m xs ys None e f = committed-least log old (exchanged group m ys)
+  committed-grown log old m xs ys (Some w) e f =
+      let there = exchanged-front group m xs ys w e f in
+      let longest = longer-most old (log_on (own_base log) (grown w f.0)) in
+      let front = front_length (log_on (own_base log) w) (log_on (own_base log) (grown w f.0)) (grown-front (own_base log) w f.0) in
+      let now : committed_by log old (exchanged group m ys) ≡ longer old (log_on (own_base log) (grown w f.0)) = ap (committed_by log old) there in
+      cond_both (nat_lt (length old) (length (log_on (own_base log) w))) (log_on (own_base log) w) old
+      (λ l. length l ≤ length (committed_by log old (exchanged group m ys)))
+      (λ t. omega (arith, longest.1, front, ap length now)) (λ f. omega (arith, longest.0, ap length now))
+
+  pub committed-longer : (life after : List (Stay A)) → LivesOn life after → length (committed_of group life) ≤ length (committed_of group after)
+  committed-longer [] after on = omega arith
+  committed-longer (s ∷ older) after on =
+      let t = on.1 in
+      let log = log_of group older in
+      let old = committed_of group older in
+      let safe = upto-grows s.mark t.mark s.heard t.heard on.3.mark on.3.heard in
+      let here : length (committed_of group (s ∷ older)) ≤ length (committed_by log old (exchanged group s.members (safe_part t))) =
+      committed-grown log old s.members (safe_part s) (safe_part t) (exchanged group s.members (safe_part s)) refl safe in
+      let set : committed_by log old (exchanged group s.members (safe_part t)) ≡ committed_of group (t ∷ older) =
+      ap (λ m. committed_by log old (exchanged group m (safe_part t))) on.3.members in
+      let newer = committed-newer on.0 (t ∷ older) in
+      let is : length (committed_of group after) ≡ length (committed_of group (on.0 ++ t ∷ older)) = ap (λ l. length (committed_of group l)) on.2 in
+      omega (arith, here, ap length set, newer, is)
+
+-- A later moment
+
+module _ {A : Type 0} (group : Group) (lives after : ℕ → List (Stay A)) (members members' : RingId → ℕ) (text text' : RingId → List (Message A))
+    (facts : RingFacts lives members text) (facts' : RingFacts after members' text')
+    (disc : KeepsDiscipline group lives) (disc' : KeepsDiscipline group after) (on : (p : ℕ) → LivesOn (lives p) (after p)) where
+  later-in : (p : ℕ) (r : RingId) → (at : StayIn (lives p) r) → (now : StayIn (after p) r) × (at.older ≡ now.older) × Grows at.stay now.stay
+  later-in p r at =
+      let s = still-there (lives p) (after p) at.stay at.older (on p) at.there in
+      (record { stay = s.stay; older = at.older; there = s.there; ring = sym s.grows.ring ∙ at.ring }, refl, s.grows)
+
+  -- a ring's members are the same
+  members-later : (p : ℕ) (r : RingId) → StayIn (lives p) r → members r ≡ members' r
+  members-later p r at =
+      let now = later-in p r at in
+      sym (facts.one_set p at.stay at.older at.there ∙ ap members at.ring) ∙ now.2.members ∙ facts'.one_set p now.0.stay now.0.older now.0.there
+      ∙ ap members' now.0.ring
+
+  -- and so is its base
+  base-later : (r : RingId) (w : Whole A) → Outcome (Says group lives r) (log_before group lives r) (members r) w.exchange
+      → base_of group lives r w.exchange ≡ base_of group after r w.exchange
+  base-later r w o =
+      let q = o.w.owner in
+      let at = o.says.0 in
+      let now = later-in q r at in
+      let there : older_at r.seq (after q) ≡ at.older = older-in (after q) r (facts'.rises q) now.0 ∙ sym now.1 in
+      base-owner group lives members text facts disc r w o ∙ sym (ap (log_of group) there) ∙ sym (ap (owner_log group after r) o.is)
+
+  pub settled-onward : (bound : ℕ) (calls : List (OneCall A)) → SettledBelow group lives members bound calls → SettledBelow group after members' bound calls
+  settled-onward bound calls settled =
+      let g = settled.0 in
+      let r = g.ring in
+      let s = shared group lives members text facts disc r r g.front g.front g.whole g.whole g.exch g.exch in
+      let same : members r ≡ members' r = members-later s.0 r (g.safe s.0 s.1).0 in
+      let o = outcome group lives members text facts disc r g.front g.whole (ground-text group lives members text facts disc bound g) g.exch in (
+        record {
+          ring = r;
+          low = g.low;
+          front = g.front;
+          whole = g.whole;
+          exch = subst (λ m. exchanged group m g.front ≡ Some g.whole) same g.exch;
+          safe = λ p i.
+              let h = g.safe p (subst (λ m. IsMember m p) (sym same) i) in
+              let now = later-in p r h.0 in
+              (now.0, front_trans g.front h.0.stay.heard now.0.stay.heard h.1 now.2.heard);
+        },
+        subst (λ b. IsFront calls (b ++ calls_in g.whole.rest)) (base-later r g.whole o) settled.1,
+      )

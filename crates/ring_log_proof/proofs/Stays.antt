@@ -1,0 +1,86 @@
+-- The stays of one life: which is below which, and what was before each.
+use Rattle.std.proofs.Common.{◌≡◌, ℕ, suc, ◌≤◌, ◌<◌, ◌==◌, true, false, List, [], ◌∷◌, inl, inr, ap, sym, ◌∙◌, subst, arith}
+use Rattle.std.specs.List.{AllByRecursion as Each}
+use Rattle.std.proofs.lemmas.Bool.{cond_both, eqb-true, eq-eqb}
+use Rattle.ring_base.specs.declared.ring_id.RingId.{RingId}
+use Rattle.ring_log.specs.Stays.{Stay}
+use Rattle.ring_log.specs.Lives.{older_at}
+use Rattle.ring_log_proof.specs.RingFacts.{IsStay, StayIn, Rises}
+
+pub stay-each : {A : Type 0} (P : Stay A → Type 0) (life : List (Stay A)) (s : Stay A) (older : List (Stay A)) → Each P life → IsStay life s older → P s
+stay-each P [] s older h i = absurd i
+stay-each P (t ∷ before) s older h (inl e) = subst P e.0 h.0
+stay-each P (t ∷ before) s older h (inr i) = stay-each P before s older h.1 i
+
+-- each earlier stay has a smaller number
+pub top-above : {A : Type 0} (t : Stay A) (before : List (Stay A)) (s : Stay A) (older : List (Stay A)) → Rises (t ∷ before) → IsStay before s older
+    → s.ring.seq < t.ring.seq
+top-above t before s older r i = stay-each (λ (u : Stay _). u.ring.seq < t.ring.seq) before s older r.0 i
+
+pub seq-same : {A : Type 0} {s t : Stay A} → s ≡ t → s.ring.seq ≡ t.ring.seq
+seq-same {A} e = ap (λ (u : Stay A). u.ring.seq) e
+
+-- a stay of a smaller number was before
+pub stay-below : {A : Type 0} (life : List (Stay A)) (a b : Stay A) (before_a before_b : List (Stay A)) → Rises life → IsStay life a before_a
+    → IsStay life b before_b → a.ring.seq < b.ring.seq → IsStay before_b a before_a
+stay-below [] a b oa ob r ha hb l = absurd ha
+stay-below (t ∷ before) a b oa ob r (inl x) (inl y) l = absurd (omega (arith, l, seq-same x.0, seq-same y.0))
+stay-below (t ∷ before) a b oa ob r (inl x) (inr y) l = absurd (omega (arith, l, top-above t before b ob r y, seq-same x.0))
+stay-below (t ∷ before) a b oa ob r (inr x) (inl y) l = subst (λ w. IsStay w a oa) y.1 x
+stay-below (t ∷ before) a b oa ob r (inr x) (inr y) l = stay-below before a b oa ob r.1 x y l
+
+-- a number has one stay, and one life before it
+pub stay-same : {A : Type 0} (life : List (Stay A)) (a b : Stay A) (before_a before_b : List (Stay A)) → Rises life → IsStay life a before_a
+    → IsStay life b before_b → a.ring.seq ≡ b.ring.seq → (a ≡ b) × (before_a ≡ before_b)
+stay-same [] a b oa ob r ha hb e = absurd ha
+stay-same (t ∷ before) a b oa ob r (inl x) (inl y) e = (sym x.0 ∙ y.0, sym x.1 ∙ y.1)
+stay-same (t ∷ before) a b oa ob r (inl x) (inr y) e = absurd (omega (arith, e, top-above t before b ob r y, seq-same x.0))
+stay-same (t ∷ before) a b oa ob r (inr x) (inl y) e = absurd (omega (arith, e, top-above t before a oa r x, seq-same y.0))
+stay-same (t ∷ before) a b oa ob r (inr x) (inr y) e = stay-same before a b oa ob r.1 x y e
+
+pub stay-trans : {A : Type 0} (life : List (Stay A)) (s t : Stay A) (before_s before_t : List (Stay A)) → IsStay life s before_s
+    → IsStay before_s t before_t → IsStay life t before_t
+stay-trans [] s t os ot h k = absurd h
+stay-trans (u ∷ us) s t os ot (inl x) k = inr (subst (λ w. IsStay w t ot) (sym x.1) k)
+stay-trans (u ∷ us) s t os ot (inr x) k = inr (stay-trans us s t os ot x k)
+
+pub rises-older : {A : Type 0} (life : List (Stay A)) (s : Stay A) (older : List (Stay A)) → Rises life → IsStay life s older → Rises older
+rises-older [] s older r h = absurd h
+rises-older (u ∷ us) s older r (inl x) = subst Rises x.1 r.1
+rises-older (u ∷ us) s older r (inr x) = rises-older us s older r.1 x
+
+-- what was before a stay has smaller numbers
+pub older-below : {A : Type 0} (life : List (Stay A)) (s t : Stay A) (before_s before_t : List (Stay A)) → Rises life → IsStay life s before_s
+    → IsStay before_s t before_t → t.ring.seq < s.ring.seq
+older-below [] s t os ot r h k = absurd h
+older-below (u ∷ us) s t os ot r (inl x) k = omega (arith, top-above u us t ot r (subst (λ w. IsStay w t ot) (sym x.1) k), seq-same x.0)
+older-below (u ∷ us) s t os ot r (inr x) k = older-below us s t os ot r.1 x k
+
+-- what was before the ring of a number is found by the number
+pub older-is : {A : Type 0} (life : List (Stay A)) (s : Stay A) (older : List (Stay A)) → Rises life → IsStay life s older → older_at s.ring.seq life ≡ older
+older-is [] s older r h = absurd h
+older-is (t ∷ before) s older r (inl x) =
+    cond_both (t.ring.seq == s.ring.seq) before (older_at s.ring.seq before) (λ w. w ≡ older)
+    (λ e. x.1)
+    (λ n. absurd (let y : true ≡ false = sym (eq-eqb t.ring.seq s.ring.seq (seq-same x.0)) ∙ n in cc y))
+older-is (t ∷ before) s older r (inr x) =
+    cond_both (t.ring.seq == s.ring.seq) before (older_at s.ring.seq before) (λ w. w ≡ older)
+    (λ e. absurd (omega (arith, top-above t before s older r x, eqb-true t.ring.seq s.ring.seq e)))
+    (λ n. older-is before s older r.1 x)
+
+-- so of a ring in which the life has a stay
+pub older-in : {A : Type 0} (life : List (Stay A)) (r : RingId) → Rises life → (at : StayIn life r) → older_at r.seq life ≡ at.older
+older-in life r rises at = subst (λ (q : RingId). older_at q.seq life ≡ at.older) at.ring (older-is life at.stay at.older rises at.there)
+
+-- A number above a life's rings
+
+pub above : {A : Type 0} → List (Stay A) → ℕ
+above [] = 0
+above (s ∷ older) = suc s.ring.seq
+
+pub below-above : {A : Type 0} (life : List (Stay A)) (bound : ℕ) → Rises life → above life ≤ bound → (s : Stay A) (older : List (Stay A))
+    → IsStay life s older → s.ring.seq < bound
+unfolding above
+below-above [] bound rises le s older h = absurd h
+below-above (t ∷ before) bound rises le s older (inl e) = omega (arith, le, seq-same e.0)
+below-above (t ∷ before) bound rises le s older (inr i) = omega (arith, le, top-above t before s older rises i)

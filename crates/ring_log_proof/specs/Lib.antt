@@ -1,0 +1,5 @@
+pub mod RingFacts
+pub mod Discipline
+pub mod Settled
+pub mod Time
+pub mod Examples

@@ -1,5 +1,0 @@
-pub mod Facts
-pub mod Discipline
-pub mod Settled
-pub mod Time
-pub mod Examples

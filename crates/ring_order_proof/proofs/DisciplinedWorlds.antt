@@ -1,0 +1,167 @@
+-- Each event of a world of nodes, and so every list of them, keeps the discipline of each node, and lets its life go on.
+use Rattle.std.proofs.Common.{◌≡◌, ℕ, Bool, true, false, ◌==◌, inl, inr, List, [], ◌∷◌, Option, Some, None, refl, ap, sym, ◌∙◌, subst, arith}
+use Rattle.std.specs.Prelude.{nat_le, ◌&&◌, if◌then◌else◌}
+use Rattle.std.proofs.lemmas.Bool.{cond_both, eqb-true}
+use Rattle.ring_base.specs.Group.{Group}
+use Rattle.ring_base.specs.Processors.{only, has}
+use Rattle.ring_base.specs.declared.fault.Fault.{Fault}
+use Rattle.ring_object.specs.Operations.{Sequential}
+use Rattle.ring_payload.specs.declared.call.Call.{Call as OneCall}
+use Rattle.ring_wire.specs.declared.frame.Frame.{Frame}
+use Rattle.ring_core.specs.State.{Carried, frame_at}
+use Rattle.ring_log.specs.Stays.{Stay, stay_in}
+use Rattle.ring_rules.specs.declared.input.Input.{Input as NodeInput}
+use Rattle.ring_rules.specs.declared.input.Input.TheVariants.{Frame as NodeFrame, Timeout as NodeTime}
+use Rattle.ring_rules.specs.Nodes.{Node, node_opening}
+use Rattle.ring_rules.specs.Stepping.{submit_fault}
+use Rattle.ring_rules.specs.declared.event.Event.{Event}
+use Rattle.ring_rules.specs.declared.event.Event.TheVariants.{Issue, Deliver, Noise, Timeout, Stop}
+use Rattle.ring_rules.specs.Worlds.{World, put, world_opening, is_node, issued_or, issued_if, stopped_if}
+use Rattle.ring_rules.specs.Worlds.{stepped_if, handed_if, handed, happens, run}
+use Rattle.ring_log_proof.specs.Discipline.{KeepsDiscipline}
+use Rattle.ring_log_proof.specs.Time.{AllMayHappen, LivesOn}
+use Rattle.ring_log_proof.proofs.Living.{on-self, on-trans, events-on, events-orderly}
+use Rattle.ring_synchrony_proof.proofs.Ordered.{opening_ordered}
+use Rattle.ring_order_proof.specs.Living.{lives_of}
+use Rattle.ring_order_proof.proofs.DisciplinedNodes.{IsOrderlyNode, Becomes, node_becomes, node_stops, node_submits}
+use Rattle.ring_log_proof.proofs.Living.{IsOrderly}
+
+-- A node of a group, its life orderly
+pub record IsNodeKept {A : Type 0} (group : Group) (n : Node A) : Type 0 where
+  pub group_is : n.group ≡ group
+  pub orderly : IsOrderlyNode n
+  pub keeps : IsOrderly group n.life
+
+-- and what it became
+pub record GoesOn {A : Type 0} (group : Group) (n new : Node A) : Type 0 where
+  pub kept : IsNodeKept group new
+  pub on : LivesOn n.life new.life
+
+goes_on : {A : Type 0} → (group : Group) (n new : Node A) → IsNodeKept group n → Becomes n new → GoesOn group n new
+goes_on {A} group n new k b =
+    let may : AllMayHappen group n.life b.events = subst (λ g. AllMayHappen g n.life b.events) k.group_is b.may in
+    record {
+      kept = record {
+        group_is = b.group ∙ k.group_is;
+        orderly = b.orderly;
+        keeps = subst (λ (l : List (Stay A)). IsOrderly group l) (sym b.lives) (events-orderly group n.life b.events may k.keeps);
+      };
+      on = subst (λ (l : List (Stay A)). LivesOn n.life l) (sym b.lives) (events-on group n.life b.events may);
+    }
+
+same_goes_on : {A : Type 0} → (group : Group) (n : Node A) → IsNodeKept group n → GoesOn group n n
+same_goes_on group n k = record { kept = k; on = on-self n.life }
+
+-- All nodes of a world
+
+pub record AllGoOn {A : Type 0} (group : Group) (w after : World A) : Type 0 where
+  pub group_is : after.group ≡ w.group
+  pub nodes : (i : ℕ) → GoesOn group (w.nodes i) (after.nodes i)
+
+abbrev pub AllKept : {A : Type 0} → Group → World A → Type 0
+AllKept group w = (i : ℕ) → IsNodeKept group (w.nodes i)
+
+all_same : {A : Type 0} → (group : Group) (w : World A) → AllKept group w → AllGoOn group w w
+all_same group w k = record { group_is = refl; nodes = λ i. same_goes_on group (w.nodes i) (k i) }
+
+one_put : {A : Type 0} → (group : Group) (nodes : ℕ → Node A) (i : ℕ) (n : Node A) → ((j : ℕ) → IsNodeKept group (nodes j)) → GoesOn group (nodes i) n → (j : ℕ) →
+    GoesOn group (nodes j) (put nodes i n j)
+one_put {A} group nodes i n k g j =
+    cond_both (j == i) n (nodes j) (λ (m : Node A). GoesOn group (nodes j) m)
+    (λ e. subst (λ q. GoesOn group (nodes q) n) (sym (eqb-true j i e)) g) (λ e. same_goes_on group (nodes j) (k j))
+
+module _ {O A : Type 0} (object : Sequential O) (group : Group) (w : World A) (k : AllKept group w) where
+  steps_on : (i : ℕ) (input : NodeInput A) (b : Bool) → AllGoOn group w (stepped_if object b w i input)
+  steps_on i input false = all_same group w k
+  steps_on i input true =
+      record { group_is = refl; nodes = one_put group w.nodes i _ k (goes_on group (w.nodes i) _ (k i) (node_becomes object (w.nodes i) input (k i).orderly)) }
+
+  issues_or : (i : ℕ) (c : OneCall A) (fault : Option Fault) → AllGoOn group w (issued_or fault w i c)
+  issues_or i c (Some fault) = record { group_is = refl; nodes = λ j. same_goes_on group (w.nodes j) (k j) }
+  issues_or i c None =
+      record { group_is = refl; nodes = one_put group w.nodes i _ k (goes_on group (w.nodes i) _ (k i) (node_submits (w.nodes i) c (k i).orderly)) }
+
+  issues_if : (i : ℕ) (c : OneCall A) (b : Bool) → AllGoOn group w (issued_if b w i c)
+  issues_if i c false = all_same group w k
+  issues_if i c true = issues_or i c (submit_fault (w.nodes i))
+
+  stops_if : (i : ℕ) (b : Bool) → AllGoOn group w (stopped_if b w i)
+  stops_if i false = all_same group w k
+  stops_if i true =
+      record { group_is = refl; nodes = one_put group w.nodes i _ k (goes_on group (w.nodes i) _ (k i) (node_stops (w.nodes i) (k i).orderly)) }
+
+  hands_if : (i : ℕ) (frame : Frame A) (b : Bool) → AllGoOn group w (handed_if object b w i frame)
+  hands_if i frame false = all_same group w k
+  hands_if i frame true = steps_on i (NodeFrame frame) (is_node w i)
+
+  hands_on : (i : ℕ) (f : Option (Carried A)) → AllGoOn group w (handed object w i f)
+  hands_on i None = all_same group w k
+  hands_on i (Some f) = hands_if i f.frame (has f.to i)
+
+  event_on : (e : Event A) → AllGoOn group w (happens object w e)
+  event_on (Issue i c) = issues_if i c (is_node w i)
+  event_on (Deliver i n) = hands_on i (frame_at w.frames n)
+  event_on (Noise i bytes) = all_same group w k
+  event_on (Timeout i kind) = steps_on i (NodeTime kind) (is_node w i)
+  event_on (Stop i) = stops_if i (is_node w i)
+
+then_on : {A : Type 0} → (group : Group) (a b c : World A) → AllGoOn group a b → AllGoOn group b c → AllGoOn group a c
+then_on group a b c f g =
+    record {
+      group_is = g.group_is ∙ f.group_is;
+      nodes = λ i. record { kept = (g.nodes i).kept; on = on-trans (a.nodes i).life (b.nodes i).life (c.nodes i).life (f.nodes i).on (g.nodes i).on };
+    }
+
+pub run_on : {O A : Type 0} → (object : Sequential O) (group : Group) (w : World A) → AllKept group w
+    → (events : List (Event A)) → AllGoOn group w (run object w events)
+run_on object group w k [] = all_same group w k
+run_on object group w k (e ∷ events) =
+    let one = event_on object group w k e in
+    then_on group w (happens object w e) (run object (happens object w e) events) one
+    (run_on object group (happens object w e) (λ i. (one.nodes i).kept) events)
+
+-- At the opening
+
+opening_kept : {A : Type 0} → (group : Group) (me : ℕ) → IsNodeKept group (node_opening {A = A} group me)
+opening_kept {A} group me =
+    record {
+      group_is = refl;
+      orderly = record {
+        stay = stay_in (record { seq = 0; rep = me }) (only me);
+        older = [];
+        life = refl;
+        stands = record { ring = refl; members = refl; marked = omega arith; opened = λ e. absurd (let x : ⊥ = cc in x) };
+        rings = refl;
+        ordered = opening_ordered A group.count me;
+        ready = refl;
+      };
+      keeps = λ s older i. elim (i) [ inl e ↦ inl (ap (λ (t : Stay A). t.sent) (sym e.0)) | inr n ↦ absurd n ];
+    }
+
+pub opened_on : {O A : Type 0} → (object : Sequential O) (group : Group) (events : List (Event A))
+    → AllGoOn group (world_opening group) (run object (world_opening group) events)
+opened_on object group events = run_on object group (world_opening group) (opening_kept group) events
+
+-- The lives of the group's processors
+
+pub lives_keep : {O A : Type 0} → (object : Sequential O) (group : Group) (events : List (Event A))
+    → KeepsDiscipline group (lives_of (run object (world_opening group) events))
+lives_keep {O} {A} object group events p =
+    let w = run object (world_opening group) events in
+    cond_both (is_node w p) (w.nodes p).life [] (λ (l : List (Stay A)). IsOrderly group l)
+    (λ e. ((opened_on object group events).nodes p).kept.keeps) (λ e s older i. absurd i)
+
+pub lives_on : {O A : Type 0} → (object : Sequential O) (group : Group) (before later : List (Event A)) (i : ℕ) →
+    LivesOn (lives_of (run object (world_opening group) before) i) (lives_of (run object (run object (world_opening group) before) later) i)
+lives_on {O} {A} object group before later i =
+    let w = run object (world_opening group) before in
+    let first = opened_on object group before in
+    let more = run_on object group w (λ j. (first.nodes j).kept) later in
+    let after = run object w later in
+    let same : is_node after i ≡ is_node w i = ap (λ (g : Group). nat_le 1 i && nat_le i g.count) more.group_is in
+    subst (λ b. LivesOn (lives_of w i) (if b then (after.nodes i).life else [])) (sym same)
+    (cond_on (is_node w i) (w.nodes i).life (after.nodes i).life (more.nodes i).on)
+  where
+    cond_on : (b : Bool) (x y : List (Stay A)) → LivesOn x y → LivesOn (if b then x else []) (if b then y else [])
+    cond_on true x y h = h
+    cond_on false x y h = tt

@@ -1,0 +1,130 @@
+-- In every run each ticket's call was issued, and so was each call handed over; and each node has the world's group.
+use Rattle.std.proofs.Common.{◌≡◌, ℕ, suc, zero, ◌==◌, Bool, true, false, List, [], ◌∷◌, ◌++◌, Option, Some, None, refl, subst, ◌∙◌, inl, inr}
+use Rattle.std.proofs.lemmas.Bool.{cond_both}
+use Rattle.ring_base.specs.Fronts.{front_get, front_append}
+use Rattle.ring_base.specs.Group.{Group}
+use Rattle.ring_base.specs.Processors.{has}
+use Rattle.ring_base.specs.declared.fault.Fault.{Fault}
+use Rattle.ring_object.specs.Operations.{Sequential}
+use Rattle.ring_payload.specs.declared.call.Call.{Call}
+use Rattle.ring_core.specs.State.{Carried, Stepped, frame_at}
+use Rattle.ring_core.specs.Stepping.{ring_step}
+use Rattle.ring_core.specs.declared.input.Input.TheVariants.{Frame as CoreFrame, Timeout as CoreTimeout}
+use Rattle.ring_core.specs.declared.out.Out.{Out}
+use Rattle.ring_log.specs.Stays.{Stay, born}
+use Rattle.ring_log.specs.Lives.{is_sound}
+use Rattle.ring_rules.specs.Lives.{lived_through}
+use Rattle.ring_rules.specs.Nodes.{Node, node_stopped}
+use Rattle.ring_rules.specs.Dues.{due_by}
+use Rattle.ring_rules.specs.declared.input.Input.{Input}
+use Rattle.ring_rules.specs.declared.input.Input.TheVariants.{Frame as FrameInput, Noise as NoiseInput, Timeout as TimeInput, Stop as StopInput}
+use Rattle.ring_rules.specs.Stepping.{settled, walked, after_core, node_step, submit_fault, submitted}
+use Rattle.ring_rules.specs.declared.event.Event.{Event}
+use Rattle.ring_rules.specs.declared.event.Event.TheVariants.{Issue, Deliver, Noise, Timeout, Stop}
+use Rattle.ring_rules.specs.declared.item.Item.{Item}
+use Rattle.ring_rules.specs.declared.item.Item.TheVariants.{Issue as IssuedItem}
+use Rattle.ring_rules.specs.declared.told.Told.{Told}
+use Rattle.ring_rules.specs.Histories.{IsIssuedAt}
+use Rattle.ring_rules.specs.Worlds.{World, world_opening, put, is_node, items_of, after_step, issued_or, issued_if}
+use Rattle.ring_rules.specs.Worlds.{stopped_if, stepped_if, handed_if, handed, happens, run}
+use Rattle.ring_log_proof.specs.RingFacts.{IsStay}
+use Rattle.ring_log_proof.specs.Time.{IsKnownCall}
+use Rattle.std.specs.List.{AllByRecursion as Each}
+pub use Rattle.ring_order_proof.proofs.DisciplinedWorlds.{lives_on}
+use Rattle.ring_order_proof.proofs.HandedTickets.{NodeKnows, step-known, submitted-known, stopped-known, knows-more}
+
+abbrev pub IssuedIn : {A : Type 0} → List (Item A) → Call A → Type 0
+IssuedIn history c = (k : ℕ) × IsIssuedAt history c k
+
+pub issued-more : {A : Type 0} (history items : List (Item A)) (c : Call A) → IssuedIn history c → IssuedIn (history ++ items) c
+issued-more history items c i = (i.0, front_get history (history ++ items) i.0 (IssuedItem c) (front_append history items) i.1)
+
+issued-last : {A : Type 0} (history : List (Item A)) (c : Call A) → IssuedIn (history ++ IssuedItem c ∷ []) c
+issued-last [] c = (zero, refl)
+issued-last (x ∷ history) c = let r = issued-last history c in (suc r.0, r.1)
+
+pub record WorldKnows {A : Type 0} (group : Group) (w : World A) : Type 0 where
+  pub here : w.group ≡ group
+  pub groups : (i : ℕ) → (w.nodes i).group ≡ group
+  pub knows : (i : ℕ) → NodeKnows (IssuedIn w.history) (w.nodes i)
+
+module _ {O A : Type 0} (object : Sequential O) where
+  settled-group : (b : Bool) (old new : Node A) (outs : List (Out A)) (life : List (Stay A)) → new.group ≡ old.group
+      → (settled object b old new outs life).node.group ≡ old.group
+  settled-group false old new outs life e = refl
+  settled-group true old new outs life e = e
+
+  core-group : (n : Node A) (s : Stepped A) → (after_core object n s).node.group ≡ n.group
+  core-group n s =
+      settled-group (is_sound n.group (lived_through n.life s.outs)) n (walked n s.core (lived_through n.life s.outs) (due_by n s.core n.life s.outs)) s.outs
+      (lived_through n.life s.outs) refl
+
+  step-group : (n : Node A) (input : Input A) → (node_step object n input).node.group ≡ n.group
+  step-group n (FrameInput frame) = core-group n (ring_step n.core (CoreFrame frame))
+  step-group n (TimeInput kind) = core-group n (ring_step n.core (CoreTimeout kind))
+  step-group n NoiseInput = refl
+  step-group n StopInput = refl
+
+  -- one node changes, and the history may grow
+  put-knows : (group : Group) (w : World A) (i : ℕ) (n : Node A) (frames : List (Carried A)) (history : List (Item A)) (told : List (Told A))
+      → WorldKnows group w
+      → ((c : Call A) → IssuedIn w.history c → IssuedIn history c) → n.group ≡ group → NodeKnows (IssuedIn history) n
+      → WorldKnows group (record { group = w.group; nodes = put w.nodes i n; frames = frames; history = history; told = told })
+  put-knows group w i n frames history told k more e h = record {
+    here = k.here;
+    groups = λ j. cond_both (j == i) n (w.nodes j) (λ (m : Node A). m.group ≡ group) (λ t. e) (λ f. k.groups j);
+    knows = λ j. cond_both (j == i) n (w.nodes j) (NodeKnows (IssuedIn history)) (λ t. h)
+        (λ f. knows-more (IssuedIn w.history) (IssuedIn history) more (w.nodes j) (k.knows j));
+  }
+
+  stepped-knows : (group : Group) (w : World A) (b : Bool) (i : ℕ) (input : Input A) → WorldKnows group w → WorldKnows group (stepped_if object b w i input)
+  stepped-knows group w false i input k = k
+  stepped-knows group w true i input k =
+      let s = node_step object (w.nodes i) input in
+      let w' = after_step w i s in
+      let known = step-known (IssuedIn w.history) object (w.nodes i) input (k.knows i) in
+      put-knows group w i s.node w'.frames w'.history w'.told k (issued-more w.history (items_of s.answers)) (step-group (w.nodes i) input ∙ k.groups i)
+      (knows-more (IssuedIn w.history) (IssuedIn (w.history ++ items_of s.answers)) (issued-more w.history (items_of s.answers)) s.node known)
+
+  issued-knows : (group : Group) (w : World A) (o : Option Fault) (i : ℕ) (c : Call A) → WorldKnows group w → WorldKnows group (issued_or o w i c)
+  issued-knows group w (Some fault) i c k = record { here = k.here; groups = k.groups; knows = k.knows }
+  issued-knows group w None i c k =
+      let more = issued-more w.history (IssuedItem c ∷ []) in
+      let now = w.history ++ IssuedItem c ∷ [] in
+      put-knows group w i (submitted (w.nodes i) c) w.frames now w.told k more (k.groups i)
+      (submitted-known (IssuedIn now) (w.nodes i) c (issued-last w.history c) (knows-more (IssuedIn w.history) (IssuedIn now) more (w.nodes i) (k.knows i)))
+
+  frame-knows : (group : Group) (w : World A) (o : Option (Carried A)) (i : ℕ) → WorldKnows group w → WorldKnows group (handed object w i o)
+  frame-knows group w None i k = k
+  frame-knows group w (Some f) i k = go (has f.to i)
+    where
+      go : (b : Bool) → WorldKnows group (handed_if object b w i f.frame)
+      go false = k
+      go true = stepped-knows group w (is_node w i) i (FrameInput f.frame) k
+
+  pub event-knows : (group : Group) (w : World A) (e : Event A) → WorldKnows group w → WorldKnows group (happens object w e)
+  event-knows group w (Issue i c) k = go (is_node w i)
+    where
+      go : (b : Bool) → WorldKnows group (issued_if b w i c)
+      go false = k
+      go true = issued-knows group w (submit_fault (w.nodes i)) i c k
+  event-knows group w (Deliver i n) k = frame-knows group w (frame_at w.frames n) i k
+  event-knows group w (Noise i bytes) k = k
+  event-knows group w (Timeout i kind) k = stepped-knows group w (is_node w i) i (TimeInput kind) k
+  event-knows group w (Stop i) k = go (is_node w i)
+    where
+      go : (b : Bool) → WorldKnows group (stopped_if b w i)
+      go false = k
+      go true = put-knows group w i (node_stopped (w.nodes i)) w.frames w.history w.told k (λ c h. h) (k.groups i)
+          (stopped-known (IssuedIn w.history) (w.nodes i) (k.knows i))
+
+  pub run-knows : (group : Group) (w : World A) (events : List (Event A)) → WorldKnows group w → WorldKnows group (run object w events)
+  run-knows group w [] k = k
+  run-knows group w (e ∷ events) k = run-knows group (happens object w e) events (event-knows group w e k)
+
+pub opening-knows : {A : Type 0} (group : Group) → WorldKnows {A = A} group (world_opening group)
+opening-knows {A} group = record { here = refl; groups = λ i. refl; knows = λ i. record { tickets = tt; sent = λ s older h. silent i s older h } }
+  where
+    silent : (i : ℕ) (s : Stay A) (older : List (Stay A)) → IsStay (born i) s older → Each (IsKnownCall (IssuedIn {A = A} [])) s.sent
+    silent i s older (inl e) = subst (λ (t : Stay A). Each (IsKnownCall (IssuedIn {A = A} [])) t.sent) e.0 tt
+    silent i s older (inr e) = absurd e

@@ -1,0 +1,75 @@
+-- ProjectedSends: Payloads handed to a core one after another, as events of a world of ring cores: only that core changes.
+-- ProjectedSteps: An event of a world of nodes, as events of a world of ring cores: the core's own, and what is handed over after it, or the core's
+--   stop.
+-- ProjectedEvents: Each event of a world of nodes, and so each list of them, is events of a world of ring cores.
+-- DisciplinedDues: What is due by what a core tells of a ring: Parts of the log that the node had before the ring, and calls; and nothing but in a
+--   primary ring that runs.
+-- DisciplinedTelling: A life as a core tells it: what is agreed and safe of a ring changes the newest stay alone, by events that may happen to a life;
+--   and what is due by it.
+-- DisciplinedSteps: A node's step: what its core tells changes its life by events that may happen, and what it hands over keeps the discipline.
+-- DisciplinedNodes: Each step of a node and each submit, and so each event of a world of nodes, keeps the discipline.
+-- DisciplinedWorlds: Each event of a world of nodes, and so every list of them, keeps the discipline of each node, and lets its life go on.
+-- Speaking: What a core said in a ring is a front of what was handed to it there; while it runs the ring, what it said and what waits in its queue are
+--   all of it.
+-- Numbering: A ring's text has the numbers 1, 2, 3 and so on; what a processor holds up to its front is a front of it, and what it said there is its
+--   own part.
+-- RunTexts: In every run of ring cores each ring has one text, all that was numbered in the visits of its token.
+-- SpeakingNodes: Each node of every world: what its core said in a ring is a front of what the node handed to it while it stayed there.
+-- LivesOfCores: The life of each node, what was handed over left out, is what its core's facts tell of each ring that it installed.
+-- MembersOfRings: The members of each ring are processors of the group, and a processor that isn't one of the group never visits a token.
+-- RingsOfRuns: What every run of ring cores has of a ring: its members, what each heard up to its front, and who heard what one of them knows as
+--   safe.
+-- RunFacts: The facts of every run of nodes, one by one: each node's life is what its core tells of the rings that it installed, and what a core said
+--   was handed to it.
+-- Between: The facts hold as well between a step of a node's core and what the node then hands over: the cores are still those of a run of ring cores.
+-- RepliesTold: Each reply that a step adds to the history is the session table's at a committed place of that node at which the call stands.
+-- HandedTickets: Each call that a node hands over is one of its tickets', and each ticket's call was issued.
+-- IssuedInWorlds: In every run each ticket's call was issued, and so was each call handed over; and each node has the world's group.
+-- Orderly: The lives of every run of at most 16 nodes are orderly: they have what ring cores give, and the nodes keep their discipline.
+-- OrderSteps: Each event of a run is a step by the rules of the one order, where the lives before and after it are orderly.
+-- OrderedRuns: In every run of at most 16 nodes the order explains the history, grows, and has what each node committed as a front.
+-- Bases: No base lacks committed places: it is so of the lives between a step of a core and what its node hands over, which are orderly too.
+-- SendCounts: How many frames one step gives: what a visit sends again, its new messages and the token, or one frame, and perhaps a proposal.
+-- AnswerCounts: How many answers come as places are committed: each ticket has one at most, and none that had one before.
+-- PendingTickets: In every run a node has at most 64 tickets without an answer: a submit is refused at 64, and what is committed only grows.
+-- LogLimits: What was heard keeps the limits: so does each call of the log that it makes, and the Head and the Parts that state this log.
+-- OutputLimits: What a step of a core tells keeps the limits: each message that is agreed does, in a ring that is counted, and each ring that is
+--   installed.
+-- DueLimits: What a node hands to its core keeps the limits: its Head, the Parts of its log, and the calls of its tickets.
+-- NodeLimits: A node keeps the limits after each step and each submit, where what comes and what is issued does; and so does each frame that a step
+--   sends.
+-- WorldLimits: Every frame ever sent keeps the limits, and every node does: after all events whose calls keep them.
+-- EventGrowth: How much one event adds to a world: at most so many frames, items and words told as one step gives.
+pub mod ProjectedSends
+pub mod ProjectedSteps
+pub mod ProjectedEvents
+pub mod DisciplinedDues
+pub mod DisciplinedTelling
+pub mod DisciplinedSteps
+pub mod DisciplinedNodes
+pub mod DisciplinedWorlds
+pub mod Speaking
+pub mod Numbering
+pub mod RunTexts
+pub mod SpeakingNodes
+pub mod LivesOfCores
+pub mod MembersOfRings
+pub mod RingsOfRuns
+pub mod RunFacts
+pub mod Between
+pub mod RepliesTold
+pub mod HandedTickets
+pub mod IssuedInWorlds
+pub mod Orderly
+pub mod OrderSteps
+pub mod OrderedRuns
+pub mod Bases
+pub mod SendCounts
+pub mod AnswerCounts
+pub mod PendingTickets
+pub mod LogLimits
+pub mod OutputLimits
+pub mod DueLimits
+pub mod NodeLimits
+pub mod WorldLimits
+pub mod EventGrowth

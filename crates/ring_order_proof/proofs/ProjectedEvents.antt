@@ -1,0 +1,111 @@
+-- Each event of a world of nodes, and so each list of them, is events of a world of ring cores.
+use Rattle.std.proofs.Common.{◌≡◌, ℕ, Bool, true, false, List, [], ◌∷◌, ◌++◌, Option, Some, None, refl, ap, sym, ◌∙◌, append-nil}
+use Rattle.ring_base.specs.Group.{Group}
+use Rattle.ring_base.specs.Processors.{has}
+use Rattle.ring_base.specs.declared.fault.Fault.{Fault}
+use Rattle.ring_base.proofs.TwoEqual.{ap-both}
+use Rattle.ring_object.specs.Operations.{Sequential}
+use Rattle.ring_payload.specs.declared.call.Call.{Call as OneCall}
+use Rattle.ring_core.specs.declared.input.Input.TheVariants.{Frame as FrameInput, Timeout as TimeInput}
+use Rattle.ring_core.specs.declared.out.Out.{Out}
+use Rattle.ring_core.specs.State.{Carried, frame_at}
+use Rattle.ring_rules.specs.declared.input.Input.TheVariants.{Frame as NodeFrame, Timeout as NodeTime}
+use Rattle.ring_rules.specs.Stepping.{due_by_submit, submit_fault, submitted}
+use Rattle.ring_rules.specs.declared.event.Event.{Event}
+use Rattle.ring_rules.specs.declared.event.Event.TheVariants.{Issue, Deliver, Noise, Timeout, Stop}
+use Rattle.ring_rules.specs.Worlds.{World, world_opening, is_node as is_world_node, issued_or, issued_if}
+use Rattle.ring_rules.specs.Worlds.{stopped_if as node_stopped_if}
+use Rattle.ring_rules.specs.Worlds.{stepped_if as node_stepped_if, handed_if as node_handed_if, handed as node_handed}
+use Rattle.ring_rules.specs.Worlds.{happens as node_happens, run as node_run}
+use Rattle.ring_core_proof.specs.declared.event.RingEvent.TheVariants.{Deliver as RingDeliver, Timeout as RingTimeout}
+use Rattle.ring_core_proof.specs.Worlds.{put, stepped_if, handed_if, handed, run}
+use Rattle.ring_order_proof.specs.Projection.{ring_part, IsRingRun}
+use Rattle.ring_order_proof.proofs.ProjectedSends.{sends_to, run-append, run_sends, handed_is}
+use Rattle.ring_order_proof.proofs.ProjectedSteps.{cores_of, hands_unsent, IsOver, Leads, stays, Becomes, becomes_part, becomes_over, halts, steps}
+
+module _ {O A : Type 0} (object : Sequential O) (w : World A) (outs : List (ℕ × Out A)) (over : IsOver w outs) where
+  -- a submit: what is due by it is handed over
+  takes : (i : ℕ) (c : OneCall A) → is_world_node w i ≡ true → (fault : Option Fault) → Leads w outs (issued_or fault w i c)
+  takes i c m (Some fault) = record { events = []; more = outs; part = refl; over = record { lives = over.lives; settled = over.settled } }
+  takes i c m None =
+      let n = w.nodes i in
+      let due = due_by_submit n c in
+      let new = submitted n c in
+      let after : World A = issued_or None w i c in
+      let b : Becomes w outs i new [] after = (refl, refl, sym (append-nil w.frames)) in
+      record {
+        events = sends_to i due;
+        more = outs ++ [];
+        part =
+            run_sends (ring_part w outs) i due m (over.settled i)
+            ∙ ap-both (λ frames more. record { total = w.group.count; cores = put (cores_of w.nodes) i new.core; frames = frames; outs = more })
+            (sym (append-nil w.frames)) (sym (append-nil outs))
+            ∙ becomes_part w outs i new [] after b;
+        over = becomes_over w outs i new [] after b over (hands_unsent due n.life) (handed_is n.core due (over.settled i));
+      }
+
+  issues : (i : ℕ) (c : OneCall A) (t : Bool) → is_world_node w i ≡ t → Leads w outs (issued_if t w i c)
+  issues i c false m = stays w outs over
+  issues i c true m = takes i c m (submit_fault (w.nodes i))
+
+  stops : (i : ℕ) (t : Bool) → is_world_node w i ≡ t → Leads w outs (node_stopped_if t w i)
+  stops i false m = stays w outs over
+  stops i true m = halts object w outs over i m (node_stopped_if true w i) (refl, refl, sym (append-nil w.frames))
+
+  times : (i : ℕ) (kind : _) (t : Bool) → is_world_node w i ≡ t → Leads w outs (node_stepped_if object t w i (NodeTime kind))
+  times i kind false m = stays w outs over
+  times i kind true m =
+      steps object w outs over i m (TimeInput kind) (RingTimeout i kind) (NodeTime kind) (ap (λ t. stepped_if t (ring_part w outs) i (TimeInput kind)) m) refl
+
+  -- a frame that was sent to the node
+  comes : (i k : ℕ) (f : Carried A) (t : Bool) → frame_at w.frames k ≡ Some f → has f.to i ≡ true → is_world_node w i ≡ t →
+      Leads w outs (node_stepped_if object t w i (NodeFrame f.frame))
+  comes i k f false e h m = stays w outs over
+  comes i k f true e h m =
+      steps object w outs over i m (FrameInput f.frame) (RingDeliver i k) (NodeFrame f.frame)
+      (ap (handed (ring_part w outs) i) e
+      ∙ ap (λ t. handed_if t (ring_part w outs) i f.frame) h
+      ∙ ap (λ t. stepped_if t (ring_part w outs) i (FrameInput f.frame)) m)
+      refl
+
+  comes_if : (i k : ℕ) (f : Carried A) (t : Bool) → frame_at w.frames k ≡ Some f → has f.to i ≡ t → Leads w outs (node_handed_if object t w i f.frame)
+  comes_if i k f false e h = stays w outs over
+  comes_if i k f true e h = comes i k f (is_world_node w i) e h refl
+
+  comes_some : (i k : ℕ) (f : Option (Carried A)) → frame_at w.frames k ≡ f → Leads w outs (node_handed object w i f)
+  comes_some i k None e = stays w outs over
+  comes_some i k (Some f) e = comes_if i k f (has f.to i) e refl
+
+  pub event_leads : (e : Event A) → Leads w outs (node_happens object w e)
+  event_leads (Issue i c) = issues i c (is_world_node w i) refl
+  event_leads (Deliver i k) = comes_some i k (frame_at w.frames k) refl
+  event_leads (Noise i bytes) = stays w outs over
+  event_leads (Timeout i kind) = times i kind (is_world_node w i) refl
+  event_leads (Stop i) = stops i (is_world_node w i) refl
+
+-- one after another
+leads_on : {A : Type 0} → (w : World A) (outs : List (ℕ × Out A)) (between : World A) (a : Leads w outs between)
+    (after : World A) → Leads between a.more after →
+    Leads w outs after
+leads_on w outs between a after b =
+    record {
+      events = a.events ++ b.events;
+      more = b.more;
+      part = run-append (ring_part w outs) a.events b.events ∙ ap (λ r. run r b.events) a.part ∙ b.part;
+      over = b.over;
+    }
+
+events_lead : {O A : Type 0} → (object : Sequential O) (w : World A) (outs : List (ℕ × Out A)) → IsOver w outs → (events : List (Event A)) →
+    Leads w outs (node_run object w events)
+events_lead object w outs over [] = stays w outs over
+events_lead object w outs over (e ∷ events) =
+    let a = event_leads object w outs over e in
+    leads_on w outs (node_happens object w e) a _ (events_lead object (node_happens object w e) a.more a.over events)
+
+pub ring_run : {O A : Type 0} → (object : Sequential O) (group : Group) (events : List (Event A))
+    → IsRingRun group (node_run object (world_opening group) events)
+ring_run {O} {A} object group events =
+    let w : World A = world_opening group in
+    let start : IsOver w [] = record { lives = λ i. refl; settled = λ i. refl } in
+    let l = events_lead object w [] start events in
+    record { events = l.events; outs = l.more; part = l.part; lives = l.over.lives }

@@ -1,0 +1,181 @@
+-- How many frames one step gives: what a visit sends again, its new messages and the token, or one frame, and perhaps a proposal.
+use Rattle.std.proofs.Common.{◌≡◌, suc, ◌≤◌, inl, inr, Bool, true, false, ◌==◌, List, [], ◌∷◌, ◌++◌, length, Option}
+use Rattle.std.proofs.Common.{Some, None, refl, ap, sym, ◌∙◌, subst, arith, append_assoc}
+use Rattle.std.specs.Prelude.{filter, filter_map, map, not, nat_lt, ◌&&◌}
+use Rattle.std.specs.List.{AllByRecursion as Each, cons_option}
+use Rattle.std.proofs.lemmas.Bool.{cond_both}
+use Rattle.std.proofs.lemmas.List.{length-append, length-map}
+use Rattle.std.proofs.lemmas.List.Elements.{filter_map-append}
+use Rattle.ring_base.specs.Processors.{nobody, only, less}
+use Rattle.ring_base.proofs.Each.{each-append}
+use Rattle.ring_object.specs.Operations.{Sequential}
+use Rattle.ring_wire.specs.Tokens.{TokenFits}
+use Rattle.ring_wire.specs.declared.frame.Frame.TheVariants.{Message as MessageFrame}
+use Rattle.ring_wire.specs.declared.message.Message.{Message}
+use Rattle.ring_wire.specs.declared.token.Token.{Token}
+use Rattle.ring_window.specs.Held.{found}
+use Rattle.ring_token.specs.Visits.{above_mark}
+use Rattle.ring_core.specs.declared.input.Input.{Input}
+use Rattle.ring_core.specs.declared.input.Input.TheVariants.{Frame as FrameInput, Timeout as TimeInput}
+use Rattle.ring_core.specs.declared.out.Out.{Out}
+use Rattle.ring_core.specs.declared.out.Out.TheVariants.{Send as SendOut, Agreed, Safe, Trans, Rest, Regular}
+use Rattle.ring_core.specs.State.{Core, Sent, Did}
+use Rattle.ring_core.specs.Views.{mark}
+use Rattle.ring_core.specs.Visiting.{repeated, new_payloads, new_messages, forwarded, to_next, visited}
+use Rattle.ring_core.specs.Deciding.{Act, Ignore, Enqueue, Repeat, Announce, Invite, GiveUp, Regather, Agree, Widen}
+use Rattle.ring_core.specs.Deciding.{RegatherAndAgree, RegatherAndWiden, Take, Visit, Fill, Learn, decide}
+use Rattle.ring_core.specs.Acting.{shown_again, may_follow, act, proposed_after, done}
+use Rattle.ring_core.specs.Joining.{proposes}
+use Rattle.ring_core.specs.Handing.{proposed}
+use Rattle.ring_core.specs.Giving.{may_install, addressed, sent, given, configured, settle}
+use Rattle.ring_core.specs.Stepping.{ring_step}
+use Rattle.ring_log.specs.Stays.{Stay}
+use Rattle.ring_log.specs.Lives.{is_sound}
+use Rattle.ring_rules.specs.declared.input.Input.{Input as NodeInput}
+use Rattle.ring_rules.specs.declared.input.Input.TheVariants.{Frame as NodeFrame, Noise as NodeNoise, Timeout as NodeTime, Stop as NodeStop}
+use Rattle.ring_rules.specs.NodeLimits.{InputFits as NodeInputFits}
+use Rattle.ring_rules.specs.Lives.{lived_through}
+use Rattle.ring_rules.specs.Nodes.{Node}
+use Rattle.ring_rules.specs.Stepping.{send_of, settled, after_core, node_step}
+use Rattle.ring_token.proofs.Numbered.{length-numbered}
+use Rattle.ring_core_proof.specs.LawWords.{CameWith}
+use Rattle.ring_core_proof.proofs.Causes.{caused}
+use Rattle.ring_core_proof.proofs.Lifting.{IsTold, told_from, told_configured}
+use Rattle.ring_core_proof.proofs.StepsAreMoves.{fresh_few}
+use Rattle.ring_core_proof.specs.Limits.{InputFits}
+
+-- Lists
+
+few_filter : {X : Type 0} → (p : X → Bool) (xs : List X) → length (filter p xs) ≤ length xs
+few_filter p [] = omega arith
+few_filter p (x ∷ xs) =
+    let rest = few_filter p xs in
+    cond_both (p x) (x ∷ filter p xs) (filter p xs) (λ ys. length ys ≤ suc (length xs)) (λ e. omega (arith, rest)) (λ e. omega (arith, rest))
+
+few_option : {Y : Type 0} → (o : Option Y) (ys : List Y) → length (cons_option o ys) ≤ suc (length ys)
+few_option None ys = omega arith
+few_option (Some y) ys = omega arith
+
+few_filter_map : {X Y : Type 0} → (f : X → Option Y) (xs : List X) → length (filter_map f xs) ≤ length xs
+few_filter_map f [] = omega arith
+few_filter_map f (x ∷ xs) = omega (arith, few_filter_map f xs, few_option (f x) (filter_map f xs))
+
+-- What a visit sends
+
+few_repeated : {A : Type 0} → (c : Core A) (t : Token) → length (repeated c t) ≤ length t.requests
+few_repeated c t =
+    let a = few_filter_map (found c.held t.ring) (above_mark (mark c t.ring) t.requests) in
+    let b = few_filter (nat_lt (mark c t.ring)) t.requests in
+    omega (arith, a, b)
+
+few_new : {A : Type 0} → (c : Core A) (t : Token) → length (new_messages c t) ≤ 8
+few_new c t =
+    let e = length-numbered t.ring c.me t.seq (new_payloads c t) in
+    let l = fresh_few c t in
+    omega (arith, e, l)
+
+few_visited : {A : Type 0} → (c : Core A) (t : Token) → length t.requests ≤ 32 → length (visited c t).sends ≤ 41
+few_visited {A} c t few =
+    let f : Message A → Sent A = λ x. record { to = less c.running.members (only c.me); frame = MessageFrame x } in
+    let xs = repeated c t ++ new_messages c t in
+    let a = length-append (map f xs) (to_next c (forwarded c t) ∷ []) in
+    let b = length-map xs f in
+    let d = length-append (repeated c t) (new_messages c t) in
+    omega (arith, a, b, d, few_repeated c t, few_new c t, few)
+
+-- What each act sends
+
+few_shown : {A : Type 0} → (o : Option (Sent A)) → length (shown_again o) ≤ 41
+few_shown None = omega arith
+few_shown (Some s) = omega arith
+
+few_acted : {A : Type 0} → (c : Core A) (input : Input A) → InputFits input → (a : Act A) → CameWith c input a → length (act c a).sends ≤ 41
+few_acted c input w Ignore h = omega arith
+few_acted c input w (Enqueue p) h = omega arith
+few_acted c input w Repeat h = few_shown c.shown
+few_acted c input w Announce h = omega arith
+few_acted c input w Invite h = omega arith
+few_acted c input w GiveUp h = omega arith
+few_acted c input w Regather h = omega arith
+few_acted c input w (Agree j) h = omega arith
+few_acted c input w (Widen j) h = omega arith
+few_acted c input w (RegatherAndAgree j) h = omega arith
+few_acted c input w (RegatherAndWiden j) h = omega arith
+few_acted c input w (Take x) h = omega arith
+few_acted c input w (Fill k) h = omega arith
+few_acted c input w (Learn k) h = omega arith
+few_acted c input w (Visit t) (inl e) = (let f : TokenFits t = subst InputFits e w in few_visited c t f.few)
+few_acted c input w (Visit t) (inr s) = few_visited c t (subst (λ (u : Token). length u.requests ≤ 32) (sym s.first) (omega arith))
+
+few_proposed : {A : Type 0} → (b : Bool) (d : Did A) → length d.sends ≤ 41 → length (proposed_after b d).sends ≤ 42
+few_proposed false d l = omega (arith, l)
+few_proposed true d l = omega (arith, l, length-append d.sends (proposed d.core).sends)
+
+few_done : {A : Type 0} → (c : Core A) (input : Input A) → InputFits input → length (done c (decide c input)).sends ≤ 42
+few_done c input w =
+    let a = decide c input in
+    few_proposed (may_follow a && proposes (act c a).core) (act c a) (few_acted c input w a (caused c input))
+
+-- What a step gives
+
+told_none : {A : Type 0} → (o : Out A) → IsTold o → send_of o ≡ None
+told_none (SendOut to frame) h = absurd (let e = h 0 in let x : ⊥ = cc in x)
+told_none (Agreed ring n x) h = refl
+told_none (Safe ring upto) h = refl
+told_none (Trans old new set) h = refl
+told_none (Rest ring n x) h = refl
+told_none (Regular ring set) h = refl
+
+none_sent : {A : Type 0} → (outs : List (Out A)) → Each IsTold outs → filter_map send_of outs ≡ []
+none_sent [] h = refl
+none_sent {A} (o ∷ outs) h = ap (λ x. cons_option x (filter_map send_of outs)) (told_none o h.0) ∙ none_sent outs h.1
+
+all_sent : {A : Type 0} → (sends : List (Sent A)) → filter_map send_of (map (λ (s : Sent A). SendOut s.to s.frame) sends) ≡ sends
+all_sent [] = refl
+all_sent (s ∷ sends) = ap (λ xs. s ∷ xs) (all_sent sends)
+
+few_sent : {A : Type 0} → (sends : List (Sent A)) (told : List (Out A)) → Each IsTold told → length (filter_map send_of (sent sends ++ told)) ≤ length sends
+few_sent {A} sends told h =
+    let e : filter_map send_of (sent sends ++ told) ≡ addressed sends ++ [] =
+    filter_map-append send_of (sent sends) told ∙ ap (λ xs. xs ++ filter_map send_of told) (all_sent (addressed sends))
+    ∙ ap (λ xs. addressed sends ++ xs) (none_sent told h) in
+    let a = ap length e in
+    let b = length-append (addressed sends) [] in
+    let d = few_filter (λ (s : Sent A). not (s.to == nobody)) sends in
+    omega (arith, a, b, d)
+
+few_settled : {A : Type 0} → (old c : Core A) (sends : List (Sent A)) (b : Bool) →
+    length (filter_map send_of (settle b c (sent sends ++ given old c)).outs) ≤ length sends
+few_settled old c sends false = few_sent sends (given old c) (told_from c old.installed.ring _ _)
+few_settled {A} old c sends true =
+    let told : Each IsTold (given old c ++ configured c) =
+    each-append IsTold (given old c) (configured c) (told_from c old.installed.ring _ _) (told_configured c) in
+    subst (λ (outs : List (Out A)). length (filter_map send_of outs) ≤ length sends) (sym (append_assoc (sent sends) (given old c) (configured c)))
+    (few_sent sends (given old c ++ configured c) told)
+
+pub few_frames : {A : Type 0} → (c : Core A) (input : Input A) → InputFits input → length (filter_map send_of (ring_step c input).outs) ≤ 64
+unfolding ring_step
+few_frames c input w =
+    let d = done c (decide c input) in
+    let a = few_settled c d.core d.sends (may_install d.core) in
+    let b = few_done c input w in
+    omega (arith, a, b)
+
+-- A step of a node
+
+module _ {O A : Type 0} (object : Sequential O) where
+  few_if : (b : Bool) (old new : Node A) (outs : List (Out A)) (life : List (Stay A)) → length (filter_map send_of outs) ≤ 64 →
+      length (settled object b old new outs life).sends ≤ 64
+  few_if false old new outs life l = omega arith
+  few_if true old new outs life l = l
+
+  few_after : (n : Node A) (input : Input A) → InputFits input → length (after_core object n (ring_step n.core input)).sends ≤ 64
+  few_after n input w =
+      let s = ring_step n.core input in
+      few_if (is_sound n.group (lived_through n.life s.outs)) n _ s.outs (lived_through n.life s.outs) (few_frames n.core input w)
+
+  pub few_sends : (n : Node A) (input : NodeInput A) → NodeInputFits input → length (node_step object n input).sends ≤ 64
+  few_sends n (NodeFrame frame) w = few_after n (FrameInput frame) w
+  few_sends n (NodeTime kind) w = few_after n (TimeInput kind) tt
+  few_sends n NodeNoise w = omega arith
+  few_sends n NodeStop w = omega arith

@@ -1,0 +1,8 @@
+pub mod Projection
+pub mod Living
+pub mod Spoken
+pub mod Said
+pub mod Texts
+pub mod RunFacts
+pub mod Between
+pub mod Linear

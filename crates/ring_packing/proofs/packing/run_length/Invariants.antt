@@ -1,6 +1,0 @@
--- The run's length is what was counted, and what is left of it.
-use Rattle.ring_packing.proofs.Taking.{IsCounted}
-use Rattle.ring_packing.proofs.packing.run_length.Given as goal
-
-abbrev pub invariant-loop-count : goal.invariant-loop-count
-invariant-loop-count g l = IsCounted l.queue.items l.count l.left

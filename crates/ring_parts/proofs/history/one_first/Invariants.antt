@@ -1,6 +1,0 @@
--- What the value is now.
-use Rattle.std.proofs.Common.{◌∷◌}
-use Rattle.ring_parts.proofs.history.one_first.Given as goal
-
-abbrev pub ghost-past_of : goal.ghost-past_of
-ghost-past_of g a = a.from.now.1.now ∷ a.from.now.0.now.value

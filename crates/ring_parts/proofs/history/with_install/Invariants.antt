@@ -1,6 +1,0 @@
--- What the value is now.
-use Rattle.ring_parts.specs.Histories.{with_install}
-use Rattle.ring_parts.proofs.history.with_install.Given as goal
-
-abbrev pub ghost-told : goal.ghost-told
-ghost-told g a = with_install

@@ -1,6 +1,0 @@
--- What the value is now.
-use Rattle.ring_parts.specs.Histories.{with_ring}
-use Rattle.ring_parts.proofs.history.with_ring.Given as goal
-
-abbrev pub ghost-told : goal.ghost-told
-ghost-told g a = λ h f. with_ring h f.0 f.1.now

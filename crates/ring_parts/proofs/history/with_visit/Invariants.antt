@@ -1,6 +1,0 @@
--- What the value is now.
-use Rattle.ring_parts.specs.Histories.{with_visit}
-use Rattle.ring_parts.proofs.history.with_visit.Given as goal
-
-abbrev pub ghost-told : goal.ghost-told
-ghost-told g a = λ h f. with_visit h f.turns

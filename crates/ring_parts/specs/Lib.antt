@@ -1,6 +1,0 @@
-pub mod Histories
-pub mod Users
-pub mod Setting
-pub mod Taking
-pub mod Wraps
-pub mod Rests

@@ -1,3 +1,0 @@
-pub use Rattle.ring_world.specs.Played
-pub mod Pairs
-pub mod Pumping

@@ -1,0 +1,9 @@
+pub mod Lives
+pub mod Nodes
+pub mod Dues
+pub mod Stepping
+pub mod NodeLimits
+pub mod Histories
+pub mod WorldLimits
+pub mod Orders
+pub mod Worlds

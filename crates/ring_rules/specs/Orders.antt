@@ -1,0 +1,85 @@
+-- The one order of a group of nodes, and the facts about each step of a run that keep it one.
+-- Sessions, of docs/PROTOCOL.md.
+use Rattle.std.specs.Prelude.{◌≡◌, ℕ, nat_lt, List, [], ◌∷◌, ◌++◌, length, All, Some, slice_get, replicate, if◌then◌else◌, ◌⊎◌}
+use Rattle.ring_base.specs.Fronts.{IsFront}
+use Rattle.ring_object.specs.Operations.{Sequential}
+use Rattle.ring_payload.specs.declared.call.Call.{Call}
+use Rattle.ring_session.specs.declared.answer.Answer.{Answer}
+use Rattle.ring_session.specs.Deduplicated.{deduplicated, StandsAt}
+use Rattle.ring_session.specs.SessionAnswer.{reply_in, session_answer}
+use Rattle.ring_rules.specs.declared.item.Item.{Item}
+use Rattle.ring_rules.specs.declared.item.Item.TheVariants.{Issue, Reply}
+use Rattle.ring_rules.specs.Histories.{AreIssued}
+
+-- the longer of two lists, the first if they are of one length
+abbrev pub longer : {X : Type 0} → List X → List X → List X
+longer xs ys = if nat_lt (length xs) (length ys) then ys else xs
+
+-- the order that the nodes' committed calls make: the longest of them, with only the calls that take effect
+abbrev pub order_of : {A : Type 0} → List (List (Call A)) → List (Call A)
+order_of [] = []
+order_of (calls ∷ rest) = longer (deduplicated calls) (order_of rest)
+
+-- What is seen of a run at one moment.
+pub record Moment (A : Type 0) : Type 0 where
+  -- each node's committed calls
+  pub committed : List (List (Call A))
+  -- what was issued and replied so far
+  pub history : List (Item A)
+
+-- node by node, the committed calls are a front of what they are afterwards
+abbrev pub EachGrows : {A : Type 0} → List (List (Call A)) → List (List (Call A)) → Type 0
+EachGrows [] [] = Unit {0}
+EachGrows (calls ∷ rest) (more ∷ others) = IsFront calls more × EachGrows rest others
+EachGrows [] (more ∷ others) = ⊥
+EachGrows (calls ∷ rest) [] = ⊥
+
+-- all committed calls are fronts of one list
+abbrev pub AreOneLog : {A : Type 0} → List (List (Call A)) → Type 0
+AreOneLog {A} committed = (log : List (Call A)) × All (λ calls. IsFront calls log) committed
+
+module _ {O : Type 0} (object : Sequential O) where
+  -- The call was replied at a node: its session table's answer at a place of its committed calls brings this reply.
+  pub record IsToldAt {A : Type 0} (committed : List (List (Call A))) (c : Call A) (r : List ℕ) : Type 0 where
+    pub node : ℕ
+    pub calls : List (Call A)
+    pub committed_there : slice_get committed node ≡ Some calls
+    pub place : ℕ
+    pub stands : StandsAt calls place c
+    pub answer : Answer
+    pub answered : session_answer object calls place ≡ Some answer
+    pub brings : reply_in answer ≡ Some r
+
+  -- the item is a reply that some node gave
+  abbrev pub IsGiven : {A : Type 0} → List (List (Call A)) → Item A → Type 0
+  IsGiven committed (Issue c) = ⊥
+  IsGiven committed (Reply c r) = IsToldAt committed c r
+
+  -- what a step adds to the history: a call that is issued, or replies to committed calls, none included
+  abbrev pub IsAdded : {A : Type 0} → List (List (Call A)) → List (Item A) → Type 0
+  IsAdded {A} committed items = ((c : Call A) × (items ≡ Issue c ∷ [])) ⊎ All (IsGiven committed) items
+
+  -- What a run owes at each step, and all that its order rests on.
+  pub record IsOrderStep {A : Type 0} (before after : Moment A) : Type 0 where
+    -- no node takes back or reorders what it committed
+    pub grows : EachGrows before.committed after.committed
+    -- no two nodes committed different calls at one place
+    pub agrees : AreOneLog after.committed
+    -- only issued calls are committed
+    pub issued : All (AreIssued after.history) after.committed
+    -- what clients see is an issue, or replies by the session table
+    pub added : (items : List (Item A)) × (before.history ++ items ≡ after.history) × IsAdded after.committed items
+
+  -- each moment follows from the one before it by such a step
+  abbrev pub IsOrderRun : {A : Type 0} → Moment A → List (Moment A) → Type 0
+  IsOrderRun moment [] = Unit {0}
+  IsOrderRun moment (after ∷ rest) = IsOrderStep moment after × IsOrderRun after rest
+
+-- the last moment of a run
+abbrev pub last_moment : {A : Type 0} → Moment A → List (Moment A) → Moment A
+last_moment moment [] = moment
+last_moment moment (after ∷ rest) = last_moment after rest
+
+-- the moment at which each of n nodes has committed nothing, and nothing was issued
+abbrev pub opening : {A : Type 0} → ℕ → Moment A
+opening n = record { committed = replicate n []; history = [] }

@@ -1,0 +1,20 @@
+use Rattle.std.proofs.Common.{refl}
+use Rattle.ring_base.specs.Processors.{elements}
+use Rattle.ring_core.specs.Stepping.{ring_step}
+use Rattle.ring_rules_examples.proofs.nine_calls.Goals as goal
+
+pub returns-clause-sent : goal.returns-clause-sent
+unfolding ring_step elements
+returns-clause-sent c = refl
+
+pub returns-clause-answered : goal.returns-clause-answered
+unfolding ring_step elements
+returns-clause-answered c = refl
+
+pub returns-clause-told : goal.returns-clause-told
+unfolding ring_step elements
+returns-clause-told c = refl
+
+pub returns-clause-ordered : goal.returns-clause-ordered
+unfolding ring_step elements
+returns-clause-ordered c = refl

@@ -1,0 +1,112 @@
+-- Worked runs of worlds of nodes: a call in a ring of one, nine calls that are packed, and a call in a ring of three
+-- that forms by itself. The replicated log, rules 2 to 14, of docs/PROTOCOL.md.
+use Rattle.std.specs.Prelude.{ℕ, zero, suc, ◌-◌, List, [], ◌∷◌, ◌++◌, length, map, drop, replicate}
+use Rattle.std.specs.declared.alloc.Global.{Global}
+use Rattle.ring_base.specs.Numbers.{numbers_from}
+use Rattle.ring_base.specs.Processors.{elements}
+use Rattle.ring_base.specs.declared.kind.Kind.TheVariants.{Join}
+use Rattle.ring_object.specs.Operations.{Sequential}
+use Rattle.ring_payload.specs.declared.call.Call.{Call}
+use Rattle.ring_session.specs.declared.answer.Answer.TheVariants.{Done}
+use Rattle.ring_rules.specs.Nodes.{node_committed, node_log}
+use Rattle.ring_rules.specs.declared.event.Event.{Event}
+use Rattle.ring_rules.specs.declared.event.Event.TheVariants.{Issue, Deliver, Timeout, Stop}
+use Rattle.ring_rules.specs.declared.told.Told.{Told}
+use Rattle.ring_rules.specs.declared.told.Told.TheVariants.{Answer as ToldAnswer, Refused as ToldRefused}
+use Rattle.ring_core.specs.State.{Carried}
+use Rattle.ring_rules.specs.Worlds.{World, world_opening, happens, run}
+
+-- an object that counts its operations, and replies how many there were before
+abbrev pub counter : Sequential ℕ
+counter = record { initial = 0; reply = λ count op. count ∷ []; next = λ count op. suc count }
+
+-- client 7's call of this number
+abbrev pub call_of_seven : ℕ → Call Global
+call_of_seven number = record { client = 7; number = number; op = 1 ∷ 1 ∷ [] }
+
+-- n nodes of a vote each
+abbrev pub world_of : ℕ → World Global
+world_of n = world_opening (record { count = n; votes = replicate n 1 })
+
+-- what is shown of nodes 1 to n: the committed length and the length of each one's log
+abbrev pub lengths_of : World Global → ℕ → ℕ × ℕ
+lengths_of w i = (length (node_committed (w.nodes i)), length (node_log (w.nodes i)))
+
+abbrev pub shown : World Global → ℕ → List (ℕ × ℕ)
+shown w n = map (lengths_of w) (numbers_from 1 n)
+
+-- node i answers client 7's call of this number with how many there were before
+abbrev pub done_at : ℕ → ℕ → Told Global
+done_at i number = ToldAnswer i (call_of_seven number) (Done ((number - 1) ∷ []))
+
+-- A ring of one
+
+abbrev pub formed_one : List (Event Global)
+formed_one = Timeout 1 Join ∷ Deliver 1 1 ∷ Deliver 1 2 ∷ Deliver 1 3 ∷ Deliver 1 4 ∷ []
+
+-- a call is sent at one visit, and safe at the next
+abbrev pub sent_one : World Global
+sent_one = run counter (world_of 1) (formed_one ++ Issue 1 (call_of_seven 1) ∷ Deliver 1 5 ∷ [])
+
+abbrev pub answered_one : World Global
+answered_one = run counter sent_one (Deliver 1 6 ∷ [])
+
+-- nine calls go out at one visit, as one Pack
+abbrev pub sent_nine : World Global
+sent_nine = run counter (world_of 1) (formed_one ++ map (λ k. Issue 1 (call_of_seven k)) (numbers_from 1 9) ++ Deliver 1 5 ∷ [])
+
+abbrev pub answered_nine : World Global
+answered_nine = run counter sent_nine (Deliver 1 6 ∷ [])
+
+-- Frames handed over in the order in which they were sent, a receiver after the other
+
+abbrev pub pairs_of : ℕ → List (Carried Global) → List (ℕ × ℕ)
+pairs_of k [] = []
+pairs_of k (f ∷ rest) = map (λ i. (k, i)) (elements f.to) ++ pairs_of (suc k) rest
+
+abbrev pub pairs_after : ℕ → World Global → List (ℕ × ℕ)
+pairs_after count w = pairs_of (suc count) (drop count w.frames)
+
+-- a world with what wasn't handed over yet: pairs of frame and receiver, oldest first
+pub record Pumped : Type 0 where
+  pub world : World Global
+  pub pairs : List (ℕ × ℕ)
+
+abbrev pub with_new : List (ℕ × ℕ) → ℕ → World Global → Pumped
+with_new pairs count w = record { world = w; pairs = pairs ++ pairs_after count w }
+
+abbrev pub on : Pumped → Event Global → Pumped
+on p e = with_new p.pairs (length p.world.frames) (happens counter p.world e)
+
+abbrev pub turn : World Global → List (ℕ × ℕ) → Pumped
+turn w [] = record { world = w; pairs = [] }
+turn w (p ∷ pairs) = on (record { world = w; pairs = pairs }) (Deliver p.1 p.0)
+
+abbrev pub pump : ℕ → Pumped → Pumped
+pump zero p = p
+pump (suc k) p = pump k (turn p.world p.pairs)
+
+-- A ring of three: each says a join, and then the token turns; a call is submitted at node 2
+
+abbrev pub settled : Pumped
+settled = pump 100 (on (on (on (record { world = world_of 3; pairs = [] }) (Timeout 1 Join)) (Timeout 2 Join)) (Timeout 3 Join))
+
+abbrev pub answered_three : World Global
+answered_three = (pump 100 (on settled (Issue 2 (call_of_seven 1)))).world
+
+-- What a submit is refused, and what changes nothing
+
+-- node i refuses client 7's call of this number, with the refusal of another
+abbrev pub refused_at : ℕ → ℕ → ℕ → Told Global
+refused_at i number fault = ToldRefused i (call_of_seven number) fault
+
+-- a ticket more than a node may have without an answer
+abbrev pub one_too_many : World Global
+one_too_many = run counter (world_of 1) (map (λ k. Issue 1 (call_of_seven k)) (numbers_from 1 65))
+
+abbrev pub late_submit : World Global
+late_submit = run counter (world_of 1) (Stop 1 ∷ Issue 1 (call_of_seven 1) ∷ [])
+
+-- an unknown node, and a frame that was not sent
+abbrev pub strange_events : World Global
+strange_events = run counter (world_of 1) (Deliver 2 1 ∷ Deliver 1 1 ∷ [])

@@ -1,0 +1,43 @@
+//! Worked runs of worlds of nodes, computed from the definitions.
+#![tactic(auto)]
+
+ghost use Rattle.std.specs.Prelude.{◌≡◌, length, [], ◌∷◌, None, Some};
+ghost use Rattle.ring_session.specs.declared.answer.Answer.TheVariants.{Done};
+ghost use Rattle.ring_rules.specs.Nodes.{node_reply};
+ghost use Rattle.ring_rules.specs.Worlds.{order};
+ghost use Rattle.ring_rules_examples.specs.Rows.{world_of, counter, call_of_seven, done_at, refused_at, one_too_many};
+ghost use Rattle.ring_rules_examples.specs.Rows.{late_submit, strange_events, shown, sent_one, answered_one};
+ghost use Rattle.ring_rules_examples.specs.Rows.{sent_nine, answered_nine, answered_three};
+
+/// One node alone: a call is appended to its log at a visit, and committed and answered at the next.
+pub fn ring_of_one()
+    ensures sent { shown sent_one 1 ≡ (0, 1) ∷ [] }
+    ensures answered { shown answered_one 1 ≡ (1, 1) ∷ [] }
+    ensures told { answered_one.told ≡ done_at 1 1 ∷ [] }
+    ensures ordered { order answered_one ≡ call_of_seven 1 ∷ [] }
+    ensures waiting { node_reply counter (sent_one.nodes 1) 0 ≡ None }
+    ensures reply { node_reply counter (answered_one.nodes 1) 0 ≡ Some (Done (0 ∷ [])) }
+{}
+
+/// Nine calls go out at one visit, packed, and are all answered at the next.
+pub fn nine_calls()
+    ensures sent { shown sent_nine 1 ≡ (0, 9) ∷ [] }
+    ensures answered { shown answered_nine 1 ≡ (9, 9) ∷ [] }
+    ensures told { length answered_nine.told ≡ 9 }
+    ensures ordered { length (order answered_nine) ≡ 9 }
+{}
+
+/// Three nodes form a ring; a call is answered where it was submitted, and committed everywhere.
+pub fn ring_of_three()
+    ensures shown { shown answered_three 3 ≡ (1, 1) ∷ (1, 1) ∷ (1, 1) ∷ [] }
+    ensures told { answered_three.told ≡ done_at 2 1 ∷ [] }
+    ensures ordered { order answered_three ≡ call_of_seven 1 ∷ [] }
+{}
+
+/// The 65th ticket without an answer is refused, and each submit at a stopped node. An unknown node, and a frame that was
+/// not sent, change nothing.
+pub fn refused_submits()
+    ensures full { one_too_many.told ≡ refused_at 1 65 2 ∷ [] }
+    ensures stopped { late_submit.told ≡ refused_at 1 1 8 ∷ [] }
+    ensures strange { strange_events ≡ world_of 1 }
+{}

@@ -1,0 +1,126 @@
+-- All answers of a node: they grow at the end, a new ticket changes none, and the last of them are kept.
+use Rattle.std.proofs.Common.{◌≡◌, ℕ, zero, suc, ◌+◌, ◌-◌, ◌==◌, ◌&&◌, nat_le, ◌<◌, ◌≤◌, Bool, true, false, List, []}
+use Rattle.std.proofs.Common.{◌∷◌, ◌++◌, length, take, drop, get_or, map, Option, Some, None, refl, ap, sym}
+use Rattle.std.proofs.Common.{◌∙◌, arith, append_assoc, length-append, if◌then◌else◌}
+use Rattle.std.proofs.lemmas.Bool.{cond-false, and_left, lt-leb}
+use Rattle.std.proofs.lemmas.List.{append-nil, drop-append-le, drop-drop, length-drop, length-map}
+use Rattle.ring_base.proofs.Rows.{drop-next, take-next}
+use Rattle.ring_object.specs.Operations.{Sequential}
+use Rattle.ring_payload.specs.declared.call.Call.{Call}
+use Rattle.ring_session.specs.declared.answer.Answer.{Answer}
+use Rattle.ring_session.specs.SessionAnswer.{is_same, session_answer}
+use Rattle.ring_session.specs.declared.answered.Answered.{Answered}
+use Rattle.ring_session.specs.declared.recent.Kept.{Kept}
+use Rattle.ring_session.specs.Tickets.{Asked, first_place, place_of, is_place, answered, answers_at, answers_after, kept_answers, answer_to}
+use Rattle.ring_session.specs.Recent.{last_kept, kept_of, kept_answer}
+
+-- ---- a new ticket
+
+late-step : {A : Type 0} (c : Call A) (since at : ℕ) (ds : List (Call A)) (d : Call A) → nat_le since at ≡ false → first_place c since (at + 1) ds ≡ None
+    → (if nat_le since at && is_same c d then Some at else first_place c since (at + 1) ds) ≡ None
+late-step c since at ds d late e = cond-false (nat_le since at && is_same c d) (Some at)
+    (first_place c since (at + 1) ds) (and_left (nat_le since at) (is_same c d) late) ∙ e
+
+-- a ticket has no place among those committed before it was given
+pub first_place-late : {A : Type 0} (c : Call A) (since at : ℕ) (ds : List (Call A)) → at + length ds ≤ since → first_place c since at ds ≡ None
+first_place-late c since at [] late = refl
+first_place-late c since at (d ∷ ds) late = late-step c since at ds d (lt-leb since at (omega arith)) (first_place-late c since (at + 1) ds (omega arith))
+
+module _ {O A : Type 0} (object : Sequential O) where
+  answers_at-push : (committed : List (Call A)) (place i : ℕ) (ts : List (Asked A)) (t : Asked A)
+      → length committed ≤ t.since → answers_at object committed place i (ts ++ t ∷ [])
+      ≡ answers_at object committed place i ts
+  answers_at-push committed place i [] t late =
+      ap (λ (o : Option ℕ). (if is_place place o then answered i t.call
+      (session_answer object committed place) else []) ++ []) (first_place-late t.call t.since 0 committed
+      (omega arith))
+  answers_at-push committed place i (u ∷ ts) t late =
+      ap (λ w. (if is_place place (place_of committed u) then answered i u.call
+      (session_answer object committed place) else []) ++ w) (answers_at-push committed place (i + 1) ts t late)
+
+  -- a new ticket has no answer yet
+  pub answers_after-push : (ts : List (Asked A)) (t : Asked A) (committed more : List (Call A))
+      → length committed + length more ≤ t.since → answers_after object (ts ++ t ∷ []) committed more
+      ≡ answers_after object ts committed more
+  answers_after-push ts t committed [] late = refl
+  answers_after-push ts t committed (c ∷ more) late =
+      ap (λ w. w ++ answers_after object (ts ++ t ∷ []) (committed ++ c ∷ []) more)
+      (answers_at-push (committed ++ c ∷ []) (length committed) 0 ts t
+      (omega (arith, length-append committed (c ∷ []))))
+      ∙ ap (λ w. answers_at object (committed ++ c ∷ []) (length committed) 0 ts ++ w)
+      (answers_after-push ts t (committed ++ c ∷ []) more (omega (arith, length-append committed (c ∷ []))))
+
+  -- the answers of later places come after those of earlier ones
+  pub answers_after-append : (ts : List (Asked A)) (committed xs ys : List (Call A))
+      → answers_after object ts committed (xs ++ ys) ≡ answers_after object ts committed xs ++ answers_after object ts
+      (committed ++ xs) ys
+  answers_after-append ts committed [] ys = ap (λ w. answers_after object ts w ys) (sym (append-nil committed))
+  answers_after-append ts committed (c ∷ xs) ys =
+      ap (λ w. answers_at object (committed ++ c ∷ []) (length committed) 0 ts ++ w)
+      (answers_after-append ts (committed ++ c ∷ []) xs ys
+      ∙ ap (λ w. answers_after object ts (committed ++ c ∷ []) xs ++ answers_after object ts w ys)
+      (append_assoc committed (c ∷ []) xs))
+      ∙ sym (append_assoc (answers_at object (committed ++ c ∷ []) (length committed) 0 ts)
+      (answers_after object ts (committed ++ c ∷ []) xs) (answers_after object ts (committed ++ c ∷ xs) ys))
+
+-- ---- the last answers
+
+pub last_kept-append : {X : Type 0} (xs ys : List X) → last_kept (last_kept xs ++ ys) ≡ last_kept (xs ++ ys)
+last_kept-append xs ys =
+    let k = length xs - 64 in
+    let left = length-drop k xs in
+    let one = length-append (drop k xs) ys in
+    let two = length-append xs ys in
+    ap (λ w. drop (length (drop k xs ++ ys) - 64) w) (sym (drop-append-le k xs ys (omega arith)))
+    ∙ drop-drop (length (drop k xs ++ ys) - 64) k (xs ++ ys)
+    ∙ (let e : k + (length (drop k xs ++ ys) - 64) ≡ length (xs ++ ys) - 64 = omega (arith, left, one, two) in ap (λ n. drop n (xs ++ ys)) e)
+
+pub map-drop : {X Y : Type 0} (f : X → Y) (n : ℕ) (xs : List X) → map f (drop n xs) ≡ drop n (map f xs)
+map-drop f zero xs = refl
+map-drop f (suc n) [] = refl
+map-drop f (suc n) (x ∷ xs) = map-drop f n xs
+
+map-last : {A : Type 0} (xs : List (Answered A)) → map kept_of (kept_answers xs) ≡ last_kept (map kept_of xs)
+map-last {A} xs = map-drop kept_of (length xs - 64) xs ∙ ap (λ n. drop (n - 64) (map (kept_of {A = A}) xs)) (sym (length-map xs kept_of))
+
+map-append : {A : Type 0} (xs ys : List (Answered A)) → map kept_of (xs ++ ys) ≡ map kept_of xs ++ map kept_of ys
+map-append [] ys = refl
+map-append (x ∷ xs) ys = ap (λ w. kept_of x ∷ w) (map-append xs ys)
+
+-- what is kept of more answers
+pub kept-more : {A : Type 0} (xs ys : List (Answered A)) → last_kept (map kept_of (kept_answers xs) ++ map kept_of ys) ≡ map kept_of (kept_answers (xs ++ ys))
+kept-more {A} xs ys =
+    ap (λ w. last_kept (w ++ map (kept_of {A = A}) ys)) (map-last xs) ∙ last_kept-append (map kept_of xs) (map kept_of ys)
+    ∙ ap last_kept (sym (map-append xs ys)) ∙ sym (map-last (xs ++ ys))
+
+kept-step : {A : Type 0} (a : Answered A) (ticket : ℕ) (b : Bool) (o p : Option Answer) → o ≡ p
+    → (if b then Some a.answer else o) ≡ (if b then Some a.answer else p)
+kept-step a ticket true o p e = refl
+kept-step a ticket false o p e = e
+
+pub kept_answer-map : {A : Type 0} (ticket : ℕ) (xs : List (Answered A)) → kept_answer ticket (map kept_of xs) ≡ answer_to ticket xs
+kept_answer-map ticket [] = refl
+kept_answer-map ticket (a ∷ xs) = kept-step a ticket (a.ticket == ticket) (kept_answer ticket (map kept_of xs))
+    (answer_to ticket xs) (kept_answer-map ticket xs)
+
+-- the kept answers from a place on
+pub kept_answer-next : (ticket : ℕ) (ks : List Kept) (i : ℕ) (k : Kept) → i < length ks → k ≡ get_or ks i k
+    → kept_answer ticket (drop i ks) ≡ (if k.ticket == ticket then Some k.answer else kept_answer ticket
+    (drop (i + 1) ks))
+kept_answer-next ticket ks i k lt at = ap (kept_answer ticket) (drop-next ks i k lt at)
+
+-- few enough are all kept
+pub last_kept-few : {X : Type 0} (xs : List X) → length xs ≤ 64 → xs ≡ last_kept (xs ++ [])
+last_kept-few xs few =
+    let none : length xs - 64 ≡ 0 = omega (arith, few) in
+    sym (ap (λ w. last_kept w) (append-nil xs) ∙ ap (λ n. drop n xs) none)
+
+-- one answer more
+pub kept-next : {A : Type 0} (old now after : List Kept) (answers : List (Answered A)) (i : ℕ) (a : Answered A)
+    (k : Kept) → i < length answers → a ≡ get_or answers i a → k ≡ kept_of a
+    → now ≡ last_kept (old ++ map kept_of (take i answers)) → after ≡ last_kept (now ++ k ∷ []) → after ≡ last_kept (old ++ map kept_of (take (i + 1) answers))
+kept-next {A} old now after answers i a k lt at is before e =
+    let more : take (i + 1) answers ≡ take i answers ++ a ∷ [] = take-next answers i a lt at in
+    e ∙ ap (λ w. last_kept (w ++ k ∷ [])) before ∙ last_kept-append (old ++ map kept_of (take i answers)) (k ∷ [])
+    ∙ ap last_kept (append_assoc old (map kept_of (take i answers)) (k ∷ []) ∙ ap (λ (x : Kept). old ++ (map kept_of (take i answers) ++ x ∷ [])) is
+    ∙ ap (λ (w : List Kept). old ++ w) (sym (map-append (take i answers) (a ∷ [])) ∙ ap (λ (w : List (Answered A)). map kept_of w) (sym more)))

@@ -1,0 +1,253 @@
+-- What is kept of tickets is what all tickets and all committed calls make it, and the answers of a step are those of the definition.
+
+-- A ticket is left where its call stands nowhere among the calls committed since.
+use Rattle.std.proofs.Common.{◌≡◌, ℕ, suc, ◌+◌, ◌==◌, ◌&&◌, ◌||◌, nat_le, ◌<◌, ◌≤◌, Bool, true, false, not, List, []}
+use Rattle.std.proofs.Common.{◌∷◌, ◌++◌, length, take, drop, map, Option, Some, None, is_none, refl, ap, sym, ◌∙◌}
+use Rattle.std.proofs.Common.{arith, append_assoc, length-append, if◌then◌else◌}
+use Rattle.std.specs.List.{AllByRecursion}
+use Rattle.std.proofs.lemmas.Bool.{eq-eqb, ne_eqb, le-leb}
+use Rattle.std.proofs.lemmas.List.{append-nil}
+use Rattle.ring_base.specs.Numbers.{max_number}
+use Rattle.std.proofs.lemmas.List.Sums.{fold-append}
+use Rattle.ring_object.specs.Operations.{Sequential}
+use Rattle.ring_payload.specs.declared.call.Call.{Call}
+use Rattle.ring_session.specs.declared.answer.Answer.{Answer}
+use Rattle.ring_session.specs.SessionAnswer.{is_same, session_answer}
+use Rattle.ring_session.specs.Table.{Table, opening, table_answer, table_next, table_after}
+use Rattle.ring_session.proofs.TableLaws.{table_answers}
+use Rattle.ring_session.specs.declared.answered.Answered.{Answered}
+use Rattle.ring_session.specs.declared.pending.Pending.{Pending}
+use Rattle.ring_session.specs.Recent.{last_kept, kept_of, kept_answer}
+use Rattle.ring_session.specs.Tickets.{Asked, first_place, place_of, unanswered, is_place, answered, answers_at}
+use Rattle.ring_session.specs.Tickets.{answers_after, all_answers, kept_answers, answer_to}
+use Rattle.ring_session.specs.Pendings.{Tickets, is_full, with_ticket, stands_in, answer_for, answers_to, answers_behind}
+use Rattle.ring_session.specs.Pendings.{left_by, with_answers, pending_from, AreTickets}
+use Rattle.ring_session.proofs.TicketPlaces.{first_place-below, or_else, place-push}
+use Rattle.ring_session.proofs.AnswersGrow.{first_place-late, answers_after-push, answers_after-append, kept-more, kept_answer-map}
+
+-- ---- places of calls committed later
+
+none-step : (early same stands : Bool) (o : Option ℕ) (at : ℕ) → early ≡ true → is_none o ≡ not stands
+    → is_none (if early && same then Some at else o) ≡ not (same || stands)
+none-step true true stands o at early rest = refl
+none-step true false stands o at early rest = rest
+none-step false same stands o at early rest = absurd (cc early)
+
+none-behind : {A : Type 0} (c : Call A) (since at : ℕ) (ds : List (Call A)) → since ≤ at → is_none (first_place c since at ds) ≡ not (stands_in ds c)
+none-behind c since at [] early = refl
+none-behind c since at (d ∷ ds) early =
+    none-step (nat_le since at) (is_same c d) (stands_in ds c) (first_place c since (at + 1) ds) at (le-leb since at early)
+    (none-behind c since (at + 1) ds (omega arith))
+
+or-step : (b stands : Bool) (o p : Option ℕ) (at : ℕ) → is_none p ≡ is_none o && not stands
+    → is_none (if b then Some at else p) ≡ is_none (if b then Some at else o) && not stands
+or-step true stands o p at rest = refl
+or-step false stands o p at rest = rest
+
+none-append : {A : Type 0} (c : Call A) (since at : ℕ) (xs ys : List (Call A)) → since ≤ at + length xs
+    → is_none (first_place c since at (xs ++ ys)) ≡ is_none (first_place c since at xs) && not (stands_in ys c)
+none-append c since at [] ys early = none-behind c since at ys (omega arith)
+none-append c since at (x ∷ xs) ys early =
+    or-step (nat_le since at && is_same c x) (stands_in ys c) (first_place c since (at + 1) xs) (first_place c since (at + 1) (xs ++ ys)) at
+    (none-append c since (at + 1) xs ys (omega arith))
+
+-- a ticket has no answer yet, if it had none and its call isn't among those committed since
+unplaced : {A : Type 0} (t : Asked A) (committed more : List (Call A)) → t.since ≤ length committed
+    → is_none (place_of (committed ++ more) t) ≡ is_none (place_of committed t) && not (stands_in more t.call)
+unplaced t committed more early = none-append t.call t.since 0 committed more (omega arith)
+
+-- ---- the tickets that are left
+
+left-step : {A : Type 0} (more : List (Call A)) (p : Pending A) (rest rest' : List (Pending A)) (b : Bool) → left_by more rest ≡ rest'
+    → left_by more (if b then p ∷ rest else rest) ≡ (if b && not (stands_in more p.call) then p ∷ rest' else rest')
+left-step more p rest rest' true e = ap (λ w. if not (stands_in more p.call) then p ∷ w else w) e
+left-step more p rest rest' false e = e
+
+left-pending : {A : Type 0} (committed more : List (Call A)) (i : ℕ) (ts : List (Asked A)) → AllByRecursion (λ (t : Asked A). t.since ≤ length committed) ts
+    → left_by more (pending_from committed i ts) ≡ pending_from (committed ++ more) i ts
+left-pending committed more i [] early = refl
+left-pending {A} committed more i (t ∷ ts) early =
+    let p : Pending A = record { ticket = i; call = t.call } in
+    let rest' = pending_from (committed ++ more) (i + 1) ts in
+    left-step more p (pending_from committed (i + 1) ts) rest' (is_none (place_of committed t)) (left-pending committed more (i + 1) ts early.1)
+    ∙ ap (λ b. if b then p ∷ rest' else rest') (sym (unplaced t committed more early.0))
+
+-- ---- the answers of one committed call
+
+answer-step : {A : Type 0} (b stands same : Bool) (a : Answered A) (o o' : Option ℕ) (n : ℕ) (told here tail : List (Answered A)) → is_none o ≡ b && not stands
+    → o' ≡ or_else o (if same then Some n else None) → ((q : ℕ) → o ≡ Some q → q < n) → told ≡ a ∷ [] → here ≡ tail
+    → (if b then (if same && not stands then a ∷ [] else []) ++ here else here) ≡ (if is_place n o' then told else []) ++ tail
+answer-step {A} b stands same a (Some q) o' n told here tail none is below one e = old b stands same none
+  where
+    other : (q == n) ≡ false
+    other = ne_eqb q n (omega (arith, below q refl))
+
+    right : tail ≡ (if is_place n o' then told else []) ++ tail
+    right = sym (ap (λ (w : Bool). (if w then told else []) ++ tail) (ap (is_place n) is ∙ other))
+
+    old : (b stands same : Bool) → is_none (Some q) ≡ b && not stands
+        → (if b then (if same && not stands then a ∷ [] else []) ++ here else here) ≡ (if is_place n o' then told else []) ++ tail
+    old false stands same none = e ∙ right
+    old true true true none = e ∙ right
+    old true true false none = e ∙ right
+    old true false same none = absurd (cc none)
+answer-step {A} b stands same a None o' n told here tail none is below one e = new b stands same none is
+  where
+    new : (b stands same : Bool) → true ≡ b && not stands → o' ≡ (if same then Some n else None)
+        → (if b then (if same && not stands then a ∷ [] else []) ++ here else here) ≡ (if is_place n o' then told else []) ++ tail
+    new false stands same none is = absurd (cc none)
+    new true true same none is = absurd (cc none)
+    new true false true none is =
+        ap (λ w. a ∷ w) e ∙ ap (λ w. w ++ tail) (sym one)
+        ∙ sym (ap (λ (w : Bool). (if w then told else []) ++ tail) (ap (is_place n) is ∙ eq-eqb n n refl))
+    new true false false none is = e ∙ sym (ap (λ (w : Option ℕ). (if is_place n w then told else []) ++ tail) is)
+
+answers-if : {A : Type 0} (before : List (Call A)) (c : Call A) (answer : Answer) (p : Pending A) (rest : List (Pending A)) (b : Bool)
+    → answers_to before c answer (if b then p ∷ rest else rest) ≡
+    (if b then answer_for before c answer p ++ answers_to before c answer rest else answers_to before c answer rest)
+answers-if before c answer p rest true = refl
+answers-if before c answer p rest false = refl
+
+earlier : {A : Type 0} (committed before : List (Call A)) (t : Asked A) → t.since ≤ length committed → t.since ≤ length (committed ++ before)
+earlier committed before t early = omega (arith, early, length-append committed before)
+
+module _ {O A : Type 0} (object : Sequential O) where
+  answers-at : (committed before : List (Call A)) (c : Call A) (i : ℕ) (ts : List (Asked A)) → AllByRecursion (λ (t : Asked A). t.since ≤ length committed) ts
+      → answers_to before c (table_answer object (table_after object (committed ++ before)) c) (pending_from committed i ts)
+      ≡ answers_at object ((committed ++ before) ++ c ∷ []) (length (committed ++ before)) i ts
+  answers-at committed before c i [] early = refl
+  answers-at committed before c i (t ∷ ts) early =
+      let all = committed ++ before in
+      let answer = table_answer object (table_after object all) c in
+      let p : Pending A = record { ticket = i; call = t.call } in
+      let a : Answered A = record { ticket = i; call = t.call; answer = answer } in
+      let told : answered i t.call (session_answer object (all ++ c ∷ []) (length all)) ≡ a ∷ [] = ap (answered i t.call) (table_answers object all c) in
+      answers-if before c answer p (pending_from committed (i + 1) ts) (is_none (place_of committed t))
+      ∙ answer-step (is_none (place_of committed t)) (stands_in before t.call) (is_same t.call c) a (place_of all t) (place_of (all ++ c ∷ []) t) (length all)
+      (answered i t.call (session_answer object (all ++ c ∷ []) (length all))) (answers_to before c answer (pending_from committed (i + 1) ts))
+      (answers_at object (all ++ c ∷ []) (length all) (i + 1) ts)
+      (unplaced t committed before early.0) (place-push all t c (earlier committed before t early.0))
+      (λ q h. omega (arith, first_place-below t.call t.since 0 all q h)) told (answers-at committed before c (i + 1) ts early.1)
+
+  -- ---- the answers of many
+
+  pub answers-of : (asked : List (Asked A)) (committed before more : List (Call A)) → AllByRecursion (λ (t : Asked A). t.since ≤ length committed) asked
+      → answers_behind object (table_after object (committed ++ before)) (pending_from committed 0 asked) before more ≡ answers_after object asked
+      (committed ++ before) more
+  answers-of asked committed before [] early = refl
+  answers-of asked committed before (c ∷ more) early =
+      let all = committed ++ before in
+      let pending = pending_from committed 0 asked in
+      let assoc : committed ++ (before ++ c ∷ []) ≡ all ++ c ∷ [] = sym (append_assoc committed before (c ∷ [])) in
+      let table : table_next object (table_after object all) c ≡ table_after object (committed ++ (before ++ c ∷ [])) =
+      sym (fold-append (table_next object) (opening object.initial) all (c ∷ [])) ∙ ap (λ (w : List (Call A)). table_after object w) (sym assoc) in
+      ap (λ w. w ++ answers_behind object (table_next object (table_after object all) c) pending (before ++ c ∷ []) more)
+      (answers-at committed before c 0 asked early)
+      ∙ ap (λ w. answers_at object (all ++ c ∷ []) (length all) 0 asked ++ w)
+      (ap (λ (t : Table O). answers_behind object t pending (before ++ c ∷ []) more) table ∙ answers-of asked committed (before ++ c ∷ []) more early
+      ∙ ap (λ (w : List (Call A)). answers_after object asked w more) assoc)
+
+  pub are-answers : (asked : List (Asked A)) (committed more : List (Call A)) (t : Tickets A) → AreTickets object asked committed t
+      → answers_behind object (table_after object committed) t.pending [] more ≡ answers_after object asked committed more
+  are-answers asked committed more t are =
+      let all : committed ++ [] ≡ committed = append-nil committed in
+      ap (λ (w : List (Pending A)). answers_behind object (table_after object committed) w [] more) are.pending
+      ∙ ap (λ (w : List (Call A)). answers_behind object (table_after object w) (pending_from committed 0 asked) [] more) (sym all)
+      ∙ answers-of asked committed [] more are.early ∙ ap (λ (w : List (Call A)). answers_after object asked w more) all
+
+  early-more : (committed more : List (Call A)) (ts : List (Asked A)) → AllByRecursion (λ (t : Asked A). t.since ≤ length committed) ts
+      → AllByRecursion (λ (t : Asked A). t.since ≤ length (committed ++ more)) ts
+  early-more committed more [] early = early
+  early-more committed more (t ∷ ts) early = (earlier committed more t early.0, early-more committed more ts early.1)
+
+  pub are-kept : (asked : List (Asked A)) (committed more : List (Call A)) (t : Tickets A) → AreTickets object asked committed t
+      → AreTickets object asked (committed ++ more) (with_answers t more (answers_after object asked committed more))
+  are-kept asked committed more t are =
+      let answers = answers_after object asked committed more in
+      record {
+        given = are.given;
+        early = early-more committed more asked are.early;
+        pending = ap (left_by more) are.pending ∙ left-pending committed more 0 asked are.early;
+        kept =
+            ap (λ w. last_kept (w ++ map (kept_of {A = A}) answers)) are.kept ∙ kept-more (all_answers object asked committed) answers
+            ∙ ap (λ (w : List (Answered A)). map kept_of (kept_answers w)) (sym (answers_after-append object asked [] committed more));
+      }
+
+  early-push : (committed : List (Call A)) (ts : List (Asked A)) (t : Asked A) → t.since ≤ length committed
+      → AllByRecursion (λ (a : Asked A). a.since ≤ length committed) ts
+      → AllByRecursion (λ (a : Asked A). a.since ≤ length committed) (ts ++ t ∷ [])
+  early-push committed [] t last early = (last, tt)
+  early-push committed (u ∷ ts) t last early = (early.0, early-push committed ts t last early.1)
+
+  pending-step : (i : ℕ) (c : Call A) (rest : List (Pending A)) (p : Pending A) (more : List (Pending A)) (b : Bool) → more ≡ rest ++ p ∷ []
+      → (if b then record { ticket = i; call = c } ∷ more else more) ≡ (if b then record { ticket = i; call = c } ∷ rest else rest) ++ p ∷ []
+  pending-step i c rest p more true e = ap (λ (w : List (Pending A)). record { ticket = i; call = c } ∷ w) e
+  pending-step i c rest p more false e = e
+
+  -- a new ticket has no answer
+  pending-push : (committed : List (Call A)) (i : ℕ) (ts : List (Asked A)) (t : Asked A) → length committed ≤ t.since
+      → pending_from committed i (ts ++ t ∷ []) ≡ pending_from committed i ts ++ record { ticket = i + length ts; call = t.call } ∷ []
+  pending-push committed i [] t late =
+      let one : ℕ → List (Pending A) = λ k. record { ticket = k; call = t.call } ∷ [] in
+      let e : i ≡ i + 0 = omega arith in
+      ap (λ (o : Option ℕ). if is_none o then one i else []) (first_place-late t.call t.since 0 committed (omega arith)) ∙ ap one e
+  pending-push committed i (u ∷ ts) t late =
+      let e : i + 1 + length ts ≡ i + suc (length ts) = omega arith in
+      let last : ℕ → Pending A = λ k. record { ticket = k; call = t.call } in
+      pending-step i u.call (pending_from committed (i + 1) ts) (last (i + suc (length ts))) (pending_from committed (i + 1) (ts ++ t ∷ []))
+      (is_none (place_of committed u))
+      (pending-push committed (i + 1) ts t late ∙ ap (λ k. pending_from committed (i + 1) ts ++ last k ∷ []) e)
+
+  pub are-given : (asked : List (Asked A)) (committed : List (Call A)) (t : Tickets A) (c : Call A) → AreTickets object asked committed t
+      → AreTickets object (asked ++ record { call = c; since = length committed } ∷ []) committed (with_ticket t c)
+  are-given asked committed t c are =
+      let new : Asked A = record { call = c; since = length committed } in
+      let last : ℕ → Pending A = λ k. record { ticket = k; call = c } in
+      let number : t.given ≡ 0 + length asked = omega (arith, are.given) in
+      record {
+        given = omega (arith, are.given, length-append asked (new ∷ []));
+        early = early-push committed asked new (omega arith) are.early;
+        pending = ap (λ w. w ++ last t.given ∷ []) are.pending ∙ ap (λ k. pending_from committed 0 asked ++ last k ∷ []) number
+            ∙ sym (pending-push committed 0 asked new (omega arith));
+        kept = are.kept ∙ ap (λ (w : List (Answered A)). map kept_of (kept_answers w)) (sym (answers_after-push object asked new [] committed (omega arith)));
+      }
+
+  length-step : (p : Pending A) (t : Asked A) (rest : List (Pending A)) (ts : List (Asked A)) (b : Bool) → length rest ≡ length ts
+      → length (if b then p ∷ rest else rest) ≡ length (if b then t ∷ ts else ts)
+  length-step p t rest ts true e = ap suc e
+  length-step p t rest ts false e = e
+
+  length-pending : (committed : List (Call A)) (i : ℕ) (ts : List (Asked A)) → length (pending_from committed i ts) ≡ length (unanswered committed ts)
+  length-pending committed i [] = refl
+  length-pending committed i (t ∷ ts) =
+      length-step (record { ticket = i; call = t.call }) t (pending_from committed (i + 1) ts) (unanswered committed ts) (is_none (place_of committed t))
+      (length-pending committed (i + 1) ts)
+
+  pub are-full : (asked : List (Asked A)) (committed : List (Call A)) (t : Tickets A) → AreTickets object asked committed t
+      → is_full t ≡ nat_le 64 (length (unanswered committed asked)) || nat_le max_number (length asked)
+  are-full asked committed t are =
+      let many : length t.pending ≡ length (unanswered committed asked) = ap length are.pending ∙ length-pending committed 0 asked in
+      ap (λ n. nat_le 64 n || nat_le max_number t.given) many ∙ ap (λ n. nat_le 64 (length (unanswered committed asked)) || nat_le max_number n) are.given
+
+  pub are-replies : (asked : List (Asked A)) (committed : List (Call A)) (t : Tickets A) (ticket : ℕ) → AreTickets object asked committed t
+      → kept_answer ticket t.kept ≡ answer_to ticket (kept_answers (all_answers object asked committed))
+  are-replies asked committed t ticket are = ap (kept_answer ticket) are.kept ∙ kept_answer-map ticket (kept_answers (all_answers object asked committed))
+
+-- ---- one committed call more goes through the sessions
+
+pub answers-on : {O A : Type 0} (object : Sequential O) (t t' : Table O) (pending : List (Pending A)) (more front : List (Call A)) (i : ℕ) (c : Call A)
+    (a : Answer) (all before after : List (Answered A))
+    → drop i more ≡ c ∷ drop (i + 1) more → take (i + 1) more ≡ take i more ++ c ∷ [] → front ≡ take i more → a ≡ table_answer object t c
+    → t' ≡ table_next object t c
+    → after ≡ before ++ answers_to front c a pending → all ≡ before ++ answers_behind object t pending (take i more) (drop i more)
+    → all ≡ after ++ answers_behind object t' pending (take (i + 1) more) (drop (i + 1) more)
+answers-on {O} {A} object t t' pending more front i c a all before after rest first is answer table told e =
+    let left : List (Call A) = drop (i + 1) more in
+    let behind : List (Call A) → List (Answered A) = λ w. answers_behind object (table_next object t c) pending w left in
+    e ∙ ap (λ w. before ++ answers_behind object t pending (take i more) w) rest
+    ∙ sym (append_assoc before (answers_to (take i more) c (table_answer object t c) pending) (behind (take i more ++ c ∷ [])))
+    ∙ ap (λ b. (before ++ answers_to (take i more) c b pending) ++ behind (take i more ++ c ∷ [])) (sym answer)
+    ∙ ap (λ w. (before ++ answers_to w c a pending) ++ behind (take i more ++ c ∷ [])) (sym is)
+    ∙ ap (λ w. w ++ behind (take i more ++ c ∷ [])) (sym told)
+    ∙ ap (λ w. after ++ behind w) (sym first)
+    ∙ ap (λ (u : Table O). after ++ answers_behind object u pending (take (i + 1) more) left) (sym table)

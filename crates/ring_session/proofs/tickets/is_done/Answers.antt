@@ -1,0 +1,6 @@
+-- An answer is told by its variant.
+use Rattle.std.proofs.Common.{rules}
+use Rattle.ring_session.proofs.tickets.is_done.Goals as goal
+
+pub returns-in-Done : goal.returns-in-Done
+returns-in-Done c = search rules

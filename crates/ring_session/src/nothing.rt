@@ -1,0 +1,66 @@
+//! The object that keeps nothing.
+
+use ring_base::Fault;
+use ring_object::{Object, Reply};
+use std::alloc::Allocator;
+use std::marker::{Model, PhantomData};
+
+/// No content: an operation changes nothing and is replied the byte `FF`. Its session table tells which calls of a list
+/// take effect, whatever the object that they are for.
+#[derive(Drop)]
+pub struct Nothing<A: Allocator + Copy> {
+    home: PhantomData<A>,
+}
+
+impl<A: Allocator + Copy> Model for Nothing<A> {
+    ghost use Rattle.ring_session.specs.Nothing.{Content};
+
+    ghost Value = { Content };
+
+    ghost view = { λ nothing. tt };
+}
+
+impl<A: Allocator + Copy + Drop> Object for Nothing<A> {
+    ghost use Rattle.ring_session.specs.Nothing.{is_content, is_readable, nothing, snapshot_of, restored, ignores, replies, restores};
+
+    type Alloc = A;
+
+    ghost is_content = { is_content };
+
+    ghost is_readable = { is_readable };
+
+    ghost sequential = { nothing };
+
+    ghost snapshot_of = { snapshot_of };
+
+    ghost restored = { restored };
+
+    ghost starts = { tt };
+
+    ghost keeps = { λ content op bytes is. tt };
+
+    ghost replies = { replies };
+
+    ghost ignores = { ignores };
+
+    ghost restores = { restores };
+
+    fn start(_alloc: A) -> Result<Nothing<A>, Fault> {
+        Ok(Nothing { home: PhantomData })
+    }
+
+    fn apply(&mut self, _op: &[u8]) -> Result<Reply, Fault> {
+        Ok(Reply::from_slice(&[255]))
+    }
+
+    fn snapshot(&self, _out: &mut Vec<u8, A>) -> Result<(), Fault> {
+        Ok(())
+    }
+
+    fn restore(_alloc: A, bytes: &[u8]) -> Result<Nothing<A>, Fault> {
+        if !bytes.is_empty() {
+            return Err(Fault::BadSnapshot);
+        }
+        Ok(Nothing { home: PhantomData })
+    }
+}

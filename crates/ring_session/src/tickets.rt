@@ -1,0 +1,194 @@
+//! The tickets of a node.
+
+ghost use Rattle.std.specs.Prelude.{◌≡◌, ◌≤◌, ◌<◌, [], ◌++◌, fold, true, false, not, IfOk, IfErr, OnOk, length};
+ghost use Rattle.std.specs.Vec.{vec_capacity};
+ghost use Rattle.ring_base.specs.declared.fault.Fault.TheVariants.{Memory, PendingFull};
+ghost use Rattle.ring_session.specs.SessionAnswer.{is_done, is_same};
+ghost use Rattle.ring_session.specs.Table.{table_next};
+ghost use Rattle.ring_session.specs.Recent.{kept_answer};
+ghost use Rattle.ring_session.specs.TicketEffects.{done_after};
+ghost use Rattle.ring_session.specs.Pendings.{none_given, is_full, with_ticket, stands_in, answers_to, answers_behind, left_by, with_answers};
+
+use crate::answered::Answered;
+use crate::pending::Pending;
+use crate::recent::Recent;
+use crate::ticket::Ticket;
+use crate::{Answer, MAX_UNANSWERED, Sessions};
+use ring_base::{Fault, MAX};
+use ring_object::Object;
+use ring_payload::Call;
+use std::alloc::{AllocError, Allocator, Global};
+use std::marker::Model;
+
+/// The tickets of a node: how many it gave, which of them have no answer yet, and the answers given last. Its room is
+/// made at once. Contracts see these three.
+#[derive(Drop)]
+pub struct Tickets<A: Allocator + Copy + Drop = Global> {
+    given: u64,
+    pending: Vec<Pending<A>, A>,
+    recent: Recent<A>,
+}
+
+impl<A: Allocator + Copy + Drop> Model for Tickets<A> {
+    ghost use Rattle.std.specs.Prelude.{◌≤◌, length};
+    ghost use Rattle.std.specs.Vec.{vec_capacity};
+    ghost use Rattle.ring_base.specs.Numbers.{max_number};
+    ghost use Rattle.ring_session.specs.Pendings.{Tickets as ToldTickets};
+
+    ghost Value = { ToldTickets A };
+
+    ghost view = { λ t. record { given = t.given; pending = t.pending.items; kept = t.recent } };
+
+    ghost invariant = { λ t. (length t.pending.items ≤ 64) × (64 ≤ vec_capacity t.pending) × (t.given ≤ max_number) };
+}
+
+impl<A: Allocator + Copy + Drop> Tickets<A> {
+    /// No ticket was given. Refused with `Memory` alone.
+    pub fn new(alloc: A) -> Result<Tickets<A>, Fault>
+        ensures ok { IfOk result (λ tickets. tickets ≡ none_given) }
+        ensures refused { IfErr result (λ fault. fault ≡ Memory) }
+    {
+        Ok(Tickets {
+            given: 0,
+            pending: Vec::with_capacity(alloc, MAX_UNANSWERED)?,
+            recent: Recent::new(alloc)?,
+        })
+    }
+
+    /// Whether a ticket may be given: refused with `PendingFull` where 64 tickets have no answer, which is the most, or
+    /// 2^62 were given.
+    pub fn check(&self) -> Result<(), Fault>
+        ensures ok { OnOk result (is_full self.now ≡ false) }
+        ensures full { IfErr result (λ fault. is_full self.now ≡ true) }
+        ensures refused { IfErr result (λ fault. fault ≡ PendingFull) }
+    {
+        if MAX_UNANSWERED <= self.pending.len() || MAX <= self.given {
+            return Err(Fault::PendingFull);
+        }
+        Ok(())
+    }
+
+    /// Gives the call the next ticket. It takes no memory.
+    pub fn give(&mut self, call: Call<A>) -> Ticket
+        requires { is_full self.old ≡ false }
+        ensures ticket { result ≡ self.old.given }
+        ensures tickets { self.new ≡ with_ticket self.old call }
+    {
+        let ticket = Ticket::new(self.given);
+        self.pending.push_reserved(Pending { ticket, call });
+        self.given += 1;
+        ticket
+    }
+
+    /// The tickets without an answer, in order, with their calls.
+    pub fn pending(&self) -> &[Pending<A>]
+        ensures { result.now ≡ self.now.pending }
+    {
+        self.pending.as_slice()
+    }
+
+    /// Keeps answers that committed calls gave: the tickets of the same calls have an answer from now on. It takes no
+    /// memory.
+    pub fn keep(&mut self, committed: &[Call<A>], answers: &[Answered<A>])
+        ensures { self.new ≡ with_answers self.old committed.now answers.now }
+    {
+        leave(&mut self.pending, committed);
+        self.recent.extend(answers);
+    }
+
+    /// The answer to a ticket, if it is among the 64 that were given last.
+    pub fn reply(&self, ticket: Ticket) -> Option<Answer>
+        ensures { result ≡ kept_answer ticket self.now.kept }
+    {
+        self.recent.answer_to(ticket)
+    }
+}
+
+/// Whether the two are one call: of one client and number, and with the same operation.
+fn is_same<A: Allocator + Copy>(call: &Call<A>, other: &Call<A>) -> bool
+    ensures { result ≡ is_same call.now other.now }
+{
+    other.client == call.client
+        && other.number == call.number
+        && other.op.as_slice() == call.op.as_slice()
+}
+
+/// A copy of the call.
+pub fn copy_of<A: Allocator + Copy>(call: &Call<A>) -> Result<Call<A>, AllocError>
+    ensures { IfOk result (λ copy. copy ≡ call.now) }
+{
+    call.clone()
+}
+
+/// Whether the answer tells that its call takes effect now.
+fn is_done(answer: &Answer) -> bool
+    ensures { result ≡ is_done answer.now }
+{
+    matches!(answer, Answer::Done(_))
+}
+
+/// Lets the tickets go whose call was committed.
+fn leave<A: Allocator + Copy + Drop>(pending: &mut Vec<Pending<A>, A>, committed: &[Call<A>])
+    ensures items { pending.new.items ≡ left_by committed.now pending.old.items }
+    ensures few { length pending.new.items ≤ length pending.old.items }
+    ensures capacity { vec_capacity pending.new ≡ vec_capacity pending.old }
+{
+    pending.retain(|asked| !stands_in(committed, &asked.call));
+}
+
+/// Whether the call stands among these.
+pub fn stands_in<A: Allocator + Copy>(calls: &[Call<A>], call: &Call<A>) -> bool
+    ensures { result ≡ stands_in calls.now call.now }
+{
+    calls.iter().any(|other| is_same(call, other))
+}
+
+/// Adds the answers to the tickets of a committed call, behind `answers`: to none whose call was committed before in the
+/// same step. Refused with `Memory` alone.
+fn answer_to<A: Allocator + Copy + Drop>(
+    pending: &[Pending<A>],
+    before: &[Call<A>],
+    call: &Call<A>,
+    answer: Answer,
+    answers: &mut Vec<Answered<A>, A>,
+) -> Result<(), Fault>
+    ensures answers { OnOk result (answers.new.items ≡ answers.old.items ++ answers_to before.now call.now answer pending.now) }
+    ensures refused { IfErr result (λ fault. fault ≡ Memory) }
+{
+    for asked in pending {
+        if is_same(&asked.call, call) && !stands_in(before, &asked.call) {
+            answers.push(Answered {
+                ticket: asked.ticket,
+                call: copy_of(&asked.call)?,
+                answer,
+            })?;
+        }
+    }
+    Ok(())
+}
+
+/// Applies newly committed calls to the sessions, one after the other, and gives each answer to the pending tickets of
+/// the same call, in the order of tickets. Tells, beside the answers, how many of the calls took effect. Refused with
+/// `Memory` alone.
+pub fn answers_of<O: Object>(
+    alloc: O::Alloc,
+    sessions: &mut Sessions<O>,
+    pending: &[Pending<O::Alloc>],
+    committed: &[Call<O::Alloc>],
+) -> Result<(Vec<Answered<O::Alloc>, O::Alloc>, u64), Fault>
+    ensures table { OnOk result (sessions.new ≡ fold (table_next O.sequential) sessions.old committed.now) }
+    ensures answers { IfOk result (λ given. given.0.items ≡ answers_behind O.sequential sessions.old pending.now [] committed.now) }
+    ensures effects { IfOk result (λ given. given.1 ≡ done_after O.sequential sessions.old committed.now) }
+    ensures refused { IfErr result (λ fault. fault ≡ Memory) }
+{
+    let mut answers = Vec::new(alloc);
+    let mut effects = 0;
+    for (place, call) in committed.iter().enumerate() {
+        let answer = sessions.apply(call)?;
+        if is_done(&answer) {
+            effects += 1;
+        }
+        answer_to(pending, &committed[..place], call, answer, &mut answers)?;
+    }
+    Ok((answers, effects))
+}

@@ -1,0 +1,166 @@
+//! The session table row by row, with ample memory and with each request refused in turn.
+
+use crate::diary::{Diary, had};
+use crate::memory::counted;
+use refusing_alloc::{Refusing, refuse_in_turn};
+use ring_base::Fault;
+use ring_object::Object;
+use ring_payload::Call;
+use ring_session::{Answer, Sessions, deduplicated_law, session_law, table_law};
+use std::alloc::Global;
+use std::process::Abort;
+use std::test::Fail;
+
+/// A client's call by its number, with its operation, and what it is answered.
+type Row = (u32, u64, &'static [u8], Answer);
+
+/// The table answers each of the calls as wanted, one after another.
+fn assert_answered<O: Object>(
+    rt: &impl Abort,
+    alloc: O::Alloc,
+    sessions: &mut Sessions<O>,
+    rows: &[Row],
+) -> Result<(), Fault> {
+    for (client, number, op, want) in rows {
+        let call = Call::new(alloc, *client, *number, *op)?;
+        assert!(rt; sessions.apply(&call) == Ok(*want), "{client}.{number}");
+    }
+    Ok(())
+}
+
+#[test]
+fn answers_each_row(rt: HostRuntime) -> Result<(), Fail> {
+    let mut sessions = Sessions::<Diary>::new(rt.alloc())?;
+    let rows: [Row; 11] = [
+        (7, 2, b"a", Answer::Refused(6)),
+        (7, 1, b"a", Answer::Done(had(0))),
+        (7, 1, b"a", Answer::Kept(had(0))),
+        (7, 2, b"b", Answer::Done(had(1))),
+        (7, 1, b"a", Answer::Refused(5)),
+        (7, 2, b"b", Answer::Kept(had(1))),
+        (7, 2, b"c", Answer::Refused(4)),
+        (7, 4, b"d", Answer::Refused(6)),
+        (3, 1, b"a", Answer::Done(had(2))),
+        (7, 3, b"a", Answer::Done(had(3))),
+        (3, 1, b"a", Answer::Kept(had(2))),
+    ];
+    assert_answered(&rt, rt.alloc(), &mut sessions, &rows)?;
+    Ok(())
+}
+
+#[test]
+fn takes_operations_of_every_length(rt: HostRuntime) -> Result<(), Fail> {
+    let mut sessions = Sessions::<Diary>::new(rt.alloc())?;
+    let rows: [Row; 4] = [
+        (7, 1, &[1; 1024], Answer::Done(had(0))),
+        (7, 1, &[1; 1024], Answer::Kept(had(0))),
+        (7, 2, &[], Answer::Done(had(0))),
+        (7, 2, &[], Answer::Kept(had(0))),
+    ];
+    assert_answered(&rt, rt.alloc(), &mut sessions, &rows)?;
+    assert!(rt; Call::new(rt.alloc(), 7, 3, &[1; 1025]).err() == Some(Fault::OpTooLong));
+    Ok(())
+}
+
+/// The first call of each of 1,024 clients is done.
+fn assert_all_known<O: Object>(
+    rt: &impl Abort,
+    alloc: O::Alloc,
+    sessions: &mut Sessions<O>,
+) -> Result<(), Fault> {
+    for before in 0..1024u32 {
+        let first: Row = (before * 5 % 1024, 1, &[], Answer::Done(had(0)));
+        assert_answered(rt, alloc, sessions, &[first])?;
+    }
+    Ok(())
+}
+
+#[test]
+fn knows_so_many_clients(rt: HostRuntime) -> Result<(), Fail> {
+    let mut sessions = Sessions::<Diary>::new(rt.alloc())?;
+    assert_all_known(&rt, rt.alloc(), &mut sessions)?;
+    let rows: [Row; 3] = [
+        (1024, 1, &[], Answer::Refused(7)),
+        (1024, 2, &[], Answer::Refused(6)),
+        (1023, 2, &[], Answer::Done(had(0))),
+    ];
+    assert_answered(&rt, rt.alloc(), &mut sessions, &rows)?;
+    Ok(())
+}
+
+/// The answer to a call, tried again if it was refused memory, and how often it was.
+fn answered<O: Object>(
+    sessions: &mut Sessions<O>,
+    call: &Call<O::Alloc>,
+) -> (Result<Answer, Fault>, u64) {
+    match sessions.apply(call) {
+        Err(Fault::Memory) => (sessions.apply(call), 1),
+        answer => (answer, 0),
+    }
+}
+
+/// How often the call of this step was refused memory. One that was is answered, when it is tried again, as if it hadn't
+/// been: the table, and the object in it, were left as they were. Another answer is a fault.
+fn refused_at<O: Object>(
+    sessions: &mut Sessions<O>,
+    ample: O::Alloc,
+    step: u8,
+) -> Result<u64, Fault> {
+    let (client, number) = (u32::from(step % 16), u64::from(step / 16) + 1);
+    let call = Call::new(ample, client, number, &[step; 5])?;
+    let (answer, refused) = answered(sessions, &call);
+    let reply = had(step.wrapping_mul(5));
+    let is_right = answer == Ok(Answer::Done(reply))
+        && sessions.apply(&call) == Ok(Answer::Kept(reply));
+    if is_right {
+        Ok(refused)
+    } else {
+        Err(Fault::Conflict)
+    }
+}
+
+/// How often two calls of each of 16 clients, enough for a table of several nodes, were refused memory, after so many
+/// refusals.
+fn refused_then<O: Object>(
+    sessions: &mut Sessions<O>,
+    ample: O::Alloc,
+    before: u64,
+) -> Result<u64, Fault> {
+    let mut all = before;
+    for step in 0..32u8 {
+        all = all.saturating_add(refused_at(sessions, ample, step)?);
+    }
+    Ok(all)
+}
+
+/// The same of a table that is made at the second try.
+fn refused_again<O: Object>(heap: O::Alloc, ample: O::Alloc) -> Result<u64, Fault> {
+    let mut sessions = Sessions::<O>::new(heap)?;
+    refused_then(&mut sessions, ample, 1)
+}
+
+/// The same of a table with its making, which is tried again if it is refused memory.
+fn refusals<O: Object>(heap: O::Alloc, ample: O::Alloc) -> Result<u64, Fault> {
+    match Sessions::<O>::new(heap) {
+        Ok(mut sessions) => refused_then(&mut sessions, ample, 0),
+        Err(Fault::Memory) => refused_again::<O>(heap, ample),
+        Err(fault) => Err(fault),
+    }
+}
+
+#[test]
+fn each_request_is_refused_in_turn(rt: HostRuntime) {
+    let ample = Refusing::new(rt.alloc(), u64::MAX);
+    let requests = refuse_in_turn(
+        rt.alloc(),
+        &|heap: &Refusing| counted(heap, refusals::<Diary<&Refusing>>(heap, &ample)),
+    );
+    assert!(rt; requests > Some(16));
+}
+
+#[test]
+fn laws_hold_of_the_diary() {
+    deduplicated_law::<Global>();
+    session_law::<Diary>();
+    table_law::<Diary>();
+}

@@ -1,0 +1,292 @@
+-- The running ring is installed: what is kept of it is what is kept of the installed ring from now on, and what it gives comes in parts.
+use Rattle.std.proofs.Common.{◌≡◌, ℕ, zero, suc, ◌+◌, ◌-◌, ◌<◌, ◌≤◌, Bool, true, false, List, [], ◌∷◌, ◌++◌}
+use Rattle.std.proofs.Common.{map, filter, filter_map, Option, Some, None, Result, Ok, Err, refl, ap, ◌∙◌, sym, subst, arith, append_assoc}
+use Rattle.std.specs.Prelude.{nat_lt, if◌then◌else◌}
+use Rattle.std.specs.Option.{IsSome}
+use Rattle.std.specs.Result.{OnOk}
+use Rattle.std.specs.List.{AllByRecursion}
+use Rattle.std.proofs.lemmas.Bool.{true≢false}
+use Rattle.std.proofs.lemmas.List.{map-append}
+use Rattle.std.proofs.lemmas.List.Elements.{filter-append, filter_map-append}
+use Rattle.ring_base.specs.Numbers.{numbers_from}
+use Rattle.ring_base.specs.declared.ring_id.RingId.{RingId}
+use Rattle.ring_base.specs.declared.state.State.{State}
+use Rattle.ring_base.specs.declared.state.State.TheVariants.{Gather, Commit, Recovery, Operational, Stopped}
+use Rattle.ring_base.proofs.Each.{each-filter}
+use Rattle.ring_base.proofs.ListPlaces.{numbers-append}
+use Rattle.ring_payload.specs.Kinds.{is_user}
+use Rattle.ring_payload.specs.declared.content.Payload.{Payload}
+use Rattle.ring_wire.specs.declared.message.Message.{Message}
+use Rattle.ring_window.specs.Held.{found, of_ring}
+use Rattle.ring_window.specs.Windows.{Windowed, kept}
+use Rattle.ring_window.proofs.OfRing.{found_of_ring}
+use Rattle.ring_token.specs.Histories.{TokenHistory}
+use Rattle.ring_join.specs.Gatherers.{Gatherer}
+use Rattle.ring_join.specs.Gathering.{Gathering}
+use Rattle.ring_commit.specs.declared.configuration.Configuration.{Configuration}
+use Rattle.ring_recover.specs.declared.delivery.Delivery.{Delivery}
+use Rattle.ring_recover.specs.Plans.{Plan, safe, gap, known_above_safe, is_known}
+use Rattle.ring_recover.specs.Installing.{in_front, is_ready_by, is_ready}
+use Rattle.ring_recover.specs.Recovering.{Recovering as Planned}
+use Rattle.ring_recover.proofs.AllRings.{finish_of_ring}
+use Rattle.ring_recover.specs.Deliveries.{delivery, finish, transitional_part, past_gap_part, is_from_mate, rests}
+use Rattle.ring_recover.proofs.Following.{kept_found}
+use Rattle.ring_core.specs.declared.out.Out.{Out}
+use Rattle.ring_core.specs.declared.out.Out.TheVariants.{Agreed, Trans, Rest, Regular}
+use Rattle.ring_core.specs.State.{Core, Sent}
+use Rattle.ring_core.specs.Views.{front, mark, plan}
+use Rattle.ring_core.specs.Giving.{may_install, installs_in, ready_then_complete, install, settle, users, safe_from, delivered_from}
+use Rattle.ring_srp_state.specs.Histories.{with_install}
+use Rattle.ring_srp_state.specs.Histories.{History}
+use Rattle.ring_srp_acts.specs.Machines.{core_of, bound, window_of, Recovers, IsRecovering, IsMachine}
+use Rattle.ring_srp_state.specs.declared.recovering.Recovering.{Recovering}
+use Rattle.ring_srp_acts.specs.Installs.{given_first, given_all}
+use Rattle.ring_srp_state.specs.Rests.{rest_of, all_agreed}
+use Rattle.ring_core.proofs.States.{installs_recovering}
+use Rattle.ring_srp_acts.proofs.KeptByActs.{below_wider}
+
+-- a ring is installed in Recovery alone
+
+pub due_in : {A : Type 0} (c : Core A) → may_install c ≡ true → c.state ≡ Recovery
+due_in c h = installs_recovering c.state c h
+
+-- and nothing is in any other state
+due_not : {A : Type 0} (s : State) (c : Core A) → (s ≡ Recovery → ⊥) → installs_in s c ≡ false
+due_not Recovery c f = absurd (f refl)
+due_not Gather c f = refl
+due_not Commit c f = refl
+due_not Operational c f = refl
+due_not Stopped c f = refl
+
+not_due_in : {A : Type 0} (c : Core A) → (c.state ≡ Recovery → ⊥) → may_install c ≡ false
+not_due_in c f = due_not c.state c f
+
+-- what a core goes by in Recovery is there
+some_when : {A : Type 0} (c : Core A) (o : Option (Recovering A)) → IsRecovering c o → IsSome o
+some_when c None f = absurd f
+some_when c (Some r) f = refl
+
+pub some_in : {A : Type 0} (c : Core A) (o : Option (Recovering A)) → may_install c ≡ true → (c.state ≡ Recovery → IsRecovering c o) → IsSome o
+some_in c o due f = some_when c o (f (due_in c due))
+
+-- what a core goes by in Recovery tells when it may install
+module _ {A : Type 0} (c : Core A) (r : Recovering A) (f : Recovers c r) (e : c.state ≡ Recovery) (ready : Bool) (n : ℕ)
+    (is : ready ≡ is_ready_by r.ends c.running.members n) (n_is : n ≡ r.part.window.mark) where
+  ready_now : ready ≡ is_ready c.held c.running.ring c.running.members (mark c c.running.ring)
+  ready_now =
+      is ∙ ap (λ (xs : List (Message A)). is_ready_by xs c.running.members n) f.ends_is
+      ∙ ap (is_ready_by (in_front c.held c.running.ring) c.running.members) (n_is ∙ ap (λ (x : Windowed A). x.mark) f.part.window_is)
+
+  due_by : may_install c ≡ ready_then_complete ready c
+  due_by = ap (λ (s : State). installs_in s c) e ∙ ap (λ (b : Bool). ready_then_complete b c) (sym ready_now)
+
+  pub not_ready : ready ≡ false → None ≡ (if may_install c then Some (delivery (plan c) c.held) else None)
+  not_ready h = ap (λ (b : Bool). if b then Some (delivery (plan c) c.held) else None) (sym (due_by ∙ ap (λ (b : Bool). ready_then_complete b c) h))
+
+  pub all_ready : ready ≡ true → (window : Windowed A) → window ≡ window_of c c.installed.ring
+      → finish r.plan.plan window.held ≡ (if may_install c then Some (delivery (plan c) c.held) else None)
+  all_ready h window w =
+      let same : r.plan.plan ≡ plan c = ap (λ (x : Planned A). x.plan) f.plan_is in
+      let seen : window.held ≡ of_ring c.installed.ring c.held = ap (λ (x : Windowed A). x.held) w in
+      ap (λ (p : Plan). finish p window.held) same ∙ ap (finish (plan c)) seen ∙ finish_of_ring (plan c) c.held
+      ∙ ap (λ (b : Bool). if b then Some (delivery (plan c) c.held) else None) (sym (due_by ∙ ap (λ (b : Bool). ready_then_complete b c) h))
+
+-- what the code delivers of the old ring
+abbrev pub told : {A : Type 0} → Core A → Option Delivery
+told c = if may_install c then Some (delivery (plan c) c.held) else None
+
+pub told_none : {A : Type 0} (c : Core A) → (c.state ≡ Recovery → ⊥) → None ≡ told c
+told_none c f = ap (λ (b : Bool). if b then Some (delivery (plan c) c.held) else None) (sym (not_due_in c f))
+
+-- what is told of a value that is there where a test passes
+pub passed_there : {X : Type 0} (b : Bool) (x y : X) → Some y ≡ (if b then Some x else None) → (b ≡ true) × (y ≡ x)
+passed_there true x y h = (refl, cc)
+passed_there false x y h = absurd cc
+
+pub failed_there : {X : Type 0} (b : Bool) (x : X) → None ≡ (if b then Some x else None) → b ≡ false
+failed_there true x h = absurd cc
+failed_there false x h = refl
+
+-- a state is no other
+
+operational_not_gather : Operational ≡ Gather → ⊥
+operational_not_gather e = (let q : Operational ≡ Gather = e in cc)
+
+operational_not_recovery : Operational ≡ Recovery → ⊥
+operational_not_recovery e = (let q : Operational ≡ Recovery = e in cc)
+
+module _ {A : Type 0} (me total : ℕ) (s : State) (running installed : Configuration) (g : Gathering) (shown : Option (Sent A)) (queue : List (Payload A))
+    (held : List (Message A)) (h : History A)
+    (gather : Gatherer) (window : Windowed A) (visit : TokenHistory A) (r : Recovering A) where
+  -- what was kept of the running ring is kept of the installed one
+  pub into_operational : (o : Option (Recovering A)) → o ≡ Some r
+      → IsMachine (core_of me total s running installed g shown queue held h) gather window visit o → s ≡ Recovery → (h' : History A)
+      → h' ≡ with_install h running → (recovery : Option (Recovering A)) → recovery ≡ None
+      → IsMachine (core_of me total Operational running running g shown queue held h') gather r.part.window r.part.visit recovery
+  into_operational o there m e h' is recovery none =
+      let now = core_of me total Operational running running g shown queue held (with_install h running) in
+      let f : Recovers (core_of me total s running installed g shown queue held h) r = subst (λ (x : Option (Recovering A)). IsRecovering
+      (core_of me total s running installed g shown queue held h) x) there (m.recovering e) in
+      let b : bound s running.ring.seq ≡ suc running.ring.seq = ap (λ (x : State). bound x running.ring.seq) e in
+      let wide = below_wider (core_of me total s running installed g shown queue held h) (bound s running.ring.seq) (suc running.ring.seq) (omega
+      (arith, b)) m.below in
+      let all : IsMachine now gather r.part.window r.part.visit recovery =
+      record {
+        runs = refl;
+        gather_me = m.gather_me;
+        gather_floor = λ q. absurd (operational_not_gather q);
+        member = m.member;
+        kept = record { window_is = f.part.window_is; visit_is = f.part.visit_is; reached = f.part.reached; near = f.part.near; led = f.part.led };
+        below = record { held = wide.held; turns = wide.turns; raises = wide.raises };
+        older = omega arith;
+        apart = λ q. absurd (true≢false (sym q));
+        same = λ q. refl;
+        recovering = λ q. absurd (operational_not_recovery q);
+        over = λ q. none;
+      } in
+      subst (λ (x : History A). IsMachine (core_of me total Operational running running g shown queue held x) gather r.part.window r.part.visit recovery)
+      (sym is) all
+
+-- What the new ring gives
+
+-- the users' messages up to a number, and those after it
+pub users_parts : {A : Type 0} (c : Core A) (ring : RingId) (a b : ℕ) → a ≤ b → users c ring 0 a ++ users c ring a b ≡ users c ring 0 b
+users_parts {A} c ring a b l =
+    let some = λ (ns : List ℕ). filter (λ (x : Message A). is_user x.payload) (filter_map (found c.held ring) ns) in
+    let first = numbers_from (0 + 1) (a - 0) in
+    let last = numbers_from (a + 1) (b - a) in
+    let e : (a - 0) + (b - a) ≡ b - 0 = omega arith in
+    let d : (0 + 1) + (a - 0) ≡ a + 1 = omega arith in
+    let row : first ++ last ≡ numbers_from (0 + 1) (b - 0) =
+    ap (λ k. first ++ numbers_from k (b - a)) (sym d) ∙ numbers-append (0 + 1) (a - 0) (b - a) ∙ ap (numbers_from (0 + 1)) e in
+    sym (filter-append (λ (x : Message A). is_user x.payload) (filter_map (found c.held ring) first) (filter_map (found c.held ring) last))
+    ∙ ap (filter (λ (x : Message A). is_user x.payload)) (sym (filter_map-append (found c.held ring) first last))
+    ∙ ap some row
+
+-- what stood aside is agreed first, then what came after it
+pub all_given : {A : Type 0} (c : Core A) (ring : RingId) (most : ℕ) (aside : List (Message A)) → aside ≡ users c ring 0 most → most ≤ front c ring
+    → map (λ x. Agreed ring x.number x) aside ++ delivered_from c ring most 0 ≡ delivered_from c ring 0 0
+all_given {A} c ring most aside e l =
+    let out = λ (x : Message A). Agreed ring x.number x in
+    let later = users c ring most (front c ring) in
+    sym (append_assoc (map out aside) (map out later) (safe_from c ring 0))
+    ∙ ap (λ (xs : List (Out A)). xs ++ safe_from c ring 0) (sym (map-append out aside later)
+    ∙ ap (λ (xs : List (Message A)). map out (xs ++ later)) e
+    ∙ ap (map out) (users_parts c ring most (front c ring) l))
+
+-- What the old ring gives
+
+-- a window has what it held above its mark
+kept_all : {A : Type 0} (w : Windowed A) (ns : List ℕ) → AllByRecursion (λ n. w.mark < n) ns → filter_map (kept w) ns ≡ filter_map (found w.held w.ring) ns
+kept_all w [] h = refl
+kept_all w (n ∷ ns) h = rw (kept_found w n h.0, kept_all w ns h.1) refl
+
+row_above : (b first count : ℕ) → b < first → AllByRecursion (λ n. b < n) (numbers_from first count)
+row_above b first zero l = tt
+row_above b first (suc count) l = (l, row_above b (suc first) count (omega arith))
+
+found_all : {A : Type 0} (held : List (Message A)) (ring : RingId) (ns : List ℕ)
+    → filter_map (found (of_ring ring held) ring) ns ≡ filter_map (found held ring) ns
+found_all held ring [] = refl
+found_all held ring (n ∷ ns) = rw (found_of_ring held ring n, found_all held ring ns) refl
+
+-- what is delivered lies above what is safe by the plan
+known_above : (p : Plan) (b : ℕ) → b ≤ safe p → AllByRecursion (λ n. b < n) (known_above_safe p)
+known_above p b l = each-filter (λ n. b < n) (is_known p) (numbers_from (safe p + 1) 256) (row_above b (safe p + 1) 256 (omega arith))
+
+-- the two parts are read off the window of the installed ring
+pub rests_by : {A : Type 0} (c : Core A) (w : Windowed A) → w ≡ window_of c c.installed.ring → mark c c.installed.ring ≤ safe (plan c)
+    → filter_map (kept w) (transitional_part (plan c)) ++ filter_map (kept w) (past_gap_part (plan c) c.held) ≡ filter_map (found c.held c.installed.ring)
+    (transitional_part (plan c) ++ past_gap_part (plan c) c.held)
+rests_by {A} c w e l =
+    let p = plan c in
+    let old = c.installed.ring in
+    let v = window_of c old in
+    let all = known_above p (mark c old) l in
+    let a = each-filter (λ n. mark c old < n) (λ n. nat_lt n (gap p)) (known_above_safe p) all in
+    let b = each-filter (λ n. mark c old < n) (is_from_mate p c.held) (filter (nat_lt (gap p)) (known_above_safe p)) (each-filter (λ n. mark c old < n)
+    (nat_lt (gap p)) (known_above_safe p) all) in
+    let one = kept_all v (transitional_part p) a ∙ found_all c.held old (transitional_part p) in
+    let two = kept_all v (past_gap_part p c.held) b ∙ found_all c.held old (past_gap_part p c.held) in
+    ap (λ (x : Windowed A). filter_map (kept x) (transitional_part p) ++ filter_map (kept x) (past_gap_part p c.held)) e
+    ∙ ap (λ (xs : List (Message A)). xs ++ filter_map (kept v) (past_gap_part p c.held)) one
+    ∙ ap (λ (xs : List (Message A)). filter_map (found c.held old) (transitional_part p) ++ xs) two
+    ∙ sym (filter_map-append (found c.held old) (transitional_part p) (past_gap_part p c.held))
+
+-- so they make the rest of the old ring
+pub rest_given : {A : Type 0} (c : Core A) (w : Windowed A) → w ≡ window_of c c.installed.ring → mark c c.installed.ring ≤ safe (plan c)
+    → rest_of w (transitional_part (plan c)) ++ rest_of w (past_gap_part (plan c) c.held) ≡ map (λ (x : Message A). Rest x.ring x.number x) (rests
+    (plan c) c.held)
+rest_given {A} c w e l =
+    let out = λ (x : Message A). Rest x.ring x.number x in
+    let users_only = λ (x : Message A). is_user x.payload in
+    let a = filter_map (kept w) (transitional_part (plan c)) in
+    let b = filter_map (kept w) (past_gap_part (plan c) c.held) in
+    sym (map-append out (filter users_only a) (filter users_only b))
+    ∙ ap (map out) (sym (filter-append users_only a b))
+    ∙ ap (λ (xs : List (Message A)). map out (filter users_only xs)) (rests_by c w e l)
+
+-- the two configurations with what comes between
+pub first_given : {A : Type 0} (c : Core A) (outs : List (Out A)) (w : Windowed A) (mates : ℕ) → mates ≡ (plan c).mates → w ≡ window_of c c.installed.ring
+    → mark c c.installed.ring ≤ safe (plan c)
+    → (((outs ++ Trans c.installed.ring c.running.ring mates ∷ []) ++ rest_of w (transitional_part (plan c)))
+    ++ rest_of w (past_gap_part (plan c) c.held)) ++ Regular c.running.ring c.running.members ∷ [] ≡ outs ++ given_first c
+unfolding given_first
+first_given {A} c outs w mates m e l =
+    let first : Out A = Trans c.installed.ring c.running.ring mates in
+    let last : Out A = Regular c.running.ring c.running.members in
+    let a = rest_of w (transitional_part (plan c)) in
+    let b = rest_of w (past_gap_part (plan c) c.held) in
+    let rest = map (λ (x : Message A). Rest x.ring x.number x) (rests (plan c) c.held) in
+    let flat : (((outs ++ first ∷ []) ++ a) ++ b) ++ last ∷ [] ≡ outs ++ first ∷ ((a ++ b) ++ last ∷ []) = simp append_assoc in
+    flat ∙ ap (λ (xs : List (Out A)). outs ++ first ∷ (xs ++ last ∷ [])) (rest_given c w e l)
+    ∙ ap (λ n. outs ++ Trans c.installed.ring c.running.ring n ∷ (rest ++ last ∷ [])) m
+
+-- and what the new ring gives behind them
+pub then_given : {A : Type 0} (c : Core A) (outs : List (Out A)) (most : ℕ) (aside : List (Message A)) → aside ≡ users c c.running.ring 0 most
+    → most ≤ front c c.running.ring
+    → ((outs ++ given_first c) ++ all_agreed c.running.ring aside) ++ delivered_from c c.running.ring most 0 ≡ outs ++ given_all c
+unfolding given_first given_all
+then_given {A} c outs most aside e l =
+    let first : Out A = Trans c.installed.ring c.running.ring (plan c).mates in
+    let last : Out A = Regular c.running.ring c.running.members in
+    let rest = map (λ (x : Message A). Rest x.ring x.number x) (rests (plan c) c.held) in
+    let a = all_agreed c.running.ring aside in
+    let b = delivered_from c c.running.ring most 0 in
+    let flat : ((outs ++ first ∷ (rest ++ last ∷ [])) ++ a) ++ b ≡ outs ++ first ∷ (rest ++ last ∷ (a ++ b)) = simp append_assoc in
+    flat ∙ ap (λ (xs : List (Out A)). outs ++ first ∷ (rest ++ last ∷ xs)) (all_given c c.running.ring most aside e l)
+
+-- the same of what the code gives, step by step
+pub first_by : {A : Type 0} (c : Core A) (outs one two three all : List (Out A)) (w : Windowed A) (mates : ℕ) (d : Delivery)
+    → one ≡ outs ++ Trans c.installed.ring c.running.ring mates ∷ [] → two ≡ one ++ rest_of w d.transitional → three ≡ two ++ rest_of w d.past_gap
+    → all ≡ three ++ Regular c.running.ring c.running.members ∷ []
+    → d ≡ delivery (plan c) c.held → mates ≡ (plan c).mates → w ≡ window_of c c.installed.ring → mark c c.installed.ring ≤ safe (plan c) → all ≡ outs
+    ++ given_first c
+first_by {A} c outs one two three all w mates d a b e f is m there l =
+    let last : Out A = Regular c.running.ring c.running.members in
+    let first = outs ++ Trans c.installed.ring c.running.ring mates ∷ [] in
+    f ∙ ap (λ (xs : List (Out A)). xs ++ last ∷ []) (e ∙ ap (λ (xs : List (Out A)). xs ++ rest_of w d.past_gap) (b ∙ ap (λ (xs : List (Out A)). xs
+    ++ rest_of w d.transitional) a))
+    ∙ ap (λ (x : Delivery). ((first ++ rest_of w x.transitional) ++ rest_of w x.past_gap) ++ last ∷ []) is
+    ∙ first_given c outs w mates m there l
+
+pub then_by : {A : Type 0} (c n : Core A) (outs one two all : List (Out A)) (ring : RingId) (most : ℕ) (aside : List (Message A))
+    → one ≡ outs ++ given_first c → two ≡ one ++ all_agreed ring aside → all ≡ two ++ delivered_from n ring most 0
+    → n ≡ install c → ring ≡ n.installed.ring → aside ≡ users c c.running.ring 0 most → most ≤ front c c.running.ring → all ≡ outs ++ given_all c
+then_by {A} c n outs one two all ring most aside a b d is r e l =
+    let same : ring ≡ c.running.ring = r ∙ ap (λ (x : Core A). x.installed.ring) is in
+    d ∙ ap (λ (xs : List (Out A)). xs ++ delivered_from n ring most 0) (b ∙ ap (λ (xs : List (Out A)). xs ++ all_agreed ring aside) a)
+    ∙ ap (λ (x : Core A). ((outs ++ given_first c) ++ all_agreed ring aside) ++ delivered_from x ring most 0) is
+    ∙ ap (λ (x : RingId). ((outs ++ given_first c) ++ all_agreed x aside) ++ delivered_from c x most 0) same
+    ∙ then_given c outs most aside e l
+
+-- told of a result that may be an error
+pub on_ok : {T E : Type 0} {P : Type 0} (r : Result T E) → P → OnOk r P
+on_ok (Ok x) p = p
+on_ok (Err e) p = tt
+
+-- all that an installation gives
+pub settled_outs : {A T E : Type 0} (c : Core A) (r : Result T E) (outs all : List (Out A)) → may_install c ≡ true → OnOk r (all ≡ outs ++ given_all c)
+    → OnOk r (all ≡ outs ++ (settle (may_install c) c []).outs)
+unfolding given_all
+settled_outs c r outs all due h = subst (λ (b : Bool). OnOk r (all ≡ outs ++ (settle b c []).outs)) (sym due) h

@@ -1,0 +1,76 @@
+-- A message of the ring in use, and in Recovery what it wraps.
+use contract.BorrowLft.{⊑_meet, ⊑_static, ⊑_refl}
+use Rattle.std.proofs.Common.{◌≡◌, ◌∷◌, ap, sym, ◌∙◌, subst, true}
+use Rattle.ring_core.specs.State.{Core}
+use Rattle.ring_core.specs.Acting.{took}
+use Rattle.ring_core.specs.Deciding.{is_taken}
+use Rattle.ring_srp_acts.proofs.Held.{with_held, held_both, took_both, took_other, front_there, mark_there, is_recovery}
+use Rattle.ring_srp_acts.proofs.Held.{no_recovery, recovering_there, taken_new, taken_used, taken_running}
+use Rattle.ring_srp_acts.proofs.machine.Machine.take.Goals as goal
+use Rattle.ring_srp_acts.proofs.machine.Machine.take.Goals.{in_default-via-in-Some+else-eq, in_default-via-in_default}
+
+pub take-requires-clause-front : goal.take-requires-clause-front
+take-requires-clause-front g c =
+    let h = subst (λ (q : Core g.row.A.Denot). is_taken q c.args.message ≡ true) (sym c.self.view_is) c.requires in
+    let s = is_recovery c.self.inside.state (sym c.eq.ensures ∙ c.if-eq.true) in
+    front_there _ _ _ _ _ c.self.invariant c.args.message c.in-Some.recovering s c.in-Some.is (taken_running _ c.args.message h c.self.invariant.same s)
+    (taken_new _ c.args.message h)
+
+pub take-requires-clause-mark : goal.take-requires-clause-mark
+take-requires-clause-mark g c =
+    let h = subst (λ (q : Core g.row.A.Denot). is_taken q c.args.message ≡ true) (sym c.self.view_is) c.requires in
+    let s = is_recovery c.self.inside.state (sym c.eq.ensures ∙ c.if-eq.true) in
+    mark_there _ _ _ _ _ c.self.invariant c.args.message c.in-Some.recovering s c.in-Some.is (taken_running _ c.args.message h c.self.invariant.same s)
+    (taken_new _ c.args.message h)
+
+pub invariant_of-self-then-eq : goal.invariant_of-self-then-eq
+invariant_of-self-then-eq g c =
+    let h = subst (λ (q : Core g.row.A.Denot). is_taken q c.args.message ≡ true) (sym c.self.view_is) c.requires in
+    let s = is_recovery c.self.inside.state (sym c.eq.ensures ∙ c.if-eq.true) in
+    rw c.take.ensures
+    (held_both _ _ _ _ _ c.self.invariant c.args.message c.in-Some.recovering c.unwrap_into.new.window c.mark.result c.told_both-held.result.value
+    s c.in-Some.is (taken_running _ c.args.message h c.self.invariant.same s)
+    (taken_new _ c.args.message h) c.in_ok-unwrap_into-in-Some.ensures.ok c.mark.ensures c.told_both-held.ensures)
+
+pub told_both-held-requires : goal.told_both-held-requires
+told_both-held-requires g c κs within = (
+  search (⊑_meet, ⊑_static, ⊑_refl, within.0) depth 60 fits 100000,
+  (search (⊑_meet, ⊑_static, ⊑_refl, within.1) depth 60 fits 100000, search (⊑_meet, ⊑_static, ⊑_refl) depth 60 fits 100000),
+)
+
+pub hold-requires-clause-ring : goal.hold-requires-clause-ring
+hold-requires-clause-ring g c =
+    let used = taken_used _ c.args.message (subst (λ (q : Core g.row.A.Denot). is_taken q c.args.message ≡ true)
+    (sym c.self.view_is) c.requires) c.self.invariant.same in
+    elim c.in_default.branch [
+      | in_default-via-in-Some+else-eq w ↦ rw w.self-is used
+      | in_default-via-in_default w ↦ rw w.self-is used
+    ]
+
+pub hold-requires-clause-new : goal.hold-requires-clause-new
+hold-requires-clause-new g c =
+    let new = taken_new _ c.args.message (subst (λ (q : Core g.row.A.Denot). is_taken q c.args.message ≡ true) (sym c.self.view_is) c.requires) in
+    elim c.in_default.branch [
+      | in_default-via-in-Some+else-eq w ↦ rw w.self-is new
+      | in_default-via-in_default w ↦ rw w.self-is new
+    ]
+
+pub returns-in_ok-unwrap_into-in-Some-clause-ok : goal.returns-in_ok-unwrap_into-in-Some-clause-ok
+returns-in_ok-unwrap_into-in-Some-clause-ok g c =
+    let s = is_recovery c.self.inside.state (sym c.eq.ensures ∙ c.if-eq.true) in
+    rw (c.told_both-held.ensures) (took_both _ _ _ _ _ c.self.invariant c.args.message c.mark.result s c.mark.ensures
+    ∙ ap (λ (q : Core g.row.A.Denot). took q c.args.message) c.self.view_is)
+
+pub returns-in_default-clause-ok : goal.returns-in_default-clause-ok
+returns-in_default-clause-ok g c =
+    let last = ap (λ (q : Core g.row.A.Denot). took q c.args.message) c.self.view_is in
+    elim c.in_default.branch [
+      | in_default-via-in-Some+else-eq w ↦
+          c.hold.ensures
+          ∙ ap (λ (q : Core g.row.A.Denot). with_held q (c.args.message ∷ q.held)) w.self-is
+          ∙ took_other _ c.args.message (no_recovery c.self.inside.state (sym w.eq.ensures ∙ w.if-eq.false)) ∙ last
+      | in_default-via-in_default w ↦
+          c.hold.ensures
+          ∙ ap (λ (q : Core g.row.A.Denot). with_held q (c.args.message ∷ q.held)) w.self-is
+          ∙ took_other _ c.args.message (λ s. recovering_there _ _ (c.self.invariant.recovering s) w.in_default.not-Some) ∙ last
+    ]

@@ -1,0 +1,138 @@
+//! A ring is taken part in: a commit token is proposed, filled in, and handed on.
+
+ghost use Rattle.std.specs.Prelude.{◌≡◌, ◌==◌, ◌∷◌, ◌++◌, ◌<◌, true, Some, IfErr, OnOk};
+ghost use Rattle.ring_base.specs.Processors.{IsMember, size, smallest};
+ghost use Rattle.ring_base.specs.declared.fault.Fault.TheVariants.{Memory};
+ghost use Rattle.ring_base.specs.declared.state.State.TheVariants.{Gather as InGather, Commit as InCommit};
+ghost use Rattle.ring_core.specs.State.{floor};
+ghost use Rattle.ring_core.specs.Giving.{sent};
+ghost use Rattle.ring_core.specs.Joining.{proposes};
+ghost use Rattle.ring_core.specs.Handing.{joined, filled};
+ghost use Rattle.ring_core.specs.Acting.{silently, proposed_after};
+ghost use Rattle.ring_core.specs.Views.{own_entry};
+ghost use Rattle.ring_join.specs.Gathering.{candidates, may_propose};
+ghost use Rattle.ring_srp_acts.specs.Allowing.{FillAllowed};
+
+use crate::machine::Machine;
+use ring_base::{Fault, MAX, ProcSet, RingId, State};
+use ring_commit::{CommitOutcome, propose, receiver};
+use ring_core::{Out, Sent};
+use ring_srp_state::{send_copy, with_ring};
+use ring_wire::{CommitBox, Frame};
+use std::alloc::Allocator;
+
+impl<A: Allocator + Copy> Machine<A> {
+    /// In Gather, with consensus, the smallest proposes a ring.
+    pub fn propose_if_due(&mut self, outs: &mut Vec<Out<A>, A>) -> Result<(), Fault>
+        ensures core { OnOk result (self.new ≡ (proposed_after (proposes self.old) (silently self.old)).core) }
+        ensures outs { OnOk result (outs.new.items ≡ outs.old.items ++ sent (proposed_after (proposes self.old) (silently self.old)).sends) }
+        ensures refused { IfErr result (λ fault. fault ≡ Memory) }
+    {
+        if self.proposes() {
+            self.propose(outs)
+        } else {
+            Ok(())
+        }
+    }
+
+    /// Takes part in the ring that it proposes.
+    #[inline(never)]
+    fn propose(&mut self, outs: &mut Vec<Out<A>, A>) -> Result<(), Fault>
+        requires { proposes self.old ≡ true }
+        ensures core { OnOk result (self.new ≡ (proposed_after (proposes self.old) (silently self.old)).core) }
+        ensures outs { OnOk result (outs.new.items ≡ outs.old.items ++ sent (proposed_after (proposes self.old) (silently self.old)).sends) }
+        ensures refused { IfErr result (λ fault. fault ≡ Memory) }
+    {
+        let greatest = self.gather.greatest_number();
+        let candidates = self.gather.candidates();
+        match propose(self.me, greatest, candidates, self.own_entry()) {
+            CommitOutcome::Pass(token) => {
+                let boxed = CommitBox::new(self.alloc, token)?;
+                self.join(boxed, outs)
+            }
+            _ => Ok(()),
+        }
+    }
+
+    /// Whether it is in Gather with consensus, the smallest, and below the greatest number.
+    fn proposes(&self) -> bool
+        ensures { result ≡ proposes self.now }
+    {
+        match self.state {
+            State::Gather => self.may_propose(),
+            State::Commit | State::Recovery | State::Operational | State::Stopped => false,
+        }
+    }
+
+    fn may_propose(&self) -> bool
+        requires { self.now.state ≡ InGather }
+        ensures { result ≡ may_propose self.now.me (floor self.now) self.now.gathering }
+    {
+        self.gather.agreed().is_some() && self.is_smallest() && self.gather.greatest_number() < MAX
+    }
+
+    /// Whether it is the smallest of those that are not given up.
+    fn is_smallest(&self) -> bool
+        ensures { result ≡ (smallest (candidates self.now.gathering) == self.now.me) }
+    {
+        match self.gather.candidates().smallest() {
+            Some(proc) => proc == self.me,
+            None => false,
+        }
+    }
+
+    /// The first round: the own report is added.
+    pub fn fill(&mut self, boxed: CommitBox<A>, outs: &mut Vec<Out<A>, A>) -> Result<(), Fault>
+        requires { FillAllowed self.old boxed }
+        ensures core { OnOk result (self.new ≡ (filled self.old boxed).core) }
+        ensures outs { OnOk result (outs.new.items ≡ outs.old.items ++ sent (filled self.old boxed).sends) }
+        ensures refused { IfErr result (λ fault. fault ≡ Memory) }
+    {
+        let mut went = boxed;
+        went.hop_on();
+        went.report(self.own_entry());
+        self.join(went, outs)
+    }
+
+    /// Takes part in the ring of a commit token, which goes on.
+    fn join(&mut self, boxed: CommitBox<A>, outs: &mut Vec<Out<A>, A>) -> Result<(), Fault>
+        requires state { self.old.state ≡ InGather }
+        requires newer { floor self.old < boxed.ring.seq }
+        requires member { IsMember boxed.members self.old.me }
+        requires some { 0 < size boxed.members }
+        ensures core { OnOk result (self.new ≡ (joined self.old boxed).core) }
+        ensures outs { OnOk result (outs.new.items ≡ outs.old.items ++ sent (joined self.old boxed).sends) }
+        ensures refused { IfErr result (λ fault. fault ≡ Memory) }
+    {
+        let token = boxed.token();
+        let (ring, members) = (token.ring, token.members);
+        let to = ProcSet::only(receiver(token));
+        let frame = Frame::Commit(boxed);
+        send_copy(outs, to, &frame)?;
+        self.take_part(ring, members, to, frame);
+        Ok(())
+    }
+
+    /// Takes part in a ring from now on: the own report was written, and this was sent.
+    fn take_part(&mut self, ring: RingId, members: ProcSet, to: ProcSet, frame: Frame<A>)
+        requires state { self.old.state ≡ InGather }
+        requires newer { floor self.old < ring.seq }
+        requires member { IsMember members self.old.me }
+        ensures { self.new ≡ record self.old {
+          state = InCommit;
+          running = record { ring = ring; members = members };
+          shown = Some (record { to = to; frame = frame });
+          rings = record { ring = ring; members = members }
+              ∷ self.old.rings;
+          reports = record { ring = ring; entry = own_entry self.old } ∷ self.old.reports;
+        } }
+    {
+        let own = self.own_entry();
+        self.state = State::Commit;
+        self.running.ring = ring;
+        self.running.members = members;
+        self.shown = Some(Sent { to, frame });
+        let past = with_ring(&self.past, self.running, &own);
+        self.past = past;
+    }
+}

@@ -1,0 +1,138 @@
+//! The end of a visit: the token goes on, and the visit is a fact.
+
+ghost use Rattle.std.specs.Prelude.{◌≡◌, ◌≤◌, ◌<◌, ◌+◌, ◌++◌, ◌∷◌, [], true, length, Some, IfErr, OnOk};
+ghost use Rattle.std.specs.List.Sorted.{IsStrictlyIncreasing};
+ghost use Rattle.ring_base.specs.Numbers.{max_number};
+ghost use Rattle.ring_base.specs.declared.fault.Fault.TheVariants.{Memory};
+ghost use Rattle.ring_base.specs.declared.state.State.TheVariants.{Recovery as InRecovery, Operational as InOperational};
+ghost use Rattle.ring_wire.specs.declared.frame.Frame.TheVariants.{Token as TokenFrame};
+ghost use Rattle.ring_core.specs.Giving.{sent};
+ghost use Rattle.ring_core.specs.Visiting.{to_next};
+ghost use Rattle.ring_srp_acts.specs.Machines.{is_running};
+ghost use Rattle.ring_srp_acts.specs.Passing.{went, passed_on};
+
+use crate::machine::Machine;
+use ring_base::{Fault, Past, ProcSet, State};
+use ring_core::{Out, Sent};
+use ring_payload::Payload;
+use ring_srp_state::with_visit;
+use ring_wire::{Frame, Requests, Token};
+use std::alloc::Allocator;
+
+impl<A: Allocator + Copy> Machine<A> {
+    /// The token goes to the next member, with the numbers that are asked for now, and the visit is a fact: by it the
+    /// safe mark may rise, up to which the window forgets. What carries these `count` new messages is told by `fresh`.
+    pub(crate) fn pass_token(
+        &mut self,
+        token: &Token,
+        stays: &Requests,
+        count: u64,
+        fresh: &Past<[Payload<A>; 0]>,
+        outs: &mut Vec<Out<A>, A>,
+    ) -> Result<(), Fault>
+        requires runs { is_running self.old.state ≡ true }
+        requires ring { token.now.ring ≡ self.old.running.ring }
+        requires number { token.now.number < max_number }
+        requires seq { token.now.seq + count ≤ max_number }
+        requires count { length fresh.now.value ≡ count }
+        requires stays { IsStrictlyIncreasing stays.now }
+        ensures core { OnOk result (self.new ≡ passed_on self.old token.now stays.now fresh.now.value) }
+        ensures outs { OnOk result (outs.new.items ≡ outs.old.items ++ sent (to_next self.old (went self.old token.now stays.now count) ∷ [])) }
+        ensures refused { IfErr result (λ fault. fault ≡ Memory) }
+    {
+        self.pass_on(token, stays, count, fresh)?;
+        self.repeat(outs)
+    }
+
+    /// The token as it goes to the next member is shown, and the visit is a fact.
+    fn pass_on(
+        &mut self,
+        token: &Token,
+        stays: &Requests,
+        count: u64,
+        fresh: &Past<[Payload<A>; 0]>,
+    ) -> Result<(), Fault>
+        requires runs { is_running self.old.state ≡ true }
+        requires ring { token.now.ring ≡ self.old.running.ring }
+        requires number { token.now.number < max_number }
+        requires seq { token.now.seq + count ≤ max_number }
+        requires count { length fresh.now.value ≡ count }
+        requires stays { IsStrictlyIncreasing stays.now }
+        ensures core { OnOk result (self.new ≡ passed_on self.old token.now stays.now fresh.now.value) }
+        ensures refused { IfErr result (λ fault. fault ≡ Memory) }
+    {
+        match self.state {
+            State::Recovery => self.pass_running(token, stays, count, fresh),
+            _ => {
+                self.pass_installed(token, stays, count, fresh);
+                Ok(())
+            }
+        }
+    }
+
+    /// In Recovery what the window may forget stands aside first.
+    fn pass_running(
+        &mut self,
+        token: &Token,
+        stays: &Requests,
+        count: u64,
+        fresh: &Past<[Payload<A>; 0]>,
+    ) -> Result<(), Fault>
+        requires state { self.old.state ≡ InRecovery }
+        requires ring { token.now.ring ≡ self.old.running.ring }
+        requires number { token.now.number < max_number }
+        requires seq { token.now.seq + count ≤ max_number }
+        requires count { length fresh.now.value ≡ count }
+        requires stays { IsStrictlyIncreasing stays.now }
+        ensures core { OnOk result (self.new ≡ passed_on self.old token.now stays.now fresh.now.value) }
+        ensures refused { IfErr result (λ fault. fault ≡ Memory) }
+    {
+        let to = ProcSet::only(self.running.members.next(self.me));
+        if let Some(recovering) = &mut self.recovery {
+            recovering.set_aside()?;
+            let token = recovering.part.pass(token, stays, count, fresh);
+            self.past = with_visit(&self.past, &recovering.part.visit);
+            show(&mut self.shown, to, token);
+        }
+        Ok(())
+    }
+
+    /// In Operational the running ring is the installed one.
+    fn pass_installed(
+        &mut self,
+        token: &Token,
+        stays: &Requests,
+        count: u64,
+        fresh: &Past<[Payload<A>; 0]>,
+    )
+        requires state { self.old.state ≡ InOperational }
+        requires ring { token.now.ring ≡ self.old.running.ring }
+        requires number { token.now.number < max_number }
+        requires seq { token.now.seq + count ≤ max_number }
+        requires count { length fresh.now.value ≡ count }
+        requires stays { IsStrictlyIncreasing stays.now }
+        ensures { self.new ≡ passed_on self.old token.now stays.now fresh.now.value }
+    {
+        let to = ProcSet::only(self.running.members.next(self.me));
+        let token = self.kept.pass(token, stays, count, fresh);
+        self.past = with_visit(&self.past, &self.kept.visit);
+        show(&mut self.shown, to, token);
+    }
+}
+
+/// A token is the last that was sent: it takes the place of the one before it.
+fn show<A: Allocator + Copy>(shown: &mut Option<Sent<A>>, to: ProcSet, token: Token)
+    ensures { shown.new ≡ Some (record { to = to; frame = TokenFrame token }) }
+{
+    if let Some(sent) = shown {
+        if let Frame::Token(kept) = &mut sent.frame {
+            *kept = token;
+            sent.to = to;
+            return;
+        }
+    }
+    *shown = Some(Sent {
+        to,
+        frame: Frame::Token(token),
+    });
+}

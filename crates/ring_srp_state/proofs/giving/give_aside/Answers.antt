@@ -1,0 +1,17 @@
+-- Each message came.
+use Rattle.std.proofs.Common.{◌≡◌, ◌++◌, List, ap, sym, ◌∙◌}
+use Rattle.std.proofs.lemmas.List.{map-id}
+use Rattle.std.proofs.lemmas.Iterator.Adapters.{YieldsList-from_vec}
+use Rattle.std.proofs.lemmas.Iterator.Consumers.{YieldsList-end}
+use Rattle.ring_wire.specs.declared.message.Message.{Message}
+use Rattle.ring_srp_state.specs.Rests.{all_agreed}
+use Rattle.ring_srp_state.proofs.giving.give_aside.Goals as goal
+
+pub returns-clause-ok : goal.returns-clause-ok
+returns-clause-ok g c =
+    let begun = c.into_iter-message-iterator.ensures.into_iter_gives in
+    let came = YieldsList-end (YieldsList-from_vec c.args.messages.items begun.0 (begun.1
+    ∙ c.args.messages.ok.0)) c.loop-message.yielded c.loop-message.message-iterator c.loop-message.yielded_by c.next.result c.next.new.self c.in-None.is
+    c.next.ensures.steps in
+    let same : c.loop-message.yielded ≡ c.args.messages.items = sym (map-id c.loop-message.yielded) ∙ came.0 in
+    c.loop-message.invariant ∙ ap (λ (xs : List (Message g.row.A.Denot)). c.args.outs.now.items ++ all_agreed c.args.ring.now xs) same

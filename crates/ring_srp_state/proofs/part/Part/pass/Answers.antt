@@ -1,0 +1,43 @@
+-- The visit is the one that the part tells, and its mark is no further than the front.
+use Rattle.std.proofs.Common.{◌+◌, List, ℕ, ap, ◌∙◌, sym}
+use Rattle.ring_window.specs.Held.{front_of, missing}
+use Rattle.ring_token.specs.Turns.{Turn}
+use Rattle.ring_token.specs.Visits.{requests_after, token_after}
+use Rattle.ring_token.specs.Histories.{turn_by, with_turn}
+use Rattle.ring_srp_state.proofs.OneVisitMore.{mark_within}
+use Rattle.ring_srp_state.proofs.part.Part.pass.Goals as goal
+
+pub forget-requires : goal.forget-requires
+forget-requires g c =
+    let h = c.args.self.now.visit in
+    let w = c.args.self.now.window in
+    let v : Turn g.row.A.Denot = turn_by h.me c.front-front.result c.args.fresh.now.value c.requests_now-requests.result c.args.token.now in
+    rw (c.safe.ensures, c.visit_as-went.ensures.visit, c.copied-token.ensures) (mark_within v h.turns h.raises h.ring (front_of w.held w.ring) c.requires.ring
+    c.requires.led c.requires.reached)
+
+pub returns-clause-token : goal.returns-clause-token
+returns-clause-token g c =
+    let h = c.args.self.now.visit in
+    let w = c.args.self.now.window in
+    let t = c.args.token.now in
+    let stays = c.args.stays.now in
+    let lacks : ℕ → List ℕ = λ n. missing w.held w.ring w.mark (t.seq + n) in
+    c.visit_as-went.ensures.token
+    ∙ ap (token_after h.me c.front-front.result c.args.count c.requests_now-requests.result) c.copied-token.ensures
+    ∙ ap (λ n. token_after h.me n c.args.count c.requests_now-requests.result t) c.front-front.ensures
+    ∙ ap (λ ns. token_after h.me (front_of w.held w.ring) c.args.count ns t) c.requests_now-requests.ensures
+    ∙ ap (λ n. token_after h.me (front_of w.held w.ring) n (requests_after stays (lacks n)) t) (sym c.requires.count)
+
+pub returns-clause-visit : goal.returns-clause-visit
+returns-clause-visit g c =
+    let h = c.args.self.now.visit in
+    let w = c.args.self.now.window in
+    let t = c.args.token.now in
+    let fresh = c.args.fresh.now.value in
+    let stays = c.args.stays.now in
+    let lacks : ℕ → List ℕ = λ n. missing w.held w.ring w.mark (t.seq + n) in
+    c.visit_as-went.ensures.visit
+    ∙ ap (λ u. with_turn h (turn_by h.me c.front-front.result fresh c.requests_now-requests.result u)) c.copied-token.ensures
+    ∙ ap (λ n. with_turn h (turn_by h.me n fresh c.requests_now-requests.result t)) c.front-front.ensures
+    ∙ ap (λ ns. with_turn h (turn_by h.me (front_of w.held w.ring) fresh ns t)) c.requests_now-requests.ensures
+    ∙ ap (λ n. with_turn h (turn_by h.me (front_of w.held w.ring) fresh (requests_after stays (lacks n)) t)) (sym c.requires.count)

@@ -1,0 +1,87 @@
+//! Frames that go to their receivers.
+
+ghost use Rattle.std.specs.Prelude.{◌≡◌, [], ◌∷◌, ◌++◌, IfErr, OnOk};
+ghost use Rattle.ring_base.specs.declared.fault.Fault.TheVariants.{Memory};
+ghost use Rattle.ring_wire.specs.declared.frame.Frame.TheVariants.{Message as MessageFrame, Token as TokenFrame};
+ghost use Rattle.ring_core.specs.Giving.{sent};
+
+use crate::part::copied;
+use ring_base::{Fault, ProcSet};
+use ring_core::Out;
+use ring_wire::{Frame, Message, Token};
+use std::alloc::Allocator;
+
+/// Sends a frame, unless it is to nobody.
+pub fn send<A: Allocator + Copy>(
+    outs: &mut Vec<Out<A>, A>,
+    to: ProcSet,
+    frame: Frame<A>,
+) -> Result<(), Fault>
+    ensures ok { OnOk result (outs.new.items ≡ outs.old.items ++ sent (record { to = to; frame = frame } ∷ [])) }
+    ensures refused { IfErr result (λ fault. fault ≡ Memory) }
+{
+    if !to.is_empty() {
+        outs.push(Out::Send(to, frame))?;
+    }
+    Ok(())
+}
+
+/// Sends a copy of a token or commit token, unless it is to nobody.
+pub fn send_copy<A: Allocator + Copy>(
+    outs: &mut Vec<Out<A>, A>,
+    to: ProcSet,
+    frame: &Frame<A>,
+) -> Result<(), Fault>
+    ensures ok { OnOk result (outs.new.items ≡ outs.old.items ++ sent (record { to = to; frame = frame.now } ∷ [])) }
+    ensures refused { IfErr result (λ fault. fault ≡ Memory) }
+{
+    match frame {
+        Frame::Token(token) => send_token(outs, to, token),
+        _ => send_clone(outs, to, frame),
+    }
+}
+
+/// Sends a copy of a frame, whatever it is, unless it is to nobody.
+#[inline(never)]
+fn send_clone<A: Allocator + Copy>(
+    outs: &mut Vec<Out<A>, A>,
+    to: ProcSet,
+    frame: &Frame<A>,
+) -> Result<(), Fault>
+    ensures ok { OnOk result (outs.new.items ≡ outs.old.items ++ sent (record { to = to; frame = frame.now } ∷ [])) }
+    ensures refused { IfErr result (λ fault. fault ≡ Memory) }
+{
+    let copy = frame.clone()?;
+    send(outs, to, copy)
+}
+
+/// Sends a copy of a token, unless it is to nobody.
+fn send_token<A: Allocator + Copy>(
+    outs: &mut Vec<Out<A>, A>,
+    to: ProcSet,
+    token: &Token,
+) -> Result<(), Fault>
+    ensures ok { OnOk result (outs.new.items ≡ outs.old.items ++ sent (record { to = to; frame = TokenFrame token.now } ∷ [])) }
+    ensures refused { IfErr result (λ fault. fault ≡ Memory) }
+{
+    if !to.is_empty() {
+        outs.push(Out::Send(to, Frame::Token(copied(token))))?;
+    }
+    Ok(())
+}
+
+/// Sends a copy of a message, unless it is to nobody.
+pub fn send_message<A: Allocator + Copy>(
+    outs: &mut Vec<Out<A>, A>,
+    to: ProcSet,
+    message: &Message<A>,
+) -> Result<(), Fault>
+    ensures ok { OnOk result (outs.new.items ≡ outs.old.items ++ sent (record { to = to; frame = MessageFrame message.now } ∷ [])) }
+    ensures refused { IfErr result (λ fault. fault ≡ Memory) }
+{
+    if to.is_empty() {
+        return Ok(());
+    }
+    let copy = message.clone()?;
+    send(outs, to, Frame::Message(copy))
+}

@@ -1,0 +1,10 @@
+pub mod Changes
+pub mod Synchrony
+pub mod Same
+pub mod Tests
+pub mod WrongLives
+pub mod Tales
+pub mod Installed
+pub mod Recovery
+pub mod Ends
+pub mod Ready

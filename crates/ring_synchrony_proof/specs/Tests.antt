@@ -1,0 +1,144 @@
+-- Virtual synchrony as a test, fact by fact, so that it is computed of worked runs and of random schedules, and of
+-- lives that are wrong. `tests_law` says that the test is passed exactly where the fact holds.
+use Rattle.std.specs.Prelude.{ℕ, Bool, true, false, ◌&&◌, ◌==◌, nat_lt, nat_le, if◌then◌else◌, List, [], ◌∷◌, ◌++◌, map, Option, Some, None}
+use Rattle.std.specs.List.{list_all, list_any}
+use Rattle.ring_base.specs.Numbers.{numbers_from}
+use Rattle.ring_base.specs.Processors.{has, elements}
+use Rattle.ring_base.specs.Rings.{same_ring}
+use Rattle.ring_base.specs.declared.ring_id.RingId.{RingId}
+use Rattle.ring_payload.specs.Kinds.{is_user}
+use Rattle.ring_wire.specs.declared.message.Message.{Message}
+use Rattle.ring_window.specs.Held.{found}
+use Rattle.ring_commit.specs.declared.configuration.Configuration.{Configuration}
+use Rattle.ring_core.specs.State.{Core}
+use Rattle.ring_core.specs.Views.{front}
+use Rattle.ring_core_proof.specs.Worlds.{World}
+use Rattle.ring_core_proof.specs.Texts.{text_of}
+use Rattle.ring_core_proof.specs.Lives.{Stage, InRegular, InTransitional, is_well_told, delivered_in}
+use Rattle.ring_core_proof.specs.CommitRounds.{is_above, all_pairs}
+use Rattle.ring_synchrony_proof.specs.Changes.{stages_in, agreed_of, deliveries_of, users_upto, regulars_of, members_in, alternate, Change, changes_in}
+use Rattle.ring_synchrony_proof.specs.Changes.{delivered_by}
+use Rattle.ring_synchrony_proof.specs.Same.{same_message, same_messages}
+
+-- Of each processor, and of each two
+
+abbrev pub of_all : {A : Type 0} → World A → (ℕ → Bool) → Bool
+of_all w test = list_all test (numbers_from 1 w.total)
+
+abbrev pub has_message : {A : Type 0} → Message A → List (Message A) → Bool
+has_message x xs = list_any (same_message x) xs
+
+abbrev pub same_configuration : Configuration → Configuration → Bool
+same_configuration a b = same_ring a.ring b.ring && (a.members == b.members)
+
+-- same_text
+
+-- what these processors hold, of all rings
+abbrev pub all_held : {A : Type 0} → (ℕ → Core A) → List ℕ → List (Message A)
+all_held cores [] = []
+all_held cores (i ∷ is) = (cores i).held ++ all_held cores is
+
+abbrev pub is_found : {A : Type 0} → Message A → Option (Message A) → Bool
+is_found x None = false
+is_found x (Some y) = same_message x y
+
+-- each message is the first one of its ring and number
+abbrev pub are_one_text : {A : Type 0} → List (Message A) → Bool
+are_one_text xs = list_all (λ (x : Message _). is_found x (found xs x.ring x.number)) xs
+
+abbrev pub has_one_text : {A : Type 0} → World A → Bool
+has_one_text w = are_one_text (all_held w.cores (numbers_from 1 w.total))
+
+-- a ring more, unless it stands there
+abbrev pub with_ring : RingId → List RingId → List RingId
+with_ring ring rings = if list_any (same_ring ring) rings then rings else ring ∷ rings
+
+abbrev pub rings_held : {A : Type 0} → List (Message A) → List RingId → List RingId
+rings_held [] rings = rings
+rings_held (x ∷ xs) rings = with_ring x.ring (rings_held xs rings)
+
+-- the rings that a processor was told of or holds a message of
+abbrev pub rings_in : {A : Type 0} → World A → ℕ → List RingId
+rings_in w i = rings_held (w.cores i).held (map (λ (at : Configuration). at.ring) (regulars_of (stages_in w i)))
+
+abbrev pub agrees_with_text : {A : Type 0} → World A → ℕ → RingId → Bool
+agrees_with_text w i ring = same_messages (agreed_of ring (stages_in w i)) (users_upto (text_of w ring) ring (front (w.cores i) ring))
+
+abbrev pub agrees_with_texts : {A : Type 0} → World A → ℕ → Bool
+agrees_with_texts w i = list_all (agrees_with_text w i) (rings_in w i)
+
+abbrev pub rests_in_text : {A : Type 0} → World A → Stage A → Bool
+rests_in_text w (InRegular at agreed safe) = true
+rests_in_text w (InTransitional old new members rest) = list_all (λ (x : Message _). has_message x (text_of w old) && is_user x.payload) rest
+
+abbrev pub is_before : {A : Type 0} → Message A → Message A → Bool
+is_before x y = if same_ring x.ring y.ring then nat_lt x.number y.number else true
+
+abbrev pub is_within_front : {A : Type 0} → Core A → Stage A → Bool
+is_within_front c (InRegular at agreed safe) = nat_le safe (front c at.ring)
+is_within_front c (InTransitional old new members rest) = true
+
+abbrev pub has_same_text : {A : Type 0} → World A → Bool
+has_same_text w =
+    has_one_text w
+    && (of_all w (agrees_with_texts w)
+    && (of_all w (λ i. list_all (rests_in_text w) (stages_in w i))
+    && (of_all w (λ i. all_pairs is_before (deliveries_of (stages_in w i)))
+    && of_all w (λ i. list_all (is_within_front (w.cores i)) (stages_in w i)))))
+
+-- safe_delivery
+
+-- a change from this ring has the message
+abbrev pub delivers_of : {A : Type 0} → RingId → Message A → Change A → Bool
+delivers_of ring x c = if same_ring c.old.ring ring then has_message x (delivered_by c) else true
+
+abbrev pub is_safely_delivered : {A : Type 0} → World A → Configuration → Message A → ℕ → Bool
+is_safely_delivered w at x q =
+    nat_le x.number (front (w.cores q) at.ring)
+    && (list_any (same_configuration at) (regulars_of (stages_in w q)) && list_all (delivers_of at.ring x) (changes_in w q))
+
+abbrev pub is_safe_stage : {A : Type 0} → World A → Stage A → Bool
+is_safe_stage w (InRegular at agreed safe) =
+    list_all (λ (x : Message _). list_all (is_safely_delivered w at x) (elements at.members)) (delivered_in (InRegular at agreed safe))
+is_safe_stage w (InTransitional old new members rest) = true
+
+abbrev pub delivers_safely : {A : Type 0} → World A → Bool
+delivers_safely w = of_all w (λ i. list_all (is_safe_stage w) (stages_in w i))
+
+-- same_deliveries
+
+abbrev pub same_change : {A : Type 0} → Change A → Change A → Bool
+same_change a b =
+    same_configuration a.old b.old
+    && (same_messages a.regular b.regular && ((a.mates == b.mates) && (same_messages a.rest b.rest && same_configuration a.new b.new)))
+
+abbrev pub are_alike : {A : Type 0} → Change A → Change A → Bool
+are_alike a b = if same_ring a.old.ring b.old.ring && same_ring a.new.ring b.new.ring then same_change a b else true
+
+abbrev pub delivers_alike : {A : Type 0} → World A → Bool
+delivers_alike w = of_all w (λ i. of_all w (λ j. list_all (λ a. list_all (are_alike a) (changes_in w j)) (changes_in w i)))
+
+-- configurations
+
+abbrev pub has_configurations : {A : Type 0} → World A → ℕ → Bool
+has_configurations w i =
+    is_well_told w i
+    && (list_all (λ (s : Stage _). has (members_in s) i) (stages_in w i)
+    && (alternate (stages_in w i) && all_pairs is_above (regulars_of (stages_in w i))))
+
+abbrev pub have_configurations : {A : Type 0} → World A → Bool
+have_configurations w = of_all w (has_configurations w)
+
+-- own_delivery
+
+-- a users' message of the processor's own is among these
+abbrev pub is_own_among : {A : Type 0} → ℕ → List (Message A) → Message A → Bool
+is_own_among i xs x = if (x.sender == i) && is_user x.payload then has_message x xs else true
+
+abbrev pub delivers_own : {A : Type 0} → World A → Bool
+delivers_own w = of_all w (λ i. list_all (λ (c : Change _). list_all (is_own_among i (delivered_by c)) (text_of w c.old.ring)) (changes_in w i))
+
+-- All five
+
+abbrev pub is_virtually_synchronous : {A : Type 0} → World A → Bool
+is_virtually_synchronous w = has_same_text w && (delivers_safely w && (delivers_alike w && (have_configurations w && delivers_own w)))

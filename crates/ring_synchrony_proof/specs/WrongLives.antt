@@ -1,0 +1,98 @@
+-- Lives that are wrong, each in one thing: what two processors gave, and held, in the first ring and on the way to the second. They are no lives of a run.
+use Rattle.std.specs.Prelude.{ℕ, List, [], ◌∷◌, ◌++◌, map}
+use Rattle.std.specs.declared.alloc.Global.{Global}
+use Rattle.ring_base.specs.Processors.{only}
+use Rattle.ring_base.specs.declared.ring_id.RingId.{RingId}
+use Rattle.ring_payload.specs.declared.content.Payload.TheVariants.{End}
+use Rattle.ring_wire.specs.declared.message.Message.{Message}
+use Rattle.ring_core.specs.declared.out.Out.{Out}
+use Rattle.ring_core.specs.declared.out.Out.TheVariants.{Agreed, Safe, Trans, Rest, Regular}
+use Rattle.ring_core.specs.State.{Core, opening}
+use Rattle.ring_core_proof.specs.Worlds.{World, put}
+use Rattle.ring_core_proof.specs.Samples.{ring_of, first_ring, second_ring, call_at, message_of}
+
+-- What both hold of the first ring: two Ends, and calls 3, 4 and 5 of processor 2
+
+abbrev pub two_ends : List (Message Global)
+two_ends = message_of first_ring 2 2 End ∷ message_of first_ring 1 1 End ∷ []
+
+abbrev pub three_calls : List (Message Global)
+three_calls = call_at 2 5 ∷ call_at 2 4 ∷ call_at 2 3 ∷ []
+
+abbrev pub holder : ℕ → List (Message Global) → Core Global
+holder i held = record (opening 2 i) { held = held }
+
+-- What one gives
+
+-- it installs a ring of both
+abbrev pub into : ℕ → ℕ → RingId → List (Out Global)
+into members i ring = Trans (ring_of 0 i) ring (only i) ∷ Regular ring members ∷ []
+
+-- call 3 is agreed and safe
+abbrev pub gets_third : List (Out Global)
+gets_third = Agreed first_ring 3 (call_at 2 3) ∷ Safe first_ring 3 ∷ []
+
+-- the other two are agreed
+abbrev pub gets_two : List (Out Global)
+gets_two = Agreed first_ring 4 (call_at 2 4) ∷ Agreed first_ring 5 (call_at 2 5) ∷ []
+
+-- these are the rest on the way to a ring of these members
+abbrev pub on_to : RingId → ℕ → ℕ → List ℕ → List (Out Global)
+on_to ring mates members numbers = Trans first_ring ring mates ∷ (map (λ n. Rest first_ring n (call_at 2 n)) numbers ++ Regular ring members ∷ [])
+
+-- all of it, with this rest and these members of the second ring
+abbrev pub life_with : ℕ → List ℕ → ℕ → List (Out Global)
+life_with members numbers i = into 3 i first_ring ++ (gets_third ++ (gets_two ++ on_to second_ring 3 members numbers))
+
+-- Both
+
+abbrev pub given_by : ℕ → List (Out Global) → List (ℕ × Out Global)
+given_by i outs = map (λ o. (i, o)) outs
+
+abbrev pub world_with : Core Global → Core Global → List (Out Global) → List (Out Global) → World Global
+world_with one two first second =
+    record { total = 2; cores = put (put (opening 2) 1 one) 2 two; frames = []; outs = given_by 1 first ++ given_by 2 second }
+
+-- both hold all of it
+abbrev pub both_with : List (Out Global) → List (Out Global) → World Global
+both_with first second = world_with (holder 1 (three_calls ++ two_ends)) (holder 2 (three_calls ++ two_ends)) first second
+
+-- nothing is wrong
+abbrev pub right_lives : World Global
+right_lives = both_with (life_with 3 (4 ∷ 5 ∷ []) 1) (life_with 3 (4 ∷ 5 ∷ []) 2)
+
+-- one companion lacks a delivery that the other has
+abbrev pub lacks_delivery : World Global
+lacks_delivery = both_with (life_with 3 (4 ∷ []) 1) (life_with 3 (4 ∷ 5 ∷ []) 2)
+
+-- the rest comes out of order
+abbrev pub rest_out_of_order : World Global
+rest_out_of_order = both_with (life_with 3 (5 ∷ 4 ∷ []) 1) (life_with 3 (5 ∷ 4 ∷ []) 2)
+
+-- the last message of processor 2 is lost at the change, at both
+abbrev pub own_message_lost : World Global
+own_message_lost = both_with (life_with 3 (4 ∷ []) 1) (life_with 3 (4 ∷ []) 2)
+
+-- processor 2 is no member of the second ring that both install
+abbrev pub without_own_node : World Global
+without_own_node = both_with (life_with 1 (4 ∷ 5 ∷ []) 1) (life_with 1 (4 ∷ 5 ∷ []) 2)
+
+-- call 3 is safe at processor 1, and processor 2 never got it
+abbrev pub never_got : World Global
+never_got = world_with (holder 1 (call_at 2 3 ∷ two_ends)) (holder 2 two_ends) (into 3 1 first_ring ++ gets_third) (into 3 2 first_ring)
+
+-- processor 2 got it, and never installed the first ring
+abbrev pub never_installed : World Global
+never_installed = world_with (holder 1 (call_at 2 3 ∷ two_ends)) (holder 2 (call_at 2 3 ∷ two_ends)) (into 3 1 first_ring ++ gets_third) []
+
+-- processor 1 got it, and went on alone without delivering it
+abbrev pub left_without : World Global
+left_without =
+    world_with (holder 1 (call_at 2 3 ∷ two_ends)) (holder 2 (call_at 2 3 ∷ two_ends))
+    (into 3 1 first_ring ++ (Agreed first_ring 3 (call_at 2 3) ∷ on_to second_ring 1 1 [])) (into 3 2 first_ring ++ gets_third)
+
+-- a call that was agreed is left out
+abbrev pub agreed_left_out : World Global
+agreed_left_out =
+    world_with (holder 1 (call_at 2 4 ∷ call_at 2 3 ∷ two_ends)) (holder 2 (call_at 2 4 ∷ call_at 2 3 ∷ two_ends))
+    (into 3 1 first_ring ++ (Agreed first_ring 4 (call_at 2 4) ∷ [])) (into 3 2 first_ring)

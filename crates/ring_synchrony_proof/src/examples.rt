@@ -1,0 +1,72 @@
+//! Worked changes of rings, of which all five facts are computed, and wrong lives, each refused by the fact that it
+//! breaks while the others hold.
+
+ghost use Rattle.std.specs.Prelude.{◌≡◌, true, ◌&&◌};
+ghost use Rattle.ring_core_proof.specs.ChangedRing.{changed};
+ghost use Rattle.ring_core_proof.specs.FirstRings.{three_after, lone_events};
+ghost use Rattle.ring_core_proof.specs.Worlds.{run, unformed};
+ghost use Rattle.ring_synchrony_proof.specs.Changes.{IsNode};
+ghost use Rattle.ring_synchrony_proof.specs.Synchrony.{HasSameText, DeliversSafely, DeliversAlike, DeliversOwn, HasConfigurations};
+ghost use Rattle.ring_synchrony_proof.specs.Tests.{has_same_text, delivers_safely, delivers_alike, have_configurations, delivers_own, is_virtually_synchronous};
+ghost use Rattle.ring_synchrony_proof.specs.WrongLives.{right_lives, lacks_delivery, rest_out_of_order, own_message_lost};
+ghost use Rattle.ring_synchrony_proof.specs.WrongLives.{without_own_node, never_got, never_installed, left_without};
+ghost use Rattle.ring_synchrony_proof.specs.WrongLives.{agreed_left_out};
+
+/// Two that change rings with a call on the way, three that gather and install their first ring, and one alone.
+pub fn worked_changes()
+    ensures two { is_virtually_synchronous changed ≡ true }
+    ensures three { is_virtually_synchronous (three_after 40) ≡ true }
+    ensures one { is_virtually_synchronous (run (unformed 1) lone_events) ≡ true }
+    ensures right { is_virtually_synchronous right_lives ≡ true }
+{}
+
+/// One companion lacks a delivery that the other has.
+pub fn a_companion_lacks_a_delivery()
+    ensures refused { DeliversAlike lacks_delivery → ⊥ }
+    ensures others { (has_same_text lacks_delivery
+        && (delivers_safely lacks_delivery && (have_configurations lacks_delivery && delivers_own lacks_delivery)))
+        ≡ true }
+{}
+
+/// The rest of the old ring comes out of order.
+pub fn the_rest_is_out_of_order()
+    ensures refused { HasSameText rest_out_of_order → ⊥ }
+    ensures others { (delivers_safely rest_out_of_order
+        && (delivers_alike rest_out_of_order && (have_configurations rest_out_of_order
+        && delivers_own rest_out_of_order))) ≡ true }
+{}
+
+/// A call that the front covers is left out of what is agreed.
+pub fn an_agreed_call_is_left_out()
+    ensures refused { HasSameText agreed_left_out → ⊥ }
+    ensures others { (delivers_safely agreed_left_out
+        && (delivers_alike agreed_left_out && (have_configurations agreed_left_out && delivers_own agreed_left_out)))
+        ≡ true }
+{}
+
+/// What one delivered as safe another member never got; or got without installing the ring; or left the ring
+/// without delivering it.
+pub fn a_safe_delivery_is_missed()
+    ensures never_got { DeliversSafely never_got → ⊥ }
+    ensures never_installed { DeliversSafely never_installed → ⊥ }
+    ensures left_without { DeliversSafely left_without → ⊥ }
+    ensures others { (has_same_text never_got && (delivers_alike never_got && (have_configurations never_got && delivers_own never_got))) ≡ true }
+    ensures others_of_left { (has_same_text left_without
+        && (delivers_alike left_without && (have_configurations left_without && delivers_own left_without))) ≡ true }
+{}
+
+/// A processor's own message is lost at a change of rings, at all alike.
+pub fn an_own_message_is_lost()
+    ensures refused { DeliversOwn own_message_lost → ⊥ }
+    ensures others { (has_same_text own_message_lost
+        && (delivers_safely own_message_lost
+        && (delivers_alike own_message_lost && have_configurations own_message_lost))) ≡ true }
+{}
+
+/// A processor installs a ring of which it is no member.
+pub fn a_configuration_lacks_its_own_node()
+    ensures refused { (IsNode without_own_node 2 → HasConfigurations without_own_node 2) → ⊥ }
+    ensures others { (has_same_text without_own_node
+        && (delivers_safely without_own_node && (delivers_alike without_own_node && delivers_own without_own_node)))
+        ≡ true }
+{}

@@ -1,6 +1,0 @@
--- An answer is told by its variant.
-use Rattle.std.proofs.Common.{rules}
-use Rattle.ring_ticket.proofs.tickets.is_done.Goals as goal
-
-pub returns-in-Done : goal.returns-in-Done
-returns-in-Done c = search rules

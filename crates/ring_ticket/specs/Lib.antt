@@ -1,4 +1,0 @@
-pub mod Tickets
-pub mod Effects
-pub mod Recent
-pub mod Pendings

@@ -1,0 +1,80 @@
+-- The safe mark: what it is read off, and that a visit or a raise more lowers none.
+use Rattle.std.proofs.Common.{ℕ, ◌≤◌, max, List, [], ◌∷◌, map, filter, subst, arith}
+use Rattle.std.specs.List.{AllByRecursion}
+use Rattle.std.proofs.lemmas.Bool.{cond_both}
+use Rattle.ring_base.specs.Rings.{same_ring}
+use Rattle.ring_base.specs.Numbers.{greatest}
+use Rattle.ring_base.specs.declared.ring_id.RingId.{RingId}
+use Rattle.ring_base.proofs.SameRing.{ring_same}
+use Rattle.ring_token.specs.Turns.{Turn, Raise, turns_of, mark_after, mark_by, forwarded_in, raised_to, safe_mark}
+
+-- each of a list is at most some bound: so is what is read off it
+abbrev pub Below : ℕ → List ℕ → Type 0
+Below f xs = AllByRecursion (λ x. x ≤ f) xs
+
+mark_after-below : (f a : ℕ) (rest : List ℕ) → a ≤ f → Below f rest → mark_after a rest ≤ f
+mark_after-below f a [] h k = omega arith
+mark_after-below f a (b ∷ rest) h k = (let i : mark_after b rest ≤ f = mark_after-below f b rest k.0 k.1 in omega arith)
+
+mark_by-below : (f : ℕ) (xs : List ℕ) → Below f xs → mark_by xs ≤ f
+mark_by-below f [] h = omega arith
+mark_by-below f (a ∷ rest) h = mark_after-below f a rest h.0 h.1
+
+greatest-below : (f : ℕ) (xs : List ℕ) → Below f xs → greatest xs ≤ f
+greatest-below f [] h = omega arith
+greatest-below f (x ∷ xs) h = (let i : greatest xs ≤ f = greatest-below f xs h.1 in let j : x ≤ f = h.0 in omega arith)
+
+-- a visit more lowers no mark
+mark_by-more : (a : ℕ) (xs : List ℕ) → mark_by xs ≤ mark_by (a ∷ xs)
+mark_by-more a [] = omega arith
+mark_by-more a (b ∷ rest) = omega arith
+
+-- all that was forwarded in a ring is at most how far the ring reaches
+turns-below : {A : Type 0} → (reach : RingId → ℕ) (r : RingId) (turns : List (Turn A))
+    → AllByRecursion (λ (v : Turn A). v.went.aru ≤ reach v.came.ring) turns → Below (reach r) (forwarded_in r turns)
+turns-below reach r [] h = tt
+turns-below {A} reach r (v ∷ turns) h =
+    cond_both (same_ring v.came.ring r) (v ∷ turns_of r turns) (turns_of r turns)
+    (λ (vs : List (Turn A)). Below (reach r) (map (λ (v : Turn A). v.went.aru) vs))
+    (λ e. (subst (λ (q : RingId). v.went.aru ≤ reach q) (ring_same v.came.ring r e) h.0, turns-below reach r turns h.1))
+    (λ e. turns-below reach r turns h.1)
+
+raises-below : (reach : RingId → ℕ) (r : RingId) (raises : List Raise)
+    → AllByRecursion (λ (x : Raise). x.mark ≤ reach x.ring) raises
+    → Below (reach r) (map (λ (x : Raise). x.mark) (filter (λ (x : Raise). same_ring x.ring r) raises))
+raises-below reach r [] h = tt
+raises-below reach r (x ∷ raises) h =
+    cond_both (same_ring x.ring r) (x ∷ filter (λ (x : Raise). same_ring x.ring r) raises)
+    (filter (λ (x : Raise). same_ring x.ring r) raises)
+    (λ (xs : List Raise). Below (reach r) (map (λ (x : Raise). x.mark) xs))
+    (λ e. (subst (λ (q : RingId). x.mark ≤ reach q) (ring_same x.ring r e) h.0, raises-below reach r raises h.1))
+    (λ e. raises-below reach r raises h.1)
+
+-- a mark is at most how far the ring reaches, since all that it is read off is
+pub safe_mark-below : {A : Type 0} → (reach : RingId → ℕ) (r : RingId) (turns : List (Turn A)) (raises : List Raise)
+    → AllByRecursion (λ (v : Turn A). v.went.aru ≤ reach v.came.ring) turns
+    → AllByRecursion (λ (x : Raise). x.mark ≤ reach x.ring) raises → safe_mark turns raises r ≤ reach r
+safe_mark-below reach r turns raises h k =
+    let i : mark_by (forwarded_in r turns) ≤ reach r = mark_by-below _ _ (turns-below reach r turns h) in
+    let j : raised_to r raises ≤ reach r = greatest-below _ _ (raises-below reach r raises k) in
+    omega arith
+
+-- a visit or a raise more lowers no mark
+
+pub safe_mark-turn : {A : Type 0} → (v : Turn A) (turns : List (Turn A)) (raises : List Raise) (r : RingId)
+    → safe_mark turns raises r ≤ safe_mark (v ∷ turns) raises r
+safe_mark-turn {A} v turns raises r =
+    cond_both (same_ring v.came.ring r) (v ∷ turns_of r turns) (turns_of r turns)
+    (λ (vs : List (Turn A)). safe_mark turns raises r ≤ max (mark_by (map (λ (v : Turn A). v.went.aru) vs))
+    (raised_to r raises))
+    (λ e. (let i : mark_by (forwarded_in r turns) ≤ mark_by (v.went.aru ∷ forwarded_in r turns) = mark_by-more v.went.aru _ in omega arith))
+    (λ e. omega arith)
+
+pub safe_mark-raise : {A : Type 0} → (x : Raise) (turns : List (Turn A)) (raises : List Raise) (r : RingId)
+    → safe_mark turns raises r ≤ safe_mark turns (x ∷ raises) r
+safe_mark-raise {A} x turns raises r =
+    cond_both (same_ring x.ring r) (x ∷ filter (λ (x : Raise). same_ring x.ring r) raises)
+    (filter (λ (x : Raise). same_ring x.ring r) raises) (λ (xs : List Raise). safe_mark turns raises r ≤ max
+    (mark_by (forwarded_in r turns)) (greatest (map (λ (x : Raise). x.mark) xs)))
+    (λ e. omega arith)
+    (λ e. omega arith)

@@ -1,0 +1,134 @@
+-- The copies of the next frame, and the first copy that is open.
+use Rattle.std.proofs.Common.{◌≡◌, ℕ, zero, suc, ◌+◌, ◌-◌, ◌^◌, ◌<◌, ◌≤◌, List, [], ◌∷◌, ◌++◌, map, length, take, drop}
+use Rattle.std.proofs.Common.{Option, Some, None, slice_get, refl, sym, ap, ◌∙◌, arith, add-one}
+use Rattle.std.proofs.lemmas.List.{drop_all}
+use Rattle.std.proofs.lemmas.Option.{slice_get_within}
+use Rattle.std.specs.Prelude.{option_map}
+use Rattle.std.specs.Option.{SomeIff}
+use Rattle.ring_base.specs.Elements.{elements-nobody}
+use Rattle.ring_base.specs.Processors.{elements, nobody, only, less, smallest, IsProc, IsMember}
+use Rattle.ring_base.proofs.Taking.{elements-taken}
+use Rattle.ring_base.proofs.ListPlaces.{none-length}
+use Rattle.ring_core.specs.State.{Carried, frame_at}
+use Rattle.ring_rules.proofs.FirstPassing.{get-take}
+use Rattle.ring_world.specs.declared.pairs.Pair.{Pair}
+use Rattle.ring_world.specs.declared.pairs.Pairs.{Pairs}
+use Rattle.ring_world.specs.Pairs.{pairs_of, pairs_behind, within_reach, all_pairs, pairs_from, IsReached, Takes}
+
+-- ---- lists
+
+drop_get : {X : Type 0} (xs : List X) (k : ℕ) (x : X) → slice_get xs k ≡ Some x → drop k xs ≡ x ∷ drop (suc k) xs
+drop_get [] k x e = absurd cc
+drop_get (y ∷ xs) zero x e = let same : y ≡ x = cc in ap (λ z. z ∷ xs) same
+drop_get (y ∷ xs) (suc k) x e = drop_get xs k x e
+
+take_le : {X : Type 0} (n : ℕ) (xs : List X) → length (take n xs) ≤ n
+take_le zero xs = omega arith
+take_le (suc n) [] = omega arith
+take_le (suc n) (x ∷ xs) = let rest = take_le n xs in omega arith
+
+take_less : {X : Type 0} (n : ℕ) (xs : List X) → length (take n xs) ≤ length xs
+take_less zero xs = omega arith
+take_less (suc n) [] = omega arith
+take_less (suc n) (x ∷ xs) = let rest = take_less n xs in omega arith
+
+-- ---- frames
+
+none_of : (number sender left : ℕ) → left ≡ nobody → pairs_of number sender left ≡ []
+none_of number sender left none = ap
+    (λ s. map (λ (receiver : ℕ). record { frame = number; sender = sender; receiver = receiver }) (elements s)) none
+    ∙ ap (λ xs. map (λ (receiver : ℕ). record { frame = number; sender = sender; receiver = receiver }) xs)
+    elements-nobody
+
+-- before the first frame is reached all copies are open
+pub all_open : {A : Type 0} (p : Pairs) (frames : List (Carried A)) → p ≡ record { frame = 0; sender = 1; left = nobody }
+    → pairs_from p frames ≡ all_pairs frames
+all_open {A} p frames first =
+    ap (λ (q : Pairs). pairs_from q frames) first
+    ∙ ap (λ ps. ps ++ pairs_behind 0 (within_reach frames)) (none_of 0 1 nobody refl)
+
+module _ {A : Type 0} (p : Pairs) (frames : List (Carried A)) where
+  only_behind : p.left ≡ nobody → pairs_from p frames ≡ pairs_behind p.frame (drop p.frame (within_reach frames))
+  only_behind none = ap (λ ps. ps ++ pairs_behind p.frame (drop p.frame (within_reach frames))) (none_of p.frame p.sender p.left none)
+
+  nothing_behind : p.left ≡ nobody → length (within_reach frames) ≤ p.frame → pairs_from p frames ≡ []
+  nothing_behind none all = only_behind none ∙ ap (λ fs. pairs_behind p.frame fs) (drop_all p.frame (within_reach frames) all)
+
+  -- no frame has a greater number
+  pub none_past : p.left ≡ nobody → 2 ^ 64 - 1 ≤ p.frame → pairs_from p frames ≡ []
+  none_past none last = nothing_behind none (omega (arith, last, take_le (2 ^ 64 - 1) frames))
+
+  -- the next frame was not sent
+  pub none_sent : p.left ≡ nobody → frame_at frames (suc p.frame) ≡ None → pairs_from p frames ≡ []
+  none_sent none lost = nothing_behind none (omega (arith, take_less (2 ^ 64 - 1) frames, none-length frames p.frame lost))
+
+  -- the next frame was sent
+  pub next_sent : (q : Pairs) (f : Carried A) → p.left ≡ nobody → p.frame < 2 ^ 64 - 1 → frame_at frames (suc p.frame)
+      ≡ Some f → q ≡ record { frame = suc p.frame; sender = f.from; left = f.to }
+      → (pairs_from q frames ≡ pairs_from p frames) × IsReached q frames
+  next_sent q f none small sent is =
+      let there = get-take (2 ^ 64 - 1) frames p.frame f small sent in
+      let inside = slice_get_within (within_reach frames) p.frame f there in (
+        ap (λ (x : Pairs). pairs_from x frames) is ∙ sym (only_behind none ∙ ap (λ fs. pairs_behind p.frame fs)
+            (drop_get (within_reach frames) p.frame f there)),
+        omega (arith, inside, ap (λ (x : Pairs). x.frame) is),
+      )
+
+  -- the first of those that are open is closed
+  pub closes : (q : Pairs) (receiver alone : ℕ) → receiver ≡ smallest p.left → IsProc receiver
+      × IsMember p.left receiver → alone ≡ only receiver → q ≡ record p { left = less p.left alone }
+      → pairs_from p frames ≡ record { frame = p.frame; sender = p.sender; receiver = receiver } ∷ pairs_from q frames
+  closes q receiver alone least m one is =
+      let taken = elements-taken p.left receiver alone (less p.left alone) least m one refl in
+      ap (λ xs. map (λ (r : ℕ). record { frame = p.frame; sender = p.sender; receiver = r }) xs
+      ++ pairs_behind p.frame (drop p.frame (within_reach frames))) taken
+      ∙ ap (λ (x : Pairs). record { frame = p.frame; sender = p.sender; receiver = receiver } ∷ pairs_from x frames) (sym is)
+
+-- ---- what a world tells of a frame
+
+pub is_not_sent : {A : Type 0} (o : Option (Carried A)) (n m : ℕ) (frames : List (Carried A)) → n ≡ suc m
+    → frame_at frames n ≡ o → None ≡ option_map {U = ℕ × ℕ} (λ (f : Carried A). (f.from, f.to)) o
+    → frame_at frames (suc m) ≡ None
+is_not_sent None n m frames is at e = ap (frame_at frames) (sym is) ∙ at
+is_not_sent (Some f) n m frames is at e = absurd cc
+
+pub is_sent : {A : Type 0} (o : Option (Carried A)) (n m : ℕ) (frames : List (Carried A)) (sent : ℕ × ℕ) → n ≡ suc m
+    → frame_at frames n ≡ o → Some sent ≡ option_map {U = ℕ × ℕ} (λ (f : Carried A). (f.from, f.to)) o
+    → (f : Carried A) × ((frame_at frames (suc m) ≡ Some f) × (sent.0 ≡ f.from) × (sent.1 ≡ f.to))
+is_sent None n m frames sent is at e = absurd cc
+is_sent (Some f) n m frames sent is at e = let same : sent ≡ (f.from, f.to) =
+    cc in (f, (ap (frame_at frames) (sym is) ∙ at, ap (λ (p : ℕ × ℕ). p.0) same, ap (λ (p : ℕ × ℕ). p.1) same))
+
+-- the world tells of the frame of the next number
+pub went_on : {A : Type 0} (p : Pairs) (frames : List (Carried A)) (number sender receivers : ℕ) → p.left ≡ nobody
+    → number ≡ p.frame + 1 → p.frame + 1 < 18446744073709551616
+    → ◌≡◌ {A = Option (ℕ × ℕ)} (Some (sender, receivers)) (option_map {U = ℕ × ℕ} (λ (f : Carried A). (f.from, f.to)) (frame_at frames number))
+    → let q : Pairs = record { frame = number; sender = sender; left = receivers } in (pairs_from q frames ≡ pairs_from p frames) × IsReached q frames
+went_on p frames number sender receivers none is small told =
+    let next : number ≡ suc p.frame = is ∙ add-one p.frame in
+    let s = is_sent (frame_at frames number) number p.frame frames (sender, receivers) next refl told in
+    next_sent p frames (record { frame = number; sender = sender; left = receivers }) s.0 none (omega (arith, small)) s.1.0
+    (ap (λ (n : ℕ). record { frame = n; sender = sender; left = receivers }) next
+    ∙ (ap (λ (n : ℕ). record { frame = suc p.frame; sender = n; left = receivers }) s.1.1
+    ∙ ap (λ (n : ℕ). record { frame = suc p.frame; sender = s.0.from; left = n }) s.1.2))
+
+-- it tells that there is none
+pub ended : {A : Type 0} (p : Pairs) (frames : List (Carried A)) (number : ℕ) → p.left ≡ nobody → number ≡ p.frame + 1
+    → ◌≡◌ {A = Option (ℕ × ℕ)} None (option_map {U = ℕ × ℕ} (λ (f : Carried A). (f.from, f.to)) (frame_at frames number)) → pairs_from p frames ≡ []
+ended p frames number none is told =
+    let next : number ≡ suc p.frame = is ∙ add-one p.frame in
+    none_sent p frames none (is_not_sent (frame_at frames number) number p.frame frames next refl told)
+
+-- where one more is too much for a u64
+pub no_next : (o : Option ℕ) (n : ℕ) → SomeIff o (n + 1 < 18446744073709551616) (n + 1) → o ≡ None → 2 ^ 64 - 1 ≤ n
+no_next None n h e = omega (arith, h)
+no_next (Some m) n h e = absurd cc
+
+-- before the first frame nothing is reached
+pub none_reached : {A : Type 0} (p : Pairs) (frames : List (Carried A)) → p ≡ record { frame = 0; sender = 1; left = nobody } → IsReached p frames
+none_reached p frames first = omega (arith, ap (λ (q : Pairs). q.frame) first)
+
+-- what is taken is the first
+pub takes_first : (old : List Pair) (taken : Option Pair) (new : List Pair) → Takes old taken new → taken ≡ slice_get old 0
+takes_first old None new t = ap (λ (ps : List Pair). slice_get ps 0) (sym t.0)
+takes_first old (Some pair) new t = ap (λ (ps : List Pair). slice_get ps 0) (sym t)

@@ -1,0 +1,376 @@
+-- What the code keeps goes on telling the world, event by event.
+use Rattle.std.proofs.Common.{◌≡◌, ℕ, ◌≤◌, true, List, [], ◌∷◌, ◌++◌, length, drop}
+use Rattle.std.proofs.Common.{Option, Some, None, get_or, refl, ap, ◌∙◌, sym, subst, inl, inr, append-nil}
+use Rattle.std.specs.Prelude.{not, slice_set, MatchOption, if◌then◌else◌}
+use Rattle.std.specs.List.{AllByRecursion}
+use Rattle.std.proofs.Math.Seq.{drop-append_seam}
+use Rattle.std.proofs.lemmas.Bool.{and_from}
+use Rattle.ring_base.specs.Group.{Group}
+use Rattle.ring_base.proofs.Each.{each-push}
+use Rattle.ring_base.proofs.Faults.{was_stopped, was_running}
+use Rattle.ring_wire.specs.Frames.{FrameFits}
+use Rattle.ring_object.specs.Operations.{Sequential}
+use Rattle.ring_core.specs.State.{Sent, Carried}
+use Rattle.ring_rules.specs.declared.input.Input.{Input}
+use Rattle.ring_rules.specs.Nodes.{Node, node_committed, node_stopped, is_stopped}
+use Rattle.ring_rules.specs.Stepping.{Answered, node_step, submit_fault, submitted}
+use Rattle.ring_session.specs.Tickets.{Asked}
+use Rattle.ring_base.specs.declared.fault.Fault.{Fault}
+use Rattle.ring_base.specs.declared.fault.Fault.TheVariants.{Memory, Stopped as StoppedFault}
+use Rattle.ring_world.proofs.SubmitRefused.{not_memory}
+use Rattle.ring_base.specs.Fault.{fault_number}
+use Rattle.ring_payload.specs.declared.call.Call.{Call}
+use Rattle.ring_rules.specs.declared.event.Event.{Event}
+use Rattle.ring_rules.specs.declared.event.Event.TheVariants.{Issue, Deliver, Noise, Timeout, Stop}
+use Rattle.ring_rules.specs.declared.item.Item.{Item}
+use Rattle.ring_rules.specs.declared.item.Item.TheVariants.{Issue as IssuedItem}
+use Rattle.ring_rules.specs.declared.told.Told.{Told}
+use Rattle.ring_rules.specs.declared.told.Told.TheVariants.{Refused as ToldRefused}
+use Rattle.ring_rules.specs.WorldLimits.{EventFits}
+use Rattle.ring_rules.specs.Worlds.{World, world_opening, run, happens, put, after_step, stepped, stepped_if}
+use Rattle.ring_rules.specs.Worlds.{stopped_if, issued_or, issued_if, carried, items_of, told_by}
+use Rattle.ring_rules.proofs.NodeChanges.{submitted-committed, stopped_same}
+use Rattle.ring_order_proof.proofs.Orderly.{run-more}
+use Rattle.ring_world.specs.Played.{Played, told_of_events, IsCopy, world_of, told_behind, step_in, runs_in, Goes}
+use Rattle.ring_world.specs.Spares.{Spares, AllLeft, Holds, after_answers}
+use Rattle.ring_world.specs.Keeping.{KeepsCopies, IsWorldKept, IsWorld}
+use Rattle.ring_world.proofs.Spared.{set-length, holds-more}
+use Rattle.ring_world.proofs.Events.{tells_answers, tells_refusal, tells_memory}
+use Rattle.ring_world.proofs.StoppedNode.{silent}
+use Rattle.ring_world.proofs.CommittedInRuns.{step-grows, step-goes}
+use Rattle.ring_world.proofs.NodePlaces.{Stands, high, known, node_is, copies_are, copies_set, copies_same, put_kept, same_nodes}
+
+-- Copies of events
+
+copy_fits : {A : Type 0} (e d : Event A) → IsCopy e d → EventFits e → EventFits d
+copy_fits (Issue i c) d copy fits = subst EventFits (sym copy) fits
+copy_fits (Deliver i k) d copy fits = subst EventFits (sym copy) tt
+copy_fits (Noise i bytes) d copy fits = subst EventFits (sym copy.1) tt
+copy_fits (Timeout i kind) d copy fits = subst EventFits (sym copy) tt
+copy_fits (Stop i) d copy fits = subst EventFits (sym copy) tt
+
+steps_fits : {A : Type 0} (w : World A) (e : Event A) (i : ℕ) → step_in w e ≡ Some i → EventFits e
+steps_fits w (Issue j c) i e = absurd (let q : ⊥ = cc e in q)
+steps_fits w (Deliver j k) i e = tt
+steps_fits w (Noise j bytes) i e = tt
+steps_fits w (Timeout j kind) i e = tt
+steps_fits w (Stop j) i e = tt
+
+copy_happens : {O A : Type 0} (object : Sequential O) (w : World A) (e d : Event A) → IsCopy e d → happens object w d ≡ happens object w e
+copy_happens object w (Issue i c) d copy = ap (happens object w) copy
+copy_happens object w (Deliver i k) d copy = ap (happens object w) copy
+copy_happens object w (Noise i bytes) d copy = ap (happens object w) copy.1
+copy_happens object w (Timeout i kind) d copy = ap (happens object w) copy
+copy_happens object w (Stop i) d copy = ap (happens object w) copy
+
+-- what is told
+told_more : {O A : Type 0} (object : Sequential O) (w v : World A) (e : Event A) (more : List (Told A)) → happens object w e ≡ v
+    → v.told ≡ w.told ++ more → told_behind object w e ≡ more
+told_more {A = A} object w v e more is t = ap (drop (length w.told)) (ap (λ (x : World A). x.told) is ∙ t) ∙ drop-append_seam w.told more
+
+idle_is : {O A : Type 0} (object : Sequential O) {p old : Played A} (e : Event A) → p ≡ old
+    → happens object (world_of object old) e ≡ world_of object old → happens object (world_of object p) e ≡ world_of object p
+idle_is {A = A} object e was same = subst (λ (r : Played A). happens object (world_of object r) e ≡ world_of object r) (sym was) same
+
+module _ {O A : Type 0} {object : Sequential O} where
+  -- an event more
+  tells : {group : Group} {events es : List (Event A)} {nodes nodes' : List (Node A)} {spares spares' : List (Spares A)}
+      {frames frames' : List (Carried A)} {history history' : List (Item A)} {told told' : List (Told A)} {v : World A} (e d : Event A) →
+      IsWorld object group events nodes spares frames history told → IsCopy e d → EventFits e →
+      happens object (run object (world_opening group) events) e ≡ v → v.group ≡ (run object (world_opening group) events).group →
+      IsWorldKept v nodes' spares' frames' history' told' → es ≡ events ++ d ∷ [] →
+      IsWorld object group es nodes' spares' frames' history' told'
+  tells {group} {events} {nodes'} {spares'} {frames'} {history'} {told'} {v} e d h copy fits is same kept es_is =
+      let opening = world_opening group in
+      let next : run object opening (events ++ d ∷ []) ≡ v =
+      run-more object opening events d ∙ copy_happens object (run object opening events) e d copy ∙ is in
+      rw es_is record {
+        kept = subst (λ (x : World A). IsWorldKept x nodes' spares' frames' history' told') (sym next) kept;
+        same = ap (λ (x : World A). x.group) next ∙ same ∙ h.same;
+        fit = each-push EventFits events d h.fit (copy_fits e d copy fits);
+        few = h.few;
+      }
+
+  is_done : {p old : Played A} {es : List (Event A)} {ts : List (Told A)} {done : ℕ} {v : World A} (e d : Event A) (more : List (Told A)) → p ≡ old
+      → IsCopy e d → happens object (world_of object p) e ≡ v → v.told ≡ (world_of object p).told ++ more →
+      es ≡ p.events ++ d ∷ [] → ts ≡ p.told ++ more → Goes object e old (record { group = p.group; events = es; told = ts; done = done })
+  is_done {p} {es = es} {ts = ts} {done = done} {v = v} e d more was copy is t es_is ts_is =
+      let q : Played A = record { group = p.group; events = es; told = ts; done = done } in
+      subst (λ (r : Played A). Goes object e r q) was (inl (record {
+        kept = d;
+        copy = copy;
+        group = refl;
+        events = es_is;
+        told = ts_is ∙ ap (λ xs. p.told ++ xs) (sym (told_more object (world_of object p) v e more is t));
+      }))
+
+  -- An event that changes nothing
+
+  module _ {p old : Played A} {es : List (Event A)} (e d : Event A) (was : p ≡ old)
+      (same : happens object (world_of object old) e ≡ world_of object old) (copy : IsCopy e d) (es_is : es ≡ p.events ++ d ∷ []) where
+    pub idle_world : {nodes : List (Node A)} {spares : List (Spares A)} {frames : List (Carried A)} {history : List (Item A)} → EventFits e
+        → IsWorld object p.group p.events nodes spares frames history p.told → IsWorld object p.group es nodes spares frames history p.told
+    idle_world fits h = tells e d h copy fits (idle_is object e was same) refl h.kept es_is
+
+    pub idle_goes : {done : ℕ} → Goes object e old (record { group = p.group; events = es; told = p.told; done = done })
+    idle_goes = is_done e d [] was copy (idle_is object e was same) (sym (append-nil (world_of object p).told)) es_is (sym (append-nil p.told))
+
+-- what the step of a node gives, and the node after it
+pub record IsStep {O A : Type 0} (object : Sequential O) (n : Node A) (input : Input A) (after : Node A)
+    (sent : List (Sent A)) (answered : List (Answered A)) : Type 0 where
+  pub node : after ≡ (node_step object n input).node
+  pub sends : sent ≡ (node_step object n input).sends
+  pub answers : answered ≡ (node_step object n input).answers
+
+module _ {O A : Type 0} {object : Sequential O} {p old : Played A} {nodes : List (Node A)} {spares : List (Spares A)}
+    {frames : List (Carried A)} {history : List (Item A)} {i m : ℕ} (here : Stands object p old nodes spares frames history i m) where
+  abbrev w : World A
+  w = world_of object p
+
+  abbrev kept : IsWorldKept w nodes spares frames history p.told
+  kept = here.world.kept
+
+  -- It stepped
+
+  module _ {n after : Node A} {input : Input A} {sent : List (Sent A)} {answered : List (Answered A)} (found : n ≡ get_or nodes m n)
+      (gave : IsStep object n input after sent answered) where
+    gives : IsStep object (w.nodes i) input after sent answered
+    gives = subst (λ (x : Node A). IsStep object x input after sent answered) (node_is here found) gave
+
+    pub sends_fit : AllByRecursion (λ (s : Sent A). FrameFits s.frame) (node_step object (w.nodes i) input).sends
+        → AllByRecursion (λ (s : Sent A). FrameFits s.frame) sent
+    sends_fit fit = subst (AllByRecursion (λ (s : Sent A). FrameFits s.frame)) (sym gives.sends) fit
+
+    pub answers_few : length (node_step object (w.nodes i) input).answers ≤ 64 → length answered ≤ 64
+    answers_few few = subst (λ l. l ≤ 64) (sym (ap length gives.answers)) few
+
+    module _ {s : Spares A} (e : Event A) (spare : s ≡ get_or spares m s)
+        (same : happens object (world_of object old) e ≡ stepped object (world_of object old) i input) where
+      step_is : happens object w e ≡ after_step w i (node_step object (w.nodes i) input)
+      step_is = subst (λ (r : Played A). happens object (world_of object r) e ≡ stepped object (world_of object r) i input) (sym here.was) same
+          ∙ ap (λ b. stepped_if object b w i input) (known here)
+
+      step_keeps : AllLeft s.calls (node_step object (w.nodes i) input).answers
+          × Holds (after_answers s.calls (node_step object (w.nodes i) input).answers) (node_step object (w.nodes i) input).node.tickets
+          (node_committed (node_step object (w.nodes i) input).node)
+      step_keeps =
+          let was = subst (λ (r : Played A). happens object (world_of object r) e ≡ stepped object (world_of object r) i input) (sym here.was) same in
+          step-goes object (w.nodes i) input s.calls
+          (step-grows object p.group here.world.few p.events e i input here.low (high here) (known here) was) (copies_are here spare)
+
+      -- what a step answers has its copies
+      pub answers_left : AllLeft s.calls answered
+      answers_left = subst (AllLeft s.calls) (sym gives.answers) step_keeps.0
+
+      pub step_world : {es : List (Event A)} {fs : List (Carried A)} {is : List (Item A)} {ts : List (Told A)} (d : Event A) (s' : Spares A) → IsCopy e d
+          → step_in (world_of object old) e ≡ Some i → es ≡ p.events ++ d ∷ [] → s'.calls ≡ after_answers s.calls answered
+          → fs ≡ frames ++ carried i sent → is ≡ history ++ items_of answered → ts ≡ p.told ++ told_by i answered
+          → IsWorld object p.group es (slice_set nodes m after) (slice_set spares m s') fs is ts
+      step_world d s' copy steps es_is s_is fs_is is_is ts_is =
+          let st = node_step object (w.nodes i) input in
+          let keeps : KeepsCopies after s' = subst (λ cs. Holds cs after.tickets (node_committed after)) (sym (s_is ∙ ap (after_answers s.calls) gives.answers))
+          (subst (λ (x : Node A). Holds (after_answers s.calls st.answers) x.tickets (node_committed x)) (sym gives.node) step_keeps.1) in
+          tells e d here.world copy (steps_fits (world_of object old) e i steps) step_is refl
+          (put_kept here after refl (ap (λ (x : Node A). put w.nodes i x) (sym gives.node))
+          (ap (λ xs. xs ++ carried i st.sends) (sym kept.frames_are) ∙ sym (fs_is ∙ ap (λ xs. frames ++ carried i xs) gives.sends))
+          (ap (λ xs. xs ++ items_of st.answers) (sym kept.history_is) ∙ sym (is_is ∙ ap (λ xs. history ++ items_of xs) gives.answers))
+          (sym (ap told_of_events (ts_is ∙ ap (λ xs. p.told ++ told_by i xs) gives.answers) ∙ tells_answers p.told w.told kept.told_is i st.answers))
+          (copies_set here after s' keeps) (set-length spares m s')) es_is
+
+      pub step_goes : {es : List (Event A)} {ts : List (Told A)} {done : ℕ} (d : Event A) → IsCopy e d → es ≡ p.events ++ d ∷ []
+          → ts ≡ p.told ++ told_by i answered → Goes object e old (record { group = p.group; events = es; told = ts; done = done })
+      step_goes d copy es_is ts_is = is_done e d (told_by i (node_step object (w.nodes i) input).answers) here.was copy step_is refl es_is
+          (ts_is ∙ ap (λ xs. p.told ++ told_by i xs) gives.answers)
+
+  -- It stops
+
+  halted_keeps : (s : Spares A) → KeepsCopies (w.nodes i) s → KeepsCopies (node_stopped (w.nodes i)) s
+  halted_keeps s k = k
+
+  stop_is : happens object w (Stop i) ≡ stopped_if true w i
+  stop_is = ap (λ b. stopped_if b w i) (known here)
+
+  halted_kept : {n after : Node A} → n ≡ get_or nodes m n → after ≡ node_stopped n
+      → IsWorldKept (stopped_if true w i) (slice_set nodes m after) spares frames history p.told
+  halted_kept found halted =
+      let now = node_stopped (w.nodes i) in
+      rw (halted ∙ ap node_stopped (node_is here found)) (put_kept here now refl refl (sym kept.frames_are)
+      (sym kept.history_is) (sym kept.told_is) (copies_same here now halted_keeps) refl)
+
+  pub stop_world : {n after : Node A} {es : List (Event A)} → n ≡ get_or nodes m n → after ≡ node_stopped n → es ≡ p.events ++ Stop i ∷ []
+      → IsWorld object p.group es (slice_set nodes m after) spares frames history p.told
+  stop_world found halted es_is = tells (Stop i) (Stop i) here.world refl tt stop_is refl (halted_kept found halted) es_is
+
+  pub stop_goes : {e : Event A} {es : List (Event A)} {done : ℕ} → e ≡ Stop i → es ≡ p.events ++ Stop i ∷ []
+      → Goes object e old (record { group = p.group; events = es; told = p.told; done = done })
+  stop_goes {es = es} {done = done} event es_is =
+      let q : Played A = record { group = p.group; events = es; told = p.told; done = done } in
+      subst (λ (e : Event A). Goes object e old q) (sym event)
+      (is_done (Stop i) (Stop i) [] here.was refl stop_is (sym (append-nil w.told)) es_is (sym (append-nil p.told)))
+
+  -- Its step was refused
+
+  module _ {n : Node A} {fault : Fault} (e : Event A) (found : n ≡ get_or nodes m n)
+      (refused : fault ≡ (if is_stopped n.core.state then StoppedFault else Memory)) where
+    -- for it had stopped, and is what it was
+    module _ (d : Event A) (input : Input A) (stopped : fault ≡ StoppedFault) (copy : IsCopy e d)
+        (same : happens object (world_of object old) e ≡ stepped object (world_of object old) i input) where
+      silent_is : happens object w e ≡ stopped_if true w i
+      silent_is =
+          let was = subst (λ (r : Played A). happens object (world_of object r) e ≡ stepped object (world_of object r) i input) (sym here.was) same in
+          let node = w.nodes i in
+          let t : is_stopped node.core.state ≡ true = ap (λ (x : Node A). is_stopped x.core.state) (sym (node_is here found))
+          ∙ was_stopped (is_stopped n.core.state) fault refused stopped in
+          let g = silent object node input t in
+          let one : (ℕ → Node A) → World A = λ ns. record w {
+            nodes = ns;
+            frames = w.frames ++ carried i
+                (node_step object node input).sends;
+            history = w.history ++ items_of (node_step object node input).answers;
+            told = w.told ++ told_by i (node_step object node input).answers;
+          } in
+          let two : List (Carried A) → World A = λ fs. record w {
+            nodes = put w.nodes i (node_stopped node);
+            frames = fs;
+            history = w.history ++ items_of (node_step object node input).answers;
+            told = w.told ++ told_by i
+                (node_step object node input).answers;
+          } in
+          let three : List (Item A) → World A = λ is. record w {
+            nodes = put w.nodes i (node_stopped node);
+            history = is;
+            told = w.told ++ told_by i (node_step object node input).answers;
+          } in
+          let four : List (Told A) → World A = λ ts. record w { nodes = put w.nodes i (node_stopped node); told = ts } in
+          was ∙ ap (λ b. stepped_if object b w i input) (known here) ∙ ap one (ap (put w.nodes i) (g.node ∙ sym (stopped_same node t)))
+          ∙ ap two (ap (λ xs. w.frames ++ carried i xs) g.sends ∙ append-nil w.frames)
+          ∙ ap three (ap (λ xs. w.history ++ items_of xs) g.answers ∙ append-nil w.history)
+          ∙ ap four (ap (λ xs. w.told ++ told_by i xs) g.answers ∙ append-nil w.told)
+
+      pub silent_world : {after : Node A} {es : List (Event A)} → after ≡ node_stopped n → step_in (world_of object old) e ≡ Some i
+          → es ≡ p.events ++ d ∷ [] → IsWorld object p.group es (slice_set nodes m after) spares frames history p.told
+      silent_world halted steps es_is =
+          tells e d here.world copy (steps_fits (world_of object old) e i steps) silent_is refl (halted_kept found halted) es_is
+
+      pub silent_goes : {es : List (Event A)} {done : ℕ} → es ≡ p.events ++ d ∷ []
+          → Goes object e old (record { group = p.group; events = es; told = p.told; done = done })
+      silent_goes es_is = is_done e d [] here.was copy silent_is (sym (append-nil w.told)) es_is (sym (append-nil p.told))
+
+    -- for want of memory
+    pub refused_goes : {es : List (Event A)} {done : ℕ} → (fault ≡ StoppedFault → ⊥) → step_in (world_of object old) e ≡ Some i
+        → es ≡ p.events ++ Stop i ∷ [] → Goes object e old (record { group = p.group; events = es; told = p.told; done = done })
+    refused_goes {es} {done} running steps es_is =
+        let q : Played A = record { group = p.group; events = es; told = p.told; done = done } in
+        let runs = ap (λ (x : Node A). is_stopped x.core.state) (sym (node_is here found)) ∙ was_running (is_stopped n.core.state) fault refused running in
+        let runs_here : runs_in w i ≡ true = and_from _ _ (known here) (ap not runs) in
+        subst (λ (r : Played A). Goes object e r q) here.was (inr (inl (record {
+          node = i;
+          steps = subst (λ (r : Played A). step_in (world_of object r) e ≡ Some i) (sym here.was) steps;
+          known = runs_here;
+          group = refl;
+          events = es_is;
+          told = refl;
+        })))
+
+  -- A call is submitted
+
+  module _ {n : Node A} {e : Event A} {c : Call A} (d : Event A) (event : e ≡ Issue i c) (copied : IsCopy e d) (found : n ≡ get_or nodes m n) where
+    copy : IsCopy (Issue i c) d
+    copy = subst (λ (x : Event A). IsCopy x d) event copied
+
+    goes : (q : Played A) → Goes object (Issue i c) old q → Goes object e old q
+    goes q g = subst (λ (x : Event A). Goes object x old q) (sym event) g
+
+    issue_is : (o : Option Fault) → submit_fault n ≡ o → happens object w (Issue i c) ≡ issued_or o w i c
+    issue_is o is = ap (λ b. issued_if b w i c) (known here) ∙ ap (λ x. issued_or x w i c) (ap submit_fault (sym (node_is here found)) ∙ is)
+
+    pub issue_world : {s : Spares A} {after : Node A} {es : List (Event A)} {is : List (Item A)} {a b : Call A} (s' : Spares A) → EventFits e
+        → submit_fault n ≡ None → after ≡ submitted n c → s ≡ get_or spares m s → a ≡ c → s'.calls ≡ s.calls ++ Some a ∷ []
+        → b ≡ c → is ≡ history ++ IssuedItem b ∷ [] → es ≡ p.events ++ d ∷ []
+        → IsWorld object p.group es (slice_set nodes m after) (slice_set spares m s') frames is p.told
+    issue_world {s} {after} s' fits free after_is spare a_is s_is b_is is_is es_is =
+        let node = w.nodes i in
+        let t : Asked A = record { call = c; since = length (node_committed node) } in
+        let now : after ≡ submitted node c = after_is ∙ ap (λ (x : Node A). submitted x c) (node_is here found) in
+        let calls : s'.calls ≡ s.calls ++ Some c ∷ [] = s_is ∙ ap (λ x. s.calls ++ Some x ∷ []) a_is in
+        let more : Holds (s.calls ++ Some c ∷ []) (submitted node c).tickets (node_committed node) =
+        holds-more s.calls node.tickets (node_committed node) t (copies_are here spare) in
+        let holds : Holds (s.calls ++ Some c ∷ []) (submitted node c).tickets (node_committed (submitted node c)) =
+        subst (Holds (s.calls ++ Some c ∷ []) (submitted node c).tickets) (sym (submitted-committed node c)) more in
+        let keeps : KeepsCopies after s' = subst (λ cs. Holds cs after.tickets (node_committed after)) (sym calls)
+        (subst (λ (x : Node A). Holds (s.calls ++ Some c ∷ []) x.tickets (node_committed x)) (sym now) holds) in
+        tells (Issue i c) d here.world copy (subst EventFits event fits) (issue_is None free) refl
+        (put_kept here after refl (ap (λ (x : Node A). put w.nodes i x) (sym now)) (sym kept.frames_are)
+        (ap (λ xs. xs ++ IssuedItem c ∷ []) (sym kept.history_is) ∙ sym (is_is ∙ ap (λ x. history ++ IssuedItem x ∷ []) b_is))
+        (sym kept.told_is) (copies_set here after s' keeps) (set-length spares m s')) es_is
+
+    pub issue_goes : {es : List (Event A)} {done : ℕ} → submit_fault n ≡ None → es ≡ p.events ++ d ∷ []
+        → Goes object e old (record { group = p.group; events = es; told = p.told; done = done })
+    issue_goes {es} {done} free es_is = goes (record { group = p.group; events = es; told = p.told; done = done })
+        (is_done (Issue i c) d [] here.was copy (issue_is None free) (sym (append-nil w.told)) es_is (sym (append-nil p.told)))
+
+    -- and is refused, for one reason or the other
+    module _ {fault : Fault} {b : Call A} {es : List (Event A)} {ts : List (Told A)}
+        (why : MatchOption (submit_fault n) (fault ≡ Memory) (λ first. fault ≡ first)) (b_is : b ≡ c) (out : fault ≡ Memory → es ≡ p.events)
+        (stays : (fault ≡ Memory → ⊥) → es ≡ p.events ++ d ∷ []) (ts_is : ts ≡ p.told ++ ToldRefused i b (fault_number fault) ∷ []) where
+      told_is : {f : Fault} → fault ≡ f → ts ≡ p.told ++ ToldRefused i c (fault_number f) ∷ []
+      told_is same = ts_is ∙ ap (λ x. p.told ++ ToldRefused i x (fault_number fault) ∷ []) b_is
+          ∙ ap (λ x. p.told ++ ToldRefused i c (fault_number x) ∷ []) same
+
+      events_are : (f : Fault) → submit_fault n ≡ Some f → fault ≡ f → es ≡ p.events ++ d ∷ []
+      events_are f is same = stays (λ q. not_memory n f is (sym same ∙ q))
+
+      refused_world : (o : Option Fault) → submit_fault n ≡ o → MatchOption o (fault ≡ Memory) (λ first. fault ≡ first) → EventFits e
+          → IsWorld object p.group es nodes spares frames history ts
+      refused_world None is first fits = rw (out first) record {
+        kept = record {
+          nodes_are = kept.nodes_are;
+          many = kept.many;
+          copies = kept.copies;
+          copies_many = kept.copies_many;
+          frames_are = kept.frames_are;
+          history_is = kept.history_is;
+          told_is = ap told_of_events (told_is first) ∙ tells_memory p.told w.told kept.told_is i c;
+        };
+        same = here.world.same;
+        fit = here.world.fit;
+        few = here.world.few;
+      }
+      refused_world (Some f) is first fits =
+          let node = node_is here found in
+          let told = ap told_of_events (told_is first) ∙ tells_refusal p.told w.told kept.told_is n f i c is in
+          let now : IsWorldKept (issued_or (Some f) w i c) nodes spares frames history ts = record {
+            nodes_are = kept.nodes_are;
+            many = kept.many;
+            copies = kept.copies;
+            copies_many = kept.copies_many;
+            frames_are = kept.frames_are;
+            history_is = kept.history_is;
+            told_is = told;
+          } in
+          tells (Issue i c) d here.world copy (subst EventFits event fits) (issue_is (Some f) is) refl now (events_are f is first)
+
+      pub refusal_world : {after : Node A} → after ≡ n → EventFits e → IsWorld object p.group es (slice_set nodes m after) spares frames history ts
+      refusal_world same fits =
+          subst (λ ns. IsWorld object p.group es ns spares frames history ts) (sym (same_nodes here (same ∙ node_is here found)))
+          (refused_world (submit_fault n) refl why fits)
+
+      refused_to : {done : ℕ} (o : Option Fault) → submit_fault n ≡ o → MatchOption o (fault ≡ Memory) (λ first. fault ≡ first)
+          → Goes object (Issue i c) old (record { group = p.group; events = es; told = ts; done = done })
+      refused_to {done} None is first =
+          let q : Played A = record { group = p.group; events = es; told = ts; done = done } in
+          subst (λ (r : Played A). Goes object (Issue i c) r q) here.was (inr (inr (record {
+            node = i;
+            call = c;
+            issues = refl;
+            known = known here;
+            taken = ap submit_fault (sym (node_is here found)) ∙ is;
+            group = refl;
+            events = out first;
+            told = told_is first;
+          })))
+      refused_to (Some f) is first = is_done (Issue i c) d (ToldRefused i c (fault_number f) ∷ []) here.was copy (issue_is (Some f) is) refl
+          (events_are f is first) (told_is first)
+
+      pub refusal_goes : {done : ℕ} → Goes object e old (record { group = p.group; events = es; told = ts; done = done })
+      refusal_goes {done} = goes (record { group = p.group; events = es; told = ts; done = done }) (refused_to (submit_fault n) refl why)
