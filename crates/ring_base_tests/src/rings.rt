@@ -1,6 +1,9 @@
 //! The order of rings, and how rings and processors are named.
 
-use ring_base::{Fixed, MAX, Proc, RingId, front_law, is_primary_below, limits_law, primary_order_law, ring_order_law};
+use ring_base::{
+    Fixed, MAX, Proc, RingId, front_law, is_primary_below, limits_law, primary_order_law,
+    ring_order_law,
+};
 use std::test::Fail;
 
 fn ring(seq: u64, rep: Proc) -> RingId {

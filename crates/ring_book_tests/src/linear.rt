@@ -12,11 +12,11 @@ ghost use Rattle.ring_book_lines.specs.Events.{answers_of, events_of};
 ghost use Rattle.ring_book_lines.specs.Lines.{steps_of};
 
 use ring_base::{Fault, Proc};
+use ring_book::{Book, BookName, Cell, linear_law};
+use ring_object::Object;
 use ring_payload::Call;
 use ring_rules::Item;
 use ring_session::{Answer, Ticket};
-use ring_book::{Book, BookName, Cell, linear_law};
-use ring_object::Object;
 use std::alloc::{Allocator, Global};
 
 /// What a book shows: its history, and an order of calls that explains it.

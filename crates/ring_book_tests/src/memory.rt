@@ -5,11 +5,11 @@ ghost use Rattle.std.specs.Prelude.{◌≡◌};
 use crate::driven::{ADD, Driven, FIRST, five};
 use refusing_alloc::Refusing;
 use ring_base::{Fault, Fixed, Proc, State};
-use ring_node::Input;
-use ring_session::{Answer, Ticket};
 use ring_book::{Book, BookName, Cell, Opening};
-use ring_things::Counters;
+use ring_node::Input;
 use ring_object::Object;
+use ring_session::{Answer, Ticket};
+use ring_things::Counters;
 use std::alloc::{Allocator, Global};
 use std::marker::Brand;
 

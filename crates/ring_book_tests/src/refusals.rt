@@ -5,11 +5,11 @@ ghost use Rattle.ring_base.specs.Processors.{IsProc};
 
 use crate::driven::{Driven, FIRST, cell_of};
 use ring_base::{Fault, Fixed, Proc};
-use ring_node::Input;
-use ring_wire::decode_frame;
 use ring_book::{Book, BookName, Cell, FrameRef, Opening, Place};
-use ring_things::Counters;
+use ring_node::Input;
 use ring_object::Object;
+use ring_things::Counters;
+use ring_wire::decode_frame;
 use std::alloc::Allocator;
 use std::marker::Brand;
 

@@ -5,12 +5,12 @@ ghost use Rattle.std.specs.Prelude.{◌≡◌};
 use crate::driven::{ADD, Driven, five};
 use crate::{answered, explained};
 use ring_base::{Fault, Fixed, Proc, State};
+use ring_book::{Book, BookName, Cell, Opening};
 use ring_node::Node;
+use ring_object::Object;
 use ring_rules::Item;
 use ring_session::{Answer, Ticket};
-use ring_book::{Book, BookName, Cell, Opening};
 use ring_things::Counters;
-use ring_object::Object;
 use std::alloc::Allocator;
 use std::marker::Brand;
 

@@ -3,9 +3,9 @@
 use crate::driven::{Driven, Seen};
 use crate::sending::lend;
 use ring_base::{Fault, State};
+use ring_object::{Object, Reply};
 use ring_session::{Answer, Ticket};
 use ring_things::Counters;
-use ring_object::{Object, Reply};
 use std::process::Abort;
 use std::test::Fail;
 use std::thread;

@@ -4,7 +4,9 @@ use crate::memory::ended;
 use refusing_alloc::{Refusing, refuse_in_turn};
 use ring_base::Fault;
 use ring_object::{Object, Reply, Short, object_law};
-use ring_things::{Counters, Names, Outcome, Place, Queue, Registers, Replied, Shelf, reply, reply_with};
+use ring_things::{
+    Counters, Names, Outcome, Place, Queue, Registers, Replied, Shelf, reply, reply_with,
+};
 use std::alloc::Global;
 use std::process::Abort;
 use std::test::Fail;

@@ -9,7 +9,10 @@ use bytes::BytesMut;
 use refusing_alloc::Refusing;
 use ring_base::{Fault, Proc, ProcSet, RingId};
 use ring_payload::{Call, Calls, Head, Payload};
-use ring_wire::{CommitEntry, CommitToken, Entries, Frame, Join, Requests, Token, Wire, decode_frame, one_spelling_law, short_law, spelling_law};
+use ring_wire::{
+    CommitEntry, CommitToken, Entries, Frame, Join, Requests, Token, Wire, decode_frame,
+    one_spelling_law, short_law, spelling_law,
+};
 use std::alloc::Global;
 use std::test::Fail;
 
