@@ -19,6 +19,7 @@
 -- OwnFacts: Each fact that a core has is of a ring that it takes part in, and of a ring above all before it has none.
 -- OwnReports: What a core would report is exact, and what it reported stays true.
 -- LeftRings: What is known of a ring that was left stays as it is, and nothing is added of the installed ring between the report of it and the plan.
+-- MembersOfRings: The members of each ring are processors of the group, and a processor that isn't one of the group never visits a token.
 -- OwnEverywhere: All local facts, of one core after any inputs and of each core of every world: each move keeps them.
 -- SetLimits: Sets and joins: a processor is among whom it gathers and is never given up by itself, so its joins keep the limits.
 -- ReportLimits: What a core reports of its last installed ring keeps the limits of an entry: by its marks, its window, and what each message held keeps.
@@ -49,6 +50,7 @@ pub mod OwnMessages
 pub mod OwnFacts
 pub mod OwnReports
 pub mod LeftRings
+pub mod MembersOfRings
 pub mod OwnEverywhere
 pub mod SetLimits
 pub mod ReportLimits

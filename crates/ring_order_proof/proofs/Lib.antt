@@ -16,7 +16,6 @@
 -- RunTexts: In every run of ring cores each ring has one text, all that was numbered in the visits of its token.
 -- SpeakingNodes: Each node of every world: what its core said in a ring is a front of what the node handed to it while it stayed there.
 -- LivesOfCores: The life of each node, what was handed over left out, is what its core's facts tell of each ring that it installed.
--- MembersOfRings: The members of each ring are processors of the group, and a processor that isn't one of the group never visits a token.
 -- RingsOfRuns: What every run of ring cores has of a ring: its members, what each heard up to its front, and who heard what one of them knows as
 --   safe.
 -- RunFacts: The facts of every run of nodes, one by one: each node's life is what its core tells of the rings that it installed, and what a core said
@@ -53,7 +52,6 @@ pub mod Numbering
 pub mod RunTexts
 pub mod SpeakingNodes
 pub mod LivesOfCores
-pub mod MembersOfRings
 pub mod RingsOfRuns
 pub mod RunFacts
 pub mod Between

@@ -33,7 +33,7 @@ use Rattle.ring_synchrony_proof.proofs.Installed.{all_orderly, all_ready, heard_
 use Rattle.ring_log.specs.Lives.{upto}
 use Rattle.ring_order_proof.proofs.Numbering.{users_in, upto_taken}
 use Rattle.ring_order_proof.proofs.RunTexts.{whole, whole_from, heard_is, numbered_by_sender}
-use Rattle.ring_order_proof.proofs.MembersOfRings.{StandsAs, AllStand, IsWithin, all_stand}
+use Rattle.ring_core_proof.proofs.MembersOfRings.{StandsAs, AllStand, IsWithin, all_stand}
 
 pub record HasInstalled {A : Type 0} (c : Core A) (ring : RingId) : Type 0 where
   pub at : Configuration

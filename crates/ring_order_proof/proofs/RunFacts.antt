@@ -40,7 +40,7 @@ use Rattle.ring_order_proof.proofs.RunTexts.{whole, whole_from, heard_is, texts,
 use Rattle.ring_order_proof.proofs.SpeakingNodes.{all_in_order}
 use Rattle.ring_order_proof.specs.RunFacts.{HasFacts}
 use Rattle.ring_order_proof.proofs.LivesOfCores.{IsToldOf, told_of, stay_for, life_told, rings_told}
-use Rattle.ring_order_proof.proofs.MembersOfRings.{StandsAs, IsWithin, member_below}
+use Rattle.ring_core_proof.proofs.MembersOfRings.{StandsAs, IsWithin, member_below}
 use Rattle.ring_order_proof.proofs.RingsOfRuns.{HasInstalled, IsWhole, all_whole, members_of, members_are, numbered_upto, safe_is}
 use Rattle.ring_order_proof.proofs.RingsOfRuns.{AllReached, reached_installed, members_within, safe_reached}
 use Rattle.ring_order_proof.proofs.DisciplinedNodes.{falls_from, stays_below}

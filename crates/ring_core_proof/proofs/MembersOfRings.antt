@@ -5,7 +5,7 @@ use Rattle.std.proofs.Common.{◌≡◌, ℕ, ◌-◌, ◌^◌, ◌<◌, ◌≤�
 use Rattle.std.proofs.Common.{sym, ◌∙◌, subst, arith}
 use Rattle.std.specs.Prelude.{nat_le, nat_lt, bit_and}
 use Rattle.std.specs.List.{AllByRecursion as Each}
-use Rattle.std.proofs.lemmas.Bool.{cond_both, cases_lt, and_parts, eqb-true, leb-true}
+use Rattle.std.proofs.lemmas.Bool.{cond_both, cases_lt, and_parts, and_from, eqb-true, leb-true, le-leb}
 use Rattle.std.proofs.lemmas.Nat.{or_lt, pow_below, pow_pos}
 use Rattle.std.proofs.lemmas.Nat.Bits.{bit_at_above}
 use lib.Bits.{and_le_r}
@@ -28,12 +28,14 @@ use Rattle.ring_core.specs.Deciding.{Take, Visit, Fill, Learn, decide_if_named, 
 use Rattle.ring_core.specs.Acting.{act, may_follow, proposed_after, done}
 use Rattle.ring_core.specs.Giving.{may_install, settle, sent, given}
 use Rattle.ring_core.specs.Stepping.{ring_step}
+use Rattle.ring_core_proof.specs.FactWords.{IsIn}
 use Rattle.ring_core_proof.specs.LawWords.{HasPassed, CameWith}
 use Rattle.ring_core_proof.specs.declared.event.RingEvent.{RingEvent}
 use Rattle.ring_core_proof.specs.declared.event.RingEvent.TheVariants.{Send, Deliver, Timeout, Stop}
 use Rattle.ring_core_proof.specs.Worlds.{World, put, is_node, stepped_if, stopped_if, handed_if, handed, happens, run, unformed}
 use Rattle.ring_core_proof.proofs.Causes.{caused}
 use Rattle.ring_core_proof.proofs.Guards.{guarded}
+use Rattle.ring_core_proof.proofs.InLists.{in-each}
 
 -- Sets of the first n processors, as words
 
@@ -237,3 +239,13 @@ opening_stands A n q true e =
 
 pub all_stand : {A : Type 0} → (n : ℕ) (events : List (RingEvent A)) → AllStand (run (unformed n) events)
 all_stand {A} n events = run_stands (unformed n) events (λ q. opening_stands A n q (nat_le 1 q && nat_le q n) refl)
+
+-- so each member of a ring of a processor of the group is one of the group
+pub member_in : {A : Type 0} → (n : ℕ) (events : List (RingEvent A)) (i : ℕ) → is_node (run (unformed n) events) i ≡ true →
+    (x : Configuration) → IsIn x ((run (unformed n) events).cores i).rings → (q : ℕ) → IsMember x.members q → is_node (run (unformed n) events) q ≡ true
+member_in {A} n events i node x there q m =
+    let w = run (unformed n) events in
+    let c = w.cores i in
+    let stands : IsWithin w.total c = own w (all_stand n events) i node in
+    let small : x.members < 2 ^ w.total = in-each (λ (y : Configuration). y.members < 2 ^ w.total) x c.rings stands.rings there in
+    and_from (nat_le 1 q) (nat_le q w.total) (le-leb 1 q m.0) (le-leb q w.total (member_below w.total x.members q small m))
