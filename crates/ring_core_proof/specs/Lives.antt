@@ -1,5 +1,5 @@
 -- The life of a processor, its configurations with what was delivered there, as its outputs tell it: Outputs, rules 9 and 10 of docs/PROTOCOL.md.
-use Rattle.std.specs.Prelude.{ℕ, Bool, true, false, ◌&&◌, ◌==◌, nat_le, if◌then◌else◌, List, [], ◌∷◌, ◌++◌, filter, filter_map, Option, Some, None}
+use Rattle.std.specs.Prelude.{ℕ, Bool, true, false, ◌&&◌, ◌==◌, nat_lt, nat_le, if◌then◌else◌, List, [], ◌∷◌, ◌++◌, filter, filter_map, Option, Some, None}
 use Rattle.ring_base.specs.Rings.{same_ring}
 use Rattle.ring_base.specs.declared.ring_id.RingId.{RingId}
 use Rattle.ring_wire.specs.declared.message.Message.{Message}
@@ -32,14 +32,20 @@ abbrev pub leads_to : {A : Type 0} → RingId → Stage A → Bool
 leads_to ring (InRegular at agreed safe) = false
 leads_to ring (InTransitional old new members rest) = same_ring new ring
 
+-- it is a regular configuration that was safe up to a lower number
+abbrev pub is_safe_below : {A : Type 0} → ℕ → Stage A → Bool
+is_safe_below upto (InRegular at agreed safe) = nat_lt safe upto
+is_safe_below upto (InTransitional old new members rest) = false
+
 -- an output stands where it belongs: what is agreed and safe in the regular configuration of its ring, the rest in a
--- transitional one from it; and the two kinds follow each other
+-- transitional one from it; and the two kinds follow each other. The number that is told is the message's own, and what
+-- is safe only rises
 abbrev pub belongs : {A : Type 0} → Out A → Stage A → Bool
 belongs (SendOut to frame) stage = true
-belongs (Agreed ring n x) stage = is_regular_of ring stage
-belongs (Safe ring upto) stage = is_regular_of ring stage
+belongs (Agreed ring n x) stage = is_regular_of ring stage && (n == x.number)
+belongs (Safe ring upto) stage = is_regular_of ring stage && is_safe_below upto stage
 belongs (Trans old new set) stage = is_regular_of old stage
-belongs (Rest ring n x) stage = leaves ring stage
+belongs (Rest ring n x) stage = leaves ring stage && (n == x.number)
 belongs (Regular ring set) stage = leads_to ring stage
 
 -- What outputs add

@@ -4,7 +4,7 @@ use Rattle.std.proofs.Common.{map, Option, refl, ap, sym, ◌∙◌, subst, arit
 use Rattle.std.specs.Prelude.{filter, filter_map, nat_lt}
 use Rattle.std.specs.List.{AllByRecursion as Each, cons_option}
 use Rattle.std.proofs.Math.Path.{fun_ext}
-use Rattle.std.proofs.lemmas.Bool.{cond_both, and_parts, ltb-false}
+use Rattle.std.proofs.lemmas.Bool.{cond_both, and_parts, and_from, ltb-false, eq-eqb}
 use Rattle.std.proofs.lemmas.List.Elements.{filter-append, filter_map-append}
 use Rattle.ring_base.specs.Numbers.{numbers_from}
 use Rattle.ring_base.specs.Rings.{same_ring}
@@ -79,7 +79,7 @@ tells_agreed : {A : Type 0} → (at : Configuration) (safe : ℕ) (earlier : Lis
 tells_agreed {A} at safe earlier xs [] = tells_to _ _ _ []
     (ap (λ (zs : List (Message A)). living (InRegular at zs safe) earlier) (sym (append-nil xs))) (tells_none _)
 tells_agreed {A} at safe earlier xs (y ∷ ys) =
-    tells_one _ _ (Agreed at.ring y.number y) _ (same-self at.ring)
+    tells_one _ _ (Agreed at.ring y.number y) _ (and_from (same_ring at.ring at.ring) (y.number == y.number) (same-self at.ring) (eq-eqb y.number y.number refl))
     (tells_to _ _ _ _ (ap (λ (zs : List (Message A)). living (InRegular at zs safe) earlier)
     (append_assoc xs (y ∷ []) ys)) (tells_agreed at safe earlier (xs ++ y ∷ []) ys))
 
@@ -89,7 +89,8 @@ tells_safe {A} d at m earlier xs low =
     cond_both (nat_lt m (mark d at.ring)) (Safe at.ring (mark d at.ring) ∷ []) []
     (λ (outs : List (Out A)). Tells (living (InRegular at xs m) earlier) outs
     (living (InRegular at xs (mark d at.ring)) earlier))
-    (λ e. tells_one _ _ (Safe at.ring (mark d at.ring)) [] (same-self at.ring) (tells_none _))
+    (λ e. tells_one _ _ (Safe at.ring (mark d at.ring)) []
+    (and_from (same_ring at.ring at.ring) (nat_lt m (mark d at.ring)) (same-self at.ring) e) (tells_none _))
     (λ e. (let same : m ≡ mark d at.ring = (let up = ltb-false m (mark d at.ring) e in omega (
       arith,
       low,
@@ -103,7 +104,8 @@ tells_rest {A} old new members earlier xs [] h = tells_to _ _ _ []
     (ap (λ (zs : List (Message A)). living (InTransitional old new members zs) earlier) (sym (append-nil xs)))
     (tells_none _)
 tells_rest {A} old new members earlier xs (y ∷ ys) h =
-    tells_one _ _ (Rest y.ring y.number y) _ (subst (λ r. same_ring old r ≡ true) (sym h.0) (same-self old))
+    tells_one _ _ (Rest y.ring y.number y) _
+    (and_from (same_ring old y.ring) (y.number == y.number) (subst (λ r. same_ring old r ≡ true) (sym h.0) (same-self old)) (eq-eqb y.number y.number refl))
     (tells_to _ _ _ _ (ap (λ (zs : List (Message A)). living (InTransitional old new members zs) earlier)
     (append_assoc xs (y ∷ []) ys)) (tells_rest old new members earlier (xs ++ y ∷ []) ys h.1))
 

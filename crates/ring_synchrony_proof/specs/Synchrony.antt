@@ -64,7 +64,8 @@ DeliversAlike {A} w =
     a.old.ring ≡ b.old.ring → a.new.ring ≡ b.new.ring → a ≡ b
 
 pub record HasConfigurations {A : Type 0} (w : World A) (i : ℕ) : Type 0 where
-  -- each output comes while the configuration that it belongs to is the newest
+  -- each output comes while the configuration that it belongs to is the newest, with the message's own number, and what
+  -- is safe rises
   pub told : is_well_told w i ≡ true
   -- the processor is a member of its configurations
   pub own : (s : Stage A) → IsIn s (stages_in w i) → has (members_in s) i ≡ true

@@ -96,3 +96,23 @@ abbrev pub agreed_left_out : World Global
 agreed_left_out =
     world_with (holder 1 (call_at 2 4 ∷ call_at 2 3 ∷ two_ends)) (holder 2 (call_at 2 4 ∷ call_at 2 3 ∷ two_ends))
     (into 3 1 first_ring ++ (Agreed first_ring 4 (call_at 2 4) ∷ [])) (into 3 2 first_ring)
+
+-- What a life tells of itself
+
+-- both hold call 3 of the first ring
+abbrev pub third_with : List (Out Global) → List (Out Global) → World Global
+third_with first second = world_with (holder 1 (call_at 2 3 ∷ two_ends)) (holder 2 (call_at 2 3 ∷ two_ends)) first second
+
+-- call 3 is safe, and then the ring up to number 2 alone
+abbrev pub safe_falls : World Global
+safe_falls = third_with (into 3 1 first_ring ++ (gets_third ++ Safe first_ring 2 ∷ [])) (into 3 2 first_ring ++ gets_third)
+
+-- call 3 is agreed as number 4
+abbrev pub agreed_as_another : World Global
+agreed_as_another = third_with (into 3 1 first_ring ++ (Agreed first_ring 4 (call_at 2 3) ∷ [])) (into 3 2 first_ring ++ gets_third)
+
+-- it is the rest of the first ring as number 4
+abbrev pub rest_as_another : World Global
+rest_as_another =
+    third_with (into 3 1 first_ring ++ (Agreed first_ring 3 (call_at 2 3) ∷ Trans first_ring second_ring 1 ∷ Rest first_ring 4 (call_at 2 3) ∷ Regular second_ring 1 ∷ []))
+    (into 3 2 first_ring ++ (Agreed first_ring 3 (call_at 2 3) ∷ []))

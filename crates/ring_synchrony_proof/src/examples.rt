@@ -11,6 +11,7 @@ ghost use Rattle.ring_synchrony_proof.specs.Tests.{has_same_text, delivers_safel
 ghost use Rattle.ring_synchrony_proof.specs.WrongLives.{right_lives, lacks_delivery, rest_out_of_order, own_message_lost};
 ghost use Rattle.ring_synchrony_proof.specs.WrongLives.{without_own_node, never_got, never_installed, left_without};
 ghost use Rattle.ring_synchrony_proof.specs.WrongLives.{agreed_left_out};
+ghost use Rattle.ring_synchrony_proof.specs.WrongLives.{safe_falls, agreed_as_another, rest_as_another};
 
 /// Two that change rings with a call on the way, three that gather and install their first ring, and one alone.
 pub fn worked_changes()
@@ -69,4 +70,21 @@ pub fn a_configuration_lacks_its_own_node()
     ensures others { (has_same_text without_own_node
         && (delivers_safely without_own_node && (delivers_alike without_own_node && delivers_own without_own_node)))
         ≡ true }
+{}
+
+/// What is safe falls: a later output tells a lower number.
+pub fn what_is_safe_falls()
+    ensures refused { (IsNode safe_falls 1 → HasConfigurations safe_falls 1) → ⊥ }
+    ensures others { (has_same_text safe_falls && (delivers_safely safe_falls && (delivers_alike safe_falls && delivers_own safe_falls))) ≡ true }
+{}
+
+/// A call is told under a number that isn't its own, as agreed, or as the rest of the old ring.
+pub fn a_call_is_told_as_another()
+    ensures agreed { (IsNode agreed_as_another 1 → HasConfigurations agreed_as_another 1) → ⊥ }
+    ensures rest { (IsNode rest_as_another 1 → HasConfigurations rest_as_another 1) → ⊥ }
+    ensures others_of_agreed { (has_same_text agreed_as_another
+        && (delivers_safely agreed_as_another && (delivers_alike agreed_as_another && delivers_own agreed_as_another)))
+        ≡ true }
+    ensures others_of_rest { (has_same_text rest_as_another
+        && (delivers_safely rest_as_another && (delivers_alike rest_as_another && delivers_own rest_as_another))) ≡ true }
 {}

@@ -11,7 +11,8 @@ use std::alloc::{Allocator, Global};
 
 /// A processor's life is what its core's facts tell: each ring that it installed, with the users' messages up to its
 /// front there as agreed and its safe mark as safe, and between two of them the members and the rest by the newer
-/// one's plan. And each output comes while the configuration that it belongs to is the newest.
+/// one's plan. And each output comes while the configuration that it belongs to is the newest, with the message's own
+/// number, and what is safe rises.
 pub fn life_law<A: Allocator + Copy>()
     ensures lives { (n : ℕ) (events : List (RingEvent A)) (i : ℕ) → life_of (run (unformed n) events) i ≡ tale ((run (unformed n) events).cores i) }
     ensures told { (n : ℕ) (events : List (RingEvent A)) (i : ℕ) → is_well_told (run (unformed n) events) i ≡ true }
