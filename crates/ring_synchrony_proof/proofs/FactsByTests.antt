@@ -18,7 +18,7 @@ use Rattle.ring_commit.specs.declared.configuration.Configuration.{Configuration
 use Rattle.ring_core.specs.State.{Core}
 use Rattle.ring_core.specs.Views.{front}
 use Rattle.ring_core_proof.specs.FactWords.{IsIn}
-use Rattle.ring_core_proof.specs.Worlds.{World}
+use Rattle.ring_core_proof.specs.Worlds.{World, is_node}
 use Rattle.ring_core_proof.specs.Texts.{HasOneText, held_by, text_of}
 use Rattle.ring_core_proof.specs.Lives.{Stage, InRegular, InTransitional, is_well_told, delivered_in}
 use Rattle.ring_core_proof.specs.CommitRounds.{all_pairs, is_above}
@@ -26,12 +26,12 @@ use Rattle.ring_core_proof.proofs.InLists.{in-left, in-right, in-parts, find-in,
 use Rattle.ring_synchrony_proof.specs.Changes.{IsNode, stages_in, agreed_of, deliveries_of, users_upto, regulars_of, members_in}
 use Rattle.ring_synchrony_proof.specs.Changes.{alternate, Change, changes_in, delivered_by}
 use Rattle.ring_synchrony_proof.specs.Synchrony.{IsBefore, Ascend, HasSameText, IsSafelyDelivered, DeliversSafely, DeliversAlike}
-use Rattle.ring_synchrony_proof.specs.Synchrony.{HasConfigurations, DeliversOwn, IsVirtuallySynchronous}
+use Rattle.ring_synchrony_proof.specs.Synchrony.{IsShared, HasConfigurations, DeliversOwn, IsVirtuallySynchronous}
 use Rattle.ring_synchrony_proof.specs.Same.{same_message}
 use Rattle.ring_synchrony_proof.specs.Tests.{of_all, has_message, same_configuration, all_held, is_found, has_one_text, with_ring}
 use Rattle.ring_synchrony_proof.specs.Tests.{rings_held, rings_in, agrees_with_text, agrees_with_texts, rests_in_text, is_before}
 use Rattle.ring_synchrony_proof.specs.Tests.{is_within_front, has_same_text, delivers_of, is_safely_delivered, is_safe_stage}
-use Rattle.ring_synchrony_proof.specs.Tests.{delivers_safely, same_change, are_alike, delivers_alike, has_configurations}
+use Rattle.ring_synchrony_proof.specs.Tests.{delivers_safely, same_change, are_alike, delivers_alike, is_same_to, is_shared, has_configurations}
 use Rattle.ring_synchrony_proof.specs.Tests.{have_configurations, is_own_among, delivers_own, is_virtually_synchronous}
 use Rattle.ring_synchrony_proof.proofs.EqualityTests.{ring_decides, configuration_decides, message_decides, messages_decide, change_decides}
 use Rattle.ring_synchrony_proof.proofs.Quantified.{all_decides, each_decides, in_decides, when_decides, nodes_decide}
@@ -288,14 +288,28 @@ alike_all {A} w =
 
 -- Configurations
 
+same_to_decides : (at b : Configuration) → Decides (is_same_to at b) (at.ring ≡ b.ring → at ≡ b)
+same_to_decides at b = when_decides (same_ring at.ring b.ring) (same_configuration at b) (ring_decides at.ring b.ring) (configuration_decides at b)
+
+shared_decides : {A : Type 0} → (w : World A) (at : Configuration) → Decides (is_shared w at) (IsShared w at)
+shared_decides {A} w at =
+    Decides-like (is_shared w at) (λ h. record { same = λ j n b k e. h.0 j n b k e; group = h.1 }) (λ r. (r.same, r.group))
+    (Decides-and _ _
+    (nodes_decide w.total (λ j. list_all (is_same_to at) (regulars_of (stages_in w j))) _
+    (λ j. all_decides (is_same_to at) _ (same_to_decides at) (regulars_of (stages_in w j))))
+    (all_decides (is_node w) (IsNode w) (λ q. true_decides (is_node w q)) (elements at.members)))
+
 pub configurations_decide : {A : Type 0} → (w : World A) (i : ℕ) → Decides (has_configurations w i) (HasConfigurations w i)
 configurations_decide {A} w i =
     Decides-like (has_configurations w i)
-    (λ h. record { told = h.0; own = h.1.0; alternating = h.1.1.0; rising = h.1.1.1 }) (λ r. (r.told, (r.own, (r.alternating, r.rising))))
+    (λ h. record { told = h.0; own = h.1.0; alternating = h.1.1.0; rising = h.1.1.1.0; shared = h.1.1.1.1 })
+    (λ r. (r.told, (r.own, (r.alternating, (r.rising, r.shared)))))
     (Decides-and _ _ (true_decides (is_well_told w i))
     (Decides-and _ _ (all_decides (λ (s : Stage A). has (members_in s) i)
     (λ (s : Stage A). has (members_in s) i ≡ true) (λ s. true_decides (has (members_in s) i)) (stages_in w i))
-    (Decides-and _ _ (true_decides (alternate (stages_in w i))) (true_decides (all_pairs is_above (regulars_of (stages_in w i)))))))
+    (Decides-and _ _ (true_decides (alternate (stages_in w i)))
+    (Decides-and _ _ (true_decides (all_pairs is_above (regulars_of (stages_in w i))))
+    (all_decides (is_shared w) (IsShared w) (shared_decides w) (regulars_of (stages_in w i)))))))
 
 pub configurations_all : {A : Type 0} → (w : World A) → Decides (have_configurations w) ((i : ℕ) → IsNode w i → HasConfigurations w i)
 configurations_all w = nodes_decide w.total (has_configurations w) (HasConfigurations w) (configurations_decide w)

@@ -4,7 +4,8 @@ use Rattle.std.specs.Prelude.{filter, filter_map, nat_le}
 use Rattle.std.specs.List.{AllByRecursion as Each}
 use Rattle.std.proofs.lemmas.Bool.{cases_lt}
 use Rattle.ring_base.specs.Numbers.{numbers_from}
-use Rattle.ring_base.specs.Processors.{has}
+use Rattle.ring_base.specs.Processors.{has, elements}
+use Rattle.ring_base.specs.Elements.{elements_members}
 use Rattle.ring_base.specs.declared.ring_id.RingId.{RingId}
 use Rattle.ring_base.proofs.SameRing.{same-self}
 use Rattle.ring_payload.specs.Kinds.{is_user}
@@ -26,7 +27,8 @@ use Rattle.ring_core_proof.specs.Worlds.{World, run, unformed}
 use Rattle.ring_core_proof.specs.Texts.{text_of}
 use Rattle.ring_core_proof.specs.Lives.{Stage, stages_of, delivered_in}
 use Rattle.ring_core_proof.specs.CommitRounds.{all_pairs, is_above}
-use Rattle.ring_core_proof.proofs.InLists.{in-each, in-left, in-right}
+use Rattle.ring_core_proof.proofs.InLists.{in-each, in-left, in-right, in-contains}
+use Rattle.ring_core_proof.proofs.MembersOfRings.{member_in}
 use Rattle.ring_core_proof.proofs.WithinWindow.{mark_below}
 use Rattle.ring_core_proof.proofs.Rounds.{pairs_fall}
 use Rattle.ring_core_proof.proofs.OwnMessages.{holds_in}
@@ -37,7 +39,7 @@ use Rattle.ring_chain_proof.proofs.AllLayers.{Holds}
 use Rattle.ring_chain_proof.proofs.Plans.{IsPlan, one_plan}
 use Rattle.ring_chain_proof.proofs.ChainInRuns.{held_somewhere}
 use Rattle.ring_synchrony_proof.specs.Changes.{IsNode, stages_in, regulars_of, members_in, alternate, Change, changes_of, changes_in, delivered_by}
-use Rattle.ring_synchrony_proof.specs.Synchrony.{DeliversAlike, DeliversOwn, HasConfigurations}
+use Rattle.ring_synchrony_proof.specs.Synchrony.{DeliversAlike, DeliversOwn, IsShared, HasConfigurations}
 use Rattle.ring_synchrony_proof.proofs.Quantified.{in_numbers}
 use Rattle.ring_synchrony_proof.specs.Tales.{regular_of, plan_into, before_of}
 use Rattle.ring_synchrony_proof.proofs.LivesTold.{heard, found_alike, tale_is}
@@ -297,6 +299,23 @@ module _ {A : Type 0} (n : ℕ) (events : List (RingEvent A)) where
       let own = own_held w r i c.old.ring x there s in
       subst (λ (z : Change A). IsIn x (delivered_by z)) (sym a.is) (own_delivered w r i a.next a.old a.changed x own.0 (own.1 ∙ ring) s u)
 
+  -- the regular configurations of a life are the rings that were installed
+  pub installs_are : (i : ℕ) → regulars_of (stages_in w i) ≡ (w.cores i).installs
+  installs_are i =
+      let o = (r.local i).ordered in
+      ap regulars_of (stages_are i) ∙ regulars_are (w.cores i) (w.cores i).installed o.older ∙ sym o.newest
+
+  installed_there : (i : ℕ) (x : Configuration) → IsIn x (regulars_of (stages_in w i)) → IsIn x (w.cores i).installs
+  installed_there i x k = subst (λ xs. IsIn x xs) (installs_are i) k
+
+  are_shared : (i : ℕ) → IsNode w i → (at : Configuration) → IsIn at (regulars_of (stages_in w i)) → IsShared w at
+  are_shared i ni at k =
+      let there = installed_there i at k in
+      record {
+        same = λ j nj b m e. one_configuration w r i j at b there (installed_there j b m) e;
+        group = λ q m. member_in n events i ni at ((r.local i).among at there) q ((elements_members at.members q).0 (in-contains (elements at.members) q m)).1;
+      }
+
   pub have_configurations : (i : ℕ) → IsNode w i → HasConfigurations w i
   have_configurations i ni =
       let c = w.cores i in
@@ -310,4 +329,5 @@ module _ {A : Type 0} (n : ℕ) (events : List (RingEvent A)) where
             (went_through i) s (subst (λ (xs : List (Stage A)). IsIn s xs) (stages_are i) k));
         alternating = ap alternate (stages_are i) ∙ alternates c c.installed o.older;
         rising = ap (all_pairs is_above) (ap regulars_of (stages_are i) ∙ regulars_are c c.installed o.older) ∙ pairs_fall (c.installed ∷ o.older) o.falls;
+        shared = are_shared i ni;
       }

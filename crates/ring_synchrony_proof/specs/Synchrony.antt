@@ -63,6 +63,11 @@ DeliversAlike {A} w =
     (i j : ℕ) → IsNode w i → IsNode w j → (a b : Change A) → IsIn a (changes_in w i) → IsIn b (changes_in w j) →
     a.old.ring ≡ b.old.ring → a.new.ring ≡ b.new.ring → a ≡ b
 
+-- a regular configuration as all lives have it: who names its ring names its members, and they are of the group
+pub record IsShared {A : Type 0} (w : World A) (at : Configuration) : Type 0 where
+  pub same : (j : ℕ) → IsNode w j → (b : Configuration) → IsIn b (regulars_of (stages_in w j)) → at.ring ≡ b.ring → at ≡ b
+  pub group : (q : ℕ) → IsIn q (elements at.members) → IsNode w q
+
 pub record HasConfigurations {A : Type 0} (w : World A) (i : ℕ) : Type 0 where
   -- each output comes while the configuration that it belongs to is the newest, with the message's own number, and what
   -- is safe rises
@@ -73,6 +78,8 @@ pub record HasConfigurations {A : Type 0} (w : World A) (i : ℕ) : Type 0 where
   pub alternating : alternate (stages_in w i) ≡ true
   -- the numbers of regular rings rise: they stand newest first
   pub rising : all_pairs is_above (regulars_of (stages_in w i)) ≡ true
+  -- all lives have the same members of a ring, and these are of the group
+  pub shared : (at : Configuration) → IsIn at (regulars_of (stages_in w i)) → IsShared w at
 
 -- a processor's own users' messages of a ring that it left, which it numbered there, are delivered before the next regular configuration
 abbrev pub DeliversOwn : {A : Type 0} → World A → Type 0

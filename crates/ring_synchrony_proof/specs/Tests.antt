@@ -12,7 +12,7 @@ use Rattle.ring_window.specs.Held.{found}
 use Rattle.ring_commit.specs.declared.configuration.Configuration.{Configuration}
 use Rattle.ring_core.specs.State.{Core}
 use Rattle.ring_core.specs.Views.{front}
-use Rattle.ring_core_proof.specs.Worlds.{World}
+use Rattle.ring_core_proof.specs.Worlds.{World, is_node}
 use Rattle.ring_core_proof.specs.Texts.{text_of}
 use Rattle.ring_core_proof.specs.Lives.{Stage, InRegular, InTransitional, is_well_told, delivered_in}
 use Rattle.ring_core_proof.specs.CommitRounds.{is_above, all_pairs}
@@ -120,11 +120,19 @@ delivers_alike w = of_all w (λ i. of_all w (λ j. list_all (λ a. list_all (are
 
 -- configurations
 
+-- who names its ring names its members
+abbrev pub is_same_to : Configuration → Configuration → Bool
+is_same_to at b = if same_ring at.ring b.ring then same_configuration at b else true
+
+abbrev pub is_shared : {A : Type 0} → World A → Configuration → Bool
+is_shared w at = of_all w (λ j. list_all (is_same_to at) (regulars_of (stages_in w j))) && list_all (is_node w) (elements at.members)
+
 abbrev pub has_configurations : {A : Type 0} → World A → ℕ → Bool
 has_configurations w i =
     is_well_told w i
     && (list_all (λ (s : Stage _). has (members_in s) i) (stages_in w i)
-    && (alternate (stages_in w i) && all_pairs is_above (regulars_of (stages_in w i))))
+    && (alternate (stages_in w i)
+    && (all_pairs is_above (regulars_of (stages_in w i)) && list_all (is_shared w) (regulars_of (stages_in w i)))))
 
 abbrev pub have_configurations : {A : Type 0} → World A → Bool
 have_configurations w = of_all w (has_configurations w)

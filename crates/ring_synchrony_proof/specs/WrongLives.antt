@@ -116,3 +116,17 @@ abbrev pub rest_as_another : World Global
 rest_as_another =
     third_with (into 3 1 first_ring ++ (Agreed first_ring 3 (call_at 2 3) ∷ Trans first_ring second_ring 1 ∷ Rest first_ring 4 (call_at 2 3) ∷ Regular second_ring 1 ∷ []))
     (into 3 2 first_ring ++ (Agreed first_ring 3 (call_at 2 3) ∷ []))
+
+-- Whom configurations name
+
+-- neither holds anything
+abbrev pub silent_with : List (Out Global) → List (Out Global) → World Global
+silent_with first second = world_with (holder 1 []) (holder 2 []) first second
+
+-- processor 1 names itself alone, processor 2 both
+abbrev pub named_apart : World Global
+named_apart = silent_with (into 1 1 first_ring) (into 3 2 first_ring)
+
+-- both name a third, which is none of the group
+abbrev pub names_a_stranger : World Global
+names_a_stranger = silent_with (into 7 1 first_ring) (into 7 2 first_ring)

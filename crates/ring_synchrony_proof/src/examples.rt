@@ -12,6 +12,7 @@ ghost use Rattle.ring_synchrony_proof.specs.WrongLives.{right_lives, lacks_deliv
 ghost use Rattle.ring_synchrony_proof.specs.WrongLives.{without_own_node, never_got, never_installed, left_without};
 ghost use Rattle.ring_synchrony_proof.specs.WrongLives.{agreed_left_out};
 ghost use Rattle.ring_synchrony_proof.specs.WrongLives.{safe_falls, agreed_as_another, rest_as_another};
+ghost use Rattle.ring_synchrony_proof.specs.WrongLives.{named_apart, names_a_stranger};
 
 /// Two that change rings with a call on the way, three that gather and install their first ring, and one alone.
 pub fn worked_changes()
@@ -87,4 +88,14 @@ pub fn a_call_is_told_as_another()
         ≡ true }
     ensures others_of_rest { (has_same_text rest_as_another
         && (delivers_safely rest_as_another && (delivers_alike rest_as_another && delivers_own rest_as_another))) ≡ true }
+{}
+
+/// Two lives name one ring with other members; or both name one that is none of the group.
+pub fn members_are_named_wrong()
+    ensures apart { (IsNode named_apart 1 → HasConfigurations named_apart 1) → ⊥ }
+    ensures stranger { (IsNode names_a_stranger 1 → HasConfigurations names_a_stranger 1) → ⊥ }
+    ensures others_of_apart { (has_same_text named_apart
+        && (delivers_safely named_apart && (delivers_alike named_apart && delivers_own named_apart))) ≡ true }
+    ensures others_of_stranger { (has_same_text names_a_stranger
+        && (delivers_safely names_a_stranger && (delivers_alike names_a_stranger && delivers_own names_a_stranger))) ≡ true }
 {}
