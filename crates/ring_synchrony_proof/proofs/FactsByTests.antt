@@ -1,11 +1,11 @@
 -- Each fact of virtual synchrony is decided by its test.
-use Rattle.std.proofs.Common.{◌≡◌, ℕ, ◌≤◌, inl, inr, Bool, true, false, ◌&&◌, ◌==◌, List, [], ◌∷◌}
+use Rattle.std.proofs.Common.{◌≡◌, ℕ, ◌≤◌, ◌⊎◌, inl, inr, Bool, true, false, ◌&&◌, ◌==◌, List, [], ◌∷◌}
 use Rattle.std.proofs.Common.{map, Option, Some, None, refl, ap, sym, ◌∙◌, subst}
 use Rattle.std.specs.Prelude.{nat_le, nat_lt}
 use Rattle.std.specs.Bool.{Decides}
 use Rattle.std.specs.List.{list_all, list_any, prefix_len}
 use Rattle.std.proofs.lemmas.Bool.{false≢true, leb-true, le-leb, and_parts, cond_both}
-use Rattle.std.proofs.lemmas.Bool.Decides.{Decides-and, Decides-eqb, Decides-ltb, Decides-like}
+use Rattle.std.proofs.lemmas.Bool.Decides.{Decides-and, Decides-or, Decides-eqb, Decides-ltb, Decides-like}
 use Rattle.ring_base.specs.Numbers.{numbers_from}
 use Rattle.ring_base.specs.Processors.{has, elements}
 use Rattle.ring_base.specs.Rings.{same_ring}
@@ -26,12 +26,13 @@ use Rattle.ring_core_proof.proofs.InLists.{in-left, in-right, in-parts, find-in,
 use Rattle.ring_synchrony_proof.specs.Changes.{IsNode, stages_in, agreed_of, deliveries_of, users_upto, regulars_of, members_in}
 use Rattle.ring_synchrony_proof.specs.Changes.{alternate, Change, changes_in, delivered_by}
 use Rattle.ring_synchrony_proof.specs.Synchrony.{IsBefore, Ascend, HasSameText, IsSafelyDelivered, DeliversSafely, DeliversAlike}
-use Rattle.ring_synchrony_proof.specs.Synchrony.{IsShared, HasConfigurations, DeliversOwn, IsVirtuallySynchronous}
+use Rattle.ring_synchrony_proof.specs.Synchrony.{IsShared, GoesOn, HasConfigurations, DeliversOwn, IsVirtuallySynchronous}
 use Rattle.ring_synchrony_proof.specs.Same.{same_message}
 use Rattle.ring_synchrony_proof.specs.Tests.{of_all, has_message, same_configuration, all_held, is_found, has_one_text, with_ring}
 use Rattle.ring_synchrony_proof.specs.Tests.{rings_held, rings_in, agrees_with_text, agrees_with_texts, rests_in_text, is_before}
 use Rattle.ring_synchrony_proof.specs.Tests.{is_within_front, has_same_text, delivers_of, is_safely_delivered, is_safe_stage}
 use Rattle.ring_synchrony_proof.specs.Tests.{delivers_safely, same_change, are_alike, delivers_alike, is_same_to, is_shared, has_configurations}
+use Rattle.ring_synchrony_proof.specs.Tests.{is_beside, goes_on, is_mate}
 use Rattle.ring_synchrony_proof.specs.Tests.{have_configurations, is_own_among, delivers_own, is_virtually_synchronous}
 use Rattle.ring_synchrony_proof.proofs.EqualityTests.{ring_decides, configuration_decides, message_decides, messages_decide, change_decides}
 use Rattle.ring_synchrony_proof.proofs.Quantified.{all_decides, each_decides, in_decides, when_decides, nodes_decide}
@@ -299,17 +300,42 @@ shared_decides {A} w at =
     (λ j. all_decides (is_same_to at) _ (same_to_decides at) (regulars_of (stages_in w j))))
     (all_decides (is_node w) (IsNode w) (λ q. true_decides (is_node w q)) (elements at.members)))
 
+goes_on_decides : {A : Type 0} → (w : World A) (c : Change A) (q : ℕ) → Decides (goes_on w c q) (GoesOn w c q)
+goes_on_decides {A} w c q =
+    Decides-like (goes_on w c q)
+    (λ h. record { leaving = h.0; entering = h.1.0; through = h.1.1.0; straight = h.1.1.1 })
+    (λ r. (r.leaving, (r.entering, (r.through, r.straight))))
+    (Decides-and _ _ (true_decides (has c.old.members q))
+    (Decides-and _ _ (true_decides (has c.new.members q))
+    (Decides-and _ _ (in_decides same_configuration configuration_decides c.old (regulars_of (stages_in w q)))
+    (all_decides (is_beside c) (λ (b : Configuration). (b.ring.seq ≤ c.old.ring.seq) ⊎ (c.new.ring.seq ≤ b.ring.seq))
+    (λ b. Decides-or _ _ (le_decides b.ring.seq c.old.ring.seq) (le_decides c.new.ring.seq b.ring.seq)) (regulars_of (stages_in w q))))))
+
+mate_decides : {A : Type 0} → (w : World A) (c : Change A) (q : ℕ) → Decides (is_mate w c q) (GoesOn w c q → has c.mates q ≡ true)
+mate_decides w c q = when_decides (goes_on w c q) (has c.mates q) (goes_on_decides w c q) (true_decides (has c.mates q))
+
 pub configurations_decide : {A : Type 0} → (w : World A) (i : ℕ) → Decides (has_configurations w i) (HasConfigurations w i)
 configurations_decide {A} w i =
     Decides-like (has_configurations w i)
-    (λ h. record { told = h.0; own = h.1.0; alternating = h.1.1.0; rising = h.1.1.1.0; shared = h.1.1.1.1 })
-    (λ r. (r.told, (r.own, (r.alternating, (r.rising, r.shared)))))
+    (λ h. record {
+      told = h.0;
+      own = h.1.0;
+      alternating = h.1.1.0;
+      rising = h.1.1.1.0;
+      shared = h.1.1.1.1.0;
+      mates = h.1.1.1.1.1.0;
+      all_mates = h.1.1.1.1.1.1;
+    })
+    (λ r. (r.told, (r.own, (r.alternating, (r.rising, (r.shared, (r.mates, r.all_mates)))))))
     (Decides-and _ _ (true_decides (is_well_told w i))
     (Decides-and _ _ (all_decides (λ (s : Stage A). has (members_in s) i)
     (λ (s : Stage A). has (members_in s) i ≡ true) (λ s. true_decides (has (members_in s) i)) (stages_in w i))
     (Decides-and _ _ (true_decides (alternate (stages_in w i)))
     (Decides-and _ _ (true_decides (all_pairs is_above (regulars_of (stages_in w i))))
-    (all_decides (is_shared w) (IsShared w) (shared_decides w) (regulars_of (stages_in w i)))))))
+    (Decides-and _ _ (all_decides (is_shared w) (IsShared w) (shared_decides w) (regulars_of (stages_in w i)))
+    (Decides-and _ _
+    (all_decides _ _ (λ (c : Change A). all_decides (goes_on w c) (GoesOn w c) (goes_on_decides w c) (elements c.mates)) (changes_in w i))
+    (all_decides _ _ (λ (c : Change A). all_decides (is_mate w c) _ (mate_decides w c) (elements c.new.members)) (changes_in w i))))))))
 
 pub configurations_all : {A : Type 0} → (w : World A) → Decides (have_configurations w) ((i : ℕ) → IsNode w i → HasConfigurations w i)
 configurations_all w = nodes_decide w.total (has_configurations w) (HasConfigurations w) (configurations_decide w)

@@ -11,6 +11,7 @@
 -- Planned: The plan by which a core goes from one ring to another is among the core's, with the core as a mate, its mark, and what it holds.
 -- Recovering: In every world a core in Recovery has a plan, and of each change of rings that a core went through all is held that was reported.
 -- Heard: Lists of what is heard of a ring: up to a number, and what a plan's rest has.
+-- GoingOn: Who goes on by a change of rings: those of the new ring's members whose report names the old one, and who installed none between the two.
 -- ThreeFacts: Lives alternate and each processor is in its configurations; who goes on together delivers the same; and each delivers its own.
 -- Ascending: What is heard ascends.
 -- AllOfSynchrony: All of virtual synchrony, from one fact more: who holds a users' message of a ring within its front has installed the ring.
@@ -36,6 +37,7 @@ pub mod Known
 pub mod Planned
 pub mod Recovering
 pub mod Heard
+pub mod GoingOn
 pub mod ThreeFacts
 pub mod Ascending
 pub mod AllOfSynchrony

@@ -53,6 +53,37 @@ mates_in old (m ∷ ms) (e ∷ es) up i h =
     none_more : 0 + mates_among old ms es ≡ mates_among old ms es
     none_more = omega arith
 
+-- a number stands in the list where the report names the old ring
+pub record IsReportedAt (old : RingId) (is : List ℕ) (es : List CommitEntry) (i : ℕ) : Type 0 where
+  pub place : ℕ
+  pub member : slice_get is place ≡ Some i
+  pub entry : CommitEntry
+  pub reported : slice_get es place ≡ Some entry
+  pub from : same_ring entry.old old ≡ true
+
+reported_later : (old : RingId) (m : ℕ) (ms : List ℕ) (e : CommitEntry) (es : List CommitEntry) (i : ℕ) → IsReportedAt old ms es i →
+    IsReportedAt old (m ∷ ms) (e ∷ es) i
+reported_later old m ms e es i h = record { place = suc h.place; member = h.member; entry = h.entry; reported = h.reported; from = h.from }
+
+-- so does each mate
+mate_reported : (old : RingId) (is : List ℕ) (es : List CommitEntry) → AreUp is → (i : ℕ) → IsMember (mates_among old is es) i → IsReportedAt old is es i
+mate_reported old [] es up i h = absurd (nobody_member i h)
+mate_reported old (m ∷ ms) [] up i h = absurd (nobody_member i h)
+mate_reported old (m ∷ ms) (e ∷ es) up i h =
+    let rest = mates_among old ms es in
+    let none : IsMember rest m → ⊥ = λ k. (let l : m < m = in-each (λ j. m < j) m ms up.1 (mates_in old ms es up.2 m k) in omega arith) in
+    let later : IsMember rest i → IsReportedAt old (m ∷ ms) (e ∷ es) i = λ k. reported_later old m ms e es i (mate_reported old ms es up.2 i k) in
+    cond_both (same_ring e.old old) (only m) 0 (λ x. IsMember (x + rest) i → IsReportedAt old (m ∷ ms) (e ∷ es) i)
+    (λ t k. (let sum : only m + rest ≡ union rest (only m) = (let u = union_apart rest m up.0 none in omega (arith, u)) in
+    elim ((union_members rest (only m) i).0 (subst (λ s. IsMember s i) sum k)) [
+      | inl a ↦ later a
+      | inr b ↦ record { place = 0; member = ap Some (sym ((only_members m i up.0).0 b)); entry = e; reported = refl; from = t }
+    ]))
+    (λ t k. later (subst (λ s. IsMember s i) none_more k)) h
+  where
+    none_more : 0 + mates_among old ms es ≡ mates_among old ms es
+    none_more = omega arith
+
 -- one whose report names the old ring is a mate
 mate_at : (old : RingId) (is : List ℕ) (es : List CommitEntry) → AreUp is → (k i : ℕ) (e : CommitEntry) → slice_get is k ≡ Some i → slice_get es k ≡ Some e →
     same_ring e.old old ≡ true → IsMember (mates_among old is es) i
@@ -105,3 +136,17 @@ pub is_mate : (old : RingId) (members : ℕ) (entries : List CommitEntry) (k i :
 is_mate old members entries k i e a low b t =
     has_member (mates_among old (elements members) entries) i
     (mate_at old (elements members) entries (elements_up members) k i e (placed (elements members) k i a low) b t)
+
+-- and each mate reports it at its position
+pub mate_reports : (old : RingId) (members : ℕ) (entries : List CommitEntry) (i : ℕ) → IsMember (mates_among old (elements members) entries) i →
+    IsReportedAt old (elements members) entries i
+mate_reports old members entries i h = mate_reported old (elements members) entries (elements_up members) i h
+
+got_index : (xs : List ℕ) (k i : ℕ) → slice_get xs k ≡ Some i → slice_index xs k ≡ i
+got_index [] k i e = absurd (let n : ⊥ = cc in n)
+got_index (x ∷ xs) zero i e = cc
+got_index (x ∷ xs) (suc k) i e = got_index xs k i e
+
+-- what stands at a place of the members
+pub at_place : (members k i : ℕ) → slice_get (elements members) k ≡ Some i → at members k ≡ i
+at_place members k i e = got_index (elements members) k i e

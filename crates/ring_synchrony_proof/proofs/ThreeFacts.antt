@@ -2,7 +2,7 @@
 use Rattle.std.proofs.Common.{◌≡◌, ℕ, ◌-◌, ◌<◌, ◌≤◌, ◌⊎◌, inl, inr, true, List, [], ◌∷◌, ◌++◌, Some, refl, ap, sym, ◌∙◌, subst, arith}
 use Rattle.std.specs.Prelude.{filter, filter_map, nat_le}
 use Rattle.std.specs.List.{AllByRecursion as Each}
-use Rattle.std.proofs.lemmas.Bool.{cases_lt}
+use Rattle.std.proofs.lemmas.Bool.{cases_lt, and_parts, leb-true}
 use Rattle.ring_base.specs.Numbers.{numbers_from}
 use Rattle.ring_base.specs.Processors.{has, elements}
 use Rattle.ring_base.specs.Elements.{elements_members}
@@ -39,13 +39,14 @@ use Rattle.ring_chain_proof.proofs.AllLayers.{Holds}
 use Rattle.ring_chain_proof.proofs.Plans.{IsPlan, one_plan}
 use Rattle.ring_chain_proof.proofs.ChainInRuns.{held_somewhere}
 use Rattle.ring_synchrony_proof.specs.Changes.{IsNode, stages_in, regulars_of, members_in, alternate, Change, changes_of, changes_in, delivered_by}
-use Rattle.ring_synchrony_proof.specs.Synchrony.{DeliversAlike, DeliversOwn, IsShared, HasConfigurations}
+use Rattle.ring_synchrony_proof.specs.Synchrony.{DeliversAlike, DeliversOwn, IsShared, GoesOn, HasConfigurations}
 use Rattle.ring_synchrony_proof.proofs.Quantified.{in_numbers}
 use Rattle.ring_synchrony_proof.specs.Tales.{regular_of, plan_into, before_of}
 use Rattle.ring_synchrony_proof.proofs.LivesTold.{heard, found_alike, tale_is}
 use Rattle.ring_synchrony_proof.proofs.LivesOfWorlds.{lives_are, all_well_told}
 use Rattle.ring_synchrony_proof.proofs.Planned.{HasChanged, HaveChanged, AllChanged}
 use Rattle.ring_synchrony_proof.proofs.Recovering.{Recovered, numbered_by, all_recovered}
+use Rattle.ring_synchrony_proof.proofs.GoingOn.{mate_came, came_mate}
 use Rattle.ring_synchrony_proof.proofs.Heard.{found_as, heard_upto, in_heard, in_rest}
 
 -- The stages and changes of a tale
@@ -316,6 +317,33 @@ module _ {A : Type 0} (n : ℕ) (events : List (RingEvent A)) where
         group = λ q m. member_in n events i ni at ((r.local i).among at there) q ((elements_members at.members q).0 (in-contains (elements at.members) q m)).1;
       }
 
+  -- a mate of a change that the core went through
+  mate_goes : (i : ℕ) (c : Change A) → IsChangeOf (w.cores i) c → (q : ℕ) → IsIn q (elements c.mates) → GoesOn w c q
+  mate_goes i c a q m =
+      let came = mate_came n events i a.next a.old a.changed q (subst (λ (z : Change A). IsIn q (elements z.mates)) a.is m) in
+      let there : IsIn a.old (w.cores q).installs =
+      subst (λ (x : Configuration). IsIn x (w.cores q).installs)
+      (one_configuration w r q i (record { ring = a.old.ring; members = (came.from).0 }) a.old (came.from).1 a.old_in refl) (came.from).1 in
+      let me : (w.cores q).me ≡ q = (((r.all).all).rings).me q in
+      let goes : GoesOn w (change_of (w.cores i) a.next a.old) q = record {
+        leaving = subst (λ p. has (a.old).members p ≡ true) me ((r.local q).member a.old ((r.local q).among a.old there));
+        entering = came.entering;
+        through = subst (λ xs. IsIn a.old xs) (sym (installs_are q)) there;
+        straight = λ b k. came.beside b (installed_there q b k);
+      } in
+      subst (λ (z : Change A). GoesOn w z q) (sym a.is) goes
+
+  goer_is_mate : (i : ℕ) → 1 ≤ i → (c : Change A) → IsChangeOf (w.cores i) c → (q : ℕ) → IsIn q (elements c.new.members) → GoesOn w c q →
+      has c.mates q ≡ true
+  goer_is_mate i low c a q m g =
+      let goes : GoesOn w (change_of (w.cores i) a.next a.old) q = subst (λ (z : Change A). GoesOn w z q) a.is g in
+      subst (λ (z : Change A). has z.mates q ≡ true) (sym a.is)
+      (came_mate n events i a.next a.old a.changed low q (subst (λ (z : Change A). IsIn q (elements z.new.members)) a.is m)
+      (installed_there q a.old goes.through) (λ b k. goes.straight b (subst (λ xs. IsIn b xs) (sym (installs_are q)) k)))
+
+  node_low : (i : ℕ) → IsNode w i → 1 ≤ i
+  node_low i ni = leb-true 1 i (and_parts (nat_le 1 i) (nat_le i w.total) ni).0
+
   pub have_configurations : (i : ℕ) → IsNode w i → HasConfigurations w i
   have_configurations i ni =
       let c = w.cores i in
@@ -330,4 +358,6 @@ module _ {A : Type 0} (n : ℕ) (events : List (RingEvent A)) where
         alternating = ap alternate (stages_are i) ∙ alternates c c.installed o.older;
         rising = ap (all_pairs is_above) (ap regulars_of (stages_are i) ∙ regulars_are c c.installed o.older) ∙ pairs_fall (c.installed ∷ o.older) o.falls;
         shared = are_shared i ni;
+        mates = λ c k q m. mate_goes i c (change_is i c k) q m;
+        all_mates = λ c k q m g. goer_is_mate i (node_low i ni) c (change_is i c k) q m g;
       }

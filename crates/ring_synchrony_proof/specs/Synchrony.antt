@@ -1,6 +1,6 @@
 -- Virtual synchrony, what the lives of all processors of a world have to do with each other: Outputs, rule 11 of docs/PROTOCOL.md, in its five sentences.
 -- Lives are read off what the processors gave alone; beside them stand what each held, and so the rings' texts and the fronts.
-use Rattle.std.specs.Prelude.{◌≡◌, ℕ, ◌<◌, ◌≤◌, true, List, [], ◌∷◌}
+use Rattle.std.specs.Prelude.{◌≡◌, ℕ, ◌<◌, ◌≤◌, ◌⊎◌, true, List, [], ◌∷◌}
 use Rattle.std.specs.List.{AllByRecursion}
 use Rattle.ring_base.specs.Processors.{has, elements}
 use Rattle.ring_base.specs.declared.ring_id.RingId.{RingId}
@@ -68,6 +68,13 @@ pub record IsShared {A : Type 0} (w : World A) (at : Configuration) : Type 0 whe
   pub same : (j : ℕ) → IsNode w j → (b : Configuration) → IsIn b (regulars_of (stages_in w j)) → at.ring ≡ b.ring → at ≡ b
   pub group : (q : ℕ) → IsIn q (elements at.members) → IsNode w q
 
+-- who goes on by a change: a member of both rings, which has the old one in its life, and none between the two
+pub record GoesOn {A : Type 0} (w : World A) (c : Change A) (q : ℕ) : Type 0 where
+  pub leaving : has c.old.members q ≡ true
+  pub entering : has c.new.members q ≡ true
+  pub through : IsIn c.old (regulars_of (stages_in w q))
+  pub straight : (b : Configuration) → IsIn b (regulars_of (stages_in w q)) → (b.ring.seq ≤ c.old.ring.seq) ⊎ (c.new.ring.seq ≤ b.ring.seq)
+
 pub record HasConfigurations {A : Type 0} (w : World A) (i : ℕ) : Type 0 where
   -- each output comes while the configuration that it belongs to is the newest, with the message's own number, and what
   -- is safe rises
@@ -80,6 +87,9 @@ pub record HasConfigurations {A : Type 0} (w : World A) (i : ℕ) : Type 0 where
   pub rising : all_pairs is_above (regulars_of (stages_in w i)) ≡ true
   -- all lives have the same members of a ring, and these are of the group
   pub shared : (at : Configuration) → IsIn at (regulars_of (stages_in w i)) → IsShared w at
+  -- the members of a transitional configuration go on, and of the new ring's members all who do are among them
+  pub mates : (c : Change A) → IsIn c (changes_in w i) → (q : ℕ) → IsIn q (elements c.mates) → GoesOn w c q
+  pub all_mates : (c : Change A) → IsIn c (changes_in w i) → (q : ℕ) → IsIn q (elements c.new.members) → GoesOn w c q → has c.mates q ≡ true
 
 -- a processor's own users' messages of a ring that it left, which it numbered there, are delivered before the next regular configuration
 abbrev pub DeliversOwn : {A : Type 0} → World A → Type 0

@@ -1,6 +1,6 @@
 -- Virtual synchrony as a test, fact by fact, so that it is computed of worked runs and of random schedules, and of
 -- lives that are wrong. `tests_law` says that the test is passed exactly where the fact holds.
-use Rattle.std.specs.Prelude.{ℕ, Bool, true, false, ◌&&◌, ◌==◌, nat_lt, nat_le, if◌then◌else◌, List, [], ◌∷◌, ◌++◌, map, Option, Some, None}
+use Rattle.std.specs.Prelude.{ℕ, Bool, true, false, ◌&&◌, ◌||◌, ◌==◌, nat_lt, nat_le, if◌then◌else◌, List, [], ◌∷◌, ◌++◌, map, Option, Some, None}
 use Rattle.std.specs.List.{list_all, list_any}
 use Rattle.ring_base.specs.Numbers.{numbers_from}
 use Rattle.ring_base.specs.Processors.{has, elements}
@@ -127,12 +127,29 @@ is_same_to at b = if same_ring at.ring b.ring then same_configuration at b else 
 abbrev pub is_shared : {A : Type 0} → World A → Configuration → Bool
 is_shared w at = of_all w (λ j. list_all (is_same_to at) (regulars_of (stages_in w j))) && list_all (is_node w) (elements at.members)
 
+-- the ring is none between those of the change
+abbrev pub is_beside : {A : Type 0} → Change A → Configuration → Bool
+is_beside c b = nat_le b.ring.seq c.old.ring.seq || nat_le c.new.ring.seq b.ring.seq
+
+abbrev pub goes_on : {A : Type 0} → World A → Change A → ℕ → Bool
+goes_on w c q =
+    has c.old.members q
+    && (has c.new.members q
+    && (list_any (same_configuration c.old) (regulars_of (stages_in w q)) && list_all (is_beside c) (regulars_of (stages_in w q))))
+
+-- who goes on is among the mates
+abbrev pub is_mate : {A : Type 0} → World A → Change A → ℕ → Bool
+is_mate w c q = if goes_on w c q then has c.mates q else true
+
 abbrev pub has_configurations : {A : Type 0} → World A → ℕ → Bool
 has_configurations w i =
     is_well_told w i
     && (list_all (λ (s : Stage _). has (members_in s) i) (stages_in w i)
     && (alternate (stages_in w i)
-    && (all_pairs is_above (regulars_of (stages_in w i)) && list_all (is_shared w) (regulars_of (stages_in w i)))))
+    && (all_pairs is_above (regulars_of (stages_in w i))
+    && (list_all (is_shared w) (regulars_of (stages_in w i))
+    && (list_all (λ (c : Change _). list_all (goes_on w c) (elements c.mates)) (changes_in w i)
+    && list_all (λ (c : Change _). list_all (is_mate w c) (elements c.new.members)) (changes_in w i))))))
 
 abbrev pub have_configurations : {A : Type 0} → World A → Bool
 have_configurations w = of_all w (has_configurations w)

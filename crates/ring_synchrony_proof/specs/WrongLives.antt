@@ -130,3 +130,18 @@ named_apart = silent_with (into 1 1 first_ring) (into 3 2 first_ring)
 -- both name a third, which is none of the group
 abbrev pub names_a_stranger : World Global
 names_a_stranger = silent_with (into 7 1 first_ring) (into 7 2 first_ring)
+
+-- processor 1 goes on with processor 2, which was not in the first ring
+abbrev pub joined_by_an_outsider : World Global
+joined_by_an_outsider =
+    silent_with (into 1 1 first_ring ++ (Trans first_ring second_ring 3 ∷ Regular second_ring 3 ∷ [])) (into 3 2 second_ring)
+
+-- it goes on with processor 2, which was in a ring alone between the two
+abbrev pub joined_after_another : World Global
+joined_after_another =
+    silent_with (into 3 1 first_ring ++ (Trans first_ring (ring_of 3 1) 3 ∷ Regular (ring_of 3 1) 3 ∷ []))
+    (into 3 2 first_ring ++ (Trans first_ring (ring_of 2 2) 2 ∷ Regular (ring_of 2 2) 2 ∷ Trans (ring_of 2 2) (ring_of 3 1) 2 ∷ Regular (ring_of 3 1) 3 ∷ []))
+
+-- it goes on alone, though processor 2 came from the first ring too
+abbrev pub companion_left_out : World Global
+companion_left_out = silent_with (into 3 1 first_ring ++ (Trans first_ring second_ring 1 ∷ Regular second_ring 3 ∷ [])) (into 3 2 first_ring)

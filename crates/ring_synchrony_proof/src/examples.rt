@@ -13,6 +13,7 @@ ghost use Rattle.ring_synchrony_proof.specs.WrongLives.{without_own_node, never_
 ghost use Rattle.ring_synchrony_proof.specs.WrongLives.{agreed_left_out};
 ghost use Rattle.ring_synchrony_proof.specs.WrongLives.{safe_falls, agreed_as_another, rest_as_another};
 ghost use Rattle.ring_synchrony_proof.specs.WrongLives.{named_apart, names_a_stranger};
+ghost use Rattle.ring_synchrony_proof.specs.WrongLives.{companion_left_out, joined_by_an_outsider, joined_after_another};
 
 /// Two that change rings with a call on the way, three that gather and install their first ring, and one alone.
 pub fn worked_changes()
@@ -98,4 +99,17 @@ pub fn members_are_named_wrong()
         && (delivers_safely named_apart && (delivers_alike named_apart && delivers_own named_apart))) ≡ true }
     ensures others_of_stranger { (has_same_text names_a_stranger
         && (delivers_safely names_a_stranger && (delivers_alike names_a_stranger && delivers_own names_a_stranger))) ≡ true }
+{}
+
+/// Among those who go on together one comes from elsewhere, or was in another ring between; or one of them is left out.
+pub fn companions_are_told_wrong()
+    ensures outsider { (IsNode joined_by_an_outsider 1 → HasConfigurations joined_by_an_outsider 1) → ⊥ }
+    ensures between { (IsNode joined_after_another 1 → HasConfigurations joined_after_another 1) → ⊥ }
+    ensures left_out { (IsNode companion_left_out 1 → HasConfigurations companion_left_out 1) → ⊥ }
+    ensures others_of_outsider { (has_same_text joined_by_an_outsider
+        && (delivers_safely joined_by_an_outsider && (delivers_alike joined_by_an_outsider && delivers_own joined_by_an_outsider))) ≡ true }
+    ensures others_of_between { (has_same_text joined_after_another
+        && (delivers_safely joined_after_another && (delivers_alike joined_after_another && delivers_own joined_after_another))) ≡ true }
+    ensures others_of_left_out { (has_same_text companion_left_out
+        && (delivers_safely companion_left_out && (delivers_alike companion_left_out && delivers_own companion_left_out))) ≡ true }
 {}
