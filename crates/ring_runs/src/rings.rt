@@ -3,7 +3,7 @@
 ghost use Rattle.std.specs.Prelude.{◌≡◌, ℕ, ◌<◌, true, false, length, IfOk, IfErr, OnOk, OnErr};
 ghost use Rattle.std.specs.List.{AllByRecursion};
 ghost use Rattle.ring_base.specs.declared.fault.Fault.TheVariants.{Memory};
-ghost use Rattle.ring_chain_proof.specs.ChainTold.{NameSameMembers};
+ghost use Rattle.ring_chain_proof.specs.ChainTold.{NameSameMembers, SafeIsSafe, ToldIsHeld};
 ghost use Rattle.ring_core_proof.specs.Limits.{EventFits};
 ghost use Rattle.ring_core_proof.specs.Worlds.{run, unformed};
 ghost use Rattle.ring_core_proof.specs.CommitRounds.{CommitRounds};
@@ -58,6 +58,8 @@ impl<A: Allocator + Copy> Rings<A> {
         ensures outs { IfOk result (λ outs. outs.items ≡ (run (unformed self.old.count) events.now).outs) }
         ensures synchronous { IsVirtuallySynchronous (run (unformed self.old.count) events.now) }
         ensures members { NameSameMembers (run (unformed self.old.count) events.now).cores }
+        ensures held { ToldIsHeld (run (unformed self.old.count) events.now) }
+        ensures safe { SafeIsSafe (run (unformed self.old.count) events.now) }
         ensures rounds { CommitRounds (unformed self.old.count) events.now }
         ensures spent { self.new.is_fresh ≡ false }
         ensures count { self.new.count ≡ self.old.count }

@@ -5,8 +5,10 @@ use Rattle.ring_object.specs.Operations.{Sequential}
 use Rattle.ring_core_proof.specs.Worlds.{World as RingWorld}
 use Rattle.ring_rules.specs.declared.event.Event.{Event}
 use Rattle.ring_rules.specs.Worlds.{world_opening, run}
-use Rattle.ring_chain_proof.specs.ChainTold.{NameSameMembers}
+use Rattle.ring_chain_proof.specs.ChainTold.{NameSameMembers, SafeIsSafe, ToldIsHeld}
+use Rattle.ring_chain_proof.proofs.SafeTold.{unformed_told}
 use Rattle.ring_chain_proof.proofs.TakingPart.{unformed_same_members}
+use Rattle.ring_chain_proof.proofs.Tells.{unformed_held}
 use Rattle.ring_order_proof.proofs.ProjectedEvents.{ring_run}
 use Rattle.ring_synchrony_proof.proofs.Installed.{all_synchronous}
 use Rattle.ring_synchrony_proof.specs.Synchrony.{IsVirtuallySynchronous}
@@ -20,4 +22,6 @@ synchronous_run {O} {A} object group events =
       ring = r;
       synchronous = subst (λ (x : RingWorld A). IsVirtuallySynchronous x) r.part (all_synchronous group.count r.events);
       members = subst (λ (x : RingWorld A). NameSameMembers x.cores) r.part (unformed_same_members group.count r.events);
+      held = subst (λ (x : RingWorld A). ToldIsHeld x) r.part (unformed_held group.count r.events);
+      safe = subst (λ (x : RingWorld A). SafeIsSafe x) r.part (unformed_told group.count r.events);
     }

@@ -1,7 +1,9 @@
 -- What a run of all from Gather gives, and the laws that hold of it.
 use Rattle.std.proofs.Common.{◌≡◌, Option, IfOk, ap, subst, ◌∙◌, sym}
 use Rattle.ring_chain_proof.proofs.Once.{rounds_of_runs}
+use Rattle.ring_chain_proof.proofs.SafeTold.{unformed_told}
 use Rattle.ring_chain_proof.proofs.TakingPart.{unformed_same_members}
+use Rattle.ring_chain_proof.proofs.Tells.{unformed_held}
 use Rattle.ring_synchrony_proof.proofs.Installed.{all_synchronous}
 use Rattle.ring_runs.specs.Running.{Ran, Prepared, IsPrepared, none_ran, all_ran, world_of}
 use Rattle.ring_runs.proofs.rings.Rings.run.Goals as goal
@@ -11,6 +13,12 @@ returns-in-Some-clause-synchronous g c = all_synchronous c.args.self.now.count c
 
 pub returns-in-Some-clause-members : goal.returns-in-Some-clause-members
 returns-in-Some-clause-members g c = unformed_same_members c.args.self.now.count c.args.events.now
+
+pub returns-in-Some-clause-held : goal.returns-in-Some-clause-held
+returns-in-Some-clause-held g c = unformed_held c.args.self.now.count c.args.events.now
+
+pub returns-in-Some-clause-safe : goal.returns-in-Some-clause-safe
+returns-in-Some-clause-safe g c = unformed_told c.args.self.now.count c.args.events.now
 
 pub returns-in-Some-clause-rounds : goal.returns-in-Some-clause-rounds
 returns-in-Some-clause-rounds g c = rounds_of_runs c.args.self.now.count c.args.events.now
