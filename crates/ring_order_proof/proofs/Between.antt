@@ -18,11 +18,11 @@ use Rattle.ring_synchrony_proof.proofs.Ordered.{Ordered, ordering}
 use Rattle.ring_rules.specs.Nodes.{Node}
 use Rattle.ring_rules.specs.declared.event.Event.{Event}
 use Rattle.ring_rules.specs.Worlds.{World, world_opening, put, is_node, run}
-use Rattle.ring_order_proof.specs.Projection.{ring_part, IsRingRun}
+use Rattle.ring_order_proof.specs.Projection.{ring_part, by, IsRingRun}
 use Rattle.ring_order_proof.proofs.ProjectedEvents.{ring_run}
 use Rattle.ring_core.proofs.Quiet.{stepped_is}
 use Rattle.ring_order_proof.proofs.ProjectedSends.{run-append}
-use Rattle.ring_order_proof.proofs.ProjectedSteps.{by, IsOver, becomes_part, becomes_over}
+use Rattle.ring_order_proof.proofs.ProjectedSteps.{IsOver, becomes_part, becomes_over}
 use Rattle.ring_order_proof.proofs.DisciplinedWorlds.{opened_on}
 use Rattle.ring_order_proof.proofs.SpeakingNodes.{NodeSays, AllSay, core_says, all_say, in_order}
 use Rattle.ring_order_proof.specs.RunFacts.{HasFacts}

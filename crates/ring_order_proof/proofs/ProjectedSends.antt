@@ -1,5 +1,5 @@
 -- Payloads handed to a core one after another, as events of a world of ring cores: only that core changes.
-use Rattle.std.proofs.Common.{◌≡◌, ℕ, true, false, List, [], ◌∷◌, ◌++◌, map, refl, ap, sym, ◌∙◌, subst, append-nil}
+use Rattle.std.proofs.Common.{◌≡◌, ℕ, true, false, List, [], ◌∷◌, ◌++◌, refl, ap, sym, ◌∙◌, subst, append-nil}
 use Rattle.ring_payload.specs.declared.content.Payload.{Payload}
 use Rattle.ring_core.specs.declared.input.Input.TheVariants.{Send as SendInput}
 use Rattle.ring_core.specs.State.{Core}
@@ -10,6 +10,7 @@ use Rattle.ring_core_proof.specs.declared.event.RingEvent.{RingEvent}
 use Rattle.ring_core_proof.specs.declared.event.RingEvent.TheVariants.{Send}
 use Rattle.ring_core_proof.specs.Worlds.{World as RingWorld, put, after_step, is_node, stepped_if, happens, run}
 use Rattle.ring_core_proof.proofs.Lifting.{put-put, put-own, put-here}
+use Rattle.ring_order_proof.specs.Projection.{sends_to}
 use Rattle.ring_core.proofs.Quiet.{IsQuiet, queued, quiet_send, stepped_is}
 use Rattle.ring_base.proofs.TwoEqual.{ap-both}
 
@@ -20,9 +21,6 @@ with_cores r cores = record r { cores = cores }
 pub run-append : {A : Type 0} → (r : RingWorld A) (xs ys : List (RingEvent A)) → run r (xs ++ ys) ≡ run (run r xs) ys
 run-append r [] ys = refl
 run-append r (x ∷ xs) ys = run-append (happens r x) xs ys
-
-abbrev pub sends_to : {A : Type 0} → ℕ → List (Payload A) → List (RingEvent A)
-sends_to {A} i ps = map (λ (p : Payload A). Send i p) ps
 
 -- a step that gives nothing
 silent_step : {A : Type 0} → (r : RingWorld A) (i : ℕ) (c : Core A) → after_step r i (record { core = c; outs = [] }) ≡ with_cores r (put r.cores i c)

@@ -1,5 +1,5 @@
 -- An event of a world of nodes, as events of a world of ring cores: the core's own, and what is handed over after it, or the core's stop.
-use Rattle.std.proofs.Common.{◌≡◌, ℕ, Bool, true, false, ◌==◌, cond, List, [], ◌∷◌, ◌++◌, map, Some, None, inl, inr, ◌≢◌, refl, ap, sym, ◌∙◌, subst, append-nil}
+use Rattle.std.proofs.Common.{◌≡◌, ℕ, Bool, true, false, ◌==◌, cond, List, [], ◌∷◌, ◌++◌, Some, None, inl, inr, ◌≢◌, refl, ap, sym, ◌∙◌, subst, append-nil}
 use Rattle.std.specs.Prelude.{filter_map}
 use Rattle.std.specs.List.{cons_option}
 use Rattle.std.proofs.Math.Path.{fun_ext}
@@ -25,13 +25,12 @@ use Rattle.ring_rules.specs.Dues.{due_by}
 use Rattle.ring_rules.specs.Stepping.{handed_over, walked, send_of, settled, after_core, node_step}
 use Rattle.ring_rules.specs.Worlds.{World, put as put_node, is_node as is_world_node, carried, after_step as after_node}
 use Rattle.ring_core_proof.specs.declared.event.RingEvent.{RingEvent}
-use Rattle.ring_core_proof.specs.declared.event.RingEvent.TheVariants.{Stop as RingStop}
 use Rattle.ring_core_proof.specs.Worlds.{put, carried_by, after_step, stopped_if, happens, run}
 use Rattle.ring_core_proof.specs.Lives.{given_if}
 use Rattle.ring_core_proof.proofs.Lifting.{put-put, put-here}
-use Rattle.ring_order_proof.specs.Projection.{ring_part, heard_life}
+use Rattle.ring_order_proof.specs.Projection.{ring_part, heard_life, sends_to, by, Share, no_share, share_settled, share_of_step, share_stopped_if}
 use Rattle.ring_core.proofs.Quiet.{stepped_is}
-use Rattle.ring_order_proof.proofs.ProjectedSends.{with_cores, sends_to, run_sends, handed_is}
+use Rattle.ring_order_proof.proofs.ProjectedSends.{with_cores, run_sends, handed_is}
 use Rattle.ring_order_proof.proofs.DisciplinedTelling.{through-append}
 
 -- Nodes and their cores
@@ -78,9 +77,6 @@ hands_unsent ps [] = refl
 hands_unsent ps (s ∷ older) = refl
 
 -- what processor i gave in a step, as processor j's
-
-abbrev pub by : {A : Type 0} → ℕ → List (Out A) → List (ℕ × Out A)
-by {A} i outs = map (λ (o : Out A). (i, o)) outs
 
 own_given : {A : Type 0} → (i : ℕ) (outs : List (Out A)) → filter_map (given_if i) (by i outs) ≡ outs
 own_given i [] = refl
@@ -136,20 +132,20 @@ pub record IsOver {A : Type 0} (w : World A) (outs : List (ℕ × Out A)) : Type
   -- no core has a ring that it may install
   pub settled : (i : ℕ) → may_install (w.nodes i).core ≡ false
 
--- events of ring cores lead from the one world's cores to the other's
-pub record Leads {A : Type 0} (w : World A) (outs : List (ℕ × Out A)) (after : World A) : Type 0 where
-  pub events : List (RingEvent A)
-  pub more : List (ℕ × Out A)
-  pub part : run (ring_part w outs) events ≡ ring_part after more
-  pub over : IsOver after more
+-- the share's events of ring cores lead from the one world's cores to the other's, and its outputs are what these give
+pub record Leads {A : Type 0} (w : World A) (outs : List (ℕ × Out A)) (s : Share A) (after : World A) : Type 0 where
+  pub part : run (ring_part w outs) s.events ≡ ring_part after (outs ++ s.outs)
+  pub over : IsOver after (outs ++ s.outs)
 
 settled_put : {A : Type 0} → (nodes : ℕ → Node A) (i : ℕ) (n : Node A) → ((j : ℕ) → may_install (nodes j).core ≡ false) → may_install n.core ≡ false →
     (j : ℕ) → may_install (put_node nodes i n j).core ≡ false
 settled_put nodes i n h e j = cond_both (j == i) n (nodes j) (λ m. may_install m.core ≡ false) (λ f. e) (λ f. h j)
 
 -- nothing happens to the cores
-pub stays : {A : Type 0} → (w : World A) (outs : List (ℕ × Out A)) → IsOver w outs → Leads w outs w
-stays w outs o = record { events = []; more = outs; part = refl; over = o }
+pub stays : {A : Type 0} → (w : World A) (outs : List (ℕ × Out A)) → IsOver w outs → Leads w outs no_share w
+stays w outs o =
+    let same : outs ≡ outs ++ [] = sym (append-nil outs) in
+    record { part = ap (ring_part w) same; over = subst (IsOver w) same o }
 
 -- of one node the core is another, with what it sent and gave; its life is as told by what it gave
 module _ {A : Type 0} (w : World A) (outs : List (ℕ × Out A)) (i : ℕ) (n : Node A) (more : List (Out A)) where
@@ -203,11 +199,9 @@ step_then_sends {A} w outs i s ps m e =
 
 module _ {O A : Type 0} (object : Sequential O) (w : World A) (outs : List (ℕ × Out A)) (over : IsOver w outs) (i : ℕ) (member : is_world_node w i ≡ true) where
   -- the log stops the node: the core stops
-  pub halts : (after : World A) → Becomes w outs i (node_stopped (w.nodes i)) [] after → Leads w outs after
+  pub halts : (after : World A) → Becomes w outs i (node_stopped (w.nodes i)) [] after → Leads w outs (share_stopped_if true i) after
   halts after b =
       record {
-        events = RingStop i ∷ [];
-        more = outs ++ [];
         part =
             ap (λ t. stopped_if t (ring_part w outs) i) member
             ∙ ap-both (λ frames more. record {
@@ -226,21 +220,19 @@ module _ {O A : Type 0} (object : Sequential O) (w : World A) (outs : List (ℕ 
   goes_on : (input : Input A) (event : RingEvent A) → happens (ring_part w outs) event ≡ after_step (ring_part w outs) i (ring_step (w.nodes i).core input) →
       (life : List (Stay A)) (due : List (Payload A)) → heard_life life ≡ heard_life (lived_through (w.nodes i).life (ring_step (w.nodes i).core input).outs) →
       (after : World A) → Becomes w outs i (walked (w.nodes i) (ring_step (w.nodes i).core input).core life due) (ring_step (w.nodes i).core input).outs after →
-      Leads w outs after
+      Leads w outs (share_settled true i event due (ring_step (w.nodes i).core input).outs) after
   goes_on input event e life due l after b =
       let s = ring_step (w.nodes i).core input in
       let n = walked (w.nodes i) s.core life due in
       let quiet = stepped_is (w.nodes i).core input in
       record {
-        events = event ∷ sends_to i due;
-        more = outs ++ by i s.outs;
         part = ap (λ r. run r (sends_to i due)) e ∙ step_then_sends w outs i s due member quiet ∙ becomes_part w outs i n s.outs after b;
         over = becomes_over w outs i n s.outs after b over (hands_unsent due life ∙ l) (handed_is s.core due quiet);
       }
 
   settles : (input : Input A) (event : RingEvent A) → happens (ring_part w outs) event ≡ after_step (ring_part w outs) i (ring_step (w.nodes i).core input) →
       (t : Bool) → (life : List (Stay A)) (due : List (Payload A)) → life ≡ lived_through (w.nodes i).life (ring_step (w.nodes i).core input).outs →
-      Leads w outs (after_node w i (settled object t (w.nodes i)
+      Leads w outs (share_settled t i event due (ring_step (w.nodes i).core input).outs) (after_node w i (settled object t (w.nodes i)
       (walked (w.nodes i) (ring_step (w.nodes i).core input).core life due)
       (ring_step (w.nodes i).core input).outs life))
   settles input event e false life due l = halts _ (refl, refl, refl)
@@ -252,9 +244,9 @@ module _ {O A : Type 0} (object : Sequential O) (w : World A) (outs : List (ℕ 
   pub steps : (input : Input A) (event : RingEvent A) (given : NodeInput A) → happens (ring_part w outs) event
       ≡ after_step (ring_part w outs) i (ring_step (w.nodes i).core input) →
       node_step object (w.nodes i) given ≡ after_core object (w.nodes i) (ring_step (w.nodes i).core input) →
-      Leads w outs (after_node w i (node_step object (w.nodes i) given))
+      Leads w outs (share_of_step (w.nodes i) i event (ring_step (w.nodes i).core input)) (after_node w i (node_step object (w.nodes i) given))
   steps input event given e g =
       let n = w.nodes i in
       let s = ring_step n.core input in
       let life = lived_through n.life s.outs in
-      subst (λ x. Leads w outs (after_node w i x)) (sym g) (settles input event e (is_sound n.group life) life (due_by n s.core n.life s.outs) refl)
+      subst (λ x. Leads w outs (share_of_step n i event s) (after_node w i x)) (sym g) (settles input event e (is_sound n.group life) life (due_by n s.core n.life s.outs) refl)

@@ -17,7 +17,8 @@ ghost use Rattle.ring_rules.specs.declared.event.Event.TheVariants.{Issue, Deliv
 ghost use Rattle.ring_rules.specs.declared.told.Told.TheVariants.{Refused as ToldRefused};
 ghost use Rattle.ring_rules.specs.Histories.{IsLinearization};
 ghost use Rattle.ring_rules.specs.WorldLimits.{EventFits};
-ghost use Rattle.ring_rules.specs.Worlds.{carried, happens, stepped, order};
+ghost use Rattle.ring_rules.specs.Worlds.{carried, happens, stepped, order, world_opening};
+ghost use Rattle.ring_order_proof.specs.Projection.{share_of};
 ghost use Rattle.ring_world.specs.Played.{Played, played_opening, told_of_events, world_of, step_in, Goes, Plays};
 ghost use Rattle.ring_world.specs.Stored.{HasRoom};
 ghost use Rattle.ring_world.specs.Spares.{Spares as ToldSpares};
@@ -103,7 +104,9 @@ impl<O: Object> World<O> {
         ensures grows { IsFront (order (world_of O.sequential self.old)) (order (world_of O.sequential self.new)) }
         ensures fronts { (node : ℕ) → 1 ≤ node → node ≤ self.new.group.count →
             let w = world_of O.sequential self.new in IsFront (deduplicated (node_committed (w.nodes node))) (order w) }
-        ensures synchronous { IsSynchronous self.new.group (world_of O.sequential self.new) }
+        ensures synchronous { IsSynchronous O.sequential self.new.group self.new.events }
+        ensures outs_grow { IsFront (share_of O.sequential (world_opening self.old.group) self.old.events).outs
+            (share_of O.sequential (world_opening self.new.group) self.new.events).outs }
         ensures refused { IfErr result (λ fault. fault ≡ Memory) }
     {
         linear_law::<O>();

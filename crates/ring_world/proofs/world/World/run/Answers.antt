@@ -2,10 +2,11 @@
 use Rattle.std.proofs.Common.{◌≤◌, take, sym, subst}
 use Rattle.ring_base.specs.Fronts.{IsFront}
 use Rattle.ring_base.specs.Group.{Group}
-use Rattle.ring_rules.specs.Worlds.{World, order}
+use Rattle.ring_rules.specs.Worlds.{World, world_opening, order}
+use Rattle.ring_order_proof.specs.Projection.{share_of}
 use Rattle.ring_world.specs.Played.{Played, world_of, Plays}
 use Rattle.ring_world.proofs.Playing.{plays_from, plays_longer, world_later}
-use Rattle.ring_world.proofs.Synchrony.{synchronous_run}
+use Rattle.ring_world.proofs.Synchrony.{synchronous_run, longer_told}
 use Rattle.ring_world.proofs.world.World.run.Goals as goal
 
 pub returns-clause-plays : goal.returns-clause-plays
@@ -53,3 +54,14 @@ returns-clause-fronts g c = λ node low high.
 
 pub returns-clause-synchronous : goal.returns-clause-synchronous
 returns-clause-synchronous g c = synchronous_run g.O.Object.sequential c.run_all.new.self.group c.run_all.new.self.events
+
+pub returns-clause-outs_grow : goal.returns-clause-outs_grow
+returns-clause-outs_grow g c =
+    let k = c.self.inside in
+    let object = g.O.Object.sequential in
+    let p : Played g.row.O-Alloc.Denot = record { group = k.fixed; events = k.events.items; told = k.told.items; done = k.done } in
+    let q = c.run_all.new.self in
+    let es = take q.done c.args.events.now in
+    let l = plays_longer object es p q (plays_from object es 0 p q c.run_all.ensures.plays) in
+    subst (λ (r : Played g.row.O-Alloc.Denot). IsFront (share_of object (world_opening r.group) r.events).outs
+    (share_of object (world_opening q.group) q.events).outs) c.self.view_is (longer_told object p q l)
