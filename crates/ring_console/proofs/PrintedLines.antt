@@ -18,7 +18,7 @@ use Rattle.ring_world.specs.Played.{Played}
 use Rattle.ring_rules.specs.declared.told.Told.{Told}
 use Rattle.ring_report.specs.Texts.{line_of}
 use Rattle.ring_console.specs.Printed.{told_text, one_text}
-use Rattle.ring_console.specs.Running.{RunView, Prints, UnlessOutput, Does, Breaks, Runs, BreaksRun, IsTextOf, IsLegal, run_opening, legal_line, text_of}
+use Rattle.ring_console.specs.Running.{RunView, Prints, UnlessOutput, Does, Breaks, Runs, BreaksRun, IsTextOf, IsVerdict, run_opening, legal_line, text_of}
 
 -- what holds of the text holds otherwise
 pub printed_as : (old new : Option (List ℕ)) (P Q : List ℕ → Type 0) → ((text : List ℕ) → P text → Q text) → Prints old new P → Prints old new Q
@@ -141,18 +141,18 @@ unless_both (Err (BadScript line)) P Q h k = (h, k)
 unless_both (Err Output) P Q h k = tt
 
 -- what holds where the answer is yes
-pub at_true : {E : Type 0} (r : Result Bool E) (P : Type 0) → IfOk r (λ b. b ≡ true → P) → r ≡ Ok true → P
-at_true (Ok b) P h e = let same : b ≡ true = cc in h same
+pub at_true : {E : Type 0} (r : Result Bool E) (P : Bool → Type 0) → IfOk r P → r ≡ Ok true → P true
+at_true (Ok b) P h e = let same : b ≡ true = cc in subst P same h
 at_true (Err x) P h e = absurd cc
 
 -- a text of a run, and whether it is legal
 pub whole_text : {O A : Type 0} (object : Sequential O) (group : Group) (is_checked : Bool)
-    (lines : List (Numbered A)) (old mid new : Option (List ℕ)) (opening ran : RunView A) (verdict : List ℕ)
+    (lines : List (Numbered A)) (is_legal : Bool) (old mid new : Option (List ℕ)) (opening ran : RunView A) (verdict : List ℕ)
     → opening ≡ run_opening group
     → Prints old mid (λ text. Runs object lines opening ran text) → Appends mid new verdict
-    → verdict ≡ legal_line is_checked → (is_checked ≡ true → IsLegal object ran.played)
-    → Prints old new (IsTextOf object group is_checked lines)
-whole_text object group is_checked lines old mid new opening ran verdict first p q is legal = record {
+    → verdict ≡ legal_line is_checked is_legal → IsVerdict object is_checked is_legal ran.played
+    → Prints old new (IsTextOf object group is_checked lines is_legal)
+whole_text object group is_checked lines is_legal old mid new opening ran verdict first p q is legal = record {
   text = p.text ++ verdict;
   appended = Appends-trans old mid new p.text verdict p.appended q;
   holds = record {

@@ -1,7 +1,7 @@
 -- What the lines of a script do to a run, and what they print.
 -- Scripts, and What a script prints, of docs/FORMATS.md.
 use Rattle.std.specs.Prelude.{◌≡◌, ℕ, zero, suc, ◌<◌, ◌≤◌, ◌⊎◌, Bool, true, false, List, [], ◌∷◌, ◌++◌, length, drop}
-use Rattle.std.specs.Prelude.{◌-◌, Option, Some, None, unwrap_or, Result, Ok, Err, ⊤, slice_index}
+use Rattle.std.specs.Prelude.{◌↔◌, IsTrue, ◌-◌, Option, Some, None, unwrap_or, Result, Ok, Err, ⊤, slice_index}
 use Rattle.std.specs.Io.KnownBytes.{Appends}
 use Rattle.ring_base.specs.Group.{Group}
 use Rattle.ring_base.specs.Processors.{has}
@@ -52,10 +52,10 @@ UnlessOutput (Err _) P = P
 abbrev pub IsOutputOrMemory : Failure → Type 0
 IsOutputOrMemory failure = (failure ≡ Output) ⊎ (failure ≡ Refused Memory)
 
--- a line that says so, where it is asked for
-abbrev pub legal_line : Bool → List ℕ
-legal_line true = line_of (legal_text true)
-legal_line false = []
+-- a line that says whether a run is legal, where it is asked for
+abbrev pub legal_line : Bool → Bool → List ℕ
+legal_line true is_legal = line_of (legal_text is_legal)
+legal_line false is_legal = []
 
 -- ---- what one thing does to a run
 
@@ -201,10 +201,15 @@ module _ {O : Type 0} (object : Sequential O) where
   abbrev pub IsLegal : {A : Type 0} → Played A → Type 0
   IsLegal p = IsLinearization object (order (world_of object p)) (world_of object p).history
 
+  -- What is found of a run: where it is asked for, exactly whether it is legal; nothing is said against it where it isn't.
+  abbrev pub IsVerdict : {A : Type 0} → Bool → Bool → Played A → Type 0
+  IsVerdict true is_legal p = IsTrue is_legal ↔ IsLegal p
+  IsVerdict false is_legal p = is_legal ≡ true
+
   -- The text is what a run of these lines prints, from its opening, and then whether it is legal, where that is asked for.
-  pub record IsTextOf {A : Type 0} (group : Group) (is_checked : Bool) (lines : List (Numbered A)) (text : List ℕ) : Type 0 where
+  pub record IsTextOf {A : Type 0} (group : Group) (is_checked : Bool) (lines : List (Numbered A)) (is_legal : Bool) (text : List ℕ) : Type 0 where
     pub ran : RunView A
     pub told : List ℕ
     pub runs : Runs lines (run_opening group) ran told
-    pub legal : is_checked ≡ true → IsLegal ran.played
-    pub whole : text ≡ told ++ legal_line is_checked
+    pub legal : IsVerdict is_checked is_legal ran.played
+    pub whole : text ≡ told ++ legal_line is_checked is_legal

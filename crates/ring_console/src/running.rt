@@ -1,6 +1,6 @@
 //! What the program prints of a script.
 
-ghost use Rattle.std.specs.Prelude.{◌≡◌, ℕ, ◌≤◌, List, [], Ok, OnOk, IfOk, IfErr, true, false, IsTrue};
+ghost use Rattle.std.specs.Prelude.{◌≡◌, ℕ, ◌≤◌, ◌↔◌, List, [], Ok, OnOk, IfOk, IfErr, true, false, IsTrue};
 ghost use Rattle.std.specs.Io.Buffered.{writer_buffer, writer_contents};
 ghost use Rattle.std.specs.Io.KnownBytes.{Keeps};
 ghost use Rattle.ring_base.specs.declared.fault.Fault.TheVariants.{Memory};
@@ -46,7 +46,7 @@ pub fn script<A: Allocator + Copy + Drop, R: Read, O: Write, E: Write>(
     ensures quiet { result ≡ 0 → Keeps (E.contents err.old) (E.contents err.new) }
     ensures printed { let object = ⟦<Things<A> as Object>⟧ in
         result ≡ 0 → (script : Script A) × (bytes : List ℕ) × IsAllOf (R.remaining input.old) bytes × AnswersInput OfMany (Ok script) bytes
-        × Prints (O.contents out.old) (O.contents out.new) (IsTextOf object.sequential script.nodes false script.lines.items) }
+        × Prints (O.contents out.old) (O.contents out.new) (IsTextOf object.sequential script.nodes false script.lines.items true) }
 {
     print_script(alloc, input, false, out, err)
 }
@@ -63,7 +63,7 @@ pub fn script_check<A: Allocator + Copy + Drop, R: Read, O: Write, E: Write>(
     ensures quiet { result ≡ 0 → Keeps (E.contents err.old) (E.contents err.new) }
     ensures printed { let object = ⟦<Things<A> as Object>⟧ in
         result ≡ 0 → (script : Script A) × (bytes : List ℕ) × IsAllOf (R.remaining input.old) bytes × AnswersInput OfMany (Ok script) bytes
-        × Prints (O.contents out.old) (O.contents out.new) (IsTextOf object.sequential script.nodes true script.lines.items) }
+        × Prints (O.contents out.old) (O.contents out.new) (IsTextOf object.sequential script.nodes true script.lines.items true) }
 {
     print_script(alloc, input, true, out, err)
 }
@@ -80,7 +80,7 @@ fn print_script<A: Allocator + Copy + Drop, R: Read, O: Write, E: Write>(
     ensures quiet { result ≡ 0 → Keeps (E.contents err.old) (E.contents err.new) }
     ensures printed { let object = ⟦<Things<A> as Object>⟧ in
         result ≡ 0 → (script : Script A) × (bytes : List ℕ) × IsAllOf (R.remaining input.old) bytes × AnswersInput OfMany (Ok script) bytes
-        × Prints (O.contents out.old) (O.contents out.new) (IsTextOf object.sequential script.nodes is_checked script.lines.items) }
+        × Prints (O.contents out.old) (O.contents out.new) (IsTextOf object.sequential script.nodes is_checked script.lines.items true) }
 {
     let script = match Script::read(alloc, input, Rings::OfMany) {
         Ok(script) => script,
@@ -99,8 +99,8 @@ fn print_script<A: Allocator + Copy + Drop, R: Read, O: Write, E: Write>(
     }
 }
 
-/// Runs the script, and prints whether its run is legal, where that is asked for. It ends before the script for one of two
-/// reasons alone: `Output`, or refused with `Memory`.
+/// Runs the script, and prints whether its run is legal, where that is asked for. Answers what it printed of that, and true
+/// where it isn't asked for. It ends before the script for one of two reasons alone: `Output`, or refused with `Memory`.
 fn run_script<A: Allocator + Copy + Drop, W: Write>(
     alloc: A,
     script: Script<A>,
@@ -109,8 +109,8 @@ fn run_script<A: Allocator + Copy + Drop, W: Write>(
 ) -> Result<bool, Failure>
     requires { AreFit script.lines.items }
     ensures ok { let object = ⟦<Things<A> as Object>⟧ in
-        IfOk result (λ is_legal. is_legal ≡ true → Prints (W.contents out.old) (W.contents out.new)
-        (IsTextOf object.sequential script.nodes is_checked script.lines.items)) }
+        IfOk result (λ is_legal. Prints (W.contents out.old) (W.contents out.new)
+        (IsTextOf object.sequential script.nodes is_checked script.lines.items is_legal)) }
     ensures failed { IfErr result IsOutputOrMemory }
 {
     let mut run = Run::<Things<A>>::new(alloc, script.nodes)?;
@@ -125,7 +125,7 @@ fn run_script<A: Allocator + Copy + Drop, W: Write>(
 
 /// Whether the order of a run's world explains its history. Or `Memory`.
 fn is_legal<O: Object>(alloc: O::Alloc, run: &Run<O>) -> Result<bool, Fault>
-    ensures ok { IfOk result (λ is_legal. is_legal ≡ true → IsLegal O.sequential run.now.played) }
+    ensures ok { IfOk result (λ is_legal. IsTrue is_legal ↔ IsLegal O.sequential run.now.played) }
     ensures refused { IfErr result (λ fault. fault ≡ Memory) }
 {
     let order = run.world().order()?;

@@ -1,6 +1,6 @@
 -- What a sweep is, and what it prints.
 -- Sweep, of docs/FORMATS.md.
-use Rattle.std.specs.Prelude.{◌≡◌, ℕ, ◌+◌, ◌*◌, true, List, ◌++◌, codes}
+use Rattle.std.specs.Prelude.{◌≡◌, ℕ, ◌+◌, ◌*◌, Bool, List, ◌++◌, codes}
 use Rattle.std.specs.Fmt.{decimal}
 use Rattle.ring_base.specs.Group.{Group}
 use Rattle.ring_object.specs.Operations.{Sequential}
@@ -23,9 +23,9 @@ module _ {O : Type 0} (object : Sequential O) where
     pub variants : swept.variants ≡ 2 * (swept.events + 1) * group.count
     pub tried : AreTried object group lines swept.variants swept.are_legal
 
-  -- The text is what a sweep of these lines prints where all is legal.
-  pub record IsSweptText {A : Type 0} (group : Group) (lines : List (Numbered A)) (text : List ℕ) : Type 0 where
+  -- The text is what a sweep of these lines prints, and says whether all variants are legal.
+  pub record IsSweptText {A : Type 0} (group : Group) (lines : List (Numbered A)) (are_legal : Bool) (text : List ℕ) : Type 0 where
     pub swept : Swept
     pub is_swept : IsSwept group lines swept
-    pub legal : swept.are_legal ≡ true
+    pub legal : swept.are_legal ≡ are_legal
     pub whole : text ≡ swept_text swept

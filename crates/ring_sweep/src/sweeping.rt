@@ -1,6 +1,6 @@
 //! What the program prints of a sweep.
 
-ghost use Rattle.std.specs.Prelude.{◌≡◌, ℕ, ◌+◌, ◌*◌, ◌≤◌, ◌↔◌, IsTrue, List, Ok, IfOk, IfErr, OnOk};
+ghost use Rattle.std.specs.Prelude.{◌≡◌, ℕ, ◌+◌, ◌*◌, ◌≤◌, ◌↔◌, true, List, Ok, IfOk, IfErr, OnOk};
 ghost use Rattle.std.specs.Io.KnownBytes.{Appends, Keeps};
 ghost use Rattle.ring_base.specs.declared.fault.Fault.TheVariants.{Memory};
 ghost use Rattle.ring_script.specs.Fits.{AreFit};
@@ -8,7 +8,7 @@ ghost use Rattle.ring_script.specs.Scripts.{IsAllOf, AnswersInput};
 ghost use Rattle.ring_script.specs.declared.scripts.Rings.TheVariants.{OfMany};
 ghost use Rattle.ring_script.specs.declared.scripts.Script.{Script};
 ghost use Rattle.ring_report.specs.declared.failure.Failure.TheVariants.{Output};
-ghost use Rattle.ring_console.specs.Running.{Prints};
+ghost use Rattle.ring_console.specs.Running.{Prints, IsOutputOrMemory};
 ghost use Rattle.ring_sweep.specs.Swept.{swept_text, IsSwept, IsSweptText};
 ghost use Rattle.ring_sweep.specs.Variants.{HasEvents, AreTried, IsTried};
 
@@ -56,7 +56,7 @@ pub fn sweep<A: Allocator + Copy + Drop, R: Read, O: Write, E: Write>(
     ensures quiet { result ≡ 0 → Keeps (E.contents err.old) (E.contents err.new) }
     ensures printed { let object = ⟦<Things<A> as Object>⟧ in
         result ≡ 0 → (script : Script A) × (bytes : List ℕ) × IsAllOf (R.remaining input.old) bytes × AnswersInput OfMany (Ok script) bytes
-        × Prints (O.contents out.old) (O.contents out.new) (IsSweptText object.sequential script.nodes script.lines.items) }
+        × Prints (O.contents out.old) (O.contents out.new) (IsSweptText object.sequential script.nodes script.lines.items true) }
 {
     sweep_watched(alloc, input, out, err, &mut io::sink())
 }
@@ -74,19 +74,45 @@ pub fn sweep_watched<A: Allocator + Copy + Drop, R: Read, O: Write, E: Write, W:
     ensures quiet { result ≡ 0 → Keeps (E.contents err.old) (E.contents err.new) }
     ensures printed { let object = ⟦<Things<A> as Object>⟧ in
         result ≡ 0 → (script : Script A) × (bytes : List ℕ) × IsAllOf (R.remaining input.old) bytes × AnswersInput OfMany (Ok script) bytes
-        × Prints (O.contents out.old) (O.contents out.new) (IsSweptText object.sequential script.nodes script.lines.items) }
+        × Prints (O.contents out.old) (O.contents out.new) (IsSweptText object.sequential script.nodes script.lines.items true) }
 {
     let script = match Script::read(alloc, input, Rings::OfMany) {
         Ok(script) => script,
         Err(fault) => return report(err, Failure::from(fault)),
     };
-    let swept = match run_all::<Things<A>, W>(alloc, &script, progress) {
-        Ok(swept) => swept,
-        Err(fault) => return report(err, Failure::Refused(fault)),
-    };
-    match print_swept(swept, out) {
-        Ok(()) if swept.are_legal => 0,
-        Ok(()) => NOT_LEGAL,
+    let done = sweep_script(alloc, &script, out, progress);
+    verdict_status(err, done)
+}
+
+/// Runs the script and each of its variants, and prints what came of it. Answers whether all variants are legal. Otherwise
+/// `Output`, or refused with `Memory`.
+fn sweep_script<A: Allocator + Copy + Drop, O: Write, W: Write>(
+    alloc: A,
+    script: &Script<A>,
+    out: &mut O,
+    progress: &mut W,
+) -> Result<bool, Failure>
+    requires { AreFit script.now.lines.items }
+    ensures ok { let object = ⟦<Things<A> as Object>⟧ in
+        IfOk result (λ are_legal. Prints (O.contents out.old) (O.contents out.new)
+        (IsSweptText object.sequential script.now.nodes script.now.lines.items are_legal)) }
+    ensures failed { IfErr result IsOutputOrMemory }
+{
+    let swept = run_all::<Things<A>, W>(alloc, script, progress)?;
+    print_swept(swept, out)?;
+    Ok(swept.are_legal)
+}
+
+/// The exit status: 0 where all variants are legal, and there alone. `err` is told why the work was not done; of a failed
+/// output nothing is told.
+fn verdict_status<E: Write>(err: &mut E, done: Result<bool, Failure>) -> u8
+    ensures status { result ≤ 1 }
+    ensures ok { result ≡ 0 ↔ done ≡ Ok true }
+    ensures quiet { result ≡ 0 → err.new ≡ err.old }
+{
+    match done {
+        Ok(true) => 0,
+        Ok(false) => NOT_LEGAL,
         Err(failure) => report(err, failure),
     }
 }
