@@ -6,3 +6,4 @@ pub mod Keeping
 pub mod Synchronous
 pub mod Pairs
 pub mod Pumping
+pub mod Refusals

@@ -6,12 +6,14 @@ mod frames;
 mod order;
 mod pairs;
 mod pump;
+mod refusals;
 mod spares;
 mod telling;
 mod world;
 
 pub use pairs::Pair;
 pub use pump::Pump;
+pub use refusals::stopped_for_memory_law;
 pub use ring_node::Node;
 pub use ring_order_proof::laws::linear_law;
 pub use ring_rules::{Event, Item, Told};

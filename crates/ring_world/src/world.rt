@@ -93,8 +93,11 @@ impl<O: Object> World<O> {
 
     /// Runs the events, in their order. The room for all that an event adds is made before its step, so an event is done
     /// whole or not at all. `Memory` where a growth was refused to the world itself: then `done` tells how many of these
-    /// events were done, and the world is the one after these. Where memory was refused to a node in its step, the node
-    /// has stopped, and the event stands as its stop. Where it was refused to a submit, the event is left out, and told.
+    /// events were done, and the world is the one after these.
+    ///
+    /// Ok is no promise that no node was refused memory. Where one was in its step, the node has stopped for good, and the
+    /// event stands in `events` as its stop: of an event that is run alone `stopped_for_memory` tells it. Where it was in a
+    /// submit, the event is left out of `events`, and `told` has the refusal, with number 11.
     pub fn run(&mut self, events: &[Event<O::Alloc>]) -> Result<(), Fault>
         requires fit { AllByRecursion EventFits events.now }
         ensures plays { Plays O.sequential (take self.new.done events.now) self.old self.new }
