@@ -11,6 +11,7 @@ use ring_base::{Fault, Proc};
 use ring_book_lines::{FrameRef, Frames, LineInput, Step};
 use ring_node::{Node, Outs};
 use ring_object::Object;
+use ring_order_proof::fit_laws::node_fits_law;
 use ring_payload::Call;
 use ring_rules::Input;
 use ring_session::Ticket;
@@ -34,7 +35,7 @@ pub struct Cell<O: Object, K: BookName<O::Alloc>> {
 impl<O: Object, K: BookName<O::Alloc>> Model for Cell<O, K> {
     ghost use Rattle.rtrb.specs.Ring.{sent};
     ghost use Rattle.std.specs.Prelude.{◌+◌, length};
-    ghost use Rattle.ring_order_proof.proofs.NodeLimits.{NodeFits};
+    ghost use Rattle.ring_order_proof.specs.NodeFits.{NodeFits};
     ghost use Rattle.ring_rules.specs.Nodes.{Node as ToldNode};
     ghost use Rattle.ring_book.specs.Cells.{IsCell};
     ghost use Rattle.ring_book_lines.specs.Machines.{node_machine};
@@ -73,6 +74,7 @@ impl<O: Object, K: BookName<O::Alloc>> Cell<O, K> {
         if self.ahead {
             return Err(Fault::Stranger);
         }
+        node_fits_law::<O>();
         match self.node.step_on(&input) {
             Ok(outs) => {
                 let Outs {
@@ -120,6 +122,7 @@ impl<O: Object, K: BookName<O::Alloc>> Cell<O, K> {
         if self.ahead {
             return Err(Fault::Stranger);
         }
+        node_fits_law::<O>();
         let ticket = self.node.submit_on(&call)?;
         let places = self.node.committed().len();
         self.journal

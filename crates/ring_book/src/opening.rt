@@ -14,6 +14,7 @@ use ring_base::{Fault, Fixed, Proc};
 use ring_book_lines::{FRAME_BYTES, Step};
 use ring_node::Node;
 use ring_object::Object;
+use ring_order_proof::fit_laws::node_fits_law;
 use rtrb::{Consumer, Producer, RingBuffer};
 use std::collections::VecDeque;
 use std::marker::{Model, PhantomData};
@@ -95,6 +96,7 @@ impl<O: Object> Opening<O> {
             let Some(journal) = writers.pop_front() else {
                 unreachable!()
             };
+            node_fits_law::<O>();
             let cell = Cell {
                 me: Proc::new(i as u8 + 1),
                 ahead: false,

@@ -43,9 +43,10 @@ impl<O: Object> Alone<O> {
         Ok(())
     }
 
-    /// Submits a call, which the node copies.
+    /// Submits a copy of a call, which keeps the limits of frames.
     fn submit(&mut self, call: &Call<O::Alloc>) -> Result<Ticket, Fault> {
-        self.node.submit_on(call)
+        let copy = Call::new(self.alloc, call.client, call.number, call.op.as_slice())?;
+        self.node.submit(copy)
     }
 
     /// The answer to a ticket, if it came and a call can have it.

@@ -2,6 +2,7 @@
 
 ghost use Rattle.std.specs.Prelude.{◌≡◌, ◌≤◌, true, false, length, if◌then◌else◌, Some, None, IsOk, IfOk, IfErr, OnOk, OnErr, MatchOption};
 ghost use Rattle.ring_base.specs.declared.fault.Fault.TheVariants.{Memory, Stopped as StoppedFault};
+ghost use Rattle.ring_payload.specs.Calls.{CallFits};
 ghost use Rattle.ring_wire.specs.Frames.{FrameFits};
 ghost use Rattle.ring_core.specs.Stepping.{ring_step};
 ghost use Rattle.ring_core.specs.declared.input.Input.TheVariants.{Frame as FrameInput};
@@ -68,9 +69,11 @@ impl<O: Object> Node<O> {
         })
     }
 
-    /// Submits a call, and gives its ticket. Refused, in this order: `Stopped` in a stopped node; `PendingFull` where 64
-    /// tickets have no answer, or 2^62 were given; `Memory`. A refusal leaves the node as it was.
+    /// Submits a call that keeps the limits of frames, as each does that `Call::new` makes, and gives its ticket. Refused, in
+    /// this order: `Stopped` in a stopped node; `PendingFull` where 64 tickets have no answer, or 2^62 were given; `Memory`. A
+    /// refusal leaves the node as it was.
     pub fn submit(&mut self, call: Call<O::Alloc>) -> Result<Ticket, Fault>
+        requires fits { CallFits call }
         ensures ticket { IfOk result (λ ticket. ticket ≡ length self.old.tickets) }
         ensures taken { OnOk result (submit_fault self.old ≡ None) }
         ensures ok { OnOk result (self.new ≡ submitted self.old call) }
@@ -83,6 +86,7 @@ impl<O: Object> Node<O> {
 
     /// The same for a call that the caller keeps: the node copies it.
     pub fn submit_on(&mut self, call: &Call<O::Alloc>) -> Result<Ticket, Fault>
+        requires fits { CallFits call.now }
         ensures ticket { IfOk result (λ ticket. ticket ≡ length self.old.tickets) }
         ensures taken { OnOk result (submit_fault self.old ≡ None) }
         ensures ok { OnOk result (self.new ≡ submitted self.old call.now) }

@@ -29,14 +29,11 @@ use Rattle.ring_rules.specs.Nodes.{Node, node_committed, runs}
 use Rattle.ring_rules.specs.Dues.{due_at_regular, parts_due, due_when_stated, stands_in, calls_due, due_when_whole}
 use Rattle.ring_rules.specs.Dues.{due_between, due_in_stay, due_at_agreed, due_by}
 use Rattle.ring_log_proof.proofs.CommittedGrows.{sound_stay}
-use Rattle.ring_order_proof.proofs.LogLimits.{HeardFits, StayFits, ExchangeFits, stay_exchange, WantedFits, wanted_fits, log_fits, head_fits, parts_fit}
+use Rattle.ring_order_proof.specs.NodeFits.{HeardFits, StayFits, LifeFits, TicketsFit}
+use Rattle.ring_order_proof.proofs.LogLimits.{ExchangeFits, stay_exchange, WantedFits, wanted_fits, log_fits, head_fits, parts_fit}
 use Rattle.ring_order_proof.proofs.OutputLimits.{Tells}
 
 -- A life whose newest ring has this number
-
-abbrev pub LifeFits : {A : Type 0} → ℕ → List (Stay A) → Type 0
-LifeFits n [] = Unit {0}
-LifeFits n (s ∷ older) = StayFits s × (s.ring.seq ≡ n) × Each StayFits older
 
 pub all_stays : {A : Type 0} → (n : ℕ) (life : List (Stay A)) → LifeFits n life → Each StayFits life
 all_stays n [] h = tt
@@ -120,10 +117,6 @@ parts_due_fit {A} me own (Some v) h w =
     cond_both (v.owner == me) (map (λ (part : OnePart A). Part part) (parts_between own v.from v.to)) [] (Each PayloadFits)
     (λ e. any_each PayloadFits PartFits (λ (part : OnePart A). Part part) (parts_between own v.from v.to) (λ part f. f) (parts_fit own v.from v.to h w))
     (λ e. tt)
-
--- the calls of tickets
-abbrev pub TicketsFit : {A : Type 0} → List (Asked A) → Type 0
-TicketsFit {A} tickets = Each (λ (t : Asked A). CallFits t.call) tickets
 
 calls_due_fit : {A : Type 0} → (tickets : List (Asked A)) (committed base : List (OneCall A)) → TicketsFit tickets →
     Each PayloadFits (calls_due tickets committed base)

@@ -30,19 +30,9 @@ use Rattle.ring_log.specs.Stays.{Stay}
 use Rattle.ring_log_proof.proofs.ChosenHead.{chosen-is}
 use Rattle.ring_log_proof.proofs.Wholes.{exchanged-whole}
 use Rattle.ring_log_proof.proofs.CommittedGrows.{sound_stay, committed_front}
+use Rattle.ring_order_proof.specs.NodeFits.{HeardFits, StayFits}
 
 -- Stays
-
--- a message heard in a ring of this number: only in a ring that is counted is any heard
-pub record HeardFits {A : Type 0} (n : ℕ) (x : Message A) : Type 0 where
-  pub message : MessageFits x
-  pub counted : 1 ≤ n
-
--- a ring, what was heard there, and what was handed over
-pub record StayFits {A : Type 0} (s : Stay A) : Type 0 where
-  pub ring : RingFits s.ring
-  pub heard : Each (HeardFits s.ring.seq) s.heard
-  pub sent : Each PayloadFits s.sent
 
 heard_payloads : {A : Type 0} → (n : ℕ) (xs : List (Message A)) → Each (HeardFits n) xs → Each (λ (x : Message A). PayloadFits x.payload) xs
 heard_payloads {A} n xs h = each-weaker (HeardFits n) (λ (x : Message A). PayloadFits x.payload) (λ x f. f.message.payload) xs h

@@ -36,15 +36,8 @@ use Rattle.ring_core_proof.proofs.RunLimits.{opening_fits, halted_fits}
 use Rattle.ring_core.proofs.Quiet.{quiet_send, stepped_is}
 use Rattle.ring_order_proof.proofs.LogLimits.{log_fits}
 use Rattle.ring_order_proof.proofs.OutputLimits.{step_tells}
-use Rattle.ring_order_proof.proofs.DueLimits.{LifeFits, all_stays, stay_fits, hands_fit, through_fits, TicketsFit, due_fit}
-
--- A node of a group
-pub record NodeFits {A : Type 0} (n : Node A) : Type 0 where
-  pub core : CoreFits n.core
-  -- its core has no ring that it may install
-  pub ready : may_install n.core ≡ false
-  pub life : LifeFits n.core.installed.ring.seq n.life
-  pub tickets : TicketsFit n.tickets
+use Rattle.ring_order_proof.specs.NodeFits.{NodeFits, LifeFits, TicketsFit}
+use Rattle.ring_order_proof.proofs.DueLimits.{all_stays, stay_fits, hands_fit, through_fits, due_fit}
 
 -- each call of its log, and each payload that it handed over
 pub node_log_fits : {A : Type 0} → (n : Node A) → NodeFits n → Each CallFits (node_log n)

@@ -27,7 +27,7 @@ use Rattle.ring_core_proof.proofs.WrapsAndEnd.{found_in}
 use Rattle.ring_core_proof.specs.Limits.{InputFits, CoreFits}
 use Rattle.ring_core_proof.proofs.ActLimits.{done_fits}
 use Rattle.ring_core.proofs.InstalledKept.{done_installed}
-use Rattle.ring_order_proof.proofs.LogLimits.{HeardFits}
+use Rattle.ring_order_proof.specs.NodeFits.{HeardFits}
 
 -- Outputs that come in a ring of one number and lead to a ring of another
 abbrev pub Tells : {A : Type 0} → ℕ → ℕ → List (Out A) → Type 0

@@ -23,7 +23,8 @@ use Rattle.ring_rules.specs.declared.event.Event.TheVariants.{Issue, Deliver, No
 use Rattle.ring_rules.specs.WorldLimits.{EventFits}
 use Rattle.ring_rules.specs.Worlds.{World, put, world_opening, carried, is_node, issued_or, issued_if, stopped_if}
 use Rattle.ring_rules.specs.Worlds.{stepped_if, handed_if, handed, happens, run}
-use Rattle.ring_order_proof.proofs.NodeLimits.{NodeFits, node_opens, node_halts, stepped_fits, submitted_fits}
+use Rattle.ring_order_proof.specs.NodeFits.{NodeFits}
+use Rattle.ring_order_proof.proofs.NodeLimits.{node_opens, node_halts, stepped_fits, submitted_fits}
 
 -- the frame that was sent
 abbrev pub CarriedFits : {A : Type 0} → Carried A → Type 0

@@ -6,3 +6,4 @@ pub mod Texts
 pub mod RunFacts
 pub mod Between
 pub mod Linear
+pub mod NodeFits

@@ -5,6 +5,7 @@
 
 pub mod discipline_laws;
 pub mod fact_laws;
+pub mod fit_laws;
 pub mod frame_laws;
 pub mod laws;
 pub mod projection_laws;

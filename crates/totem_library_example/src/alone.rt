@@ -5,13 +5,15 @@ ghost use Rattle.ring_rules.specs.NodeLimits.{InputFits};
 use ring_base::{Fault, Fixed, Kind};
 use ring_node::{Input, Node};
 use ring_object::Object;
+use ring_order_proof::fit_laws::node_fits_law;
 use ring_payload::Call;
 use ring_replica::Sent;
 use ring_session::{Answer, Ticket};
 use std::marker::Model;
 
-/// A node of a group of one, and the frames that its last step sent. Contracts see a `Node` that keeps the limits of frames,
-/// so that it can be handed what it sends.
+/// A node of a group of one, and the frames that its last step sent. Contracts see a `Node`. That it keeps the limits of frames,
+/// so that it can be handed what it sends, holds by `node_fits_law`, which is called wherever the node changes and costs
+/// nothing.
 #[derive(Drop)]
 pub struct Alone<O: Object> {
     alloc: O::Alloc,
@@ -20,21 +22,20 @@ pub struct Alone<O: Object> {
 }
 
 impl<O: Object> Model for Alone<O> {
-    ghost use Rattle.std.specs.List.{AllByRecursion};
-    ghost use Rattle.ring_order_proof.proofs.NodeLimits.{NodeFits};
-    ghost use Rattle.ring_core_proof.specs.Limits.{SentFits};
+    ghost use Rattle.ring_order_proof.specs.NodeFits.{NodeFits, SendsFit};
     ghost use Rattle.ring_rules.specs.Nodes.{Node as ToldNode};
 
     ghost Value = { ToldNode O.Alloc };
 
     ghost view = { λ a. a.node };
 
-    ghost invariant = { λ a. NodeFits a.node × AllByRecursion SentFits a.sends.items };
+    ghost invariant = { λ a. NodeFits a.node × SendsFit a.sends.items };
 }
 
 impl<O: Object> Alone<O> {
     /// The node at its opening.
     pub fn new(alloc: O::Alloc) -> Result<Alone<O>, Fault> {
+        node_fits_law::<O>();
         let group = Fixed::new(1)?;
         let node = Node::new(alloc, group, group.proc(1)?)?;
         Ok(Alone {
@@ -46,6 +47,7 @@ impl<O: Object> Alone<O> {
 
     /// Submits a client's call of this number, and gives its ticket.
     pub fn submit(&mut self, client: u32, number: u64, operation: &[u8]) -> Result<Ticket, Fault> {
+        node_fits_law::<O>();
         let call = Call::new(self.alloc, client, number, operation)?;
         self.node.submit(call)
     }
@@ -67,6 +69,7 @@ impl<O: Object> Alone<O> {
     fn step(&mut self, input: Input<O::Alloc>) -> Result<(), Fault>
         requires { InputFits input }
     {
+        node_fits_law::<O>();
         let outs = self.node.step(input)?;
         self.sends = outs.sends;
         Ok(())

@@ -1,6 +1,6 @@
 use Rattle.std.proofs.Common.{◌≡◌, ◌+◌, refl, subst, sym, ap, Bool, ◌∙◌, length}
 use Rattle.rtrb.specs.Ring.{sent}
-use Rattle.ring_order_proof.proofs.NodeLimits.{NodeFits, stepped_fits}
+use Rattle.ring_order_proof.specs.NodeFits.{NodeFits}
 use Rattle.ring_rules.specs.declared.input.Input.TheVariants.{Stop}
 use Rattle.ring_rules.specs.Nodes.{Node}
 use Rattle.ring_book.specs.Cells.{IsCell}
@@ -15,7 +15,7 @@ use Rattle.ring_book.proofs.cell.Cell.step.Goals as goal
 
 pub new-frames-requires : goal.new-frames-requires
 new-frames-requires g c = record {
-  fit = rw c.in-Ok.ensures.sends (stepped_fits g.O.Object.sequential c.self.inside.node c.self.invariant.sound c.args.input c.requires).sends;
+  fit = rw c.in-Ok.ensures.sends (c.node_fits_law.ensures.sends c.self.inside.node c.args.input c.self.invariant.sound c.requires);
   room = c.self.invariant.text;
 }
 
@@ -37,8 +37,8 @@ invariant_of-self g c =
     } in
     cell_adds m NodeFits g.K.BookName.name c.self.inside.me c.self.inside.node c.step_on.new.self
     c.self.inside.journal c.push_reserved.new.self _ _ l k (ap (λ x. x.node) c.came.ensures) stepped
-    (node_sound g.O.Object.sequential g.K.BookName.name.group c.self.inside.node l c.step_on.new.self
-    c.self.invariant.sound stepped) c.new-frames.ensures.room c.push_reserved.ensures.ring
+    (node_sound g.O.Object.sequential g.K.BookName.name.group c.node_fits_law.ensures.step c.node_fits_law.ensures.submit
+    c.self.inside.node l c.step_on.new.self c.self.invariant.sound stepped) c.new-frames.ensures.room c.push_reserved.ensures.ring
     c.push_reserved.ensures.sent.0
 
 pub returns-in-Ok : goal.returns-in-Ok
@@ -77,8 +77,8 @@ invariant_of-self-in-Memory g c =
     } in
     cell_adds m NodeFits g.K.BookName.name c.self.inside.me c.self.inside.node c.step_on.new.self
     c.self.inside.journal c.push_reserved-in-Memory.new.self _ _ l k (ap (λ x. x.node) c.stop-stop.ensures) stepped
-    (node_sound g.O.Object.sequential g.K.BookName.name.group c.self.inside.node l c.step_on.new.self
-    c.self.invariant.sound stepped) c.self.invariant.text c.push_reserved-in-Memory.ensures.ring
+    (node_sound g.O.Object.sequential g.K.BookName.name.group c.node_fits_law.ensures.step c.node_fits_law.ensures.submit
+    c.self.inside.node l c.step_on.new.self c.self.invariant.sound stepped) c.self.invariant.text c.push_reserved-in-Memory.ensures.ring
     c.push_reserved-in-Memory.ensures.sent.0
 
 pub returns-in-Memory : goal.returns-in-Memory

@@ -1,6 +1,6 @@
 use Rattle.std.proofs.Common.{◌+◌, refl, subst, ap, Bool, length, ◌∙◌}
 use Rattle.std.proofs.lemmas.Result.{err_from_is_err_and}
-use Rattle.ring_order_proof.proofs.NodeLimits.{NodeFits}
+use Rattle.ring_order_proof.specs.NodeFits.{NodeFits}
 use Rattle.ring_book.specs.Cells.{IsCell}
 use Rattle.ring_book_lines.specs.Machines.{node_machine}
 use Rattle.ring_book_lines.specs.Runs.{IsStep}
@@ -27,8 +27,8 @@ invariant_of-self-2 g c =
     } in
     cell_adds m NodeFits g.K.BookName.name c.self.inside.me c.self.inside.node c.submit_on.new.self
     c.self.inside.journal c.push_reserved.new.self _ _ l k (ap (λ x. x.node) c.called.ensures) stepped
-    (node_sound g.O.Object.sequential g.K.BookName.name.group c.self.inside.node l c.submit_on.new.self
-    c.self.invariant.sound stepped) c.self.invariant.text c.push_reserved.ensures.ring c.push_reserved.ensures.sent.0
+    (node_sound g.O.Object.sequential g.K.BookName.name.group c.node_fits_law.ensures.step c.node_fits_law.ensures.submit
+    c.self.inside.node l c.submit_on.new.self c.self.invariant.sound stepped) c.self.invariant.text c.push_reserved.ensures.ring c.push_reserved.ensures.sent.0
 
 pub returns-clause-given : goal.returns-clause-given
 returns-clause-given g c =

@@ -1,4 +1,4 @@
-use Rattle.ring_order_proof.proofs.NodeLimits.{NodeFits, node_opens}
+use Rattle.ring_order_proof.specs.NodeFits.{NodeFits}
 use Rattle.std.proofs.Common.{◌≡◌, ◌≤◌, ◌<◌, ◌+◌, ℕ, subst, length-append, ◌++◌, ◌∷◌, [], length, arith, sym, ap, ◌∙◌, add-one, false, suc}
 use Rattle.rtrb.specs.Ring.{sent}
 use Rattle.ring_base.specs.Group.{Group}
@@ -44,7 +44,7 @@ invariant_of-cell g c =
     NodeFits g.K.BookName.name c.loop-i.i (suc c.loop-i.i)
     c.in-Some.node c.in-Some-pop_front.journal _ (rings_of c.pop_front-in-loop-i.new.self.items) (omega arith)
     (omega arith) high d s.0
-    (subst NodeFits (sym s.0.node_is) (node_opens group (suc c.loop-i.i) (omega arith) high few)) (omega (arith, c.in_ok-room.ensures.spare)))
+    (subst NodeFits (sym s.0.node_is) (c.node_fits_law.ensures.opening group (suc c.loop-i.i) (omega arith) high few)) (omega (arith, c.in_ok-room.ensures.spare)))
 
 pub loop-i-preserved : goal.loop-i-preserved
 loop-i-preserved g c =
