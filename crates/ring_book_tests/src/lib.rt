@@ -3,12 +3,10 @@
 //! together with those of the nodes.
 #![tactic(auto)]
 
-mod linear;
-
-pub use linear::{Seen, answered, explained, in_order};
-
 #[cfg(test)]
 mod driven;
+#[cfg(test)]
+mod linear;
 #[cfg(test)]
 mod memory;
 #[cfg(test)]

@@ -2,7 +2,7 @@
 
 ghost use Rattle.std.specs.Prelude.{◌≡◌};
 
-use crate::driven::{ADD, Driven, FIRST, five};
+use crate::driven::{Driven, FIRST, add_five, five};
 use refusing_alloc::Refusing;
 use ring_base::{Fault, Fixed, Proc, State};
 use ring_book::{Book, BookName, Cell, Opening};
@@ -20,7 +20,7 @@ fn asked<O: Object, K: BookName<O::Alloc>>(
 ) -> Result<Ticket, Fault> {
     let turns = if nodes == 1 { 4 } else { 12 };
     driven.settle(nodes, turns)?;
-    driven.submit(nodes, 1, &ADD)
+    driven.submit(nodes, 1, add_five().as_slice())
 }
 
 /// Whether the book shows the reply to the first call, of processor 1.
@@ -67,7 +67,7 @@ fn has_lines_alone<O: Object, K: BookName<O::Alloc>>(book: &Book<O, K>) -> bool 
 fn is_kept<O: Object, K: BookName<O::Alloc>>(driven: &mut Driven<O, K>, processor: u8) -> bool {
     let is_settled = has_lines_alone(&driven.book);
     let steps = driven.step(processor, Input::Noise, FIRST).is_ok();
-    let submits = driven.submit(processor, 2, &ADD).is_ok();
+    let submits = driven.submit(processor, 2, add_five().as_slice()).is_ok();
     let goes_on = is_running(driven.cells.as_slice(), processor);
     is_settled && steps == goes_on && submits == goes_on
 }

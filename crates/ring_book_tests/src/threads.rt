@@ -63,5 +63,5 @@ fn counted_there<R: Threads + Sync>(
 
 #[test]
 fn a_step_in_another_thread(rt: HostRuntime) {
-    assert_eq!(rt; counted_there(&rt, rt.alloc()), Ok((Ok(()), 1)));
+    assert!(rt; counted_there(&rt, rt.alloc()) == Ok((Ok(()), 1)));
 }
