@@ -17,63 +17,78 @@ hand 1 2
 hand 1 3
 ";
 
-/// How many of the first events were done, and whether that was all, with the memory that
-/// `heap` grants. Refused where the opening was refused memory.
-fn done_with(
-    heap: &Refusing,
-    ample: &Refusing,
+/// From where a run sets out and with how many processors, its lines, and how many events these are.
+#[derive(Clone, Copy)]
+struct Run<'a> {
     from: (Opening, u8),
-    script: &str,
-    count: u64,
-) -> Result<(u64, bool), Fault> {
-    let (done, outs) = ran(heap, ample, from, script, count)?;
+    script: &'a str,
+    events: u64,
+}
+
+/// How many of the first events were done, and whether that was all. Refused where the opening was refused memory.
+type Done = Result<(u64, bool), Fault>;
+
+/// What the first events come to with the memory that `heap` grants.
+fn done_with(heap: &Refusing, ample: &Refusing, run: Run, count: u64) -> Done {
+    let (done, outs) = ran(heap, ample, run.from, run.script, count)?;
     Ok((done, outs.is_some()))
 }
 
-/// Each request for memory of a run is refused in turn; the run makes at least so many. `done` tells the events before
-/// the one that was refused memory: with the same memory these are done, and one more is not.
-fn refuse_in_turn(
-    rt: &impl Abort,
-    alloc: Global,
-    from: (Opening, u8),
-    script: &str,
-    events: u64,
-    least: u64,
-) -> Result<(), Fault> {
+/// The same where all but the request after so many others are granted, and whether that was refused.
+fn done_past(alloc: Global, ample: &Refusing, run: Run, passed: u64, count: u64) -> (Done, bool) {
+    let heap = Refusing::new(alloc, passed);
+    let done = done_with(&heap, ample, run, count);
+    (done, heap.has_refused())
+}
+
+/// Whether a run that was refused memory tells the events before the one that was: with the same memory these are done, and
+/// one more is not.
+fn tells_its_events(alloc: Global, ample: &Refusing, run: Run, passed: u64, done: Done) -> bool {
+    let Ok((events, _)) = done else {
+        return done == Err(Fault::Memory);
+    };
+    let (before, _) = done_past(alloc, ample, run, passed, events);
+    let (after, _) = done_past(alloc, ample, run, passed, events.saturating_add(1));
+    events < run.events && before == Ok((events, true)) && after == Ok((events, false))
+}
+
+/// Each request for memory of a run is refused in turn; the run makes more than so many.
+fn refuse_in_turn(rt: &impl Abort, alloc: Global, run: Run, least: u64) {
     let ample = Refusing::new(alloc, u64::MAX);
     for passed in 0..u64::MAX {
-        let heap = Refusing::new(alloc, passed);
-        let ran = done_with(&heap, &ample, from, script, events);
-        if !heap.has_refused() {
-            assert_eq!(rt; ran, Ok((events, true)));
-            assert!(rt; passed > least, "{passed}");
-            return Ok(());
+        let (done, is_refused) = done_past(alloc, &ample, run, passed, run.events);
+        if !is_refused {
+            assert!(rt;
+                done == Ok((run.events, true)) && passed > least,
+                "{passed}"
+            );
+            return;
         }
-        let Ok((done, _)) = ran else {
-            assert_eq!(rt; ran, Err(Fault::Memory));
-            continue;
-        };
-        assert!(rt; done < events, "{passed}: {done}");
-        let heap = Refusing::new(alloc, passed);
-        let ran = done_with(&heap, &ample, from, script, done);
-        assert_eq!(rt; ran, Ok((done, true)));
-        let heap = Refusing::new(alloc, passed);
-        let ran = done_with(&heap, &ample, from, script, done.saturating_add(1));
-        assert_eq!(rt; ran, Ok((done, false)));
+        assert!(rt;
+            tells_its_events(alloc, &ample, run, passed, done),
+            "{passed}"
+        );
     }
-    Ok(())
 }
 
 #[test]
 fn each_request_of_a_gather_and_a_recovery_is_refused_in_turn(rt: HostRuntime) -> Result<(), Fail> {
-    let alloc = rt.alloc();
-    let script = pumped(alloc, Fixed::new(3)?, JOINS, 100)?;
-    refuse_in_turn(&rt, alloc, (Opening::Gather, 3), script.as_str(), 103, 100)?;
+    let script = pumped(rt.alloc(), Fixed::new(3)?, JOINS, 100)?;
+    let run = Run {
+        from: (Opening::Gather, 3),
+        script: script.as_str(),
+        events: 103,
+    };
+    refuse_in_turn(&rt, rt.alloc(), run, 100);
     Ok(())
 }
 
 #[test]
-fn each_request_on_a_formed_ring_is_refused_in_turn(rt: HostRuntime) -> Result<(), Fail> {
-    refuse_in_turn(&rt, rt.alloc(), (Opening::FormedRing, 2), CIRCLE, 4, 10)?;
-    Ok(())
+fn each_request_on_a_formed_ring_is_refused_in_turn(rt: HostRuntime) {
+    let run = Run {
+        from: (Opening::FormedRing, 2),
+        script: CIRCLE,
+        events: 4,
+    };
+    refuse_in_turn(&rt, rt.alloc(), run, 10);
 }

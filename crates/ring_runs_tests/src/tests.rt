@@ -7,8 +7,7 @@ use ring_base::{Fault, Fixed, Proc};
 use ring_core::Out;
 use ring_runs::Cores;
 use ring_wire::decode_frame;
-use std::alloc::{AllocError, Global};
-use std::process::Abort;
+use std::alloc::Global;
 use std::test::Fail;
 
 /// Three processors are told to gather.
@@ -294,15 +293,15 @@ const OUTSIDER_DISCARDED: &str = "\
 
 /// What is given where all lines, so many of them, are done.
 fn given(
-    rt: &impl Abort,
     alloc: Global,
     from: (Opening, u8),
     script: &str,
     events: u64,
 ) -> Result<Vec<(Proc, Out)>, Fault> {
-    let (done, outs) = ran(alloc, alloc, from, script, u64::MAX)?;
-    assert_eq!(rt; done, events);
-    outs.ok_or(Fault::Memory)
+    match ran(alloc, alloc, from, script, u64::MAX)? {
+        (done, Some(outs)) if done == events => Ok(outs),
+        _ => Err(Fault::Memory),
+    }
 }
 
 /// What so many processors give from a formed ring, where each timeout acts.
@@ -315,89 +314,92 @@ fn past_formed_ring(alloc: Global, count: u8, script: &str) -> Result<Vec<(Proc,
     Ok(cores.into_outs())
 }
 
-/// These are the outputs that are shown.
-fn assert_given(
-    rt: &impl Abort,
+/// Whether these are the outputs that are shown.
+fn are_shown(alloc: Global, outs: &[(Proc, Out)], shown: Shown, want: &str) -> Result<bool, Fault> {
+    let lines = lines_of(alloc, outs, shown)?;
+    Ok(lines.as_str() == want)
+}
+
+/// Whether the run, whose lines are so many, gives this.
+fn gives(
     alloc: Global,
-    outs: &[(Proc, Out)],
-    shown: Shown,
-    want: &str,
-) -> Result<(), AllocError> {
-    assert_eq!(rt; lines_of(alloc, outs, shown)?.as_str(), want);
-    Ok(())
+    from: (Opening, u8),
+    (script, events): (&str, u64),
+    (shown, want): (Shown, &str),
+) -> Result<bool, Fault> {
+    let outs = given(alloc, from, script, events)?;
+    are_shown(alloc, &outs, shown, want)
 }
 
 #[test]
 fn three_gather(rt: HostRuntime) -> Result<(), Fail> {
     let alloc = rt.alloc();
     let script = pumped(alloc, Fixed::new(3)?, JOINS, 12)?;
-    let outs = given(&rt, alloc, (Opening::Gather, 3), script.as_str(), 15)?;
-    assert_given(&rt, alloc, &outs, Shown::All, GATHERED)?;
+    let run = (script.as_str(), 15);
+    assert!(rt; gives(alloc, (Opening::Gather, 3), run, (Shown::All, GATHERED))?);
     Ok(())
+}
+
+/// Whether the text has just these lines, in any order.
+fn has_lines(text: &str, lines: &str) -> bool {
+    text.len() == lines.len() && lines.lines().all(|line| text.contains(line))
 }
 
 #[test]
 fn a_hundred_turns_bring_all_to_one_ring(rt: HostRuntime) -> Result<(), Fail> {
     let alloc = rt.alloc();
     let script = pumped(alloc, Fixed::new(3)?, JOINS, 100)?;
-    let outs = given(&rt, alloc, (Opening::Gather, 3), script.as_str(), 103)?;
+    let outs = given(alloc, (Opening::Gather, 3), script.as_str(), 103)?;
     let told = lines_of(alloc, &outs, Shown::Recovery)?;
-    for line in CONFIGURED.lines() {
-        assert!(rt; told.as_str().contains(line), "{line}");
-    }
-    assert_eq!(rt; told.len(), CONFIGURED.len());
+    assert!(rt; has_lines(told.as_str(), CONFIGURED), "{told}");
     Ok(())
+}
+
+/// Whether the output at this place sends the frame that the bytes spell.
+fn sends(alloc: Global, outs: &[(Proc, Out)], at: usize, bytes: &[u8]) -> Result<bool, Fault> {
+    let frame = decode_frame(alloc, bytes)?;
+    match outs.get(at) {
+        Some((_, Out::Send(_, sent))) => Ok(sent.is_same(&frame)),
+        _ => Ok(false),
+    }
 }
 
 #[test]
 fn a_silent_processor_is_given_up(rt: HostRuntime) -> Result<(), Fail> {
     let alloc = rt.alloc();
-    let outs = given(&rt, alloc, (Opening::Gather, 3), SILENT, 7)?;
-    assert_given(&rt, alloc, &outs, Shown::All, GIVEN_UP)?;
-    let frame = decode_frame(alloc, GIVING_UP)?;
-    let Some((_, Out::Send(_, giving_up))) = outs.get(2) else {
-        return Err(Fail::from(Fault::BadFrame));
-    };
-    assert!(rt; giving_up.is_same(&frame));
+    let outs = given(alloc, (Opening::Gather, 3), SILENT, 7)?;
+    assert!(rt; are_shown(alloc, &outs, Shown::All, GIVEN_UP)?);
+    assert!(rt; sends(alloc, &outs, 2, GIVING_UP)?);
     Ok(())
 }
 
+/// On a formed ring: a lost message is asked for; of the timeouts `retransmit` alone acts; and two lost messages hold the
+/// marks back.
 #[test]
-fn a_lost_message_is_asked_for(rt: HostRuntime) -> Result<(), Fail> {
-    let alloc = rt.alloc();
-    let outs = given(&rt, alloc, (Opening::FormedRing, 2), LOSS, 10)?;
-    assert_given(&rt, alloc, &outs, Shown::All, LOST_AND_REPEATED)?;
+fn formed_rings_give_what_is_worked_out(rt: HostRuntime) -> Result<(), Fail> {
+    for (count, run, want) in [
+        (2, (LOSS, 10), (Shown::All, LOST_AND_REPEATED)),
+        (2, (TIMEOUTS, 5), (Shown::All, FIRST_TOKEN)),
+        (3, (TWO_LACK, 43), (Shown::Visits, TWO_ASKED_FOR)),
+    ] {
+        let gives = gives(rt.alloc(), (Opening::FormedRing, count), run, want)?;
+        assert!(rt; gives, "{}", run.0);
+    }
     Ok(())
 }
 
+/// Two fill each other's gaps, and an outsider's message is not delivered past the gap.
 #[test]
-fn retransmit_alone_acts_on_a_formed_ring(rt: HostRuntime) -> Result<(), Fail> {
-    let alloc = rt.alloc();
-    let outs = given(&rt, alloc, (Opening::FormedRing, 2), TIMEOUTS, 5)?;
-    assert_given(&rt, alloc, &outs, Shown::All, FIRST_TOKEN)?;
-    Ok(())
-}
-
-#[test]
-fn two_lost_messages_hold_the_marks_back(rt: HostRuntime) -> Result<(), Fail> {
-    let alloc = rt.alloc();
-    let outs = given(&rt, alloc, (Opening::FormedRing, 3), TWO_LACK, 43)?;
-    assert_given(&rt, alloc, &outs, Shown::Visits, TWO_ASKED_FOR)?;
-    Ok(())
-}
-
-#[test]
-fn two_fill_each_others_gaps(rt: HostRuntime) -> Result<(), Fail> {
-    let alloc = rt.alloc();
-    let outs = past_formed_ring(alloc, 2, GAPS_FILLED)?;
-    assert_given(&rt, alloc, &outs, Shown::Recovery, BOTH_DELIVER_FOUR)?;
-    Ok(())
-}
-
-#[test]
-fn an_outsider_is_not_delivered_past_the_gap(rt: HostRuntime) -> Result<(), Fail> {
-    let alloc = rt.alloc();
-    let outs = past_formed_ring(alloc, 3, GAP_LEFT)?;
-    assert_given(&rt, alloc, &outs, Shown::Recovery, OUTSIDER_DISCARDED)?;
+fn recoveries_give_what_is_worked_out(rt: HostRuntime) -> Result<(), Fail> {
+    for (count, script, want) in [
+        (2, GAPS_FILLED, BOTH_DELIVER_FOUR),
+        (3, GAP_LEFT, OUTSIDER_DISCARDED),
+    ] {
+        let outs = past_formed_ring(rt.alloc(), count, script)?;
+        assert!(rt;
+            are_shown(rt.alloc(), &outs, Shown::Recovery, want)?,
+            "{script}"
+        );
+    }
     Ok(())
 }
