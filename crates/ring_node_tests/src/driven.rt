@@ -8,38 +8,28 @@ use ring_node::{Input, Node, Outs};
 use ring_object::Object;
 use ring_payload::Call;
 use ring_session::{Answer, Ticket};
+use ring_things::Counters;
 use ring_wire::{Frame, Wire};
 use std::alloc::Allocator;
 
-/// Add 5 on key 0 of an object of counters.
-const ADD: [u8; 10] = [1, 0, 0, 0, 0, 0, 0, 0, 0, 5];
+/// The commit token of ring 1.1 of processor 1 alone; its hop, here 0, stands at 19.
+const COMMIT: [u8; 77] = *b"TR\x01\x04\0\0\0\x45\0\0\0\0\0\0\0\x01\x01\0\x01\0\0\0\0\0\0\0\0\0\x01\
+    \0\0\0\0\0\0\0\0\0\0\0\0\0\0\0\0\0\0\0\0\0\0\0\0\0\0\0\0\0\0\0\0\0\0\0\0\0\0\0\0\0\0\0\0\0\0\0\0";
 
-/// The commit token of ring 1.1 of processor 1 alone, at this hop.
+/// The token of ring 1.1 that asks for nothing; its number, here 0, ends at 24, `seq` at 32 and `aru` at 40.
+const TOKEN: [u8; 43] = *b"TR\x01\x02\0\0\0\x23\0\0\0\0\0\0\0\x01\x01\0\0\0\0\0\0\0\0\
+    \0\0\0\0\0\0\0\0\0\0\0\0\0\0\0\0\0\0";
+
+/// The commit token at this hop.
 fn commit(hop: u8) -> [u8; 77] {
-    let mut bytes = [0u8; 77];
-    bytes[0] = 0x54;
-    bytes[1] = 0x52;
-    bytes[2] = 1;
-    bytes[3] = 4;
-    bytes[7] = 69;
-    bytes[15] = 1;
-    bytes[16] = 1;
-    bytes[18] = 1;
+    let mut bytes = COMMIT;
     bytes[19] = hop;
-    bytes[28] = 1;
     bytes
 }
 
-/// The token of ring 1.1 of this number, where so many messages were sent and all are held.
+/// The token of this number, where so many messages were sent and all are held.
 fn token(number: u8, messages: u8) -> [u8; 43] {
-    let mut bytes = [0u8; 43];
-    bytes[0] = 0x54;
-    bytes[1] = 0x52;
-    bytes[2] = 1;
-    bytes[3] = 2;
-    bytes[7] = 35;
-    bytes[15] = 1;
-    bytes[16] = 1;
+    let mut bytes = TOKEN;
     bytes[24] = number;
     bytes[32] = messages;
     bytes[40] = messages;
@@ -121,7 +111,8 @@ impl<O: Object> Driven<O> {
 
     /// Client 7's call of this number, `add 0 5`, is submitted: the first is handed over, the others the node copies.
     pub fn submit(&mut self, number: u64) -> Result<Ticket, Fault> {
-        let call = Call::new(self.ample, 7, number, &ADD)?;
+        let add = Counters::add(0, 5);
+        let call = Call::new(self.ample, 7, number, add.as_slice())?;
         if number == 1 {
             self.node.submit(call)
         } else {

@@ -3,9 +3,9 @@
 use crate::driven::{Driven, Seen};
 use crate::sending::lend;
 use ring_base::{Fault, State};
-use ring_object::{Object, Reply};
+use ring_object::Object;
 use ring_session::{Answer, Ticket};
-use ring_things::Counters;
+use ring_things::{Counters, Outcome, reply_with};
 use std::process::Abort;
 use std::test::Fail;
 use std::thread;
@@ -23,30 +23,25 @@ const SEEN: [Seen; 7] = [
 ];
 
 /// The answer to an add that brings a counter to this count.
-fn done(count: u8) -> Option<Answer> {
-    Some(Answer::Done(Reply::from_slice(&[0, 0, 0, 0, 0, 0, 0, 0, count])))
+fn done(count: u64) -> Option<Answer> {
+    Some(Answer::Done(reply_with(Outcome::Done, count)))
 }
 
-/// Nothing was committed nor answered so far.
-fn assert_unanswered<O: Object>(rt: &impl Abort, driven: &Driven<O>, tickets: [Ticket; 2]) {
-    assert_eq!(rt; driven.told(), (0, 0));
-    assert_eq!(rt; driven.replies(tickets), [None, None]);
-}
-
-/// A step of the run gives one frame, and leaves what is to be seen then.
-fn assert_step<O: Object>(
-    rt: &impl Abort,
+/// Whether nothing was committed nor answered before the step of this place, and it gives one frame, and leaves what is to be
+/// seen then.
+fn is_step<O: Object>(
     driven: &mut Driven<O>,
+    tickets: [Ticket; 2],
     place: u8,
     want: Seen,
-) -> Result<(), Fault> {
+) -> Result<bool, Fault> {
+    let is_unanswered = driven.told() == (0, 0) && driven.replies(tickets) == [None, None];
     driven.step(place)?;
-    assert_eq!(rt; driven.seen(), want, "at {place}");
-    assert_eq!(rt; driven.sends, usize::from(place) + 1);
-    Ok(())
+    let is_one_frame = driven.sends == usize::from(place) + 1;
+    Ok(is_unanswered && is_one_frame && driven.seen() == want)
 }
 
-/// All steps of the run. Before the last one is done nothing is answered.
+/// All steps of the run are as they should be.
 fn assert_steps<O: Object>(
     rt: &impl Abort,
     driven: &mut Driven<O>,
@@ -54,51 +49,36 @@ fn assert_steps<O: Object>(
 ) -> Result<(), Fault> {
     let mut place = 0u8;
     for want in SEEN {
-        assert_unanswered(rt, driven, tickets);
-        assert_step(rt, driven, place, want)?;
+        assert!(rt; is_step(driven, tickets, place, want)?, "at {place}");
         place = place.saturating_add(1);
     }
     Ok(())
 }
 
-/// Two calls that wait for the ring are answered as they are safe: their tickets.
-fn answered<O: Object>(rt: &impl Abort, driven: &mut Driven<O>) -> Result<[Ticket; 2], Fault> {
+/// What a node comes to: how many calls it committed, how many answers it gave, and what it answers to two tickets.
+type Told = ((usize, usize), [Option<Answer>; 2]);
+
+/// Two calls that wait for the ring are answered as they are safe. What is told at the end of the run, and what once the node
+/// was stopped.
+fn told<O: Object>(rt: &impl Abort, driven: &mut Driven<O>) -> Result<[Told; 2], Fault> {
     let tickets = [driven.submit(1)?, driven.submit(2)?];
     assert_steps(rt, driven, tickets)?;
-    assert_eq!(rt; driven.told(), (2, 2));
-    Ok(tickets)
-}
-
-/// A node that was stopped tells the log that it told, and steps no more.
-fn assert_stops<O: Object>(rt: &impl Abort, driven: &mut Driven<O>) -> Result<(), Fault> {
+    let before = (driven.told(), driven.replies(tickets));
     driven.stop()?;
-    assert_eq!(rt; driven.seen(), (State::Stopped, 1, 2, 2, 2));
-    assert_eq!(rt; driven.time(), Err(Fault::Stopped));
-    Ok(())
+    Ok([before, (driven.told(), driven.replies(tickets))])
 }
 
-/// The answers of a run, which the node tells once it was stopped too.
-fn told_answers<O: Object>(
-    rt: &impl Abort,
-    driven: &mut Driven<O>,
-) -> Result<[Option<Answer>; 2], Fault> {
-    let tickets = answered(rt, driven)?;
-    let answers = driven.replies(tickets);
-    assert_stops(rt, driven)?;
-    assert_eq!(rt; driven.replies(tickets), answers);
-    Ok(answers)
-}
-
-/// The same of a node at its opening.
-fn answers<O: Object>(rt: &impl Abort, alloc: O::Alloc) -> Result<[Option<Answer>; 2], Fault> {
-    let mut driven = Driven::<O>::new(alloc, alloc)?;
-    told_answers(rt, &mut driven)
+/// Whether a node that was stopped tells the log that it told, and steps no more.
+fn is_stopped<O: Object>(driven: &mut Driven<O>) -> bool {
+    driven.seen() == (State::Stopped, 1, 2, 2, 2) && driven.time() == Err(Fault::Stopped)
 }
 
 #[test]
 fn the_first_replies(rt: HostRuntime) -> Result<(), Fail> {
-    let answers = answers::<Counters>(&rt, rt.alloc())?;
-    assert_eq!(rt; answers, [done(5), done(10)]);
+    let mut driven = Driven::<Counters>::new(rt.alloc(), rt.alloc())?;
+    let answers = ((2, 2), [done(5), done(10)]);
+    assert!(rt; told(&rt, &mut driven)? == [answers, answers]);
+    assert!(rt; is_stopped(&mut driven));
     Ok(())
 }
 
@@ -129,6 +109,6 @@ where
 #[test]
 fn steps_in_another_thread(rt: HostRuntime) -> Result<(), Fail> {
     let seen = seen_there::<Counters, _>(&rt, rt.alloc())?;
-    assert_eq!(rt; seen, SEEN[0]);
+    assert!(rt; seen == SEEN[0]);
     Ok(())
 }
