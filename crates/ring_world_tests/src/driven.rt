@@ -1,7 +1,7 @@
 //! A world of nodes, driven line by line.
 
 use crate::events::{Line, events_of};
-use crate::run;
+use crate::knowing::run;
 use crate::seen::write_world;
 use ring_base::{Fault, Fixed, ProcSet};
 use ring_object::Object;

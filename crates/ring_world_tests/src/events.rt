@@ -7,7 +7,7 @@ ghost use Rattle.ring_payload.specs.Calls.{CallFits};
 
 use ring_base::{Fault, Fixed, Kind, MOST_PROCESSORS, Proc};
 use ring_payload::Call;
-use ring_wire::Wire;
+use ring_things::Counters;
 use ring_world::Event;
 use std::alloc::Allocator;
 
@@ -38,14 +38,12 @@ fn processor(number: u8) -> Result<Proc, Fault> {
     any.proc(number)
 }
 
-/// Client 7's call of this number, `add 0 5`, read off its bytes.
+/// Client 7's call of this number, `add 0 5`.
 fn call_of<A: Allocator + Copy>(alloc: A, number: u8) -> Result<Call<A>, Fault>
     ensures { IfOk result (λ call. CallFits call) }
 {
-    let mut bytes = *b"\0\0\0\x07\0\0\0\0\0\0\0\x01\0\x0a\x01\0\0\0\0\0\0\0\0\x05";
-    bytes[11] = number;
-    let (call, _) = Call::<A>::get(alloc, &bytes)?;
-    Ok(call)
+    let add = Counters::add(0, 5);
+    Call::new(alloc, 7, u64::from(number), add.as_slice())
 }
 
 /// The event that this call is submitted there.

@@ -2,14 +2,12 @@
 //! is left, and each request for memory of a short run refused in turn; and what a caller knows of a world after a run.
 #![tactic(auto)]
 
-mod knowing;
-
-pub use knowing::run;
-
 #[cfg(test)]
 mod driven;
 #[cfg(test)]
 mod events;
+#[cfg(test)]
+mod knowing;
 #[cfg(test)]
 mod memory;
 #[cfg(test)]

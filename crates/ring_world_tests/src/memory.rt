@@ -2,14 +2,12 @@
 
 use crate::driven::run_lines;
 use crate::events::Line;
-use refusing_alloc::Refusing;
+use refusing_alloc::{Refusing, refuse_in_turn};
 use ring_base::{Fault, Fixed};
 use ring_object::Object;
 use ring_things::Counters;
 use ring_world::{Event, Told, World};
-use std::alloc::Allocator;
-use std::process::Abort;
-use std::test::Fail;
+use std::alloc::{AllocError, Allocator};
 
 /// One node forms its ring, takes a call while it does, and one in the ring, and answers both.
 const SHORT_RUN: [Line; 9] = [
@@ -69,12 +67,15 @@ fn answers_and_refusals<A: Allocator + Copy>(told: &[Told<A>]) -> (u64, u64) {
 }
 
 /// How often memory was refused in the steps and submits of the short run. Where no step was, both calls are answered, but
-/// for one whose submit was refused.
-fn refused_events<O: Object>(rt: &impl Abort, world: &World<O>) -> u64 {
+/// for one whose submit was refused; else there is a conflict.
+fn refused_events<O: Object>(world: &World<O>) -> Result<u64, Fault> {
     let stops = stops(world.events());
     let (answers, refusals) = answers_and_refusals(world.told());
-    assert!(rt; stops == 1 || answers.saturating_add(refusals) == 2);
-    stops.saturating_add(refusals)
+    if stops == 1 || answers.saturating_add(refusals) == 2 {
+        Ok(stops.saturating_add(refusals))
+    } else {
+        Err(Fault::Conflict)
+    }
 }
 
 /// How often memory was refused to the order.
@@ -105,13 +106,12 @@ fn refused_copies<O: Object>(world: &World<O>) -> Result<u64, Fault> {
 /// How often memory was refused to a world that does the short run and tells its order and a committed log, after so many
 /// refusals.
 fn refused_then<O: Object>(
-    rt: &impl Abort,
     world: &mut World<O>,
     ample: O::Alloc,
     before: u64,
 ) -> Result<u64, Fault> {
     let runs = refused_runs(world, ample)?;
-    let events = refused_events(rt, world);
+    let events = refused_events(world)?;
     let orders = refused_orders(world)?;
     let copies = refused_copies(world)?;
     let all = before.saturating_add(runs).saturating_add(events);
@@ -119,35 +119,37 @@ fn refused_then<O: Object>(
 }
 
 /// The same of a world whose opening was refused memory once.
-fn refused_again<O: Object>(
-    rt: &impl Abort,
-    heap: O::Alloc,
-    ample: O::Alloc,
-) -> Result<u64, Fault> {
+fn refused_again<O: Object>(heap: O::Alloc, ample: O::Alloc) -> Result<u64, Fault> {
     let mut world = World::<O>::new(heap, Fixed::new(1)?)?;
-    refused_then(rt, &mut world, ample, 1)
+    refused_then(&mut world, ample, 1)
 }
 
 /// The same of a world with its opening, which is tried again if it is refused memory.
-fn refusals<O: Object>(rt: &impl Abort, heap: O::Alloc, ample: O::Alloc) -> Result<u64, Fault> {
+fn refusals<O: Object>(heap: O::Alloc, ample: O::Alloc) -> Result<u64, Fault> {
     match World::<O>::new(heap, Fixed::new(1)?) {
-        Ok(mut world) => refused_then(rt, &mut world, ample, 0),
-        Err(Fault::Memory) => refused_again::<O>(rt, heap, ample),
+        Ok(mut world) => refused_then(&mut world, ample, 0),
+        Err(Fault::Memory) => refused_again::<O>(heap, ample),
         Err(fault) => Err(fault),
     }
 }
 
-#[test]
-fn each_request_is_refused_in_turn(rt: HostRuntime) -> Result<(), Fail> {
-    let ample = Refusing::new(rt.alloc(), u64::MAX);
-    let heap = Refusing::new(rt.alloc(), u64::MAX);
-    assert_eq!(rt; refusals::<Counters<&Refusing>>(&rt, &heap, &ample)?, 0);
-    let requests = heap.requests();
-    assert!(rt; requests > 30, "{requests}");
-    for passed in 0..requests {
-        let heap = Refusing::new(rt.alloc(), passed);
-        let refused = refusals::<Counters<&Refusing>>(&rt, &heap, &ample)?;
-        assert_eq!(rt; refused, 1, "at {passed}");
+/// What `refuse_in_turn` asks of a run: an error where a request was refused, and the run tells one refusal. Where it is not as
+/// it should be, the other answer.
+fn told(heap: &Refusing, refusals: Result<u64, Fault>) -> Result<(), AllocError> {
+    let is_right = refusals == Ok(u64::from(heap.has_refused()));
+    if is_right == heap.has_refused() {
+        Err(AllocError)
+    } else {
+        Ok(())
     }
-    Ok(())
+}
+
+#[test]
+fn each_request_is_refused_in_turn(rt: HostRuntime) {
+    let ample = Refusing::new(rt.alloc(), u64::MAX);
+    let requests = refuse_in_turn(
+        rt.alloc(),
+        &|heap: &Refusing| told(heap, refusals::<Counters<&Refusing>>(heap, &ample)),
+    );
+    assert!(rt; requests > Some(30));
 }

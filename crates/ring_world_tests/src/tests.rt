@@ -126,7 +126,7 @@ const RUNS: [(u8, &[Line], &str); 4] = [
 fn worlds_show_what_is_worked_out(rt: HostRuntime) -> Result<(), Fail> {
     for (count, lines, want) in RUNS {
         let shown = played::<Counters>(rt.alloc(), count, lines)?;
-        assert_eq!(rt; shown.as_str(), want);
+        assert!(rt; shown.as_str() == want);
     }
     Ok(())
 }
