@@ -56,5 +56,5 @@ fn each_refused_run_is_explained(rt: HostRuntime) {
     let alloc = rt.alloc();
     assert!(rt; is_explained(alloc, alloc, TWO_CLIENTS) == Ok(true));
     let requests = refuse_in_turn(alloc, &|heap: &Refusing| one_refused(heap, alloc));
-    assert!(rt; requests > Some(20), "{requests:?}");
+    assert!(rt; requests > Some(20));
 }

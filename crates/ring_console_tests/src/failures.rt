@@ -2,6 +2,7 @@
 
 use ring_base::Fault;
 use ring_console::{Failure, report};
+use std::alloc::Global;
 use std::test::Fail;
 
 /// Each refusal, and the line that says so.
@@ -23,15 +24,18 @@ const TOLD: [(Fault, &str); 15] = [
     (Fault::BadSnapshot, "totem: 15 bad snapshot\n"),
 ];
 
+/// Whether the refusal is told so, which is by its number and its text, and the exit status is 1.
+fn is_told(alloc: Global, fault: Fault, told: &str) -> Result<bool, Fail> {
+    let own = format!(in alloc; "totem: {} {fault}\n", fault.number())?;
+    let mut err = Vec::new(alloc);
+    let status = report(&mut err, Failure::Refused(fault));
+    Ok(err.as_slice() == told.as_bytes() && own.as_str() == told && status == 1)
+}
+
 #[test]
 fn each_refusal_is_told_by_its_number_and_its_text(rt: HostRuntime) -> Result<(), Fail> {
     for (fault, told) in TOLD {
-        let mut err = Vec::new(rt.alloc());
-        let status = report(&mut err, Failure::Refused(fault));
-        assert_eq!(rt; err.as_slice(), told.as_bytes());
-        assert_eq!(rt; status, 1);
-        let own = format!(in rt.alloc(); "totem: {} {fault}\n", fault.number())?;
-        assert_eq!(rt; err.as_slice(), own.as_bytes());
+        assert!(rt; is_told(rt.alloc(), fault, told)?, "{told}");
     }
     Ok(())
 }

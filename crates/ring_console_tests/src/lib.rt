@@ -1,5 +1,6 @@
-//! Tests of what the program prints, and of which texts are scripts. Expected values are those of the
-//! tables and worked examples in `docs/FORMATS.md`.
+//! Tests of which texts are scripts, and of what the program prints where memory is refused, an input or an output fails.
+//! What scripts and listings print, the data of `totem_examples` shows. Expected values are those of the tables and worked
+//! examples in `docs/FORMATS.md`.
 #![tactic(auto)]
 
 #[cfg(test)]
@@ -16,6 +17,8 @@ mod operations;
 mod orders;
 #[cfg(test)]
 mod partition;
+#[cfg(test)]
+mod printed;
 #[cfg(test)]
 mod runs;
 #[cfg(test)]

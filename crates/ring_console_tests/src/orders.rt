@@ -77,24 +77,46 @@ fn shown_after<O: Object<Alloc = Global>>(
     Ok((String::from_str(alloc, last)?, order.len()))
 }
 
-/// Whether the order is as long as told after each line, and the line shown says so.
-fn tells_its_order(alloc: Global, script: &[(&str, usize)]) -> Result<bool, Fail> {
-    let nodes = Fixed::new(1).map_err(|_| "no nodes")?;
-    let mut run = Run::<Things<Global>>::new(alloc, nodes).map_err(|_| "no run")?;
-    let mut is_told = true;
+/// Whether the order is as long as told after this line, and the line shown says so.
+fn tells_order<O: Object<Alloc = Global>>(
+    run: &mut Run<O>,
+    alloc: Global,
+    line: &str,
+    length: usize,
+) -> Result<bool, Fail> {
+    let (last, order) = shown_after(run, alloc, line)?;
+    let told = format!(in alloc; "order {length}")?;
+    Ok(order == length && last.as_str() == told.as_str())
+}
+
+/// Whether that is so after each line.
+fn tells_orders<O: Object<Alloc = Global>>(
+    run: &mut Run<O>,
+    alloc: Global,
+    script: &[(&str, usize)],
+) -> Result<bool, Fail> {
     for (line, length) in script {
-        let (last, order) = shown_after(&mut run, alloc, line)?;
-        let told = format!(in alloc; "order {length}")?;
-        is_told = is_told && order == *length && last.as_str() == told.as_str();
+        if !tells_order(run, alloc, line, *length)? {
+            return Ok(false);
+        }
     }
-    Ok(is_told)
+    Ok(true)
+}
+
+/// The same of a run of one node.
+fn tells_its_order<O: Object<Alloc = Global>>(
+    alloc: Global,
+    script: &[(&str, usize)],
+) -> Result<bool, Fail> {
+    let nodes = Fixed::new(1).map_err(|_| "no nodes")?;
+    let mut run = Run::<O>::new(alloc, nodes).map_err(|_| "no run")?;
+    tells_orders(&mut run, alloc, script)
 }
 
 #[test]
 fn show_tells_the_length_of_the_order(rt: HostRuntime) -> Result<(), Fail> {
-    assert!(rt; tells_its_order(rt.alloc(), &RETRIES)?);
-    assert!(rt; tells_its_order(rt.alloc(), &REFUSALS)?);
-    assert!(rt; tells_its_order(rt.alloc(), &STOP)?);
-    assert!(rt; tells_its_order(rt.alloc(), &GAP)?);
+    for script in [&RETRIES[..], &REFUSALS, &STOP, &GAP] {
+        assert!(rt; tells_its_order::<Things<Global>>(rt.alloc(), script)?);
+    }
     Ok(())
 }

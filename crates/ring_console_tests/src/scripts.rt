@@ -12,109 +12,93 @@ fn fault_of(alloc: Global, text: &[u8]) -> Option<ScriptFault> {
     Script::parse(alloc, text, Rings::OfMany).err()
 }
 
+/// Texts that are no scripts, each with the line at fault.
+const FAULTY: [(&str, u64); 65] = [
+    ("", 1),
+    ("\n", 2),
+    ("# only a comment", 2),
+    ("# one\n\n", 3),
+    ("show\nnodes 3\n", 1),
+    ("nodes 3\nnodes 3\n", 2),
+    ("nodes 0", 1),
+    ("nodes 17", 1),
+    ("nodes 03", 1),
+    ("nodes +3", 1),
+    ("nodes", 1),
+    ("nodes 3 3", 1),
+    (" nodes 3", 1),
+    ("nodes 3 ", 1),
+    ("nodes  3", 1),
+    ("nodes 3\r\n", 1),
+    ("nodes 3\n \nshow\n", 2),
+    ("nodes 3\n# \u{e9}", 2),
+    ("nodes 2\ntimeout 3 join", 2),
+    ("nodes 2\ntimeout 1 Join", 2),
+    ("nodes 2\ncall 1 4294967296 1 pop", 2),
+    ("nodes 2\ncall 1 7 0 pop", 2),
+    ("nodes 2\ncall 1 7 1 add 256 1", 2),
+    ("nodes 2\ncall 1 7 1 add 0 18446744073709551616", 2),
+    ("nodes 2\ndeliver 1 0", 2),
+    ("nodes 2\nnoise 1", 2),
+    ("nodes 2\nnoise 1 545", 2),
+    ("nodes 2\nnoise 1 5A", 2),
+    ("nodes 1\ncut 1", 2),
+    ("nodes 3\ncut 1,2,3", 2),
+    ("nodes 3\ncut 1 2", 2),
+    ("nodes 3\ncut 1,1 2,3", 2),
+    ("nodes 3\ncut 1,2 2,3", 2),
+    ("nodes 3\ncut 1, 2,3", 2),
+    ("nodes 2\npump 0", 2),
+    ("nodes 2\npump 100001", 2),
+    ("nodes 2\npump 0\nnodes 99\n", 2),
+    ("nodes 2\ncall", 2),
+    ("nodes 2\ncall 1 7 1", 2),
+    ("nodes 2\ncall 1 7 1 frobnicate", 2),
+    ("nodes 2\ncall 1 7 1 pop 1", 2),
+    ("nodes 2\ncall 1 7 1 add 0", 2),
+    ("nodes 2\ncall 1 7 1 insert ", 2),
+    ("nodes 2\ncall 1 7 18446744073709551616 pop", 2),
+    ("nodes 2\ncall 3 7 1 pop", 2),
+    ("nodes 2\ndeliver 1", 2),
+    ("nodes 2\ndeliver 1 2 3", 2),
+    ("nodes 2\ndeliver 0 1", 2),
+    ("nodes 2\nnoise 1 0g", 2),
+    ("nodes 2\nnoise 1 00 00", 2),
+    ("nodes 2\nstop", 2),
+    ("nodes 2\nstop 1 1", 2),
+    ("nodes 2\nstop 18446744073709551617", 2),
+    ("nodes 2\nstop x", 2),
+    ("nodes 2\ncut", 2),
+    ("nodes 2\ncut 1,2 ", 2),
+    ("nodes 2\ncut 1 2,3", 2),
+    ("nodes 2\nheal now", 2),
+    ("nodes 2\nheal ", 2),
+    ("nodes 2\npump 1 ", 2),
+    ("nodes 2\nshow 1", 2),
+    ("nodes 2\nShow", 2),
+    ("nodes 2\nnod", 2),
+    ("nodes 2\n\t", 2),
+    ("nodes 2\n # no comment", 2),
+];
+
+/// Texts that are scripts.
+const GOOD: [&str; 6] = [
+    "nodes 1",
+    "# first\n\nnodes 16\n\n# last\n",
+    "nodes 2\ndeliver 1 99999999999999999999999",
+    "nodes 3\ncut 3,1 2",
+    "nodes 2\ncall 2 4294967295 18446744073709551615 cas 255 0 18446744073709551615",
+    "nodes 2\npump 100000\nheal\nshow\nstop 2",
+];
+
 #[test]
 fn faulty_scripts_tell_their_line(rt: HostRuntime) {
-    for (text, line) in [
-        ("", 1),
-        ("\n", 2),
-        ("# only a comment", 2),
-        ("# one\n\n", 3),
-        ("show\nnodes 3\n", 1),
-        ("nodes 3\nnodes 3\n", 2),
-        ("nodes 0", 1),
-        ("nodes 17", 1),
-        ("nodes 03", 1),
-        ("nodes +3", 1),
-        ("nodes", 1),
-        ("nodes 3 3", 1),
-        (" nodes 3", 1),
-        ("nodes 3 ", 1),
-        ("nodes  3", 1),
-        ("nodes 3\r\n", 1),
-        ("nodes 3\n \nshow\n", 2),
-        ("nodes 3\n# \u{e9}", 2),
-        ("nodes 2\ntimeout 3 join", 2),
-        ("nodes 2\ntimeout 1 Join", 2),
-        ("nodes 2\ncall 1 4294967296 1 pop", 2),
-        ("nodes 2\ncall 1 7 0 pop", 2),
-        ("nodes 2\ncall 1 7 1 add 256 1", 2),
-        ("nodes 2\ncall 1 7 1 add 0 18446744073709551616", 2),
-        ("nodes 2\ndeliver 1 0", 2),
-        ("nodes 2\nnoise 1", 2),
-        ("nodes 2\nnoise 1 545", 2),
-        ("nodes 2\nnoise 1 5A", 2),
-        ("nodes 1\ncut 1", 2),
-        ("nodes 3\ncut 1,2,3", 2),
-        ("nodes 3\ncut 1 2", 2),
-        ("nodes 3\ncut 1,1 2,3", 2),
-        ("nodes 3\ncut 1,2 2,3", 2),
-        ("nodes 3\ncut 1, 2,3", 2),
-        ("nodes 2\npump 0", 2),
-        ("nodes 2\npump 100001", 2),
-        ("nodes 2\npump 0\nnodes 99\n", 2),
-    ] {
-        assert_eq!(rt;
-            fault_of(rt.alloc(), text.as_bytes()),
-            Some(ScriptFault::AtLine(line)),
-            "{text:?}"
-        );
+    for (text, line) in FAULTY {
+        let fault = fault_of(rt.alloc(), text.as_bytes());
+        assert!(rt; fault == Some(ScriptFault::AtLine(line)), "{text}");
     }
-}
-
-#[test]
-fn other_lines_at_fault(rt: HostRuntime) {
-    for line in [
-        "call",
-        "call 1 7 1",
-        "call 1 7 1 frobnicate",
-        "call 1 7 1 pop 1",
-        "call 1 7 1 add 0",
-        "call 1 7 1 insert ",
-        "call 1 7 18446744073709551616 pop",
-        "call 3 7 1 pop",
-        "deliver 1",
-        "deliver 1 2 3",
-        "deliver 0 1",
-        "noise 1 0g",
-        "noise 1 00 00",
-        "stop",
-        "stop 1 1",
-        "stop 18446744073709551617",
-        "stop x",
-        "cut",
-        "cut 1,2 ",
-        "cut 1 2,3",
-        "heal now",
-        "heal ",
-        "pump 1 ",
-        "show 1",
-        "Show",
-        "nod",
-        "\t",
-        " # no comment",
-    ] {
-        let mut text = String::new(rt.alloc());
-        let made = text.push_str("nodes 2\n").and(text.push_str(line));
-        assert_eq!(rt; made, Ok(()));
-        assert_eq!(rt;
-            fault_of(rt.alloc(), text.as_bytes()),
-            Some(ScriptFault::AtLine(2)),
-            "{line:?}"
-        );
-    }
-}
-
-#[test]
-fn good_scripts(rt: HostRuntime) {
-    for text in [
-        "nodes 1",
-        "# first\n\nnodes 16\n\n# last\n",
-        "nodes 2\ndeliver 1 99999999999999999999999",
-        "nodes 3\ncut 3,1 2",
-        "nodes 2\ncall 2 4294967295 18446744073709551615 cas 255 0 18446744073709551615",
-        "nodes 2\npump 100000\nheal\nshow\nstop 2",
-    ] {
-        assert_eq!(rt; fault_of(rt.alloc(), text.as_bytes()), None, "{text:?}");
+    for text in GOOD {
+        assert!(rt; fault_of(rt.alloc(), text.as_bytes()).is_none(), "{text}");
     }
 }
 
@@ -131,7 +115,7 @@ fn rings_of_one_allow_one_node_and_its_join_timeout(rt: HostRuntime) {
         ("nodes 1\ntimeout 1 consensus", Some(ScriptFault::AtLine(2))),
     ] {
         let told = Script::parse(rt.alloc(), text.as_bytes(), Rings::OfOne).err();
-        assert_eq!(rt; told, fault, "{text:?}");
+        assert!(rt; told == fault, "{text}");
     }
 }
 
@@ -179,7 +163,7 @@ fn lines_say_what_they_ask_for(rt: HostRuntime) -> Result<(), Fail> {
     let told = "4 timeout 1 Join;5 timeout 2 Retransmit;6 timeout 3 Consensus;7 timeout 1 Loss;\
         8 call 2 7.1;9 deliver 1 Some(18446744073709551615);10 deliver 1 None;11 noise 3 [0, 255, 10];\
         12 stop 2;13 cut true true;14 heal;15 pump 100000;16 show;";
-    assert_eq!(rt; lines_of(rt.alloc(), text)?.as_str(), told);
+    assert!(rt; lines_of(rt.alloc(), text)?.as_str() == told);
     Ok(())
 }
 
@@ -193,32 +177,41 @@ fn script_of(alloc: Global, length: usize) -> Result<Vec<u8>, AllocError> {
     Ok(text)
 }
 
+/// Why a script of so many bytes can't be read, if it can't.
+fn fault_of_length(alloc: Global, length: usize) -> Result<Option<ScriptFault>, AllocError> {
+    let text = script_of(alloc, length)?;
+    Ok(Script::read(alloc, &mut text.as_slice(), Rings::OfMany).err())
+}
+
 #[test]
 fn a_script_has_at_most_2_to_the_20_bytes(rt: HostRuntime) -> Result<(), Fail> {
-    let longest = script_of(rt.alloc(), 1_048_576)?;
-    let read = Script::read(rt.alloc(), &mut longest.as_slice(), Rings::OfOne);
-    assert_eq!(rt; read.err(), None);
-    let longer = script_of(rt.alloc(), 1_048_577)?;
-    let read = Script::read(rt.alloc(), &mut longer.as_slice(), Rings::OfOne);
-    assert_eq!(rt; read.err(), Some(ScriptFault::AtLine(0)));
+    assert!(rt; fault_of_length(rt.alloc(), 1_048_576)?.is_none());
+    assert!(rt; fault_of_length(rt.alloc(), 1_048_577)? == Some(ScriptFault::AtLine(0)));
     Ok(())
+}
+
+/// Why a text can't be read behind which the input fails.
+fn fault_of_broken(alloc: Global, text: &str) -> Option<ScriptFault> {
+    Script::read(alloc, &mut Broken(text.as_bytes()), Rings::OfMany).err()
 }
 
 #[test]
 fn an_input_that_fails_is_at_fault_as_a_whole(rt: HostRuntime) {
     for text in ["", "nodes 1\n", "nonsense\n"] {
-        let read = Script::read(rt.alloc(), &mut Broken(text.as_bytes()), Rings::OfOne);
-        assert_eq!(rt; read.err(), Some(ScriptFault::AtLine(0)), "{text:?}");
+        assert!(rt;
+            fault_of_broken(rt.alloc(), text) == Some(ScriptFault::AtLine(0)),
+            "{text}"
+        );
     }
 }
 
 #[test]
 fn each_request_for_memory_may_be_refused(rt: HostRuntime) {
     let text = "nodes 1\ncall 1 7 1 insert name\nnoise 1 0011\nshow\nheal\nshow\nshow\nshow\n";
-    let read = |heap: &Refusing| match Script::read(heap, &mut text.as_bytes(), Rings::OfOne) {
+    let read = |heap: &Refusing| match Script::read(heap, &mut text.as_bytes(), Rings::OfMany) {
         Err(ScriptFault::Memory) => Err(AllocError),
         _ => Ok(()),
     };
     let requests = refuse_in_turn(rt.alloc(), &read);
-    assert!(rt; requests > Some(4), "{requests:?}");
+    assert!(rt; requests > Some(4));
 }
