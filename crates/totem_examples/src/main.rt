@@ -1,40 +1,69 @@
-//! Runs the examples. Each is a script that is run, `NAME.script`, or swept, `NAME.sweep`, and what that must print,
-//! `NAME.out`. A line is printed for each, the scripts before the sweeps, in alphabetical order, and the exit status is 0
-//! only where each printed just that.
+//! Runs the examples, which are data: each is a file that is run, and beside it what that must print. A line is printed for
+//! each, and the exit status is 0 only where each printed just that.
+//!
+//! `NAME.script` is run, `NAME.check` is run and its order compared with what clients saw, `NAME.sweep` is swept: run with a
+//! stop and a cut of each node before each event. `NAME.frames` is listed: frames in hexadecimal, with comments in lines that
+//! begin with `#`. `NAME.out` has what must stand on standard output; and `NAME.fault` the exit status, a space, and what must
+//! stand on standard error. Where one of these is missing, nothing may stand there, and the exit status is 0.
 #![tactic(auto)]
 
-use ring_sweep::{script, sweep};
+use ring_sweep::{frames, script, script_check, sweep};
+use std::alloc::Global;
+use std::io::{Error, ErrorKind};
 use std::process::ExitCode;
 use std::rt::Files;
-use std::{fs, io};
+use std::{fs, io, str};
 
 /// The folder of the examples: the one that the program runs in.
 const FOLDER: &str = ".";
 
-/// What is done with the script of an example.
+/// What is done with an example.
 #[derive(Clone, Copy)]
 enum Kind {
-    /// It is run.
     Script,
-    /// It is run with a stop and a cut of each node before each event.
+    Check,
     Sweep,
+    Frames,
+}
+
+/// In this order.
+const KINDS: [Kind; 4] = [Kind::Script, Kind::Check, Kind::Sweep, Kind::Frames];
+
+impl Kind {
+    /// What the name of such an example ends with.
+    fn ending(self) -> &'static str {
+        match self {
+            Kind::Script => ".script",
+            Kind::Check => ".check",
+            Kind::Sweep => ".sweep",
+            Kind::Frames => ".frames",
+        }
+    }
 }
 
 fn main(rt: HostRuntime) -> ExitCode {
     match run_all(&rt) {
         Ok(true) => ExitCode::SUCCESS,
-        Ok(false) | Err(_) => ExitCode::FAILURE,
+        Ok(false) => ExitCode::FAILURE,
+        Err(error) => {
+            let _ = eprintln!(rt; "{error}");
+            ExitCode::FAILURE
+        }
     }
 }
 
-/// Runs each example, and tells whether all printed what they must.
+/// Runs all examples, prints a line for each, those of a kind in alphabetical order, and tells whether all printed what they
+/// must.
 fn run_all<R: Files + AllocGlobal + Print + Clone + Drop>(rt: &R) -> io::Result<bool> {
-    let are_scripts_right = run_each(rt, Kind::Script)?;
-    let are_sweeps_right = run_each(rt, Kind::Sweep)?;
-    Ok(are_scripts_right && are_sweeps_right)
+    let mut are_right = true;
+    for kind in KINDS {
+        let are = run_each(rt, kind)?;
+        are_right = are_right && are;
+    }
+    Ok(are_right)
 }
 
-/// Runs each example of this kind, and tells whether all printed what they must.
+/// The same of those of one kind.
 fn run_each<R: Files + AllocGlobal + Print + Clone + Drop>(rt: &R, kind: Kind) -> io::Result<bool> {
     let mut are_right = true;
     for name in &names_of(rt, kind)? {
@@ -46,19 +75,11 @@ fn run_each<R: Files + AllocGlobal + Print + Clone + Drop>(rt: &R, kind: Kind) -
     Ok(are_right)
 }
 
-/// What the name of such an example's script ends with.
-fn ending_of(kind: Kind) -> &'static str {
-    match kind {
-        Kind::Script => ".script",
-        Kind::Sweep => ".sweep",
-    }
-}
-
 /// The names of the examples of this kind, in alphabetical order.
 fn names_of<R: Files + AllocGlobal + Clone + Drop>(rt: &R, kind: Kind) -> io::Result<Vec<String>> {
     let mut names = Vec::new(rt.alloc());
     for entry in fs::read_dir(rt, FOLDER)? {
-        if let Some(name) = entry?.file_name().strip_suffix(ending_of(kind)) {
+        if let Some(name) = entry?.file_name().strip_suffix(kind.ending()) {
             names.push(String::from_str(rt.alloc(), name)?)?;
         }
     }
@@ -66,18 +87,83 @@ fn names_of<R: Files + AllocGlobal + Clone + Drop>(rt: &R, kind: Kind) -> io::Re
     Ok(names)
 }
 
-/// Whether the example of this name prints just what it must, says nothing on standard error, and ends with 0.
+/// What an example prints: what stands on standard output and on standard error, and the exit status.
+#[derive(Drop)]
+struct Printed {
+    out: Vec<u8>,
+    err: Vec<u8>,
+    status: u8,
+}
+
+/// Whether the example of this name prints just what it must.
 fn prints_as_told<R: Files + AllocGlobal>(rt: &R, name: &str, kind: Kind) -> io::Result<bool> {
-    let ending = ending_of(kind);
-    let path = format!(in rt.alloc(); "{name}{ending}")?;
-    let mut input = fs::open(rt, path.as_str())?;
-    let mut out = Vec::new(rt.alloc());
-    let mut err = Vec::new(rt.alloc());
+    let input = read(rt, name, kind.ending())?;
+    let printed = run_as(rt.alloc(), kind, input.as_slice())?;
+    let fault = fault_of(rt.alloc(), &printed)?;
+    let is_out = printed.out.as_slice() == read_any(rt, name, ".out")?.as_slice();
+    let is_fault = fault.as_slice() == read_any(rt, name, ".fault")?.as_slice();
+    Ok(is_out && is_fault)
+}
+
+/// Does what is done with an example of this kind whose file has these bytes.
+fn run_as(alloc: Global, kind: Kind, input: &[u8]) -> io::Result<Printed> {
+    let mut out = Vec::new(alloc);
+    let mut err = Vec::new(alloc);
     let status = match kind {
-        Kind::Script => script(rt.alloc(), &mut input, &mut out, &mut err),
-        Kind::Sweep => sweep(rt.alloc(), &mut input, &mut out, &mut err),
+        Kind::Script => script(alloc, &mut &*input, &mut out, &mut err),
+        Kind::Check => script_check(alloc, &mut &*input, &mut out, &mut err),
+        Kind::Sweep => sweep(alloc, &mut &*input, &mut out, &mut err),
+        Kind::Frames => {
+            let bytes = spelled(alloc, input)?;
+            frames(alloc, &mut bytes.as_slice(), &mut out, &mut err)
+        }
     };
-    let path = format!(in rt.alloc(); "{name}.out")?;
-    let told = fs::read(rt, path.as_str())?;
-    Ok(status == 0 && err.is_empty() && out.as_slice() == told.as_slice())
+    Ok(Printed { out, err, status })
+}
+
+/// The bytes that a text spells in hexadecimal, but for its comments.
+fn spelled(alloc: Global, text: &[u8]) -> io::Result<Vec<u8>> {
+    let Ok(text) = str::from_utf8(text) else {
+        return Err(Error::from(ErrorKind::InvalidData));
+    };
+    let mut bytes = Vec::new(alloc);
+    for line in text.lines() {
+        if !line.starts_with("#") {
+            spell(alloc, line, &mut bytes)?;
+        }
+    }
+    Ok(bytes)
+}
+
+/// Adds the bytes that a line spells.
+fn spell(alloc: Global, line: &str, bytes: &mut Vec<u8>) -> io::Result<()> {
+    match hex::decode(alloc, line) {
+        Ok(more) => Ok(bytes.extend_from_slice(more.as_slice())?),
+        Err(_) => Err(Error::from(ErrorKind::InvalidData)),
+    }
+}
+
+/// What a `.fault` has of this: nothing where nothing stands on standard error and the exit status is 0.
+fn fault_of(alloc: Global, printed: &Printed) -> io::Result<Vec<u8>> {
+    let mut fault = Vec::new(alloc);
+    if printed.status != 0 || !printed.err.is_empty() {
+        let status = format!(in alloc; "{} ", printed.status)?;
+        fault.extend_from_slice(status.as_bytes())?;
+        fault.extend_from_slice(printed.err.as_slice())?;
+    }
+    Ok(fault)
+}
+
+/// The bytes of the file of this name and ending.
+fn read<R: Files + AllocGlobal>(rt: &R, name: &str, ending: &str) -> io::Result<Vec<u8>> {
+    let path = format!(in rt.alloc(); "{name}{ending}")?;
+    fs::read(rt, path.as_str())
+}
+
+/// The same; none where there is no such file.
+fn read_any<R: Files + AllocGlobal>(rt: &R, name: &str, ending: &str) -> io::Result<Vec<u8>> {
+    match read(rt, name, ending) {
+        Err(error) if error.kind() == ErrorKind::NotFound => Ok(Vec::new(rt.alloc())),
+        read => read,
+    }
 }
