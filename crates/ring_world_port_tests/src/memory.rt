@@ -1,0 +1,114 @@
+//! Each request for memory of a client's call over three nodes refused in turn.
+
+use crate::shared::{ADD, client_of, counted, order_len, three};
+use refusing_alloc::Refusing;
+use ring_base::Fault;
+use ring_checker::is_linearization;
+use ring_client::{Client, Port};
+use ring_object::{Object, Reply};
+use ring_things::Counters;
+use ring_world_port::{Shared, WorldPort};
+use std::alloc::Global;
+use std::process::Abort;
+
+/// How often the client polls a node at most: enough for the two others to answer where one stops.
+const POLLS: u64 = 400;
+
+/// Three nodes, made at the second try if that was refused memory.
+fn opened<O: Object>(heap: O::Alloc) -> Result<Shared<O>, Fault> {
+    match three::<O>(heap) {
+        Err(Fault::Memory) => three::<O>(heap),
+        made => made,
+    }
+}
+
+/// A client, made at the second try if that was refused memory.
+fn client<O: Object>(heap: O::Alloc, shared: &Shared<O>) -> Result<Client<WorldPort<O>>, Fault> {
+    match client_of(heap, shared, POLLS) {
+        Err(Fault::Memory) => client_of(heap, shared, POLLS),
+        made => made,
+    }
+}
+
+/// Makes the call, and tries it anew once where it got no reply.
+fn called<P: Port>(client: &mut Client<P>) -> Result<Reply, Fault> {
+    match client.call(&ADD) {
+        Ok(reply) => Ok(reply),
+        Err(_) if client.is_open() => client.again(),
+        Err(_) => client.call(&ADD),
+    }
+}
+
+/// What the client's call is replied, at the second try at the latest.
+fn replied<O: Object>(heap: O::Alloc, shared: &Shared<O>) -> Result<Reply, Fault> {
+    let mut client = client(heap, shared)?;
+    called(&mut client)
+}
+
+/// Whether the order of the world explains its history.
+fn explains<O: Object>(shared: &Shared<O>, ample: O::Alloc) -> Result<bool, Fault> {
+    let network = shared.try_borrow().map_err(|_| Fault::NoAnswer)?;
+    let world = network.world();
+    let order = match world.order() {
+        Err(Fault::Memory) => world.order()?,
+        order => order?,
+    };
+    is_linearization::<O>(ample, order.as_slice(), world.history())
+}
+
+/// Whether a client's call at node 1, and at node 2 where that doesn't answer, is answered, and takes effect once.
+fn is_answered_once<O: Object>(heap: O::Alloc, ample: O::Alloc) -> Result<bool, Fault> {
+    let shared = opened::<O>(heap)?;
+    let is_replied = replied(heap, &shared)? == counted(5);
+    Ok(is_replied && order_len(&shared)? == 1 && explains(&shared, ample)?)
+}
+
+/// Whether that is so where the request after so many others is refused, and whether that came.
+fn is_answered_past(alloc: Global, ample: &Refusing, passed: u64) -> (Result<bool, Fault>, bool) {
+    let heap = Refusing::new(alloc, passed);
+    let is_answered = is_answered_once::<Counters<&Refusing>>(&heap, ample);
+    (is_answered, heap.has_refused())
+}
+
+/// How many requests a call makes that isn't refused any, and whether it is answered.
+fn requests(alloc: Global, ample: &Refusing) -> (u64, Result<bool, Fault>) {
+    let heap = Refusing::new(alloc, u64::MAX);
+    let is_answered = is_answered_once::<Counters<&Refusing>>(&heap, ample);
+    (heap.requests(), is_answered)
+}
+
+/// How many parts the requests are tried in, so that each test is short.
+const PARTS: u64 = 4;
+
+/// Refuses each request of this part in turn, in a run of its own: whatever request it is, the call is answered.
+fn refuse_each(rt: &impl Abort, alloc: Global, part: u64) {
+    let ample = Refusing::new(alloc, u64::MAX);
+    let (requests, is_answered) = requests(alloc, &ample);
+    assert!(rt; requests > 100 && is_answered == Ok(true), "{requests}");
+    for passed in 0..requests {
+        if passed % PARTS == part {
+            let answered = is_answered_past(alloc, &ample, passed);
+            assert!(rt; answered == (Ok(true), true), "at {passed}");
+        }
+    }
+}
+
+#[test]
+fn each_request_is_refused_in_turn(rt: HostRuntime) {
+    refuse_each(&rt, rt.alloc(), 0);
+}
+
+#[test]
+fn each_request_next_to_these_is_refused(rt: HostRuntime) {
+    refuse_each(&rt, rt.alloc(), 1);
+}
+
+#[test]
+fn each_request_after_those_is_refused(rt: HostRuntime) {
+    refuse_each(&rt, rt.alloc(), 2);
+}
+
+#[test]
+fn each_last_request_of_four_is_refused(rt: HostRuntime) {
+    refuse_each(&rt, rt.alloc(), 3);
+}
