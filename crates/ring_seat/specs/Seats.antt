@@ -1,11 +1,10 @@
 -- The seats of a gauge.
-use Rattle.std.specs.Prelude.{ℕ, suc, ◌≡◌, ◌<◌, ◌≤◌, ◌+◌, true, false, List, [], ◌∷◌, Option, Some, None, MatchOption, nat_lt, if◌then◌else◌}
+use Rattle.std.specs.Prelude.{ℕ, suc, ◌≡◌, ◌<◌, true, false, List, [], Option, Some, None, MatchOption, nat_lt, if◌then◌else◌}
 use Rattle.atomic_table.specs.Seated.{TableId}
 use Rattle.atomic_table.specs.declared.shared.Seat.{Seat as TableSeat}
 use Rattle.ring_seat.specs.Clocks.{new_clock}
 use Rattle.ring_seat.specs.declared.clock.Clock.{Clock}
 use Rattle.ring_seat.specs.declared.rule.View.{View}
-use Rattle.ring_seat.specs.Gauges.{seen_in}
 
 -- What contracts see of a seat: its gauge, its node, the lengths that were published on it, what it saw of the gauge's words, newest
 -- first, and its clock.

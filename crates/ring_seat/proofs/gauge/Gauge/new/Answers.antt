@@ -1,6 +1,6 @@
-use Rattle.std.proofs.Common.{◌≡◌, ◌<◌, ◌≤◌, ◌+◌, ◌++◌, ◌∷◌, [], ℕ, suc, Some, None, ap, sym, ◌∙◌, arith, length-append, rules, replicate}
-use Rattle.ring_seat.specs.Gauges.{maker_view, first_view, Rises, made}
-use Rattle.ring_seat.specs.Seats.{SeatView, new_seat, node_at}
+use Rattle.std.proofs.Common.{◌≡◌, ◌<◌, ◌≤◌, ◌+◌, ◌++◌, ◌∷◌, [], suc, Some, None, ap, sym, ◌∙◌, arith, length-append, rules, replicate}
+use Rattle.ring_seat.specs.Gauges.{made}
+use Rattle.ring_seat.specs.Seats.{new_seat, node_at}
 use Rattle.ring_seat.proofs.Rising.{first_rises, owner_splits, guest_splits}
 use Rattle.ring_seat.proofs.Seating.{is_new, seats_add, all_at, node_within, node_past}
 use Rattle.ring_seat.proofs.gauge.Gauge.new.Goals as goal
