@@ -1,5 +1,5 @@
 -- What a port was asked last (docs/PROTOCOL.md, "Clients"), and what a client makes of it.
-use Rattle.std.specs.Prelude.{◌≡◌, ℕ, ◌+◌, ◌-◌, ◌^◌, ◌≤◌, ◌⊎◌, min, List, [], take, Option, Some, None, ⊤}
+use Rattle.std.specs.Prelude.{◌≡◌, ℕ, ◌+◌, ◌-◌, ◌^◌, ◌≤◌, ◌⊎◌, ◌&&◌, min, nat_le, if◌then◌else◌, List, [], take, Option, Some, None, ⊤}
 use Rattle.ring_base.specs.Fault.{fault_number}
 use Rattle.ring_base.specs.declared.fault.Fault.{Fault}
 use Rattle.ring_payload.specs.declared.call.Call.{Call}
@@ -32,6 +32,12 @@ abbrev pub IsTold : Answer → Type 0
 IsTold (Done reply) = ⊤
 IsTold (Kept reply) = ⊤
 IsTold (Refused number) = (4 ≤ number) × (number ≤ 7)
+
+-- the answer, if a call can have it
+abbrev pub tellable : Answer → Option Answer
+tellable (Done reply) = Some (Done reply)
+tellable (Kept reply) = Some (Kept reply)
+tellable (Refused number) = if nat_le 4 number && nat_le number 7 then Some (Refused number) else None
 
 -- the call was submitted in vain: the submit was refused, or so many polls gave no answer
 abbrev pub IsInVain : Asked → ℕ → Asked → Type 0

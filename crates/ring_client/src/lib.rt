@@ -11,4 +11,4 @@ mod port;
 
 pub use asked::{Asked, Op};
 pub use client::Client;
-pub use port::Port;
+pub use port::{Port, tellable};

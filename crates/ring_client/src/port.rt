@@ -1,7 +1,7 @@
 //! What a port is.
 
 ghost use Rattle.std.specs.Prelude.{◌≡◌, IfSome, IfErr, OnOk};
-ghost use Rattle.ring_client.specs.Asking.{submitted, refused_with, polled, IsTold};
+ghost use Rattle.ring_client.specs.Asking.{submitted, refused_with, polled, tellable, IsTold};
 
 use crate::asked::Asked;
 use ring_base::Fault;
@@ -39,4 +39,21 @@ pub trait Port: Drop {
     /// poll's answer.
     fn asked(&self) -> &Asked
         ensures { result.now ≡ asked_of self.now };
+}
+
+/// The answer, if a call can have it, for a port that asks a node: a node tells no other.
+pub fn tellable(answer: Answer) -> Option<Answer>
+    ensures value { result ≡ tellable answer }
+    ensures told { IfSome result IsTold }
+{
+    match answer {
+        Answer::Done(_) | Answer::Kept(_) => Some(answer),
+        Answer::Refused(number) => {
+            if number >= 4 && number <= 7 {
+                Some(answer)
+            } else {
+                None
+            }
+        }
+    }
 }

@@ -1,9 +1,9 @@
 -- What a node told of a call. Clients, rule 8, of docs/PROTOCOL.md.
-use Rattle.std.specs.Prelude.{ℕ, ◌==◌, ◌&&◌, Bool, nat_le, if◌then◌else◌, List, [], ◌∷◌, Option, Some, None}
+use Rattle.std.specs.Prelude.{ℕ, ◌==◌, ◌&&◌, Bool, if◌then◌else◌, List, [], ◌∷◌, Option, Some, None}
 use Rattle.std.specs.Str.{bytes_eq}
+use Rattle.ring_client.specs.Asking.{tellable}
 use Rattle.ring_payload.specs.declared.call.Call.{Call}
 use Rattle.ring_session.specs.declared.answer.Answer.{Answer as OneAnswer}
-use Rattle.ring_session.specs.declared.answer.Answer.TheVariants.{Done, Kept, Refused as RefusedAnswer}
 use Rattle.ring_rules.specs.declared.told.Told.{Told}
 use Rattle.ring_rules.specs.declared.told.Told.TheVariants.{Answer, Refused}
 use Rattle.ring_world_port.specs.declared.answers.Question.{Question}
@@ -12,16 +12,12 @@ use Rattle.ring_world_port.specs.declared.answers.Question.{Question}
 abbrev pub is_asked : {A : Type 0} → Question → ℕ → Call A → Bool
 is_asked q i c = (i == q.node) && (c.client == q.client) && (c.number == q.number) && bytes_eq c.op q.op
 
--- an answer that a call can have: a refusal in it is one of the session rule's, 4 to 7
-abbrev pub tellable : OneAnswer → Option OneAnswer
-tellable (Done reply) = Some (Done reply)
-tellable (Kept reply) = Some (Kept reply)
-tellable (RefusedAnswer number) = if nat_le 4 number && nat_le number 7 then Some (RefusedAnswer number) else None
-
+-- the answer that this tells to the call, if it does
 abbrev pub answer_of : {A : Type 0} → Question → Told A → Option OneAnswer
 answer_of q (Answer i c answer) = if is_asked q i c then tellable answer else None
 answer_of q (Refused i c number) = None
 
+-- the first, or else the later one
 abbrev pub first_of : {A : Type 0} → Option A → Option A → Option A
 first_of None later = later
 first_of (Some x) later = Some x

@@ -2,10 +2,10 @@
 
 ghost use Rattle.std.specs.Prelude.{◌≡◌, IfSome};
 ghost use Rattle.ring_client.specs.Asking.{IsTold};
-ghost use Rattle.ring_world_port.specs.Answers.{is_asked, tellable, answer_of, answer_in};
+ghost use Rattle.ring_world_port.specs.Answers.{is_asked, answer_of, answer_in};
 
 use ring_base::Proc;
-use ring_client::Op;
+use ring_client::{Op, tellable};
 use ring_payload::Call;
 use ring_rules::Told;
 use ring_session::Answer;
@@ -60,22 +60,5 @@ impl Question {
             }
         }
         None
-    }
-}
-
-/// The answer, if a call can have it. A world tells no other.
-fn tellable(answer: Answer) -> Option<Answer>
-    ensures value { result ≡ tellable answer }
-    ensures told { IfSome result IsTold }
-{
-    match answer {
-        Answer::Done(_) | Answer::Kept(_) => Some(answer),
-        Answer::Refused(number) => {
-            if number >= 4 && number <= 7 {
-                Some(answer)
-            } else {
-                None
-            }
-        }
     }
 }
