@@ -16,7 +16,7 @@
 -- PumpGrowing: Frames only come: those of a world stay as it goes on, and so the copies that are open.
 -- PumpOpening: The copies of the next frame, and the first copy that is open.
 -- PumpRunning: What one event does to a pump.
--- Refusals: What a run of one event shows of a step that memory was refused to.
+-- MemoryRefused: What a run of one event shows of a step that memory was refused to.
 pub mod Storing
 pub mod Tellings
 pub mod Spared
@@ -35,4 +35,4 @@ pub mod Logs
 pub mod PumpGrowing
 pub mod PumpOpening
 pub mod PumpRunning
-pub mod Refusals
+pub mod MemoryRefused

@@ -1,4 +1,4 @@
-use Rattle.ring_world.proofs.Refusals.{stops_exactly}
+use Rattle.ring_world.proofs.MemoryRefused.{stops_exactly}
 use Rattle.ring_world.proofs.refusals.stopped_for_memory_law.Goals as goal
 
 pub returns : goal.returns
