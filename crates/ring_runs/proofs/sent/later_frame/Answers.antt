@@ -1,7 +1,8 @@
-use Rattle.std.proofs.Common.{◌++◌, Some, ap, sym, ◌∙◌}
+use Rattle.std.proofs.Common.{◌++◌, Some, None, if◌then◌else◌, ap, sym, ◌∙◌}
+use Rattle.ring_base.specs.Processors.{has}
 use Rattle.ring_runs.specs.Running.{frames_of, opening_frames}
 use Rattle.ring_runs.proofs.FramePlaces.{none_at, first_at, later_at}
-use Rattle.ring_core.specs.State.{frame_for}
+use Rattle.ring_core.specs.State.{Sent, frame_for}
 use Rattle.ring_runs.proofs.sent.later_frame.Goals as goal
 
 pub returns-then-number-lt1 : goal.returns-then-number-lt1
@@ -9,7 +10,9 @@ returns-then-number-lt1 g c = sym (none_at c.args.node (opening_frames (Some c.a
 
 pub returns-then-number-lt2 : goal.returns-then-number-lt2
 returns-then-number-lt2 g c =
-    c.addressed.ensures ∙ first_at c.args.node c.args.first.now (frames_of c.args.outs.now) c.args.number c.if-number-lt1.false c.if-number-lt2.true
+    c.addressed.ensures
+    ∙ ap (λ (s : Sent g.row.A.Denot). if has s.to c.args.node then Some s.frame else None) c.first.view_is
+    ∙ first_at c.args.node c.args.first.now (frames_of c.args.outs.now) c.args.number c.if-number-lt1.false c.if-number-lt2.true
 
 pub returns : goal.returns
 returns g c =
