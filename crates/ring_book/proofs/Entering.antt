@@ -25,6 +25,7 @@ use Rattle.std.specs.List.{AllByRecursion as Each}
 use Rattle.ring_base.proofs.Each.{each-get, each-placed, each-push}
 use Rattle.ring_base.proofs.ListPlaces.{set_cases}
 use Rattle.ring_book_lines.proofs.AnswersByTicket.{told_from-snoc, length-told_by}
+use Rattle.ring_book.proofs.AddedLines.{added_cases}
 
 pub end_ring : {A : Type 0} (c d : End A) → SameConsumer c d → ring_of_consumer d ≡ ring_of_consumer c
 end_ring c d h = cc
@@ -49,6 +50,7 @@ book_looks m name lines reserved ends told log capacity places space space' i c 
   ];
   tells = b.tells;
   run = b.run;
+  numbered = b.numbered;
   room = b.room;
   limit = b.limit;
   log_is = b.log_is;
@@ -173,6 +175,10 @@ book_enters {S} {A} m name lines reserved ends told log capacity places space sp
         }
       ];
       run = run_adds m name.group.count lines l me node b.run mine k.counted k.in_book leads found;
+      numbered = λ j y h. elim (added_cases lines l j y h) [
+        | inl w ↦ ap (λ (z : LineView A). z.number) w.1 ∙ sym w.0
+        | inr w ↦ b.numbered j y w
+      ];
       room = omega (arith, length-append lines (l ∷ []), b.room);
       limit = omega (arith, length-append lines (l ∷ []), b.limit);
       log_is = ap (λ (v : LogView). logged_by (length lines) v x) b.log_is ∙ sym (log_in-snoc lines l);
@@ -260,6 +266,7 @@ book_grows m name lines lines' reserved reserved' ends told told' log log' capac
       each = b.each;
       tells = tells;
       run = b.run;
+      numbered = b.numbered;
       room = room;
       limit = limit;
       log_is = b.log_is;
@@ -318,6 +325,7 @@ book_texts m name lines reserved ends told log capacity places space space' b te
   each = b.each;
   tells = b.tells;
   run = b.run;
+  numbered = b.numbered;
   room = b.room;
   limit = b.limit;
   log_is = b.log_is;
@@ -356,6 +364,7 @@ book_releases m name lines reserved reserved' ends told log capacity places spac
   each = b.each;
   tells = λ i t h. record { told_is = (b.tells i t h).told_is; room = omega (arith, (b.tells i t h).room, less) };
   run = b.run;
+  numbered = b.numbered;
   room = omega (arith, b.room, less);
   limit = omega (arith, b.limit, less);
   log_is = b.log_is;

@@ -10,3 +10,4 @@ pub mod Journaling
 pub mod Entering
 pub mod Looking
 pub mod Opened
+pub mod AddedLines

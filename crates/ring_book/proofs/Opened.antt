@@ -94,6 +94,7 @@ start_book m name ns ps cs told room a b few n r many none text = record {
   each = λ i c h. (let e = ends_at ps cs i c b h in record { ring = rw r e.0; came = e.1; one = e.2 });
   tells = λ i t h. (let e = none-at told i t none h in record { told_is = e; room = (let k = ap length e in omega (arith, k)) });
   run = record { nodes = λ i h k. (m.opening i, refl); inside = tt; found = tt };
+  numbered = λ i l h. cc;
   room = omega arith;
   limit = omega arith;
   log_is = refl;

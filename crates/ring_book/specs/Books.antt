@@ -33,7 +33,8 @@ pub record IsTold {A : Type 0} (lines : List (LineView A)) (reserved i : ℕ) (t
   pub room : length t.answers + reserved ≤ t.room
 
 module _ {S A : Type 0} (m : Machine S A) where
-  -- The lines are a run, each end has brought its node's steps, and there is room for what is reserved.
+  -- The lines are a run and bear the numbers of their places, each end has brought its node's steps, and there is room for what
+  -- is reserved.
   pub record IsBook (name : Name A) (lines : List (LineView A)) (reserved : ℕ) (ends : List (End A))
       (told : List ToldView) (log : LogView) (capacity places space : ℕ)
       : Type 0 where
@@ -43,6 +44,7 @@ module _ {S A : Type 0} (m : Machine S A) where
     pub each : (i : ℕ) (c : End A) → slice_get ends i ≡ Some c → IsEnd name lines i c
     pub tells : (i : ℕ) (t : ToldView) → slice_get told i ≡ Some t → IsTold lines reserved i t
     pub run : IsBookRun m name.group.count lines
+    pub numbered : (i : ℕ) (l : LineView A) → slice_get lines i ≡ Some l → l.number ≡ i
     pub room : length lines + reserved ≤ capacity
     pub limit : length lines + reserved ≤ most_places
     pub log_is : log ≡ log_in lines

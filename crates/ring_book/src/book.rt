@@ -1,6 +1,6 @@
 //! What the book's lock holds.
 
-ghost use Rattle.std.specs.Prelude.{⊤, Some, slice_get, ◌-◌, ◌≡◌, ◌+◌, ◌<◌, ◌≤◌, ◌⊎◌, MatchOption, MatchResult, OnOk};
+ghost use Rattle.std.specs.Prelude.{⊤, ℕ, Some, slice_get, ◌-◌, ◌≡◌, ◌+◌, ◌<◌, ◌≤◌, ◌⊎◌, MatchOption, MatchResult, OnOk};
 ghost use Rattle.std.specs.Prelude.{OnErr, IfOk, IfErr, IsOk, IsSomeAnd, ◌↔◌, [], ◌∷◌, ◌++◌, length, vec_len};
 ghost use Rattle.std.specs.Prelude.{vec_capacity};
 ghost use Rattle.std.specs.List.{AllByRecursion};
@@ -73,6 +73,7 @@ impl<O: Object, K: BookName<O::Alloc>> Book<O, K> {
     ghost use Rattle.ring_book_lines.specs.Events.{IsRun, events_of, history_of};
     ghost use Rattle.ring_book_lines.specs.Lines.{sent_at, steps_of};
     ghost use Rattle.ring_book_lines.specs.Puts.{IsPut};
+    ghost use Rattle.ring_book_lines.specs.Steps.{LineView};
     ghost use Rattle.ring_book_lines.specs.Machines.{node_machine};
     ghost use Rattle.ring_book.specs.Openings.{new_book};
     ghost use Rattle.ring_rules.specs.Worlds.{run, world_opening, order as order_in};
@@ -103,9 +104,10 @@ impl<O: Object, K: BookName<O::Alloc>> Book<O, K> {
     /// Law: the list is a run of the group. Its inputs are the events of a run of a world of nodes, with just these frames,
     /// answers and committed calls: of the very run of which `linear_law` of ring_order_proof speaks. So `order` and `history` are
     /// that run's, and `answer` tells what the session table answers to the ticket, a place among its node's calls
-    /// (`calls`), along the node's committed log (`answers`).
+    /// (`calls`), along the node's committed log (`answers`). Each line bears the number of its place.
     pub fn run_law(&self)
         ensures run { IsRun O.sequential K.name.group self.now.lines }
+        ensures numbered { (i : ℕ) (l : LineView O.Alloc) → slice_get self.now.lines i ≡ Some l → l.number ≡ i }
         ensures few { K.name.group.count ≤ 16 }
     {
         lines_law::<O>();

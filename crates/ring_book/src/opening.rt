@@ -1,6 +1,6 @@
 //! How a book and its cells are made.
 
-ghost use Rattle.std.specs.Prelude.{◌≡◌, IfOk, IfErr};
+ghost use Rattle.std.specs.Prelude.{◌≡◌, ◌≤◌, IfOk, IfErr};
 ghost use Rattle.ring_base.specs.declared.fault.Fault.TheVariants.{Memory};
 ghost use Rattle.ring_book_lines.specs.Machines.{node_machine};
 ghost use Rattle.ring_book.specs.Openings.{new_book, new_cells};
@@ -40,7 +40,8 @@ impl<O: Object> Model for Opening<O> {
     ghost view = { λ o. record { group = o.group; rings = rings_of o.writers.items } };
 
     ghost invariant = { λ o. AllStart (node_machine O.sequential o.group) 1 o.nodes.items o.writers.items
-        × AllStartEnds o.writers.items o.ends.items × (length o.nodes.items ≡ o.group.count) × (o.group.count ≤ 16) };
+        × AllStartEnds o.writers.items o.ends.items × (length o.nodes.items ≡ o.group.count) × (o.group.count ≤ 16)
+        × (1 ≤ o.group.count) };
 }
 
 impl<O: Object> Opening<O> {
@@ -69,11 +70,12 @@ impl<O: Object> Opening<O> {
         })
     }
 
-    /// The book and the cells, one for each processor, ascending. K names this opening. `Memory` drops it.
+    /// The book and the cells, one for each processor, ascending: 1 to 16. K names this opening. `Memory` drops it.
     pub fn parts<K: BookName<O::Alloc>>(
         self,
     ) -> Result<(Book<O, K>, Vec<Cell<O, K>, O::Alloc>), Fault>
         requires { self ≡ K.name }
+        ensures counted { (1 ≤ K.name.group.count) × (K.name.group.count ≤ 16) }
         ensures ok { IfOk result (λ r. (r.0 ≡ new_book) × (r.1.items ≡ new_cells (node_machine O.sequential K.name.group) K.name.group.count)) }
         ensures refused { IfErr result (λ fault. fault ≡ Memory) }
     {

@@ -89,6 +89,11 @@ new-requires-2 g c =
     i.count (c.len-count.ensures ∙ (c.self.inside.nodes.ok.0 ∙ c.self.invariant.2) ∙ all) c.loop-i-test.false) i.told
     (text_room (length c.in_ok-text.text.items) c.in_ok-text.text.spare c.in_ok-text.ensures.spare)
 
+pub returns-clause-counted : goal.returns-clause-counted
+returns-clause-counted g c =
+    let all = ap (λ n. n.group.count) (c.self.view_is ∙ c.requires) in
+    (subst (λ (n : ℕ). 1 ≤ n) all c.self.invariant.4, subst (λ (n : ℕ). n ≤ 16) all c.self.invariant.3)
+
 pub returns-clause-ok : goal.returns-clause-ok
 returns-clause-ok g c =
     let all = ap (λ n. n.group.count) (c.self.view_is ∙ c.requires) in
