@@ -2,7 +2,7 @@
 use Rattle.std.proofs.Common.{◌≡◌, ℕ, zero, suc, ◌+◌, ◌<◌, add-one, slice_get, Option, Some, take, drop, get_or, length}
 use Rattle.std.proofs.Common.{◌++◌, List, [], ◌∷◌, inl, inr, Result, Ok, Err, refl, sym, ap, subst, ◌∙◌}
 use Rattle.std.proofs.Common.{append-nil, append_assoc}
-use Rattle.std.specs.Prelude.{IfOk, Bool, true}
+use Rattle.std.specs.Prelude.{IfOk, Bool, true, false}
 use Rattle.ring_base.specs.Group.{Group}
 use Rattle.ring_base.proofs.Rows.{drop-next}
 use Rattle.std.specs.Io.KnownBytes.{Appends}
@@ -164,3 +164,26 @@ whole_text object group is_checked lines is_legal old mid new opening ran verdic
     whole = ap (λ v. p.text ++ v) is;
   };
 }
+
+-- a text of a run, of which it isn't asked whether it is legal
+pub unasked_text : {O A : Type 0} (object : Sequential O) (group : Group) (is_checked : Bool)
+    (lines : List (Numbered A)) (old mid new : Option (List ℕ)) (opening ran : RunView A)
+    → is_checked ≡ false → opening ≡ run_opening group
+    → Prints old mid (λ text. Runs object lines opening ran text) → Appends mid new []
+    → Prints old new (IsTextOf object group is_checked lines true)
+unasked_text object group is_checked lines old mid new opening ran unchecked first p q =
+    whole_text object group is_checked lines true old mid new opening ran [] first p q
+    (sym (ap (λ (b : Bool). legal_line b true) unchecked))
+    (subst (λ (b : Bool). IsVerdict object b true ran.played) (sym unchecked) refl)
+
+-- a text of a run, and what was found of it
+pub asked_text : {O A : Type 0} (object : Sequential O) (group : Group) (is_checked : Bool)
+    (lines : List (Numbered A)) (is_legal : Bool) (old mid new : Option (List ℕ)) (opening ran : RunView A) (verdict : List ℕ)
+    → is_checked ≡ true → opening ≡ run_opening group
+    → Prints old mid (λ text. Runs object lines opening ran text) → Appends mid new verdict
+    → verdict ≡ legal_line true is_legal → IsVerdict object true is_legal ran.played
+    → Prints old new (IsTextOf object group is_checked lines is_legal)
+asked_text object group is_checked lines is_legal old mid new opening ran verdict checked first p q is legal =
+    whole_text object group is_checked lines is_legal old mid new opening ran verdict first p q
+    (is ∙ sym (ap (λ (b : Bool). legal_line b is_legal) checked))
+    (subst (λ (b : Bool). IsVerdict object b is_legal ran.played) (sym checked) legal)
