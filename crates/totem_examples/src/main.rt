@@ -3,8 +3,9 @@
 //!
 //! `NAME.script` is run, `NAME.check` is run and its order compared with what clients saw, `NAME.sweep` is swept: run with a
 //! stop and a cut of each node before each event. `NAME.frames` is listed: frames in hexadecimal, with comments in lines that
-//! begin with `#`. `NAME.out` has what must stand on standard output; and `NAME.fault` the exit status, a space, and what must
-//! stand on standard error. Where one of these is missing, nothing may stand there, and the exit status is 0.
+//! begin with `#`. `NAME.words` has the words of a command line of the program `totem`, one a line. `NAME.out` has what must stand on standard output; and `NAME.fault` the exit status, a space, and what must
+//! stand on standard error; `...` for whatever a parser of command lines says. Where one of these is missing, nothing may stand
+//! there, and the exit status is 0.
 #![tactic(auto)]
 
 use ring_sweep::{frames, script, script_check, sweep};
@@ -13,6 +14,7 @@ use std::io::{Error, ErrorKind};
 use std::process::ExitCode;
 use std::rt::Files;
 use std::{fs, io, str};
+use totem_command::run;
 
 /// The folder of the examples: the one that the program runs in.
 const FOLDER: &str = ".";
@@ -24,10 +26,20 @@ enum Kind {
     Check,
     Sweep,
     Frames,
+    Words,
 }
 
 /// In this order.
-const KINDS: [Kind; 4] = [Kind::Script, Kind::Check, Kind::Sweep, Kind::Frames];
+const KINDS: [Kind; 5] = [
+    Kind::Script,
+    Kind::Check,
+    Kind::Sweep,
+    Kind::Frames,
+    Kind::Words,
+];
+
+/// The exit status of a bad command line, and of a call for help.
+const BAD_COMMAND_LINE: u8 = 2;
 
 impl Kind {
     /// What the name of such an example ends with.
@@ -37,6 +49,7 @@ impl Kind {
             Kind::Check => ".check",
             Kind::Sweep => ".sweep",
             Kind::Frames => ".frames",
+            Kind::Words => ".words",
         }
     }
 }
@@ -98,7 +111,7 @@ struct Printed {
 /// Whether the example of this name prints just what it must.
 fn prints_as_told<R: Files + AllocGlobal>(rt: &R, name: &str, kind: Kind) -> io::Result<bool> {
     let input = read(rt, name, kind.ending())?;
-    let printed = run_as(rt.alloc(), kind, input.as_slice())?;
+    let printed = run_as(rt, kind, input.as_slice())?;
     let fault = fault_of(rt.alloc(), &printed)?;
     let is_out = printed.out.as_slice() == read_any(rt, name, ".out")?.as_slice();
     let is_fault = fault.as_slice() == read_any(rt, name, ".fault")?.as_slice();
@@ -106,7 +119,8 @@ fn prints_as_told<R: Files + AllocGlobal>(rt: &R, name: &str, kind: Kind) -> io:
 }
 
 /// Does what is done with an example of this kind whose file has these bytes.
-fn run_as(alloc: Global, kind: Kind, input: &[u8]) -> io::Result<Printed> {
+fn run_as<R: Files + AllocGlobal>(rt: &R, kind: Kind, input: &[u8]) -> io::Result<Printed> {
+    let alloc = rt.alloc();
     let mut out = Vec::new(alloc);
     let mut err = Vec::new(alloc);
     let status = match kind {
@@ -117,8 +131,26 @@ fn run_as(alloc: Global, kind: Kind, input: &[u8]) -> io::Result<Printed> {
             let bytes = spelled(alloc, input)?;
             frames(alloc, &mut bytes.as_slice(), &mut out, &mut err)
         }
+        Kind::Words => {
+            let words = words_in(alloc, input);
+            let nobody: Option<&mut Vec<u8>> = None;
+            run(rt, &words, &mut out, &mut err, nobody)
+        }
     };
     Ok(Printed { out, err, status })
+}
+
+/// The words of a command line, the program's own name first.
+fn words_in(alloc: Global, text: &[u8]) -> io::Result<Vec<String>> {
+    let Ok(text) = str::from_utf8(text) else {
+        return Err(Error::from(ErrorKind::InvalidData));
+    };
+    let mut words = Vec::new(alloc);
+    words.push(String::from_str(alloc, "totem")?)?;
+    for word in text.lines() {
+        words.push(String::from_str(alloc, word)?)?;
+    }
+    Ok(words)
 }
 
 /// The bytes that a text spells in hexadecimal, but for its comments.
@@ -149,9 +181,18 @@ fn fault_of(alloc: Global, printed: &Printed) -> io::Result<Vec<u8>> {
     if printed.status != 0 || !printed.err.is_empty() {
         let status = format!(in alloc; "{} ", printed.status)?;
         fault.extend_from_slice(status.as_bytes())?;
-        fault.extend_from_slice(printed.err.as_slice())?;
+        fault.extend_from_slice(words_of(printed))?;
     }
     Ok(fault)
+}
+
+/// What stands on standard error; `...` for what a parser of command lines says.
+fn words_of(printed: &Printed) -> &[u8] {
+    if printed.status == BAD_COMMAND_LINE && !printed.err.is_empty() {
+        b"..."
+    } else {
+        printed.err.as_slice()
+    }
 }
 
 /// The bytes of the file of this name and ending.

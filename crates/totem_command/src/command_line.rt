@@ -7,7 +7,7 @@ use std::io;
 
 /// What the command line asks for.
 #[derive(Drop)]
-pub enum Task<'a> {
+pub(crate) enum Task<'a> {
     /// To list the frames of a file.
     Frames { file: &'a str },
     /// To run the script in a file, and to tell whether its run is legal where that is asked for.
@@ -57,7 +57,10 @@ Example:
 
 /// What the words ask for, the program's own name being the first. Otherwise what the parser says of them;
 /// it speaks up too where it was asked for help.
-pub fn task_of<'a>(alloc: Global, words: &'a io::Result<Vec<String>>) -> Result<Task<'a>, Error> {
+pub(crate) fn task_of<'a>(
+    alloc: Global,
+    words: &'a io::Result<Vec<String>>,
+) -> Result<Task<'a>, Error> {
     let mut command = command_of(alloc)?;
     match words {
         Ok(words) => {

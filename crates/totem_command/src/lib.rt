@@ -1,0 +1,7 @@
+//! The program `totem`, over any files and writers: it reads a command line, and does what that asks for.
+#![tactic(auto)]
+
+mod command_line;
+mod commands;
+
+pub use commands::run;
