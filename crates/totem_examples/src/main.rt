@@ -3,9 +3,10 @@
 //!
 //! `NAME.script` is run, `NAME.check` is run and its order compared with what clients saw, `NAME.sweep` is swept: run with a
 //! stop and a cut of each node before each event. `NAME.frames` is listed: frames in hexadecimal, with comments in lines that
-//! begin with `#`. `NAME.words` has the words of a command line of the program `totem`, one a line. `NAME.out` has what must stand on standard output; and `NAME.fault` the exit status, a space, and what must
-//! stand on standard error; `...` for whatever a parser of command lines says. Where one of these is missing, nothing may stand
-//! there, and the exit status is 0.
+//! begin with `#`. `NAME.words` has the words of a command line of the program `totem`, one a line. `NAME.legal` is swept too,
+//! and of what it prints the end alone is compared. `NAME.out` has what must stand on standard output, of a `NAME.legal` what
+//! must stand at its end; and `NAME.fault` the exit status, a space, and what must stand on standard error; `...` for whatever
+//! a parser of command lines says. Where one of these is missing, nothing may stand there, and the exit status is 0.
 #![tactic(auto)]
 
 use ring_sweep::{frames, script, script_check, sweep};
@@ -27,15 +28,17 @@ enum Kind {
     Sweep,
     Frames,
     Words,
+    Legal,
 }
 
 /// In this order.
-const KINDS: [Kind; 5] = [
+const KINDS: [Kind; 6] = [
     Kind::Script,
     Kind::Check,
     Kind::Sweep,
     Kind::Frames,
     Kind::Words,
+    Kind::Legal,
 ];
 
 /// The exit status of a bad command line, and of a call for help.
@@ -50,6 +53,7 @@ impl Kind {
             Kind::Sweep => ".sweep",
             Kind::Frames => ".frames",
             Kind::Words => ".words",
+            Kind::Legal => ".legal",
         }
     }
 }
@@ -113,7 +117,11 @@ fn prints_as_told<R: Files + AllocGlobal>(rt: &R, name: &str, kind: Kind) -> io:
     let input = read(rt, name, kind.ending())?;
     let printed = run_as(rt, kind, input.as_slice())?;
     let fault = fault_of(rt.alloc(), &printed)?;
-    let is_out = printed.out.as_slice() == read_any(rt, name, ".out")?.as_slice();
+    let wanted = read_any(rt, name, ".out")?;
+    let is_out = match kind {
+        Kind::Legal => printed.out.as_slice().ends_with(wanted.as_slice()),
+        _ => printed.out.as_slice() == wanted.as_slice(),
+    };
     let is_fault = fault.as_slice() == read_any(rt, name, ".fault")?.as_slice();
     Ok(is_out && is_fault)
 }
@@ -126,7 +134,7 @@ fn run_as<R: Files + AllocGlobal>(rt: &R, kind: Kind, input: &[u8]) -> io::Resul
     let status = match kind {
         Kind::Script => script(alloc, &mut &*input, &mut out, &mut err),
         Kind::Check => script_check(alloc, &mut &*input, &mut out, &mut err),
-        Kind::Sweep => sweep(alloc, &mut &*input, &mut out, &mut err),
+        Kind::Sweep | Kind::Legal => sweep(alloc, &mut &*input, &mut out, &mut err),
         Kind::Frames => {
             let bytes = spelled(alloc, input)?;
             frames(alloc, &mut bytes.as_slice(), &mut out, &mut err)
