@@ -22,9 +22,9 @@ pub use kind::Kind;
 pub use laws::{
     front_law, limits_law, members_law, primary_law, primary_order_law, ring_order_law,
 };
-pub use limits::{MAX, MAX_NEW, MOST_PROCESSORS, WINDOW};
+pub use limits::{FRAME_BYTES, MAX, MAX_NEW, MOST_PROCESSORS, WINDOW};
 pub use members::Members;
-pub use past::{Past, past_of};
+pub use past::{Past, past_of, seen, told, told_both};
 pub use primary::is_primary_below;
 pub use proc_set::ProcSet;
 pub use processor::Proc;

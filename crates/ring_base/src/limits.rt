@@ -11,3 +11,6 @@ pub const WINDOW: u64 = 256;
 
 /// At most so many new messages go out in a visit of the token.
 pub const MAX_NEW: u64 = 8;
+
+/// A frame has at most so many bytes.
+pub const FRAME_BYTES: usize = 8192;

@@ -41,6 +41,29 @@ pub fn past_of<T, A>(from: &A) -> Past<T>
     }
 }
 
+/// A value as it is now.
+pub fn seen<T>(value: &T) -> Past<T>
+    ensures { result.value ≡ value.now }
+{
+    past_of(&value)
+}
+
+/// A value made of another, and of what is lent, by a step that the caller's proof names by `ghost-told`.
+pub fn told<T, F>(past: &Past<T>, from: &F) -> Past<T>
+    ghost step: { T → F → T }
+    ensures { result.value ≡ step past.now.value from.now }
+{
+    past_of(&(past, from))
+}
+
+/// A value made of another, and of two that are lent, by a step that the caller's proof names by `ghost-told_both`.
+pub fn told_both<T, F, G>(past: &Past<T>, first: &F, second: &G) -> Past<T>
+    ghost step: { T → F → G → T }
+    ensures { result.value ≡ step past.now.value first.now second.now }
+{
+    past_of(&(past, first, second))
+}
+
 unsafe impl<T> Send for Past<T> {}
 
 unsafe impl<T> Sync for Past<T> {}

@@ -37,12 +37,12 @@ pub struct Book<O: Object, K: BookName<O::Alloc>> {
     lines: Vec<Line<O::Alloc>, O::Alloc>,
     reserved: u32,
     ends: Vec<Consumer<Step<O::Alloc>, O::Alloc>, O::Alloc>,
-    // The answers of each node's tickets.
+    /// The answers of each node's tickets.
     told: Vec<Told<O::Alloc>, O::Alloc>,
-    // How long the longest committed log is, and of which lines it is made.
+    /// How long the longest committed log is, and of which lines it is made.
     total: usize,
     segments: Vec<Segment, O::Alloc>,
-    // Room to spell a frame in.
+    /// Room to spell a frame in.
     text: BytesMut<O::Alloc>,
     of: PhantomData<(O, K)>,
 }
@@ -78,7 +78,7 @@ impl<O: Object, K: BookName<O::Alloc>> Book<O, K> {
     ghost use Rattle.ring_book.specs.Openings.{new_book};
     ghost use Rattle.ring_rules.specs.Worlds.{run, world_opening, order as order_in};
 
-    // A book without lines.
+    /// A book without lines.
     pub(crate) fn new(
         alloc: O::Alloc,
         ends: Vec<Consumer<Step<O::Alloc>, O::Alloc>, O::Alloc>,
@@ -227,7 +227,7 @@ impl<O: Object, K: BookName<O::Alloc>> Book<O, K> {
         }
     }
 
-    // Enters the cell's step.
+    /// Enters the cell's step.
     fn enter_step(&mut self, cell: &mut Cell<O, K>) -> Result<(), Fault>
         ensures { MatchResult result
             (λ _. Enters self.old self.new cell.old cell.new)
@@ -255,7 +255,7 @@ impl<O: Object, K: BookName<O::Alloc>> Book<O, K> {
         Ok(())
     }
 
-    // The last line.
+    /// The last line.
     fn last(&self) -> &Line<O::Alloc>
         requires { 0 < length self.now.lines }
         ensures { slice_get self.now.lines (length self.now.lines - 1) ≡ Some result.now }
@@ -278,7 +278,7 @@ impl<O: Object, K: BookName<O::Alloc>> Book<O, K> {
     }
 }
 
-// The answers of a node's tickets, if it is of the group.
+/// The answers of a node's tickets, if it is of the group.
 fn told_of<A: Allocator + Copy + Drop>(told: &[Told<A>], node: Proc) -> Option<&Told<A>>
     ensures lookup { option_copied result ≡ slice_get told.now (node - 1) }
     ensures counted { 1 ≤ node }
@@ -286,7 +286,7 @@ fn told_of<A: Allocator + Copy + Drop>(told: &[Told<A>], node: Proc) -> Option<&
     told.get(node.number() as usize - 1)
 }
 
-// Makes room for so many lines more, so many segments more of the longest log, and so many tickets more of each node.
+/// Makes room for so many lines more, so many segments more of the longest log, and so many tickets more of each node.
 fn make_room<A: Allocator + Copy + Drop>(
     lines: &mut Vec<Line<A>, A>,
     segments: &mut Vec<Segment, A>,
@@ -309,7 +309,7 @@ fn make_room<A: Allocator + Copy + Drop>(
     Ok(())
 }
 
-// Makes room for so many tickets more of each node.
+/// Makes room for so many tickets more of each node.
 fn make_told<A: Allocator + Copy + Drop>(told: &mut Vec<Told<A>, A>, more: u32) -> Result<(), Fault>
     ensures stays { AreRoomier told.old.items told.new.items }
     ensures room { OnOk result (AllByRecursion (λ t. length t.answers + more ≤ t.room) told.new.items) }

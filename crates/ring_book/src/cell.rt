@@ -22,12 +22,12 @@ use std::marker::{Model, PhantomData};
 #[derive(Drop)]
 pub struct Cell<O: Object, K: BookName<O::Alloc>> {
     pub(crate) me: Proc,
-    // Whether the journal's last step is not entered yet.
+    /// Whether the journal's last step is not entered yet.
     pub(crate) ahead: bool,
     pub(crate) node: Node<O>,
     pub(crate) journal: Producer<Step<O::Alloc>, O::Alloc>,
     pub(crate) alloc: O::Alloc,
-    // Room to spell a frame in.
+    /// Room to spell a frame in.
     pub(crate) text: BytesMut<O::Alloc>,
     pub(crate) of: PhantomData<K>,
 }

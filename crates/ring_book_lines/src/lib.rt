@@ -29,6 +29,3 @@ pub use ring_order_proof::laws::linear_law;
 pub use spelled::SpelledFrame;
 pub use step::Step;
 pub use stories::{FrameStory, StepStory};
-
-/// How many bytes a frame has at most.
-pub const FRAME_BYTES: usize = 8192;

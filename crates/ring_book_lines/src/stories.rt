@@ -4,7 +4,7 @@ ghost use Rattle.std.specs.Prelude.{◌≡◌};
 ghost use Rattle.ring_book_lines.specs.Kept.{some_frame, some_step};
 
 use crate::step::Step;
-use ring_base::{Past, past_of};
+use ring_base::{Past, past_of, told};
 use ring_wire::Frame;
 use std::alloc::{Allocator, Global};
 use std::marker::{Model, PhantomData};
@@ -35,14 +35,6 @@ impl<A: Allocator + Copy> Model for StepStory<A> {
     ghost Value = { StepView A };
 
     ghost view = { λ _. some_step };
-}
-
-/// A value made of another, and of what is lent, by a step that the caller names.
-fn told<T, F>(past: &Past<T>, from: &F) -> Past<T>
-    ghost step: { T → F → T }
-    ensures { result.value ≡ step past.now.value from.now }
-{
-    past_of(&(past, from))
 }
 
 /// Some frame.

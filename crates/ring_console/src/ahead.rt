@@ -2,18 +2,15 @@
 
 ghost use Rattle.std.specs.Prelude.{◌≤◌, vec_len};
 
-use ring_base::Fault;
+use ring_base::{FRAME_BYTES, Fault};
 use ring_report::Failure;
 use ring_wire::Frame;
 use std::alloc::Allocator;
 use std::io::{ErrorKind, Read};
 use std::mem;
 
-/// The greatest length of a frame, in bytes.
-const LONGEST_FRAME: usize = 8192;
-
 /// How many bytes of an input are read ahead at most.
-const MOST_AHEAD: usize = 2 * LONGEST_FRAME;
+const MOST_AHEAD: usize = 2 * FRAME_BYTES;
 
 /// What was read ahead of an input of frames: at most two frames' length.
 #[derive(Drop)]
@@ -110,11 +107,11 @@ impl<A: Allocator + Copy> Ahead<A> {
         requires { IsEndRight self.old (R.remaining input.old) }
         ensures kept { OnOk result (Keeps (left_of self.old (R.remaining input.old)) (left_of self.new (R.remaining input.new))) }
         ensures ended { OnOk result (IsEndRight self.new (R.remaining input.new)) }
-        ensures enough { OnOk result (self.new.state ≡ Open → LONGEST_FRAME ≤ length (untaken self.new)) }
+        ensures enough { OnOk result (self.new.state ≡ Open → 8192 ≤ length (untaken self.new)) }
         ensures position { self.new.position ≡ self.old.position }
         ensures refused { IfErr result (λ failure. failure ≡ Refused Memory) }
     {
-        if self.state == State::Open && self.bytes.len() - self.taken < LONGEST_FRAME {
+        if self.state == State::Open && self.bytes.len() - self.taken < FRAME_BYTES {
             self.read_ahead(input)?;
         }
         Ok(())
@@ -125,7 +122,7 @@ impl<A: Allocator + Copy> Ahead<A> {
         requires { self.old.state ≡ Open }
         ensures kept { OnOk result (Keeps (left_of self.old (R.remaining input.old)) (left_of self.new (R.remaining input.new))) }
         ensures ended { OnOk result (IsEndRight self.new (R.remaining input.new)) }
-        ensures enough { OnOk result (self.new.state ≡ Open → LONGEST_FRAME ≤ length (untaken self.new)) }
+        ensures enough { OnOk result (self.new.state ≡ Open → 8192 ≤ length (untaken self.new)) }
         ensures position { self.new.position ≡ self.old.position }
         ensures refused { IfErr result (λ failure. failure ≡ Refused Memory) }
     {
@@ -151,8 +148,8 @@ impl<A: Allocator + Copy> Ahead<A> {
         ensures position { self.new.position ≡ self.old.position }
         ensures refused { IfErr result (λ failure. failure ≡ Refused Memory) }
     {
-        let mut room = [0u8; LONGEST_FRAME];
-        let most = (MOST_AHEAD - self.bytes.len()).min(LONGEST_FRAME);
+        let mut room = [0u8; FRAME_BYTES];
+        let most = (MOST_AHEAD - self.bytes.len()).min(FRAME_BYTES);
         match input.read(&mut room[..most]) {
             Ok(0) => self.state = State::Ended,
             Ok(count) => {

@@ -12,7 +12,7 @@ mod running;
 
 pub use listing::frames;
 pub use ring_report::{Failure, report};
-pub use ring_script::{Groups, Line, Numbered, Rings, Script, ScriptFault};
+pub use ring_script::{Groups, Line, Numbered, Script, ScriptFault};
 pub use ring_world::{Pair, World};
 pub use run::Run;
 pub use running::{Things, script, script_check};

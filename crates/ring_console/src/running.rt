@@ -6,7 +6,6 @@ ghost use Rattle.std.specs.Io.KnownBytes.{Keeps};
 ghost use Rattle.ring_base.specs.declared.fault.Fault.TheVariants.{Memory};
 ghost use Rattle.ring_script.specs.Fits.{AreFit};
 ghost use Rattle.ring_script.specs.Scripts.{IsAllOf, AnswersInput};
-ghost use Rattle.ring_script.specs.declared.scripts.Rings.TheVariants.{OfMany};
 ghost use Rattle.ring_script.specs.declared.scripts.Script.{Script};
 ghost use Rattle.ring_console.specs.Running.{Prints, IsTextOf, IsLegal, IsOutputOrMemory};
 
@@ -16,7 +15,7 @@ use ring_base::Fault;
 use ring_checker::is_linearization;
 use ring_object::Object;
 use ring_report::{Failure, Lent, exit_status, report};
-use ring_script::{Rings, Script};
+use ring_script::Script;
 use ring_things::{Counters, Names, Queue, Registers, Shelf};
 use std::alloc::Allocator;
 use std::io::{BufWriter, Read, Write};
@@ -45,7 +44,7 @@ pub fn script<A: Allocator + Copy + Drop, R: Read, O: Write, E: Write>(
     ensures status { result ≤ 1 }
     ensures quiet { result ≡ 0 → Keeps (E.contents err.old) (E.contents err.new) }
     ensures printed { let object = ⟦<Things<A> as Object>⟧ in
-        result ≡ 0 → (script : Script A) × (bytes : List ℕ) × IsAllOf (R.remaining input.old) bytes × AnswersInput OfMany (Ok script) bytes
+        result ≡ 0 → (script : Script A) × (bytes : List ℕ) × IsAllOf (R.remaining input.old) bytes × AnswersInput (Ok script) bytes
         × Prints (O.contents out.old) (O.contents out.new) (IsTextOf object.sequential script.nodes false script.lines.items true) }
 {
     print_script(alloc, input, false, out, err)
@@ -62,7 +61,7 @@ pub fn script_check<A: Allocator + Copy + Drop, R: Read, O: Write, E: Write>(
     ensures status { result ≤ 1 }
     ensures quiet { result ≡ 0 → Keeps (E.contents err.old) (E.contents err.new) }
     ensures printed { let object = ⟦<Things<A> as Object>⟧ in
-        result ≡ 0 → (script : Script A) × (bytes : List ℕ) × IsAllOf (R.remaining input.old) bytes × AnswersInput OfMany (Ok script) bytes
+        result ≡ 0 → (script : Script A) × (bytes : List ℕ) × IsAllOf (R.remaining input.old) bytes × AnswersInput (Ok script) bytes
         × Prints (O.contents out.old) (O.contents out.new) (IsTextOf object.sequential script.nodes true script.lines.items true) }
 {
     print_script(alloc, input, true, out, err)
@@ -79,10 +78,10 @@ fn print_script<A: Allocator + Copy + Drop, R: Read, O: Write, E: Write>(
     ensures status { result ≤ 1 }
     ensures quiet { result ≡ 0 → Keeps (E.contents err.old) (E.contents err.new) }
     ensures printed { let object = ⟦<Things<A> as Object>⟧ in
-        result ≡ 0 → (script : Script A) × (bytes : List ℕ) × IsAllOf (R.remaining input.old) bytes × AnswersInput OfMany (Ok script) bytes
+        result ≡ 0 → (script : Script A) × (bytes : List ℕ) × IsAllOf (R.remaining input.old) bytes × AnswersInput (Ok script) bytes
         × Prints (O.contents out.old) (O.contents out.new) (IsTextOf object.sequential script.nodes is_checked script.lines.items true) }
 {
-    let script = match Script::read(alloc, input, Rings::OfMany) {
+    let script = match Script::read(alloc, input) {
         Ok(script) => script,
         Err(fault) => return report(err, Failure::from(fault)),
     };

@@ -3,7 +3,7 @@
 use refusing_alloc::{Refusing, refuse_in_turn};
 use ring_base::Fault;
 use ring_checker::is_linearization;
-use ring_console::{Rings, Run, Script, ScriptFault, Things};
+use ring_console::{Run, Script, ScriptFault, Things};
 use ring_object::Object;
 use std::alloc::{AllocError, Allocator, Global};
 
@@ -32,7 +32,7 @@ pub fn is_explained<A: Allocator + Copy + Drop>(
     alloc: Global,
     text: &str,
 ) -> Result<bool, Fault> {
-    let script = Script::read(heap, &mut text.as_bytes(), Rings::OfMany).map_err(fault_of)?;
+    let script = Script::read(heap, &mut text.as_bytes()).map_err(fault_of)?;
     let mut run = Run::<Things<A>>::new(heap, script.nodes)?;
     let mut out = Vec::<u8>::new(alloc);
     let _ = run.take(script, &mut out);

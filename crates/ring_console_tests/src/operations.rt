@@ -1,13 +1,13 @@
 //! How operations are spelled, by their words.
 
-use ring_console::{Line, Rings, Script};
+use ring_console::{Line, Script};
 use std::alloc::Global;
 use std::test::Fail;
 
 /// The bytes of the operation that the words say, in hex. Empty where they say none.
 fn spelled(alloc: Global, words: &str) -> Result<String, Fail> {
     let text = format!(in alloc; "nodes 1\ncall 1 7 1 {words}")?;
-    let Ok(script) = Script::parse(alloc, text.as_bytes(), Rings::OfMany) else {
+    let Ok(script) = Script::parse(alloc, text.as_bytes()) else {
         return Ok(String::new(alloc));
     };
     match script.lines.first() {

@@ -1,7 +1,7 @@
 //! The line `order K` of `show` tells the length of the world's order, after each line of a script.
 
 use ring_base::Fixed;
-use ring_console::{Rings, Run, Script, Things};
+use ring_console::{Run, Script, Things};
 use ring_object::Object;
 use std::alloc::Global;
 use std::test::Fail;
@@ -68,7 +68,7 @@ fn shown_after<O: Object<Alloc = Global>>(
     line: &str,
 ) -> Result<(String, usize), Fail> {
     let text = format!(in alloc; "nodes 1\n{line}\nshow\n")?;
-    let script = Script::parse(alloc, text.as_bytes(), Rings::OfMany).map_err(|_| "no script")?;
+    let script = Script::parse(alloc, text.as_bytes()).map_err(|_| "no script")?;
     let mut out = Vec::<u8>::new(alloc);
     run.take(script, &mut out).map_err(|_| "it did not run")?;
     let printed = str::from_utf8(out.as_slice()).map_err(|_| "it is no text")?;

@@ -3,13 +3,13 @@
 use crate::inputs::Broken;
 use refusing_alloc::{Refusing, refuse_in_turn};
 use ring_base::Proc;
-use ring_console::{Line, Rings, Script, ScriptFault};
+use ring_console::{Line, Script, ScriptFault};
 use std::alloc::{AllocError, Global};
 use std::test::Fail;
 
 /// Why the text is no script for rings of any size, none where it is one.
 fn fault_of(alloc: Global, text: &[u8]) -> Option<ScriptFault> {
-    Script::parse(alloc, text, Rings::OfMany).err()
+    Script::parse(alloc, text).err()
 }
 
 /// Texts that are no scripts, each with the line at fault.
@@ -102,23 +102,6 @@ fn faulty_scripts_tell_their_line(rt: HostRuntime) {
     }
 }
 
-#[test]
-fn rings_of_one_allow_one_node_and_its_join_timeout(rt: HostRuntime) {
-    for (text, fault) in [
-        ("nodes 1\ntimeout 1 join", None),
-        ("nodes 2\nnonsense", Some(ScriptFault::AtLine(1))),
-        ("nodes 1\ntimeout 1 loss", Some(ScriptFault::AtLine(2))),
-        (
-            "nodes 1\nshow\ntimeout 1 retransmit",
-            Some(ScriptFault::AtLine(3)),
-        ),
-        ("nodes 1\ntimeout 1 consensus", Some(ScriptFault::AtLine(2))),
-    ] {
-        let told = Script::parse(rt.alloc(), text.as_bytes(), Rings::OfOne).err();
-        assert!(rt; told == fault, "{text}");
-    }
-}
-
 /// What a line asks for.
 fn write_line(out: &mut String, line: &Line<Global>) -> Result<(), Fail> {
     match line {
@@ -144,7 +127,7 @@ fn write_line(out: &mut String, line: &Line<Global>) -> Result<(), Fail> {
 
 /// The script's lines, each as its number and what it asks for.
 fn lines_of(alloc: Global, text: &str) -> Result<String, Fail> {
-    let script = Script::parse(alloc, text.as_bytes(), Rings::OfMany).map_err(|_| "no script")?;
+    let script = Script::parse(alloc, text.as_bytes()).map_err(|_| "no script")?;
     let mut out = String::new(alloc);
     for numbered in &script.lines {
         let number = numbered.number;
@@ -180,7 +163,7 @@ fn script_of(alloc: Global, length: usize) -> Result<Vec<u8>, AllocError> {
 /// Why a script of so many bytes can't be read, if it can't.
 fn fault_of_length(alloc: Global, length: usize) -> Result<Option<ScriptFault>, AllocError> {
     let text = script_of(alloc, length)?;
-    Ok(Script::read(alloc, &mut text.as_slice(), Rings::OfMany).err())
+    Ok(Script::read(alloc, &mut text.as_slice()).err())
 }
 
 #[test]
@@ -192,7 +175,7 @@ fn a_script_has_at_most_2_to_the_20_bytes(rt: HostRuntime) -> Result<(), Fail> {
 
 /// Why a text can't be read behind which the input fails.
 fn fault_of_broken(alloc: Global, text: &str) -> Option<ScriptFault> {
-    Script::read(alloc, &mut Broken(text.as_bytes()), Rings::OfMany).err()
+    Script::read(alloc, &mut Broken(text.as_bytes())).err()
 }
 
 #[test]
@@ -208,7 +191,7 @@ fn an_input_that_fails_is_at_fault_as_a_whole(rt: HostRuntime) {
 #[test]
 fn each_request_for_memory_may_be_refused(rt: HostRuntime) {
     let text = "nodes 1\ncall 1 7 1 insert name\nnoise 1 0011\nshow\nheal\nshow\nshow\nshow\n";
-    let read = |heap: &Refusing| match Script::read(heap, &mut text.as_bytes(), Rings::OfMany) {
+    let read = |heap: &Refusing| match Script::read(heap, &mut text.as_bytes()) {
         Err(ScriptFault::Memory) => Err(AllocError),
         _ => Ok(()),
     };

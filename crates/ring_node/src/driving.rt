@@ -13,7 +13,7 @@ ghost use Rattle.ring_replica.specs.Replicas.{IsDone, replica_stopped, replica_d
 ghost use Rattle.ring_node.specs.Kept.{Runs, followed_by, stepped_by};
 
 use crate::outs::Outs;
-use ring_base::{Fault, Past, RingId, State, past_of};
+use ring_base::{Fault, RingId, State};
 use ring_core::{Input, Out};
 use ring_object::Object;
 use ring_payload::Payload;
@@ -21,13 +21,6 @@ use ring_replica::Replica;
 use ring_srp::Srp;
 use ring_wire::Frame;
 use std::alloc::Allocator;
-
-/// A value as it is now, as contracts see it.
-pub(crate) fn seen<T>(value: &T) -> Past<T>
-    ensures { result.value ≡ value.now }
-{
-    past_of(&value)
-}
 
 /// The ring that runs, if one does.
 pub(crate) fn running<A: Allocator + Copy>(core: &Srp<A>) -> Option<RingId>

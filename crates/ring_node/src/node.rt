@@ -13,9 +13,9 @@ ghost use Rattle.ring_rules.specs.Stepping.{after_core, node_step, submit_fault,
 ghost use Rattle.ring_rules.specs.NodeLimits.{InputFits};
 ghost use Rattle.ring_rules.specs.declared.input.Input.TheVariants.{Stop as StopInput};
 
-use crate::driving::{advance, advance_on, running, seen};
+use crate::driving::{advance, advance_on, running};
 use crate::outs::Outs;
-use ring_base::{Fault, Fixed, Past, Proc, RingId, State};
+use ring_base::{Fault, Fixed, Past, Proc, RingId, State, seen};
 use ring_core::Input as CoreInput;
 use ring_object::Object;
 use ring_payload::{Call, Payload};

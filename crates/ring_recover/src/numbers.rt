@@ -5,7 +5,7 @@ ghost use Rattle.std.specs.Iterator.{YieldsFirst, item_count};
 ghost use Rattle.ring_window.specs.Bits.{is_set};
 ghost use Rattle.ring_recover.specs.Chosen.{chosen, AreWords};
 
-use crate::offsets::Offsets;
+use crate::offsets::{COUNT, Offsets};
 use std::marker::Model;
 
 /// Some of the 256 numbers after a number. Contracts see them as an ascending list.
@@ -75,8 +75,8 @@ impl Iterator for NumbersLeft {
 
     fn next(&mut self) -> Option<u64> {
         let found = self.offsets.first_from(self.offset);
-        if found == 256 {
-            self.offset = 256;
+        if found == COUNT {
+            self.offset = COUNT;
             return None;
         }
         self.offset = found + 1;

@@ -4,8 +4,10 @@ ghost use Rattle.std.specs.Prelude.{◌≡◌, ◌≢◌, ℕ, ◌<◌, ◌≤�
 ghost use Rattle.ring_window.specs.Bits.{is_set, IsFirstClear};
 ghost use Rattle.ring_recover.specs.Chosen.{IsFirstSet};
 
-/// How many bits there are.
-const COUNT: usize = 256;
+use ring_base::WINDOW;
+
+/// How many bits there are: one for each number of a window.
+pub(crate) const COUNT: usize = WINDOW as usize;
 
 /// Some of the offsets 0 to 255, in place.
 #[derive(Clone, Copy)]

@@ -16,7 +16,7 @@ use crate::delivery::Delivery;
 use crate::history::{nothing_seen, one_before};
 use crate::kinds::{is_end, is_user};
 use crate::numbers::Numbers;
-use crate::offsets::Offsets;
+use crate::offsets::{COUNT, Offsets};
 use crate::reports::{
     greatest_mark, known_after, least_front, least_mark, mates_among, none_behind, reports_of,
 };
@@ -300,7 +300,7 @@ fn has_users<A: Allocator + Copy>(window: &Window<A>, number: u64) -> bool
 fn are_held<A: Allocator + Copy>(offsets: &Offsets, after: u64, window: &Window<A>) -> bool
     ensures { result ≡ list_all (holds window.now.held window.now.ring) (chosen after offsets.now.words) }
 {
-    for j in 0..256 {
+    for j in 0..COUNT {
         if offsets.has(j) && !is_held(window, after, j) {
             return false;
         }

@@ -5,7 +5,7 @@ ghost use Rattle.ring_log.specs.Stays.{born, hears, marks, hands, stay_in};
 ghost use Rattle.ring_replica.specs.Replicas.{tale_opening, tale_done, tale_given};
 ghost use Rattle.ring_replica.specs.Courses.{handed_if};
 
-use ring_base::{Past, Proc, ProcSet, RingId, past_of};
+use ring_base::{Past, Proc, ProcSet, RingId, past_of, told};
 use ring_payload::{Call, Payload};
 use ring_wire::Message;
 use std::alloc::{Allocator, Global};
@@ -36,14 +36,6 @@ impl<A: Allocator + Copy> Model for ReplicaStory<A> {
     ghost Value = { Tale A };
 
     ghost view = { λ _. tale_opening 1 };
-}
-
-/// A value made of another, and of what is lent, by a step that the caller names.
-fn told<T, F>(past: &Past<T>, from: &F) -> Past<T>
-    ghost step: { T → F → T }
-    ensures { result.value ≡ step past.now.value from.now }
-{
-    past_of(&(past, from))
 }
 
 /// The life of a processor at the opening.

@@ -3,7 +3,7 @@
 ghost use Rattle.std.specs.Prelude.{◌≡◌, false, []};
 ghost use Rattle.ring_runs.specs.Running.{more, none_ran, none_ran_formed};
 
-use ring_base::{Fixed, Past, past_of};
+use ring_base::{Fixed, Past, past_of, told};
 use ring_core_proof::RingEvent;
 use std::alloc::{Allocator, Global};
 use std::marker::{Model, PhantomData};
@@ -20,14 +20,6 @@ impl<A: Allocator + Copy> Model for WorldStory<A> {
     ghost Value = { Ran A };
 
     ghost view = { λ _. record { count = 1; formed = false; events = [] } };
-}
-
-/// A value made of another, and of what is lent, by a step that the caller names.
-fn told<T, F>(past: &Past<T>, from: &F) -> Past<T>
-    ghost step: { T → F → T }
-    ensures { result.value ≡ step past.now.value from.now }
-{
-    past_of(&(past, from))
 }
 
 /// All in Gather, each alone.

@@ -6,11 +6,10 @@ use Rattle.std.proofs.lemmas.Grind.{common_steps}
 use Rattle.std.proofs.lemmas.Result.{IfOk-at_ok}
 use Rattle.ring_base.specs.Group.{Group}
 use Rattle.ring_script.specs.declared.scripts.Numbered.{Numbered}
-use Rattle.ring_script.specs.declared.scripts.Rings.{Rings}
 use Rattle.ring_script.specs.Lines.{Asked, IsAmong, call_at, deliver_at, timeout_at, noise_at, stop_at, cut_line_at, pump_at, form_at, asked_of}
 use Rattle.ring_script.specs.Numbers.{word_at, node_at}
 use Rattle.ring_script.specs.Reading.{◌>>=◌}
-use Rattle.ring_script.specs.Scripts.{unless_skipped, useful_of, then_asked, asked_in, numbered_by, AreAmong}
+use Rattle.ring_script.specs.Scripts.{unless_skipped, then_asked, asked_in, numbered_by, AreAmong}
 use Rattle.ring_script.specs.Words.{words_of, whole}
 
 -- ---- the forms of lines
@@ -67,30 +66,26 @@ asked_among : (nodes : Group) (line : List ℕ) → IfSome (asked_of nodes line)
 unfolding asked_of
 asked_among nodes line = words_among nodes (words_of line)
 
-useful_among : (rings : Rings) (nodes : Group) (line : List ℕ) → IfSome (useful_of rings nodes line) (IsAmong nodes.count)
-unfolding useful_of
-useful_among rings nodes line = grind (arith, asked_among nodes line)
-
 -- ---- all lines
 
 -- what is asked for, with its number: each is asked at one of so many nodes, or at none
 abbrev AllAmong : ℕ → List (ℕ × Asked) → Type 0
 AllAmong count asked = AllByRecursion (λ (a : ℕ × Asked). IsAmong count a.1) asked
 
-told_among : (rings : Rings) (nodes : Group) (line : List ℕ) → IfSome (unless_skipped (useful_of rings nodes) line) (λ told. IfSome told (IsAmong nodes.count))
-told_among rings nodes line = grind (arith, useful_among rings nodes line)
+told_among : (nodes : Group) (line : List ℕ) → IfSome (unless_skipped (asked_of nodes) line) (λ told. IfSome told (IsAmong nodes.count))
+told_among nodes line = grind (arith, asked_among nodes line)
 
 then_among : (count number : ℕ) (told : Option (Option Asked)) (others : Result (List (ℕ × Asked)) ℕ)
     → IfSome told (λ asked. IfSome asked (IsAmong count)) → IfOk others (AllAmong count)
     → IfOk (then_asked number told others) (AllAmong count)
 then_among count number told others first later = grind arith
 
-all_among : (rings : Rings) (nodes : Group) (before : ℕ) (lines : List (List ℕ)) → IfOk (asked_in rings nodes before lines) (AllAmong nodes.count)
+all_among : (nodes : Group) (before : ℕ) (lines : List (List ℕ)) → IfOk (asked_in nodes before lines) (AllAmong nodes.count)
 unfolding asked_in
-all_among rings nodes before [] = tt
-all_among rings nodes before (line ∷ lines) =
-    then_among nodes.count (before + 1) (unless_skipped (useful_of rings nodes) line)
-    (asked_in rings nodes (before + 1) lines) (told_among rings nodes line) (all_among rings nodes (before + 1) lines)
+all_among nodes before [] = tt
+all_among nodes before (line ∷ lines) =
+    then_among nodes.count (before + 1) (unless_skipped (asked_of nodes) line)
+    (asked_in nodes (before + 1) lines) (told_among nodes line) (all_among nodes (before + 1) lines)
 
 -- the same of the program's lines
 AreAmong-numbered : {A : Type 0} (count : ℕ) (lines : List (Numbered A)) → AllAmong count (map numbered_by lines) → AreAmong count lines
@@ -98,8 +93,8 @@ AreAmong-numbered count [] among = tt
 AreAmong-numbered count (line ∷ lines) among = (among.0, AreAmong-numbered count lines among.1)
 
 -- the lines that were read of a text
-pub lines_among : {A : Type 0} (rings : Rings) (nodes : Group) (before : ℕ) (text : List (List ℕ))
-    (lines : List (Numbered A)) → asked_in rings nodes before text ≡ Ok (map numbered_by lines)
+pub lines_among : {A : Type 0} (nodes : Group) (before : ℕ) (text : List (List ℕ))
+    (lines : List (Numbered A)) → asked_in nodes before text ≡ Ok (map numbered_by lines)
     → AreAmong nodes.count lines
-lines_among rings nodes before text lines read =
-    AreAmong-numbered nodes.count lines (IfOk-at_ok (AllAmong nodes.count) read (all_among rings nodes before text))
+lines_among nodes before text lines read =
+    AreAmong-numbered nodes.count lines (IfOk-at_ok (AllAmong nodes.count) read (all_among nodes before text))

@@ -8,7 +8,6 @@ use Rattle.ring_base.specs.Group.{Group}
 use Rattle.ring_script.specs.declared.line.Line.{Line}
 use Rattle.ring_script.specs.declared.line.Line.TheVariants as lines
 use Rattle.ring_script.specs.declared.scripts.Numbered.{Numbered}
-use Rattle.ring_script.specs.declared.scripts.Rings.{Rings}
 use Rattle.ring_script.specs.Fits.{IsFit, AreFit}
 use Rattle.ring_script.specs.Lines.{Asked, Call, Deliver, Timeout, Noise, Stop, Cut, Heal, Pump, Show, asked_by}
 use Rattle.ring_script.specs.Lines.{call_at, deliver_at, timeout_at, noise_at, stop_at, cut_line_at, pump_at, form_at}
@@ -16,7 +15,7 @@ use Rattle.ring_script.specs.Lines.{asked_of}
 use Rattle.ring_script.specs.Numbers.{word_at, number_at, node_at}
 use Rattle.ring_script.specs.Operations.{operation_at}
 use Rattle.ring_script.specs.Reading.{◌>>=◌}
-use Rattle.ring_script.specs.Scripts.{unless_skipped, useful_of, then_asked, asked_in, numbered_by}
+use Rattle.ring_script.specs.Scripts.{unless_skipped, then_asked, asked_in, numbered_by}
 use Rattle.ring_script.specs.Words.{words_of, whole}
 use Rattle.ring_script.proofs.Lengths.{operation_short}
 
@@ -125,29 +124,25 @@ asked_fits : (nodes : Group) (line : List ℕ) → IfSome (asked_of nodes line) 
 unfolding asked_of
 asked_fits nodes line = words_fit nodes (words_of line)
 
-useful_fits : (rings : Rings) (nodes : Group) (line : List ℕ) → IfSome (useful_of rings nodes line) FitsAsked
-unfolding useful_of
-useful_fits rings nodes line = grind (arith, asked_fits nodes line)
-
 -- ---- all lines
 
 -- what is asked for, with its number, keeps the limits
 abbrev AllFit : List (ℕ × Asked) → Type 0
 AllFit asked = AllByRecursion (λ (a : ℕ × Asked). FitsAsked a.1) asked
 
-told_fits : (rings : Rings) (nodes : Group) (line : List ℕ) → IfSome (unless_skipped (useful_of rings nodes) line) (λ told. IfSome told FitsAsked)
-told_fits rings nodes line = grind (arith, useful_fits rings nodes line)
+told_fits : (nodes : Group) (line : List ℕ) → IfSome (unless_skipped (asked_of nodes) line) (λ told. IfSome told FitsAsked)
+told_fits nodes line = grind (arith, asked_fits nodes line)
 
 then_fits : (number : ℕ) (told : Option (Option Asked)) (others : Result (List (ℕ × Asked)) ℕ)
     → IfSome told (λ asked. IfSome asked FitsAsked) → IfOk others AllFit → IfOk (then_asked number told others) AllFit
 then_fits number told others first later = grind arith
 
-all_fit : (rings : Rings) (nodes : Group) (before : ℕ) (lines : List (List ℕ)) → IfOk (asked_in rings nodes before lines) AllFit
+all_fit : (nodes : Group) (before : ℕ) (lines : List (List ℕ)) → IfOk (asked_in nodes before lines) AllFit
 unfolding asked_in
-all_fit rings nodes before [] = tt
-all_fit rings nodes before (line ∷ lines) =
-    then_fits (before + 1) (unless_skipped (useful_of rings nodes) line) (asked_in rings nodes (before + 1) lines)
-    (told_fits rings nodes line) (all_fit rings nodes (before + 1) lines)
+all_fit nodes before [] = tt
+all_fit nodes before (line ∷ lines) =
+    then_fits (before + 1) (unless_skipped (asked_of nodes) line) (asked_in nodes (before + 1) lines)
+    (told_fits nodes line) (all_fit nodes (before + 1) lines)
 
 -- the same of the program's lines
 IsFit-asked : {A : Type 0} (line : Line A) → FitsAsked (asked_by line) → IsFit line
@@ -166,6 +161,6 @@ AreFit-numbered [] fit = tt
 AreFit-numbered (line ∷ lines) fit = (IsFit-asked line.line fit.0, AreFit-numbered lines fit.1)
 
 -- the lines that were read of a text
-pub lines_fit : {A : Type 0} (rings : Rings) (nodes : Group) (before : ℕ) (text : List (List ℕ))
-    (lines : List (Numbered A)) → asked_in rings nodes before text ≡ Ok (map numbered_by lines) → AreFit lines
-lines_fit rings nodes before text lines read = AreFit-numbered lines (IfOk-at_ok AllFit read (all_fit rings nodes before text))
+pub lines_fit : {A : Type 0} (nodes : Group) (before : ℕ) (text : List (List ℕ))
+    (lines : List (Numbered A)) → asked_in nodes before text ≡ Ok (map numbered_by lines) → AreFit lines
+lines_fit nodes before text lines read = AreFit-numbered lines (IfOk-at_ok AllFit read (all_fit nodes before text))

@@ -2,7 +2,6 @@
 use Rattle.std.proofs.Common.{◌≡◌, ℕ, ◌<◌, List, [], ◌++◌, length, take, Option, Some, None, Err, inl, refl, ap, ◌∙◌, arith}
 use Rattle.std.specs.Prelude.{IfSome, option_map, unwrap_or}
 use Rattle.std.proofs.lemmas.List.{length-take, take_all}
-use Rattle.ring_script.specs.declared.scripts.Rings.{Rings}
 use Rattle.ring_script.specs.declared.scripts.ScriptFault.{ScriptFault}
 use Rattle.ring_script.specs.declared.scripts.ScriptFault.TheVariants.{Memory, AtLine}
 use Rattle.ring_script.specs.Scripts.{IsAllOf, AnswersInput, IsUnread}
@@ -21,6 +20,6 @@ whole_is None = tt
 whole_is (Some xs) = refl
 
 -- an input that was not read is answered so whatever its bytes are
-pub unread : (A : Type 0) (rings : Rings) (fault : ScriptFault) (bytes : List ℕ) → IsUnread fault → AnswersInput {A = A} rings (Err fault) bytes
-unread A rings Memory bytes refused = tt
-unread A rings (AtLine line) bytes refused = inl refused
+pub unread : (A : Type 0) (fault : ScriptFault) (bytes : List ℕ) → IsUnread fault → AnswersInput {A = A} (Err fault) bytes
+unread A Memory bytes refused = tt
+unread A (AtLine line) bytes refused = inl refused

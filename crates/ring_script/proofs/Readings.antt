@@ -1,14 +1,16 @@
 -- The lines of a text, read one after the other.
-use Rattle.std.proofs.Common.{◌≡◌, ℕ, ◌+◌, ◌≤◌, List, [], ◌∷◌, ◌++◌, Option, Some, None, Result, Ok, Err, ap, arith, inl, inr}
+use Rattle.std.proofs.Common.{◌≡◌, ℕ, ◌+◌, ◌≤◌, List, [], ◌∷◌, ◌++◌, Option, Some, None, Result, Ok, Err, map, refl, sym, ap, ◌∙◌, append_assoc, arith, inl}
+use Rattle.std.proofs.Common.{inr}
 use Rattle.std.specs.Prelude.{◌&&◌}
 use Rattle.std.proofs.lemmas.Bool.{cases_Bool}
+use Rattle.std.proofs.lemmas.List.{map-append}
 use Rattle.ring_base.specs.Group.{Group}
-use Rattle.ring_script.specs.declared.scripts.Rings.{Rings}
+use Rattle.ring_script.specs.declared.scripts.Numbered.{Numbered}
 use Rattle.ring_script.specs.declared.scripts.ScriptFault.{ScriptFault}
 use Rattle.ring_script.specs.declared.scripts.ScriptFault.TheVariants.{Memory, AtLine}
 use Rattle.ring_script.specs.Faults.{IsOfText}
-use Rattle.ring_script.specs.Lines.{Asked}
-use Rattle.ring_script.specs.Scripts.{unless_skipped, nodes_of, useful_of, then_asked, asked_in, then_nodes, nodes_in, Faults}
+use Rattle.ring_script.specs.Lines.{Asked, asked_by, asked_of}
+use Rattle.ring_script.specs.Scripts.{unless_skipped, nodes_of, then_asked, asked_in, then_nodes, nodes_in, numbered_by, Faults}
 use Rattle.ring_script.specs.Votes.{votes_of, is_votes, then_votes, votes_in}
 use Rattle.ring_script.specs.Words.{LinesLeft, are_ascii, is_skipped}
 
@@ -16,6 +18,29 @@ use Rattle.ring_script.specs.Words.{LinesLeft, are_ascii, is_skipped}
 abbrev pub behind : {X : Type 0} → List X → Result (List X) ℕ → Result (List X) ℕ
 behind front (Ok others) = Ok (front ++ others)
 behind front (Err line) = Err line
+
+-- what was read before and a line's, and what is read after it
+then-behind : (front : List (ℕ × Asked)) (number : ℕ) (asked : Asked) (others : Result (List (ℕ × Asked)) ℕ)
+    → behind (front ++ (number, asked) ∷ []) others ≡ behind front (then_asked number (Some (Some asked)) others)
+then-behind front number asked (Ok rest) = ap Ok (append_assoc front ((number, asked) ∷ []) rest)
+then-behind front number asked (Err line) = refl
+
+-- one line more was read
+pub next_asked : {A : Type 0} (nodes : Group) (items : List (Numbered A)) (numbered : Numbered A) (line : List ℕ)
+    (old left : LinesLeft) (whole : Result (List (ℕ × Asked)) ℕ)
+    → behind (map numbered_by items) (asked_in nodes old.before old.lines) ≡ whole
+    → old.lines ≡ line ∷ left.lines → numbered.number ≡ old.before + 1 → left.before ≡ old.before + 1
+    → unless_skipped (asked_of nodes) line ≡ Some (Some (asked_by numbered.line))
+    → behind (map numbered_by (items ++ numbered ∷ [])) (asked_in nodes left.before left.lines) ≡ whole
+unfolding asked_in
+next_asked nodes items numbered line old left whole before lines_are number_is after told =
+    let front = map numbered_by items in
+    let others = asked_in nodes (old.before + 1) left.lines in
+    let asked = asked_by numbered.line in
+    let now : map numbered_by (items ++ numbered ∷ []) ≡ front ++ (numbered.number, asked) ∷ [] = map-append numbered_by items (numbered ∷ []) in
+    let step : behind front (asked_in nodes old.before old.lines) ≡ behind front (then_asked (old.before + 1) (Some (Some asked)) others) =
+    rw (lines_are, told) refl in
+    rw (now, number_is, after) (then-behind front (old.before + 1) asked others) ∙ sym step ∙ before
 
 -- ---- the line at fault is one that the text has or could have
 
@@ -26,12 +51,12 @@ told_low number line (Some None) others low later e = later e
 told_low number line (Some (Some asked)) (Ok rest) low later e = absurd cc
 told_low number line (Some (Some asked)) (Err other) low later e = later (let same : other ≡ line = cc in ap Err same)
 
-pub asked_low : (rings : Rings) (nodes : Group) (before : ℕ) (lines : List (List ℕ)) (line : ℕ) → asked_in rings nodes before lines ≡ Err line → 1 ≤ line
+pub asked_low : (nodes : Group) (before : ℕ) (lines : List (List ℕ)) (line : ℕ) → asked_in nodes before lines ≡ Err line → 1 ≤ line
 unfolding asked_in
-asked_low rings nodes before [] line e = absurd cc
-asked_low rings nodes before (first ∷ lines) line e =
-    told_low (before + 1) line (unless_skipped (useful_of rings nodes) first)
-    (asked_in rings nodes (before + 1) lines) (omega arith) (asked_low rings nodes (before + 1) lines line) e
+asked_low nodes before [] line e = absurd cc
+asked_low nodes before (first ∷ lines) line e =
+    told_low (before + 1) line (unless_skipped (asked_of nodes) first)
+    (asked_in nodes (before + 1) lines) (omega arith) (asked_low nodes (before + 1) lines line) e
 
 first_low : (number line : ℕ) (read : Option (Option Group)) (lines : List (List ℕ))
     (others : Result (Group × LinesLeft) ℕ) → 1 ≤ number → (others ≡ Err line → 1 ≤ line)
@@ -40,12 +65,12 @@ first_low number line None lines others low later e = let same : number ≡ line
 first_low number line (Some None) lines others low later e = later e
 first_low number line (Some (Some nodes)) lines others low later e = absurd cc
 
-pub nodes_low : (rings : Rings) (before : ℕ) (lines : List (List ℕ)) (line : ℕ) → nodes_in rings before lines ≡ Err line → 1 ≤ line
+pub nodes_low : (before : ℕ) (lines : List (List ℕ)) (line : ℕ) → nodes_in before lines ≡ Err line → 1 ≤ line
 unfolding nodes_in
-nodes_low rings before [] line e = let same : before + 1 ≡ line = cc in omega arith
-nodes_low rings before (first ∷ lines) line e =
-    first_low (before + 1) line (unless_skipped (nodes_of rings) first) lines (nodes_in rings (before + 1) lines)
-    (omega arith) (nodes_low rings (before + 1) lines line) e
+nodes_low before [] line e = let same : before + 1 ≡ line = cc in omega arith
+nodes_low before (first ∷ lines) line e =
+    first_low (before + 1) line (unless_skipped (nodes_of) first) lines (nodes_in (before + 1) lines)
+    (omega arith) (nodes_low (before + 1) lines line) e
 
 voted_low : (number line : ℕ) (voted : Option Group) (lines : List (List ℕ)) → 1 ≤ number → then_votes number voted lines ≡ Err line → 1 ≤ line
 voted_low number line None lines low e = let same : number ≡ line = cc in omega arith

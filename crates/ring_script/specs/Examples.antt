@@ -2,7 +2,6 @@
 use Rattle.std.specs.Prelude.{◌≡◌, ℕ, List, [], ◌∷◌, ◌++◌, map, codes, Some, None, Ok, Err}
 use Rattle.std.specs.List.{join_with_byte}
 use Rattle.ring_base.specs.declared.kind.Kind.TheVariants.{Loss}
-use Rattle.ring_script.specs.declared.scripts.Rings.TheVariants.{OfMany}
 use Rattle.ring_script.specs.Lines.{Call, Deliver, Timeout, Noise, Stop, Cut, Heal, Pump, Show}
 use Rattle.ring_script.specs.Operations.{operation_at}
 use Rattle.ring_script.specs.Scripts.{Schedule, script_of}
@@ -67,7 +66,7 @@ faulty =
     []
 
 abbrev pub FaultsTold : Type 0
-FaultsTold = map (λ row. script_of OfMany (text row.1)) faulty ≡ map (λ row. Err row.0) faulty
+FaultsTold = map (λ row. script_of (text row.1)) faulty ≡ map (λ row. Err row.0) faulty
 
 -- the lines of a text, and what they ask for
 abbrev pub good : List (List (List ℕ) × Schedule)
@@ -106,7 +105,7 @@ good = (
     []
 
 abbrev pub SchedulesTold : Type 0
-SchedulesTold = map (λ row. script_of OfMany (text row.0)) good ≡ map (λ row. Ok row.1) good
+SchedulesTold = map (λ row. script_of (text row.0)) good ≡ map (λ row. Ok row.1) good
 
 -- the words of an operation, and its bytes
 abbrev pub operations : List (List ℕ × List ℕ)

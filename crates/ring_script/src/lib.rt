@@ -16,4 +16,4 @@ pub use examples::script_example;
 pub use groups::Groups;
 pub use laws::cut_law;
 pub use line::Line;
-pub use scripts::{Numbered, Rings, Script, ScriptFault};
+pub use scripts::{Numbered, Script, ScriptFault};

@@ -10,15 +10,12 @@ ghost use Rattle.ring_script.specs.Reading.{Gives, Tells};
 use crate::groups::Groups;
 use crate::operation::operation_of;
 use crate::words::{Words, decimal, is};
-use ring_base::{Fault, Fixed, Kind, Proc};
+use ring_base::{FRAME_BYTES, Fault, Fixed, Kind, Proc};
 use ring_payload::Call;
 use std::alloc::{Allocator, Global};
 
 /// The greatest number of turns of one `pump`.
 const MOST_TURNS: u64 = 100_000;
-
-/// The greatest number of bytes of noise.
-const MOST_NOISE: usize = 8192;
 
 /// What a line asks for.
 #[derive(Drop)]
@@ -202,7 +199,7 @@ fn kind_of(word: &[u8]) -> Result<Kind, Fault>
 fn bytes_of<A: Allocator + Copy>(alloc: A, word: &[u8]) -> Result<Vec<u8, A>, Fault>
     ensures { Gives (λ bytes. bytes.items) result (bytes_of word.now) }
 {
-    if word.is_empty() || word.len() > 2 * MOST_NOISE || has_upper_case(word) {
+    if word.is_empty() || word.len() > 2 * FRAME_BYTES || has_upper_case(word) {
         return Err(Fault::BadScript);
     }
     match hex::decode(alloc, word) {

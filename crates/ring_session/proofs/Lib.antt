@@ -8,6 +8,9 @@
 -- AnswersGrow: All answers of a node: they grow at the end, a new ticket changes none, and the last of them are kept.
 -- TicketEffects: How many calls take effect: as many as the session table tells so, and no more than there are.
 -- Pendings: What is kept of tickets is what all tickets and all committed calls make it, and the answers of a step are those of the definition.
+-- Clients: Clients that are read and put in one after the other, as a loop does.
+-- Parts: A snapshot taken apart and put together, as the code does it.
+-- SnapshotTables: The table after calls that keep the limits has a snapshot from which it is restored.
 pub mod Entries
 pub mod OneEffectLaws
 pub mod TableWrites
@@ -17,3 +20,6 @@ pub mod TicketPlaces
 pub mod AnswersGrow
 pub mod TicketEffects
 pub mod Pendings
+pub mod Clients
+pub mod Parts
+pub mod SnapshotTables

@@ -10,3 +10,5 @@ pub mod Tickets
 pub mod TicketEffects
 pub mod Recent
 pub mod Pendings
+pub mod Snapshots
+pub mod SnapshotsLaws

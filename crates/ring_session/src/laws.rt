@@ -1,12 +1,14 @@
 //! What the sessions promise over every list of calls.
 
-ghost use Rattle.std.specs.Prelude.{◌≡◌, ℕ, ◌∷◌, [], ◌++◌, List, length, Some};
+ghost use Rattle.std.specs.Prelude.{◌≡◌, ℕ, ◌^◌, ◌<◌, ◌∷◌, [], ◌++◌, List, length, Some, All};
 ghost use Rattle.ring_base.specs.Fronts.{IsFront};
 ghost use Rattle.ring_object.specs.Operations.{content_after};
+ghost use Rattle.ring_object.specs.Snapshots.{Restores};
 ghost use Rattle.ring_payload.specs.declared.call.Call.{Call};
 ghost use Rattle.ring_session.specs.Deduplicated.{takes_effect, deduplicated, StandsAt, IsNumbered, operations};
 ghost use Rattle.ring_session.specs.OneEffect.{EachIsDone, IsDoneOnce, RepliesAreTheObjects, RepliesAreOne, AnswersStay};
 ghost use Rattle.ring_session.specs.SessionAnswer.{is_done, session_answer};
+ghost use Rattle.ring_session.specs.Snapshots.{HasSnapshot, KeepsLimits, table_snapshot, restored_table};
 ghost use Rattle.ring_session.specs.Table.{table_answer, table_after};
 
 use ring_object::Object;
@@ -41,4 +43,16 @@ pub fn table_law<O: Object>()
         → is_done (table_answer O.sequential (table_after O.sequential calls) c) ≡ takes_effect (deduplicated calls) c }
     ensures content { (calls : List (Call O.Alloc)) → (table_after O.sequential calls).content
         ≡ content_after O.sequential O.sequential.initial (operations (deduplicated calls)) }
+{}
+
+/// Law, for every object: exactly the snapshots of tables that keep the limits are restored, each to the table that it is of.
+/// After every list of calls that keep theirs the table does, so its snapshot is restored to it.
+pub fn snapshot_law<O: Object>()
+    ensures restores { Restores (HasSnapshot O.is_content) (table_snapshot O.snapshot_of) (restored_table O.restored) }
+    ensures reached { (calls : List (Call O.Alloc)) → All KeepsLimits calls
+        → HasSnapshot O.is_content (table_after O.sequential calls) }
+    ensures comes_back { (calls : List (Call O.Alloc)) → All KeepsLimits calls →
+        let table = table_after O.sequential calls in
+        length (table_snapshot O.snapshot_of table) < 2 ^ 64
+        → restored_table O.restored (table_snapshot O.snapshot_of table) ≡ Some table }
 {}

@@ -1,7 +1,8 @@
 //! Sessions: each numbered call of a client takes effect once and has one reply, however often it comes.
 //!
 //! A client numbers its calls 1, 2 and so on, and sends each until it has an answer. [`Sessions`] keeps an object
-//! and, for each known client, its last call that took effect and the reply to it. [`Effects`] tells which calls of a list
+//! and, for each known client, its last call that took effect and the reply to it; it is written as bytes, and restored
+//! from them. [`Effects`] tells which calls of a list
 //! take effect, whatever the object that they are for. [`Tickets`] keeps what a node gave for the calls submitted at it, and
 //! answers each once its call is committed.
 #![tactic(auto)]
@@ -15,6 +16,7 @@ mod pending;
 mod recent;
 mod session;
 mod sessions;
+mod snapshots;
 mod ticket;
 mod ticket_laws;
 mod tickets;
@@ -22,7 +24,7 @@ mod tickets;
 pub use answer::Answer;
 pub use answered::Answered;
 pub use effects::{Effects, effects_of};
-pub use laws::{deduplicated_law, session_law, table_law};
+pub use laws::{deduplicated_law, session_law, snapshot_law, table_law};
 pub use pending::Pending;
 pub use recent::Recent;
 pub use sessions::Sessions;

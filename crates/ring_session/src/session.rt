@@ -1,10 +1,12 @@
 //! What is kept of a client.
 
-ghost use Rattle.std.specs.Prelude.{◌≡◌, ◌+◌, ◌==◌, [], IfOk, IfErr, OnOk, OnErr, Some};
+ghost use Rattle.std.specs.Prelude.{◌≡◌, ◌+◌, ◌≤◌, ◌==◌, [], ◌++◌, length, take, vec_len, IfOk, IfErr, OnOk, OnErr, Some};
 ghost use Rattle.ring_base.specs.declared.fault.Fault.TheVariants.{Memory};
+ghost use Rattle.ring_session.specs.Snapshots.{last_spelling};
 ghost use Rattle.ring_session.specs.Table.{last_call, no_call, other_answer};
 
 use crate::answer::Answer;
+use crate::snapshots::append_number;
 use ring_base::Fault;
 use ring_object::{Object, Reply};
 use ring_payload::Call;
@@ -37,6 +39,34 @@ impl<A: Allocator + Copy> Session<A> {
             operation: Vec::new(alloc),
             reply: Reply::from_slice(&[]),
         }
+    }
+
+    /// The session of a client whose last call had this number, operation and reply; or `Memory`.
+    pub fn of(alloc: A, number: u64, operation: &[u8], reply: &[u8]) -> Result<Session<A>, Fault>
+        requires { length reply.now ≤ 64 }
+        ensures ok { IfOk result (λ session. session
+            ≡ record { number = number; operation = operation.now; reply = reply.now }) }
+        ensures refused { IfErr result (λ fault. fault ≡ Memory) }
+    {
+        Ok(Session {
+            number,
+            operation: Vec::from_slice(alloc, operation)?,
+            reply: Reply::from_slice(reply),
+        })
+    }
+
+    /// Appends the last call as a snapshot has it; or a front of that, for want of memory.
+    pub fn append(&self, out: &mut Vec<u8, A>) -> Result<(), Fault>
+        ensures ok { OnOk result (out.new.items ≡ out.old.items ++ last_spelling self.now) }
+        ensures front { take (vec_len out.old) out.new.items ≡ out.old.items }
+        ensures refused { IfErr result (λ fault. fault ≡ Memory) }
+    {
+        append_number(out, self.number, 8)?;
+        append_number(out, self.operation.len() as u64, 2)?;
+        out.extend_from_slice(self.operation.as_slice())?;
+        out.push(self.reply.len() as u8)?;
+        out.extend_from_slice(self.reply.as_slice())?;
+        Ok(())
     }
 
     /// Whether a call of this number is the client's next.

@@ -1,15 +1,18 @@
 //! The session table.
 
-ghost use Rattle.std.specs.Prelude.{◌≡◌, ◌<◌, ◌≤◌, ◌∷◌, [], ◌++◌, List, length, IfOk, IfErr, OnOk, OnErr, Some, None, IsSome};
+ghost use Rattle.std.specs.Prelude.{◌≡◌, ◌<◌, ◌≤◌, ◌∷◌, [], ◌++◌, List, length, take, vec_len, IfOk, IfErr, OnOk, OnErr, Some, None, IsSome};
 ghost use Rattle.ring_base.specs.declared.fault.Fault.TheVariants.{Memory, SessionsFull};
 ghost use Rattle.ring_payload.specs.declared.call.Call.{Call};
+ghost use Rattle.ring_object.specs.Snapshots.{Refuses};
 ghost use Rattle.ring_session.specs.Deduplicated.{most_clients};
 ghost use Rattle.ring_session.specs.SessionAnswer.{refusal, reply_in, session_answer};
+ghost use Rattle.ring_session.specs.Snapshots.{table_snapshot, restored_table};
 ghost use Rattle.ring_session.specs.Table.{opening, session_of, table_answer, table_next, table_after};
 
 use crate::MAX_CLIENTS;
 use crate::answer::Answer;
 use crate::session::Session;
+use crate::snapshots::{append_clients, append_object, parts_of, read_clients};
 use ring_base::Fault;
 use ring_object::Object;
 use ring_payload::Call;
@@ -80,6 +83,52 @@ impl<O: Object> Sessions<O> {
                 _ => Ok(Answer::refusal(Fault::NumberGap)),
             },
         }
+    }
+
+    /// Appends the snapshot to `out`: how many clients there are, each client with its last call, ascending, and the object's
+    /// snapshot behind its length. `Memory` leaves `out` as it was. From it the table is restored where each operation that is
+    /// kept has at most 1,024 bytes, as a call's has (`snapshot_law`).
+    pub fn snapshot(&self, out: &mut Vec<u8, O::Alloc>) -> Result<(), Fault>
+        ensures content { OnOk result (O.is_content self.now.content) }
+        ensures ok { OnOk result (out.new.items ≡ out.old.items ++ table_snapshot O.snapshot_of self.now) }
+        ensures err { OnErr result (out.new.items ≡ out.old.items) }
+        ensures refused { IfErr result (λ fault. fault ≡ Memory) }
+    {
+        let start = out.len();
+        if let Err(fault) = self.append(out) {
+            out.truncate(start);
+            return Err(fault);
+        }
+        Ok(())
+    }
+
+    /// Appends the snapshot; or a front of it, for want of memory.
+    #[tactic(auto, unfolding(crate::specs::Snapshots::sized))]
+    fn append(&self, out: &mut Vec<u8, O::Alloc>) -> Result<(), Fault>
+        ensures content { OnOk result (O.is_content self.now.content) }
+        ensures ok { OnOk result (out.new.items ≡ out.old.items ++ table_snapshot O.snapshot_of self.now) }
+        ensures front { take (vec_len out.old) out.new.items ≡ out.old.items }
+        ensures refused { IfErr result (λ fault. fault ≡ Memory) }
+    {
+        append_clients(out, &self.sessions)?;
+        append_object(out, &self.object)
+    }
+
+    /// The table whose snapshot the bytes are. `BadSnapshot` exactly where they are none, else the table or `Memory`.
+    pub fn restore(alloc: O::Alloc, bytes: &[u8]) -> Result<Sessions<O>, Fault>
+        ensures ok { IfOk result (λ sessions. restored_table O.restored bytes.now ≡ Some sessions) }
+        ensures refused { IfErr result (Refuses (restored_table O.restored bytes.now)) }
+    {
+        let Some((count, clients, object)) = parts_of(bytes) else {
+            return Err(Fault::BadSnapshot);
+        };
+        let object = O::restore(alloc, object)?;
+        let sessions = read_clients(alloc, count, clients)?;
+        Ok(Sessions {
+            alloc,
+            sessions,
+            object,
+        })
     }
 
     /// The answer to a client's first call. Its session is put in before the object does the call, so that nothing is

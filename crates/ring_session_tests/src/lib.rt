@@ -9,6 +9,8 @@ mod memory;
 #[cfg(test)]
 mod sessions;
 #[cfg(test)]
+mod snapshots;
+#[cfg(test)]
 mod things;
 #[cfg(test)]
 mod tickets;

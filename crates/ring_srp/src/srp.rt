@@ -12,12 +12,11 @@ ghost use Rattle.ring_srp_acts.specs.Allowing.{InputFits};
 ghost use Rattle.ring_token.specs.Turns.{first_token};
 
 use crate::stepping::{hear, send, step};
-use ring_base::{Fault, Fixed, Past, Proc, RingId, State};
+use ring_base::{Fault, Fixed, Past, Proc, RingId, State, seen};
 use ring_commit::Configuration;
 use ring_core::{Input, Out};
 use ring_payload::Payload;
 use ring_srp_acts::{Machine, all_of, first_token};
-use ring_srp_state::seen;
 use ring_wire::Frame;
 use std::alloc::{Allocator, Global};
 use std::marker::Model;

@@ -8,8 +8,8 @@ ghost use Rattle.ring_core.specs.Views.{takes_number};
 ghost use Rattle.ring_srp_acts.specs.Machines.{ring_in_use};
 
 use crate::machine::Machine;
-use ring_base::{Fault, State};
-use ring_srp_state::{one_first, told_both, unwrap_into};
+use ring_base::{Fault, State, told_both};
+use ring_srp_state::{one_first, unwrap_into};
 use ring_wire::Message;
 use std::alloc::Allocator;
 

@@ -10,11 +10,11 @@ ghost use Rattle.ring_srp_acts.specs.Allowing.{LearnAllowed};
 ghost use Rattle.ring_srp_acts.specs.Learns.{plan_at, recovering_by};
 
 use crate::machine::Machine;
-use ring_base::{Fault, Past, ProcSet, State};
+use ring_base::{Fault, Past, ProcSet, State, seen};
 use ring_commit::receiver;
 use ring_core::{Out, Sent};
 use ring_recover::{Ends, Plan};
-use ring_srp_state::{Part, Recovering, seen, send_copy, with_plan};
+use ring_srp_state::{Part, Recovering, send_copy, with_plan};
 use ring_token::Visit;
 use ring_window::Window;
 use ring_wire::{CommitBox, CommitToken, Frame};

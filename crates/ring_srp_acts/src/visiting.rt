@@ -50,8 +50,8 @@ impl<A: Allocator + Copy> Machine<A> {
         ensures { result ≤ 8 }
     {
         match self.state {
-            State::Operational => self.queue.len().min(8),
-            _ => 8,
+            State::Operational => self.queue.len().min(MAX_NEW as usize),
+            _ => MAX_NEW as usize,
         }
     }
 

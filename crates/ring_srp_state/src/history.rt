@@ -5,7 +5,7 @@ ghost use Rattle.ring_core.specs.State.{formed, opening};
 ghost use Rattle.ring_srp_state.specs.Histories.{with_ring, with_visit, with_plan, with_install};
 ghost use Rattle.ring_srp_state.specs.Histories.{history_of};
 
-use ring_base::{Fixed, Past, Proc, RingId, past_of};
+use ring_base::{Fixed, Past, Proc, RingId, past_of, told};
 use ring_commit::Configuration;
 use ring_token::Visit;
 use ring_wire::{CommitEntry, CommitToken};
@@ -24,29 +24,6 @@ impl<A: Allocator + Copy> Model for CoreStory<A> {
     ghost Value = { History A };
 
     ghost view = { λ _. history_of (opening 1 1) };
-}
-
-/// A value made of another, and of what is lent, by a step that the caller names.
-fn told<T, F>(past: &Past<T>, from: &F) -> Past<T>
-    ghost step: { T → F → T }
-    ensures { result.value ≡ step past.now.value from.now }
-{
-    past_of(&(past, from))
-}
-
-/// A value made of another, and of two that are lent, by a step that the caller names.
-pub fn told_both<T, F, G>(past: &Past<T>, first: &F, second: &G) -> Past<T>
-    ghost step: { T → F → G → T }
-    ensures { result.value ≡ step past.now.value first.now second.now }
-{
-    past_of(&(past, first, second))
-}
-
-/// A value as it is now, as contracts see it.
-pub fn seen<T>(value: &T) -> Past<T>
-    ensures { result.value ≡ value.now }
-{
-    past_of(&value)
 }
 
 /// The lists of facts that a processor opens with.

@@ -13,8 +13,8 @@ mod wrapping;
 
 pub use giving::{give_agreed, give_aside, give_rest, give_safe};
 pub use history::{
-    CoreStory, formed_of, none, one_first, one_last, opened, seen, told_both, with_install,
-    with_plan, with_ring, with_visit,
+    CoreStory, formed_of, none, one_first, one_last, opened, with_install, with_plan, with_ring,
+    with_visit,
 };
 pub use packing::take_packed;
 pub use part::Part;

@@ -5,7 +5,6 @@ ghost use Rattle.std.specs.Io.KnownBytes.{Appends, Keeps};
 ghost use Rattle.ring_base.specs.declared.fault.Fault.TheVariants.{Memory};
 ghost use Rattle.ring_script.specs.Fits.{AreFit};
 ghost use Rattle.ring_script.specs.Scripts.{IsAllOf, AnswersInput};
-ghost use Rattle.ring_script.specs.declared.scripts.Rings.TheVariants.{OfMany};
 ghost use Rattle.ring_script.specs.declared.scripts.Script.{Script};
 ghost use Rattle.ring_report.specs.declared.failure.Failure.TheVariants.{Output};
 ghost use Rattle.ring_console.specs.Running.{Prints, IsOutputOrMemory};
@@ -17,7 +16,7 @@ use crate::progress::{clear_progress, tell_progress};
 use crate::upset::Upset;
 use crate::variant::Variant;
 use ring_base::Fault;
-use ring_console::{Failure, Rings, Script, Things, report};
+use ring_console::{Failure, Script, Things, report};
 use ring_object::Object;
 use std::alloc::Allocator;
 use std::io;
@@ -55,7 +54,7 @@ pub fn sweep<A: Allocator + Copy + Drop, R: Read, O: Write, E: Write>(
     ensures status { result ≤ 1 }
     ensures quiet { result ≡ 0 → Keeps (E.contents err.old) (E.contents err.new) }
     ensures printed { let object = ⟦<Things<A> as Object>⟧ in
-        result ≡ 0 → (script : Script A) × (bytes : List ℕ) × IsAllOf (R.remaining input.old) bytes × AnswersInput OfMany (Ok script) bytes
+        result ≡ 0 → (script : Script A) × (bytes : List ℕ) × IsAllOf (R.remaining input.old) bytes × AnswersInput (Ok script) bytes
         × Prints (O.contents out.old) (O.contents out.new) (IsSweptText object.sequential script.nodes script.lines.items true) }
 {
     sweep_watched(alloc, input, out, err, &mut io::sink())
@@ -73,10 +72,10 @@ pub fn sweep_watched<A: Allocator + Copy + Drop, R: Read, O: Write, E: Write, W:
     ensures status { result ≤ 1 }
     ensures quiet { result ≡ 0 → Keeps (E.contents err.old) (E.contents err.new) }
     ensures printed { let object = ⟦<Things<A> as Object>⟧ in
-        result ≡ 0 → (script : Script A) × (bytes : List ℕ) × IsAllOf (R.remaining input.old) bytes × AnswersInput OfMany (Ok script) bytes
+        result ≡ 0 → (script : Script A) × (bytes : List ℕ) × IsAllOf (R.remaining input.old) bytes × AnswersInput (Ok script) bytes
         × Prints (O.contents out.old) (O.contents out.new) (IsSweptText object.sequential script.nodes script.lines.items true) }
 {
-    let script = match Script::read(alloc, input, Rings::OfMany) {
+    let script = match Script::read(alloc, input) {
         Ok(script) => script,
         Err(fault) => return report(err, Failure::from(fault)),
     };

@@ -4,6 +4,11 @@ ghost use Rattle.std.specs.Prelude.{◌≡◌, ◌≢◌, ℕ, ◌+◌, ◌*◌,
 ghost use Rattle.ring_base.specs.Numbers.{has_bit, word_of};
 ghost use Rattle.ring_window.specs.Bits.{is_set, IsFirstClear};
 
+use ring_base::WINDOW;
+
+/// How many bits there are: one for each number of a window.
+const BITS: usize = WINDOW as usize;
+
 /// 256 bits, from the least of the first word on. Bits past the last are clear.
 #[derive(Clone, Copy)]
 pub(crate) struct HeldBits {
@@ -40,7 +45,7 @@ impl HeldBits {
         ensures { IsFirstClear self.now.words from result }
     {
         let mut offset = from;
-        while offset < 256 {
+        while offset < BITS {
             let word = self.word_at(offset);
             if word != u64::MAX {
                 return offset + word.trailing_ones() as usize;

@@ -15,7 +15,7 @@ use std::alloc::{Allocator, Global};
 use std::marker::Model;
 
 /// As many messages are kept as the window has numbers.
-const PLACES: usize = 256;
+const PLACES: usize = WINDOW as usize;
 
 /// A token asks for at most so many messages.
 const MOST_REQUESTS: usize = 32;

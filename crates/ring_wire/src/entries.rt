@@ -7,7 +7,7 @@ ghost use Rattle.ring_layout.specs.Reading.{Appends, Gives, GivesBy, times_at};
 
 use arrayvec::ArrayVec;
 use bytes::BytesMut;
-use ring_base::{Fault, MAX, Proc, RingId};
+use ring_base::{Fault, MAX, Proc, RingId, WINDOW};
 use ring_layout::{Decode, Encode, Reader, read_in_place};
 use std::alloc::{AllocError, Allocator};
 use std::marker::Model;
@@ -56,7 +56,7 @@ impl CommitEntry {
         requires mark { self.now.mark < 2 ^ 63 }
         ensures { result ≡ is_wrong_bit self.now.front self.now.mark self.now.held j }
     {
-        self.is_held(j) && (j == 0 || self.front + 1 + j as u64 > self.mark + 256)
+        self.is_held(j) && (j == 0 || self.front + 1 + j as u64 > self.mark + WINDOW)
     }
 
     /// Whether none of the byte's bits is set that must not be, as none of those before it is.
@@ -105,7 +105,7 @@ impl CommitEntry {
     {
         self.mark <= self.front
             && self.front <= MAX
-            && self.front <= self.mark + 256
+            && self.front <= self.mark + WINDOW
             && self.is_held_right()
             && (self.old.seq != 0 || self.is_nothing())
     }

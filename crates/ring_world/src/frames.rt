@@ -9,7 +9,7 @@ ghost use Rattle.ring_core.specs.State.{Carried, frame_at, frame_for};
 ghost use Rattle.ring_world.specs.Stored.{HasRoom, mark_at, mark_for};
 
 use bytes::BytesMut;
-use ring_base::{Fault, Past, Proc, ProcSet, past_of};
+use ring_base::{FRAME_BYTES, Fault, Past, Proc, ProcSet, past_of, told};
 use ring_layout::Encode;
 use ring_wire::{Frame, one_spelling_law, short_law, spelling_law};
 use std::alloc::{Allocator, Global};
@@ -17,9 +17,6 @@ use std::marker::{Model, PhantomData};
 
 /// So many frames a step sends at most.
 const FRAMES: usize = 64;
-
-/// A frame has at most so many bytes.
-const FRAME_BYTES: usize = 8192;
 
 /// All frames ever sent, as contracts see them. No value of it is made.
 pub(crate) struct Sendings<A: Allocator + Copy = Global> {
@@ -181,14 +178,6 @@ fn decode<A: Allocator + Copy>(
     one_spelling_law::<A>();
     Frame::<A>::get_into(alloc, &bytes[mark.start..mark.end], place)?;
     Ok(())
-}
-
-/// A value made of another, and of what is lent, by a step that the caller names.
-fn told<T, F>(past: &Past<T>, from: &F) -> Past<T>
-    ghost step: { T → F → T }
-    ensures { result.value ≡ step past.now.value from.now }
-{
-    past_of(&(past, from))
 }
 
 /// No frame was sent.

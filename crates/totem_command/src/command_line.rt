@@ -1,7 +1,8 @@
 //! The command line.
 
+use clap::builder::ValueParser;
 use clap::error::ErrorKind;
-use clap::{Arg, ArgAction, Command, Error};
+use clap::{Arg, ArgAction, ArgMatches, Command, Error};
 use std::alloc::{AllocError, Global};
 use std::io;
 
@@ -14,6 +15,8 @@ pub(crate) enum Task<'a> {
     Script { file: &'a str, is_checked: bool },
     /// To run the script in a file with a stop and a cut of each node before each event.
     Sweep { file: &'a str },
+    /// To run nodes and clients in threads, so many calls a client.
+    Live { nodes: u8, calls: u8 },
 }
 
 /// What `totem --help` ends with.
@@ -55,6 +58,17 @@ from 0; byte 0 is also a file that can't be read.
 Example:
   totem frames sent.frames";
 
+/// What `totem live --help` ends with.
+const LIVE_HELP: &str = "\
+Each node and each client has a thread of its own. Client c tries node c first, and then the others
+in order. It adds 1 to a counter, one call after the other, and ends at its first fault; then
+client 1 reads the counter. Prints how many nodes there were, how many adds were answered, what the
+counter was, and `legal yes` or `legal no`: whether one order of the calls explains all replies.
+The exit status is 1 after `legal no`.
+
+Example:
+  totem live --nodes 3 --calls 10";
+
 /// What the words ask for, the program's own name being the first. Otherwise what the parser says of them;
 /// it speaks up too where it was asked for help.
 pub(crate) fn task_of<'a>(
@@ -66,22 +80,33 @@ pub(crate) fn task_of<'a>(
         Ok(words) => {
             let matches = command.try_get_matches_from_mut(words.as_slice())?;
             if let Some((name, of)) = matches.subcommand()
-                && let Some(file) = of.get_str("FILE")
+                && let Some(task) = task_in(name, of)
             {
-                match name {
-                    "frames" => return Ok(Task::Frames { file }),
-                    "script" => {
-                        let is_checked = of.get_flag("check");
-                        return Ok(Task::Script { file, is_checked });
-                    }
-                    "sweep" => return Ok(Task::Sweep { file }),
-                    _ => {}
-                }
+                return Ok(task);
             }
             Err(command.error(ErrorKind::MissingSubcommand, "no command was given")?)
         }
         Err(error) if error.kind() == io::ErrorKind::OutOfMemory => Err(Error::from(AllocError)),
         Err(_) => Err(command.error(ErrorKind::InvalidValue, "an argument is not UTF-8")?),
+    }
+}
+
+/// What the words of this command ask for.
+fn task_in<'a>(name: &str, of: &ArgMatches<'a>) -> Option<Task<'a>> {
+    if name == "live" {
+        let nodes = of.get_one::<u8>("nodes")?;
+        let calls = of.get_one::<u8>("calls")?;
+        return Some(Task::Live { nodes, calls });
+    }
+    let file = of.get_str("FILE")?;
+    match name {
+        "frames" => Some(Task::Frames { file }),
+        "script" => {
+            let is_checked = of.get_flag("check");
+            Some(Task::Script { file, is_checked })
+        }
+        "sweep" => Some(Task::Sweep { file }),
+        _ => None,
     }
 }
 
@@ -104,6 +129,11 @@ fn command_of<'a>(alloc: Global) -> Result<Command<'a>, AllocError> {
         .about("Lists the frames of a file, a line each")
         .after_help(FRAMES_HELP)
         .arg(file_of(alloc, "The file of frames, one behind another"))?;
+    let live = Command::new(alloc, "live")
+        .about("Runs nodes and clients in threads of their own")
+        .after_help(LIVE_HELP)
+        .arg(number_of(alloc, "nodes", "How many nodes, and as many clients", 16))?
+        .arg(number_of(alloc, "calls", "How many adds each client makes", 100))?;
     Command::new(alloc, "totem")
         .bin_name("totem")?
         .version("0.1.0")
@@ -112,7 +142,8 @@ fn command_of<'a>(alloc: Global) -> Result<Command<'a>, AllocError> {
         .subcommand_required(true)
         .subcommand(script)?
         .subcommand(sweep)?
-        .subcommand(frames)
+        .subcommand(frames)?
+        .subcommand(live)
 }
 
 /// The word that names a file.
@@ -121,4 +152,14 @@ fn file_of<'a>(alloc: Global, help: &'a str) -> Arg<'a> {
         .help(help)
         .required(true)
         .action(ArgAction::Set)
+}
+
+/// The word for a number from 1 to the most.
+fn number_of<'a>(alloc: Global, name: &'a str, help: &'a str, most: u64) -> Arg<'a> {
+    Arg::new(alloc, name)
+        .long(name)
+        .help(help)
+        .required(true)
+        .action(ArgAction::Set)
+        .value_parser(ValueParser::unsigned(1, most))
 }

@@ -4,9 +4,12 @@ use crate::command_line::{Task, task_of};
 use clap::Error;
 use clap::error::ErrorKind;
 use ring_base::Fault;
+use ring_live::live;
 use ring_sweep::{Failure, frames, report, script, script_check, sweep, sweep_watched};
 use std::io::Write;
 use std::rt::Files;
+use std::sync::Wait;
+use std::thread::Threads;
 use std::{fs, io};
 
 /// The exit status of a bad command line, and of a call for help.
@@ -15,7 +18,7 @@ const BAD_COMMAND_LINE: u8 = 2;
 /// Does what the words of a command line ask for, the program's own name being the first. Writes on `out` and `err` what the
 /// program writes on standard output and standard error, tells on `progress`, where there is one, how far a sweep has
 /// come, and answers the exit status.
-pub fn run<R: Files + AllocGlobal, O: Write, E: Write, P: Write>(
+pub fn run<R: Files + AllocGlobal + Threads + Wait + Sync, O: Write, E: Write, P: Write>(
     rt: &R,
     words: &io::Result<Vec<String>>,
     out: &mut O,
@@ -39,6 +42,7 @@ pub fn run<R: Files + AllocGlobal, O: Write, E: Write, P: Write>(
             (Ok(mut input), None) => sweep(rt.alloc(), &mut input, out, err),
             (Err(_), _) => report(err, Failure::BadScript(0)),
         },
+        Ok(Task::Live { nodes, calls }) => live(rt, rt.alloc(), nodes, calls, out, err),
         Err(error) => tell(&error, out, err),
     }
 }

@@ -4,7 +4,7 @@ use Rattle.ring_script.proofs.scripts.read_nodes.Given as goal
 
 -- the lines that are left tell what all of them do
 abbrev pub invariant-loop-number : goal.invariant-loop-number
-invariant-loop-number l = nodes_in l.rings l.lines.before l.lines.lines ≡ nodes_in l.rings l.initial.lines.before l.initial.lines.lines
+invariant-loop-number l = nodes_in l.lines.before l.lines.lines ≡ nodes_in l.initial.lines.before l.initial.lines.lines
 
 abbrev pub decreases-loop-number : goal.decreases-loop-number
 decreases-loop-number l = length l.lines.lines

@@ -10,8 +10,8 @@ pub returns-in_err-alike-clause-refused : goal.returns-in_err-alike-clause-refus
 returns-in_err-alike-clause-refused g c =
     let p = err_from_is_err_and c.from_residual.result c.from_residual.ensures.1 in
     let first = c.new-rest.result in
-    rw (p.1, p.2) (faults_low c.in_err-alike.field-0.0 (nodes_in c.args.rings first.before first.lines) c.in_err-alike.ensures.read
-    (nodes_low c.args.rings first.before first.lines))
+    rw (p.1, p.2) (faults_low c.in_err-alike.field-0.0 (nodes_in first.before first.lines) c.in_err-alike.ensures
+    (nodes_low first.before first.lines))
 
 pub returns-in_err-nodes-clause-refused : goal.returns-in_err-nodes-clause-refused
 returns-in_err-nodes-clause-refused g c =
@@ -24,13 +24,13 @@ pub returns-in_err-lines-clause-refused : goal.returns-in_err-lines-clause-refus
 returns-in_err-lines-clause-refused g c =
     let p = err_from_is_err_and c.from_residual-in_err-lines.result c.from_residual-in_err-lines.ensures.1 in
     let left = c.read_votes.new.lines in
-    rw (p.1, p.2) (faults_low c.in_err-lines.field-0.0 (asked_in c.args.rings c.in_ok-nodes.nodes left.before left.lines) c.in_err-lines.ensures
-    (asked_low c.args.rings c.in_ok-nodes.nodes left.before left.lines))
+    rw (p.1, p.2) (faults_low c.in_err-lines.field-0.0 (asked_in c.in_ok-nodes.nodes left.before left.lines) c.in_err-lines.ensures
+    (asked_low c.in_ok-nodes.nodes left.before left.lines))
 
 pub returns-clause-among : goal.returns-clause-among
 returns-clause-among g c =
-    lines_among c.args.rings c.in_ok-nodes.nodes c.read_votes.new.lines.before c.read_votes.new.lines.lines c.in_ok-lines.lines.items c.in_ok-lines.ensures
+    lines_among c.in_ok-nodes.nodes c.read_votes.new.lines.before c.read_votes.new.lines.lines c.in_ok-lines.lines.items c.in_ok-lines.ensures
 
 pub returns-clause-fit : goal.returns-clause-fit
 returns-clause-fit g c =
-    lines_fit c.args.rings c.in_ok-nodes.nodes c.read_votes.new.lines.before c.read_votes.new.lines.lines c.in_ok-lines.lines.items c.in_ok-lines.ensures
+    lines_fit c.in_ok-nodes.nodes c.read_votes.new.lines.before c.read_votes.new.lines.lines c.in_ok-lines.lines.items c.in_ok-lines.ensures

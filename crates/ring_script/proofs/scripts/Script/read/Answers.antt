@@ -10,6 +10,6 @@ returns-in_err-text-clause-read g c =
     let known = g.R.Read.remaining c.args.input.now in (
       unwrap_or known [],
       whole_is known,
-      rw (p.1, p.2) (unread g.row.A.Denot c.args.rings c.in_err-text.field-0.0
+      rw (p.1, p.2) (unread g.row.A.Denot c.in_err-text.field-0.0
           (unwrap_or known []) c.in_err-text.ensures.refused),
     )

@@ -1,0 +1,253 @@
+//! How a session table lies in bytes.
+
+ghost use Rattle.std.specs.Prelude.{◌≡◌, suc, ◌^◌, ◌<◌, ◌≤◌, ◌++◌, length, take, Some, IsSome, IfSome, OnOk, OnErr, IfOk, IfErr, vec_len};
+ghost use Rattle.std.specs.List.{flat_map};
+ghost use Rattle.std.specs.Option.{option_map};
+ghost use Rattle.ring_base.specs.declared.fault.Fault.TheVariants.{Memory};
+ghost use Rattle.byteorder.specs.Endian.{big_bytes};
+ghost use Rattle.ring_layout.specs.Reading.{number_at, text_at, ◌⊕◌};
+ghost use Rattle.ring_payload.specs.Operations.{op_at};
+ghost use Rattle.ring_session.specs.Deduplicated.{most_clients};
+ghost use Rattle.ring_session.specs.Snapshots.{client_spelling, sized, reply_at, next_at, clients_at, clients_in, AreParts};
+
+use crate::MAX_CLIENTS;
+use crate::session::Session;
+use byteorder::{BigEndian, ByteOrder};
+use ring_base::Fault;
+use ring_object::Object;
+use ring_payload::MOST_OPERATION;
+use std::alloc::Allocator;
+use std::collections::BTreeMap;
+use std::marker::Model;
+
+/// The greatest length of a reply.
+const MOST_REPLY: usize = 64;
+
+// ---- writing
+
+/// Appends the last bytes of the number, so many, 1 to 8; or nothing, for want of memory.
+pub fn append_number<A: Allocator + Copy>(
+    out: &mut Vec<u8, A>,
+    number: u64,
+    width: usize,
+) -> Result<(), Fault>
+    requires { width ≤ 8 }
+    ensures ok { OnOk result (out.new.items ≡ out.old.items ++ big_bytes width number) }
+    ensures err { OnErr result (out.new.items ≡ out.old.items) }
+    ensures refused { IfErr result (λ fault. fault ≡ Memory) }
+{
+    let mut word = [0; 8];
+    BigEndian::write_u64(&mut word, number);
+    out.extend_from_slice(&word[8 - width..])?;
+    Ok(())
+}
+
+/// Appends how many clients there are and the clients; or a front of that, for want of memory.
+pub fn append_clients<A: Allocator + Copy>(
+    out: &mut Vec<u8, A>,
+    sessions: &BTreeMap<u32, Session<A>, A>,
+) -> Result<(), Fault>
+    ensures ok { OnOk result (out.new.items
+        ≡ out.old.items ++ big_bytes 2 (length sessions.now.entries) ⊕ flat_map client_spelling sessions.now.entries) }
+    ensures front { take (vec_len out.old) out.new.items ≡ out.old.items }
+    ensures refused { IfErr result (λ fault. fault ≡ Memory) }
+{
+    append_number(out, sessions.len() as u64, 2)?;
+    for (client, session) in sessions.iter() {
+        append_number(out, u64::from(*client), 4)?;
+        session.append(out)?;
+    }
+    Ok(())
+}
+
+/// Appends the object's snapshot behind its length; or nothing, for want of memory.
+pub fn append_object<O: Object>(out: &mut Vec<u8, O::Alloc>, object: &O) -> Result<(), Fault>
+    ensures content { OnOk result (O.is_content object.now) }
+    ensures ok { OnOk result (out.new.items ≡ out.old.items ++ sized 8 (O.snapshot_of object.now)) }
+    ensures err { OnErr result (out.new.items ≡ out.old.items) }
+    ensures refused { IfErr result (λ fault. fault ≡ Memory) }
+{
+    let start = out.len();
+    out.extend_from_slice(&[0; 8])?;
+    if let Err(fault) = object.snapshot(out) {
+        out.truncate(start);
+        return Err(fault);
+    }
+    let len = out.len() - start - 8;
+    BigEndian::write_u64(&mut out.as_mut_slice()[start..], len as u64);
+    Ok(())
+}
+
+// ---- reading
+
+/// The number that the first bytes make, so many, 1 to 8, and what stands behind it.
+fn first_number(width: usize, bytes: &[u8]) -> Option<(u64, &[u8])>
+    requires low { 1 ≤ width }
+    requires high { width ≤ 8 }
+    ensures value { option_map (λ p. (p.0, p.1.now)) result ≡ number_at width bytes.now }
+    ensures in_range { IfSome result (λ p. p.0 < 256 ^ width) }
+{
+    if bytes.len() < width {
+        return None;
+    }
+    Some((BigEndian::read_uint(bytes, width), &bytes[width..]))
+}
+
+/// The first bytes, so many, and what stands behind them.
+fn first_text(len: u64, bytes: &[u8]) -> Option<(&[u8], &[u8])>
+    ensures { option_map (λ p. (p.0.now, p.1.now)) result ≡ text_at len bytes.now }
+{
+    if (bytes.len() as u64) < len {
+        return None;
+    }
+    Some(bytes.split_at(len as usize))
+}
+
+/// The operation at the front, and what stands behind it.
+#[tactic(auto, unfolding(ring_payload::specs::Operations::op_at))]
+fn first_operation(bytes: &[u8]) -> Option<(&[u8], &[u8])>
+    ensures { option_map (λ p. (p.0.now, p.1.now)) result ≡ op_at bytes.now }
+{
+    let (len, rest) = first_number(2, bytes)?;
+    if len > MOST_OPERATION as u64 {
+        return None;
+    }
+    first_text(len, rest)
+}
+
+/// The reply at the front, and what stands behind it.
+#[tactic(auto, unfolding(crate::specs::Snapshots::reply_at))]
+fn first_reply(bytes: &[u8]) -> Option<(&[u8], &[u8])>
+    ensures { option_map (λ p. (p.0.now, p.1.now)) result ≡ reply_at bytes.now }
+{
+    let [len, rest @ ..] = bytes else {
+        return None;
+    };
+    if *len as usize > MOST_REPLY {
+        return None;
+    }
+    first_text(u64::from(*len), rest)
+}
+
+/// A client and its last call, as bytes tell them.
+#[derive(Drop)]
+pub struct Told<'a> {
+    client: u32,
+    number: u64,
+    operation: &'a [u8],
+    reply: &'a [u8],
+}
+
+impl<'a> Model for Told<'a> {
+    ghost use Rattle.std.specs.Prelude.{ℕ, ◌≤◌, length};
+    ghost use Rattle.ring_session.specs.Table.{LastCall};
+
+    ghost Value = { ℕ × LastCall };
+
+    ghost view = { λ t. (t.client, record { number = t.number; operation = t.operation.now; reply = t.reply.now }) };
+
+    ghost invariant = { λ t. length t.reply.now ≤ 64 };
+}
+
+impl<'a> Told<'a> {
+    fn client(&self) -> u32
+        ensures { result ≡ self.now.0 }
+    {
+        self.client
+    }
+
+    /// The least number that the client behind this one may have.
+    fn above(&self) -> u64
+        ensures { result ≡ suc self.now.0 }
+    {
+        u64::from(self.client) + 1
+    }
+
+    /// The client's session, or `Memory`.
+    fn session<A: Allocator + Copy>(&self, alloc: A) -> Result<Session<A>, Fault>
+        ensures ok { IfOk result (λ session. session ≡ self.now.1) }
+        ensures refused { IfErr result (λ fault. fault ≡ Memory) }
+    {
+        Session::of(alloc, self.number, self.operation, self.reply)
+    }
+}
+
+/// The client at the front, if its number is none below this one, and what stands behind it.
+fn first_client(low: u64, bytes: &[u8]) -> Option<(Told<'_>, &[u8])>
+    ensures { option_map (λ p. (p.0, p.1.now)) result ≡ next_at low bytes.now }
+{
+    let (client, rest) = first_number(4, bytes)?;
+    let (number, rest) = first_number(8, rest)?;
+    if number < 1 {
+        return None;
+    }
+    let (operation, rest) = first_operation(rest)?;
+    let (reply, rest) = first_reply(rest)?;
+    if client < low {
+        return None;
+    }
+    let told = Told {
+        client: client as u32,
+        number,
+        operation,
+        reply,
+    };
+    Some((told, rest))
+}
+
+/// What stands behind so many clients, ascending, if they stand at the front.
+fn behind_clients(count: u64, bytes: &[u8]) -> Option<&[u8]>
+    ensures { option_map (λ rest. rest.now) result ≡ option_map (λ x. x.1) (clients_at count 0 bytes.now) }
+{
+    let mut rest = bytes;
+    let mut low = 0;
+    for _i in 0..count {
+        let Some((told, behind)) = first_client(low, rest) else {
+            return None;
+        };
+        low = told.above();
+        rest = behind;
+    }
+    Some(rest)
+}
+
+/// The parts of a snapshot: how many clients there are, the bytes from the first client on, and the object's snapshot. Whether
+/// that is one is not looked at.
+pub fn parts_of(bytes: &[u8]) -> Option<(u64, &[u8], &[u8])>
+    ensures { AreParts bytes.now (option_map (λ p. (p.0, p.1.now, p.2.now)) result) }
+{
+    let (count, clients) = first_number(2, bytes)?;
+    if count > MAX_CLIENTS as u64 {
+        return None;
+    }
+    let rest = behind_clients(count, clients)?;
+    let (len, rest) = first_number(8, rest)?;
+    let (object, rest) = first_text(len, rest)?;
+    if !rest.is_empty() {
+        return None;
+    }
+    Some((count, clients, object))
+}
+
+/// The sessions of so many clients at the front, which stand there; or `Memory`.
+pub fn read_clients<A: Allocator + Copy>(
+    alloc: A,
+    count: u64,
+    bytes: &[u8],
+) -> Result<BTreeMap<u32, Session<A>, A>, Fault>
+    requires { IsSome (clients_in count bytes.now) }
+    ensures ok { IfOk result (λ sessions. clients_in count bytes.now ≡ Some sessions.entries) }
+    ensures refused { IfErr result (λ fault. fault ≡ Memory) }
+{
+    let mut sessions = BTreeMap::new(alloc);
+    let mut rest = bytes;
+    let mut low = 0;
+    for _i in 0..count {
+        let (told, behind) = first_client(low, rest).unwrap();
+        let session = told.session(alloc)?;
+        sessions.insert(told.client(), session)?;
+        low = told.above();
+        rest = behind;
+    }
+    Ok(sessions)
+}
