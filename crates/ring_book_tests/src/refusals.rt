@@ -164,6 +164,31 @@ fn refused_entries<O: Object, K: BookName<O::Alloc>>(
     Ok((at_two, entered_at_one(&mut driven, place)?))
 }
 
+/// How many places can be reserved, which refusal comes behind them, and how many places are used or reserved then.
+fn reserved<O: Object, K: BookName<O::Alloc>>(
+    opening: Opening<O>,
+) -> Result<(u32, Option<Fault>, u32), Fault>
+    requires { opening ≡ K.name }
+{
+    let (mut book, _cells) = opening.parts::<K>()?;
+    let mut many = 0u32;
+    for _ in 0..300_000u32 {
+        match book.reserve() {
+            Ok(_) => many = many.saturating_add(1),
+            Err(fault) => return Ok((many, Some(fault), book.places())),
+        }
+    }
+    Ok((many, None, book.places()))
+}
+
+/// The places reserved in a book of counters of one.
+fn counted_places<A: Allocator + Copy + Drop>(
+    alloc: A,
+) -> Result<(u32, Option<Fault>, u32), Fault> {
+    let opening = Opening::<Counters<A>>::new(alloc, Fixed::new(1)?)?;
+    reserved::<Counters<A>, Brand>(opening)
+}
+
 /// Bytes refused by a book of counters of two.
 fn counted_bytes<A: Allocator + Copy + Drop>(
     alloc: A,
@@ -190,4 +215,10 @@ fn strange_entries(rt: HostRuntime) {
     let refused = (Some(Fault::Stranger), 2);
     let entries = ((refused, refused), ((None, 2), refused));
     assert!(rt; counted_entries(rt.alloc()) == Ok(entries));
+}
+
+#[test]
+fn full_book(rt: HostRuntime) {
+    let full = (262_144, Some(Fault::BookFull), 262_144);
+    assert!(rt; counted_places(rt.alloc()) == Ok(full));
 }
