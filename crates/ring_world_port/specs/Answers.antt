@@ -1,11 +1,14 @@
 -- What a node told of a call. Clients, rule 8, of docs/PROTOCOL.md.
-use Rattle.std.specs.Prelude.{ℕ, ◌==◌, ◌&&◌, Bool, if◌then◌else◌, List, [], ◌∷◌, Option, Some, None}
+use Rattle.std.specs.Prelude.{◌≡◌, ℕ, ◌==◌, ◌&&◌, Bool, if◌then◌else◌, List, [], ◌∷◌, drop, Option, Some, None}
 use Rattle.std.specs.Str.{bytes_eq}
 use Rattle.ring_client.specs.Asking.{tellable}
+use Rattle.ring_client.specs.declared.asked.Asked.{Asked}
+use Rattle.ring_object.specs.Operations.{Sequential}
 use Rattle.ring_payload.specs.declared.call.Call.{Call}
 use Rattle.ring_session.specs.declared.answer.Answer.{Answer as OneAnswer}
 use Rattle.ring_rules.specs.declared.told.Told.{Told}
 use Rattle.ring_rules.specs.declared.told.Told.TheVariants.{Answer, Refused}
+use Rattle.ring_world.specs.Played.{Played, world_of, told_of_events}
 use Rattle.ring_world_port.specs.declared.answers.Question.{Question}
 
 -- whether this node's call is the one asked for: of this client and number, and with this operation
@@ -26,3 +29,14 @@ first_of (Some x) later = Some x
 abbrev pub answer_in : {A : Type 0} → Question → List (Told A) → Option OneAnswer
 answer_in q [] = None
 answer_in q (t ∷ ts) = first_of (answer_of q t) (answer_in q ts)
+
+-- the call that was submitted last, at this node
+abbrev pub question_of : ℕ → Asked → Question
+question_of i asked = record { node = i; client = asked.client; number = asked.number; op = asked.op }
+
+-- The node has told the call this answer in a run of some world: it is the first one behind some of those told.
+pub record HasTold {O : Type 0} (object : Sequential O) {A : Type 0} (q : Question) (answer : OneAnswer) : Type 0 where
+  pub world : Played A
+  pub run : told_of_events world.told ≡ (world_of object world).told
+  pub looked : ℕ
+  pub answered : answer_in q (drop looked world.told) ≡ Some answer

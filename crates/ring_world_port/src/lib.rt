@@ -8,7 +8,7 @@ mod answers;
 mod network;
 mod port;
 
-pub use network::Network;
-pub use port::{Shared, Ticket, WorldPort};
+pub use network::{Network, Ticket};
+pub use port::{Shared, WorldPort};
 pub use ring_rules::Event;
 pub use ring_world::World;

@@ -3,23 +3,25 @@
 ghost use Rattle.std.specs.Prelude.{◌≡◌, ◌<◌, ◌≤◌, ◌⊎◌, drop, Some, None, IfOk, IfErr, IfSome, IfNone, OnOk, OnErr, slice_get};
 ghost use Rattle.ring_base.specs.Processors.{everybody, common};
 ghost use Rattle.ring_base.specs.declared.fault.Fault.TheVariants.{Memory};
-ghost use Rattle.ring_client.specs.Asking.{IsTold};
+ghost use Rattle.ring_client.specs.Asking.{submitted, IsTold};
 ghost use Rattle.ring_rules.specs.WorldLimits.{EventFits};
 ghost use Rattle.ring_world.specs.Pairs.{frames_of, all_pairs};
 ghost use Rattle.ring_world.specs.Pumping.{Happens, Rests};
 ghost use Rattle.ring_world.specs.Played.{world_of};
-ghost use Rattle.ring_world_port.specs.Answers.{answer_in};
+ghost use Rattle.ring_world_port.specs.Answers.{answer_in, question_of, HasTold};
 ghost use Rattle.ring_world_port.specs.Network.{Stays, IsIssued, IsNotIssued, HappensIf, HasTurned, LosesTurn};
 ghost use Rattle.ring_world_port.specs.Network.{following, fault_of, hears, arrival, kind_in, timeout_in, refusal_in};
 
 use crate::answers::Question;
 use ring_base::{Fault, Kind, Proc, ProcSet, State};
+use ring_client::Op;
 use ring_object::Object;
 use ring_payload::{Call, MOST_OPERATION};
 use ring_rules::{Event, Told};
 use ring_session::{Answer, copy_of};
 use ring_world::{Pair, Pump, World};
 use std::alloc::Allocator;
+use std::cell::Cell;
 use std::marker::Model;
 
 /// A world, and the copies of its frames that are under way within a group of nodes that hear each other. Contracts see a
@@ -47,6 +49,22 @@ impl<O: Object> Model for Network<O> {
     ghost view = { λ n. record { pump = n.pump; group = n.group; timeouts = n.timeouts } };
 
     ghost invariant = { λ n. within n.group (everybody n.pump.played.group.count) ≡ true };
+}
+
+/// What is polled for the answer to a call that was submitted at a node. Contracts see the call with its node.
+#[derive(Drop)]
+pub struct Ticket {
+    question: Question,
+    /// How many of those that the world told were looked at in vain.
+    looked: Cell<usize>,
+}
+
+impl Model for Ticket {
+    ghost use Rattle.ring_world_port.specs.declared.answers.Question.{Question};
+
+    ghost Value = { Question };
+
+    ghost view = { λ ticket. ticket.question };
 }
 
 impl<O: Object> Network<O> {
@@ -126,9 +144,45 @@ impl<O: Object> Network<O> {
         self.pump.happen(event)
     }
 
+    /// Submits a call at a node as `submit` does, and gives what is polled for its answer.
+    pub(crate) fn ask(&mut self, node: Proc, call: &Call<O::Alloc>) -> Result<Ticket, Fault>
+        ensures ticket { IfOk result (λ ticket. ticket ≡ question_of node (submitted call.now)) }
+        ensures issued { OnOk result (IsIssued O.sequential node call.now self.old self.new) }
+        ensures refused { IfErr result (IsNotIssued O.sequential node call.now self.old self.new) }
+    {
+        self.submit(node, call)?;
+        let op = call.op.as_slice();
+        Ok(Ticket {
+            question: Question {
+                node,
+                client: call.client,
+                number: call.number,
+                op: Op::from_slice(&op[..op.len().min(MOST_OPERATION)]),
+            },
+            looked: Cell::new(self.world().told().len()),
+        })
+    }
+
+    /// The answer to the ticket's call, if the world has told it since the last look. Where it has not, a turn is taken; one
+    /// that memory was refused to is left out.
+    pub(crate) fn answer_to(&mut self, ticket: &Ticket) -> Option<Answer>
+        ensures told { IfSome result IsTold }
+        ensures given { IfSome result (HasTold O.sequential ticket.now) }
+        ensures same { IfSome result (λ _. self.new ≡ self.old) }
+        ensures turn { IfNone result (HasTurned O.sequential self.old self.new ⊎ LosesTurn self.old self.new) }
+    {
+        let told = self.world().told().len();
+        let looked = ticket.looked.get();
+        let answer = self.poll(&ticket.question, looked);
+        if answer.is_none() {
+            ticket.looked.set(told);
+        }
+        answer
+    }
+
     /// The first answer to the call behind so many of those that the world told. Where there is none, a turn is taken; one
     /// that memory was refused to is left out.
-    pub(crate) fn poll(&mut self, question: &Question, looked: usize) -> Option<Answer>
+    fn poll(&mut self, question: &Question, looked: usize) -> Option<Answer>
         ensures answer { result ≡ answer_in question.now (drop looked self.old.pump.played.told) }
         ensures told { IfSome result IsTold }
         ensures same { IfSome result (λ _. self.new ≡ self.old) }

@@ -1,25 +1,17 @@
 //! Ports to the nodes of a world.
 
-ghost use Rattle.std.specs.Prelude.{◌≡◌, IfSome};
-ghost use Rattle.ring_client.specs.Asking.{unasked, IsTold};
+ghost use Rattle.std.specs.Prelude.{◌≡◌, IfOk, IfErr, IfSome, OnOk};
+ghost use Rattle.ring_client.specs.Asking.{unasked, submitted, refused_with, polled, IsTold};
+ghost use Rattle.ring_world_port.specs.Answers.{question_of, HasTold};
 
-use crate::answers::Question;
-use crate::network::Network;
+use crate::network::{Network, Ticket};
 use ring_base::{Fault, Proc};
-use ring_client::{Asked, Op, Port};
+use ring_client::{Asked, Port};
 use ring_object::Object;
 use ring_payload::Call;
 use ring_session::Answer;
-use std::cell::{Cell, RefCell};
+use std::cell::RefCell;
 use std::rc::Rc;
-
-/// What is polled for the answer to a call that was submitted at a node.
-#[derive(Drop)]
-pub struct Ticket {
-    question: Question,
-    /// How many of those that the world told were looked at in vain.
-    looked: Cell<usize>,
-}
 
 /// A world with the network over it, as the ports to its nodes share it.
 pub type Shared<O: Object> = Rc<RefCell<Network<O>>, O::Alloc>;
@@ -46,23 +38,15 @@ impl<O: Object> WorldPort<O> {
         }
     }
 
-    /// Submits the call in the network.
+    /// Submits the call at the port's node, in the network.
     fn try_submit(&mut self, call: &Call<O::Alloc>) -> Result<Ticket, Fault>
-        ensures { self.new ≡ self.old }
+        ensures same { self.new ≡ self.old }
+        ensures ticket { IfOk result (λ ticket. ticket ≡ question_of self.old.node (submitted call.now)) }
     {
         let Ok(mut network) = self.network.try_borrow_mut() else {
             return Err(Fault::NoAnswer);
         };
-        network.submit(self.node, call)?;
-        Ok(Ticket {
-            question: Question {
-                node: self.node,
-                client: self.asked.client,
-                number: self.asked.number,
-                op: self.asked.op,
-            },
-            looked: Cell::new(network.world().told().len()),
-        })
+        network.ask(self.node, call)
     }
 
     /// The answer to the ticket's call, if the world has told it; else the network takes a turn. One that memory was refused
@@ -70,16 +54,12 @@ impl<O: Object> WorldPort<O> {
     fn try_poll(&mut self, ticket: &Ticket) -> Option<Answer>
         ensures same { self.new ≡ self.old }
         ensures told { IfSome result IsTold }
+        ensures given { IfSome result (HasTold O.sequential ticket.now) }
     {
         let Ok(mut network) = self.network.try_borrow_mut() else {
             return None;
         };
-        let told = network.world().told().len();
-        let answer = network.poll(&ticket.question, ticket.looked.get());
-        if answer.is_none() {
-            ticket.looked.set(told);
-        }
-        answer
+        network.answer_to(ticket)
     }
 }
 
@@ -90,7 +70,13 @@ impl<O: Object> Port for WorldPort<O> {
 
     ghost asked_of = { λ port. port.asked };
 
-    fn submit(&mut self, call: &Call<O::Alloc>) -> Result<Ticket, Fault> {
+    /// The ticket is one of the port's node.
+    fn submit(&mut self, call: &Call<O::Alloc>) -> Result<Ticket, Fault>
+        ensures ok { OnOk result (self.new.asked ≡ submitted call.now) }
+        ensures refused { IfErr result (λ fault. self.new.asked ≡ refused_with fault (submitted call.now)) }
+        ensures ticket { IfOk result (λ ticket. ticket ≡ question_of self.old.node (submitted call.now)) }
+        ensures node { self.new.node ≡ self.old.node }
+    {
         self.asked.note_submit(call);
         let submit = self.try_submit(call);
         if let Err(fault) = submit {
@@ -99,10 +85,16 @@ impl<O: Object> Port for WorldPort<O> {
         submit
     }
 
-    fn poll(&mut self, ticket: &Ticket) -> Option<Answer> {
+    /// The answer is one that the ticket's node told the call in a run.
+    fn poll(&mut self, ticket: &Ticket) -> Option<Answer>
+        ensures asked { self.new.asked ≡ polled result self.old.asked }
+        ensures told { IfSome result IsTold }
+        ensures given { IfSome result (HasTold O.sequential ticket.now) }
+        ensures node { self.new.node ≡ self.old.node }
+    {
         let answer = self.try_poll(ticket);
         self.asked.note_poll(answer);
-        self.asked.answer
+        answer
     }
 
     fn asked(&self) -> &Asked {
