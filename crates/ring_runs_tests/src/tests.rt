@@ -32,6 +32,34 @@ const GATHERED: &str = "\
 1 to 2 token 1.1 number 1 seq 1 aru 1 id 0 asks -
 ";
 
+/// The second of three takes the first hop of a commit token and passes it on, is told that the token is lost, and is handed
+/// that hop again. The two others pass the token on, and it comes to the second in the second round.
+const HOP_AGAIN: &str = "\
+join 1
+join 2
+join 3
+hand 1 2
+hand 1 3
+hand 2 4
+loss 2
+hand 2 4
+hand 3 5
+hand 1 7
+hand 2 8
+";
+
+/// It gathers with the number of that ring, of which it takes no hop any more.
+const TAKEN_ONCE: &str = "\
+1 to 2,3 join 1 number 0 procs 1,2,3 fails -
+2 to 1,3 join 2 number 0 procs 1,2,3 fails -
+3 to 1,2 join 3 number 0 procs 1,2,3 fails -
+1 to 2 commit 1.1 members 1,2,3 hop 1 entries 1
+2 to 3 commit 1.1 members 1,2,3 hop 2 entries 2
+2 to 1,3 join 2 number 1 procs 1,2,3 fails -
+3 to 1 commit 1.1 members 1,2,3 hop 3 entries 3
+1 to 2 commit 1.1 members 1,2,3 hop 4 entries 3
+";
+
 /// The configurations that three processors come to.
 const CONFIGURED: &str = "\
 1 trans 0.1 1.1 of 1
@@ -337,6 +365,20 @@ fn three_gather(rt: HostRuntime) -> Result<(), Fail> {
     let script = pumped(alloc, Fixed::new(3)?, JOINS, 12)?;
     let run = (script.as_str(), 15);
     assert!(rt; gives(alloc, (Opening::Gather, 3), run, (Shown::All, GATHERED))?);
+    Ok(())
+}
+
+#[test]
+fn a_hop_is_taken_once(rt: HostRuntime) -> Result<(), Fail> {
+    let run = (HOP_AGAIN, 11);
+    assert!(rt;
+        gives(
+            rt.alloc(),
+            (Opening::Gather, 3),
+            run,
+            (Shown::All, TAKEN_ONCE)
+        )?
+    );
     Ok(())
 }
 
