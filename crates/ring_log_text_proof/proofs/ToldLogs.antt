@@ -28,10 +28,10 @@ pub record Part (A : Type 0) : Type 0 where
   pub of : Stay A → List (Message A)
   pub front : (s : Stay A) → IsFront (of s) s.heard
 
-pub all_heard : {A : Type 0} → Part A
+abbrev pub all_heard : {A : Type 0} → Part A
 all_heard = record { of = λ s. s.heard; front = λ s. front_self s.heard }
 
-pub known_safe : {A : Type 0} → Part A
+abbrev pub known_safe : {A : Type 0} → Part A
 known_safe = record { of = safe_part; front = λ s. upto-front s.mark s.heard }
 
 module _ {A : Type 0} (group : Group) (lives : ℕ → List (Stay A)) (members : RingId → ℕ) (text : RingId → List (Message A))
