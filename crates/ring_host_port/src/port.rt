@@ -1,7 +1,8 @@
 //! Ports to the nodes of a host.
 
-ghost use Rattle.std.specs.Prelude.{◌≡◌, ◌≤◌, IfSome};
-ghost use Rattle.ring_client.specs.Asking.{unasked, polled, IsTold};
+ghost use Rattle.std.specs.Prelude.{◌≡◌, ◌≤◌, IfOk, IfErr, IfSome, OnOk};
+ghost use Rattle.ring_client.specs.Asking.{unasked, submitted, refused_with, polled, IsTold};
+ghost use Rattle.ring_host.specs.Answering.{IsAnswered};
 ghost use Rattle.ring_host_port.specs.Noted.{told_of};
 
 use ring_base::{Fault, Proc};
@@ -37,7 +38,8 @@ impl<'a, O: Object, K: BookName<O::Alloc>, W: Wait> HostPort<'a, O, K, W> {
         node: Proc,
     ) -> HostPort<'a, O, K, W>
         requires { (seat.gauge ≡ host.now) × (node ≤ host.now.words) }
-        ensures { result.asked ≡ unasked }
+        ensures node { result.node ≡ node }
+        ensures asked { result.asked ≡ unasked }
     {
         HostPort {
             rt,
@@ -50,7 +52,9 @@ impl<'a, O: Object, K: BookName<O::Alloc>, W: Wait> HostPort<'a, O, K, W> {
 
     /// Submits the call, of which the node takes a copy.
     fn try_submit(&mut self, call: &Call<O::Alloc>) -> Result<HostTicket, Fault>
-        ensures { self.new.asked ≡ self.old.asked }
+        ensures ticket { IfOk result (λ ticket. ticket.node ≡ self.new.node) }
+        ensures node { self.new.node ≡ self.old.node }
+        ensures asked { self.new.asked ≡ self.old.asked }
     {
         if call.op.as_slice().len() > MOST_OPERATION {
             return Err(Fault::OpTooLong);
@@ -66,6 +70,7 @@ impl<'a, O: Object, K: BookName<O::Alloc>, W: Wait> HostPort<'a, O, K, W> {
     fn note(&mut self, found: Option<Answer>) -> Option<Answer>
         ensures answer { result ≡ told_of found }
         ensures told { IfSome result IsTold }
+        ensures node { self.new.node ≡ self.old.node }
         ensures asked { self.new.asked ≡ polled result self.old.asked }
     {
         let answer = told_of(found);
@@ -81,7 +86,13 @@ impl<'a, O: Object, K: BookName<O::Alloc>, W: Wait> Port for HostPort<'a, O, K, 
 
     ghost asked_of = { λ port. port.asked };
 
-    fn submit(&mut self, call: &Call<O::Alloc>) -> Result<HostTicket, Fault> {
+    /// Submits the call at the port's node.
+    fn submit(&mut self, call: &Call<O::Alloc>) -> Result<HostTicket, Fault>
+        ensures ok { OnOk result (self.new.asked ≡ submitted call.now) }
+        ensures refused { IfErr result (λ fault. self.new.asked ≡ refused_with fault (submitted call.now)) }
+        ensures ticket { IfOk result (λ ticket. ticket.node ≡ self.new.node) }
+        ensures node { self.new.node ≡ self.old.node }
+    {
         self.asked.note_submit(call);
         let submit = self.try_submit(call);
         if let Err(fault) = submit {
@@ -90,7 +101,14 @@ impl<'a, O: Object, K: BookName<O::Alloc>, W: Wait> Port for HostPort<'a, O, K, 
         submit
     }
 
-    fn poll(&mut self, ticket: &HostTicket) -> Option<Answer> {
+    /// The answer that the host gives to the ticket, as far as a call can have it: so some run of the group has the ticket's
+    /// issue, and this answer to it.
+    fn poll(&mut self, ticket: &HostTicket) -> Option<Answer>
+        ensures asked { self.new.asked ≡ polled result self.old.asked }
+        ensures told { IfSome result IsTold }
+        ensures answered { IfSome result (IsAnswered O.Alloc O.sequential K.name.group ticket.now.node ticket.now.ticket) }
+        ensures node { self.new.node ≡ self.old.node }
+    {
         let found = self.host.poll(self.rt, ticket);
         let answer = self.note(found);
         if answer.is_none() {

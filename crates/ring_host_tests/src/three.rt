@@ -3,7 +3,7 @@
 ghost use Rattle.std.specs.Prelude.{◌≡◌, ◌≤◌};
 ghost use Rattle.ring_seat.specs.Seats.{IsAt};
 
-use crate::driven::{last_seat, polled, submit, turn};
+use crate::driven::{last_seat, polled, submit, turn, turns};
 use refusing_alloc::Refusing;
 use ring_base::{Fault, Fixed, Proc};
 use ring_book::{BookName, Opening};
@@ -18,9 +18,12 @@ use std::sync::Wait;
 /// How many rounds form the ring.
 const FORM: u32 = 600;
 
-/// How many rounds the other two nodes take at most until both calls are answered: the token is lost after 32,000 turns, and
-/// who is silent is given up after 8,000 more.
-const MOST: u32 = 60_000;
+/// How many turns node 1 takes alone, in which it loses the token and gives up who doesn't agree: 32,000 after the last token, and
+/// 8,000 more. Most of them find nothing.
+const LOST: u32 = 40_100;
+
+/// How many rounds nodes 1 and 3 take at most then until both calls are answered.
+const MOST: u32 = 1_000;
 
 /// What was seen.
 #[derive(Clone, Copy, Debug, PartialEq, Eq)]
@@ -29,6 +32,8 @@ struct Shown {
     before: u64,
     /// And after it.
     after: u64,
+    /// How many copies of frames the turn dropped, or why it was refused.
+    turned: Result<u32, Fault>,
     /// Whether node 2 is stopped after it.
     is_stopped: bool,
     /// Whether the calls at nodes 1 and 3 were answered then, and each poll as the book answers.
@@ -55,7 +60,8 @@ fn rounds<O: Object, K: BookName<O::Alloc>, W: Wait>(
     Ok(())
 }
 
-/// Two nodes take turns until both tickets are answered. Whether they were, and each poll as the book answers.
+/// The first of two nodes loses the token, and then both take turns until both tickets are answered. Whether they were, and each
+/// poll as the book answers.
 fn answered<O: Object, K: BookName<O::Alloc>, W: Wait>(
     rt: &W,
     host: &Host<O, K>,
@@ -65,6 +71,7 @@ fn answered<O: Object, K: BookName<O::Alloc>, W: Wait>(
 ) -> Result<bool, Fault>
     requires { IsAt host.now first.old × IsAt host.now third.old }
 {
+    turns(rt, host, first, LOST)?;
     let mut are_told = true;
     for _ in 0..MOST {
         turn(rt, host, first)?;
@@ -109,11 +116,12 @@ fn is_stopped<O: Object, K: BookName<O::Alloc>, W: Wait>(
 }
 
 /// The story: a ring of three forms. Each other node takes three turns, so that what they send lies with node 2, and node 2 takes
-/// one. Then calls are submitted at nodes 1 and 3, which go on alone if node 2 is stopped.
+/// one. Where that stops it, calls are submitted at nodes 1 and 3, which go on without it for as long as that is asked for.
 fn story<'a, K: BookName<&'a Refusing>, W: Wait>(
     rt: &W,
     heap: &'a Refusing,
     opening: Opening<Counters<&'a Refusing>>,
+    goes_on: bool,
 ) -> Result<Shown, Fault>
     requires { opening ≡ K.name }
 {
@@ -130,46 +138,97 @@ fn story<'a, K: BookName<&'a Refusing>, W: Wait>(
         turn(rt, &host, &mut third)?;
     }
     let before = heap.requests();
-    let turned = turn(rt, &host, &mut second);
+    let turned = turn(rt, &host, &mut second).map(|turn| turn.dropped);
     let after = heap.requests();
-    let is_stopped = turned.err() == Some(Fault::Memory)
+    let is_stopped = turned == Err(Fault::Memory)
         && is_stopped(rt, heap, &host, &mut second, &mut guest, two);
     let tickets = (
         submit(rt, heap, &host, &mut guest, one, 8, 1)?,
         submit(rt, heap, &host, &mut guest, three, 9, 1)?,
     );
-    let are_answered = is_stopped && answered(rt, &host, &mut first, &mut third, tickets)?;
+    let are_answered = goes_on && answered(rt, &host, &mut first, &mut third, tickets)?;
     Ok(Shown {
         before,
         after,
+        turned,
         is_stopped,
         are_answered,
     })
 }
 
 /// The story where the request after so many others is refused.
-fn refused<W: Wait>(rt: &W, alloc: Global, passed: u64) -> Result<Shown, Fault> {
+fn refused<W: Wait>(rt: &W, alloc: Global, passed: u64, goes_on: bool) -> Result<Shown, Fault> {
     let heap = Refusing::new(alloc, passed);
     let opening = Opening::<Counters<&Refusing>>::new(&heap, Fixed::new(3)?)?;
-    story::<Brand, W>(rt, &heap, opening)
+    story::<Brand, W>(rt, &heap, opening, goes_on)
 }
 
-/// Each request for memory that node 2 makes in one turn is refused in turn. How often it was stopped by that, and whether the
-/// others' calls were answered each time.
-fn refused_in_turn<W: Wait>(rt: &W, alloc: Global) -> Result<(u64, bool), Fault> {
-    let ample = refused(rt, alloc, u64::MAX)?;
-    let mut stops = 0u64;
-    let mut are_answered = true;
+/// What comes of each request for memory that node 2 makes in one turn, refused in turn.
+#[derive(Clone, Copy, Debug, PartialEq, Eq)]
+struct Told {
+    /// How often node 2 was stopped.
+    stops: u32,
+    /// How often a copy of a frame was dropped, and the turn went on.
+    drops: u32,
+    /// How often the turn was refused, and node 2 goes on.
+    passes: u32,
+    /// How often anything else came of it.
+    others: u32,
+    /// The last request whose refusal stopped it.
+    last: Option<u64>,
+}
+
+/// The same of all these requests.
+fn refused_in_turn<W: Wait>(rt: &W, alloc: Global) -> Result<Told, Fault> {
+    let ample = refused(rt, alloc, u64::MAX, false)?;
+    let mut told = Told {
+        stops: 0,
+        drops: 0,
+        passes: 0,
+        others: 0,
+        last: None,
+    };
     for passed in ample.before..ample.after {
-        let shown = refused(rt, alloc, passed)?;
-        stops = stops.saturating_add(u64::from(shown.is_stopped));
-        are_answered = are_answered && shown.are_answered == shown.is_stopped;
+        let shown = refused(rt, alloc, passed, false)?;
+        match shown.turned {
+            Ok(1..) => told.drops = told.drops.saturating_add(1),
+            Err(Fault::Memory) if shown.is_stopped => {
+                told.stops = told.stops.saturating_add(1);
+                told.last = Some(passed);
+            }
+            Err(Fault::Memory) => told.passes = told.passes.saturating_add(1),
+            _ => told.others = told.others.saturating_add(1),
+        }
     }
-    Ok((stops, are_answered))
+    Ok(told)
 }
 
+/// Each request that is refused stops node 2, drops one copy, or refuses what came before the step. Where it is stopped the
+/// others' calls are answered.
 #[test]
 fn a_node_that_is_refused_memory_stops_and_the_others_go_on(rt: HostRuntime) {
-    let refused = refused_in_turn(&rt, rt.alloc());
-    assert!(rt; matches!(refused, Ok((1.., true))), "{refused:?}");
+    let told = refused_in_turn(&rt, rt.alloc());
+    let Ok(
+        Told {
+            stops: 1..,
+            drops: 1..,
+            passes: _,
+            others: 0,
+            last: Some(last),
+        },
+    ) = told
+    else {
+        assert!(rt; false, "{told:?}");
+        return;
+    };
+    let shown = refused(&rt, rt.alloc(), last, true);
+    let is_right = matches!(
+        shown,
+        Ok(Shown {
+            is_stopped: true,
+            are_answered: true,
+            ..
+        })
+    );
+    assert!(rt; is_right, "{shown:?}");
 }

@@ -1,6 +1,6 @@
 //! What the program prints of a live run.
 
-ghost use Rattle.std.specs.Prelude.{◌≡◌, ◌≤◌, true, IfOk, IfErr, OnOk};
+ghost use Rattle.std.specs.Prelude.{◌≡◌, ◌≤◌, true, Ok, IfOk, IfErr, OnOk};
 ghost use Rattle.std.specs.Io.KnownBytes.{Appends, Keeps};
 ghost use Rattle.ring_report.specs.declared.failure.Failure.TheVariants.{Output};
 ghost use Rattle.ring_live.specs.Lived.{lived_text};
@@ -38,14 +38,18 @@ pub fn live<W: Threads + Wait + Sync, O: Write, E: Write>(
 ) -> u8
     ensures status { result ≤ 1 }
     ensures quiet { result ≡ 0 → err.new ≡ err.old }
-    ensures printed { result ≡ 0 → (lived : Lived) × (lived.nodes ≡ nodes) × (lived.is_legal ≡ true)
-        × Appends (O.contents out.old) (O.contents out.new) (lived_text lived) }
+    ensures printed { result ≡ 0 → (lived : Lived) × (counter : _) × (lived.nodes ≡ nodes) × (lived.counter ≡ Ok counter) × (lived.is_legal ≡ true)
+        × Appends (O.contents out.old) (O.contents out.new) (lived_text lived counter) }
 {
     let lived = match run(rt, alloc, nodes, calls) {
         Ok(lived) => lived,
         Err(fault) => return report(err, Failure::Refused(fault)),
     };
-    match print_lived(lived, out) {
+    let counter = match lived.counter {
+        Ok(counter) => counter,
+        Err(fault) => return report(err, Failure::Refused(fault)),
+    };
+    match print_lived(lived, counter, out) {
         Ok(()) if lived.is_legal => 0,
         Ok(()) => NOT_LEGAL,
         Err(failure) => report(err, failure),
@@ -72,15 +76,15 @@ fn run<W: Threads + Wait + Sync>(
     run_live::<Things<Global>, Brand, W>(rt, alloc, opening, setting)
 }
 
-/// Prints what came of a run. Otherwise `Output`.
-fn print_lived<O: Write>(lived: Lived, out: &mut O) -> Result<(), Failure>
-    ensures lines { OnOk result (Appends (O.contents out.old) (O.contents out.new) (lived_text lived)) }
+/// Prints what came of a run in which the counter was read so. Otherwise `Output`.
+fn print_lived<O: Write>(lived: Lived, counter: u64, out: &mut O) -> Result<(), Failure>
+    ensures lines { OnOk result (Appends (O.contents out.old) (O.contents out.new) (lived_text lived counter)) }
     ensures failed { IfErr result (λ failure. failure ≡ Output) }
 {
     let Lived {
         nodes,
         calls,
-        counter,
+        counter: _,
         is_legal,
     } = lived;
     let word = if is_legal { "yes" } else { "no" };

@@ -34,8 +34,8 @@ pub struct Lived {
     pub nodes: u8,
     /// How many adds were answered.
     pub calls: u64,
-    /// What the counter was once all clients had ended.
-    pub counter: u64,
+    /// What the counter was once all clients had ended; or why that wasn't read, as where a thread couldn't be started: `Memory`.
+    pub counter: Result<u64, Fault>,
     /// Whether the order of the book explains its history.
     pub is_legal: bool,
 }
@@ -154,8 +154,8 @@ fn answered_in<O: Object, K: BookName<O::Alloc>, W: Wait>(callers: &[Caller<'_, 
     answered
 }
 
-/// What comes of a run of the opening that K names, of a shelf, where the opening is of as many nodes as the setting says. Refused
-/// with the fault of the last read, or with `Memory`.
+/// What comes of a run of the opening that K names, of a shelf, where the opening is of as many nodes as the setting says, whatever
+/// was answered. Or `Memory`.
 pub fn run_live<O: Object + Send, K: BookName<O::Alloc> + Send + Sync, W: Threads + Wait + Sync>(
     rt: &W,
     alloc: O::Alloc,
@@ -181,9 +181,9 @@ where
     let seats = seats.as_mut_slice();
     let counter = if rests {
         let gate = host.paced(rt)?;
-        run_all(rt, &host, &gate, seats, callers.as_mut_slice(), calls)?
+        run_all(rt, &host, &gate, seats, callers.as_mut_slice(), calls)
     } else {
-        run_all(rt, &host, &Open, seats, callers.as_mut_slice(), calls)?
+        run_all(rt, &host, &Open, seats, callers.as_mut_slice(), calls)
     };
     let calls = answered_in(callers.as_slice());
     let is_legal = is_legal(rt, alloc, &host)?;

@@ -64,7 +64,8 @@ Each node and each client has a thread of its own. Client c tries node c first, 
 in order. It adds 1 to a counter, one call after the other, and ends at its first fault; then
 client 1 reads the counter. Prints how many nodes there were, how many adds were answered, what the
 counter was, and `legal yes` or `legal no`: whether one order of the calls explains all replies.
-The exit status is 1 after `legal no`.
+The exit status is 1 after `legal no`. Where the read is refused, as after a call of client 1 that
+nobody answered, nothing of this is printed, and standard error tells why.
 
 Example:
   totem live --nodes 3 --calls 10";

@@ -14,6 +14,8 @@ use std::alloc::Global;
 use std::io::{Error, ErrorKind};
 use std::process::ExitCode;
 use std::rt::Files;
+use std::sync::Wait;
+use std::thread::Threads;
 use std::{fs, io, str};
 use totem_command::run;
 
@@ -71,7 +73,9 @@ fn main(rt: HostRuntime) -> ExitCode {
 
 /// Runs all examples, prints a line for each, those of a kind in alphabetical order, and tells whether all printed what they
 /// must.
-fn run_all<R: Files + AllocGlobal + Print + Clone + Drop>(rt: &R) -> io::Result<bool> {
+fn run_all<R: Files + AllocGlobal + Print + Threads + Wait + Sync + Clone + Drop>(
+    rt: &R,
+) -> io::Result<bool> {
     let mut are_right = true;
     for kind in KINDS {
         let are = run_each(rt, kind)?;
@@ -81,7 +85,10 @@ fn run_all<R: Files + AllocGlobal + Print + Clone + Drop>(rt: &R) -> io::Result<
 }
 
 /// The same of those of one kind.
-fn run_each<R: Files + AllocGlobal + Print + Clone + Drop>(rt: &R, kind: Kind) -> io::Result<bool> {
+fn run_each<R: Files + AllocGlobal + Print + Threads + Wait + Sync + Clone + Drop>(
+    rt: &R,
+    kind: Kind,
+) -> io::Result<bool> {
     let mut are_right = true;
     for name in &names_of(rt, kind)? {
         let is_right = prints_as_told(rt, name.as_str(), kind)?;
@@ -113,7 +120,11 @@ struct Printed {
 }
 
 /// Whether the example of this name prints just what it must.
-fn prints_as_told<R: Files + AllocGlobal>(rt: &R, name: &str, kind: Kind) -> io::Result<bool> {
+fn prints_as_told<R: Files + AllocGlobal + Threads + Wait + Sync>(
+    rt: &R,
+    name: &str,
+    kind: Kind,
+) -> io::Result<bool> {
     let input = read(rt, name, kind.ending())?;
     let printed = run_as(rt, kind, input.as_slice())?;
     let fault = fault_of(rt.alloc(), &printed)?;
@@ -127,7 +138,11 @@ fn prints_as_told<R: Files + AllocGlobal>(rt: &R, name: &str, kind: Kind) -> io:
 }
 
 /// Does what is done with an example of this kind whose file has these bytes.
-fn run_as<R: Files + AllocGlobal>(rt: &R, kind: Kind, input: &[u8]) -> io::Result<Printed> {
+fn run_as<R: Files + AllocGlobal + Threads + Wait + Sync>(
+    rt: &R,
+    kind: Kind,
+    input: &[u8],
+) -> io::Result<Printed> {
     let alloc = rt.alloc();
     let mut out = Vec::new(alloc);
     let mut err = Vec::new(alloc);
