@@ -1,7 +1,9 @@
 //! Ports to the nodes of a host.
 
-ghost use Rattle.std.specs.Prelude.{◌≡◌, ◌≤◌, IfOk, IfErr, IfSome, OnOk};
+ghost use Rattle.std.specs.Prelude.{◌≡◌, ◌≤◌, All, IfOk, IfErr, IfSome, OnOk};
+ghost use Rattle.ring_base.specs.declared.fault.Fault.TheVariants.{NotMember};
 ghost use Rattle.ring_client.specs.Asking.{unasked, submitted, refused_with, polled, IsTold};
+ghost use Rattle.ring_seat.specs.Seats.{IsAt};
 ghost use Rattle.ring_host.specs.Answering.{IsAnswered};
 ghost use Rattle.ring_host_port.specs.Noted.{told_of};
 
@@ -47,6 +49,26 @@ impl<'a, O: Object, K: BookName<O::Alloc>, W: Wait> HostPort<'a, O, K, W> {
             seat,
             node,
             asked: Asked::new(),
+        }
+    }
+
+    /// The port to the host's node of this number, with the last of these seats of the host's. `NotMember` where it has no such node,
+    /// or no seat is left.
+    pub fn to(
+        rt: &'a W,
+        host: &'a Host<O, K>,
+        seats: &mut Vec<Seat<O::Alloc>, O::Alloc>,
+        number: u8,
+    ) -> Result<HostPort<'a, O, K, W>, Fault>
+        requires { All (IsAt host.now) seats.old.items }
+        ensures seats { All (IsAt host.now) seats.new.items }
+        ensures port { IfOk result (λ port. (port.node ≡ number) × (port.asked ≡ unasked)) }
+        ensures refused { IfErr result (λ fault. fault ≡ NotMember) }
+    {
+        let node = host.proc(number)?;
+        match host.take_seat(seats) {
+            Some(seat) => Ok(HostPort::new(rt, host, seat, node)),
+            None => Err(Fault::NotMember),
         }
     }
 

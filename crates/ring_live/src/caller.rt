@@ -45,7 +45,7 @@ impl<'a, O: Object, K: BookName<O::Alloc>, W: Wait> Caller<'a, O, K, W> {
     {
         let mut ports = Vec::new(alloc);
         for passed in 0..nodes {
-            let port = port_to(rt, host, seats, (number - 1 + passed) % nodes + 1)?;
+            let port = HostPort::to(rt, host, seats, (number - 1 + passed) % nodes + 1)?;
             ports.push(port)?;
         }
         Ok(Caller {
@@ -73,23 +73,6 @@ impl<'a, O: Object, K: BookName<O::Alloc>, W: Wait> Caller<'a, O, K, W> {
     /// How many of its adds were answered.
     pub(crate) fn answered(&self) -> u64 {
         self.answered
-    }
-}
-
-/// The port to the node of this number, with the last of these seats.
-fn port_to<'a, O: Object, K: BookName<O::Alloc>, W: Wait>(
-    rt: &'a W,
-    host: &'a Host<O, K>,
-    seats: &mut Vec<Seat<O::Alloc>, O::Alloc>,
-    number: u8,
-) -> Result<HostPort<'a, O, K, W>, Fault>
-    requires { All (IsAt host.now) seats.old.items }
-    ensures { All (IsAt host.now) seats.new.items }
-{
-    let node = host.proc(number)?;
-    match host.take_seat(seats) {
-        Some(seat) => Ok(HostPort::new(rt, host, seat, node)),
-        None => Err(Fault::NotMember),
     }
 }
 

@@ -25,23 +25,6 @@ const READ: [u8; 2] = [2, 0];
 /// How often a client polls a node at most, for one call.
 const POLLS: u64 = 1_000_000;
 
-/// The port to the node of this number, with one of the host's seats.
-fn port_to<'a, O: Object, K: BookName<O::Alloc>, W: Wait>(
-    rt: &'a W,
-    host: &'a Host<O, K>,
-    seats: &mut Vec<Seat<O::Alloc>, O::Alloc>,
-    number: u8,
-) -> Result<HostPort<'a, O, K, W>, Fault>
-    requires { All (IsAt host.now) seats.old.items }
-    ensures { All (IsAt host.now) seats.new.items }
-{
-    let node = host.proc(number)?;
-    match host.take_seat(seats) {
-        Some(seat) => Ok(HostPort::new(rt, host, seat, node)),
-        None => Err(Fault::NotMember),
-    }
-}
-
 /// The client of this number, which tries these two nodes.
 fn client_of<'a, O: Object, K: BookName<O::Alloc>, W: Wait>(
     rt: &'a W,
@@ -54,10 +37,10 @@ fn client_of<'a, O: Object, K: BookName<O::Alloc>, W: Wait>(
     requires { All (IsAt host.now) seats.old.items }
     ensures { All (IsAt host.now) seats.new.items }
 {
-    let first = port_to(rt, host, seats, nodes.0)?;
-    let second = port_to(rt, host, seats, nodes.1)?;
     let mut ports = Vec::new(alloc);
+    let first = HostPort::to(rt, host, seats, nodes.0)?;
     ports.push(first)?;
+    let second = HostPort::to(rt, host, seats, nodes.1)?;
     ports.push(second)?;
     Ok(Client::new(alloc, number, ports, POLLS))
 }
