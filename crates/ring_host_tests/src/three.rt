@@ -116,7 +116,7 @@ fn is_stopped<O: Object, K: BookName<O::Alloc>, W: Wait>(
 }
 
 /// The story: a ring of three forms. Each other node takes three turns, so that what they send lies with node 2, and node 2 takes
-/// one. Where that stops it, calls are submitted at nodes 1 and 3, which go on without it for as long as that is asked for.
+/// one. Calls are submitted at nodes 1 and 3, which go on without node 2 if it is stopped and that is asked for.
 fn story<'a, K: BookName<&'a Refusing>, W: Wait>(
     rt: &W,
     heap: &'a Refusing,
@@ -146,7 +146,9 @@ fn story<'a, K: BookName<&'a Refusing>, W: Wait>(
         submit(rt, heap, &host, &mut guest, one, 8, 1)?,
         submit(rt, heap, &host, &mut guest, three, 9, 1)?,
     );
-    let are_answered = goes_on && answered(rt, &host, &mut first, &mut third, tickets)?;
+    let are_answered = goes_on
+        && is_stopped
+        && answered(rt, &host, &mut first, &mut third, tickets)?;
     Ok(Shown {
         before,
         after,
@@ -174,8 +176,6 @@ struct Told {
     passes: u32,
     /// How often anything else came of it.
     others: u32,
-    /// The last request whose refusal stopped it.
-    last: Option<u64>,
 }
 
 /// The same of all these requests.
@@ -186,16 +186,12 @@ fn refused_in_turn<W: Wait>(rt: &W, alloc: Global) -> Result<Told, Fault> {
         drops: 0,
         passes: 0,
         others: 0,
-        last: None,
     };
     for passed in ample.before..ample.after {
         let shown = refused(rt, alloc, passed, false)?;
         match shown.turned {
             Ok(1..) => told.drops = told.drops.saturating_add(1),
-            Err(Fault::Memory) if shown.is_stopped => {
-                told.stops = told.stops.saturating_add(1);
-                told.last = Some(passed);
-            }
+            Err(Fault::Memory) if shown.is_stopped => told.stops = told.stops.saturating_add(1),
             Err(Fault::Memory) => told.passes = told.passes.saturating_add(1),
             _ => told.others = told.others.saturating_add(1),
         }
@@ -203,32 +199,35 @@ fn refused_in_turn<W: Wait>(rt: &W, alloc: Global) -> Result<Told, Fault> {
     Ok(told)
 }
 
-/// Each request that is refused stops node 2, drops one copy, or refuses what came before the step. Where it is stopped the
-/// others' calls are answered.
+/// Each request that is refused stops node 2, drops a copy, or refuses what came before the step.
 #[test]
-fn a_node_that_is_refused_memory_stops_and_the_others_go_on(rt: HostRuntime) {
+fn a_node_that_is_refused_memory_stops_or_drops_a_copy(rt: HostRuntime) {
     let told = refused_in_turn(&rt, rt.alloc());
-    let Ok(
-        Told {
+    let are_all = matches!(
+        told,
+        Ok(Told {
             stops: 1..,
             drops: 1..,
             passes: _,
             others: 0,
-            last: Some(last),
-        },
-    ) = told
-    else {
-        assert!(rt; false, "{told:?}");
-        return;
-    };
-    let shown = refused(&rt, rt.alloc(), last, true);
-    let is_right = matches!(
-        shown,
-        Ok(Shown {
-            is_stopped: true,
-            are_answered: true,
-            ..
         })
     );
-    assert!(rt; is_right, "{shown:?}");
+    assert!(rt; are_all, "{told:?}");
+}
+
+/// Whether the others' calls are answered where the first request is refused whose refusal stops node 2.
+fn goes_on<W: Wait>(rt: &W, alloc: Global) -> Result<bool, Fault> {
+    let ample = refused(rt, alloc, u64::MAX, false)?;
+    for passed in ample.before..ample.after {
+        let shown = refused(rt, alloc, passed, true)?;
+        if shown.is_stopped {
+            return Ok(shown.are_answered);
+        }
+    }
+    Ok(false)
+}
+
+#[test]
+fn the_others_go_on_without_a_node_that_was_refused_memory(rt: HostRuntime) {
+    assert!(rt; goes_on(&rt, rt.alloc()) == Ok(true));
 }

@@ -1,6 +1,6 @@
 //! What the program prints of a live run.
 
-ghost use Rattle.std.specs.Prelude.{◌≡◌, ◌≤◌, true, Ok, IfOk, IfErr, OnOk};
+ghost use Rattle.std.specs.Prelude.{ℕ, ◌≡◌, ◌≤◌, true, Ok, IfOk, IfErr, OnOk};
 ghost use Rattle.std.specs.Io.KnownBytes.{Appends, Keeps};
 ghost use Rattle.ring_report.specs.declared.failure.Failure.TheVariants.{Output};
 ghost use Rattle.ring_live.specs.Lived.{lived_text};
@@ -38,7 +38,7 @@ pub fn live<W: Threads + Wait + Sync, O: Write, E: Write>(
 ) -> u8
     ensures status { result ≤ 1 }
     ensures quiet { result ≡ 0 → err.new ≡ err.old }
-    ensures printed { result ≡ 0 → (lived : Lived) × (counter : _) × (lived.nodes ≡ nodes) × (lived.counter ≡ Ok counter) × (lived.is_legal ≡ true)
+    ensures printed { result ≡ 0 → (lived : Lived) × (counter : ℕ) × (lived.nodes ≡ nodes) × (lived.counter ≡ Ok counter) × (lived.is_legal ≡ true)
         × Appends (O.contents out.old) (O.contents out.new) (lived_text lived counter) }
 {
     let lived = match run(rt, alloc, nodes, calls) {
