@@ -90,7 +90,7 @@ fn a_refused_submit_is_passed_over(rt: HostRuntime) -> Result<(), Fail> {
 fn have_operation<P: Port>(client: &Client<P>, op: &[u8]) -> bool {
     let mut have = true;
     for port in client.ports() {
-        have = have && port.asked().op == Op::from_slice(op);
+        have = have && port.asked().op.as_slice() == op;
     }
     have
 }
