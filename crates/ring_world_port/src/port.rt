@@ -94,7 +94,7 @@ impl<O: Object> Port for WorldPort<O> {
     {
         let answer = self.try_poll(ticket);
         self.asked.note_poll(answer);
-        answer
+        self.asked.answer
     }
 
     fn asked(&self) -> &Asked {
