@@ -97,7 +97,7 @@ impl<'a, O: Object, K: BookName<O::Alloc>, W: Wait> HostPort<'a, O, K, W> {
     {
         let answer = told_of(found);
         self.asked.note_poll(answer);
-        answer
+        self.asked.answer
     }
 }
 
