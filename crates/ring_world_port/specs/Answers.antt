@@ -35,7 +35,7 @@ abbrev pub question_of : ℕ → Asked → Question
 question_of i asked = record { node = i; client = asked.client; number = asked.number; op = asked.op }
 
 -- The node has told the call this answer in a run of some world: it is the first one behind some of those told.
-pub record HasTold {O : Type 0} (object : Sequential O) {A : Type 0} (q : Question) (answer : OneAnswer) : Type 0 where
+pub record HasTold (A : Type 0) {O : Type 0} (object : Sequential O) (q : Question) (answer : OneAnswer) : Type 0 where
   pub world : Played A
   pub run : told_of_events world.told ≡ (world_of object world).told
   pub looked : ℕ

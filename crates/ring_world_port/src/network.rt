@@ -167,7 +167,7 @@ impl<O: Object> Network<O> {
     /// that memory was refused to is left out.
     pub(crate) fn answer_to(&mut self, ticket: &Ticket) -> Option<Answer>
         ensures told { IfSome result IsTold }
-        ensures given { IfSome result (HasTold O.sequential ticket.now) }
+        ensures given { IfSome result (HasTold O.Alloc O.sequential ticket.now) }
         ensures same { IfSome result (λ _. self.new ≡ self.old) }
         ensures turn { IfNone result (HasTurned O.sequential self.old self.new ⊎ LosesTurn self.old self.new) }
     {

@@ -54,7 +54,7 @@ impl<O: Object> WorldPort<O> {
     fn try_poll(&mut self, ticket: &Ticket) -> Option<Answer>
         ensures same { self.new ≡ self.old }
         ensures told { IfSome result IsTold }
-        ensures given { IfSome result (HasTold O.sequential ticket.now) }
+        ensures given { IfSome result (HasTold O.Alloc O.sequential ticket.now) }
     {
         let Ok(mut network) = self.network.try_borrow_mut() else {
             return None;
@@ -89,7 +89,7 @@ impl<O: Object> Port for WorldPort<O> {
     fn poll(&mut self, ticket: &Ticket) -> Option<Answer>
         ensures asked { self.new.asked ≡ polled result self.old.asked }
         ensures told { IfSome result IsTold }
-        ensures given { IfSome result (HasTold O.sequential ticket.now) }
+        ensures given { IfSome result (HasTold O.Alloc O.sequential ticket.now) }
         ensures node { self.new.node ≡ self.old.node }
     {
         let answer = self.try_poll(ticket);
