@@ -59,6 +59,17 @@ impl Gate for Holds {
     }
 }
 
+/// Closes the host once the gate has let node 1 go, after so many looks at the latest.
+fn watch<O: Object, K: BookName<O::Alloc>>(host: &Host<O, K>, gate: &Holds) {
+    for _ in 0..LOOKS {
+        if gate.is_over.load(Ordering::SeqCst) {
+            break;
+        }
+        thread::yield_now();
+    }
+    host.close();
+}
+
 /// Runs the nodes until the gate has let node 1 go. Whether node 2 had entered a line while node 1 was held up.
 fn run<O: Object + Send, K: BookName<O::Alloc> + Send + Sync, W: Threads + Wait + Sync>(
     rt: &W,
@@ -70,24 +81,17 @@ where
     O::Alloc: Send + Sync,
     requires { All (IsAt host.now) seats.old }
 {
+    let own = &mut *seats;
     thread::scope(
         thread::scope_env(),
         rt,
         |scope|
-            requires { All (IsAt host.now) seats.now }
+            requires { All (IsAt host.now) own.now }
         {
-            let turns = move ||
-                requires { All (IsAt host.now) seats.now }
-            { host.run(rt, seats, gate).is_ok() };
-            let run = scope.spawn(turns);
-            for _ in 0..LOOKS {
-                if gate.is_over.load(Ordering::SeqCst) {
-                    break;
-                }
-                thread::yield_now();
+            if scope.spawn(move || watch(host, gate)).is_err() {
+                host.close();
             }
-            host.close();
-            run.is_ok()
+            let _ = host.run(rt, own, gate);
         },
     );
     gate.has_opened.load(Ordering::SeqCst)

@@ -2,6 +2,7 @@
 
 ghost use Rattle.std.specs.Prelude.{◌≡◌, ◌≤◌, All, IfOk};
 ghost use Rattle.ring_seat.specs.Seats.{IsAt};
+ghost use Rattle.ring_live.specs.Callers.{HasSeatsAt};
 
 use ring_base::Fault;
 use ring_book::BookName;
@@ -9,7 +10,10 @@ use ring_client::Client;
 use ring_host::{Host, Seat};
 use ring_host_port::HostPort;
 use ring_object::{Object, Reply};
+use std::alloc::{Allocator, Global};
 use std::sync::Wait;
+use std::sync::atomic::{AtomicU64, Ordering};
+use std::thread;
 
 /// Add 1 to counter 0 of a shelf: the object, the operation, the key, and the amount in eight bytes.
 const ADD: [u8; 11] = [1, 1, 0, 0, 0, 0, 0, 0, 0, 0, 1];
@@ -20,59 +24,108 @@ const READ: [u8; 3] = [1, 2, 0];
 /// How often a client polls a port at most, for one call.
 const POLLS: u64 = 1_000_000;
 
-/// A client with a port to each node, and how many of its adds were answered.
+/// A client that calls from a thread of its own: its number, the seats of the host's for its ports, and what came of its calls.
 #[derive(Drop)]
-pub(crate) struct Caller<'a, O: Object, K: BookName<O::Alloc>, W: Wait> {
-    client: Client<HostPort<'a, O, K, W>>,
-    answered: u64,
+pub(crate) struct Caller<A: Allocator + Copy + Drop = Global> {
+    pub(crate) number: u8,
+    pub(crate) seats: Vec<Seat<A>, A>,
+    /// How many of its adds were answered.
+    pub(crate) answered: u64,
+    /// What the counter was, of client 1; or its fault.
+    pub(crate) counter: Result<u64, Fault>,
 }
 
-impl<'a, O: Object, K: BookName<O::Alloc>, W: Wait> Caller<'a, O, K, W> {
-    /// The client of this number, which tries the node of its own number first, and then the others in order, node 1 after the
-    /// last. Each port takes one of the host's seats.
-    pub(crate) fn new(
-        rt: &'a W,
-        alloc: O::Alloc,
-        host: &'a Host<O, K>,
-        seats: &mut Vec<Seat<O::Alloc>, O::Alloc>,
-        nodes: u8,
-        number: u8,
-    ) -> Result<Caller<'a, O, K, W>, Fault>
-        requires nodes { nodes ≤ 16 }
-        requires number { (1 ≤ number) × (number ≤ nodes) }
-        requires seats { All (IsAt host.now) seats.old.items }
-        ensures { All (IsAt host.now) seats.new.items }
-    {
-        let mut ports = Vec::new(alloc);
-        for passed in 0..nodes {
-            let port = HostPort::to(rt, host, seats, (number - 1 + passed) % nodes + 1)?;
-            ports.push(port)?;
+/// The client makes so many adds, one after the other, or ends at its first fault. Client 1 then reads the counter, once no other
+/// runs. The last one to end closes the host. `running` has how many clients run, this one among them.
+pub(crate) fn call<O: Object, K: BookName<O::Alloc>, W: Wait>(
+    rt: &W,
+    alloc: O::Alloc,
+    host: &Host<O, K>,
+    nodes: u8,
+    calls: u8,
+    running: &AtomicU64,
+    caller: &mut Caller<O::Alloc>,
+)
+    requires { HasSeatsAt host.now caller.old }
+{
+    let counter = try_call(rt, alloc, host, nodes, calls, running, &mut *caller);
+    caller.counter = counter;
+    if running.fetch_sub(1, Ordering::SeqCst) == 1 {
+        host.close();
+    }
+}
+
+/// The calls of a client. What client 1 read, and 0 of any other.
+fn try_call<O: Object, K: BookName<O::Alloc>, W: Wait>(
+    rt: &W,
+    alloc: O::Alloc,
+    host: &Host<O, K>,
+    nodes: u8,
+    calls: u8,
+    running: &AtomicU64,
+    caller: &mut Caller<O::Alloc>,
+) -> Result<u64, Fault>
+    requires { HasSeatsAt host.now caller.old }
+{
+    let number = caller.number;
+    let mut client = client_of(rt, alloc, host, &mut caller.seats, nodes, number)?;
+    caller.answered = add(&mut client, calls);
+    if number != 1 {
+        return Ok(0);
+    }
+    wait_for_others(rt, running);
+    let reply = client.call(&READ)?;
+    Ok(count_in(&reply))
+}
+
+/// The client of this number, which tries the node of its own number first, and then the others in order, node 1 after the last.
+/// Each port takes one of the host's seats.
+fn client_of<'a, O: Object, K: BookName<O::Alloc>, W: Wait>(
+    rt: &'a W,
+    alloc: O::Alloc,
+    host: &'a Host<O, K>,
+    seats: &mut Vec<Seat<O::Alloc>, O::Alloc>,
+    nodes: u8,
+    number: u8,
+) -> Result<Client<HostPort<'a, O, K, W>>, Fault>
+    requires { All (IsAt host.now) seats.old.items }
+{
+    let mut ports = Vec::new(alloc);
+    for passed in 0..nodes {
+        let port = HostPort::to(rt, host, seats, node_after(nodes, number, passed))?;
+        ports.push(port)?;
+    }
+    Ok(Client::new(alloc, u32::from(number), ports, POLLS))
+}
+
+/// The node that a client of this number tries after so many others.
+fn node_after(nodes: u8, number: u8, passed: u8) -> u8 {
+    let before = u32::from(number.saturating_sub(1)) + u32::from(passed);
+    (before % u32::from(nodes.max(1))) as u8 + 1
+}
+
+/// Makes so many adds, or ends at the first fault. How many were answered.
+fn add<O: Object, K: BookName<O::Alloc>, W: Wait>(
+    client: &mut Client<HostPort<'_, O, K, W>>,
+    calls: u8,
+) -> u64 {
+    let mut answered = 0u64;
+    for _ in 0..calls {
+        if client.call(&ADD).is_err() {
+            return answered;
         }
-        Ok(Caller {
-            client: Client::new(alloc, u32::from(number), ports, POLLS),
-            answered: 0,
-        })
+        answered = answered.saturating_add(1);
     }
+    answered
+}
 
-    /// Makes so many adds, one after the other, or ends at its first fault.
-    pub(crate) fn add(&mut self, calls: u8) {
-        for _ in 0..calls {
-            if self.client.call(&ADD).is_err() {
-                return;
-            }
-            self.answered = self.answered.saturating_add(1);
+/// Waits until one client alone runs.
+fn wait_for_others<W: Wait>(rt: &W, running: &AtomicU64) {
+    for _ in rt.forever() {
+        if running.load(Ordering::SeqCst) <= 1 {
+            return;
         }
-    }
-
-    /// Reads the counter.
-    pub(crate) fn read(&mut self) -> Result<u64, Fault> {
-        let reply = self.client.call(&READ)?;
-        Ok(count_in(&reply))
-    }
-
-    /// How many of its adds were answered.
-    pub(crate) fn answered(&self) -> u64 {
-        self.answered
+        thread::yield_now();
     }
 }
 

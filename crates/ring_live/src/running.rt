@@ -2,15 +2,17 @@
 
 ghost use Rattle.std.specs.Prelude.{◌≡◌, ◌≤◌, true, All, IfOk};
 ghost use Rattle.ring_seat.specs.Seats.{IsAt};
+ghost use Rattle.ring_live.specs.Callers.{HasSeatsAt};
 
-use crate::caller::Caller;
+use crate::caller::{Caller, call};
 use crate::legal::is_legal;
 use ring_base::Fault;
 use ring_book::{BookName, Opening};
 use ring_host::{Gate, Host, Open, Seat};
 use ring_object::Object;
+use std::alloc::Allocator;
 use std::sync::Wait;
-use std::sync::atomic::{AtomicBool, Ordering};
+use std::sync::atomic::{AtomicBool, AtomicU64, Ordering};
 use std::thread;
 use std::thread::Threads;
 
@@ -40,69 +42,53 @@ pub struct Lived {
     pub is_legal: bool,
 }
 
-/// The clients of a host, one for each of its nodes.
-fn callers_of<'a, O: Object, K: BookName<O::Alloc>, W: Wait>(
-    rt: &'a W,
+/// So many of the host's seats.
+fn seats_of<O: Object, K: BookName<O::Alloc>>(
     alloc: O::Alloc,
-    host: &'a Host<O, K>,
+    host: &Host<O, K>,
+    seats: &mut Vec<Seat<O::Alloc>, O::Alloc>,
+    count: u8,
+) -> Result<Vec<Seat<O::Alloc>, O::Alloc>, Fault>
+    requires { All (IsAt host.now) seats.old.items }
+    ensures seats { All (IsAt host.now) seats.new.items }
+    ensures own { IfOk result (λ own. All (IsAt host.now) own.items) }
+{
+    let mut own = Vec::new(alloc);
+    for _ in 0..count {
+        let Some(seat) = host.take_seat(seats) else {
+            return Err(Fault::NotMember);
+        };
+        own.push(seat)?;
+    }
+    Ok(own)
+}
+
+/// The clients of a host, one for each of its nodes, each with a seat for each node.
+fn callers_of<O: Object, K: BookName<O::Alloc>>(
+    alloc: O::Alloc,
+    host: &Host<O, K>,
     seats: &mut Vec<Seat<O::Alloc>, O::Alloc>,
     nodes: u8,
-) -> Result<Vec<Caller<'a, O, K, W>, O::Alloc>, Fault>
-    requires nodes { nodes ≤ 16 }
-    requires seats { All (IsAt host.now) seats.old.items }
-    ensures { All (IsAt host.now) seats.new.items }
+) -> Result<Vec<Caller<O::Alloc>, O::Alloc>, Fault>
+    requires { All (IsAt host.now) seats.old.items }
+    ensures seats { All (IsAt host.now) seats.new.items }
+    ensures callers { IfOk result (λ callers. All (HasSeatsAt host.now) callers.items) }
 {
     let mut callers = Vec::new(alloc);
     for before in 0..nodes {
-        let caller = Caller::new(rt, alloc, host, seats, nodes, before + 1)?;
-        callers.push(caller)?;
+        let own = seats_of(alloc, host, seats, nodes)?;
+        callers.push(Caller {
+            number: before + 1,
+            seats: own,
+            answered: 0,
+            counter: Err(Fault::NoAnswer),
+        })?;
     }
     Ok(callers)
 }
 
-/// Each client makes so many adds, in a thread of its own. `Memory` where one can't be started.
-fn add_all<O: Object + Send, K: BookName<O::Alloc> + Send + Sync, W: Threads + Wait + Sync>(
-    rt: &W,
-    callers: &mut [Caller<'_, O, K, W>],
-    calls: u8,
-) -> Result<(), Fault>
-where
-    O::Alloc: Send + Sync,
-{
-    let refused = AtomicBool::new(false);
-    let told = &refused;
-    thread::scope(thread::scope_env(), rt, |scope| {
-        for caller in callers {
-            if scope.spawn(move || caller.add(calls)).is_err() {
-                told.store(true, Ordering::SeqCst);
-                break;
-            }
-        }
-    });
-    if refused.load(Ordering::SeqCst) {
-        return Err(Fault::Memory);
-    }
-    Ok(())
-}
-
-/// The clients make their adds, and then the first of them reads the counter.
-fn call_all<O: Object + Send, K: BookName<O::Alloc> + Send + Sync, W: Threads + Wait + Sync>(
-    rt: &W,
-    callers: &mut [Caller<'_, O, K, W>],
-    calls: u8,
-) -> Result<u64, Fault>
-where
-    O::Alloc: Send + Sync,
-{
-    add_all(rt, &mut *callers, calls)?;
-    match callers.first_mut() {
-        Some(first) => first.read(),
-        None => Err(Fault::NotMember),
-    }
-}
-
-/// The nodes run in threads of their own, which tell the gate, while the clients make their calls. What the counter is then.
-/// `Memory` where a thread can't be started. No thread is left afterwards.
+/// The nodes run in threads of their own, which tell the gate, and each client makes its calls in one of its own. No thread is left
+/// afterwards. `Memory` where a thread can't be started: then the host is closed, and who runs ends.
 fn run_all<
     O: Object + Send,
     K: BookName<O::Alloc> + Send + Sync,
@@ -110,48 +96,67 @@ fn run_all<
     G: Gate + Sync,
 >(
     rt: &W,
+    alloc: O::Alloc,
     host: &Host<O, K>,
     gate: &G,
-    seats: &mut [Seat<O::Alloc>],
-    callers: &mut [Caller<'_, O, K, W>],
+    seats: Vec<Seat<O::Alloc>, O::Alloc>,
+    callers: &mut [Caller<O::Alloc>],
     calls: u8,
-) -> Result<u64, Fault>
+) -> Result<(), Fault>
 where
     O::Alloc: Send + Sync,
-    requires { All (IsAt host.now) seats.old }
+    requires seats { All (IsAt host.now) seats.items }
+    requires callers { All (HasSeatsAt host.now) callers.old }
 {
+    let nodes = callers.len().min(16) as u8;
     let refused = AtomicBool::new(false);
-    let told = &refused;
-    let read = thread::scope(
+    let running = AtomicU64::new(u64::from(nodes));
+    let (told, left) = (&refused, &running);
+    let each = &mut *callers;
+    thread::scope(
         thread::scope_env(),
         rt,
-        |scope|
-            requires { All (IsAt host.now) seats.now }
+        move |scope|
+            requires seats { All (IsAt host.now) seats.items }
+            requires callers { All (HasSeatsAt host.now) each.now }
         {
-            let turns = move ||
-                requires { All (IsAt host.now) seats.now }
-            { told.store(host.run(rt, seats, gate).is_err(), Ordering::SeqCst) };
-            if scope.spawn(turns).is_err() {
-                return Err(Fault::Memory);
+            for caller in each {
+                let called = move ||
+                    requires { HasSeatsAt host.now caller.now }
+                { call(rt, alloc, host, nodes, calls, left, caller) };
+                if scope.spawn(called).is_err() {
+                    told.store(true, Ordering::SeqCst);
+                    left.fetch_sub(1, Ordering::SeqCst);
+                    host.close();
+                }
             }
-            let read = call_all(rt, callers, calls);
-            host.close();
-            read
+            let mut seats = seats;
+            if host.run(rt, seats.as_mut_slice(), gate).is_err() {
+                told.store(true, Ordering::SeqCst);
+            }
         },
     );
     if refused.load(Ordering::SeqCst) {
         return Err(Fault::Memory);
     }
-    read
+    Ok(())
 }
 
 /// How many adds were answered, of all clients.
-fn answered_in<O: Object, K: BookName<O::Alloc>, W: Wait>(callers: &[Caller<'_, O, K, W>]) -> u64 {
+fn answered_in<A: Allocator + Copy + Drop>(callers: &[Caller<A>]) -> u64 {
     let mut answered = 0u64;
     for caller in callers {
-        answered = answered.saturating_add(caller.answered());
+        answered = answered.saturating_add(caller.answered);
     }
     answered
+}
+
+/// What the first client read.
+fn counter_in<A: Allocator + Copy + Drop>(callers: &[Caller<A>]) -> Result<u64, Fault> {
+    match callers.first() {
+        Some(first) => first.counter,
+        None => Err(Fault::NotMember),
+    }
 }
 
 /// What comes of a run of the opening that K names, of a shelf, where the opening is of as many nodes as the setting says, whatever
@@ -177,13 +182,32 @@ where
     } = setting;
     let guests = 16 * u16::from(nodes);
     let (host, mut seats) = Host::<O, K>::with_inbox(alloc, opening, guests, inbox)?;
-    let mut callers = callers_of(rt, alloc, &host, &mut seats, nodes)?;
-    let seats = seats.as_mut_slice();
-    let counter = if rests {
+    let mut callers = callers_of(alloc, &host, &mut seats, nodes)?;
+    let ran = if rests {
         let gate = host.paced(rt)?;
-        run_all(rt, &host, &gate, seats, callers.as_mut_slice(), calls)
+        run_all(
+            rt,
+            alloc,
+            &host,
+            &gate,
+            seats,
+            callers.as_mut_slice(),
+            calls,
+        )
     } else {
-        run_all(rt, &host, &Open, seats, callers.as_mut_slice(), calls)
+        run_all(
+            rt,
+            alloc,
+            &host,
+            &Open,
+            seats,
+            callers.as_mut_slice(),
+            calls,
+        )
+    };
+    let counter = match ran {
+        Ok(()) => counter_in(callers.as_slice()),
+        Err(fault) => Err(fault),
     };
     let calls = answered_in(callers.as_slice());
     let is_legal = is_legal(rt, alloc, &host)?;

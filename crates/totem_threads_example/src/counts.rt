@@ -1,11 +1,11 @@
 //! A counter on three nodes.
 
-ghost use Rattle.std.specs.Prelude.{◌≡◌, All};
+ghost use Rattle.std.specs.Prelude.{◌≡◌, All, IfOk};
 ghost use Rattle.ring_seat.specs.Seats.{IsAt};
 
 use ring_base::{Fault, Fixed};
 use ring_book::{BookName, Opening};
-use ring_client::{Client, Port};
+use ring_client::Client;
 use ring_host::{Host, Open, Seat};
 use ring_host_port::HostPort;
 use ring_object::Object;
@@ -13,107 +13,137 @@ use ring_things::Counters;
 use std::alloc::Global;
 use std::marker::Brand;
 use std::sync::Wait;
+use std::sync::atomic::{AtomicU64, Ordering};
 use std::thread;
 use std::thread::Threads;
 
 /// Add 1 to counter 0: the operation's number, the key, and the amount in eight bytes.
 const ADD: [u8; 10] = [1, 0, 0, 0, 0, 0, 0, 0, 0, 1];
 
-/// Read counter 0.
-const READ: [u8; 2] = [2, 0];
-
 /// How often a client polls a node at most, for one call.
 const POLLS: u64 = 1_000_000;
 
-/// The client of this number, which tries these two nodes.
-fn client_of<'a, O: Object, K: BookName<O::Alloc>, W: Wait>(
-    rt: &'a W,
+/// A client adds 1 ten times, by these two nodes, to each of which it has a port from one of these seats of the host's. It ends
+/// at its first fault. The last client to end closes the host.
+fn add_ten<O: Object, K: BookName<O::Alloc>, W: Wait>(
+    rt: &W,
     alloc: O::Alloc,
-    host: &'a Host<O, K>,
-    seats: &mut Vec<Seat<O::Alloc>, O::Alloc>,
-    number: u32,
-    nodes: (u8, u8),
-) -> Result<Client<HostPort<'a, O, K, W>>, Fault>
-    requires { All (IsAt host.now) seats.old.items }
-    ensures { All (IsAt host.now) seats.new.items }
+    host: &Host<O, K>,
+    seats: Vec<Seat<O::Alloc>, O::Alloc>,
+    client: (u32, u8, u8),
+    running: &AtomicU64,
+)
+    requires { All (IsAt host.now) seats.items }
 {
-    let mut ports = Vec::new(alloc);
-    let first = HostPort::to(rt, host, seats, nodes.0)?;
-    ports.push(first)?;
-    let second = HostPort::to(rt, host, seats, nodes.1)?;
-    ports.push(second)?;
-    Ok(Client::new(alloc, number, ports, POLLS))
-}
-
-/// Adds 1 ten times, until a call is refused.
-fn add_ten<P: Port>(client: &mut Client<P>) {
-    for _ in 0..10 {
-        if client.call(&ADD).is_err() {
-            return;
-        }
+    let _ = try_add_ten(rt, alloc, host, seats, client);
+    if running.fetch_sub(1, Ordering::SeqCst) == 1 {
+        host.close();
     }
 }
 
-/// The nodes run, both clients add, node 3 is stopped, and the host is closed once the clients have ended. All in threads, of
-/// which none is left afterwards.
+/// The calls of a client.
+fn try_add_ten<O: Object, K: BookName<O::Alloc>, W: Wait>(
+    rt: &W,
+    alloc: O::Alloc,
+    host: &Host<O, K>,
+    seats: Vec<Seat<O::Alloc>, O::Alloc>,
+    client: (u32, u8, u8),
+) -> Result<(), Fault>
+    requires { All (IsAt host.now) seats.items }
+{
+    let (number, first, second) = client;
+    let mut seats = seats;
+    let mut ports = Vec::new(alloc);
+    let port = HostPort::to(rt, host, &mut seats, first)?;
+    ports.push(port)?;
+    let port = HostPort::to(rt, host, &mut seats, second)?;
+    ports.push(port)?;
+    let mut client = Client::new(alloc, number, ports, POLLS);
+    for _ in 0..10 {
+        client.call(&ADD)?;
+    }
+    Ok(())
+}
+
+/// Two of the host's seats.
+fn two_of<O: Object, K: BookName<O::Alloc>>(
+    alloc: O::Alloc,
+    host: &Host<O, K>,
+    seats: &mut Vec<Seat<O::Alloc>, O::Alloc>,
+) -> Result<Vec<Seat<O::Alloc>, O::Alloc>, Fault>
+    requires { All (IsAt host.now) seats.old.items }
+    ensures seats { All (IsAt host.now) seats.new.items }
+    ensures two { IfOk result (λ two. All (IsAt host.now) two.items) }
+{
+    let mut two = Vec::new(alloc);
+    let (Some(one), Some(other)) = (host.take_seat(seats), host.take_seat(seats)) else {
+        return Err(Fault::NotMember);
+    };
+    two.push(one)?;
+    two.push(other)?;
+    Ok(two)
+}
+
+/// The nodes run, both clients add, and node 3 is stopped. All in threads, of which none is left afterwards.
 fn run<O: Object + Send, K: BookName<O::Alloc> + Send + Sync, W: Threads + Wait + Sync>(
     rt: &W,
+    alloc: O::Alloc,
     host: &Host<O, K>,
-    seats: &mut [Seat<O::Alloc>],
-    one: &mut Client<HostPort<'_, O, K, W>>,
-    two: &mut Client<HostPort<'_, O, K, W>>,
-) -> Result<u8, Fault>
+    seats: Vec<Seat<O::Alloc>, O::Alloc>,
+    ones: Vec<Seat<O::Alloc>, O::Alloc>,
+    others: Vec<Seat<O::Alloc>, O::Alloc>,
+) -> Result<(), Fault>
 where
     O::Alloc: Send + Sync,
-    requires { All (IsAt host.now) seats.old }
+    requires { All (IsAt host.now) seats.items × All (IsAt host.now) ones.items × All (IsAt host.now) others.items }
 {
     let stopped = host.proc(3)?;
+    let running = AtomicU64::new(2);
+    let left = &running;
     thread::scope(
         thread::scope_env(),
         rt,
-        |scope|
-            requires { All (IsAt host.now) seats.now }
+        move |scope| -> Result<(), Fault>
+            requires { All (IsAt host.now) seats.items × All (IsAt host.now) ones.items × All (IsAt host.now) others.items }
         {
-            let turns = move ||
-                requires { All (IsAt host.now) seats.now }
-            { host.run(rt, seats, &Open) };
-            let nodes = scope.spawn(turns);
-            thread::join(
-                rt,
-                || add_ten(&mut *one),
-                || {
-                    let _ = host.stop(rt, stopped);
-                    add_ten(&mut *two);
-                },
-            );
-            let count = one.call(&READ);
-            host.close();
-            if nodes.is_err() {
-                return Err(Fault::Memory);
+            let one = move ||
+                requires { All (IsAt host.now) ones.items }
+            { add_ten(rt, alloc, host, ones, (1, 1, 2), left) };
+            let other = move ||
+                requires { All (IsAt host.now) others.items }
+            {
+                let _ = host.stop(rt, stopped);
+                add_ten(rt, alloc, host, others, (2, 3, 2), left)
+            };
+            if scope.spawn(one).is_err() || scope.spawn(other).is_err() {
+                host.close();
             }
-            Ok(count?.as_slice().last().copied().unwrap_or(0))
+            let mut seats = seats;
+            host.run(rt, seats.as_mut_slice(), &Open)
         },
     )
 }
 
-/// What the counter is at the end, on three nodes of the opening that K names.
+/// How many calls stand in the order at the end, on three nodes of the opening that K names.
 fn count<O: Object + Send, K: BookName<O::Alloc> + Send + Sync, W: Threads + Wait + Sync>(
     rt: &W,
     alloc: O::Alloc,
     opening: Opening<O>,
-) -> Result<u8, Fault>
+) -> Result<usize, Fault>
 where
     O::Alloc: Send + Sync,
     requires { opening ≡ K.name }
 {
     let (host, mut seats) = Host::<O, K>::new(alloc, opening, 4)?;
-    let mut one = client_of(rt, alloc, &host, &mut seats, 1, (1, 2))?;
-    let mut two = client_of(rt, alloc, &host, &mut seats, 2, (3, 2))?;
-    run(rt, &host, seats.as_mut_slice(), &mut one, &mut two)
+    let ones = two_of(alloc, &host, &mut seats)?;
+    let others = two_of(alloc, &host, &mut seats)?;
+    run(rt, alloc, &host, seats, ones, others)?;
+    let order = host.read_book(rt, |book| book.order())?;
+    Ok(order.len())
 }
 
 /// The same of counters.
-pub fn counted<W: Threads + Wait + Sync>(rt: &W, alloc: Global) -> Result<u8, Fault> {
+pub fn counted<W: Threads + Wait + Sync>(rt: &W, alloc: Global) -> Result<usize, Fault> {
     let opening = Opening::<Counters>::new(alloc, Fixed::new(3)?)?;
     count::<Counters, Brand, W>(rt, alloc, opening)
 }

@@ -2,7 +2,7 @@
 //!
 //! Client 1 tries node 1 and then node 2; client 2 tries node 3, which is stopped, and then node 2. A client passes on to its
 //! next node, with the same call under the same number, where one refuses the call or doesn't answer. So each call takes effect
-//! once, whatever the threads do when: each client adds 1 ten times, and the counter is at 20.
+//! once, whatever the threads do when: each client adds 1 ten times, and 20 calls stand in the one order.
 #![tactic(auto)]
 
 mod counts;
@@ -14,7 +14,7 @@ fn main(rt: HostRuntime) -> ExitCode {
     let printed = match counted(&rt, rt.alloc()) {
         Ok(count) => {
             println!(rt;
-                "Two clients add 1 ten times each, and node 3 is stopped meanwhile: the counter is at {count}."
+                "Two clients add 1 ten times each, and node 3 is stopped meanwhile: the one order has {count} calls."
             )
         }
         Err(fault) => println!(rt; "{fault}"),
