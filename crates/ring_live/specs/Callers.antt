@@ -5,5 +5,5 @@ use Rattle.ring_seat.specs.Seats.{IsAt}
 use Rattle.ring_live.specs.declared.caller.Caller.{Caller}
 
 -- the seats of the client are at this gauge
-abbrev pub HasSeatsAt : {A : Type 0} → TableId → Caller A → Type 0
-HasSeatsAt gauge caller = All (IsAt gauge) caller.seats.items
+pub record HasSeatsAt {A : Type 0} (gauge : TableId) (caller : Caller A) : Type 0 where
+  pub seats : All (IsAt gauge) caller.seats.items

@@ -35,6 +35,20 @@ pub(crate) struct Caller<A: Allocator + Copy + Drop = Global> {
     pub(crate) counter: Result<u64, Fault>,
 }
 
+impl<A: Allocator + Copy + Drop> Caller<A> {
+    /// The client of this number, before it calls.
+    pub(crate) fn new(number: u8, seats: Vec<Seat<A>, A>) -> Caller<A>
+        ensures { result.seats ≡ seats }
+    {
+        Caller {
+            number,
+            seats,
+            answered: 0,
+            counter: Err(Fault::NoAnswer),
+        }
+    }
+}
+
 /// The client makes so many adds, one after the other, or ends at its first fault. Client 1 then reads the counter, once no other
 /// runs. The last one to end closes the host. `running` has how many clients run, this one among them.
 pub(crate) fn call<O: Object, K: BookName<O::Alloc>, W: Wait>(

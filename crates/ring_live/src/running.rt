@@ -77,12 +77,8 @@ fn callers_of<O: Object, K: BookName<O::Alloc>>(
     let mut callers = Vec::new(alloc);
     for before in 0..nodes {
         let own = seats_of(alloc, host, seats, nodes)?;
-        callers.push(Caller {
-            number: before + 1,
-            seats: own,
-            answered: 0,
-            counter: Err(Fault::NoAnswer),
-        })?;
+        let caller = Caller::new(before + 1, own);
+        callers.push(caller)?;
     }
     Ok(callers)
 }

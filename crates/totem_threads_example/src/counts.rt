@@ -97,7 +97,6 @@ where
     O::Alloc: Send + Sync,
     requires { All (IsAt host.now) seats.items × All (IsAt host.now) ones.items × All (IsAt host.now) others.items }
 {
-    let stopped = host.proc(3)?;
     let running = AtomicU64::new(2);
     let left = &running;
     thread::scope(
@@ -112,7 +111,9 @@ where
             let other = move ||
                 requires { All (IsAt host.now) others.items }
             {
-                let _ = host.stop(rt, stopped);
+                if let Ok(node) = host.proc(3) {
+                    let _ = host.stop(rt, node);
+                }
                 add_ten(rt, alloc, host, others, (2, 3, 2), left)
             };
             if scope.spawn(one).is_err() || scope.spawn(other).is_err() {
