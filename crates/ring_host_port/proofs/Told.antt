@@ -14,5 +14,5 @@ holds_of P (Some (Done reply)) h = h
 holds_of P (Some (Kept reply)) h = h
 holds_of P (Some (Refused number)) h = holds_if P (nat_le 4 number && nat_le number 7) (Refused number) h
 
-pub holds_of_told : {P : Answer → Type 0} (found told : Option Answer) → told ≡ told_of found → IfSome found P → IfSome told P
-holds_of_told {P} found told e h = subst (λ answer. IfSome answer P) (sym e) (holds_of P found h)
+pub holds_of_told : (P : Answer → Type 0) (found told : Option Answer) → told ≡ told_of found → IfSome found P → IfSome told P
+holds_of_told P found told e h = subst (λ answer. IfSome answer P) (sym e) (holds_of P found h)

@@ -50,11 +50,11 @@ fn two_callers<R: Threads + Sync>(
         rt,
         move || -> (Seat, bool)
             requires { IsAt gauge.now first }
-            ensures { IsAt gauge.now result.0 }
+            ensures { IsAt gauge.entry.now result.0 }
         { publish_up_to(gauge, first, 300) },
         move || -> (Seat, bool)
             requires { IsAt gauge.now second }
-            ensures { IsAt gauge.now result.0 }
+            ensures { IsAt gauge.entry.now result.0 }
         { publish_up_to(gauge, second, 500) },
     );
     let of_second = look_at_other(gauge, &mut first, &second);

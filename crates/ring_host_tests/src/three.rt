@@ -115,8 +115,53 @@ fn is_stopped<O: Object, K: BookName<O::Alloc>, W: Wait>(
         && stopped.err() == Some(Fault::Stopped)
 }
 
-/// The story: a ring of three forms. Each other node takes three turns, so that what they send lies with node 2, and node 2 takes
-/// one. Calls are submitted at nodes 1 and 3, which go on without node 2 if it is stopped and that is asked for.
+/// A ring of three forms, and a call is submitted at node 1. Then each other node takes three turns, so that the call and the token
+/// lie with node 2, which takes the call.
+fn lead<O: Object, K: BookName<O::Alloc>, W: Wait>(
+    rt: &W,
+    alloc: O::Alloc,
+    host: &Host<O, K>,
+    guest: &mut Seat<O::Alloc>,
+    first: &mut Seat<O::Alloc>,
+    second: &mut Seat<O::Alloc>,
+    third: &mut Seat<O::Alloc>,
+) -> Result<(), Fault>
+    requires guest { IsAt host.now guest.old }
+    requires seats { IsAt host.now first.old × IsAt host.now second.old × IsAt host.now third.old }
+    ensures guest { IsAt host.now guest.new }
+    ensures seats { IsAt host.now first.new × IsAt host.now second.new × IsAt host.now third.new }
+{
+    let one = host.proc(1)?;
+    rounds(rt, host, first, second, third, FORM)?;
+    submit(rt, alloc, host, guest, one, 7, 1)?;
+    for _ in 0..3 {
+        turn(rt, host, first)?;
+        turn(rt, host, third)?;
+    }
+    turn(rt, host, second)?;
+    Ok(())
+}
+
+/// Calls are submitted at nodes 1 and 3, which go on without node 2. Whether they are answered.
+fn go_on<O: Object, K: BookName<O::Alloc>, W: Wait>(
+    rt: &W,
+    alloc: O::Alloc,
+    host: &Host<O, K>,
+    guest: &mut Seat<O::Alloc>,
+    first: &mut Seat<O::Alloc>,
+    third: &mut Seat<O::Alloc>,
+) -> Result<bool, Fault>
+    requires guest { IsAt host.now guest.old }
+    requires seats { IsAt host.now first.old × IsAt host.now third.old }
+{
+    let (one, three) = (host.proc(1)?, host.proc(3)?);
+    let at_one = submit(rt, alloc, host, guest, one, 8, 1)?;
+    let at_three = submit(rt, alloc, host, guest, three, 9, 1)?;
+    answered(rt, host, first, third, (at_one, at_three))
+}
+
+/// The story: node 2 of a ring of three takes the token in the turn that is looked at. If it is stopped by that, and that is asked
+/// for, the others go on.
 fn story<'a, K: BookName<&'a Refusing>, W: Wait>(
     rt: &W,
     heap: &'a Refusing,
@@ -130,25 +175,24 @@ fn story<'a, K: BookName<&'a Refusing>, W: Wait>(
     let mut third = last_seat(&host, &mut seats)?;
     let mut second = last_seat(&host, &mut seats)?;
     let mut first = last_seat(&host, &mut seats)?;
-    let (one, two, three) = (host.proc(1)?, host.proc(2)?, host.proc(3)?);
-    rounds(rt, &host, &mut first, &mut second, &mut third, FORM)?;
-    submit(rt, heap, &host, &mut guest, one, 7, 1)?;
-    for _ in 0..3 {
-        turn(rt, &host, &mut first)?;
-        turn(rt, &host, &mut third)?;
-    }
+    lead(
+        rt,
+        heap,
+        &host,
+        &mut guest,
+        &mut first,
+        &mut second,
+        &mut third,
+    )?;
     let before = heap.requests();
     let turned = turn(rt, &host, &mut second).map(|turn| turn.dropped);
     let after = heap.requests();
+    let two = host.proc(2)?;
     let is_stopped = turned == Err(Fault::Memory)
         && is_stopped(rt, heap, &host, &mut second, &mut guest, two);
-    let tickets = (
-        submit(rt, heap, &host, &mut guest, one, 8, 1)?,
-        submit(rt, heap, &host, &mut guest, three, 9, 1)?,
-    );
     let are_answered = goes_on
         && is_stopped
-        && answered(rt, &host, &mut first, &mut third, tickets)?;
+        && go_on(rt, heap, &host, &mut guest, &mut first, &mut third)?;
     Ok(Shown {
         before,
         after,
