@@ -1,7 +1,7 @@
 //! What no contract of a host says: that calls are answered, in threads and by hand-turned seats; that the length which a turn
 //! tells is that of the committed log; how many copies are dropped; that nodes work at the same time; what comes of memory
-//! that is refused; in which order calls are refused, also once the book is full; and what a live run prints. Each polled
-//! answer is compared with the book's own.
+//! that is refused to a submit; in which order calls are refused; and what a live run prints. Each polled answer is compared
+//! with the book's own.
 #![tactic(auto)]
 
 #[cfg(test)]
@@ -11,8 +11,6 @@ mod clients;
 #[cfg(test)]
 mod driven;
 #[cfg(test)]
-mod full;
-#[cfg(test)]
 mod gates;
 #[cfg(test)]
 mod gauge;
@@ -20,5 +18,3 @@ mod gauge;
 mod inboxes;
 #[cfg(test)]
 mod refusals;
-#[cfg(test)]
-mod three;
