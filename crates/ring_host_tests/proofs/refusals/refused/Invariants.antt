@@ -1,5 +1,0 @@
-use Rattle.ring_host_tests.proofs.refusals.refused.Given as goal
-
--- the opening that was just made
-abbrev pub ghosts-short : goal.ghosts-short
-ghosts-short g a = record { name = a.opening }
