@@ -26,7 +26,7 @@ impl<const N: usize> Encode for [u8; N] {
     }
 
     fn write<B: Allocator + Copy>(&self, out: &mut BytesMut<B>) {
-        out.extend_from_slice(self).unwrap();
+        out.extend_reserved(self);
     }
 }
 

@@ -28,7 +28,7 @@ impl Encode for u8 {
     }
 
     fn write<B: Allocator + Copy>(&self, out: &mut BytesMut<B>) {
-        out.extend_from_slice(&[*self]).unwrap();
+        out.extend_reserved(&[*self]);
     }
 }
 
@@ -57,7 +57,7 @@ impl Encode for u16 {
     fn write<B: Allocator + Copy>(&self, out: &mut BytesMut<B>) {
         let mut word = [0; 2];
         BigEndian::write_u16(&mut word, *self);
-        out.extend_from_slice(&word).unwrap();
+        out.extend_reserved(&word);
     }
 }
 
@@ -86,7 +86,7 @@ impl Encode for u32 {
     fn write<B: Allocator + Copy>(&self, out: &mut BytesMut<B>) {
         let mut word = [0; 4];
         BigEndian::write_u32(&mut word, *self);
-        out.extend_from_slice(&word).unwrap();
+        out.extend_reserved(&word);
     }
 }
 
@@ -115,7 +115,7 @@ impl Encode for u64 {
     fn write<B: Allocator + Copy>(&self, out: &mut BytesMut<B>) {
         let mut word = [0; 8];
         BigEndian::write_u64(&mut word, *self);
-        out.extend_from_slice(&word).unwrap();
+        out.extend_reserved(&word);
     }
 }
 

@@ -5,7 +5,7 @@ ghost use Rattle.ring_base.specs.declared.fault.Fault.TheVariants.{Memory, Stopp
 ghost use Rattle.ring_payload.specs.Calls.{CallFits};
 ghost use Rattle.ring_wire.specs.Frames.{FrameFits};
 ghost use Rattle.ring_core.specs.Stepping.{ring_step};
-ghost use Rattle.ring_core.specs.declared.input.Input.TheVariants.{Frame as FrameInput};
+ghost use Rattle.ring_core.specs.declared.input.Input.TheVariants.{Frame as FrameInput, Timeout as TimeoutInput};
 ghost use Rattle.ring_srp_acts.specs.Allowing.{InputFits as CoreInputFits};
 ghost use Rattle.ring_session.specs.Deduplicated.{deduplicated};
 ghost use Rattle.ring_rules.specs.Nodes.{node_opening, node_committed, node_log, node_reply, node_stopped, is_stopped};
@@ -15,7 +15,7 @@ ghost use Rattle.ring_rules.specs.declared.input.Input.TheVariants.{Stop as Stop
 
 use crate::driving::{advance, advance_on, running};
 use crate::outs::Outs;
-use ring_base::{Fault, Fixed, Past, Proc, RingId, State, seen};
+use ring_base::{Fault, Fixed, Kind, Past, Proc, RingId, State, seen};
 use ring_core::Input as CoreInput;
 use ring_object::Object;
 use ring_payload::{Call, Payload};
@@ -142,7 +142,7 @@ impl<O: Object> Node<O> {
         }
         match input {
             Input::Frame(frame) => self.drive_on(frame),
-            Input::Timeout(kind) => self.drive(CoreInput::Timeout(*kind)),
+            Input::Timeout(kind) => self.time_out(*kind),
             Input::Noise => Ok(Outs::new(self.alloc)),
             Input::Stop => {
                 self.halt();
@@ -272,6 +272,22 @@ impl<O: Object> Node<O> {
                 Err(refused)
             }
         }
+    }
+
+    /// A time is over. It stands apart, since a call clears its room for an input of the core.
+    #[inline(never)]
+    fn time_out(&mut self, kind: Kind) -> Result<Outs<O::Alloc>, Fault>
+        requires { is_stopped self.old.core.state ≡ false }
+        ensures sends { IfOk result (λ outs. outs.sends.items ≡ (after_core O.sequential self.old (ring_step self.old.core (TimeoutInput kind))).sends) }
+        ensures answers { IfOk result (λ outs. outs.answers.items
+            ≡ (after_core O.sequential self.old (ring_step self.old.core (TimeoutInput kind))).answers) }
+        ensures committed { IfOk result (λ outs. outs.committed.items
+            ≡ (after_core O.sequential self.old (ring_step self.old.core (TimeoutInput kind))).committed) }
+        ensures ok { OnOk result (self.new ≡ (after_core O.sequential self.old (ring_step self.old.core (TimeoutInput kind))).node) }
+        ensures err { OnErr result (self.new ≡ node_stopped self.old) }
+        ensures refused { IfErr result (λ fault. fault ≡ Memory) }
+    {
+        self.drive(CoreInput::Timeout(kind))
     }
 
     /// Stops for good. It takes no memory, and gives back what the core kept.

@@ -74,7 +74,7 @@ impl<A: Allocator + Copy> Encode for Operation<A> {
     fn write<B: Allocator + Copy>(&self, out: &mut BytesMut<B>) {
         let bytes = self.as_slice();
         (bytes.len() as u16).write(out);
-        out.extend_from_slice(bytes).unwrap();
+        out.extend_reserved(bytes);
     }
 }
 

@@ -44,7 +44,7 @@ impl<A: Allocator + Copy> Piece<A> {
         requires { length self.now ≤ out.old.spare }
         ensures { Appends out.old out.new self.now }
     {
-        out.extend_from_slice(self.as_slice()).unwrap();
+        out.extend_reserved(self.as_slice());
     }
 }
 

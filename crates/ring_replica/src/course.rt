@@ -218,7 +218,8 @@ impl<A: Allocator + Copy + Drop> Course<A> {
         }
     }
 
-    /// Hears a message of the newest ring.
+    /// Hears a message of the newest ring. It stands apart, since a call clears its room for a message.
+    #[inline(never)]
     fn hear(
         &mut self,
         runs: bool,
@@ -288,7 +289,9 @@ impl<A: Allocator + Copy + Drop> Course<A> {
         self.life = life;
     }
 
-    /// A ring of these members is installed: its exchange begins, and a Head goes out if it is primary.
+    /// A ring of these members is installed: its exchange begins, and a Head goes out if it is primary. It stands apart, since
+    /// a call clears its room for that.
+    #[inline(never)]
     fn enter(
         &mut self,
         ring: RingId,
@@ -346,7 +349,8 @@ fn add_send<A: Allocator + Copy>(
     if sends.is_empty() {
         sends.reserve_exact(FEW)?;
     }
-    sends.push(Sent { to, frame })?;
+    sends.reserve(1)?;
+    sends.push_reserved(Sent { to, frame });
     Ok(())
 }
 

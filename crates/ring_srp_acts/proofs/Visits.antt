@@ -47,6 +47,11 @@ pub if_ok : {T E P : Type 0} (r : Result T E) → P → OnOk r P
 if_ok (Ok x) p = p
 if_ok (Err e) p = tt
 
+-- no payloads are none
+pub no_payloads : {A : Type 0} (payloads : List (Payload A)) → length payloads ≡ 0 → [] ≡ payloads
+no_payloads [] e = refl
+no_payloads (p ∷ payloads) e = absurd cc
+
 -- What is sent
 
 -- one send more

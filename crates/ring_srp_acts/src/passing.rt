@@ -1,11 +1,10 @@
 //! The end of a visit: the token goes on, and the visit is a fact.
 
-ghost use Rattle.std.specs.Prelude.{◌≡◌, ◌≤◌, ◌<◌, ◌+◌, ◌++◌, ◌∷◌, [], true, length, Some, IfErr, OnOk};
+ghost use Rattle.std.specs.Prelude.{◌≡◌, ◌≤◌, ◌<◌, ◌+◌, ◌++◌, ◌∷◌, [], true, length, IfErr, OnOk};
 ghost use Rattle.std.specs.List.Sorted.{IsStrictlyIncreasing};
 ghost use Rattle.ring_base.specs.Numbers.{max_number};
 ghost use Rattle.ring_base.specs.declared.fault.Fault.TheVariants.{Memory};
 ghost use Rattle.ring_base.specs.declared.state.State.TheVariants.{Recovery as InRecovery, Operational as InOperational};
-ghost use Rattle.ring_wire.specs.declared.frame.Frame.TheVariants.{Token as TokenFrame};
 ghost use Rattle.ring_core.specs.Giving.{sent};
 ghost use Rattle.ring_core.specs.Visiting.{to_next};
 ghost use Rattle.ring_srp_acts.specs.Machines.{is_running};
@@ -13,10 +12,10 @@ ghost use Rattle.ring_srp_acts.specs.Passing.{went, passed_on};
 
 use crate::machine::Machine;
 use ring_base::{Fault, Past, ProcSet, State};
-use ring_core::{Out, Sent};
+use ring_core::Out;
 use ring_payload::Payload;
 use ring_srp_state::with_visit;
-use ring_wire::{Frame, Requests, Token};
+use ring_wire::{Requests, Token};
 use std::alloc::Allocator;
 
 impl<A: Allocator + Copy> Machine<A> {
@@ -90,9 +89,10 @@ impl<A: Allocator + Copy> Machine<A> {
         let to = ProcSet::only(self.running.members.next(self.me));
         if let Some(recovering) = &mut self.recovery {
             recovering.set_aside()?;
-            let token = recovering.part.pass(token, stays, count, fresh);
+            recovering
+                .part
+                .show(token, stays, count, fresh, to, &mut self.shown);
             self.past = with_visit(&self.past, &recovering.part.visit);
-            show(&mut self.shown, to, token);
         }
         Ok(())
     }
@@ -114,25 +114,8 @@ impl<A: Allocator + Copy> Machine<A> {
         ensures { self.new ≡ passed_on self.old token.now stays.now fresh.now.value }
     {
         let to = ProcSet::only(self.running.members.next(self.me));
-        let token = self.kept.pass(token, stays, count, fresh);
+        self.kept
+            .show(token, stays, count, fresh, to, &mut self.shown);
         self.past = with_visit(&self.past, &self.kept.visit);
-        show(&mut self.shown, to, token);
     }
-}
-
-/// A token is the last that was sent: it takes the place of the one before it.
-fn show<A: Allocator + Copy>(shown: &mut Option<Sent<A>>, to: ProcSet, token: Token)
-    ensures { shown.new ≡ Some (record { to = to; frame = TokenFrame token }) }
-{
-    if let Some(sent) = shown {
-        if let Frame::Token(kept) = &mut sent.frame {
-            *kept = token;
-            sent.to = to;
-            return;
-        }
-    }
-    *shown = Some(Sent {
-        to,
-        frame: Frame::Token(token),
-    });
 }

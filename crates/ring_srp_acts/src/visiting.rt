@@ -31,8 +31,20 @@ impl<A: Allocator + Copy> Machine<A> {
         ensures refused { IfErr result (λ fault. fault ≡ Memory) }
     {
         if token.requests.as_slice().is_empty() {
-            return self.visit_asked(token, &token.requests, outs);
+            self.visit_asked(token, &token.requests, outs)
+        } else {
+            self.visit_asking(token, outs)
         }
+    }
+
+    /// The same for a token with requests, some of which may stay. It stands apart, since a call clears its room for them.
+    #[inline(never)]
+    fn visit_asking(&mut self, token: &Token, outs: &mut Vec<Out<A>, A>) -> Result<(), Fault>
+        requires { VisitAllowed self.old token.now }
+        ensures core { OnOk result (self.new ≡ (visited self.old token.now).core) }
+        ensures outs { OnOk result (outs.new.items ≡ outs.old.items ++ sent (visited self.old token.now).sends) }
+        ensures refused { IfErr result (λ fault. fault ≡ Memory) }
+    {
         let stays = self.stays(token);
         self.visit_asked(token, &stays, outs)
     }
@@ -132,6 +144,28 @@ impl<A: Allocator + Copy> Machine<A> {
 
     /// The new messages go out, numbered from `seq` + 1 on, and are held at once. Answers what they carry.
     fn send_new(
+        &mut self,
+        token: &Token,
+        payloads: Vec<Payload<A>, A>,
+        outs: &mut Vec<Out<A>, A>,
+    ) -> Result<Past<[Payload<A>; 0]>, Fault>
+        requires passes { accepts self.old token.now ≡ true }
+        requires runs { is_running self.old.state ≡ true }
+        requires count { length payloads.items ≤ room (mark self.old token.now.ring) token.now.seq }
+        ensures fresh { IfOk result (λ fresh. fresh.value ≡ payloads.items) }
+        ensures core { OnOk result (self.new ≡ holding self.old token.now payloads.items) }
+        ensures outs { OnOk result (outs.new.items ≡ outs.old.items ++ sent (to_others self.old (news self.old token.now payloads.items))) }
+        ensures refused { IfErr result (λ fault. fault ≡ Memory) }
+    {
+        if payloads.is_empty() {
+            return Ok(none());
+        }
+        self.send_all(token, payloads, outs)
+    }
+
+    /// The same where there are new messages. It stands apart, since a call clears its room for them.
+    #[inline(never)]
+    fn send_all(
         &mut self,
         token: &Token,
         payloads: Vec<Payload<A>, A>,

@@ -224,6 +224,17 @@ left-begun most all =
     let n : most - 0 ≡ most = omega arith in
     ap (λ m. left_behind m all) n
 
+-- an empty queue makes no messages, and is left as it is
+pub packed-empty : {A : Type 0} (most : ℕ) (queue : List (Payload A)) → length queue ≡ 0 → [] ≡ packed most queue
+packed-empty zero queue e = refl
+packed-empty (suc more) [] e = refl
+packed-empty (suc more) (first ∷ queue) e = absurd cc
+
+pub left-empty : {A : Type 0} (most : ℕ) (queue : List (Payload A)) → length queue ≡ 0 → queue ≡ left_behind most queue
+left-empty zero queue e = refl
+left-empty (suc more) [] e = left-empty more [] e
+left-empty (suc more) (first ∷ queue) e = absurd cc
+
 -- one message more was taken
 pub taken-more : {A : Type 0} (most counter : ℕ) (taken now after all : List (Payload A)) (m : Payload A)
     → counter < most → m ∷ [] ≡ packed 1 now → after ≡ behind now →

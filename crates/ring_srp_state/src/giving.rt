@@ -3,7 +3,7 @@
 ghost use Rattle.std.specs.Prelude.{◌≡◌, ◌++◌, ◌∷◌, [], ◌≤◌, IfErr, OnOk};
 ghost use Rattle.ring_base.specs.declared.fault.Fault.TheVariants.{Memory};
 ghost use Rattle.ring_window.specs.Held.{front_of};
-ghost use Rattle.ring_core.specs.declared.out.Out.TheVariants.{Agreed};
+ghost use Rattle.ring_core.specs.declared.out.Out.TheVariants.{Agreed, Safe};
 ghost use Rattle.ring_srp_state.specs.Rests.{rest_one, rest_of, all_agreed};
 ghost use Rattle.ring_srp_state.specs.Users.{agreed_in, agreed_of, safe_to};
 
@@ -32,7 +32,8 @@ pub fn give_agreed<A: Allocator + Copy>(
     Ok(())
 }
 
-/// Gives a message of a ring, if it is a user's.
+/// Gives a message of a ring, if it is a user's. It stands apart, since a call clears its room for an output.
+#[inline(never)]
 fn give_message<A: Allocator + Copy>(
     ring: RingId,
     message: &Message<A>,
@@ -43,7 +44,8 @@ fn give_message<A: Allocator + Copy>(
 {
     if is_user(&message.payload) {
         let copy = message.clone()?;
-        outs.push(Out::Agreed(ring, message.number, copy))?;
+        outs.reserve(1)?;
+        outs.push_reserved(Out::Agreed(ring, message.number, copy));
     }
     Ok(())
 }
@@ -59,8 +61,23 @@ pub fn give_safe<A: Allocator + Copy>(
     ensures refused { IfErr result (λ fault. fault ≡ Memory) }
 {
     if before < mark {
-        outs.push(Out::Safe(ring, mark))?;
+        give_mark(ring, mark, outs)?;
     }
+    Ok(())
+}
+
+/// Gives a safe mark. It stands apart, since a call clears its room for an output.
+#[inline(never)]
+fn give_mark<A: Allocator + Copy>(
+    ring: RingId,
+    mark: u64,
+    outs: &mut Vec<Out<A>, A>,
+) -> Result<(), Fault>
+    ensures ok { OnOk result (outs.new.items ≡ outs.old.items ++ Safe ring mark ∷ []) }
+    ensures refused { IfErr result (λ fault. fault ≡ Memory) }
+{
+    outs.reserve(1)?;
+    outs.push_reserved(Out::Safe(ring, mark));
     Ok(())
 }
 

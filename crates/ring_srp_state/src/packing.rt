@@ -26,6 +26,24 @@ pub fn take_packed<A: Allocator + Copy>(
     ensures rest { OnErr result (IsLeftOf queue.new.items queue.old.items) }
     ensures refused { IfErr result (λ fault. fault ≡ Memory) }
 {
+    if queue.is_empty() {
+        return Ok(Vec::new(alloc));
+    }
+    take_some(alloc, queue, most)
+}
+
+/// The same for a queue that has payloads. It stands apart, since a call clears its room for them.
+#[inline(never)]
+fn take_some<A: Allocator + Copy>(
+    alloc: A,
+    queue: &mut VecDeque<Payload<A>, A>,
+    most: u64,
+) -> Result<Vec<Payload<A>, A>, Fault>
+    ensures items { IfOk result (λ payloads. payloads.items ≡ packed most queue.old.items) }
+    ensures queue { OnOk result (queue.new.items ≡ left_behind most queue.old.items) }
+    ensures rest { OnErr result (IsLeftOf queue.new.items queue.old.items) }
+    ensures refused { IfErr result (λ fault. fault ≡ Memory) }
+{
     let mut payloads = Vec::with_capacity(alloc, queue.len().min(most as usize))?;
     for _ in 0..most {
         let Some(payload) = take_message(alloc, queue)? else {

@@ -5,7 +5,6 @@ ghost use Rattle.ring_base.specs.declared.fault.Fault.TheVariants.{Memory};
 ghost use Rattle.ring_wire.specs.declared.frame.Frame.TheVariants.{Message as MessageFrame, Token as TokenFrame};
 ghost use Rattle.ring_core.specs.Giving.{sent};
 
-use crate::part::copied;
 use ring_base::{Fault, ProcSet};
 use ring_core::Out;
 use ring_wire::{Frame, Message, Token};
@@ -21,7 +20,8 @@ pub fn send<A: Allocator + Copy>(
     ensures refused { IfErr result (λ fault. fault ≡ Memory) }
 {
     if !to.is_empty() {
-        outs.push(Out::Send(to, frame))?;
+        outs.reserve(1)?;
+        outs.push_reserved(Out::Send(to, frame));
     }
     Ok(())
 }
@@ -65,9 +65,24 @@ fn send_token<A: Allocator + Copy>(
     ensures refused { IfErr result (λ fault. fault ≡ Memory) }
 {
     if !to.is_empty() {
-        outs.push(Out::Send(to, Frame::Token(copied(token))))?;
+        outs.reserve(1)?;
+        outs.push_reserved(Out::Send(to, Frame::Token(copied(token))));
     }
     Ok(())
+}
+
+/// The same token.
+pub(crate) fn copied(token: &Token) -> Token
+    ensures { result ≡ token.now }
+{
+    Token {
+        ring: token.ring,
+        number: token.number,
+        seq: token.seq,
+        aru: token.aru,
+        aru_id: token.aru_id,
+        requests: token.requests.copied(),
+    }
 }
 
 /// Sends a copy of a message, unless it is to nobody.

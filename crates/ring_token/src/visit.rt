@@ -87,14 +87,35 @@ impl<A: Allocator + Copy> Visit<A> {
         ensures token { result ≡ token_after self.old.me front sent requests token }
         ensures visit { self.new ≡ with_turn self.old (turn_by self.old.me front fresh requests token) }
     {
-        let past = past_of(&(&self.past, &token, front, &requests));
-        let next = token.number + 1;
-        let forwarded = forwarded(self.me, token, front, sent, requests);
-        self.next = self.next.max(next);
-        self.safe = self.safe.max(self.aru.min(forwarded.aru));
-        self.aru = forwarded.aru;
+        let mut went = Token {
+            ring: token.ring,
+            number: token.number,
+            seq: token.seq,
+            aru: token.aru,
+            aru_id: token.aru_id,
+            requests,
+        };
+        self.visit_into(&token, front, sent, &mut went);
+        went
+    }
+
+    /// The same for a token that the caller keeps. The token that goes on is written over another one, in which the numbers
+    /// stand that are asked for now.
+    pub fn visit_into(&mut self, token: &Token, front: u64, sent: u64, went: &mut Token)
+        ghost fresh: { List (OnePayload A) }
+        requires ring { token.now.ring ≡ self.old.ring }
+        requires number { token.now.number < max_number }
+        requires seq { token.now.seq + sent ≤ max_number }
+        requires count { length fresh ≡ sent }
+        ensures token { went.new ≡ token_after self.old.me front sent went.old.requests token.now }
+        ensures visit { self.new ≡ with_turn self.old (turn_by self.old.me front fresh went.old.requests token.now) }
+    {
+        let past = past_of(&(&self.past, token, front, &went.requests));
+        forward(self.me, token, front, sent, went);
+        self.next = self.next.max(token.number + 1);
+        self.safe = self.safe.max(self.aru.min(went.aru));
+        self.aru = went.aru;
         self.past = past;
-        forwarded
     }
 
     /// The ring's messages up to here are held by each of its members: the safe mark.
@@ -128,19 +149,20 @@ fn may_set(me: Proc, front: u64, token: &Token) -> bool
     front < token.aru || token.aru_id.is_none_or(|holder| holder == me)
 }
 
-/// The token as it goes on.
-fn forwarded(me: Proc, mut token: Token, front: u64, sent: u64, requests: Requests) -> Token
-    requires number { token.number < max_number }
-    requires seq { token.seq + sent ≤ max_number }
-    ensures { result ≡ token_after me front sent requests token }
+/// Makes another token the one that goes on, which asks for the numbers that stand in it.
+fn forward(me: Proc, token: &Token, front: u64, sent: u64, went: &mut Token)
+    requires number { token.now.number < max_number }
+    requires seq { token.now.seq + sent ≤ max_number }
+    ensures { went.new ≡ token_after me front sent went.old.requests token.now }
 {
-    let sets_aru = may_set(me, front, &token);
-    token.number += 1;
-    token.seq += sent;
-    token.requests = requests;
-    if sets_aru {
-        token.aru = front;
-        token.aru_id = if front == token.seq { None } else { Some(me) };
+    went.ring = token.ring;
+    went.number = token.number + 1;
+    went.seq = token.seq + sent;
+    if may_set(me, front, token) {
+        went.aru = front;
+        went.aru_id = if front == went.seq { None } else { Some(me) };
+    } else {
+        went.aru = token.aru;
+        went.aru_id = token.aru_id;
     }
-    token
 }

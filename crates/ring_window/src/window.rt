@@ -145,14 +145,22 @@ impl<A: Allocator + Copy> Window<A> {
     pub fn missing(&self, upto: u64) -> Requests
         ensures { result ≡ first_missing self.now upto }
     {
-        let end = upto.saturating_sub(self.mark).min(WINDOW) as usize;
         let mut missing = Requests::new();
+        self.missing_into(upto, &mut missing);
+        missing
+    }
+
+    /// The same, in the place of the numbers that were there.
+    pub fn missing_into(&self, upto: u64, missing: &mut Requests)
+        ensures { missing.new ≡ first_missing self.now upto }
+    {
+        let end = upto.saturating_sub(self.mark).min(WINDOW) as usize;
+        missing.clear();
         let mut offset = (self.front - self.mark) as usize;
         while offset < end && missing.as_slice().len() < MOST_REQUESTS {
             missing.push(self.mark + 1 + offset as u64);
             offset = self.bits.first_clear(offset + 1);
         }
-        missing
     }
 
     /// Raises the safe mark. Numbers up to it still count as held, but their messages are gone. Where it is

@@ -48,6 +48,13 @@ impl Requests {
         self.numbers.push(number);
     }
 
+    /// No numbers any more.
+    pub fn clear(&mut self)
+        ensures { self.new ≡ [] }
+    {
+        self.numbers.clear();
+    }
+
     /// These numbers in the place of those that were, at most 32.
     pub(crate) fn fill(&mut self, numbers: &Words<'_>)
         requires { length numbers.now ≤ 32 }

@@ -8,6 +8,7 @@ use Rattle.ring_recover.proofs.Following.{none_from}
 use Rattle.ring_core.specs.State.{Core}
 use Rattle.ring_srp_state.specs.declared.recovering.Recovering.{Recovering}
 use Rattle.ring_srp_state.specs.Histories.{with_visit}
+use Rattle.ring_srp_state.specs.Setting.{turn_in}
 use Rattle.ring_srp_acts.specs.Machines.{core_of, IsMachine, IsRecovering}
 use Rattle.ring_srp_acts.specs.Passing.{passed_on}
 use Rattle.ring_srp_acts.proofs.TokenGoesOn.{part_ring, part_reached, part_led, aside_near, aside_there, recovers_aside, aside_on, running_on, passed_by}
@@ -44,8 +45,8 @@ invariant_of-self g c =
     aside_on s.me s.fixed.count s.state s.running s.installed s.gather.gathering s.shown s.queue.items s.held.value s.past.value s.gather s.kept.window
     s.kept.visit r c.set_aside.new.self m is c.set_aside.ensures.more
 
-pub pass-token-requires : goal.pass-token-requires
-pass-token-requires g c =
+pub show-requires : goal.show-requires
+show-requires g c =
     let s = c.self.inside in
     let r = c.in-Some.recovering in
     let core = core_of s.me s.fixed.count s.state s.running s.installed s.gather.gathering s.shown s.queue.items s.held.value s.past.value in
@@ -88,7 +89,7 @@ invariant_of-self-in-Some g c =
     (λ (q : Option (Recovering g.row.A.Denot)). IsMachine core s.gather s.kept.window s.kept.visit q) c.in-Some.is c.self.invariant in
     let ring : c.args.token.now.ring ≡ s.running.ring = c.requires.ring ∙ sym (ap (λ (x : Core g.row.A.Denot). x.running.ring) c.self.view_is) in
     let r' = c.set_aside.new.self in
-    let e = c.pass-token.ensures in
+    let e = c.show.ensures in
     running_on s.me s.fixed.count s.state s.running s.installed s.gather.gathering s.shown s.queue.items s.held.value s.past.value s.gather s.kept.window
     s.kept.visit r r' _ c.args.token.now c.args.stays.now c.args.fresh.now.value
     c.show.new.shown c.with_visit.result.value m is c.set_aside.ensures.more c.in_ok-set_aside.ensures.all ring
@@ -115,10 +116,11 @@ returns-in_ok-set_aside-clause-core g c =
     let p = (recovers_aside core r c.set_aside.new.self (m.recovering is) c.set_aside.ensures.more).part in
     passed_by s.me s.fixed.count s.state s.running s.installed s.gather.gathering s.shown s.queue.items s.held.value s.past.value s.gather s.kept.window
     s.kept.visit
-    q.window q.visit c.args.token.now c.args.stays.now c.args.fresh.now.value c.only-to.result c.pass-token.result c.show.new.shown c.with_visit.result.value
+    q.window q.visit c.args.token.now c.args.stays.now c.args.fresh.now.value c.only-to.result
+    (turn_in q.window q.visit c.args.token.now c.args.stays.now c.args.fresh.now.value).went c.show.new.shown c.with_visit.result.value
     p ring
-    (c.with_visit.ensures ∙ ap (λ (y : TokenHistory g.row.A.Denot). with_visit s.past.value y.turns) c.pass-token.ensures.visit) c.show.ensures
-    (c.only-to.ensures.value ∙ ap only c.next.ensures.value) c.pass-token.ensures.token
+    (c.with_visit.ensures ∙ ap (λ (y : TokenHistory g.row.A.Denot). with_visit s.past.value y.turns) c.show.ensures.visit) c.show.ensures.shown
+    (c.only-to.ensures.value ∙ ap only c.next.ensures.value) refl
     ∙ ap (λ (x : Core g.row.A.Denot). passed_on x c.args.token.now c.args.stays.now c.args.fresh.now.value) c.self.view_is
 
 pub returns-in_default-clause-core : goal.returns-in_default-clause-core

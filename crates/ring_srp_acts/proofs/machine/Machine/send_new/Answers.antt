@@ -1,106 +1,30 @@
--- Payload by payload, a message goes out and is held.
-use Rattle.std.proofs.Common.{◌≡◌, ◌+◌, ◌++◌, ◌∷◌, [], List, length, subst, ap, sym, ◌∙◌, arith}
-use Rattle.std.proofs.lemmas.Iterator.Adapters.{YieldsList-from_vec}
-use Rattle.std.proofs.lemmas.Iterator.Consumers.{YieldsList-end, YieldsList-turn}
-use Rattle.std.proofs.lemmas.List.{length_push, map-id}
+-- Without new messages nothing goes out, and nothing more is held.
+use Rattle.std.proofs.Common.{◌≡◌, ◌++◌, [], List, length, ap, sym, ◌∙◌, arith}
+use Rattle.std.proofs.lemmas.Bool.{eqb-true}
+use Rattle.std.proofs.lemmas.List.{append-nil}
 use Rattle.ring_payload.specs.declared.content.Payload.{Payload}
-use Rattle.ring_wire.specs.declared.frame.Frame.TheVariants.{Message as MessageFrame}
-use Rattle.ring_wire.specs.declared.message.Message.{Message}
 use Rattle.ring_core.specs.Giving.{sent}
-use Rattle.ring_core.specs.State.{Core}
-use Rattle.ring_core.specs.Views.{takes_number}
 use Rattle.ring_core.specs.Visiting.{to_others}
-use Rattle.ring_srp_acts.specs.Machines.{IsMachine, ring_in_use}
 use Rattle.ring_srp_acts.specs.Sending.{news, holding}
-use Rattle.ring_srp_acts.proofs.Visits.{machine_behind, number_next, next_new, used_still, holding_more, sends_more}
+use Rattle.ring_srp_acts.proofs.Visits.{no_payloads}
 use Rattle.ring_srp_acts.proofs.machine.Machine.send_new.Goals as goal
 
-pub overflow_add-number : goal.overflow_add-number
-overflow_add-number g c =
-    let begun = c.into_iter-payload-iterator.ensures.into_iter_gives in
-    let turn = YieldsList-turn (YieldsList-from_vec c.args.payloads.items begun.0 (begun.1 ∙ c.args.payloads.ok.0))
-    c.loop-payload.yielded c.loop-payload.payload-iterator c.loop-payload.yielded_by c.next.result c.next.new.self
-    c.in-Some.payload c.in-Some.is c.next.ensures.steps in
-    omega (
-      arith,
-      number_next c.args.self.now c.args.token.now c.loop-payload.yielded c.in-Some.payload
-          c.loop-payload.number (length c.args.payloads.items) c.loop-payload.invariant.number turn.0 c.requires.count,
-    )
+pub returns-then-is_empty-clause-fresh : goal.returns-then-is_empty-clause-fresh
+returns-then-is_empty-clause-fresh g c =
+    let empty : [] ≡ c.args.payloads.items = no_payloads c.args.payloads.items
+    (omega (arith, eqb-true _ _ (sym c.if-is_empty.ensures), c.args.payloads.ok.0)) in
+    c.none.ensures ∙ empty
 
-pub hold-requires-clause-ring : goal.hold-requires-clause-ring
-hold-requires-clause-ring g c =
+pub returns-then-is_empty-clause-core : goal.returns-then-is_empty-clause-core
+returns-then-is_empty-clause-core g c =
+    let empty : [] ≡ c.args.payloads.items = no_payloads c.args.payloads.items
+    (omega (arith, eqb-true _ _ (sym c.if-is_empty.ensures), c.args.payloads.ok.0)) in
+    ap (λ (ps : List (Payload g.row.A.Denot)). holding c.args.self.now c.args.token.now ps) empty
+
+pub returns-then-is_empty-clause-outs : goal.returns-then-is_empty-clause-outs
+returns-then-is_empty-clause-outs g c =
     let now = c.args.self.now in
-    let inside = c.self.inside in
-    let m = subst (λ (x : Core g.row.A.Denot). IsMachine x inside.gather inside.kept.window inside.kept.visit
-    inside.recovery) c.self.view_is c.self.invariant in
-    used_still now c.args.token.now c.loop-payload.yielded c.in-Some.payload c.loop-payload.number
-    (length c.args.payloads.items) inside.gather inside.kept.window inside.kept.visit inside.recovery m
-    c.requires.runs c.requires.passes
-    ∙ ap (λ (x : Core g.row.A.Denot). ring_in_use x.state x) (sym c.loop-payload.invariant.held)
-
-pub hold-requires-clause-new : goal.hold-requires-clause-new
-hold-requires-clause-new g c =
-    let now = c.args.self.now in
-    let t = c.args.token.now in
-    let inside = c.self.inside in
-    let m = subst (λ (x : Core g.row.A.Denot). IsMachine x inside.gather inside.kept.window inside.kept.visit
-    inside.recovery) c.self.view_is c.self.invariant in
-    let behind = machine_behind now inside.gather inside.kept.window inside.kept.visit inside.recovery t m c.requires.runs c.requires.passes in
-    let begun = c.into_iter-payload-iterator.ensures.into_iter_gives in
-    let turn = YieldsList-turn (YieldsList-from_vec c.args.payloads.items begun.0 (begun.1 ∙ c.args.payloads.ok.0))
-    c.loop-payload.yielded c.loop-payload.payload-iterator c.loop-payload.yielded_by c.next.result c.next.new.self
-    c.in-Some.payload c.in-Some.is c.next.ensures.steps in
-    ap (λ (x : Core g.row.A.Denot). takes_number x t.ring (c.loop-payload.number + 1)) c.loop-payload.invariant.held
-    ∙ next_new now t c.loop-payload.yielded c.in-Some.payload c.loop-payload.number (length c.args.payloads.items)
-    c.requires.passes behind c.loop-payload.invariant.number turn.0 c.requires.count
-
-pub loop-payload-preserved : goal.loop-payload-preserved
-loop-payload-preserved g c =
-    let now = c.args.self.now in
-    let t = c.args.token.now in
-    let n = c.loop-payload.number in
-    let ps = c.loop-payload.yielded in
-    let p = c.in-Some.payload in
-    let count = length c.args.payloads.items in
-    let e = c.loop-payload.invariant.number in
-    let me = ap (λ (x : Core g.row.A.Denot). x.me) c.self.view_is in
-    let x : Message g.row.A.Denot = record { ring = t.ring; number = n + 1; sender = c.self.inside.me; payload = p } in
-    let same : x ≡ record { ring = t.ring; number = n + 1; sender = now.me; payload = p } =
-    ap (λ m. record { ring = t.ring; number = n + 1; sender = m; payload = p }) me in
-    let goes = c.in_ok-send_message.ensures.ok
-    ∙ ap (λ o. c.loop-payload.outs.items ++ sent (record { to = o; frame = MessageFrame x } ∷ []))
-    c.others-others.ensures in
-    record {
-      number = omega (arith, length_push ps p, e);
-      told = c.one_last-fresh.ensures ∙ ap (λ xs. xs ++ p ∷ []) c.loop-payload.invariant.told;
-      held = c.hold.ensures ∙ holding_more now t ps p n count x c.loop-payload.self e same c.loop-payload.invariant.held;
-      out = sends_more now t ps p n count x c.args.outs.now.items c.loop-payload.outs.items
-          c.send_message.new.outs.items e same c.loop-payload.invariant.out goes;
-    }
-
-pub returns-clause-fresh : goal.returns-clause-fresh
-returns-clause-fresh g c =
-    let begun = c.into_iter-payload-iterator.ensures.into_iter_gives in
-    let ended = YieldsList-end (YieldsList-from_vec c.args.payloads.items begun.0 (begun.1 ∙ c.args.payloads.ok.0))
-    c.loop-payload.yielded c.loop-payload.payload-iterator c.loop-payload.yielded_by c.next.result c.next.new.self
-    c.in-None.is c.next.ensures.steps in
-    c.loop-payload.invariant.told ∙ sym (map-id c.loop-payload.yielded) ∙ ended.0
-
-pub returns-clause-core : goal.returns-clause-core
-returns-clause-core g c =
-    let begun = c.into_iter-payload-iterator.ensures.into_iter_gives in
-    let ended = YieldsList-end (YieldsList-from_vec c.args.payloads.items begun.0 (begun.1 ∙ c.args.payloads.ok.0))
-    c.loop-payload.yielded c.loop-payload.payload-iterator c.loop-payload.yielded_by c.next.result c.next.new.self
-    c.in-None.is c.next.ensures.steps in
-    c.loop-payload.invariant.held ∙ ap (λ (ps : List (Payload g.row.A.Denot)). holding c.args.self.now
-    c.args.token.now ps) (sym (map-id c.loop-payload.yielded) ∙ ended.0)
-
-pub returns-clause-outs : goal.returns-clause-outs
-returns-clause-outs g c =
-    let now = c.args.self.now in
-    let begun = c.into_iter-payload-iterator.ensures.into_iter_gives in
-    let ended = YieldsList-end (YieldsList-from_vec c.args.payloads.items begun.0 (begun.1 ∙ c.args.payloads.ok.0))
-    c.loop-payload.yielded c.loop-payload.payload-iterator c.loop-payload.yielded_by c.next.result c.next.new.self
-    c.in-None.is c.next.ensures.steps in
-    c.loop-payload.invariant.out ∙ ap (λ (ps : List (Payload g.row.A.Denot)). c.args.outs.now.items ++ sent
-    (to_others now (news now c.args.token.now ps))) (sym (map-id c.loop-payload.yielded) ∙ ended.0)
+    let empty : [] ≡ c.args.payloads.items = no_payloads c.args.payloads.items
+    (omega (arith, eqb-true _ _ (sym c.if-is_empty.ensures), c.args.payloads.ok.0)) in
+    sym (append-nil c.args.outs.now.items)
+    ∙ ap (λ (ps : List (Payload g.row.A.Denot)). c.args.outs.now.items ++ sent (to_others now (news now c.args.token.now ps))) empty

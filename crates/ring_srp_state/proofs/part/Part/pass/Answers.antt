@@ -11,8 +11,8 @@ pub forget-requires : goal.forget-requires
 forget-requires g c =
     let h = c.args.self.now.visit in
     let w = c.args.self.now.window in
-    let v : Turn g.row.A.Denot = turn_by h.me c.front-front.result c.args.fresh.now.value c.requests_now-requests.result c.args.token.now in
-    rw (c.safe.ensures, c.visit_as-went.ensures.visit, c.copied-token.ensures) (mark_within v h.turns h.raises h.ring (front_of w.held w.ring) c.requires.ring
+    let v : Turn g.row.A.Denot = turn_by h.me c.front-front.result c.args.fresh.now.value c.ask.new.requests c.args.token.now in
+    rw (c.safe.ensures, c.visit_as.ensures.visit) (mark_within v h.turns h.raises h.ring (front_of w.held w.ring) c.requires.ring
     c.requires.led c.requires.reached)
 
 pub returns-clause-token : goal.returns-clause-token
@@ -22,10 +22,9 @@ returns-clause-token g c =
     let t = c.args.token.now in
     let stays = c.args.stays.now in
     let lacks : ℕ → List ℕ = λ n. missing w.held w.ring w.mark (t.seq + n) in
-    c.visit_as-went.ensures.token
-    ∙ ap (token_after h.me c.front-front.result c.args.count c.requests_now-requests.result) c.copied-token.ensures
-    ∙ ap (λ n. token_after h.me n c.args.count c.requests_now-requests.result t) c.front-front.ensures
-    ∙ ap (λ ns. token_after h.me (front_of w.held w.ring) c.args.count ns t) c.requests_now-requests.ensures
+    c.visit_as.ensures.token
+    ∙ ap (λ n. token_after h.me n c.args.count c.ask.new.requests t) c.front-front.ensures
+    ∙ ap (λ ns. token_after h.me (front_of w.held w.ring) c.args.count ns t) c.ask.ensures
     ∙ ap (λ n. token_after h.me (front_of w.held w.ring) n (requests_after stays (lacks n)) t) (sym c.requires.count)
 
 pub returns-clause-visit : goal.returns-clause-visit
@@ -36,8 +35,7 @@ returns-clause-visit g c =
     let fresh = c.args.fresh.now.value in
     let stays = c.args.stays.now in
     let lacks : ℕ → List ℕ = λ n. missing w.held w.ring w.mark (t.seq + n) in
-    c.visit_as-went.ensures.visit
-    ∙ ap (λ u. with_turn h (turn_by h.me c.front-front.result fresh c.requests_now-requests.result u)) c.copied-token.ensures
-    ∙ ap (λ n. with_turn h (turn_by h.me n fresh c.requests_now-requests.result t)) c.front-front.ensures
-    ∙ ap (λ ns. with_turn h (turn_by h.me (front_of w.held w.ring) fresh ns t)) c.requests_now-requests.ensures
+    c.visit_as.ensures.visit
+    ∙ ap (λ n. with_turn h (turn_by h.me n fresh c.ask.new.requests t)) c.front-front.ensures
+    ∙ ap (λ ns. with_turn h (turn_by h.me (front_of w.held w.ring) fresh ns t)) c.ask.ensures
     ∙ ap (λ n. with_turn h (turn_by h.me (front_of w.held w.ring) fresh (requests_after stays (lacks n)) t)) (sym c.requires.count)

@@ -5,23 +5,23 @@ use Rattle.ring_wire.specs.declared.token.Token.{Token}
 use Rattle.ring_token.specs.Visits.{token_after}
 use Rattle.ring_token.specs.Histories.{TokenHistory, turn_by}
 use Rattle.ring_token.proofs.VisitNumbers.{kept_turn}
-use Rattle.ring_token.proofs.visit.Visit.visit.Goals as goal
+use Rattle.ring_token.proofs.visit.Visit.visit_into.Goals as goal
 
 pub invariant_of-self : goal.invariant_of-self
 invariant_of-self g c =
     let h = c.self.inside.past.value in
-    let went : c.forwarded-forwarded.result ≡ token_after h.me c.args.front (length g.fresh)
-    c.args.requests c.args.token = c.forwarded-forwarded.ensures
-    ∙ ap (λ n. token_after n c.args.front c.args.sent c.args.requests c.args.token) c.self.invariant.0
-    ∙ ap (λ n. token_after h.me c.args.front n c.args.requests c.args.token) (sym c.requires.1.1.1.1) in
-    let aru : c.forwarded-forwarded.result.aru
-    ≡ (token_after h.me c.args.front (length g.fresh) c.args.requests c.args.token).aru = ap (λ (t : Token). t.aru)
+    let went : c.forward.new.went ≡ token_after h.me c.args.front (length g.fresh)
+    c.args.went.now.requests c.args.token.now = c.forward.ensures
+    ∙ ap (λ n. token_after n c.args.front c.args.sent c.args.went.now.requests c.args.token.now) c.self.invariant.0
+    ∙ ap (λ n. token_after h.me c.args.front n c.args.went.now.requests c.args.token.now) (sym c.requires.1.1.1.1) in
+    let aru : c.forward.new.went.aru
+    ≡ (token_after h.me c.args.front (length g.fresh) c.args.went.now.requests c.args.token.now).aru = ap (λ (t : Token). t.aru)
     went in
-    let same : c.args.token.ring ≡ h.ring = c.requires.1.0 ∙ sym (ap (λ (x : TokenHistory g.row.A.Denot). x.ring) c.self.view_is) in
+    let same : c.args.token.now.ring ≡ h.ring = c.requires.1.0 ∙ sym (ap (λ (x : TokenHistory g.row.A.Denot). x.ring) c.self.view_is) in
     rw c.past_of-past.ensures (
       c.self.invariant.0,
       c.self.invariant.1,
-      kept_turn h (turn_by h.me c.args.front g.fresh c.args.requests c.args.token)
+      kept_turn h (turn_by h.me c.args.front g.fresh c.args.went.now.requests c.args.token.now)
           c.self.inside.next c.self.inside.aru c.self.inside.safe _ _ _ c.self.invariant.2 same
           c.max-self-inside.ensures aru (c.max-self-inside-2.ensures ∙ ap (λ n. max c.self.inside.safe n)
           (c.min.ensures ∙ ap (λ n. min c.self.inside.aru n) aru)),

@@ -2,7 +2,7 @@
 use Rattle.std.proofs.Common.{◌≡◌, ◌-◌, ◌++◌}
 use Rattle.ring_payload.specs.Packing.{packed, left_behind}
 use Rattle.ring_srp_state.specs.Packing.{IsLeftOf}
-use Rattle.ring_srp_state.proofs.packing.take_packed.Given as goal
+use Rattle.ring_srp_state.proofs.packing.take_some.Given as goal
 
 abbrev pub invariant-loop : goal.invariant-loop
 invariant-loop g l = record {

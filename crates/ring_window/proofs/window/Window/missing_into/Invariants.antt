@@ -1,6 +1,6 @@
 use Rattle.std.proofs.Common.{◌-◌}
 use Rattle.ring_window.proofs.Missing.{IsCounted}
-use Rattle.ring_window.proofs.window.Window.missing.Given as goal
+use Rattle.ring_window.proofs.window.Window.missing_into.Given as goal
 
 abbrev pub invariant-loop-offset : goal.invariant-loop-offset
 invariant-loop-offset g l = IsCounted (record {

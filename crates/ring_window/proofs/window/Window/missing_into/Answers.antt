@@ -1,9 +1,9 @@
 use Rattle.std.proofs.Common.{length, ap, arith}
 use Rattle.ring_window.proofs.Missing.{counted_first, counted_more, counted_full}
-use Rattle.ring_window.proofs.window.Window.missing.Goals as goal
+use Rattle.ring_window.proofs.window.Window.missing_into.Goals as goal
 
 pub loop-offset-init : goal.loop-offset-init
-loop-offset-init g c = rw c.new-missing.ensures (counted_first _ _ _ _ _ c.self.invariant c.args.upto _ (omega arith))
+loop-offset-init g c = rw c.clear.ensures (counted_first _ _ _ _ _ c.self.invariant c.args.upto _ (omega arith))
 
 pub loop-offset-preserved : goal.loop-offset-preserved
 loop-offset-preserved g c =

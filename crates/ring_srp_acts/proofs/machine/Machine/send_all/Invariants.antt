@@ -3,7 +3,7 @@ use Rattle.std.proofs.Common.{◌≡◌, ◌+◌, ◌++◌, length}
 use Rattle.ring_core.specs.Giving.{sent}
 use Rattle.ring_core.specs.Visiting.{to_others}
 use Rattle.ring_srp_acts.specs.Sending.{news, holding}
-use Rattle.ring_srp_acts.proofs.machine.Machine.send_new.Given as goal
+use Rattle.ring_srp_acts.proofs.machine.Machine.send_all.Given as goal
 
 abbrev pub invariant-loop-payload : goal.invariant-loop-payload
 invariant-loop-payload g l = record {
