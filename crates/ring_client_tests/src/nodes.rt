@@ -176,12 +176,6 @@ impl<O: Object> Port for NodePort<O> {
     }
 }
 
-/// Add 5 on key 0 of an object of counters.
-const ADD: [u8; 10] = [1, 0, 0, 0, 0, 0, 0, 0, 0, 5];
-
-/// Read key 0 of an object of counters.
-const READ: [u8; 2] = [2, 0];
-
 /// The reply of a counter that has this count.
 fn counted(count: u8) -> Reply {
     Reply::from_slice(&[0, 0, 0, 0, 0, 0, 0, 0, count])
@@ -222,14 +216,14 @@ fn a_call_survives_nodes_that_stop_or_never_answer(rt: HostRuntime) -> Result<()
     ports.push(alive(alloc)?)?;
     let mut client = Client::new(alloc, 7, ports, 100);
     // The reply comes with the sixth frame after the join timeout, and the poll after these seven turns tells it.
-    assert_eq!(rt; client.call(&ADD), Ok(counted(5)));
+    assert_eq!(rt; client.call(Counters::add(0, 5).as_slice()), Ok(counted(5)));
     assert_asked(
         &rt,
         &client,
         &[(1, Some(8), 0), (1, None, 100), (1, None, 8)],
     );
     // Of a ring that runs, it comes with the second frame.
-    assert_eq!(rt; client.call(&READ), Ok(counted(5)));
+    assert_eq!(rt; client.call(Counters::read(0).as_slice()), Ok(counted(5)));
     assert_asked(
         &rt,
         &client,

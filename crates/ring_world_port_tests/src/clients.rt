@@ -1,6 +1,6 @@
 //! Worked runs of a client over three nodes of one world.
 
-use crate::shared::{ADD, READ, client_of, counted, cut, everybody, happen, order_len, three};
+use crate::shared::{add, client_of, counted, cut, everybody, happen, order_len, read, three};
 use ring_base::{Fault, Kind, Proc, ProcSet};
 use ring_client::{Client, Port};
 use ring_object::Object;
@@ -33,7 +33,7 @@ fn opened<O: Object>(
 /// Whether a call gets no answer and stays open: each node was polled in vain, and while a call is open another is refused
 /// at once, with no port asked.
 fn stays_open<P: Port>(client: &mut Client<P>) -> bool {
-    let is_unanswered = client.call(&ADD) == Err(Fault::NoAnswer) && client.is_open();
+    let is_unanswered = client.call(add().as_slice()) == Err(Fault::NoAnswer) && client.is_open();
     let in_vain = Some((1, None, 300));
     let are_asked = told(client, 0) == in_vain && told(client, 1) == in_vain;
     is_unanswered && are_asked && client.ports().len() == 2
@@ -46,7 +46,7 @@ fn is_answered_later<O: Object>(
 ) -> Result<bool, Fault> {
     cut(shared, everybody()?)?;
     let is_answered = client.again() == Ok(counted(5)) && client.next_number() == Some(2);
-    let is_counted = client.call(&READ) == Ok(counted(5));
+    let is_counted = client.call(read().as_slice()) == Ok(counted(5));
     Ok(is_answered && is_counted && order_len(shared)? == 2)
 }
 
@@ -69,7 +69,8 @@ fn is_passed_over<O: Object>(
     shared: &Shared<O>,
 ) -> Result<bool, Fault> {
     happen(shared, Event::Stop(Proc::new(1)))?;
-    let is_answered = client.call(&ADD) == Ok(counted(5)) && client.call(&READ) == Ok(counted(5));
+    let is_answered = client.call(add().as_slice()) == Ok(counted(5))
+        && client.call(read().as_slice()) == Ok(counted(5));
     let is_refused = told(client, 0) == Some((2, Some(8), 0));
     Ok(is_answered && is_refused && order_len(shared)? == 2)
 }
@@ -99,7 +100,7 @@ fn is_answered_by_second<O: Object>(
     client: &mut Client<WorldPort<O>>,
     shared: &Shared<O>,
 ) -> Result<bool, Fault> {
-    let is_answered = client.call(&ADD) == Ok(counted(5));
+    let is_answered = client.call(add().as_slice()) == Ok(counted(5));
     Ok(is_answered && told(client, 0) == Some((1, None, 200)) && order_len(shared)? == 1)
 }
 
@@ -111,7 +112,7 @@ fn is_sent_once<O: Object>(
 ) -> Result<bool, Fault> {
     cut(shared, everybody()?)?;
     happen(shared, Event::Timeout(Proc::new(1), Kind::Join))?;
-    let is_read = client.call(&READ) == Ok(counted(5));
+    let is_read = client.call(read().as_slice()) == Ok(counted(5));
     let is_by_first = matches!(told(client, 0), Some((2, None, polls)) if polls < 200);
     Ok(is_read && is_by_first && committed(shared, 1)? == 2 && order_len(shared)? == 2)
 }

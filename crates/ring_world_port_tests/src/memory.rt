@@ -1,6 +1,6 @@
 //! Each request for memory of a client's call over three nodes refused in turn.
 
-use crate::shared::{ADD, client_of, counted, order_len, three};
+use crate::shared::{add, client_of, counted, order_len, three};
 use refusing_alloc::Refusing;
 use ring_base::Fault;
 use ring_checker::is_linearization;
@@ -32,10 +32,10 @@ fn client<O: Object>(heap: O::Alloc, shared: &Shared<O>) -> Result<Client<WorldP
 
 /// Makes the call, and tries it anew once where it got no reply.
 fn called<P: Port>(client: &mut Client<P>) -> Result<Reply, Fault> {
-    match client.call(&ADD) {
+    match client.call(add().as_slice()) {
         Ok(reply) => Ok(reply),
         Err(_) if client.is_open() => client.again(),
-        Err(_) => client.call(&ADD),
+        Err(_) => client.call(add().as_slice()),
     }
 }
 

@@ -1,6 +1,6 @@
 //! Ports to three nodes of one world.
 
-use crate::shared::{ADD, counted, cut, happen, three};
+use crate::shared::{add, counted, cut, happen, three};
 use refusing_alloc::Refusing;
 use ring_base::{Fault, Proc, ProcSet};
 use ring_client::Port;
@@ -33,7 +33,7 @@ fn answers<P: Port>(port: &mut P, call: &Call<P::Alloc>) -> Result<[Option<Answe
 
 /// The same at the first of three nodes that hear each other.
 fn answers_of_first<O: Object>(alloc: O::Alloc) -> Result<[Option<Answer>; 3], Fault> {
-    let call = Call::new(alloc, 7, 1, &ADD)?;
+    let call = Call::new(alloc, 7, 1, add().as_slice())?;
     let mut port = WorldPort::new(three::<O>(alloc)?, Proc::new(1));
     answers(&mut port, &call)
 }
@@ -103,7 +103,7 @@ fn refused_in_turn<O: Object>(
 fn refused_by_three<O: Object>(alloc: O::Alloc) -> Result<[Refused; 4], Fault> {
     let shared = three::<O>(alloc)?;
     let long = numbered_0(alloc, &[0; 1025])?;
-    let none = numbered_0(alloc, &ADD)?;
+    let none = numbered_0(alloc, add().as_slice())?;
     refused_in_turn(&shared, &long, &none)
 }
 
@@ -142,7 +142,7 @@ fn full_and_stopped<O: Object>(
 /// The same of the first of three nodes.
 fn refused_by_first<O: Object>(alloc: O::Alloc) -> Result<[Refused; 2], Fault> {
     let shared = three::<O>(alloc)?;
-    let call = Call::new(alloc, 7, 1, &ADD)?;
+    let call = Call::new(alloc, 7, 1, add().as_slice())?;
     let mut port = WorldPort::new(shared.clone()?, Proc::new(1));
     full_and_stopped(&shared, &mut port, &call)
 }
@@ -223,7 +223,7 @@ fn refused_copy<O: Object>(
     ample: O::Alloc,
 ) -> Result<(Refused, usize, usize), Fault> {
     let shared = three::<O>(ample)?;
-    let call = Call::new(heap, 7, 1, &ADD)?;
+    let call = Call::new(heap, 7, 1, add().as_slice())?;
     refused_once(&shared, &call)
 }
 

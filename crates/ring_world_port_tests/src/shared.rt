@@ -5,15 +5,20 @@ ghost use Rattle.ring_rules.specs.WorldLimits.{EventFits};
 use ring_base::{Fault, Fixed, ProcSet};
 use ring_client::Client;
 use ring_object::{Object, Reply};
+use ring_things::{Counters, Operation};
 use ring_world_port::{Event, Network, Shared, World, WorldPort};
 use std::cell::RefCell;
 use std::rc::Rc;
 
-/// Add 5 on key 0 of an object of counters.
-pub const ADD: [u8; 10] = [1, 0, 0, 0, 0, 0, 0, 0, 0, 5];
+/// Add 5 to counter 0.
+pub fn add() -> Operation {
+    Counters::add(0, 5)
+}
 
-/// Read key 0 of an object of counters.
-pub const READ: [u8; 2] = [2, 0];
+/// Read counter 0.
+pub fn read() -> Operation {
+    Counters::read(0)
+}
 
 /// The reply of a counter that has this count.
 pub fn counted(count: u8) -> Reply {

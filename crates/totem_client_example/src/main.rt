@@ -11,17 +11,11 @@
 use ring_base::{Fault, Fixed, Kind, Proc, ProcSet};
 use ring_client::{Client, Port};
 use ring_object::{Object, Reply};
-use ring_things::Counters;
+use ring_things::{Counters, Replied};
 use ring_world_port::{Event, Network, Shared, World, WorldPort};
 use std::cell::RefCell;
 use std::process::ExitCode;
 use std::rc::Rc;
-
-/// Add 5 to counter 0: the operation's number, the key, and the amount in eight bytes.
-const ADD: [u8; 10] = [1, 0, 0, 0, 0, 0, 0, 0, 0, 5];
-
-/// Read counter 0.
-const READ: [u8; 2] = [2, 0];
 
 /// How often the client polls a node at most.
 const POLLS: u64 = 200;
@@ -34,13 +28,13 @@ struct Story {
     /// The number of polls of its first call at node 1, all of them in vain.
     vain: u64,
     /// The counter, as the add's reply tells it.
-    added: u8,
+    added: u64,
     /// How many calls node 1 has committed once it hears the others again.
     committed: usize,
     /// How many calls the order has then.
     order: u64,
     /// The counter, as it is read then.
-    read: u8,
+    read: u64,
 }
 
 fn main(rt: HostRuntime) -> ExitCode {
@@ -95,10 +89,10 @@ fn call_twice<O: Object>(
     shared: &Shared<O>,
     first: Proc,
 ) -> Result<Story, Fault> {
-    let added = client.call(&ADD)?;
+    let added = client.call(Counters::add(0, 5).as_slice())?;
     let vain = vain_polls(client);
     let (committed, order) = heal(shared, first)?;
-    let read = client.call(&READ)?;
+    let read = client.call(Counters::read(0).as_slice())?;
     Ok(Story {
         vain,
         added: count_of(&added),
@@ -140,7 +134,9 @@ fn heal<O: Object>(shared: &Shared<O>, node: Proc) -> Result<(usize, u64), Fault
     Ok((world.node(node).committed().len(), world.order_len()))
 }
 
-/// The last byte of a counter's reply, in which a small count stands.
-fn count_of(reply: &Reply) -> u8 {
-    reply.as_slice().last().copied().unwrap_or(0)
+/// The count that a counter's reply tells.
+fn count_of(reply: &Reply) -> u64 {
+    Replied::read(reply.as_slice())
+        .and_then(|replied| replied.value)
+        .unwrap_or(0)
 }

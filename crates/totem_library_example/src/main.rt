@@ -5,13 +5,10 @@ mod alone;
 
 use alone::Alone;
 use ring_base::Fault;
-use ring_object::{Object, Reply};
+use ring_object::Object;
 use ring_session::Answer;
-use ring_things::Counters;
+use ring_things::{Counters, Replied};
 use std::process::ExitCode;
-
-/// Add 5 to counter 0: the operation's number, the key, and the amount in eight bytes.
-const ADD: [u8; 10] = [1, 0, 0, 0, 0, 0, 0, 0, 0, 5];
 
 /// The frames that the node is handed: four form its ring, and the call is answered two later.
 const FRAMES: usize = 6;
@@ -26,21 +23,19 @@ fn main(rt: HostRuntime) -> ExitCode {
 }
 
 /// The count that the call is answered with, if it is.
-fn count<O: Object>(alloc: O::Alloc) -> Result<Option<u8>, Fault> {
+fn count<O: Object>(alloc: O::Alloc) -> Result<Option<u64>, Fault> {
     match &answered::<O>(alloc)? {
-        Some(Answer::Done(reply)) => Ok(Some(count_of(reply))),
+        Some(Answer::Done(reply)) => {
+            Ok(Replied::read(reply.as_slice()).and_then(|replied| replied.value))
+        }
         _ => Ok(None),
     }
 }
 
-/// The last byte of a counter's reply, in which a small count stands.
-fn count_of(reply: &Reply) -> u8 {
-    reply.as_slice().last().copied().unwrap_or(0)
-}
-
-/// Submits client 7's call number 1, and hands the node its own frames until the call is answered.
+/// Submits client 7's call number 1, which adds 5 to counter 0, and hands the node its own frames until the call is answered.
 fn ask<O: Object>(node: &mut Alone<O>) -> Result<Option<Answer>, Fault> {
-    let ticket = node.submit(7, 1, &ADD)?;
+    let add = Counters::add(0, 5);
+    let ticket = node.submit(7, 1, add.as_slice())?;
     node.time()?;
     for _ in 0..FRAMES {
         node.hear()?;
