@@ -1,16 +1,20 @@
 #!/usr/bin/env python3
-"""Measures hosts on threads, beside a plain host in Rust.
+"""Measures hosts on threads, beside plain hosts.
 
-    bench/host.py [--runs N] [--program FILE]    calls and lines a second, of this host and of the plain one; and an idle host
+    bench/host.py [--runs N] [--program FILE]    calls and lines a second, of this host and of the plain ones; and an idle host
     bench/host.py --soak [--program FILE]        hosts under stops and cramped inboxes, for a minute
 
 The program promises nothing, so it is no crate of the repository: its text is bench/host/, each file with `.txt` behind its
 name. It is proved and built in a copy of the repository, as the crate `host_bench`; where checks of the crates below were
-kept, that takes some minutes. --program names one that was built before, and --save FILE keeps the one that is built. The plain host is bench/plain_host.rs, built by rustc: a Mutex a node, an inbox a
-node, no book and no checks, and a ring that never changes.
+kept, that takes some minutes. --program names one that was built before, and --save FILE keeps the one that is built.
+
+There are two plain hosts: a Mutex a node, an inbox a node, no book and no checks. One has the same nodes, and is part of the
+program: it shows what the book and the gauge cost. The other is bench/plain_host.rs, built by rustc, with nodes written for it,
+whose ring never changes and loses nothing: it shows what threads and a token can do at all.
 
 For each case the best of N runs is told, 5 where no number is given: calls answered a second, lines of the book a second, the
-plain host's calls a second, and the first by the third. Ratios matter: seconds depend on the machine and on what else it does.
+calls a second of the plain host of the same nodes, the first by that, and the calls a second of the one in Rust. Ratios matter:
+seconds depend on the machine and on what else it does.
 
 The soak ends with status 1 if a host's history was not legal, or memory grew: if the last quarter of the hosts held more than
 1.2 times what the second quarter held at most.
@@ -25,13 +29,14 @@ import time
 from pathlib import Path
 
 ROOT = Path(__file__).resolve().parent.parent
-LINE = ("host_bench: ring_base ring_payload ring_object ring_book ring_seat ring_host ring_client ring_host_port "
-        "ring_console ring_live\n")
+LINE = ("host_bench: ring_base ring_payload ring_wire ring_object ring_things ring_session ring_node ring_book ring_seat ring_host "
+        "ring_client ring_host_port ring_console ring_live crossbeam_queue bytes\n")
 # Nodes, calls in flight a client, calls a client: few enough for a book of 262,144 lines.
 CASES = [(3, 1, 2_000), (16, 1, 100), (3, 64, 20_000), (16, 64, 2_000)]
 IDLE_NODES, IDLE_MILLIS = 3, 10_000
 SOAK_SECONDS = 60
-HEADS = ["Nodes", "In flight a client", "Calls a second", "Lines a second", "Plain host, calls a second", "The first by the third"]
+HEADS = ["Nodes", "In flight a client", "Calls a second", "Lines a second", "Plain host of the same nodes", "The first by that",
+         "Plain host in Rust"]
 
 
 def copied(folder):
@@ -94,8 +99,9 @@ def table(program, plain, runs):
     print("|" + "---|" * len(HEADS))
     for nodes, depth, calls in CASES:
         answered, lines = best(runs, program, "load", nodes, depth, calls)
-        plainly, _ = best(runs, plain, nodes, depth, calls)
-        row = [nodes, depth, f"{answered:,.0f}", f"{lines:,.0f}", f"{plainly:,.0f}", f"{answered / plainly:.2f}"]
+        plainly, _ = best(runs, program, "plain", nodes, depth, calls)
+        in_rust, _ = best(runs, plain, nodes, depth, calls)
+        row = [nodes, depth, f"{answered:,.0f}", f"{lines:,.0f}", f"{plainly:,.0f}", f"{answered / plainly:.2f}", f"{in_rust:,.0f}"]
         print("| " + " | ".join(str(cell) for cell in row) + " |", flush=True)
 
 

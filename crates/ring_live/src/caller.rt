@@ -10,16 +10,14 @@ use ring_client::Client;
 use ring_host::{Host, Seat};
 use ring_host_port::HostPort;
 use ring_object::{Object, Reply};
+use ring_things::{Counters, Place, Replied};
 use std::alloc::{Allocator, Global};
 use std::sync::Wait;
 use std::sync::atomic::{AtomicU64, Ordering};
 use std::thread;
 
-/// Add 1 to counter 0 of a shelf: the object, the operation, the key, and the amount in eight bytes.
-const ADD: [u8; 11] = [1, 1, 0, 0, 0, 0, 0, 0, 0, 0, 1];
-
-/// Read counter 0 of a shelf.
-const READ: [u8; 3] = [1, 2, 0];
+/// Where the counters stand on the program's shelf.
+const COUNTERS: Place = Place::Second;
 
 /// How often a client polls a port at most, for one call.
 const POLLS: u64 = 1_000_000;
@@ -88,7 +86,8 @@ fn try_call<O: Object, K: BookName<O::Alloc>, W: Wait>(
         return Ok(0);
     }
     wait_for_others(rt, running);
-    let reply = client.call(&READ)?;
+    let read = COUNTERS.operation(&Counters::read(0));
+    let reply = client.call(read.as_slice())?;
     Ok(count_in(&reply))
 }
 
@@ -123,9 +122,10 @@ fn add<O: Object, K: BookName<O::Alloc>, W: Wait>(
     client: &mut Client<HostPort<'_, O, K, W>>,
     calls: u8,
 ) -> u64 {
+    let add = COUNTERS.operation(&Counters::add(0, 1));
     let mut answered = 0u64;
     for _ in 0..calls {
-        if client.call(&ADD).is_err() {
+        if client.call(add.as_slice()).is_err() {
             return answered;
         }
         answered = answered.saturating_add(1);
@@ -143,11 +143,9 @@ fn wait_for_others<W: Wait>(rt: &W, running: &AtomicU64) {
     }
 }
 
-/// The count that a reply tells, in its last eight bytes.
+/// The count that a reply tells, 0 where it tells none.
 fn count_in(reply: &Reply) -> u64 {
-    let mut count = 0u64;
-    for byte in reply.as_slice() {
-        count = count << 8 | u64::from(*byte);
-    }
-    count
+    Replied::read(reply.as_slice())
+        .and_then(|replied| replied.value)
+        .unwrap_or(0)
 }
