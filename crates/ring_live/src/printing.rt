@@ -71,7 +71,7 @@ fn run<W: Threads + Wait + Sync>(
         nodes: group.count(),
         inbox: INBOX,
         calls,
-        rests: false,
+        rests: true,
     };
     run_live::<Things<Global>, Brand, W>(rt, alloc, opening, setting)
 }
