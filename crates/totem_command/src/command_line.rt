@@ -1,5 +1,6 @@
 //! The command line.
 
+use crate::votes::{Votes, votes_of};
 use clap::builder::ValueParser;
 use clap::error::ErrorKind;
 use clap::{Arg, ArgAction, ArgMatches, Command, Error};
@@ -10,13 +11,29 @@ use std::io;
 #[derive(Drop)]
 pub(crate) enum Task<'a> {
     /// To list the frames of a file.
-    Frames { file: &'a str },
+    Frames {
+        file: &'a str,
+    },
     /// To run the script in a file, and to tell whether its run is legal where that is asked for.
-    Script { file: &'a str, is_checked: bool },
+    Script {
+        file: &'a str,
+        is_checked: bool,
+    },
     /// To run the script in a file with a stop and a cut of each node before each event.
-    Sweep { file: &'a str },
+    Sweep {
+        file: &'a str,
+    },
     /// To run nodes and clients in threads, so many calls a client.
-    Live { nodes: u8, calls: u8 },
+    Live {
+        nodes: u8,
+        calls: u8,
+    },
+    /// To make the script of a seed, of nodes with these votes, and of so many lines.
+    Generate {
+        votes: Votes,
+        seed: u64,
+        events: u32,
+    },
 }
 
 /// What `totem --help` ends with.
@@ -70,6 +87,30 @@ nobody answered, nothing of this is printed, and standard error tells why.
 Example:
   totem live --nodes 3 --calls 10";
 
+/// What `totem gen --help` ends with.
+const GENERATE_HELP: &str = "\
+The script calls, delivers, cuts, heals, stops, times out, makes noise and pumps; comments say what
+its lines tell. The same numbers make the same script on every machine. `show` stands last, and is
+not counted.
+
+Exit status:
+  0  the script was printed
+  1  `totem: NUMBER TEXT` on standard error says why not; nothing is there where the output failed
+  2  a bad command line, or a call for help
+
+Example:
+  totem gen --nodes 5 --seed 7 --events 200 > seven.script";
+
+/// What is said where there is no command.
+const NO_COMMAND: &str = "no command was given";
+
+/// What is said of votes that can't be.
+const BAD_VOTES: &str =
+    "--votes takes as many numbers from 1 to 255 as there are nodes, parted by commas";
+
+/// A script that is made has at most so many lines that ask for something.
+const MOST_EVENTS: u64 = 10_000;
+
 /// What the words ask for, the program's own name being the first. Otherwise what the parser says of them;
 /// it speaks up too where it was asked for help.
 pub(crate) fn task_of<'a>(
@@ -80,25 +121,35 @@ pub(crate) fn task_of<'a>(
     match words {
         Ok(words) => {
             let matches = command.try_get_matches_from_mut(words.as_slice())?;
-            if let Some((name, of)) = matches.subcommand()
-                && let Some(task) = task_in(name, of)
-            {
-                return Ok(task);
+            let asked = match matches.subcommand() {
+                Some((name, of)) => task_in(name, of),
+                None => Err(NO_COMMAND),
+            };
+            match asked {
+                Ok(task) => Ok(task),
+                Err(wrong) => Err(command.error(ErrorKind::InvalidValue, wrong)?),
             }
-            Err(command.error(ErrorKind::MissingSubcommand, "no command was given")?)
         }
         Err(error) if error.kind() == io::ErrorKind::OutOfMemory => Err(Error::from(AllocError)),
         Err(_) => Err(command.error(ErrorKind::InvalidValue, "an argument is not UTF-8")?),
     }
 }
 
-/// What the words of this command ask for.
-fn task_in<'a>(name: &str, of: &ArgMatches<'a>) -> Option<Task<'a>> {
-    if name == "live" {
-        let nodes = of.get_one::<u8>("nodes")?;
-        let calls = of.get_one::<u8>("calls")?;
-        return Some(Task::Live { nodes, calls });
+/// What the words of this command ask for, or what is wrong with them.
+fn task_in<'a>(name: &str, of: &ArgMatches<'a>) -> Result<Task<'a>, &'static str> {
+    if name == "gen" {
+        return generate_in(of);
     }
+    let task = if name == "live" {
+        live_in(of)
+    } else {
+        file_in(name, of)
+    };
+    task.ok_or(NO_COMMAND)
+}
+
+/// The task of a command that reads a file.
+fn file_in<'a>(name: &str, of: &ArgMatches<'a>) -> Option<Task<'a>> {
     let file = of.get_str("FILE")?;
     match name {
         "frames" => Some(Task::Frames { file }),
@@ -111,8 +162,43 @@ fn task_in<'a>(name: &str, of: &ArgMatches<'a>) -> Option<Task<'a>> {
     }
 }
 
+/// The task of `live`.
+fn live_in<'a>(of: &ArgMatches<'a>) -> Option<Task<'a>> {
+    let nodes = of.get_one::<u8>("nodes")?;
+    let calls = of.get_one::<u8>("calls")?;
+    Some(Task::Live { nodes, calls })
+}
+
+/// The task of `gen`, or what is wrong with its words.
+fn generate_in<'a>(of: &ArgMatches<'a>) -> Result<Task<'a>, &'static str> {
+    let nodes = of.get_one::<u8>("nodes").ok_or(NO_COMMAND)?;
+    let votes = votes_of(nodes, of.get_str("votes")).ok_or(BAD_VOTES)?;
+    let seed = of.get_one::<u64>("seed").ok_or(NO_COMMAND)?;
+    let events = of.get_one::<u32>("events").ok_or(NO_COMMAND)?;
+    Ok(Task::Generate {
+        votes,
+        seed,
+        events,
+    })
+}
+
+/// The commands, and the words of each.
 fn command_of<'a>(alloc: Global) -> Result<Command<'a>, AllocError> {
-    let script = Command::new(alloc, "script")
+    Command::new(alloc, "totem")
+        .bin_name("totem")?
+        .version("0.1.0")
+        .about("Replicated objects on a token ring")
+        .after_help(TOTEM_HELP)
+        .subcommand_required(true)
+        .subcommand(script_command(alloc)?)?
+        .subcommand(sweep_command(alloc)?)?
+        .subcommand(frames_command(alloc)?)?
+        .subcommand(live_command(alloc)?)?
+        .subcommand(generate_command(alloc)?)
+}
+
+fn script_command<'a>(alloc: Global) -> Result<Command<'a>, AllocError> {
+    Command::new(alloc, "script")
         .about("Runs a script, and prints what comes of its events")
         .after_help(SCRIPT_HELP)
         .arg(
@@ -121,30 +207,44 @@ fn command_of<'a>(alloc: Global) -> Result<Command<'a>, AllocError> {
                 .help("Tells behind all else whether the run is legal")
                 .action(ArgAction::SetTrue),
         )?
-        .arg(file_of(alloc, "The script"))?;
-    let sweep = Command::new(alloc, "sweep")
+        .arg(file_of(alloc, "The script"))
+}
+
+fn sweep_command<'a>(alloc: Global) -> Result<Command<'a>, AllocError> {
+    Command::new(alloc, "sweep")
         .about("Runs a script with a stop and a cut of each node before each event")
         .after_help(SWEEP_HELP)
-        .arg(file_of(alloc, "The script"))?;
-    let frames = Command::new(alloc, "frames")
+        .arg(file_of(alloc, "The script"))
+}
+
+fn frames_command<'a>(alloc: Global) -> Result<Command<'a>, AllocError> {
+    Command::new(alloc, "frames")
         .about("Lists the frames of a file, a line each")
         .after_help(FRAMES_HELP)
-        .arg(file_of(alloc, "The file of frames, one behind another"))?;
-    let live = Command::new(alloc, "live")
+        .arg(file_of(alloc, "The file of frames, one behind another"))
+}
+
+fn live_command<'a>(alloc: Global) -> Result<Command<'a>, AllocError> {
+    Command::new(alloc, "live")
         .about("Runs nodes and clients in threads of their own")
         .after_help(LIVE_HELP)
         .arg(number_of(alloc, "nodes", "How many nodes, and as many clients", 16))?
-        .arg(number_of(alloc, "calls", "How many adds each client makes", 100))?;
-    Command::new(alloc, "totem")
-        .bin_name("totem")?
-        .version("0.1.0")
-        .about("Replicated objects on a token ring")
-        .after_help(TOTEM_HELP)
-        .subcommand_required(true)
-        .subcommand(script)?
-        .subcommand(sweep)?
-        .subcommand(frames)?
-        .subcommand(live)
+        .arg(number_of(alloc, "calls", "How many adds each client makes", 100))
+}
+
+fn generate_command<'a>(alloc: Global) -> Result<Command<'a>, AllocError> {
+    Command::new(alloc, "gen")
+        .about("Makes a script by a seed, and prints it")
+        .after_help(GENERATE_HELP)
+        .arg(number_of(alloc, "nodes", "How many nodes", 16))?
+        .arg(seed_of(alloc))?
+        .arg(number_of(
+            alloc,
+            "events",
+            "How many lines that ask for something",
+            MOST_EVENTS,
+        ))?
+        .arg(votes_word(alloc))
 }
 
 /// The word that names a file.
@@ -163,4 +263,22 @@ fn number_of<'a>(alloc: Global, name: &'a str, help: &'a str, most: u64) -> Arg<
         .required(true)
         .action(ArgAction::Set)
         .value_parser(ValueParser::unsigned(1, most))
+}
+
+/// The word for a seed.
+fn seed_of<'a>(alloc: Global) -> Arg<'a> {
+    Arg::new(alloc, "seed")
+        .long("seed")
+        .help("The seed, any number below 2^64")
+        .required(true)
+        .action(ArgAction::Set)
+        .value_parser(ValueParser::unsigned(0, u64::MAX))
+}
+
+/// The word for the votes of all nodes.
+fn votes_word<'a>(alloc: Global) -> Arg<'a> {
+    Arg::new(alloc, "votes")
+        .long("votes")
+        .help("The votes of each node, parted by commas, in place of one each")
+        .action(ArgAction::Set)
 }

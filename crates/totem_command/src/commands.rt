@@ -1,10 +1,11 @@
-//! What each command does: it opens the file that is named, and has `ring_console` and `ring_sweep` do the work.
+//! What each command does: it opens the file that is named, and has `ring_sweep`, `ring_live` or `ring_script_maker` do the work.
 
 use crate::command_line::{Task, task_of};
 use clap::Error;
 use clap::error::ErrorKind;
 use ring_base::Fault;
 use ring_live::live;
+use ring_script_maker::generate;
 use ring_sweep::{Failure, frames, report, script, script_check, sweep, sweep_watched};
 use std::io::Write;
 use std::rt::Files;
@@ -43,6 +44,13 @@ pub fn run<R: Files + AllocGlobal + Threads + Wait + Sync, O: Write, E: Write, P
             (Err(_), _) => report(err, Failure::BadScript(0)),
         },
         Ok(Task::Live { nodes, calls }) => live(rt, rt.alloc(), nodes, calls, out, err),
+        Ok(
+            Task::Generate {
+                votes,
+                seed,
+                events,
+            },
+        ) => generate(rt.alloc(), votes.as_slice(), seed, events, out, err),
         Err(error) => tell(&error, out, err),
     }
 }

@@ -3,5 +3,6 @@
 
 mod command_line;
 mod commands;
+mod votes;
 
 pub use commands::run;

@@ -1,0 +1,106 @@
+//! The making of a script.
+
+ghost use Rattle.std.specs.Prelude.{◌≡◌, ◌≤◌, ℕ, List, IfOk, OnOk, string_bytes};
+ghost use Rattle.std.specs.Io.KnownBytes.{Appends, Keeps};
+ghost use Rattle.ring_script_maker.specs.Made.{IsScript};
+
+use crate::maker::Maker;
+use ring_base::{Fault, Fixed};
+use ring_report::{Failure, report};
+use ring_script::{Script, ScriptFault};
+use std::alloc::Allocator;
+use std::fmt::Write as _;
+use std::io::Write;
+
+/// The script of this seed: of as many nodes as there are votes, each with its own, and of so many lines that call, deliver,
+/// time out, make noise, stop, cut, heal and pump, of 1 to 10,000. Comments say what these tell, and `show` stands last.
+/// `NotMember` unless there are 1 to 16 votes, each at least 1; or `Memory`. What was made is read back before it is given: where
+/// it were no script, that would be `BadScript`.
+pub fn made_script<A: Allocator + Copy + Drop>(
+    alloc: A,
+    votes: &[u8],
+    seed: u64,
+    lines: u32,
+) -> Result<String<A>, Fault>
+    ensures { IfOk result (λ text. IsScript (string_bytes text)) }
+{
+    let text = told_script(alloc, votes, seed, lines)?;
+    read_back(alloc, text.as_bytes())?;
+    Ok(text)
+}
+
+/// The script as it is told.
+fn told_script<A: Allocator>(
+    alloc: A,
+    votes: &[u8],
+    seed: u64,
+    lines: u32,
+) -> Result<String<A>, Fault> {
+    let nodes = Fixed::with_votes(votes)?;
+    let mut head = String::new(alloc);
+    write_head(&mut head, votes, seed, lines)?;
+    let mut maker = Maker::new(head, nodes, seed, lines.min(MOST_LINES));
+    maker.tell_all()?;
+    maker.show()?;
+    Ok(maker.into_text())
+}
+
+/// Reads a text as a script. `BadScript` where it is none; or `Memory`.
+fn read_back<A: Allocator + Copy + Drop>(alloc: A, text: &[u8]) -> Result<(), Fault>
+    ensures { OnOk result (IsScript text.now) }
+{
+    match Script::parse(alloc, text) {
+        Ok(_) => Ok(()),
+        Err(ScriptFault::Memory) => Err(Fault::Memory),
+        Err(ScriptFault::AtLine(_)) => Err(Fault::BadScript),
+    }
+}
+
+/// A script that is made has at most so many lines that ask for something, `show` left out.
+const MOST_LINES: u32 = 10_000;
+
+/// How the script was made, how many nodes there are, and their votes, where one has more than one.
+fn write_head<A: Allocator>(
+    head: &mut String<A>,
+    votes: &[u8],
+    seed: u64,
+    lines: u32,
+) -> Result<(), Fault> {
+    let count = votes.len();
+    writeln!(
+        head,
+        "# Seed {seed}, {count} nodes, {lines} lines.\nnodes {count}"
+    )?;
+    if votes.iter().all(|vote| *vote == 1) {
+        return Ok(());
+    }
+    write!(head, "votes")?;
+    for vote in votes {
+        write!(head, " {vote}")?;
+    }
+    writeln!(head)?;
+    Ok(())
+}
+
+/// Prints the script of this seed, as [`made_script`] makes it. The exit status is 0, or else 1: where memory is refused or there
+/// are no such nodes `err` is told so, and nothing is printed; where `out` fails, nothing is told.
+pub fn generate<A: Allocator + Copy + Drop, O: Write, E: Write>(
+    alloc: A,
+    votes: &[u8],
+    seed: u64,
+    lines: u32,
+    out: &mut O,
+    err: &mut E,
+) -> u8
+    ensures status { result ≤ 1 }
+    ensures quiet { result ≡ 0 → Keeps (E.contents err.old) (E.contents err.new) }
+    ensures printed { result ≡ 0 → (text : List ℕ) × IsScript text × Appends (O.contents out.old) (O.contents out.new) text }
+{
+    match made_script(alloc, votes, seed, lines) {
+        Ok(text) => match out.write_all(text.as_bytes()) {
+            Ok(()) => 0,
+            Err(_) => report(err, Failure::Output),
+        },
+        Err(fault) => report(err, Failure::Refused(fault)),
+    }
+}

@@ -1,0 +1,68 @@
+//! The lines of a script.
+
+use crate::operation::Operation;
+use crate::sides::Sides;
+use ring_base::{Kind, Proc};
+use std::fmt;
+
+/// What a line asks for.
+#[derive(Clone, Copy)]
+pub(crate) enum Step {
+    Call {
+        node: Proc,
+        client: u32,
+        number: u32,
+        operation: Operation,
+    },
+    Deliver {
+        node: Proc,
+        frame: u32,
+    },
+    Timeout {
+        node: Proc,
+        kind: Kind,
+    },
+    Noise {
+        node: Proc,
+        byte: u8,
+    },
+    Stop {
+        node: Proc,
+    },
+    Cut(Sides),
+    Heal,
+    Pump {
+        turns: u32,
+    },
+}
+
+/// The line, without its end.
+impl fmt::Display for Step {
+    fn fmt<W: fmt::Write>(&self, f: &mut fmt::Formatter<W>) -> fmt::Result {
+        match *self {
+            Step::Call {
+                node,
+                client,
+                number,
+                operation,
+            } => write!(f, "call {node} {client} {number} {operation}"),
+            Step::Deliver { node, frame } => write!(f, "deliver {node} {frame}"),
+            Step::Timeout { node, kind } => write!(f, "timeout {node} {}", name_of(kind)),
+            Step::Noise { node, byte } => write!(f, "noise {node} {byte:02x}"),
+            Step::Stop { node } => write!(f, "stop {node}"),
+            Step::Cut(sides) => write!(f, "cut{sides}"),
+            Step::Heal => write!(f, "heal"),
+            Step::Pump { turns } => write!(f, "pump {turns}"),
+        }
+    }
+}
+
+/// The timeout's name.
+fn name_of(kind: Kind) -> &'static str {
+    match kind {
+        Kind::Retransmit => "retransmit",
+        Kind::Join => "join",
+        Kind::Consensus => "consensus",
+        Kind::Loss => "loss",
+    }
+}

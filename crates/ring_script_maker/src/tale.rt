@@ -1,0 +1,68 @@
+//! What a script tells of itself, in comments.
+
+use ring_base::Proc;
+use std::fmt;
+
+/// What the lines after a comment are for.
+#[derive(Clone, Copy)]
+pub(crate) enum Tale {
+    Open,
+    Calls,
+    Retry { client: u32, node: Proc },
+    Part,
+    Merge,
+    Break { node: Proc },
+    Stop { node: Proc },
+    Deafen { node: Proc },
+    Repeat,
+    Resend,
+    End,
+}
+
+/// The comment, without its end.
+impl fmt::Display for Tale {
+    fn fmt<W: fmt::Write>(&self, f: &mut fmt::Formatter<W>) -> fmt::Result {
+        match *self {
+            Tale::Open => write!(f, "# All nodes look for each other, and form a ring."),
+            Tale::Calls => write!(f, "# Clients call."),
+            Tale::Retry { client, node } => {
+                write!(
+                    f,
+                    "# Client {client} tries its last call again, at node {node}."
+                )
+            }
+            Tale::Part => write!(
+                f,
+                "# A cut: each side gives up the others, and goes on alone."
+            ),
+            Tale::Merge => write!(f, "# The cut heals, and the sides look for each other."),
+            Tale::Break { node } => {
+                write!(
+                    f,
+                    "# Rings change, and node {node} begins anew before that is done."
+                )
+            }
+            Tale::Stop { node } => {
+                write!(
+                    f,
+                    "# Node {node} stops for good, and the others give it up."
+                )
+            }
+            Tale::Deafen { node } => {
+                write!(
+                    f,
+                    "# For a moment node {node} hears nobody, and what it missed is sent again."
+                )
+            }
+            Tale::Repeat => write!(
+                f,
+                "# Old frames come once more, and bytes that no node sent."
+            ),
+            Tale::Resend => write!(f, "# Tokens are sent once more."),
+            Tale::End => write!(
+                f,
+                "# At last all that have not stopped form one ring, and answer what waits."
+            ),
+        }
+    }
+}

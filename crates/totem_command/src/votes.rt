@@ -1,0 +1,42 @@
+//! The votes that a command line names.
+
+use arrayvec::ArrayVec;
+
+/// The votes of all nodes, in order: as many as there are nodes.
+pub(crate) type Votes = ArrayVec<u8, 16>;
+
+/// The votes that a word names, parted by commas, or one each where there is no word. None unless there are as many as nodes, each
+/// 1 to 255.
+pub(crate) fn votes_of(nodes: u8, word: Option<&str>) -> Option<Votes> {
+    let votes = match word {
+        Some(word) => named_votes(word)?,
+        None => even_votes(nodes)?,
+    };
+    if votes.len() == usize::from(nodes) {
+        Some(votes)
+    } else {
+        None
+    }
+}
+
+/// One vote for each node.
+fn even_votes(nodes: u8) -> Option<Votes> {
+    let mut votes = Votes::new();
+    for _ in 0..nodes {
+        votes.try_push(1).ok()?;
+    }
+    Some(votes)
+}
+
+/// The votes that a word names.
+fn named_votes(word: &str) -> Option<Votes> {
+    let mut votes = Votes::new();
+    for part in word.split(',') {
+        let vote = part.parse::<u8>().ok()?;
+        if vote == 0 {
+            return None;
+        }
+        votes.try_push(vote).ok()?;
+    }
+    Some(votes)
+}
