@@ -1,20 +1,21 @@
 -- One variant after another is run.
-use Rattle.std.proofs.Common.{◌≡◌, ℕ, suc, ◌+◌, ◌&&◌, ◌↔◌, IsTrue, Bool, true, false, List, Option, Some, None, Result, Ok, Err, IfOk}
-use Rattle.std.proofs.Common.{refl, sym, ap, subst, ◌∙◌, add-one}
+use Rattle.std.proofs.Common.{◌≡◌, ℕ, zero, suc, ◌+◌, ◌<◌, ◌≤◌, ◌⊎◌, inl, inr, ◌↔◌, IsTrue, Bool, true, false, List, Option, Some, None, Result, Ok, Err, IfOk}
+use Rattle.std.proofs.Common.{refl, sym, ap, subst, ◌∙◌, add-one, arith}
+use Rattle.std.proofs.lemmas.Bool.{cases_lt}
+use Rattle.std.specs.Io.KnownBytes.{Appends}
 use Rattle.ring_base.specs.Group.{Group}
 use Rattle.ring_object.specs.Operations.{Sequential}
 use Rattle.ring_script.specs.declared.scripts.Numbered.{Numbered}
 use Rattle.ring_world.specs.Played.{Played}
-use Rattle.ring_console.specs.Running.{RunView, run_opening}
+use Rattle.ring_console.specs.Running.{RunView, run_opening, Prints}
 use Rattle.ring_sweep.specs.declared.upset.Upset.{Upset}
 use Rattle.ring_sweep.specs.Legal.{IsLegal}
-use Rattle.ring_sweep.specs.Variants.{steps_of, upset_at, Passes, HasEvents, IsVariant, IsTried, AreTried}
+use Rattle.ring_sweep.specs.declared.sweeping.Swept.{Swept}
+use Rattle.ring_report.specs.declared.failure.Failure.{Failure}
+use Rattle.ring_sweep.specs.Swept.{are_legal, swept_text, AllLegal, IsSwept, IsSweptText}
+use Rattle.ring_sweep.specs.Variants.{steps_of, upset_at, first_illegal, Passes, HasEvents, IsVariant, IsTried, AreTried, IsFirstIllegal}
 use Rattle.ring_sweep.specs.Stages.{Stage, stage, PutsIn, Goes}
 use Rattle.ring_sweep.proofs.Staging.{goes_alone, is_variant}
-
-both_true : (a b : Bool) → IsTrue (a && b) ↔ (IsTrue a × IsTrue b)
-both_true true b = (λ h. (refl, h), λ h. h.1)
-both_true false b = (λ h. absurd (cc (h)), λ h. h.0)
 
 module _ {O A : Type 0} (object : Sequential O) (group : Group) (lines : List (Numbered A)) where
   -- the script's own run
@@ -53,8 +54,49 @@ module _ {O A : Type 0} (object : Sequential O) (group : Group) (lines : List (N
   is_tried (Err x) ls run done pending u t e p same_lines same_run none some h puts same legal = tt
 
   -- one variant more
-  pub tried_more : (n : ℕ) (others last all : Bool) → AreTried object group lines n others → IsTried object group lines (upset_at group.count n) last
-      → all ≡ (others && last) → AreTried object group lines (n + 1) all
-  tried_more n others last all h one is =
-      let iff : IsTrue all ↔ (IsTrue others × IsTrue last) = subst (λ (b : Bool). IsTrue b ↔ (IsTrue others × IsTrue last)) (sym is) (both_true others last) in
-      subst (λ (k : ℕ). AreTried object group lines k all) (sym (add-one n)) (others, last, (h, one, iff))
+  pub tried_more : (n : ℕ) (others : Option Upset) (last : Bool) (illegal : Option Upset) → AreTried object group lines n others
+      → IsTried object group lines (upset_at group.count n) last → illegal ≡ first_illegal others last (upset_at group.count n)
+      → AreTried object group lines (n + 1) illegal
+  tried_more n others last illegal h one is =
+      subst (λ (k : ℕ). AreTried object group lines k illegal) (sym (add-one n)) (others, last, (h, one, is))
+
+  -- what is printed where all variants are legal
+  pub all_legal : (r : Result Swept Failure) (old new : Option (List ℕ)) → AllLegal r → IfOk r (IsSwept object group lines)
+      → IfOk r (λ s. Appends old new (swept_text s)) → Prints old new (IsSweptText object group lines true)
+  all_legal (Ok s) old new none is prints = record {
+    text = swept_text s;
+    appended = prints;
+    holds = record { swept = s; is_swept = is; legal = ap are_legal none; whole = refl };
+  }
+  all_legal (Err x) old new none is prints = absurd none
+
+  -- all of the first so many variants are legal
+  abbrev All : ℕ → Type 0
+  All n = (k : ℕ) → k < n → IsTried object group lines (upset_at group.count k) true
+
+  -- what it says of the first so many variants which of them is the first that is not legal
+  abbrev pub Says : ℕ → Option Upset → Type 0
+  Says n None = All n
+  Says n (Some u) = IsFirstIllegal object group lines n u
+
+  at_last : (n k : ℕ) → All n → IsTried object group lines (upset_at group.count n) true → k < suc n → (k < n) ⊎ (n ≤ k)
+      → IsTried object group lines (upset_at group.count k) true
+  at_last n k all one lt (inl below) = all k below
+  at_last n k all one lt (inr above) =
+      let same : n ≡ k = omega (arith, lt, above) in subst (λ (j : ℕ). IsTried object group lines (upset_at group.count j) true) same one
+
+  says_more : (n : ℕ) (others : Option Upset) (last : Bool) → Says n others → IsTried object group lines (upset_at group.count n) last
+      → Says (suc n) (first_illegal others last (upset_at group.count n))
+  says_more n (Some u) last h one = record {
+    place = h.place;
+    within = let lt = h.within in omega (arith, lt);
+    is = h.is;
+    illegal = h.illegal;
+    before = h.before;
+  }
+  says_more n None true h one = λ k lt. at_last n k h one lt (cases_lt k n)
+  says_more n None false h one = record { place = n; within = omega arith; is = refl; illegal = one; before = h }
+
+  pub says : (n : ℕ) (illegal : Option Upset) → AreTried object group lines n illegal → Says n illegal
+  says zero illegal h = subst (Says zero) (sym h) (λ k lt. absurd (omega (arith, lt)))
+  says (suc n) illegal h = subst (Says (suc n)) (sym h.2.2) (says_more n h.0 h.1 (says n h.0 h.2.0) h.2.1)

@@ -77,6 +77,12 @@ upset_at count place = record {
   blow = if place % 2 == 0 then blows.Stop else blows.Cut;
 }
 
+-- the first variant that is not legal, of those before this one, and of this one
+abbrev pub first_illegal : Option Upset → Bool → Upset → Option Upset
+first_illegal (Some before) is_legal u = Some before
+first_illegal None true u = None
+first_illegal None false u = Some u
+
 module _ {O : Type 0} (object : Sequential O) where
   -- the steps are done, one after another; so many events were run before them, and so many are behind them
   abbrev pub Passes : {A : Type 0} → List (Line A) → ℕ → ℕ → RunView A → RunView A → Type 0
@@ -114,9 +120,17 @@ module _ {O : Type 0} (object : Sequential O) where
   IsTried {A} group lines u is_legal =
       (ran : RunView A) × (IsVariant (steps_of lines) u 0 (run_opening group) ran × (IsTrue is_legal ↔ IsLegal object ran.played))
 
-  -- the first so many variants were run, and all of them are legal exactly where this says so
-  abbrev pub AreTried : {A : Type 0} → Group → List (Numbered A) → ℕ → Bool → Type 0
-  AreTried group lines zero are_legal = are_legal ≡ true
-  AreTried group lines (suc n) are_legal =
-      (others : Bool) × (last : Bool) × (AreTried group lines n others × IsTried group lines (upset_at group.count n) last
-      × (IsTrue are_legal ↔ (IsTrue others × IsTrue last)))
+  -- the first so many variants were run, and this is the first of them that is not legal; none where all are
+  abbrev pub AreTried : {A : Type 0} → Group → List (Numbered A) → ℕ → Option Upset → Type 0
+  AreTried group lines zero illegal = illegal ≡ None
+  AreTried group lines (suc n) illegal =
+      (others : Option Upset) × (last : Bool) × (AreTried group lines n others × IsTried group lines (upset_at group.count n) last
+      × (illegal ≡ first_illegal others last (upset_at group.count n)))
+
+  -- It is one of the first so many variants, it is not legal, and each one before it is.
+  pub record IsFirstIllegal {A : Type 0} (group : Group) (lines : List (Numbered A)) (n : ℕ) (u : Upset) : Type 0 where
+    pub place : ℕ
+    pub within : place < n
+    pub is : upset_at group.count place ≡ u
+    pub illegal : IsTried group lines u false
+    pub before : (k : ℕ) → k < place → IsTried group lines (upset_at group.count k) true

@@ -8,6 +8,7 @@ mod sweeping;
 mod upset;
 mod variant;
 
-pub use laws::variants_law;
+pub use laws::{first_law, variants_law};
 pub use ring_console::{Failure, frames, report, script, script_check};
-pub use sweeping::{sweep, sweep_watched};
+pub use sweeping::{Swept, sweep, sweep_watched, verdict_status};
+pub use upset::{Blow, Upset};

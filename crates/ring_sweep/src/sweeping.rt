@@ -1,6 +1,6 @@
 //! What the program prints of a sweep.
 
-ghost use Rattle.std.specs.Prelude.{◌≡◌, ℕ, ◌+◌, ◌*◌, ◌≤◌, ◌↔◌, true, List, Ok, IfOk, IfErr, OnOk};
+ghost use Rattle.std.specs.Prelude.{◌≡◌, ℕ, ◌+◌, ◌*◌, ◌≤◌, ◌↔◌, true, List, None, Ok, IfOk, IfErr, OnOk};
 ghost use Rattle.std.specs.Io.KnownBytes.{Appends, Keeps};
 ghost use Rattle.ring_base.specs.declared.fault.Fault.TheVariants.{Memory};
 ghost use Rattle.ring_script.specs.Fits.{AreFit};
@@ -8,12 +8,14 @@ ghost use Rattle.ring_script.specs.Scripts.{IsAllOf, AnswersInput};
 ghost use Rattle.ring_script.specs.declared.scripts.Script.{Script};
 ghost use Rattle.ring_report.specs.declared.failure.Failure.TheVariants.{Output};
 ghost use Rattle.ring_console.specs.Running.{Prints, IsOutputOrMemory};
-ghost use Rattle.ring_sweep.specs.Swept.{swept_text, IsSwept, IsSweptText};
-ghost use Rattle.ring_sweep.specs.Variants.{HasEvents, AreTried, IsTried};
+ghost use Rattle.ring_report.specs.Texts.{line_of};
+ghost use Rattle.ring_sweep.specs.Swept.{swept_text, upset_text, AllLegal, IsSwept, IsSweptText};
+ghost use Rattle.ring_base.specs.Processors.{IsProc};
+ghost use Rattle.ring_sweep.specs.Variants.{HasEvents, AreTried, IsTried, upset_at, first_illegal};
 
 use crate::legal::is_legal;
 use crate::progress::{clear_progress, tell_progress};
-use crate::upset::Upset;
+use crate::upset::{Told, Upset};
 use crate::variant::Variant;
 use ring_base::Fault;
 use ring_console::{Failure, Script, Things, report};
@@ -27,13 +29,13 @@ const NOT_LEGAL: u8 = 1;
 
 /// What came of a sweep.
 #[derive(Clone, Copy, Debug, PartialEq, Eq)]
-struct Swept {
+pub struct Swept {
     /// How many events the script has, each delivery of a pump counted.
-    events: u64,
+    pub events: u64,
     /// How many variants of it were run.
-    variants: u64,
-    /// Whether all of them are legal.
-    are_legal: bool,
+    pub variants: u64,
+    /// What was put into the first of them that is not legal. None where all of them are.
+    pub illegal: Option<Upset>,
 }
 
 /// Reads a script, and runs it anew with a stop of each node, and with a cut of each node against all others, put in before
@@ -41,7 +43,7 @@ struct Swept {
 /// committed calls, repeats removed, are a front of the order. Prints how many events the script has, how many variants,
 /// and whether all are legal. The exit status is 0, or else 1:
 ///
-/// - after `legal no`;
+/// - after `legal no`, and `err` is told the first variant that is not legal;
 /// - where the input is no script, `err` is told so, and nothing is printed;
 /// - where memory is refused, `err` is told so, and nothing is printed;
 /// - where `out` fails, nothing is told.
@@ -83,50 +85,67 @@ pub fn sweep_watched<A: Allocator + Copy + Drop, R: Read, O: Write, E: Write, W:
     verdict_status(err, done)
 }
 
-/// Runs the script and each of its variants, and prints what came of it. Answers whether all variants are legal. Otherwise
-/// `Output`, or refused with `Memory`.
+/// Runs the script and each of its variants, and prints what came of it. Otherwise `Output`, or refused with `Memory`.
 fn sweep_script<A: Allocator + Copy + Drop, O: Write, W: Write>(
     alloc: A,
     script: &Script<A>,
     out: &mut O,
     progress: &mut W,
-) -> Result<bool, Failure>
+) -> Result<Swept, Failure>
     requires { AreFit script.now.lines.items }
-    ensures ok { let object = ⟦<Things<A> as Object>⟧ in
-        IfOk result (λ are_legal. Prints (O.contents out.old) (O.contents out.new)
-        (IsSweptText object.sequential script.now.nodes script.now.lines.items are_legal)) }
+    ensures swept { let object = ⟦<Things<A> as Object>⟧ in
+        IfOk result (IsSwept object.sequential script.now.nodes script.now.lines.items) }
+    ensures printed { IfOk result (λ swept. Appends (O.contents out.old) (O.contents out.new) (swept_text swept)) }
     ensures failed { IfErr result IsOutputOrMemory }
 {
     let swept = run_all::<Things<A>, W>(alloc, script, progress)?;
-    print_swept(swept, out)?;
-    Ok(swept.are_legal)
+    print_swept(&swept, out)?;
+    Ok(swept)
 }
 
-/// The exit status: 0 where all variants are legal, and there alone. `err` is told why the work was not done; of a failed
-/// output nothing is told.
-fn verdict_status<E: Write>(err: &mut E, done: Result<bool, Failure>) -> u8
+/// The exit status: 0 where all variants are legal, and there alone. `err` is told the first variant that is not legal, or why
+/// the work was not done; of a failed output nothing is told.
+pub fn verdict_status<E: Write>(err: &mut E, done: Result<Swept, Failure>) -> u8
     ensures status { result ≤ 1 }
-    ensures ok { result ≡ 0 ↔ done ≡ Ok true }
+    ensures ok { result ≡ 0 ↔ AllLegal done }
     ensures quiet { result ≡ 0 → err.new ≡ err.old }
 {
     match done {
-        Ok(true) => 0,
-        Ok(false) => NOT_LEGAL,
+        Ok(swept) => swept_status(err, &swept),
         Err(failure) => report(err, failure),
     }
 }
 
+/// The exit status of a sweep that was made. `err` is told the first variant that is not legal.
+fn swept_status<E: Write>(err: &mut E, swept: &Swept) -> u8
+    ensures status { result ≤ 1 }
+    ensures ok { result ≡ 0 ↔ swept.now.illegal ≡ None }
+    ensures quiet { result ≡ 0 → err.new ≡ err.old }
+{
+    match &swept.illegal {
+        None => 0,
+        Some(upset) => {
+            let _ = tell_illegal(err, upset, swept.events);
+            NOT_LEGAL
+        }
+    }
+}
+
+/// Tells a variant of a script of so many events, in a line: what is put into it.
+fn tell_illegal<E: Write>(err: &mut E, upset: &Upset, events: u64) -> io::Result<()>
+    ensures { OnOk result (Appends (E.contents err.old) (E.contents err.new) (line_of (upset_text events upset.now))) }
+{
+    let told = Told { upset, events };
+    writeln!(err, "{told}")
+}
+
 /// Prints what came of a sweep. Otherwise `Output`.
-fn print_swept<O: Write>(swept: Swept, out: &mut O) -> Result<(), Failure>
-    ensures lines { OnOk result (Appends (O.contents out.old) (O.contents out.new) (swept_text swept)) }
+fn print_swept<O: Write>(swept: &Swept, out: &mut O) -> Result<(), Failure>
+    ensures lines { OnOk result (Appends (O.contents out.old) (O.contents out.new) (swept_text swept.now)) }
     ensures failed { IfErr result (λ failure. failure ≡ Output) }
 {
-    let Swept {
-        events,
-        variants,
-        are_legal,
-    } = swept;
-    let word = if are_legal { "yes" } else { "no" };
+    let (events, variants) = (swept.events, swept.variants);
+    let word = if swept.illegal.is_none() { "yes" } else { "no" };
     writeln!(out, "events {events}\nvariants {variants}\nlegal {word}").map_err(|_| Failure::Output)
 }
 
@@ -142,11 +161,11 @@ fn run_all<O: Object, W: Write>(
 {
     let events = count_events::<O>(alloc, script)?;
     let variants = count_variants(events, script.nodes.count())?;
-    let are_legal = try_all::<O, W>(alloc, script, variants, progress)?;
+    let illegal = try_all::<O, W>(alloc, script, variants, progress)?;
     Ok(Swept {
         events,
         variants,
-        are_legal,
+        illegal,
     })
 }
 
@@ -172,26 +191,36 @@ fn count_variants(events: u64, count: u8) -> Result<u64, Fault>
     places.checked_mul(each).ok_or(Fault::Memory)
 }
 
-/// Runs the first so many variants, and tells whether all are legal.
+/// Runs the first so many variants, and tells the first of them that is not legal. None where all are.
 fn try_all<O: Object, W: Write>(
     alloc: O::Alloc,
     script: &Script<O::Alloc>,
     variants: u64,
     progress: &mut W,
-) -> Result<bool, Fault>
+) -> Result<Option<Upset>, Fault>
     requires { AreFit script.now.lines.items }
     ensures ok { IfOk result (AreTried O.sequential script.now.nodes script.now.lines.items variants) }
     ensures refused { IfErr result (λ fault. fault ≡ Memory) }
 {
-    let mut are_legal = true;
+    let mut illegal = None;
     for place in 0..variants {
         tell_progress(progress, place, variants);
         let upset = Upset::at(script.nodes.count(), place);
         let is_legal = try_one::<O>(alloc, script, upset)?;
-        are_legal = are_legal && is_legal;
+        keep_first(&mut illegal, is_legal, script.nodes.count(), place);
     }
     clear_progress(progress, variants);
-    Ok(are_legal)
+    Ok(illegal)
+}
+
+/// Keeps the variant at this place if it is not legal, and none was kept before.
+fn keep_first(first: &mut Option<Upset>, is_legal: bool, count: u8, place: u64)
+    requires { IsProc count }
+    ensures { first.new ≡ first_illegal first.old is_legal (upset_at count place) }
+{
+    if !is_legal && first.is_none() {
+        *first = Some(Upset::at(count, place));
+    }
 }
 
 /// Runs the script's variant with this upset, and tells whether it is legal.

@@ -62,7 +62,8 @@ For each event of the script, each delivery of a pump counted, and for its end, 
 stopped and once cut off from all others just before it, and the rest of the script runs. Prints
 how many events there are, how many variants were run, and `legal yes` or `legal no`: whether in
 each of them one order of the calls explains all replies, and each node's committed calls are a
-front of it. The exit status is 1 after `legal no`. It takes as many runs as it prints variants.
+front of it. After `legal no` the exit status is 1, and standard error names the first variant that
+is not legal. It takes as many runs as it prints variants.
 
 Example:
   totem sweep first_reply.script";

@@ -1,0 +1,5 @@
+//! Tests of what is told of a sweep. In no run that is known is a variant not legal, so sweeps that found one are made here.
+#![tactic(auto)]
+
+#[cfg(test)]
+mod told;
