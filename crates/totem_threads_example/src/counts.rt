@@ -66,7 +66,7 @@ fn try_add_ten<O: Object, K: BookName<O::Alloc>, W: Wait>(
 }
 
 /// Adds 1. A call that no node has answered is tried anew, under the same number, so that it takes effect once: the nodes may still
-/// be forming a ring without the one that has stopped.
+/// be forming their ring.
 fn add<P: Port>(client: &mut Client<P>) -> Result<(), Fault> {
     let mut fault = client.call(&ADD).err();
     for _ in 0..TRIES {
@@ -100,8 +100,8 @@ fn two_of<O: Object, K: BookName<O::Alloc>>(
     Ok(two)
 }
 
-/// Node 3 is stopped. The others run, and both clients add, all in threads, of which none is left afterwards. The nodes rest where
-/// there is nothing to do: at full speed an idle ring would fill the book within seconds.
+/// The nodes run, and both clients add, all in threads, of which none is left afterwards. The nodes rest where there is nothing to
+/// do: at full speed an idle ring would fill the book within seconds.
 fn run<O: Object + Send, K: BookName<O::Alloc> + Send + Sync, W: Threads + Wait + Sync>(
     rt: &W,
     alloc: O::Alloc,
@@ -114,8 +114,6 @@ where
     O::Alloc: Send + Sync,
     requires { All (IsAt host.now) seats.items × All (IsAt host.now) ones.items × All (IsAt host.now) others.items }
 {
-    let third = host.proc(3)?;
-    host.stop(rt, third)?;
     let paced = host.paced(rt)?;
     let running = AtomicU64::new(2);
     let (gate, left) = (&paced, &running);

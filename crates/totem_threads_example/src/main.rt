@@ -1,8 +1,8 @@
-//! Three nodes on threads of their own, one of which has stopped, and a counter that two clients add to from their threads.
+//! Three nodes on threads of their own, and a counter that two clients add to from their threads.
 //!
-//! Client 1 tries node 1 and then node 2; client 2 tries node 3, which has stopped, and then node 2. A client passes on to its
-//! next node, with the same call under the same number, where one refuses the call or doesn't answer. So each call takes effect
-//! once, whatever the threads do when: each client adds 1 ten times, and 20 calls stand in the one order.
+//! Client 1 tries node 1 and then node 2; client 2 tries node 3 and then node 2. A client passes on to its next node, with the
+//! same call under the same number, where one refuses the call or doesn't answer. So each call takes effect once, whatever the
+//! threads do when: each client adds 1 ten times, and 20 calls stand in the one order.
 #![tactic(auto)]
 
 mod counts;
@@ -13,9 +13,7 @@ use std::process::ExitCode;
 fn main(rt: HostRuntime) -> ExitCode {
     let printed = match counted(&rt, rt.alloc()) {
         Ok(count) => {
-            println!(rt;
-                "Node 3 has stopped. Two clients add 1 ten times each: the one order has {count} calls."
-            )
+            println!(rt; "Two clients add 1 ten times each: the one order has {count} calls.")
         }
         Err(fault) => println!(rt; "{fault}"),
     };
