@@ -68,7 +68,7 @@ fn try_add_ten<O: Object, K: BookName<O::Alloc>, W: Wait>(
 /// Adds 1. A call that no node has answered is tried anew, under the same number, so that it takes effect once: the nodes may still
 /// be forming their ring.
 fn add<P: Port>(client: &mut Client<P>) -> Result<(), Fault> {
-    let mut fault = client.call(&ADD).err();
+    let mut fault = client.call(Counters::add(0, 1).as_slice()).err();
     for _ in 0..TRIES {
         if fault != Some(Fault::NoAnswer) {
             break;
