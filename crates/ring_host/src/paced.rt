@@ -12,12 +12,8 @@ use std::sync::Wait;
 use std::sync::atomic::{AtomicU64, Ordering};
 use std::time::Duration;
 
-/// How many turns a node has in a row that are quiet, or that find nothing, before it rests.
+/// How many quiet turns a node has in a row before it rests.
 const PATIENCE: u64 = 100;
-
-/// How many microseconds a node rests at most that finds nothing: so that its timeouts, which count turns, don't come before other threads
-/// were given a processor.
-const BRIEFLY: u64 = 50;
 
 /// A gate under which a host that has nothing to do rests. A ring that idles at full speed would fill the book within seconds.
 ///
@@ -39,8 +35,6 @@ struct Quiet {
     rung: AtomicU64,
     // How many quiet turns it had since.
     turns: AtomicU64,
-    // How many turns in a row found nothing.
-    vain: AtomicU64,
 }
 
 impl<C, B, A: Allocator + Copy + Drop> HostOf<C, B, A> {
@@ -54,7 +48,6 @@ impl<C, B, A: Allocator + Copy + Drop> HostOf<C, B, A> {
             quiets.push(Quiet {
                 rung: AtomicU64::new(0),
                 turns: AtomicU64::new(0),
-                vain: AtomicU64::new(0),
             })?;
         }
         Ok(Paced {
@@ -79,15 +72,6 @@ impl Quiet {
         }
         self.turns.load(Ordering::SeqCst) > PATIENCE
     }
-
-    /// Whether the node has long found nothing, once a turn of it is over.
-    fn is_vain(&self, stir: Stir) -> bool {
-        if stir != Stir::Nothing {
-            self.vain.store(0, Ordering::SeqCst);
-            return false;
-        }
-        self.vain.fetch_add(1, Ordering::SeqCst) >= PATIENCE
-    }
 }
 
 impl<'a, W: Wait, A: Allocator + Copy + Drop> Gate for Paced<'a, W, A> {
@@ -101,9 +85,6 @@ impl<'a, W: Wait, A: Allocator + Copy + Drop> Gate for Paced<'a, W, A> {
         let rung = self.bell.rung();
         if quiet.is_long(stir, rung) {
             self.bell.rest(self.rt, rung, self.most);
-        } else if quiet.is_vain(stir) {
-            self.bell
-                .rest(self.rt, rung, Duration::from_micros(BRIEFLY));
         }
     }
 }
