@@ -17,7 +17,7 @@ use Rattle.ring_session.specs.Deduplicated.{deduplicated}
 use Rattle.ring_session.specs.declared.answer.Answer.{Answer}
 use Rattle.ring_wire.specs.declared.frame.Frame.{Frame}
 use Rattle.ring_core.specs.State.{Carried, frame_at}
-use Rattle.ring_session.specs.Tickets.{Asked, all_answers, asked_calls}
+use Rattle.ring_session.specs.Tickets.{Asked, asked_calls}
 use Rattle.ring_session.specs.declared.answered.Answered.{Answered}
 use Rattle.ring_rules.specs.declared.input.Input.{Input}
 use Rattle.ring_rules.specs.declared.input.Input.TheVariants.{Frame as Comes, Noise, Timeout, Stop}
@@ -33,7 +33,7 @@ use Rattle.ring_log.proofs.CommittedOf.{born-committed}
 use Rattle.ring_book_lines.specs.declared.frame_ref.FrameRef.{FrameRef}
 use Rattle.ring_book_lines.specs.declared.input.LineInput.{LineInput}
 use Rattle.ring_book_lines.specs.declared.input.LineInput.TheVariants.{Called, Came}
-use Rattle.ring_book_lines.specs.Answers.{by_ticket, told_by, told_from, told_to}
+use Rattle.ring_book_lines.specs.Answers.{told_by, told_from, told_to}
 use Rattle.ring_book_lines.specs.Events.{answers_of, frames_of, frame_number, event_of, events_after}
 use Rattle.ring_book_lines.specs.Events.{events_of, items_in, history_of, IsDone, AreDone, IsRun}
 use Rattle.ring_book_lines.specs.Lines.{steps_of, IsFound}
@@ -42,7 +42,7 @@ use Rattle.ring_book_lines.specs.Machines.{Machine, node_machine}
 use Rattle.ring_book_lines.specs.Orders.{call_in, calls_of}
 use Rattle.ring_book_lines.specs.Runs.{LineFits, Makes, IsStep, Leads, AllFound, IsInside, IsBookRun}
 use Rattle.ring_book_lines.specs.Steps.{StepView, LineView}
-use Rattle.ring_book_lines.proofs.Given.{step-adds, answers_of-stepped, answers_of-submitted}
+use Rattle.ring_book_lines.proofs.Given.{HasOwn, step-adds, answers_of-stepped, answers_of-submitted, own-stepped, own-submitted}
 use Rattle.ring_book_lines.proofs.CommittedInLines.{grown, one-log-after, one-log-now, committed-after, committed-now}
 use Rattle.ring_order_proof.proofs.Orderly.{run-more}
 use Rattle.ring_book_lines.proofs.Leading.{leads_one, steps_of-own, steps_of-other, steps_of-first, steps_of-skip}
@@ -212,32 +212,36 @@ module _ {O A : Type 0} (object : Sequential O) (group : Group) where
     pub frames : w.frames ≡ frames_of before
     pub history : w.history ≡ history_of before
     pub calls : (i : ℕ) → asked_calls (w.nodes i).tickets ≡ calls_of (steps_of i before)
-    pub answers : (i : ℕ) → answers_of object (w.nodes i) ≡ told_to i before
+    pub answers : (i : ℕ) → answers_of (w.nodes i) ≡ told_to i before
+    pub own : (i : ℕ) → HasOwn (w.nodes i)
     pub committed : (i : ℕ) → node_committed (w.nodes i) ≡ committed_to i before
     pub longest : IsLongest (λ i. node_committed (w.nodes i)) group.count before
 
   -- what a step makes of a node's calls, answers and committed log
   record Makes3 (n u : Node A) (input : LineInput A) (l : StepView A) : Type 0 where
     calls : asked_calls u.tickets ≡ asked_calls n.tickets ++ call_in input
-    answers : answers_of object u ≡ told_by (answers_of object n) input l.answers
+    answers : answers_of u ≡ told_by (answers_of n) input l.answers
+    own : HasOwn u
     committed : node_committed u ≡ node_committed n ++ l.calls
 
-  makes3 : (n u : Node A) (input : LineInput A) (l : StepView A) → Makes machine n input l u → IsFront (node_committed n) (node_committed u)
+  makes3 : (n u : Node A) (input : LineInput A) (l : StepView A) → Makes machine n input l u → IsFront (node_committed n) (node_committed u) → HasOwn n
       → Makes3 n u input l
-  makes3 n u (Called c) l made front = record {
+  makes3 n u (Called c) l made front own = record {
     calls = ap (λ (x : Node A). asked_calls x.tickets) made.1
-        ∙ map-append (λ (t : Asked A). t.call) n.tickets (record { call = c; since = length (node_committed n) } ∷ []);
-    answers = ap (λ (x : Node A). answers_of object x) made.1 ∙ answers_of-submitted object n c;
+        ∙ map-append (λ (t : Asked A). t.call) n.tickets (record { call = c; since = length n.done } ∷ []);
+    answers = ap (λ (x : Node A). answers_of x) made.1 ∙ answers_of-submitted n c own;
+    own = subst (λ (x : Node A). HasOwn x) (sym made.1) (own-submitted n c own);
     committed = ap (λ (x : Node A). node_committed x) made.1
         ∙ (submitted-committed n c ∙ (sym (append-nil (node_committed n)) ∙ ap (λ cs. node_committed n ++ cs) (sym made.4)));
   }
-  makes3 n u (Came input at) l made front =
+  makes3 n u (Came input at) l made front own =
       let d = node_step object n input in
       let adds = step-adds object n input (subst (λ (x : Node A). IsFront (node_committed n) (node_committed x)) made.1 front) in
       record {
         calls = ap (λ (x : Node A). asked_calls x.tickets) made.1 ∙ (ap asked_calls adds.tickets ∙ sym (append-nil (asked_calls n.tickets)));
-        answers = ap (λ (x : Node A). answers_of object x) made.1
-            ∙ (answers_of-stepped object n d adds ∙ ap (λ (as' : List (Answered A)). told_by (answers_of object n) (Came input at) as') (sym made.3));
+        answers = ap (λ (x : Node A). answers_of x) made.1
+            ∙ (answers_of-stepped n d adds ∙ ap (λ (as' : List (Answered A)). told_by (answers_of n) (Came input at) as') (sym made.3));
+        own = subst (λ (x : Node A). HasOwn x) (sym made.1) (own-stepped n d adds own);
         committed = ap (λ (x : Node A). node_committed x) made.1 ∙ (adds.committed ∙ ap (λ cs. node_committed n ++ cs) (sym made.4));
       }
 
@@ -259,7 +263,8 @@ module _ {O A : Type 0} (object : Sequential O) (group : Group) where
   says-next w after before l u says low high step next front one at =
       let node = l.step.node in
       let n = w.nodes node in
-      let m = makes3 n u l.step.input l.step step.makes (subst (λ (x : Node A). IsFront (node_committed n) (node_committed x)) next.own front) in
+      let m = makes3 n u l.step.input l.step step.makes (subst (λ (x : Node A). IsFront (node_committed n) (node_committed x)) next.own front)
+      (says.own node) in
       let grow : IsGrown (λ i. node_committed (w.nodes i)) (λ i. node_committed (after.nodes i)) group.count node l.step = record {
         low = low;
         high = high;
@@ -279,8 +284,12 @@ module _ {O A : Type 0} (object : Sequential O) (group : Group) where
         ];
         answers = λ i. elim (cases_Bool (i == node)) [
           | inl t ↦ own-answers i (eqb-true i node t) m
-          | inr f ↦ ap (λ (x : Node A). answers_of object x) (next.others i f)
+          | inr f ↦ ap (λ (x : Node A). answers_of x) (next.others i f)
               ∙ (says.answers i ∙ sym (ap (told_from []) (steps_of-other i before l (apart-sym i node f))))
+        ];
+        own = λ i. elim (cases_Bool (i == node)) [
+          | inl t ↦ subst (λ k. HasOwn (after.nodes k)) (sym (eqb-true i node t)) (subst (λ (x : Node A). HasOwn x) (sym next.own) m.own)
+          | inr f ↦ subst (λ (x : Node A). HasOwn x) (sym (next.others i f)) (says.own i)
         ];
         committed = λ i. elim (cases_Bool (i == node)) [
           | inl t ↦ own-committed i (eqb-true i node t) m
@@ -303,10 +312,10 @@ module _ {O A : Type 0} (object : Sequential O) (group : Group) where
           ∙ ap (λ (k : ℕ). calls_of (steps_of k (before ++ l ∷ []))) (sym e))))))
 
       own-answers : (i : ℕ) → i ≡ l.step.node → Makes3 (w.nodes l.step.node) u l.step.input l.step
-          → answers_of object (after.nodes i) ≡ told_to i (before ++ l ∷ [])
+          → answers_of (after.nodes i) ≡ told_to i (before ++ l ∷ [])
       own-answers i e m =
-          ap (λ (k : ℕ). answers_of object (after.nodes k)) e
-          ∙ (ap (λ (x : Node A). answers_of object x) next.own
+          ap (λ (k : ℕ). answers_of (after.nodes k)) e
+          ∙ (ap (λ (x : Node A). answers_of x) next.own
           ∙ (m.answers ∙ (ap (λ (xs : List (Option Answer)). told_by xs l.step.input l.step.answers) (says.answers l.step.node)
           ∙ (sym (told_from-snoc [] (steps_of l.step.node before) l.step) ∙ (sym (ap (told_from []) (steps_of-own l.step.node before l refl))
           ∙ ap (λ (k : ℕ). told_to k (before ++ l ∷ [])) (sym e))))))
@@ -433,7 +442,8 @@ module _ {O A : Type 0} (object : Sequential O) (group : Group) (few : group.cou
     frames = refl;
     history = refl;
     calls = λ i. refl;
-    answers = λ i. ap (λ (calls : List (Call A)). by_ticket 0 (all_answers object [] calls)) (born-committed group i);
+    answers = λ i. refl;
+    own = λ i. tt;
     committed = λ i. born-committed group i;
     longest = record {
       below = tt;

@@ -8,7 +8,6 @@ use Rattle.std.proofs.Math.Seq.{drop-append_seam}
 use Rattle.ring_base.specs.Fronts.{IsFront}
 use Rattle.ring_object.specs.Operations.{Sequential}
 use Rattle.ring_payload.specs.declared.call.Call.{Call}
-use Rattle.ring_session.specs.SessionAnswer.{session_answer}
 use Rattle.ring_session.specs.declared.answer.Answer.{Answer}
 use Rattle.ring_core.specs.State.{Stepped}
 use Rattle.ring_core.specs.Stepping.{ring_step}
@@ -16,17 +15,16 @@ use Rattle.ring_core.specs.declared.input.Input.TheVariants.{Frame as CoreFrame,
 use Rattle.ring_core.specs.declared.out.Out.{Out}
 use Rattle.ring_log.specs.Stays.{Stay}
 use Rattle.ring_log.specs.Lives.{committed_of, is_sound}
-use Rattle.ring_session.proofs.AnswersGrow.{answers_after-append, answers_after-push}
-use Rattle.ring_session.specs.Tickets.{Asked, all_answers, answered, answers_after, answers_at, is_place, place_of}
+use Rattle.ring_session.specs.Table.{Table, table_answer, table_next, table_after}
+use Rattle.ring_session.specs.Tickets.{Asked, answers_after, answers_at, is_place, place_of}
 use Rattle.ring_session.specs.declared.answered.Answered.{Answered}
 use Rattle.ring_rules.specs.Dues.{due_by}
 use Rattle.ring_rules.specs.Lives.{lived_through}
-use Rattle.ring_rules.specs.Nodes.{Node, node_committed}
+use Rattle.ring_rules.specs.Nodes.{Node, node_committed, node_stopped}
 use Rattle.ring_rules.specs.declared.input.Input.{Input}
 use Rattle.ring_rules.specs.declared.input.Input.TheVariants.{Frame as FrameInput, Noise as NoiseInput, Timeout as TimeInput, Stop as StopInput}
-use Rattle.ring_rules.specs.Stepping.{NodeStepped, settled, walked, after_core, node_step, submitted}
+use Rattle.ring_rules.specs.Stepping.{NodeStepped, quiet, newly, settled, walked, after_core, node_step, submitted}
 use Rattle.ring_log.proofs.CommittedOf.{hands-committed}
-use Rattle.ring_rules.proofs.NodeChanges.{submitted-committed}
 use Rattle.ring_book_lines.specs.Answers.{answered_in, by_ticket}
 use Rattle.ring_book_lines.specs.Events.{answers_of}
 use Rattle.ring_book_lines.proofs.AnswersByTicket.{answered_in-append, answered_in-left}
@@ -37,39 +35,7 @@ use Rattle.ring_book_lines.proofs.AnswersByTicket.{answered_in-append, answered_
 behind : {X : Type 0} (xs ys : List X) → IsFront xs ys → ys ≡ xs ++ drop (length xs) ys
 behind xs ys front = sym front.1 ∙ ap (λ zs. xs ++ zs) (sym (ap (drop (length xs)) (sym front.1) ∙ drop-append_seam xs front.0))
 
--- What a step adds, of a node whose committed log grows by it.
-pub record Adds {O A : Type 0} (object : Sequential O) (n : Node A) (s : NodeStepped A) : Type 0 where
-  pub committed : node_committed s.node ≡ node_committed n ++ s.committed
-  pub tickets : s.node.tickets ≡ n.tickets
-  pub answers : s.answers ≡ answers_after object n.tickets (node_committed n) s.committed
-
-module _ {O A : Type 0} (object : Sequential O) where
-  settled-adds : (b : Bool) (n new : Node A) (outs : List (Out A)) (life : List (Stay A)) → node_committed new ≡ committed_of n.group life
-      → new.tickets ≡ n.tickets
-      → IsFront (node_committed n) (node_committed (settled object b n new outs life).node) → Adds object n (settled object b n new outs life)
-  settled-adds false n new outs life is same front = record { committed = sym (append-nil (node_committed n)); tickets = refl; answers = refl }
-  settled-adds true n new outs life is same front =
-      let grown = behind (node_committed n) (node_committed new) front in
-      record {
-        committed = grown ∙ ap (λ (calls : List (Call A)). node_committed n ++ drop (length (node_committed n)) calls) is;
-        tickets = same;
-        answers = refl;
-      }
-
-  core-adds : (n : Node A) (s : Stepped A) → IsFront (node_committed n) (node_committed (after_core object n s).node) → Adds object n (after_core object n s)
-  core-adds n s front =
-      let life = lived_through n.life s.outs in
-      let due = due_by n s.core n.life s.outs in
-      settled-adds (is_sound n.group life) n (walked n s.core life due) s.outs life (hands-committed n.group due life) refl front
-
-  pub step-adds : (n : Node A) (input : Input A) → IsFront (node_committed n) (node_committed (node_step object n input).node)
-      → Adds object n (node_step object n input)
-  step-adds n (FrameInput frame) front = core-adds n (ring_step n.core (CoreFrame frame)) front
-  step-adds n (TimeInput kind) front = core-adds n (ring_step n.core (CoreTimeout kind)) front
-  step-adds n NoiseInput front = record { committed = sym (append-nil (node_committed n)); tickets = refl; answers = refl }
-  step-adds n StopInput front = record { committed = sym (append-nil (node_committed n)); tickets = refl; answers = refl }
-
--- The answers of the tickets
+-- Answers
 
 -- they are answers of so many tickets
 abbrev AreBelow : {A : Type 0} → ℕ → List (Answered A) → Type 0
@@ -79,53 +45,104 @@ below-append : {A : Type 0} (n : ℕ) (xs ys : List (Answered A)) → AreBelow n
 below-append n [] ys h k = k
 below-append n (x ∷ xs) ys h k = (h.0, below-append n xs ys h.1 k)
 
-below-answered : {A : Type 0} (n ticket : ℕ) (c : Call A) (answer : Option Answer) (b : Bool) → ticket < n
-    → AreBelow n (if b then answered ticket c answer else [])
-below-answered n ticket c None true h = tt
-below-answered n ticket c (Some answer) true h = (h, tt)
-below-answered n ticket c answer false h = tt
+below-if : {A : Type 0} (n : ℕ) (a : Answered A) (b : Bool) → a.ticket < n → AreBelow n (if b then a ∷ [] else [])
+below-if n a true h = (h, tt)
+below-if n a false h = tt
+
+below-more : {A : Type 0} (n m : ℕ) (xs : List (Answered A)) → n ≤ m → AreBelow n xs → AreBelow m xs
+below-more n m [] l h = tt
+below-more n m (x ∷ xs) l h = (omega (arith, l, h.0), below-more n m xs l h.1)
+
+below-at : {A : Type 0} (n : ℕ) (answer : Answer) (done : List (Call A)) (place ticket : ℕ) (ts : List (Asked A)) → ticket + length ts ≤ n
+    → AreBelow n (answers_at answer done place ticket ts)
+below-at n answer done place ticket [] h = tt
+below-at {A} n answer done place ticket (t ∷ ts) h =
+    let a : Answered A = record { ticket = ticket; call = t.call; answer = answer } in
+    below-append n (if is_place place (place_of done t) then a ∷ [] else []) (answers_at answer done place (ticket + 1) ts)
+    (below-if n a (is_place place (place_of done t)) (omega arith)) (below-at n answer done place (ticket + 1) ts (omega arith))
+
+-- what calls answer is of the tickets
+below-after : {O A : Type 0} (object : Sequential O) (table : Table O) (tickets : List (Asked A)) (done more : List (Call A))
+    → AreBelow (length tickets) (answers_after object table tickets done more)
+below-after object table tickets done [] = tt
+below-after object table tickets done (c ∷ more) =
+    let answer = table_answer object table c in
+    let next = table_next object table c in
+    below-append (length tickets) (answers_at answer (done ++ c ∷ []) (length done) 0 tickets) (answers_after object next tickets (done ++ c ∷ []) more)
+    (below-at (length tickets) answer (done ++ c ∷ []) (length done) 0 tickets (omega arith))
+    (below-after object next tickets (done ++ c ∷ []) more)
+
+-- all answers that a node gave are of its tickets
+abbrev pub HasOwn : {A : Type 0} → Node A → Type 0
+HasOwn n = AreBelow (length n.tickets) n.answers
+
+-- A step
+
+-- what it adds, of a node whose committed log grows by it
+pub record Adds {A : Type 0} (n : Node A) (s : NodeStepped A) : Type 0 where
+  pub committed : node_committed s.node ≡ node_committed n ++ s.committed
+  pub tickets : s.node.tickets ≡ n.tickets
+  pub answers : s.node.answers ≡ n.answers ++ s.answers
+  pub own : AreBelow (length n.tickets) s.answers
+
+nothing-adds : {A : Type 0} (n : Node A) → Adds n (quiet n)
+nothing-adds n = record { committed = sym (append-nil (node_committed n)); tickets = refl; answers = sym (append-nil n.answers); own = tt }
+
+stopped-adds : {A : Type 0} (n : Node A) → Adds n (quiet (node_stopped n))
+stopped-adds n = record { committed = sym (append-nil (node_committed n)); tickets = refl; answers = sym (append-nil n.answers); own = tt }
 
 module _ {O A : Type 0} (object : Sequential O) where
-  below-at : (n : ℕ) (committed : List (Call A)) (place ticket : ℕ) (ts : List (Asked A)) → ticket + length ts ≤ n
-      → AreBelow n (answers_at object committed place ticket ts)
-  below-at n committed place ticket [] h = tt
-  below-at n committed place ticket (t ∷ ts) h =
-      below-append n (if is_place place (place_of committed t) then answered ticket t.call (session_answer object committed place) else [])
-      (answers_at object committed place (ticket + 1) ts)
-      (below-answered n ticket t.call (session_answer object committed place) (is_place place (place_of committed t)) (omega arith))
-      (below-at n committed place (ticket + 1) ts (omega arith))
+  settled-adds : (b : Bool) (n new : Node A) (outs : List (Out A)) (life : List (Stay A)) → node_committed new ≡ committed_of n.group life
+      → new.tickets ≡ n.tickets → IsFront (node_committed n) (node_committed (settled object b n new outs life).node)
+      → Adds n (settled object b n new outs life)
+  settled-adds false n new outs life is same front = stopped-adds n
+  settled-adds true n new outs life is same front =
+      record {
+        committed = behind (node_committed n) (node_committed new) front
+            ∙ ap (λ (calls : List (Call A)). node_committed n ++ drop (length (node_committed n)) calls) is;
+        tickets = same;
+        answers = refl;
+        own = below-after object (table_after object (node_committed n)) n.tickets n.done (newly n life);
+      }
 
-  -- all answers are of the tickets
-  below-after : (tickets : List (Asked A)) (committed more : List (Call A)) → AreBelow (length tickets) (answers_after object tickets committed more)
-  below-after tickets committed [] = tt
-  below-after tickets committed (c ∷ more) =
-      below-append (length tickets) (answers_at object (committed ++ c ∷ []) (length committed) 0 tickets)
-      (answers_after object tickets (committed ++ c ∷ []) more)
-      (below-at (length tickets) (committed ++ c ∷ []) (length committed) 0 tickets (omega arith)) (below-after tickets (committed ++ c ∷ []) more)
+  core-adds : (n : Node A) (s : Stepped A) → IsFront (node_committed n) (node_committed (after_core object n s).node) → Adds n (after_core object n s)
+  core-adds n s front =
+      let life = lived_through n.life s.outs in
+      let due = due_by n s.core n.life s.outs in
+      settled-adds (is_sound n.group life) n (walked n s.core life due) s.outs life (hands-committed n.group due life) refl front
 
-  -- a submit adds a ticket without an answer
-  pub answers_of-submitted : (n : Node A) (c : Call A) → answers_of object (submitted n c) ≡ answers_of object n ++ None ∷ []
-  answers_of-submitted n c =
-      let committed = node_committed n in
-      let t : Asked A = record { call = c; since = length committed } in
-      let k = length n.tickets in
-      let none : Option Answer = None in
-      let all = all_answers object n.tickets committed in
-      let same : all_answers object (n.tickets ++ t ∷ []) committed ≡ all = answers_after-push object n.tickets t [] committed (omega arith) in
-      let below = subst (λ (j : ℕ). AreBelow j all) (sym (length-replicate k none)) (below-after n.tickets [] committed) in
-      ap (λ (calls : List (Call A)). by_ticket (length (n.tickets ++ t ∷ [])) (all_answers object (n.tickets ++ t ∷ []) calls)) (submitted-committed n c)
-      ∙ (ap (λ (j : ℕ). by_ticket j (all_answers object (n.tickets ++ t ∷ []) committed)) (length-append n.tickets (t ∷ []))
-      ∙ (ap (by_ticket (k + 1)) same
-      ∙ (ap (λ (ts : List (Option Answer)). answered_in ts all) (sym (replicate-append-replicate k 1 none))
-      ∙ answered_in-left (replicate k None) (None ∷ []) all below)))
+  pub step-adds : (n : Node A) (input : Input A) → IsFront (node_committed n) (node_committed (node_step object n input).node)
+      → Adds n (node_step object n input)
+  step-adds n (FrameInput frame) front = core-adds n (ring_step n.core (CoreFrame frame)) front
+  step-adds n (TimeInput kind) front = core-adds n (ring_step n.core (CoreTimeout kind)) front
+  step-adds n NoiseInput front = nothing-adds n
+  step-adds n StopInput front = stopped-adds n
 
-  -- a step tells the answers that come with it
-  pub answers_of-stepped : (n : Node A) (s : NodeStepped A) → Adds object n s → answers_of object s.node ≡ answered_in (answers_of object n) s.answers
-  answers_of-stepped n s adds =
-      let k = length n.tickets in
-      let committed = node_committed n in
-      ap (λ (ts : List (Asked A)). by_ticket (length ts) (all_answers object ts (node_committed s.node))) adds.tickets
-      ∙ (ap (λ (cs : List (Call A)). by_ticket k (all_answers object n.tickets cs)) adds.committed
-      ∙ (ap (by_ticket k) (answers_after-append object n.tickets [] committed s.committed)
-      ∙ (answered_in-append (replicate k None) (all_answers object n.tickets committed) (answers_after object n.tickets committed s.committed)
-      ∙ ap (answered_in (answers_of object n)) (sym adds.answers))))
+-- a step tells the answers that come with it
+pub answers_of-stepped : {A : Type 0} (n : Node A) (s : NodeStepped A) → Adds n s → answers_of s.node ≡ answered_in (answers_of n) s.answers
+answers_of-stepped {A} n s adds =
+    let k = length n.tickets in
+    ap (λ (ts : List (Asked A)). by_ticket (length ts) s.node.answers) adds.tickets
+    ∙ ap (by_ticket k) adds.answers ∙ answered_in-append (replicate k None) n.answers s.answers
+
+pub own-stepped : {A : Type 0} (n : Node A) (s : NodeStepped A) → Adds n s → HasOwn n → HasOwn s.node
+own-stepped {A} n s adds own =
+    subst (λ (ts : List (Asked A)). AreBelow (length ts) s.node.answers) (sym adds.tickets)
+    (subst (AreBelow (length n.tickets)) (sym adds.answers) (below-append (length n.tickets) n.answers s.answers own adds.own))
+
+-- A submit adds a ticket without an answer
+
+pub answers_of-submitted : {A : Type 0} (n : Node A) (c : Call A) → HasOwn n → answers_of (submitted n c) ≡ answers_of n ++ None ∷ []
+answers_of-submitted {A} n c own =
+    let t : Asked A = record { call = c; since = length n.done } in
+    let k = length n.tickets in
+    let none : Option Answer = None in
+    let below = subst (λ (j : ℕ). AreBelow j n.answers) (sym (length-replicate k none)) own in
+    ap (λ (j : ℕ). by_ticket j n.answers) (length-append n.tickets (t ∷ []))
+    ∙ (ap (λ (ts : List (Option Answer)). answered_in ts n.answers) (sym (replicate-append-replicate k 1 none))
+    ∙ answered_in-left (replicate k None) (None ∷ []) n.answers below)
+
+pub own-submitted : {A : Type 0} (n : Node A) (c : Call A) → HasOwn n → HasOwn (submitted n c)
+own-submitted {A} n c own =
+    let t : Asked A = record { call = c; since = length n.done } in
+    below-more (length n.tickets) (length (n.tickets ++ t ∷ [])) n.answers (let e = length-append n.tickets (t ∷ []) in omega (arith, e)) own

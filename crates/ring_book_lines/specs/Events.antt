@@ -9,7 +9,7 @@ use Rattle.ring_payload.specs.declared.call.Call.{Call}
 use Rattle.ring_session.specs.declared.answer.Answer.{Answer}
 use Rattle.ring_session.specs.Deduplicated.{deduplicated}
 use Rattle.ring_core.specs.State.{Carried, frame_at}
-use Rattle.ring_session.specs.Tickets.{all_answers, asked_calls}
+use Rattle.ring_session.specs.Tickets.{asked_calls}
 use Rattle.ring_session.specs.declared.answered.Answered.{Answered}
 use Rattle.ring_rules.specs.declared.input.Input.{Input}
 use Rattle.ring_rules.specs.declared.input.Input.TheVariants.{Frame as Comes, Noise, Timeout, Stop}
@@ -69,6 +69,10 @@ abbrev pub history_of : {A : Type 0} → List (LineView A) → List (Item A)
 history_of [] = []
 history_of (l ∷ ls) = items_in l.step.input l.step.answers ++ history_of ls
 
+-- the answers that were given to the node's tickets
+abbrev pub answers_of : {A : Type 0} → Node A → List (Option Answer)
+answers_of n = by_ticket (length n.tickets) n.answers
+
 module _ {O : Type 0} (object : Sequential O) where
   -- The frame that comes to the node in this world is the one that was sent under its number, and goes to it.
   abbrev pub IsSent : {A : Type 0} → World A → List (LineView A) → ℕ → FrameRef → Input A → Type 0
@@ -90,10 +94,6 @@ module _ {O : Type 0} (object : Sequential O) where
   AreDone w before [] = Unit {0}
   AreDone w before (l ∷ ls) =
       IsDone w before l.step.node l.step.input l.step × AreDone (happens object w (event_of before l.step.node l.step.input)) (before ++ l ∷ []) ls
-
-  -- the answers of the node's tickets that its committed log gives
-  abbrev pub answers_of : {A : Type 0} → Node A → List (Option Answer)
-  answers_of n = by_ticket (length n.tickets) (all_answers object n.tickets (node_committed n))
 
   -- The lines are a run of the group: their inputs are its events, with just these frames, answers and committed calls. Its
   -- frames, its history and its order are those of the lines, and so are each node's calls, of which a ticket is a place,

@@ -61,7 +61,7 @@ pub fn answered<O: Object, K: BookName<O::Alloc>>(
 ) -> Option<Answer>
     ensures { node ≤ K.name.group.count →
         let w = run O.sequential (world_opening K.name.group) (events_of book.now.lines) in
-        result ≡ told_at (answers_of O.sequential (w.nodes node)) ticket }
+        result ≡ told_at (answers_of (w.nodes node)) ticket }
 {
     book.run_law();
     book.answer(node, ticket)

@@ -1,6 +1,6 @@
 -- A node's step and submit, by its core and its replica.
 use Rattle.std.proofs.Common.{◌≡◌, ℕ, inl, inr, nat_le, Result, Ok, Err, IfErr, if◌then◌else◌, Bool, true, false}
-use Rattle.std.proofs.Common.{List, [], ◌∷◌, ◌++◌, length, drop, Option, Some, None, refl, ap, sym, ◌∙◌, subst}
+use Rattle.std.proofs.Common.{List, [], ◌∷◌, ◌++◌, length, drop, Option, Some, None, refl, ap, sym, ◌∙◌, subst, append-nil}
 use Rattle.std.proofs.lemmas.Bool.{cases_Bool, cond-true}
 use Rattle.ring_base.specs.Numbers.{max_number}
 use Rattle.ring_base.specs.declared.fault.Fault.TheVariants.{PendingFull, Stopped as StoppedFault}
@@ -14,14 +14,14 @@ use Rattle.ring_core.specs.declared.out.Out.{Out}
 use Rattle.ring_core.specs.State.{Core, halted}
 use Rattle.ring_core.specs.Stepping.{ring_step}
 use Rattle.ring_log.specs.Stays.{Stay}
-use Rattle.ring_log.specs.Lives.{committed_of, is_sound}
+use Rattle.ring_log.specs.Lives.{is_sound}
 use Rattle.ring_session.specs.declared.answered.Answered.{Answered}
-use Rattle.ring_session.specs.Tickets.{unanswered, answers_after}
+use Rattle.ring_session.specs.Tickets.{unanswered}
 use Rattle.ring_rules.specs.Lives.{lived_through}
 use Rattle.ring_rules.specs.Nodes.{Node, node_pending, node_stopped, is_stopped}
 use Rattle.ring_rules.specs.Stepping.{NodeStepped, handed_over, after_core, submit_fault}
 use Rattle.ring_replica.specs.Courses.{handed_if, dues_by}
-use Rattle.ring_replica.specs.Replicas.{Replica, ReplicaStepped, replica_committed, replica_stopped, replica_done}
+use Rattle.ring_replica.specs.Replicas.{Replica, ReplicaStepped, replica_committed, replica_more, replica_stopped, replica_done, replica_ended}
 use Rattle.ring_replica.specs.Replicas.{replica_settled, replica_step, replica_of, running_of, moment_of, node_unless}
 use Rattle.ring_replica.specs.Replicas.{submit_refusal, has_adopted_running, replica_given}
 use Rattle.ring_replica.proofs.Nodes.{step-is, refused-is}
@@ -43,17 +43,16 @@ module _ {O A : Type 0} (object : Sequential O) (r : Replica A) (outs : List (Ou
   abbrev made : Bool → ReplicaStepped A
   made b = replica_settled object b r outs life due
 
-  -- it may end the step with the answers that it gave
-  ends-by : (b : Bool) → (made b).replica.stopped ≡ false →
-      (made b).answers ≡ answers_after object (made b).replica.tickets (replica_committed (made b).replica)
-      (drop (length (replica_committed (made b).replica)) (committed_of (made b).replica.group (made b).replica.ahead))
+  -- what it did is what it committed
+  ends-by : (b : Bool) → (made b).replica.stopped ≡ false → replica_more (made b).replica (made b).replica.ahead ≡ (made b).committed
   ends-by false s = absurd (cc s)
-  ends-by true s =
-      ap (λ l. answers_after object r.tickets (replica_committed r) (drop (length (replica_committed r)) l)) (sym (hands-committed r.group due life))
+  ends-by true s = ap (drop (length (replica_committed r))) (hands-committed r.group due life)
 
   -- where it stopped, that it ends the step changes nothing
-  stopped-by : (b : Bool) → r.stopped ≡ false → (made b).replica.stopped ≡ true → (made b).replica ≡ replica_done (made b).replica
-  stopped-by false s t = refl
+  stopped-by : (b : Bool) → r.stopped ≡ false → (made b).replica.stopped ≡ true → (made b).replica ≡ replica_ended (made b)
+  stopped-by false s t =
+      let of : List (OneCall A) → List (Answered A) → Replica A = λ x y. record r { ahead = r.life; done = x; answers = y; stopped = true } in
+      ap (λ x. of x r.answers) (sym (append-nil r.done)) ∙ ap (of (r.done ++ [])) (sym (append-nil r.answers))
   stopped-by true s t = absurd (let x = sym s ∙ t in cc x)
 
   -- and stopped, it is what it was
@@ -71,16 +70,17 @@ module _ {O A : Type 0} (object : Sequential O) (running : Option RingId) (r : R
   abbrev due_now : List (Payload A)
   due_now = dues_by (moment_of running r) r.life outs
 
-  -- it may end the step with the answers that it gave
+  -- it ends the step with the answers that it gave
   pub ends-as : (new : Replica A) (answers : List (Answered A)) → new ≡ step.replica → answers ≡ step.answers → new.stopped ≡ false →
-      answers ≡ answers_after object new.tickets (replica_committed new) (drop (length (replica_committed new)) (committed_of new.group new.ahead))
+      replica_done new (replica_more new new.ahead) answers ≡ replica_ended step
   ends-as new answers e a h =
-      a ∙ ends-by object r outs (lived_through r.life outs) due_now is (ap (λ (x : Replica A). x.stopped) (sym e) ∙ h)
-      ∙ ap (λ (x : Replica A). answers_after object x.tickets (replica_committed x)
-      (drop (length (replica_committed x)) (committed_of x.group x.ahead))) (sym e)
+      ap (λ (x : Replica A). replica_done x (replica_more x x.ahead) answers) e
+      ∙ ap (replica_done step.replica (replica_more step.replica step.replica.ahead)) a
+      ∙ ap (λ l. replica_done step.replica l step.answers)
+      (ends-by object r outs (lived_through r.life outs) due_now is (ap (λ (x : Replica A). x.stopped) (sym e) ∙ h))
 
   -- ended or stopped, it is what ends the step
-  pub stopped-as : (new : Replica A) → r.stopped ≡ false → new ≡ step.replica → new.stopped ≡ true → new ≡ replica_done step.replica
+  pub stopped-as : (new : Replica A) → r.stopped ≡ false → new ≡ step.replica → new.stopped ≡ true → new ≡ replica_ended step
   stopped-as new s e h = e ∙ stopped-by object r outs (lived_through r.life outs) due_now is s (ap (λ (x : Replica A). x.stopped) (sym e) ∙ h)
 
   pub left-as : (new : Replica A) → new ≡ step.replica → replica_stopped new ≡ replica_stopped r
@@ -102,17 +102,10 @@ module _ {O A : Type 0} (object : Sequential O) (core new : Core A) (r : Replica
 
 pub same-replica : {A : Type 0} → (core : Core A) (r : Replica A) (ended : Core A) → r.stopped ≡ false → Runs core r → r ≡ replica_of (told_node core r ended)
 same-replica {A} core r ended s k =
-    let of_me : ℕ → Replica A = λ x. record { group = r.group; me = x; life = r.life; ahead = r.ahead; tickets = r.tickets; stopped = r.stopped } in
-    let of_ahead : List (Stay A) → Replica A = λ x. record {
-      group = r.group;
-      me = core.me;
-      life = r.life;
-      ahead = x;
-      tickets = r.tickets;
-      stopped = r.stopped;
-    } in
-    let of_stopped : Bool → Replica A = λ x. record { group = r.group; me = core.me; life = r.life; ahead = r.life; tickets = r.tickets; stopped = x } in
-    let of_core : Core A → Replica A = λ x. record { group = r.group; me = x.me; life = r.life; ahead = r.life; tickets = r.tickets; stopped = false } in
+    let of_me : ℕ → Replica A = λ x. record r { me = x } in
+    let of_ahead : List (Stay A) → Replica A = λ x. record r { me = core.me; ahead = x } in
+    let of_stopped : Bool → Replica A = λ x. record r { me = core.me; ahead = r.life; stopped = x } in
+    let of_core : Core A → Replica A = λ x. record r { me = x.me; ahead = r.life; stopped = false } in
     ap of_me k.me ∙ ap of_ahead k.done ∙ ap of_stopped s ∙ ap of_core (sym (ap (λ b. core_told b core ended) s))
 
 pub told-core : {A : Type 0} → (core : Core A) (r : Replica A) (ended : Core A) → r.stopped ≡ false → (told_node core r ended).core ≡ core
@@ -138,8 +131,10 @@ module _ {O A : Type 0} (object : Sequential O) (n : Node A) (core : Core A) (ou
   abbrev gives : Bool → NodeStepped A
   gives b = node_unless (made_of b).replica.stopped n core (made_of b)
 
-  node-by : (b : Bool) → told_node (handed_over core (made_of b).due) (replica_done (made_of b).replica) n.core ≡ (gives b).node
-  node-by false = refl
+  node-by : (b : Bool) → told_node (handed_over core (made_of b).due) (replica_ended (made_of b)) n.core ≡ (gives b).node
+  node-by false =
+      let of : List (OneCall A) → List (Answered A) → Node A = λ x y. record n { core = halted n.core; done = x; answers = y } in
+      ap (λ x. of x (n.answers ++ [])) (append-nil n.done) ∙ ap (of n.done) (append-nil n.answers)
   node-by true = refl
 
   sends-by : (b : Bool) → (made_of b).sends ≡ (gives b).sends
@@ -154,8 +149,8 @@ module _ {O A : Type 0} (object : Sequential O) (n : Node A) (core : Core A) (ou
   committed-by false = refl
   committed-by true = refl
 
-  runs-by : (b : Bool) → IsMarked core life → is_stopped core.state ≡ false → n.core.me ≡ core.me → (replica_done (made_of b).replica).stopped ≡ false →
-      Runs (handed_over core (made_of b).due) (replica_done (made_of b).replica)
+  runs-by : (b : Bool) → IsMarked core life → is_stopped core.state ≡ false → n.core.me ≡ core.me → (replica_ended (made_of b)).stopped ≡ false →
+      Runs (handed_over core (made_of b).due) (replica_ended (made_of b))
   runs-by false m g e s = absurd (cc s)
   runs-by true m g e s =
       record { done = refl; me = e ∙ sym (me_handed core due); going = going_handed core due g; marked = marked_handed core life due m }
@@ -204,18 +199,18 @@ module _ {O A : Type 0} (object : Sequential O) (core : Core A) (r : Replica A) 
       ∙ ap (λ (x : NodeStepped A). x.committed) (sym (step-is object n (ring_step n.core input))))
 
   pub node-is : told_node (handed_over (ring_step core input).core (stepped_by object core r input).due)
-      (replica_done (stepped_by object core r input).replica) core ≡ after.node
+      (replica_ended (stepped_by object core r input)) core ≡ after.node
   node-is =
       by-replica (λ x c. told_node (handed_over (ring_step c input).core (stepped_by object c x input).due)
-      (replica_done (stepped_by object c x input).replica) c ≡ after.node)
+      (replica_ended (stepped_by object c x input)) c ≡ after.node)
       (node-by object n (ring_step n.core input).core out lives dues sound ∙ ap (λ (x : NodeStepped A). x.node)
       (sym (step-is object n (ring_step n.core input))))
 
-  pub runs-on : (replica_done (stepped_by object core r input).replica).stopped ≡ false →
-      Runs (handed_over (ring_step core input).core (stepped_by object core r input).due) (replica_done (stepped_by object core r input).replica)
+  pub runs-on : (replica_ended (stepped_by object core r input)).stopped ≡ false →
+      Runs (handed_over (ring_step core input).core (stepped_by object core r input).due) (replica_ended (stepped_by object core r input))
   runs-on =
-      by-replica (λ x c. (replica_done (stepped_by object c x input).replica).stopped ≡ false →
-      Runs (handed_over (ring_step c input).core (stepped_by object c x input).due) (replica_done (stepped_by object c x input).replica))
+      by-replica (λ x c. (replica_ended (stepped_by object c x input)).stopped ≡ false →
+      Runs (handed_over (ring_step c input).core (stepped_by object c x input).due) (replica_ended (stepped_by object c x input)))
       (runs-by object n (ring_step n.core input).core out lives dues sound
       (marked_step n.core n.life input (subst (λ (c : Core A). IsMarked c n.life) (sym (told-core core r ended halts)) k.marked))
       (going_step n.core input (subst (λ (c : Core A). is_stopped c.state ≡ false) (sym (told-core core r ended halts)) k.going))
@@ -225,7 +220,7 @@ module _ {O A : Type 0} (object : Sequential O) (core : Core A) (r : Replica A) 
 pub stepped-node : {O A : Type 0} → (object : Sequential O) (core : Core A) (r : Replica A) (ended : Core A)
     (input : Input A) (halts : r.stopped ≡ false) (k : Runs core r)
     (new : Core A) (given : Replica A) (last : RingId) (ended' : Core A) → new ≡ handed_over (ring_step core input).core (stepped_by object core r input).due →
-    given ≡ replica_done (stepped_by object core r input).replica → last ≡ ended'.installed.ring → IsNode new given last ended'
+    given ≡ replica_ended (stepped_by object core r input) → last ≡ ended'.installed.ring → IsNode new given last ended'
 stepped-node {O} {A} object core r ended input halts k new given last ended' en eg el =
     record {
       runs = λ s. subst (λ (x : Core A). Runs x given) (sym en)
@@ -237,11 +232,11 @@ stepped-node {O} {A} object core r ended input halts k new given last ended' en 
 pub told-as : {O A : Type 0} → (object : Sequential O) (core : Core A) (r : Replica A) (ended : Core A)
     (input : Input A) (halts : r.stopped ≡ false) (k : Runs core r)
     (new : Core A) (given : Replica A) (ended' : Core A) → new ≡ handed_over (ring_step core input).core (stepped_by object core r input).due →
-    given ≡ replica_done (stepped_by object core r input).replica → ended' ≡ core →
+    given ≡ replica_ended (stepped_by object core r input) → ended' ≡ core →
     told_node new given ended' ≡ (after_core object (told_node core r ended) (ring_step (told_node core r ended).core input)).node
 told-as {O} {A} object core r ended input halts k new given ended' en eg ee =
     let made = handed_over (ring_step core input).core (stepped_by object core r input).due in
-    let done = replica_done (stepped_by object core r input).replica in
+    let done = replica_ended (stepped_by object core r input) in
     ap (λ (x : Core A). told_node x given ended') en ∙ ap (λ (x : Replica A). told_node made x ended') eg ∙ ap (λ (x : Core A). told_node made done x) ee
     ∙ node-is object core r ended input halts k
 
@@ -260,7 +255,7 @@ fault-is {A} core r last ended k =
           (if nat_le 64 (length (node_pending n)) then Some PendingFull else if nat_le max_number (length n.tickets) then Some PendingFull else None)
           (stops-told core r ended t)
           ∙ sym (cond-true r.stopped (Some StoppedFault)
-          (if nat_le 64 (length (unanswered (replica_committed r) r.tickets)) then Some PendingFull else if nat_le
+          (if nat_le 64 (length (unanswered r.done r.tickets)) then Some PendingFull else if nat_le
           max_number (length r.tickets) then Some PendingFull else None) t)
       | inr f ↦ refused-is n (going-told core r ended f (k.runs f)) ∙ ap submit_refusal (sym (same-replica core r ended f (k.runs f)))
     ]
@@ -298,5 +293,12 @@ pub stopped-node : {A : Type 0} → (core core' : Core A) (r r' : Replica A) (en
     → ended' ≡ core → replica_stopped r' ≡ replica_stopped r →
     told_node core' (replica_stopped r') ended' ≡ node_stopped (told_node core r ended)
 stopped-node {A} core core' r r' ended ended' s e t =
-    let of : Replica A → Core A → Node A = λ x c. record { group = x.group; core = halted c; life = x.life; tickets = x.tickets } in
+    let of : Replica A → Core A → Node A = λ x c. record {
+      group = x.group;
+      core = halted c;
+      life = x.life;
+      tickets = x.tickets;
+      done = x.done;
+      answers = x.answers;
+    } in
     ap (λ x. of x ended') t ∙ ap (of (replica_stopped r)) (e ∙ sym (told-core core r ended s))

@@ -17,7 +17,14 @@ core_told true core ended = halted ended
 
 abbrev pub told_node : {A : Type 0} → Core A → Replica A → Core A → Node A
 told_node core replica ended =
-    record { group = replica.group; core = core_told replica.stopped core ended; life = replica.life; tickets = replica.tickets }
+    record {
+      group = replica.group;
+      core = core_told replica.stopped core ended;
+      life = replica.life;
+      tickets = replica.tickets;
+      done = replica.done;
+      answers = replica.answers;
+    }
 
 -- while the node runs: all steps are done, the core and the replica are of one processor, and the newest stay has no higher mark than the core
 pub record Runs {A : Type 0} (core : Core A) (replica : Replica A) : Type 0 where

@@ -9,7 +9,7 @@ ghost use Rattle.ring_srp_acts.specs.Allowing.{InputFits};
 ghost use Rattle.ring_rules.specs.Nodes.{is_stopped};
 ghost use Rattle.ring_rules.specs.Stepping.{handed_over};
 ghost use Rattle.ring_replica.specs.Courses.{rises};
-ghost use Rattle.ring_replica.specs.Replicas.{IsDone, replica_stopped, replica_done, running_of};
+ghost use Rattle.ring_replica.specs.Replicas.{IsDone, replica_stopped, replica_ended, running_of};
 ghost use Rattle.ring_node.specs.Kept.{Runs, followed_by, stepped_by};
 
 use crate::outs::Outs;
@@ -60,7 +60,7 @@ pub(crate) fn advance<O: Object>(
     ensures answers { IfOk result (λ outs. outs.answers.items ≡ (stepped_by O.sequential core.old replica.old input).answers) }
     ensures committed { IfOk result (λ outs. outs.committed.items ≡ (stepped_by O.sequential core.old replica.old input).committed) }
     ensures core { OnOk result (core.new ≡ handed_over (ring_step core.old input).core (stepped_by O.sequential core.old replica.old input).due) }
-    ensures replica { OnOk result (replica.new ≡ replica_done (stepped_by O.sequential core.old replica.old input).replica) }
+    ensures replica { OnOk result (replica.new ≡ replica_ended (stepped_by O.sequential core.old replica.old input)) }
     ensures err { OnErr result (replica_stopped replica.new ≡ replica_stopped replica.old) }
     ensures refused { IfErr result (λ fault. fault ≡ Memory) }
 {
@@ -82,7 +82,7 @@ pub(crate) fn advance_on<O: Object>(
     ensures committed { IfOk result (λ outs. outs.committed.items ≡ (stepped_by O.sequential core.old replica.old (FrameInput frame.now)).committed) }
     ensures core { OnOk result (core.new ≡ handed_over (ring_step core.old (FrameInput frame.now)).core
         (stepped_by O.sequential core.old replica.old (FrameInput frame.now)).due) }
-    ensures replica { OnOk result (replica.new ≡ replica_done (stepped_by O.sequential core.old replica.old (FrameInput frame.now)).replica) }
+    ensures replica { OnOk result (replica.new ≡ replica_ended (stepped_by O.sequential core.old replica.old (FrameInput frame.now))) }
     ensures err { OnErr result (replica_stopped replica.new ≡ replica_stopped replica.old) }
     ensures refused { IfErr result (λ fault. fault ≡ Memory) }
 {
@@ -105,7 +105,7 @@ fn follow<O: Object>(
     ensures answers { IfOk result (λ given. given.answers.items ≡ (followed_by O.sequential core.old replica.old outs.items).answers) }
     ensures committed { IfOk result (λ given. given.committed.items ≡ (followed_by O.sequential core.old replica.old outs.items).committed) }
     ensures core { OnOk result (core.new ≡ handed_over core.old (followed_by O.sequential core.old replica.old outs.items).due) }
-    ensures replica { OnOk result (replica.new ≡ replica_done (followed_by O.sequential core.old replica.old outs.items).replica) }
+    ensures replica { OnOk result (replica.new ≡ replica_ended (followed_by O.sequential core.old replica.old outs.items)) }
     ensures err { OnErr result (replica_stopped replica.new ≡ replica_stopped replica.old) }
     ensures refused { IfErr result (λ fault. fault ≡ Memory) }
 {

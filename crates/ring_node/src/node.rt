@@ -26,7 +26,8 @@ use ring_srp::Srp;
 use ring_wire::Frame;
 use std::marker::Model;
 
-/// A node. Contracts see a `Node`: its group, its core, its life and its tickets.
+/// A node. Contracts see a `Node`: its group, its core, its life, its tickets, the calls that it did and the answers that it
+/// gave.
 #[derive(Drop)]
 pub struct Node<O: Object> {
     alloc: O::Alloc,
@@ -153,7 +154,7 @@ impl<O: Object> Node<O> {
 
     /// The answer to a ticket, if it is among the 64 that were answered last.
     pub fn reply(&self, ticket: Ticket) -> Option<Answer>
-        ensures { result ≡ node_reply O.sequential self.now ticket }
+        ensures { result ≡ node_reply self.now ticket }
     {
         self.replica.reply(ticket)
     }

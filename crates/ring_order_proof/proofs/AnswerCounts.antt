@@ -1,5 +1,5 @@
--- How many answers come as places are committed: each ticket has one at most, and none that had one before.
-use Rattle.std.proofs.Common.{◌≡◌, ℕ, suc, ◌+◌, ◌≤◌, ◌<◌, Bool, true, false, ◌==◌, List, [], ◌∷◌, ◌++◌, length, drop}
+-- How many answers come as calls are done: each ticket has one at most, and none that had one before.
+use Rattle.std.proofs.Common.{◌≡◌, ℕ, suc, ◌+◌, ◌≤◌, ◌<◌, Bool, true, false, ◌==◌, List, [], ◌∷◌, ◌++◌, length}
 use Rattle.std.proofs.Common.{Option, Some, None, is_none, refl, ap, sym, subst, arith, append_assoc, append-nil}
 use Rattle.std.proofs.Common.{if◌then◌else◌}
 use Rattle.std.specs.Prelude.{nat_le, ◌&&◌}
@@ -8,26 +8,23 @@ use Rattle.std.proofs.lemmas.List.{length-append}
 use Rattle.ring_object.specs.Operations.{Sequential}
 use Rattle.ring_payload.specs.declared.call.Call.{Call}
 use Rattle.ring_session.specs.declared.answer.Answer.{Answer}
-use Rattle.ring_session.specs.SessionAnswer.{is_same, session_answer}
+use Rattle.ring_session.specs.SessionAnswer.{is_same}
+use Rattle.ring_session.specs.Table.{Table, table_answer, table_next, table_after}
 use Rattle.ring_core.specs.declared.input.Input.TheVariants.{Frame as FrameInput, Timeout as TimeInput}
 use Rattle.ring_core.specs.declared.out.Out.{Out}
 use Rattle.ring_core.specs.Stepping.{ring_step}
 use Rattle.ring_log.specs.Stays.{Stay}
-use Rattle.ring_log.specs.Lives.{is_sound, committed_of}
+use Rattle.ring_log.specs.Lives.{is_sound}
 use Rattle.ring_session.specs.declared.answered.Answered.{Answered}
-use Rattle.ring_session.specs.Tickets.{Asked, place_of, unanswered, is_place, answered, answers_at, answers_after}
+use Rattle.ring_session.specs.Tickets.{Asked, place_of, unanswered, is_place, answers_at, answers_after}
 use Rattle.ring_session.proofs.TicketPlaces.{first_place-below, or_else, last_place, first_place-push}
 use Rattle.ring_rules.specs.declared.input.Input.{Input as NodeInput}
 use Rattle.ring_rules.specs.declared.input.Input.TheVariants.{Frame as NodeFrame, Noise as NodeNoise, Timeout as NodeTime, Stop as NodeStop}
 use Rattle.ring_rules.specs.Lives.{lived_through}
 use Rattle.ring_rules.specs.Nodes.{Node, node_committed, node_pending}
-use Rattle.ring_rules.specs.Stepping.{settled, node_step}
+use Rattle.ring_rules.specs.Stepping.{newly, settled, node_step}
 
--- One place more, one ticket
-
-one_answered : {A : Type 0} → (ticket : ℕ) (c : Call A) (o : Option Answer) → length (answered ticket c o) ≤ 1
-one_answered ticket c None = omega arith
-one_answered ticket c (Some a) = omega arith
+-- One call more, one ticket
 
 -- counted among those that wait
 abbrev counted : Option ℕ → ℕ → ℕ
@@ -58,46 +55,42 @@ length_if : {A : Type 0} → (o : Option ℕ) (t : Asked A) (ts : List (Asked A)
 length_if None t ts = refl
 length_if (Some p) t ts = refl
 
+few_at : {A : Type 0} → (answer : Answer) (done : List (Call A)) (c : Call A) (ticket : ℕ) (ts : List (Asked A)) →
+    length (answers_at answer (done ++ c ∷ []) (length done) ticket ts) + length (unanswered (done ++ c ∷ []) ts) ≤ length (unanswered done ts)
+few_at answer done c ticket [] = omega arith
+few_at {A} answer done c ticket (t ∷ ts) =
+    let n = length done in
+    let o = place_of done t in
+    let last = last_place t.call t.since (0 + n) c in
+    let told : List (Answered A) = record { ticket = ticket; call = t.call; answer = answer } ∷ [] in
+    let behind = answers_at answer (done ++ c ∷ []) n (ticket + 1) ts in
+    let waits = length (unanswered (done ++ c ∷ []) ts) in
+    let waited = length (unanswered done ts) in
+    let here : length ((if is_place n (or_else o last) then told else []) ++ behind) + counted (or_else o last) waits ≤ counted o waited =
+    one_ticket n o last told behind waits waited (λ p h. (let l = first_place-below t.call t.since 0 done p h in omega (arith, l)))
+    (λ p h. (let l = last_is t.call t.since (0 + n) c p h in omega (arith, l))) (let one : length told ≡ 1 = refl in omega (arith, one))
+    (few_at answer done c (ticket + 1) ts) in
+    let place = place_of (done ++ c ∷ []) t in
+    let now : length ((if is_place n place then told else []) ++ behind) + counted place waits ≤ counted o waited =
+    subst (λ (p : Option ℕ). length ((if is_place n p then told else []) ++ behind) + counted p waits ≤ counted o waited)
+    (sym (first_place-push t.call t.since 0 done c)) here in
+    let a = length_if (place_of (done ++ c ∷ []) t) t (unanswered (done ++ c ∷ []) ts) in
+    let b = length_if o t (unanswered done ts) in
+    omega (arith, a, b, now)
+
 module _ {O A : Type 0} (object : Sequential O) where
-  -- One place more
+  -- More calls
 
-  few_at : (committed : List (Call A)) (c : Call A) (ticket : ℕ) (ts : List (Asked A)) →
-      length (answers_at object (committed ++ c ∷ []) (length committed) ticket ts) + length (unanswered (committed ++ c ∷ []) ts)
-      ≤ length (unanswered committed ts)
-  few_at committed c ticket [] = omega arith
-  few_at committed c ticket (t ∷ ts) =
-      let n = length committed in
-      let o = place_of committed t in
-      let last = last_place t.call t.since (0 + n) c in
-      let told = answered ticket t.call (session_answer object (committed ++ c ∷ []) n) in
-      let behind = answers_at object (committed ++ c ∷ []) n (ticket + 1) ts in
-      let waits = length (unanswered (committed ++ c ∷ []) ts) in
-      let waited = length (unanswered committed ts) in
-      let here : length ((if is_place n (or_else o last) then told else []) ++ behind) + counted (or_else o last) waits ≤ counted o waited =
-      one_ticket n o last told behind waits waited (λ p h. (let l = first_place-below t.call t.since 0 committed p h in omega (arith, l)))
-      (λ p h. (let l = last_is t.call t.since (0 + n) c p h in omega (arith, l)))
-      (one_answered ticket t.call (session_answer object (committed ++ c ∷ []) n))
-      (few_at committed c (ticket + 1) ts) in
-      let place = place_of (committed ++ c ∷ []) t in
-      let now : length ((if is_place n place then told else []) ++ behind) + counted place waits ≤ counted o waited =
-      subst (λ (p : Option ℕ). length ((if is_place n p then told else []) ++ behind) + counted p waits ≤ counted o waited)
-      (sym (first_place-push t.call t.since 0 committed c)) here in
-      let a = length_if (place_of (committed ++ c ∷ []) t) t (unanswered (committed ++ c ∷ []) ts) in
-      let b = length_if o t (unanswered committed ts) in
-      omega (arith, a, b, now)
-
-  -- More places
-
-  pub few_more : (tickets : List (Asked A)) (committed more : List (Call A)) →
-      length (answers_after object tickets committed more) + length (unanswered (committed ++ more) tickets) ≤ length (unanswered committed tickets)
-  few_more tickets committed [] = (let e = ap (λ calls. length (unanswered calls tickets)) (append-nil committed) in omega (arith, e))
-  few_more tickets committed (c ∷ more) =
-      let now = answers_at object (committed ++ c ∷ []) (length committed) 0 tickets in
-      let later = answers_after object tickets (committed ++ c ∷ []) more in
-      let a = few_at committed c 0 tickets in
-      let b = few_more tickets (committed ++ c ∷ []) more in
+  pub few_more : (table : Table O) (tickets : List (Asked A)) (done more : List (Call A)) →
+      length (answers_after object table tickets done more) + length (unanswered (done ++ more) tickets) ≤ length (unanswered done tickets)
+  few_more table tickets done [] = (let e = ap (λ calls. length (unanswered calls tickets)) (append-nil done) in omega (arith, e))
+  few_more table tickets done (c ∷ more) =
+      let now = answers_at (table_answer object table c) (done ++ c ∷ []) (length done) 0 tickets in
+      let later = answers_after object (table_next object table c) tickets (done ++ c ∷ []) more in
+      let a = few_at (table_answer object table c) done c 0 tickets in
+      let b = few_more (table_next object table c) tickets (done ++ c ∷ []) more in
       let d = length-append now later in
-      let e = ap (λ calls. length (unanswered calls tickets)) (append_assoc committed (c ∷ []) more) in
+      let e = ap (λ calls. length (unanswered calls tickets)) (append_assoc done (c ∷ []) more) in
       omega (arith, a, b, d, e)
 
   -- A step of a node
@@ -106,7 +99,7 @@ module _ {O A : Type 0} (object : Sequential O) where
       length (settled object b old new outs life).answers ≤ length (node_pending old)
   few_if false old new outs life = omega arith
   few_if true old new outs life =
-      omega (arith, few_more old.tickets (node_committed old) (drop (length (node_committed old)) (committed_of old.group life)))
+      omega (arith, few_more (table_after object (node_committed old)) old.tickets old.done (newly old life))
 
   pub few_answers : (n : Node A) (input : NodeInput A) → length (node_step object n input).answers ≤ length (node_pending n)
   few_answers n (NodeFrame frame) =

@@ -1,6 +1,6 @@
 -- What is due by what a core tells of a ring: Parts of the log that the node had before the ring, and calls; and nothing but in a primary ring that runs.
 use Rattle.std.proofs.Common.{◌≡◌, ℕ, zero, suc, ◌*◌, ◌-◌, true, ◌==◌, ◌⊎◌, inl, inr, List, [], ◌∷◌, ◌++◌, map, take}
-use Rattle.std.proofs.Common.{drop, Option, Some, None, refl, ap, ◌∙◌, subst}
+use Rattle.std.proofs.Common.{length, drop, Option, Some, None, refl, ap, ◌∙◌, subst}
 use Rattle.std.specs.List.{AllByRecursion as Each}
 use Rattle.std.proofs.lemmas.Bool.{cond_both}
 use Rattle.std.proofs.lemmas.List.{drop-drop}
@@ -21,7 +21,7 @@ use Rattle.ring_log.specs.Parts.{nth_part, parts_between}
 use Rattle.ring_log.specs.Stays.{Stay}
 use Rattle.ring_log.specs.Lives.{after_all, log_of}
 use Rattle.ring_session.specs.Tickets.{Asked}
-use Rattle.ring_rules.specs.Nodes.{Node, node_committed, runs}
+use Rattle.ring_rules.specs.Nodes.{Node, node_committed, node_pending, runs}
 use Rattle.ring_rules.specs.Dues.{parts_due, due_when_stated, calls_due, due_when_whole, due_between, due_in_stay, due_at_agreed}
 use Rattle.ring_log_proof.specs.Discipline.{FollowsHead}
 
@@ -76,14 +76,14 @@ both_due P own xs ys h k =
 stated_follows : {A : Type 0} → (me : ℕ) (own : List (OneCall A)) (old new : Exchange A) → Each (FollowsHead own) (due_when_stated me own old new)
 stated_follows me own old new = cond_both _ (parts_due me own (wanted new)) [] (Each (FollowsHead own)) (λ e. parts_follow_head me own (wanted new)) (λ e. tt)
 
-calls_follow : {A : Type 0} → (own committed base : List (OneCall A)) (tickets : List (Asked A)) → Each (FollowsHead own) (calls_due tickets committed base)
-calls_follow own committed base tickets = any_each (FollowsHead own) _ _ (λ t. tt)
+calls_follow : {A : Type 0} → (own calls : List (OneCall A)) (pending : List (Asked A)) → Each (FollowsHead own) (calls_due pending calls)
+calls_follow own calls pending = any_each (FollowsHead own) _ _ (λ t. tt)
 
 whole_follows : {A : Type 0} → (own : List (OneCall A)) (n : Node A) (life : List (Stay A)) (old new : Exchange A)
     → Each (FollowsHead own) (due_when_whole n life old new)
 whole_follows own n life old new =
-    cond_both _ (calls_due n.tickets (node_committed n) (log_of n.group life)) [] (Each (FollowsHead own))
-    (λ e. calls_follow own (node_committed n) (log_of n.group life) n.tickets) (λ e. tt)
+    let places = drop (length (node_committed n)) (log_of n.group life) in
+    cond_both _ (calls_due (node_pending n) places) [] (Each (FollowsHead own)) (λ e. calls_follow own places (node_pending n)) (λ e. tt)
 
 -- the ring runs and is primary
 pub record RunsPrimary {A : Type 0} (group : Group) (core : Core A) (ring : RingId) (members : ℕ) : Type 0 where

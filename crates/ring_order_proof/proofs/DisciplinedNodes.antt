@@ -145,7 +145,22 @@ settles : {O A : Type 0} → (object : Sequential O) (n : Node A) (t : Bool) (co
     Becomes n (walked n core (lived_through n.life outs) (due_by n core n.life outs)) →
     Becomes n (settled object t n (walked n core (lived_through n.life outs) (due_by n core n.life outs)) outs (lived_through n.life outs)).node
 settles object n false core outs o b = node_stops n o
-settles object n true core outs o b = b
+settles object n true core outs o b =
+    record {
+      events = b.events;
+      may = b.may;
+      lives = b.lives;
+      group = b.group;
+      orderly = record {
+        stay = b.orderly.stay;
+        older = b.orderly.older;
+        life = b.orderly.life;
+        stands = b.orderly.stands;
+        rings = b.orderly.rings;
+        ordered = b.orderly.ordered;
+        ready = b.orderly.ready;
+      };
+    }
 
 after_input : {O A : Type 0} → (object : Sequential O) (n : Node A) (input : Input A) → IsOrderlyNode n
     → Becomes n (after_core object n (ring_step n.core input)).node

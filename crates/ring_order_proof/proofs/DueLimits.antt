@@ -25,7 +25,7 @@ use Rattle.ring_log.specs.Stays.{Stay, stay_in, hears, marks, hands}
 use Rattle.ring_log_proof.specs.RingFacts.{IsStay}
 use Rattle.ring_session.specs.Tickets.{Asked, unanswered}
 use Rattle.ring_rules.specs.Lives.{lived_through}
-use Rattle.ring_rules.specs.Nodes.{Node, node_committed, runs}
+use Rattle.ring_rules.specs.Nodes.{Node, node_committed, node_pending, runs}
 use Rattle.ring_rules.specs.Dues.{due_at_regular, parts_due, due_when_stated, stands_in, calls_due, due_when_whole}
 use Rattle.ring_rules.specs.Dues.{due_between, due_in_stay, due_at_agreed, due_by}
 use Rattle.ring_log_proof.proofs.CommittedGrows.{sound_stay}
@@ -118,12 +118,12 @@ parts_due_fit {A} me own (Some v) h w =
     (λ e. any_each PayloadFits PartFits (λ (part : OnePart A). Part part) (parts_between own v.from v.to) (λ part f. f) (parts_fit own v.from v.to h w))
     (λ e. tt)
 
-calls_due_fit : {A : Type 0} → (tickets : List (Asked A)) (committed base : List (OneCall A)) → TicketsFit tickets →
-    Each PayloadFits (calls_due tickets committed base)
-calls_due_fit {A} tickets committed base h =
-    let waiting = filter (λ (t : Asked A). not (stands_in (drop (length committed) base) t)) (unanswered committed tickets) in
+calls_due_fit : {A : Type 0} → (tickets : List (Asked A)) (done calls : List (OneCall A)) → TicketsFit tickets →
+    Each PayloadFits (calls_due (unanswered done tickets) calls)
+calls_due_fit {A} tickets done calls h =
+    let waiting = filter (λ (t : Asked A). not (stands_in calls t)) (unanswered done tickets) in
     any_each PayloadFits (λ (t : Asked A). CallFits t.call) (λ (t : Asked A). Call t.call) waiting (λ t f. f)
-    (each-filter (λ (t : Asked A). CallFits t.call) (λ (t : Asked A). not (stands_in (drop (length committed) base) t)) (unanswered committed tickets)
+    (each-filter (λ (t : Asked A). CallFits t.call) (λ (t : Asked A). not (stands_in calls t)) (unanswered done tickets)
     (each-filter (λ (t : Asked A). CallFits t.call) _ tickets h))
 
 module _ {A : Type 0} (n : Node A) (tickets : TicketsFit n.tickets) (core : Core A) where
@@ -133,8 +133,8 @@ module _ {A : Type 0} (n : Node A) (tickets : TicketsFit n.tickets) (core : Core
       each-append PayloadFits (due_when_stated n.core.me (log_of n.group older) old new) (due_when_whole n life old new)
       (cond_both _ (parts_due n.core.me (log_of n.group older) (wanted new)) [] (Each PayloadFits)
       (λ e. parts_due_fit n.core.me (log_of n.group older) (wanted new) (log_fits n.group older h) (wanted_fits new x)) (λ e. tt))
-      (cond_both _ (calls_due n.tickets (node_committed n) (log_of n.group life)) [] (Each PayloadFits)
-      (λ e. calls_due_fit n.tickets (node_committed n) (log_of n.group life) tickets) (λ e. tt))
+      (cond_both _ (calls_due (node_pending n) (drop (length (node_committed n)) (log_of n.group life))) [] (Each PayloadFits)
+      (λ e. calls_due_fit n.tickets n.done (drop (length (node_committed n)) (log_of n.group life)) tickets) (λ e. tt))
 
   agreed_due_fit : (k : ℕ) (ring : RingId) (life : List (Stay A)) (x : Message A) (after : List (Stay A)) → HeardFits k x → LifeFits k life →
       Each PayloadFits (due_at_agreed n core ring life x after)

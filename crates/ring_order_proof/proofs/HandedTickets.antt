@@ -1,5 +1,5 @@
 -- Each call that a node hands over is one of its tickets', and each ticket's call was issued.
-use Rattle.std.proofs.Common.{ℕ, ◌==◌, Bool, true, false, List, [], ◌∷◌, ◌++◌, map, Option, Some, None, if◌then◌else◌}
+use Rattle.std.proofs.Common.{ℕ, ◌==◌, Bool, true, false, List, [], ◌∷◌, ◌++◌, length, drop, map, Option, Some, None, if◌then◌else◌}
 use Rattle.std.specs.Prelude.{not, ◌&&◌}
 use Rattle.std.specs.List.{AllByRecursion as Each}
 use Rattle.std.proofs.lemmas.Bool.{cond_both}
@@ -24,7 +24,7 @@ use Rattle.ring_log.specs.Stays.{Stay}
 use Rattle.ring_log.specs.Lives.{after_all, log_of, head_of_life, is_sound}
 use Rattle.ring_session.specs.Tickets.{Asked, unanswered}
 use Rattle.ring_rules.specs.Lives.{lived, lived_through}
-use Rattle.ring_rules.specs.Nodes.{Node, node_committed, node_stopped, runs, runs_adopted}
+use Rattle.ring_rules.specs.Nodes.{Node, node_committed, node_pending, node_stopped, runs, runs_adopted}
 use Rattle.ring_rules.specs.Dues.{is_stated, parts_due, due_when_stated, calls_due, due_when_whole, due_between, due_in_stay, due_at_agreed, due_at, due_by}
 use Rattle.ring_rules.specs.declared.input.Input.{Input}
 use Rattle.ring_rules.specs.declared.input.Input.TheVariants.{Frame, Noise, Timeout, Stop}
@@ -66,10 +66,10 @@ module _ {A : Type 0} (Known : OneCall A → Type 0) where
   parts-known me own None = tt
   parts-known me own (Some w) = none-known (w.owner == me) (map (λ part. Part part) (parts_between own w.from w.to)) (parts-are (parts_between own w.from w.to))
 
-  calls-known : (tickets : List (Asked A)) (committed base : List (OneCall A)) → Each (λ (t : Asked A). Known t.call) tickets
-      → AreKnown (calls_due tickets committed base)
-  calls-known tickets committed base h =
-      each-map (IsKnownCall Known) (λ (t : Asked A). Call t.call) _ (each-filter _ _ (unanswered committed tickets) (each-filter _ _ tickets h))
+  calls-known : (tickets : List (Asked A)) (done calls : List (OneCall A)) → Each (λ (t : Asked A). Known t.call) tickets
+      → AreKnown (calls_due (unanswered done tickets) calls)
+  calls-known tickets done calls h =
+      each-map (IsKnownCall Known) (λ (t : Asked A). Call t.call) _ (each-filter _ _ (unanswered done tickets) (each-filter _ _ tickets h))
 
   between-known : (n : Node A) (older life : List (Stay A)) (old new : Exchange A) → Each (λ (t : Asked A). Known t.call) n.tickets
       → AreKnown (due_between n older life old new)
@@ -77,8 +77,8 @@ module _ {A : Type 0} (Known : OneCall A → Type 0) where
       each-append (IsKnownCall Known) (due_when_stated n.core.me (log_of n.group older) old new) (due_when_whole n life old new)
       (none-known (is_stated new && not (is_stated old)) (parts_due n.core.me (log_of n.group older) (wanted new))
       (parts-known n.core.me (log_of n.group older) (wanted new)))
-      (none-known (is_whole new && not (is_whole old)) (calls_due n.tickets (node_committed n) (log_of n.group life))
-      (calls-known n.tickets (node_committed n) (log_of n.group life) h))
+      (none-known (is_whole new && not (is_whole old)) (calls_due (node_pending n) (drop (length (node_committed n)) (log_of n.group life)))
+      (calls-known n.tickets n.done (drop (length (node_committed n)) (log_of n.group life)) h))
 
   agreed-known : (n : Node A) (core : Core A) (ring : RingId) (before : List (Stay A)) (x : Message A) (life : List (Stay A))
       → Each (λ (t : Asked A). Known t.call) n.tickets
@@ -121,7 +121,7 @@ module _ {A : Type 0} (Known : OneCall A → Type 0) where
     settled-known : (b : Bool) (old new : Node A) (outs : List (Out A)) (life : List (Stay A)) → NodeKnows old → NodeKnows new
         → NodeKnows (settled object b old new outs life).node
     settled-known false old new outs life k h = stopped-known old k
-    settled-known true old new outs life k h = h
+    settled-known true old new outs life k h = record { tickets = h.tickets; sent = h.sent }
 
     core-known : (n : Node A) (s : Stepped A) → NodeKnows n → NodeKnows (after_core object n s).node
     core-known n s k =

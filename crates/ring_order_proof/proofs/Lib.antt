@@ -29,8 +29,10 @@
 -- OrderedRuns: In every run of at most 16 nodes the order explains the history, grows, and has what each node committed as a front.
 -- Bases: No base lacks committed places: it is so of the lives between a step of a core and what its node hands over, which are orderly too.
 -- SendCounts: How many frames one step gives: what a visit sends again, its new messages and the token, or one frame, and perhaps a proposal.
--- AnswerCounts: How many answers come as places are committed: each ticket has one at most, and none that had one before.
--- PendingTickets: In every run a node has at most 64 tickets without an answer: a submit is refused at 64, and what is committed only grows.
+-- AnswerCounts: How many answers come as calls are done: each ticket has one at most, and none that had one before.
+-- KeptByNodes: What each node has at the opening, and keeps in each step, submit and stop, each node has in every run.
+-- PendingTickets: In every run a node has at most 64 tickets without an answer: a submit is refused at 64, and the calls done only grow.
+-- DoneCalls: In every run a node has done just the calls that it has committed, and all answers that it gave are those of the session table.
 -- LogLimits: What was heard keeps the limits: so does each call of the log that it makes, and the Head and the Parts that state this log.
 -- OutputLimits: What a step of a core tells keeps the limits: each message that is agreed does, in a ring that is counted, and each ring that is
 --   installed.
@@ -64,7 +66,9 @@ pub mod OrderedRuns
 pub mod Bases
 pub mod SendCounts
 pub mod AnswerCounts
+pub mod KeptByNodes
 pub mod PendingTickets
+pub mod DoneCalls
 pub mod LogLimits
 pub mod OutputLimits
 pub mod DueLimits

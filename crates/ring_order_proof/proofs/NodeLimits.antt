@@ -27,7 +27,7 @@ use Rattle.ring_rules.specs.declared.input.Input.{Input as NodeInput}
 use Rattle.ring_rules.specs.declared.input.Input.TheVariants.{Frame as NodeFrame, Noise as NodeNoise, Timeout as NodeTime, Stop as NodeStop}
 use Rattle.ring_rules.specs.NodeLimits.{InputFits as NodeInputFits}
 use Rattle.ring_rules.specs.Lives.{lived_through}
-use Rattle.ring_rules.specs.Nodes.{Node, node_opening, node_log, node_committed, node_stopped, runs_adopted}
+use Rattle.ring_rules.specs.Nodes.{Node, node_opening, node_log, node_stopped, runs_adopted}
 use Rattle.ring_rules.specs.Dues.{due_by}
 use Rattle.ring_rules.specs.Stepping.{handed_over, walked, send_of, settled, node_step, due_by_submit, submitted}
 use Rattle.ring_core_proof.specs.Limits.{InputFits, OutFits, CoreFits, SentFits}
@@ -117,9 +117,10 @@ module _ {O A : Type 0} (object : Sequential O) (n : Node A) (f : NodeFits n) wh
       let fits = step_fits n.core input f.core w in
       let tells = step_tells n.core input f.core w in
       let due = due_fit n f.tickets s.core n.core.installed.ring.seq s.core.installed.ring.seq n.life s.outs tells f.life e in
+      let new = walks n s.core life (due_by n s.core n.life s.outs) n.tickets fits.core (stepped_is n.core input)
+      (through_fits n.core.installed.ring.seq s.core.installed.ring.seq n.life s.outs tells f.life) due f.tickets in
       record {
-        node = walks n s.core life (due_by n s.core n.life s.outs) n.tickets fits.core (stepped_is n.core input)
-            (through_fits n.core.installed.ring.seq s.core.installed.ring.seq n.life s.outs tells f.life) due f.tickets;
+        node = record { core = new.core; ready = new.ready; life = new.life; tickets = new.tickets };
         sends = sends_fit s.outs fits.outs;
       }
 
@@ -133,7 +134,7 @@ module _ {O A : Type 0} (object : Sequential O) (n : Node A) (f : NodeFits n) wh
 
 pub submitted_fits : {A : Type 0} → (n : Node A) (c : OneCall A) → NodeFits n → CallFits c → NodeFits (submitted n c)
 submitted_fits {A} n c f h =
-    let t : Asked A = record { call = c; since = length (node_committed n) } in
+    let t : Asked A = record { call = c; since = length n.done } in
     let due : Each PayloadFits (due_by_submit n c) =
     cond_both (runs_adopted n) (Call c ∷ []) [] (Each (PayloadFits {A = A})) (λ e. (h, tt)) (λ e. tt) in
     walks n n.core n.life (due_by_submit n c) (n.tickets ++ t ∷ []) f.core f.ready f.life due

@@ -136,7 +136,8 @@ module _ {O A : Type 0} (object : Sequential O) where
   settled-adds lists node true n new outs life is front there =
       let old = node_committed n in
       let rest : drop (length old) (committed_of n.group life) ≡ front.0 = ap (drop (length old)) (is ∙ sym front.1) ∙ drop-append_seam old front.0 in
-      told-after object lists node (node_committed new) there n.tickets old (drop (length old) (committed_of n.group life)) (ap (λ l. old ++ l) rest ∙ front.1)
+      told-after object lists node (node_committed new) there n.tickets old n.done (drop (length old) (committed_of n.group life))
+      (ap (λ l. old ++ l) rest ∙ front.1)
 
   core-adds : (lists : List (List (Call A))) (node : ℕ) (n : Node A) (s : Stepped A) → IsFront (node_committed n) (node_committed (after_core object n s).node)
       → slice_get lists node ≡ Some (node_committed (after_core object n s).node) → All (IsGiven object lists) (items_of (after_core object n s).answers)

@@ -22,7 +22,9 @@ use Rattle.ring_rules.specs.declared.input.Input.{Input as NodeInput}
 use Rattle.ring_rules.specs.Lives.{lived, lived_through}
 use Rattle.ring_rules.specs.Nodes.{Node, node_stopped}
 use Rattle.ring_rules.specs.Dues.{due_by}
-use Rattle.ring_rules.specs.Stepping.{handed_over, walked, send_of, settled, after_core, node_step}
+use Rattle.ring_payload.specs.declared.call.Call.{Call as OneCall}
+use Rattle.ring_session.specs.declared.answered.Answered.{Answered}
+use Rattle.ring_rules.specs.Stepping.{handed_over, walked, send_of, newly, answers_by, settled, after_core, node_step}
 use Rattle.ring_rules.specs.Worlds.{World, put as put_node, is_node as is_world_node, carried, after_step as after_node}
 use Rattle.ring_core_proof.specs.declared.event.RingEvent.{RingEvent}
 use Rattle.ring_core_proof.specs.Worlds.{put, carried_by, after_step, stopped_if, happens, run}
@@ -216,14 +218,17 @@ module _ {O A : Type 0} (object : Sequential O) (w : World A) (outs : List (ℕ 
         over = becomes_over w outs i (node_stopped (w.nodes i)) [] after b over refl refl;
       }
 
-  -- the core's step, and what is due after it
-  goes_on : (input : Input A) (event : RingEvent A) → happens (ring_part w outs) event ≡ after_step (ring_part w outs) i (ring_step (w.nodes i).core input) →
+  -- the core's step, and what is due after it, whatever the node did and answered
+  goes_on : (did : List (OneCall A)) (answers : List (Answered A)) (input : Input A) (event : RingEvent A) →
+      happens (ring_part w outs) event ≡ after_step (ring_part w outs) i (ring_step (w.nodes i).core input) →
       (life : List (Stay A)) (due : List (Payload A)) → heard_life life ≡ heard_life (lived_through (w.nodes i).life (ring_step (w.nodes i).core input).outs) →
-      (after : World A) → Becomes w outs i (walked (w.nodes i) (ring_step (w.nodes i).core input).core life due) (ring_step (w.nodes i).core input).outs after →
+      (after : World A) →
+      Becomes w outs i (record (walked (w.nodes i) (ring_step (w.nodes i).core input).core life due) { done = did; answers = answers })
+      (ring_step (w.nodes i).core input).outs after →
       Leads w outs (share_settled true i event due (ring_step (w.nodes i).core input).outs) after
-  goes_on input event e life due l after b =
+  goes_on did answers input event e life due l after b =
       let s = ring_step (w.nodes i).core input in
-      let n = walked (w.nodes i) s.core life due in
+      let n = record (walked (w.nodes i) s.core life due) { done = did; answers = answers } in
       let quiet = stepped_is (w.nodes i).core input in
       record {
         part = ap (λ r. run r (sends_to i due)) e ∙ step_then_sends w outs i s due member quiet ∙ becomes_part w outs i n s.outs after b;
@@ -237,7 +242,8 @@ module _ {O A : Type 0} (object : Sequential O) (w : World A) (outs : List (ℕ 
       (ring_step (w.nodes i).core input).outs life))
   settles input event e false life due l = halts _ (refl, refl, refl)
   settles input event e true life due l =
-      goes_on input event e life due (ap heard_life l) _
+      let n = w.nodes i in
+      goes_on (n.done ++ newly n life) (n.answers ++ answers_by object n (newly n life)) input event e life due (ap heard_life l) _
       (refl, refl, ap (λ frames. w.frames ++ frames) (sym (sends_carried i (ring_step (w.nodes i).core input).outs)))
 
   -- a frame or a timeout

@@ -3,7 +3,9 @@ use Rattle.std.proofs.Common.{◌≡◌, ℕ, suc, ◌+◌, ◌-◌, ◌&&◌, n
 use Rattle.std.proofs.Common.{sym, subst, ◌∙◌, arith, append_assoc, All, if◌then◌else◌}
 use Rattle.std.proofs.lemmas.Bool.{eqb-true, and_parts}
 use Rattle.std.proofs.lemmas.List.Elements.{All-nil, All-cons, All-append}
-use Rattle.ring_base.specs.Fronts.{IsFront, front_get}
+use Rattle.std.proofs.lemmas.List.Sums.{fold-append}
+use Rattle.ring_base.specs.Fronts.{front_get}
+use Rattle.ring_base.proofs.ListPlaces.{get-last}
 use Rattle.ring_object.specs.Operations.{Sequential}
 use Rattle.ring_payload.specs.declared.call.Call.{Call}
 use Rattle.ring_session.specs.declared.answer.Answer.{Answer}
@@ -12,7 +14,9 @@ use Rattle.ring_session.specs.Deduplicated.{StandsAt}
 use Rattle.ring_session.specs.SessionAnswer.{is_same, session_answer, reply_in}
 use Rattle.ring_session.specs.SessionAnswerLaws.{is_same-true, session_answer-front}
 use Rattle.ring_session.specs.declared.answered.Answered.{Answered}
-use Rattle.ring_session.specs.Tickets.{Asked, first_place, place_of, is_place, answered, answers_at, answers_after}
+use Rattle.ring_session.specs.Table.{Table, opening, table_answer, table_next, table_after}
+use Rattle.ring_session.specs.Tickets.{Asked, first_place, place_of, is_place, answers_at, answers_after}
+use Rattle.ring_session.proofs.TableLaws.{table_answers}
 use Rattle.ring_rules.specs.declared.item.Item.{Item}
 use Rattle.ring_rules.specs.Orders.{IsGiven}
 use Rattle.ring_rules.specs.Worlds.{replied, items_of}
@@ -38,10 +42,14 @@ first_place-stands c since at [] p e = absurd (cc e)
 first_place-stands c since at (d ∷ ds) p e =
     first_at c d since at ds p (λ q h. first_place-stands c since (at + 1) ds q h) (nat_le since at && is_same c d) refl e
 
-place_of-stands : {A : Type 0} (committed : List (Call A)) (t : Asked A) (p : ℕ) → place_of committed t ≡ Some p → StandsAt committed p t.call
-place_of-stands {A} committed t p e =
+place_of-stands : {A : Type 0} (done : List (Call A)) (t : Asked A) (p : ℕ) → place_of done t ≡ Some p → StandsAt done p t.call
+place_of-stands {A} done t p e =
     let same : p - 0 ≡ p = omega arith in
-    subst (λ k. slice_get committed k ≡ Some t.call) same (first_place-stands t.call t.since 0 committed p e).1
+    subst (λ k. slice_get done k ≡ Some t.call) same (first_place-stands t.call t.since 0 done p e).1
+
+-- one answer
+abbrev told_one : {A : Type 0} → ℕ → Call A → Answer → List (Answered A)
+told_one ticket c answer = record { ticket = ticket; call = c; answer = answer } ∷ []
 
 pub is_place-true : (place : ℕ) (o : Option ℕ) → is_place place o ≡ true → o ≡ Some place
 is_place-true place None e = absurd (cc e)
@@ -52,11 +60,10 @@ module _ {O A : Type 0} (object : Sequential O) (lists : List (List (Call A))) (
   abbrev IsRight : Item A → Type 0
   IsRight item = IsGiven object lists item
 
-  told-one : (place ticket : ℕ) (c : Call A) (o : Option Answer) → StandsAt all place c → session_answer object all place ≡ o
-      → All IsRight (items_of (answered ticket c o))
-  told-one place ticket c None at is = All-nil IsRight
-  told-one place ticket c (Some (Refused n)) at is = All-nil IsRight
-  told-one place ticket c (Some (Done r)) at is =
+  one-right : (place ticket : ℕ) (c : Call A) (answer : Answer) → StandsAt all place c → session_answer object all place ≡ Some answer
+      → All IsRight (items_of (told_one ticket c answer))
+  one-right place ticket c (Refused n) at is = All-nil IsRight
+  one-right place ticket c (Done r) at is =
       All-cons IsRight _ [] (record {
         node = node;
         calls = all;
@@ -69,7 +76,7 @@ module _ {O A : Type 0} (object : Sequential O) (lists : List (List (Call A))) (
             refl;
       })
       (All-nil IsRight)
-  told-one place ticket c (Some (Kept r)) at is =
+  one-right place ticket c (Kept r) at is =
       All-cons IsRight _ [] (record {
         node = node;
         calls = all;
@@ -92,27 +99,41 @@ module _ {O A : Type 0} (object : Sequential O) (lists : List (List (Call A))) (
   right-append : (xs ys : List (Answered A)) → All IsRight (items_of xs) → All IsRight (items_of ys) → All IsRight (items_of (xs ++ ys))
   right-append xs ys h k = rw (items-append xs ys) (All-append IsRight (items_of xs) (items_of ys) h k)
 
-  told-if : (committed : List (Call A)) (place ticket : ℕ) (t : Asked A) → IsFront committed all → (b : Bool) → is_place place (place_of committed t) ≡ b
-      → All IsRight (items_of (if b then answered ticket t.call (session_answer object committed place) else []))
-  told-if committed place ticket t front false e = All-nil IsRight
-  told-if committed place ticket t front true e =
-      let at : StandsAt committed place t.call = place_of-stands committed t place (is_place-true place (place_of committed t) e) in
-      told-one place ticket t.call (session_answer object committed place) (front_get committed all place t.call front at)
-      (session_answer-front object committed all place t.call at front)
+  -- a call is done behind others, and stands at a place of all that is committed, with this answer there
+  module _ (place : ℕ) (c : Call A) (stands : StandsAt all place c) (answer : Answer) (is : session_answer object all place ≡ Some answer)
+      (done : List (Call A)) where
+    told-if : (ticket : ℕ) (t : Asked A) (b : Bool) → is_place (length done) (place_of (done ++ c ∷ []) t) ≡ b
+        → All IsRight (items_of (if b then told_one ticket t.call answer else []))
+    told-if ticket t false e = All-nil IsRight
+    told-if ticket t true e =
+        let at : StandsAt (done ++ c ∷ []) (length done) t.call =
+        place_of-stands (done ++ c ∷ []) t (length done) (is_place-true (length done) (place_of (done ++ c ∷ []) t) e) in
+        let last : StandsAt (done ++ c ∷ []) (length done) c = get-last done c in
+        let same : Some c ≡ Some t.call = sym last ∙ at in
+        one-right place ticket t.call answer (stands ∙ same) is
 
-  told-at : (committed : List (Call A)) (place ticket : ℕ) (ts : List (Asked A)) → IsFront committed all
-      → All IsRight (items_of (answers_at object committed place ticket ts))
-  told-at committed place ticket [] front = All-nil IsRight
-  told-at committed place ticket (t ∷ ts) front =
-      right-append (if is_place place (place_of committed t) then answered ticket t.call (session_answer object committed place) else [])
-      (answers_at object committed place (ticket + 1) ts)
-      (told-if committed place ticket t front (is_place place (place_of committed t)) refl) (told-at committed place (ticket + 1) ts front)
+    told-at : (ticket : ℕ) (ts : List (Asked A)) → All IsRight (items_of (answers_at answer (done ++ c ∷ []) (length done) ticket ts))
+    told-at ticket [] = All-nil IsRight
+    told-at ticket (t ∷ ts) =
+        right-append (if is_place (length done) (place_of (done ++ c ∷ []) t) then told_one ticket t.call answer else [])
+        (answers_at answer (done ++ c ∷ []) (length done) (ticket + 1) ts)
+        (told-if ticket t (is_place (length done) (place_of (done ++ c ∷ []) t)) refl) (told-at (ticket + 1) ts)
 
-  -- the answers that come as all is committed
-  pub told-after : (tickets : List (Asked A)) (committed more : List (Call A)) → committed ++ more ≡ all
-      → All IsRight (items_of (answers_after object tickets committed more))
-  told-after tickets committed [] e = All-nil IsRight
-  told-after tickets committed (c ∷ more) e =
+  -- the answers that come as all is committed, whatever calls the node did before
+  pub told-after : (tickets : List (Asked A)) (committed done more : List (Call A)) → committed ++ more ≡ all
+      → All IsRight (items_of (answers_after object (table_after object committed) tickets done more))
+  told-after tickets committed done [] e = All-nil IsRight
+  told-after tickets committed done (c ∷ more) e =
+      let table = table_after object committed in
+      let answer = table_answer object table c in
+      let last : StandsAt (committed ++ c ∷ []) (length committed) c = get-last committed c in
       let whole : (committed ++ c ∷ []) ++ more ≡ all = append_assoc committed (c ∷ []) more ∙ e in
-      right-append (answers_at object (committed ++ c ∷ []) (length committed) 0 tickets) (answers_after object tickets (committed ++ c ∷ []) more)
-      (told-at (committed ++ c ∷ []) (length committed) 0 tickets (more, whole)) (told-after tickets (committed ++ c ∷ []) more whole)
+      let stands : StandsAt all (length committed) c = front_get (committed ++ c ∷ []) all (length committed) c (more, whole) last in
+      let is : session_answer object all (length committed) ≡ Some answer =
+      session_answer-front object (committed ++ c ∷ []) all (length committed) c last (more, whole) ∙ table_answers object committed c in
+      let next : table_after object (committed ++ c ∷ []) ≡ table_next object table c =
+      fold-append (table_next object) (opening object.initial) committed (c ∷ []) in
+      right-append (answers_at answer (done ++ c ∷ []) (length done) 0 tickets) (answers_after object (table_next object table c) tickets (done ++ c ∷ []) more)
+      (told-at (length committed) c stands answer is done 0 tickets)
+      (subst (λ (t : Table O). All IsRight (items_of (answers_after object t tickets (done ++ c ∷ []) more))) next
+      (told-after tickets (committed ++ c ∷ []) (done ++ c ∷ []) more whole))

@@ -308,7 +308,7 @@ after_says : {O A : Type 0} → (object : Sequential O) (n : Node A) (t : Bool) 
     IsOrderlyNode new → HasQueued new.life → ((handed_over core (due_by n core n.life outs)).installed ≡ core.installed) → NodeSays new
 after_says object n false core outs s ready m h o q i = stops_says n s
 after_says object n true core outs s ready m h o q i =
-    handed_says (walked n core (lived_through n.life outs) (due_by n core n.life outs)) core
+    handed_says (settled object true n (walked n core (lived_through n.life outs) (due_by n core n.life outs)) outs (lived_through n.life outs)).node core
     (lived_through n.life outs) (due_by n core n.life outs) refl refl o q ready i m h
 
 input_says : {O A : Type 0} → (object : Sequential O) (n : Node A) (input : Input A)

@@ -1,6 +1,6 @@
 //! Laws of one step of a node, and of every run of nodes.
 
-ghost use Rattle.std.specs.Prelude.{◌≡◌, ℕ, ◌+◌, ◌≤◌, List, Some, filter_map, length};
+ghost use Rattle.std.specs.Prelude.{◌≡◌, ℕ, ◌+◌, ◌≤◌, List, [], Some, filter_map, length};
 ghost use Rattle.std.specs.List.{AllByRecursion};
 ghost use Rattle.ring_base.specs.Group.{Group};
 ghost use Rattle.ring_payload.specs.Calls.{CallFits};
@@ -15,7 +15,9 @@ ghost use Rattle.ring_log_proof.specs.RingFacts.{IsStay};
 ghost use Rattle.ring_core_proof.specs.Limits.{InputFits, OutFits, CoreFits};
 ghost use Rattle.ring_rules.specs.declared.input.Input.{Input as NodeInput};
 ghost use Rattle.ring_rules.specs.NodeLimits.{InputFits as NodeInputFits};
-ghost use Rattle.ring_rules.specs.Nodes.{Node, node_log, node_pending};
+ghost use Rattle.ring_session.specs.Table.{opening};
+ghost use Rattle.ring_session.specs.Tickets.{answers_after};
+ghost use Rattle.ring_rules.specs.Nodes.{Node, node_committed, node_log, node_pending};
 ghost use Rattle.ring_rules.specs.Stepping.{node_step, send_of};
 ghost use Rattle.ring_rules.specs.declared.event.Event.{Event};
 ghost use Rattle.ring_rules.specs.WorldLimits.{EventFits};
@@ -39,6 +41,17 @@ pub fn pending_law<O: Object>()
     ensures answers { (group : Group) (events : List (Event O.Alloc)) (node : ℕ) (input : NodeInput O.Alloc) →
         let w = run O.sequential (world_opening group) events in
         length (node_step O.sequential (w.nodes node) input).answers ≤ 64 }
+{}
+
+/// In every run a node has done just the calls that it has committed, so that its tickets count its committed places; and
+/// all answers that it ever gave are those of the session table, one call after the other from the first.
+pub fn done_law<O: Object>()
+    ensures calls { (group : Group) (events : List (Event O.Alloc)) (node : ℕ) →
+        let w = run O.sequential (world_opening group) events in
+        (w.nodes node).done ≡ node_committed (w.nodes node) }
+    ensures answers { (group : Group) (events : List (Event O.Alloc)) (node : ℕ) →
+        let n = (run O.sequential (world_opening group) events).nodes node in
+        n.answers ≡ answers_after O.sequential (opening O.sequential.initial) n.tickets [] (node_committed n) }
 {}
 
 /// Each frame ever sent keeps the limits of frames, and so does each node's core: in every run of at most 16 nodes whose

@@ -21,7 +21,7 @@ use Rattle.ring_core.specs.declared.out.Out.TheVariants.{Send, Agreed, Safe, Tra
 use Rattle.ring_log.specs.Exchanges.{Exchange, opened, is_whole}
 use Rattle.ring_log.specs.Stays.{Stay, hands}
 use Rattle.ring_log.specs.Lives.{after_all, log_of, last_of, committed_of, is_sound}
-use Rattle.ring_session.specs.Tickets.{Asked, place_of, unanswered, answers_after}
+use Rattle.ring_session.specs.Tickets.{Asked, place_of, unanswered}
 use Rattle.ring_session.specs.declared.pending.Pending.{Pending}
 use Rattle.ring_session.specs.Pendings.{pending_from, stands_in}
 use Rattle.ring_rules.specs.Lives.{lived, lived_through}
@@ -58,23 +58,24 @@ calls-step {A} places t i true ts ps e = by (not (stands_in places t.call)) e
     by true e = ap (λ w. Call t.call ∷ w) e
     by false e = e
 
-calls-from : {A : Type 0} (committed places : List (OneCall A)) (i : ℕ) (ts : List (Asked A))
-    → map (λ (u : Asked A). Call u.call) (filter (λ (u : Asked A). not (stands_in places u.call)) (unanswered committed ts))
-    ≡ calls_left (pending_from committed i ts) places
-calls-from committed places i [] = refl
-calls-from committed places i (t ∷ ts) =
-    calls-step places t i (is_none (place_of committed t)) (unanswered committed ts)
-    (pending_from committed (i + 1) ts) (calls-from committed places (i + 1) ts)
+calls-from : {A : Type 0} (done places : List (OneCall A)) (i : ℕ) (ts : List (Asked A))
+    → map (λ (u : Asked A). Call u.call) (filter (λ (u : Asked A). not (stands_in places u.call)) (unanswered done ts))
+    ≡ calls_left (pending_from done i ts) places
+calls-from done places i [] = refl
+calls-from done places i (t ∷ ts) =
+    calls-step places t i (is_none (place_of done t)) (unanswered done ts)
+    (pending_from done (i + 1) ts) (calls-from done places (i + 1) ts)
 
 module _ {A : Type 0} (n : Node A) (core : Core A) where
   abbrev m : Moment A
   m = moment_of (running_of core) (replica_of n)
 
-  calls-due : (base : List (OneCall A)) → calls_due n.tickets (node_committed n) base ≡ calls_left m.pending (drop m.committed base)
-  calls-due base = calls-from (node_committed n) (drop (length (node_committed n)) base) 0 n.tickets
+  calls-due : (places : List (OneCall A)) → calls_due (node_pending n) places ≡ calls_left m.pending places
+  calls-due places = calls-from n.done places 0 n.tickets
 
   whole-due : (life : List (Stay A)) (old new : Exchange A) → due_when_whole n life old new ≡ dues_when_whole m life old new
-  whole-due life old new = ap (λ l. if is_whole new && not (is_whole old) then l else []) (calls-due (log_of n.group life))
+  whole-due life old new =
+      ap (λ l. if is_whole new && not (is_whole old) then l else []) (calls-due (drop (length (node_committed n)) (log_of n.group life)))
 
   stay-due : (s : Stay A) (older : List (Stay A)) (x : Message A) (life : List (Stay A)) → due_in_stay n s older x life ≡ dues_in_stay m s older x life
   stay-due s older x life =
@@ -129,5 +130,5 @@ given-is {A} n c =
     ap (λ b. record n {
       core = handed_over n.core (handed_if b c);
       life = hands (handed_if b c) n.life;
-      tickets = n.tickets ++ record { call = c; since = length (node_committed n) } ∷ [];
+      tickets = n.tickets ++ record { call = c; since = length n.done } ∷ [];
     }) (adopted-is n.core (last_of n.group n.life))

@@ -18,7 +18,7 @@ use Rattle.ring_log.specs.Lives.{log_of, committed_of, kept_of, is_sound}
 use Rattle.ring_log.proofs.CommittedOf.{hands-committed}
 use Rattle.ring_session.specs.declared.answered.Answered.{Answered}
 use Rattle.ring_session.specs.declared.pending.Pending.{Pending}
-use Rattle.ring_session.specs.Pendings.{Tickets, answers_behind, pending_from, AreTickets}
+use Rattle.ring_session.specs.Pendings.{Tickets, answers_behind, pending_from}
 use Rattle.ring_session.specs.Tickets.{answers_after}
 use Rattle.ring_session.specs.TicketEffects.{done_after}
 use Rattle.ring_session.proofs.TicketEffects.{length-deduplicated, deduplicated_after-few}
@@ -43,7 +43,7 @@ module _ {O A : Type 0} {object : Sequential O} {course : Course A} {table : Tab
     committed = k.committed ∙ ap (λ gr. length (committed_of gr tale.life)) (sym same);
     front = subst (λ gr. IsFront (committed_of gr tale.life) (committed_calls course'.log)) (sym same)
         (front_trans (committed_of course.group tale.life) (committed_calls course.log) (committed_calls course'.log) k.front front);
-    answers = subst (λ gr. AreTickets object tale.tickets (committed_of gr tale.life) tickets) (sym same) k.answers;
+    answers = k.answers;
     runs = λ s. absurd (cc s);
   }
 
@@ -235,8 +235,8 @@ module _ {O A : Type 0} {object : Sequential O} {course : Course A} {table : Tab
       let of : List (Pending A) → ℕ → Moment A = λ ps n. record { group = course.group; me = course.me; running = running; pending = ps; committed = n } in
       is ∙ ap (λ l. l ++ dues_by (of pending first) course.life outs) none
       ∙ ap (λ ps. dues_by (of ps first) course.life outs) (waits ∙ k.answers.pending)
-      ∙ ap (λ n. dues_by (of (pending_from kept 0 tale.tickets) n) course.life outs) k.committed
-      ∙ ap (λ l. dues_by (of (pending_from kept 0 tale.tickets) (length kept)) l outs) m.ready.here
+      ∙ ap (λ n. dues_by (of (pending_from tale.done 0 tale.tickets) n) course.life outs) k.committed
+      ∙ ap (λ l. dues_by (of (pending_from tale.done 0 tale.tickets) (length kept)) l outs) m.ready.here
       ∙ ap (λ (v : ReplicaStepped A). v.due) step-is
 
   pub answers-are : {pending : List (Pending A)} {log : Log A} {answers : List (Answered A)} → pending ≡ tickets.pending → log ≡ moved.log
@@ -245,9 +245,9 @@ module _ {O A : Type 0} {object : Sequential O} {course : Course A} {table : Tab
       is ∙ ap (λ ps. answers_behind object table ps [] (more_in log)) waits
       ∙ ap (λ (l : Log A). answers_behind object table tickets.pending [] (more_in l)) here
       ∙ ap (λ t. answers_behind object t tickets.pending [] (more_in moved.log)) table-was
-      ∙ are-answers object tale.tickets kept (more_in moved.log) tickets m.ready.counted.kept.answers
-      ∙ ap (answers_after object tale.tickets kept) more-told
-      ∙ ap (λ l. answers_after object tale.tickets kept (drop (length kept) (committed_of course.group l))) m.life
+      ∙ are-answers object (table_after object kept) tale.tickets tale.done (more_in moved.log) tale.answers tickets m.ready.counted.kept.answers
+      ∙ ap (answers_after object (table_after object kept) tale.tickets tale.done) more-told
+      ∙ ap (λ l. answers_after object (table_after object kept) tale.tickets tale.done (drop (length kept) (committed_of course.group l))) m.life
       ∙ ap (λ (v : ReplicaStepped A). v.answers) step-is
 
   pub committed-are : {log : Log A} {calls : List (OneCall A)} → log ≡ moved.log → calls ≡ more_in log
@@ -268,6 +268,8 @@ module _ {O A : Type 0} {object : Sequential O} {course : Course A} {table : Tab
         life = tale.life;
         ahead = z;
         tickets = tale.tickets;
+        done = tale.done;
+        answers = tale.answers;
         stopped = false;
       } in
       ap (λ (v : Course A). told_replica v false tale) e

@@ -19,12 +19,12 @@ use Rattle.ring_log.proofs.CommittedOf.{hands-committed}
 use Rattle.ring_session.specs.declared.answered.Answered.{Answered}
 use Rattle.ring_session.specs.Recent.{kept_answer}
 use Rattle.ring_session.specs.Pendings.{Tickets, none_given, is_full, with_ticket, with_answers, AreTickets}
-use Rattle.ring_session.specs.Tickets.{unanswered, answers_after}
+use Rattle.ring_session.specs.Tickets.{unanswered}
 use Rattle.ring_session.proofs.TicketEffects.{deduplicated_after-few}
 use Rattle.ring_session.proofs.Pendings.{are-kept, are-given, are-full, are-replies}
 use Rattle.ring_replica.specs.Courses.{Course, course_opening, handed_if}
 use Rattle.ring_replica.specs.Replicas.{Replica, Tale, tale_opening, tale_done, tale_given}
-use Rattle.ring_replica.specs.Replicas.{replica_reply, submit_refusal}
+use Rattle.ring_replica.specs.Replicas.{replica_reply, replica_more, replica_done, submit_refusal}
 use Rattle.ring_replica.specs.Replicas.{told_replica, IsReplica, IsCounted}
 use Rattle.ring_replica.proofs.CourseGoesOn.{kept-born, hands-log}
 
@@ -53,7 +53,7 @@ opened-replica {O} {A} object group me table is =
       logged = ap length log;
       committed = ap length (sym none);
       front = subst (λ l. IsFront l []) (sym none) ([], refl);
-      answers = subst (λ l. AreTickets object [] l none_given) (sym none) (record { given = refl; early = tt; pending = refl; kept = refl });
+      answers = record { given = refl; early = tt; pending = refl; kept = refl };
       runs = λ _. record {
         fine = refl;
         applied = is ∙ ap (λ l. table_after object l) (sym none);
@@ -106,40 +106,38 @@ module _ {O A : Type 0} {object : Sequential O} {course : Course A} {table : Tab
   abbrev kept : List (OneCall A)
   kept = committed_of course.group tale.life
 
-  full-is : is_full tickets ≡ nat_le 64 (length (unanswered kept tale.tickets)) || nat_le max_number (length tale.tickets)
-  full-is = are-full object tale.tickets kept tickets k.answers
+  full-is : is_full tickets ≡ nat_le 64 (length (unanswered tale.done tale.tickets)) || nat_le max_number (length tale.tickets)
+  full-is = are-full tale.tickets tale.done tale.answers tickets k.answers
 
   pub may-give : {r : Replica A} → told_replica course stopped tale ≡ r → stopped ≡ false → is_full tickets ≡ false → submit_refusal r ≡ None
   may-give is s f =
       ap submit_refusal (sym is)
-      ∙ refusal-if stopped (nat_le 64 (length (unanswered kept tale.tickets))) (nat_le max_number (length tale.tickets)) (is_full tickets) s full-is f
+      ∙ refusal-if stopped (nat_le 64 (length (unanswered tale.done tale.tickets))) (nat_le max_number (length tale.tickets)) (is_full tickets) s full-is f
 
   pub may-not : {r : Replica A} → told_replica course stopped tale ≡ r → stopped ≡ false → is_full tickets ≡ true → submit_refusal r ≡ Some PendingFull
   may-not is s f =
       ap submit_refusal (sym is)
-      ∙ refusal-full stopped (nat_le 64 (length (unanswered kept tale.tickets))) (nat_le max_number (length tale.tickets)) (is_full tickets) s full-is f
+      ∙ refusal-full stopped (nat_le 64 (length (unanswered tale.done tale.tickets))) (nat_le max_number (length tale.tickets)) (is_full tickets) s full-is f
 
   pub is-open : {r : Replica A} → told_replica course stopped tale ≡ r → submit_refusal r ≡ None → (stopped ≡ false) × (is_full tickets ≡ false)
   is-open is n =
-      open-if stopped (nat_le 64 (length (unanswered kept tale.tickets))) (nat_le max_number (length tale.tickets)) (is_full tickets) full-is
+      open-if stopped (nat_le 64 (length (unanswered tale.done tale.tickets))) (nat_le max_number (length tale.tickets)) (is_full tickets) full-is
       (ap submit_refusal is ∙ n)
 
   pub given-replica : (c : OneCall A) (runs : Bool) {course' : Course A} {tickets' : Tickets A} {tale' : Tale A}
-      → course' ≡ record course { life = hands (handed_if runs c) course.life } → tickets' ≡ with_ticket tickets c → tale' ≡ tale_given tale c runs first
+      → course' ≡ record course { life = hands (handed_if runs c) course.life } → tickets' ≡ with_ticket tickets c → tale' ≡ tale_given tale c runs
       → IsReplica object course' table tickets' places first stopped tale'
   given-replica c runs {course'} {tickets'} {tale'} ec et ea =
       let due = handed_if runs c in
       let log = hands-log course.group due tale.life in
       let same = hands-committed course.group due tale.life in
       let ahead = hands-committed course.group due course.life in
-      let new : Tale A = tale_given tale c runs first in
+      let new : Tale A = tale_given tale c runs in
       let made : IsReplica object (record course { life = hands due course.life }) table (with_ticket tickets c) places first stopped new = record {
         logged = k.logged ∙ ap length (sym log);
         committed = k.committed ∙ ap length (sym same);
         front = subst (λ l. IsFront l (committed_calls course.log)) (sym same) k.front;
-        answers = subst (λ l. AreTickets object (tale.tickets ++ record { call = c; since = first } ∷ []) l (with_ticket tickets c)) (sym same)
-            (subst (λ n. AreTickets object (tale.tickets ++ record { call = c; since = n } ∷ []) kept (with_ticket tickets c)) (sym k.committed)
-            (are-given object tale.tickets kept tickets c k.answers));
+        answers = are-given tale.tickets tale.done tale.answers tickets c k.answers;
         runs = λ s. (let r = k.runs s in record {
           fine = r.fine;
           applied = r.applied ∙ ap (λ l. table_after object l) (sym ahead);
@@ -153,8 +151,8 @@ module _ {O A : Type 0} {object : Sequential O} {course : Course A} {table : Tab
 
   -- ---- what it tells
 
-  pub reply-is : {r : Replica A} → told_replica course stopped tale ≡ r → (ticket : ℕ) → kept_answer ticket tickets.kept ≡ replica_reply object r ticket
-  reply-is is ticket = are-replies object tale.tickets kept tickets ticket k.answers ∙ ap (λ (x : Replica A). replica_reply object x ticket) is
+  pub reply-is : {r : Replica A} → told_replica course stopped tale ≡ r → (ticket : ℕ) → kept_answer ticket tickets.kept ≡ replica_reply r ticket
+  reply-is is ticket = are-replies tale.tickets tale.done tale.answers tickets ticket k.answers ∙ ap (λ (x : Replica A). replica_reply x ticket) is
 
   -- the places behind those committed before
   pub more-is : {calls ahead : List (OneCall A)} → calls ≡ ahead → drop first calls ≡ drop (length kept) ahead
@@ -162,26 +160,20 @@ module _ {O A : Type 0} {object : Sequential O} {course : Course A} {table : Tab
 
   -- ---- the end of a step
 
-  pub finished-replica : {answers : List (Answered A)} {tickets' : Tickets A} {places' first' : ℕ} {tale' : Tale A} → stopped ≡ false
+  pub finished-replica : (more : List (OneCall A)) (answers : List (Answered A)) {tickets' : Tickets A} {places' first' : ℕ} {tale' : Tale A}
+      → stopped ≡ false
       → course.log ≡ kept_of course.group course.life → committed_calls course.log ≡ committed_of course.group course.life
-      → answers ≡ answers_after object tale.tickets kept (drop (length kept) (committed_of course.group course.life))
-      → tickets' ≡ with_answers tickets (drop first (committed_calls course.log)) answers
-      → places' ≡ length course.log.calls → first' ≡ length (committed_calls course.log) → tale' ≡ tale_done tale course.life
+      → tickets' ≡ with_answers tickets more answers
+      → places' ≡ length course.log.calls → first' ≡ length (committed_calls course.log) → tale' ≡ tale_done tale course.life more answers
       → IsReplica object course table tickets' places' first' stopped tale'
-  finished-replica {answers} {tickets'} {places'} {first'} s logged all given et ep ef ea =
+  finished-replica more answers {tickets'} {places'} {first'} s logged all et ep ef ea =
       let r = k.runs s in
-      let more = drop (length kept) (committed_of course.group course.life) in
-      let more_same : drop first (committed_calls course.log) ≡ more = more-is all in
-      let whole : kept ++ more ≡ committed_of course.group course.life = behind-front kept (committed_of course.group course.life) r.grows in
-      let same : tickets' ≡ with_answers tickets more (answers_after object tale.tickets kept more) =
-      et ∙ ap (λ l. with_answers tickets l answers) more_same ∙ ap (with_answers tickets more) given in
-      let now : IsReplica object course table tickets' places' first' stopped (tale_done tale course.life) = record {
+      let now : IsReplica object course table tickets' places' first' stopped (tale_done tale course.life more answers) = record {
         logged = ep ∙ ap (λ (l : Log A). length l.calls) logged;
         committed = ef ∙ ap length all;
         front = subst (λ l. IsFront (committed_of course.group course.life) l) (sym all) ([], nothing (committed_of course.group course.life));
-        answers = subst (λ x. AreTickets object tale.tickets (committed_of course.group course.life) x) (sym same)
-            (subst (λ l. AreTickets object tale.tickets l (with_answers tickets more (answers_after object tale.tickets kept more))) whole
-            (are-kept object tale.tickets kept more tickets k.answers));
+        answers = subst (λ x. AreTickets tale.tickets (tale.done ++ more) (tale.answers ++ answers) x) (sym et)
+            (are-kept tale.tickets tale.done more tale.answers answers tickets k.answers);
         runs = λ _. record { fine = r.fine; applied = r.applied; grows = ([], nothing (committed_of course.group course.life)) };
       } in
       subst (λ x. IsReplica object course table tickets' places' first' stopped x) (sym ea) now
@@ -189,6 +181,16 @@ module _ {O A : Type 0} {object : Sequential O} {course : Course A} {table : Tab
       nothing : (l : List (OneCall A)) → l ++ [] ≡ l
       nothing [] = refl
       nothing (x ∷ l) = ap (λ w. x ∷ w) (nothing l)
+
+  -- and what is told then
+  pub done-told : {r : Replica A} {more : List (OneCall A)} (answers : List (Answered A)) {tale' : Tale A} → stopped ≡ false
+      → told_replica course stopped tale ≡ r → more ≡ drop (length kept) (committed_of course.group course.life)
+      → tale' ≡ tale_done tale course.life more answers
+      → told_replica course stopped tale' ≡ replica_done r (replica_more r r.ahead) answers
+  done-told {r} {more} answers {tale'} s is behind ea =
+      let of : List (OneCall A) → Replica A = λ l. told_replica course false (tale_done tale course.life l answers) in
+      let told : told_replica course false tale ≡ r = ap (λ b. told_replica course b tale) (sym s) ∙ is in
+      ap (λ b. told_replica course b tale') s ∙ ap (told_replica course false) ea ∙ ap of behind ∙ ap (λ (x : Replica A). replica_done x (replica_more x x.ahead) answers) told
 
 -- ---- how many calls took effect
 
@@ -221,7 +223,7 @@ same-counted k new same ahead =
 pub given-counted : {O A : Type 0} {object : Sequential O} {course course' : Course A} {table : Table O} {tickets tickets' : Tickets A}
     {places first effects reached : ℕ} {stopped : Bool} {tale tale' : Tale A}
     → IsCounted object course table tickets places first effects reached stopped tale → (c : OneCall A) (runs : Bool)
-    → course' ≡ record course { life = hands (handed_if runs c) course.life } → tickets' ≡ with_ticket tickets c → tale' ≡ tale_given tale c runs first
+    → course' ≡ record course { life = hands (handed_if runs c) course.life } → tickets' ≡ with_ticket tickets c → tale' ≡ tale_given tale c runs
     → IsCounted object course' table tickets' places first effects reached stopped tale'
 given-counted {A} {course} {course'} {tale} {tale'} k c runs ec et ea =
     let due = handed_if runs c in

@@ -20,7 +20,7 @@ use Rattle.ring_log.specs.Stays.{Stay, born, hands}
 use Rattle.ring_log.specs.Lives.{log_of, last_of, committed_of, is_sound}
 use Rattle.ring_session.specs.declared.answered.Answered.{Answered}
 use Rattle.ring_session.specs.Pendings.{Tickets, AreTickets, pending_from}
-use Rattle.ring_session.specs.Tickets.{Asked, unanswered, answers_after, all_answers, kept_answers, answer_to}
+use Rattle.ring_session.specs.Tickets.{Asked, unanswered, answers_after, kept_answers, answer_to}
 use Rattle.ring_replica.specs.Courses.{Course, Moment, is_running, handed_if, dues_by}
 use Rattle.ring_rules.specs.Lives.{lived_through}
 use Rattle.ring_rules.specs.Nodes.{Node, node_stopped}
@@ -34,26 +34,33 @@ pub record Replica (A : Type 0) : Type 0 where
   pub ahead : List (Stay A)
   -- all tickets ever given, in order
   pub tickets : List (Asked A)
+  -- the committed calls that it did on its sessions, and all answers that it gave, in order, up to the last step that is done
+  pub done : List (OneCall A)
+  pub answers : List (Answered A)
   pub stopped : Bool
 
 -- what of it only contracts see
 pub record Tale (A : Type 0) : Type 0 where
   pub life : List (Stay A)
   pub tickets : List (Asked A)
+  pub done : List (OneCall A)
+  pub answers : List (Answered A)
 
 abbrev pub tale_opening : {A : Type 0} → ℕ → Tale A
-tale_opening me = record { life = born me; tickets = [] }
+tale_opening me = record { life = born me; tickets = []; done = []; answers = [] }
 
-abbrev pub tale_done : {A : Type 0} → Tale A → List (Stay A) → Tale A
-tale_done tale life = record tale { life = life }
+-- a step is done, by which these calls were done and these answers given
+abbrev pub tale_done : {A : Type 0} → Tale A → List (Stay A) → List (OneCall A) → List (Answered A) → Tale A
+tale_done tale life more answers = record tale { life = life; done = tale.done ++ more; answers = tale.answers ++ answers }
 
--- a call was given a ticket when so many places were committed
-abbrev pub tale_given : {A : Type 0} → Tale A → OneCall A → Bool → ℕ → Tale A
-tale_given tale c runs committed =
-    record { life = hands (handed_if runs c) tale.life; tickets = tale.tickets ++ record { call = c; since = committed } ∷ [] }
+-- a call was given a ticket
+abbrev pub tale_given : {A : Type 0} → Tale A → OneCall A → Bool → Tale A
+tale_given tale c runs =
+    record tale { life = hands (handed_if runs c) tale.life; tickets = tale.tickets ++ record { call = c; since = length tale.done } ∷ [] }
 
 abbrev pub replica_opening : {A : Type 0} → Group → ℕ → Replica A
-replica_opening group me = record { group = group; me = me; life = born me; ahead = born me; tickets = []; stopped = false }
+replica_opening group me =
+    record { group = group; me = me; life = born me; ahead = born me; tickets = []; done = []; answers = []; stopped = false }
 
 -- all steps are done
 abbrev pub IsDone : {A : Type 0} → Replica A → Type 0
@@ -71,15 +78,15 @@ abbrev pub replica_stopped : {A : Type 0} → Replica A → Replica A
 replica_stopped r = record r { ahead = r.life; stopped = true }
 
 -- the answer to a ticket, if it is among the last 64
-abbrev pub replica_reply : {O A : Type 0} → Sequential O → Replica A → ℕ → Option Answer
-replica_reply object r ticket = answer_to ticket (kept_answers (all_answers object r.tickets (replica_committed r)))
+abbrev pub replica_reply : {A : Type 0} → Replica A → ℕ → Option Answer
+replica_reply r ticket = answer_to ticket (kept_answers r.answers)
 
 -- A submit
 
 abbrev pub submit_refusal : {A : Type 0} → Replica A → Option Fault
 submit_refusal r =
     if r.stopped then Some Stopped
-    else if nat_le 64 (length (unanswered (replica_committed r) r.tickets)) then Some PendingFull
+    else if nat_le 64 (length (unanswered r.done r.tickets)) then Some PendingFull
     else if nat_le max_number (length r.tickets) then Some PendingFull
     else None
 
@@ -98,7 +105,7 @@ due_by_call running r c = handed_if (has_adopted_running running r) c
 abbrev pub replica_given : {A : Type 0} → Option RingId → Replica A → OneCall A → Replica A
 replica_given running r c =
     let life = hands (due_by_call running r c) r.life in
-    record r { life = life; ahead = life; tickets = r.tickets ++ record { call = c; since = length (replica_committed r) } ∷ [] }
+    record r { life = life; ahead = life; tickets = r.tickets ++ record { call = c; since = length r.done } ∷ [] }
 
 -- A step
 
@@ -108,7 +115,7 @@ moment_of running r =
       group = r.group;
       me = r.me;
       running = running;
-      pending = pending_from (replica_committed r) 0 r.tickets;
+      pending = pending_from r.done 0 r.tickets;
       committed = length (replica_committed r);
     }
 
@@ -120,6 +127,10 @@ pub record ReplicaStepped (A : Type 0) : Type 0 where
   pub answers : List (Answered A)
   pub committed : List (OneCall A)
 
+-- what a step commits: the places behind those that were committed before
+abbrev pub replica_more : {A : Type 0} → Replica A → List (Stay A) → List (OneCall A)
+replica_more r life = drop (length (replica_committed r)) (committed_of r.group life)
+
 module _ {O : Type 0} (object : Sequential O) where
   abbrev pub replica_moved : {A : Type 0} → Replica A → List (Out A) → List (Stay A) → List (Payload A) → ReplicaStepped A
   replica_moved r outs life due =
@@ -127,8 +138,8 @@ module _ {O : Type 0} (object : Sequential O) where
         replica = record r { ahead = hands due life };
         sends = filter_map send_of outs;
         due = due;
-        answers = answers_after object r.tickets (replica_committed r) (drop (length (replica_committed r)) (committed_of r.group life));
-        committed = drop (length (replica_committed r)) (committed_of r.group life);
+        answers = answers_after object (table_after object (replica_committed r)) r.tickets r.done (replica_more r life);
+        committed = replica_more r life;
       }
 
   abbrev pub replica_settled : {A : Type 0} → Bool → Replica A → List (Out A) → List (Stay A) → List (Payload A) → ReplicaStepped A
@@ -141,9 +152,13 @@ module _ {O : Type 0} (object : Sequential O) where
       let life = lived_through r.life outs in
       replica_settled (is_sound r.group life) r outs life (dues_by (moment_of running r) r.life outs)
 
--- the step is done
-abbrev pub replica_done : {A : Type 0} → Replica A → Replica A
-replica_done r = record r { life = r.ahead }
+-- the step is done, by which these calls were done and these answers given
+abbrev pub replica_done : {A : Type 0} → Replica A → List (OneCall A) → List (Answered A) → Replica A
+replica_done r more answers = record r { life = r.ahead; done = r.done ++ more; answers = r.answers ++ answers }
+
+-- a step from its beginning to its end
+abbrev pub replica_ended : {A : Type 0} → ReplicaStepped A → Replica A
+replica_ended s = replica_done s.replica s.committed s.answers
 
 -- Of a node
 
@@ -152,14 +167,24 @@ running_of c = if is_operational c.state then Some c.installed.ring else None
 
 -- what a node that runs has beside its core
 abbrev pub replica_of : {A : Type 0} → Node A → Replica A
-replica_of n = record { group = n.group; me = n.core.me; life = n.life; ahead = n.life; tickets = n.tickets; stopped = false }
+replica_of n =
+    record {
+      group = n.group;
+      me = n.core.me;
+      life = n.life;
+      ahead = n.life;
+      tickets = n.tickets;
+      done = n.done;
+      answers = n.answers;
+      stopped = false;
+    }
 
 -- a node by what a step made of its replica, with what is due handed to its core
 abbrev pub node_unless : {A : Type 0} → Bool → Node A → Core A → ReplicaStepped A → NodeStepped A
 node_unless true n core r = quiet (node_stopped n)
 node_unless false n core r =
     record {
-      node = record n { core = handed_over core r.due; life = r.replica.ahead };
+      node = record n { core = handed_over core r.due; life = r.replica.ahead; done = n.done ++ r.committed; answers = n.answers ++ r.answers };
       sends = r.sends;
       answers = r.answers;
       committed = r.committed;
@@ -181,7 +206,16 @@ ahead_of course false tale = course.life
 
 abbrev pub told_replica : {A : Type 0} → Course A → Bool → Tale A → Replica A
 told_replica course stopped tale =
-    record { group = course.group; me = course.me; life = tale.life; ahead = ahead_of course stopped tale; tickets = tale.tickets; stopped = stopped }
+    record {
+      group = course.group;
+      me = course.me;
+      life = tale.life;
+      ahead = ahead_of course stopped tale;
+      tickets = tale.tickets;
+      done = tale.done;
+      answers = tale.answers;
+      stopped = stopped;
+    }
 
 -- while it runs: its course is sound, the sessions are those after all that is committed by it, and that only grew
 pub record Runs {O A : Type 0} (object : Sequential O) (course : Course A) (table : Table O) (tale : Tale A) : Type 0 where
@@ -195,7 +229,7 @@ pub record IsReplica {O A : Type 0} (object : Sequential O) (course : Course A) 
   pub logged : places ≡ length (log_of course.group tale.life)
   pub committed : first ≡ length (committed_of course.group tale.life)
   pub front : IsFront (committed_of course.group tale.life) (committed_calls course.log)
-  pub answers : AreTickets object tale.tickets (committed_of course.group tale.life) tickets
+  pub answers : AreTickets tale.tickets tale.done tale.answers tickets
   pub runs : stopped ≡ false → Runs object course table tale
 
 -- beside it, how many of the committed places took effect, by the story and by the course

@@ -7,6 +7,7 @@ ghost use Rattle.ring_replica.specs.Courses.{handed_if};
 
 use ring_base::{Past, Proc, ProcSet, RingId, past_of, told};
 use ring_payload::{Call, Payload};
+use ring_session::Answered;
 use ring_wire::Message;
 use std::alloc::{Allocator, Global};
 use std::marker::{Model, PhantomData};
@@ -25,7 +26,8 @@ impl<A: Allocator + Copy> Model for Life<A> {
     ghost view = { λ _. [] };
 }
 
-/// The life of a node up to its last step, and its tickets. No value of it is made.
+/// The life of a node up to its last step, its tickets, the calls that it did and the answers that it gave. No value of it
+/// is made.
 pub struct ReplicaStory<A: Allocator + Copy = Global> {
     allocator: PhantomData<A>,
 }
@@ -101,24 +103,25 @@ pub(crate) fn opened<A: Allocator + Copy>(me: Proc) -> Past<ReplicaStory<A>>
     past_of(&me)
 }
 
-/// A step is done.
+/// A step is done, by which these calls were done and these answers given.
 pub(crate) fn done<A: Allocator + Copy>(
     story: &Past<ReplicaStory<A>>,
     life: &Past<Life<A>>,
+    committed: &[Call<A>],
+    answers: &[Answered<A>],
 ) -> Past<ReplicaStory<A>>
-    ensures { result.value ≡ tale_done story.now.value life.now.value }
+    ensures { result.value ≡ tale_done story.now.value life.now.value committed.now answers.now }
 {
-    told(story, life)
+    told(story, &(life, committed, answers))
 }
 
-/// The call was given a ticket when so many places were committed, and handed to the core, or wasn't.
+/// The call was given a ticket, and handed to the core, or wasn't.
 pub(crate) fn given<A: Allocator + Copy>(
     story: &Past<ReplicaStory<A>>,
     call: &Call<A>,
     runs: bool,
-    committed: u64,
 ) -> Past<ReplicaStory<A>>
-    ensures { result.value ≡ tale_given story.now.value call.now runs committed }
+    ensures { result.value ≡ tale_given story.now.value call.now runs }
 {
-    told(story, &(call, runs, committed))
+    told(story, &(call, runs))
 }

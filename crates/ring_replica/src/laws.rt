@@ -23,5 +23,5 @@ pub fn replica_law<O: Object>()
     ensures given { (n : Node O.Alloc) (c : OneCall O.Alloc) → submitted n c ≡ node_given n c (replica_given (running_of n.core) (replica_of n) c) }
     ensures log { (n : Node O.Alloc) → replica_log (replica_of n) ≡ node_log n }
     ensures committed { (n : Node O.Alloc) → replica_committed (replica_of n) ≡ node_committed n }
-    ensures reply { (n : Node O.Alloc) (ticket : ℕ) → replica_reply O.sequential (replica_of n) ticket ≡ node_reply O.sequential n ticket }
+    ensures reply { (n : Node O.Alloc) (ticket : ℕ) → replica_reply (replica_of n) ticket ≡ node_reply n ticket }
 {}

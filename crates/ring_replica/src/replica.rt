@@ -3,16 +3,14 @@
 ghost use Rattle.std.specs.Prelude.{◌≡◌, ◌≤◌, ◌+◌, [], true, false, fold, length, drop, IfOk, IfErr, OnOk, OnErr, Some, None};
 ghost use Rattle.ring_base.specs.declared.fault.Fault.TheVariants.{Memory};
 ghost use Rattle.ring_log.specs.Logs.{committed_calls};
-ghost use Rattle.ring_log.specs.Lives.{committed_of};
 ghost use Rattle.ring_session.specs.Deduplicated.{deduplicated};
 ghost use Rattle.ring_session.specs.Table.{table_next};
 ghost use Rattle.ring_session.specs.Pendings.{answers_behind};
-ghost use Rattle.ring_session.specs.Tickets.{answers_after};
 ghost use Rattle.ring_session.specs.TicketEffects.{done_after};
 ghost use Rattle.ring_replica.specs.Courses.{rises};
 ghost use Rattle.ring_replica.specs.Replicas.{IsDone, replica_opening, replica_committed, replica_log, replica_stopped};
 ghost use Rattle.ring_replica.specs.Replicas.{replica_reply, submit_refusal, has_adopted_running, replica_given};
-ghost use Rattle.ring_replica.specs.Replicas.{replica_step, replica_done};
+ghost use Rattle.ring_replica.specs.Replicas.{replica_more, replica_step, replica_done};
 
 use crate::course::Course;
 use crate::given::Given;
@@ -27,7 +25,7 @@ use std::alloc::Allocator;
 use std::marker::Model;
 
 /// All of a node but its core: its log, with where the exchange of its newest ring stands, its tickets, and the
-/// sessions. Contracts see its life and its tickets.
+/// sessions. Contracts see its life, its tickets, the calls that it did and the answers that it gave.
 ///
 /// A step has two parts. `step` takes the outputs of the core, and gives what is to be handed to it; once that is handed
 /// over, `finish` makes the step a part of the node's life. Until then the node tells what it was before.
@@ -110,7 +108,7 @@ impl<O: Object> Replica<O> {
         ensures replica { self.new ≡ replica_given running.now self.old call }
     {
         let runs = self.has_adopted(running);
-        self.story = given(&self.story, &call, runs, self.committed);
+        self.story = given(&self.story, &call, runs);
         self.course.hand_call(&call, runs);
         self.tickets.give(call)
     }
@@ -167,15 +165,13 @@ impl<O: Object> Replica<O> {
     /// Ends a step, of which these were the answers. It takes no memory.
     pub fn finish(&mut self, answers: &[Answered<O::Alloc>])
         requires runs { self.old.stopped ≡ false }
-        requires answers { answers.now ≡ answers_after O.sequential self.old.tickets (replica_committed self.old)
-            (drop (length (replica_committed self.old)) (committed_of self.old.group self.old.ahead)) }
-        ensures { self.new ≡ replica_done self.old }
+        ensures { self.new ≡ replica_done self.old (replica_more self.old self.old.ahead) answers.now }
     {
-        self.story = done(&self.story, self.course.life());
         let log = self.course.log();
         let calls = log.committed_calls();
-        self.tickets
-            .keep(&calls[self.committed as usize..], answers);
+        let more = &calls[self.committed as usize..];
+        self.story = done(&self.story, self.course.life(), more, answers);
+        self.tickets.keep(more, answers);
         self.places = log.length();
         self.committed = calls.len() as u64;
         self.effects = self.reached;
@@ -197,7 +193,7 @@ impl<O: Object> Replica<O> {
 
     /// The answer to a ticket, if it is among the last 64 that were answered.
     pub fn reply(&self, ticket: Ticket) -> Option<Answer>
-        ensures { result ≡ replica_reply O.sequential self.now ticket }
+        ensures { result ≡ replica_reply self.now ticket }
     {
         self.tickets.reply(ticket)
     }

@@ -18,9 +18,9 @@ use Rattle.ring_log.specs.Exchanges.{Exchange, opened, wanted, is_whole}
 use Rattle.ring_log.specs.Parts.{parts_between}
 use Rattle.ring_log.specs.Stays.{Stay}
 use Rattle.ring_log.specs.Lives.{after_all, log_of, head_of_life}
-use Rattle.ring_session.specs.Tickets.{Asked, unanswered}
+use Rattle.ring_session.specs.Tickets.{Asked}
 use Rattle.ring_rules.specs.Lives.{lived}
-use Rattle.ring_rules.specs.Nodes.{Node, node_committed, runs}
+use Rattle.ring_rules.specs.Nodes.{Node, node_committed, node_pending, runs}
 
 -- as a primary ring is installed: a Head of the log before it
 abbrev pub due_at_regular : {A : Type 0} → Group → ℕ → List (Stay A) → List (Payload A)
@@ -43,12 +43,12 @@ due_when_stated me own old new = if is_stated new && not (is_stated old) then pa
 abbrev pub stands_in : {A : Type 0} → List (OneCall A) → Asked A → Bool
 stands_in calls t = list_any (is_same t.call) calls
 
-abbrev pub calls_due : {A : Type 0} → List (Asked A) → List (OneCall A) → List (OneCall A) → List (Payload A)
-calls_due tickets committed base =
-    map (λ (t : Asked _). Call t.call) (filter (λ (t : Asked _). not (stands_in (drop (length committed) base) t)) (unanswered committed tickets))
+abbrev pub calls_due : {A : Type 0} → List (Asked A) → List (OneCall A) → List (Payload A)
+calls_due pending calls = map (λ (t : Asked _). Call t.call) (filter (λ (t : Asked _). not (stands_in calls t)) pending)
 
 abbrev pub due_when_whole : {A : Type 0} → Node A → List (Stay A) → Exchange A → Exchange A → List (Payload A)
-due_when_whole n life old new = if is_whole new && not (is_whole old) then calls_due n.tickets (node_committed n) (log_of n.group life) else []
+due_when_whole n life old new =
+    if is_whole new && not (is_whole old) then calls_due (node_pending n) (drop (length (node_committed n)) (log_of n.group life)) else []
 
 -- Outputs give what is due. The node is the one before the step, and the core the one after it: things are due only of a ring in which that is Operational
 

@@ -15,6 +15,7 @@ use Rattle.ring_core.specs.Stepping.{ring_step, after_inputs}
 use Rattle.ring_log.specs.Stays.{Stay, hands}
 use Rattle.ring_log.specs.Lives.{committed_of, is_sound}
 pub use Rattle.ring_session.specs.declared.answered.Answered.{Answered}
+use Rattle.ring_session.specs.Table.{table_after}
 use Rattle.ring_session.specs.Tickets.{answers_after}
 use Rattle.ring_rules.specs.declared.input.Input.{Input}
 use Rattle.ring_rules.specs.declared.input.Input.TheVariants.{Frame, Noise, Timeout, Stop}
@@ -53,21 +54,29 @@ send_of (Trans old new set) = None
 send_of (Rest ring k x) = None
 send_of (Regular ring set) = None
 
+-- what a step commits: the places behind those that were committed before
+abbrev pub newly : {A : Type 0} → Node A → List (Stay A) → List (OneCall A)
+newly old life = drop (length (node_committed old)) (committed_of old.group life)
+
+-- a step that does these calls, and gives these answers
+abbrev pub answered_by : {A : Type 0} → Node A → Node A → List (Out A) → List (Answered A) → List (OneCall A) → NodeStepped A
+answered_by old new outs answers more =
+    record {
+      node = record new { done = old.done ++ more; answers = old.answers ++ answers };
+      sends = filter_map send_of outs;
+      answers = answers;
+      committed = more;
+    }
+
 module _ {O : Type 0} (object : Sequential O) where
-  -- a step, with what is newly committed by it
-  abbrev pub answered_by : {A : Type 0} → Node A → Node A → List (Out A) → List (OneCall A) → NodeStepped A
-  answered_by old new outs more =
-      record {
-        node = new;
-        sends = filter_map send_of outs;
-        answers = answers_after object old.tickets (node_committed old) more;
-        committed = more;
-      }
+  -- what these calls answer, done one after the other on the session table after the places that were committed before
+  abbrev pub answers_by : {A : Type 0} → Node A → List (OneCall A) → List (Answered A)
+  answers_by old more = answers_after object (table_after object (node_committed old)) old.tickets old.done more
 
   -- a base that drops committed places, and a log that is too long, stop the node in the step's place: nothing of the step is given
   abbrev pub settled : {A : Type 0} → Bool → Node A → Node A → List (Out A) → List (Stay A) → NodeStepped A
   settled false old new outs life = quiet (node_stopped old)
-  settled true old new outs life = answered_by old new outs (drop (length (node_committed old)) (committed_of old.group life))
+  settled true old new outs life = answered_by old new outs (answers_by old (newly old life)) (newly old life)
 
   -- the core took a step: the life goes on by its outputs, and what is due by them is handed over
   abbrev pub moved : {A : Type 0} → Node A → Core A → List (Out A) → List (Stay A) → NodeStepped A
@@ -102,5 +111,5 @@ submitted n c =
     record n {
       core = handed_over n.core (due_by_submit n c);
       life = hands (due_by_submit n c) n.life;
-      tickets = n.tickets ++ record { call = c; since = length (node_committed n) } ∷ [];
+      tickets = n.tickets ++ record { call = c; since = length n.done } ∷ [];
     }

@@ -7,7 +7,8 @@ use Rattle.ring_base.specs.Processors.{elements}
 use Rattle.ring_base.specs.declared.kind.Kind.TheVariants.{Join}
 use Rattle.ring_object.specs.Operations.{Sequential}
 use Rattle.ring_payload.specs.declared.call.Call.{Call}
-use Rattle.ring_session.specs.declared.answer.Answer.TheVariants.{Done}
+use Rattle.ring_session.specs.declared.answer.Answer.{Answer}
+use Rattle.ring_session.specs.declared.answer.Answer.TheVariants.{Done, Kept}
 use Rattle.ring_rules.specs.Nodes.{node_committed, node_log}
 use Rattle.ring_rules.specs.declared.event.Event.{Event}
 use Rattle.ring_rules.specs.declared.event.Event.TheVariants.{Issue, Deliver, Timeout, Stop}
@@ -39,6 +40,10 @@ shown w n = map (lengths_of w) (numbers_from 1 n)
 abbrev pub done_at : ℕ → ℕ → Told Global
 done_at i number = ToldAnswer i (call_of_seven number) (Done ((number - 1) ∷ []))
 
+-- or, where it was done before, with what it was replied then
+abbrev pub kept_at : ℕ → ℕ → Told Global
+kept_at i number = ToldAnswer i (call_of_seven number) (Kept ((number - 1) ∷ []))
+
 -- A ring of one
 
 abbrev pub formed_one : List (Event Global)
@@ -51,12 +56,23 @@ sent_one = run counter (world_of 1) (formed_one ++ Issue 1 (call_of_seven 1) ∷
 abbrev pub answered_one : World Global
 answered_one = run counter sent_one (Deliver 1 6 ∷ [])
 
+-- the same call is submitted again
+abbrev pub sent_again : World Global
+sent_again = run counter answered_one (Issue 1 (call_of_seven 1) ∷ Deliver 1 7 ∷ [])
+
+abbrev pub answered_again : World Global
+answered_again = run counter sent_again (Deliver 1 8 ∷ [])
+
 -- nine calls go out at one visit, as one Pack
 abbrev pub sent_nine : World Global
 sent_nine = run counter (world_of 1) (formed_one ++ map (λ k. Issue 1 (call_of_seven k)) (numbers_from 1 9) ++ Deliver 1 5 ∷ [])
 
 abbrev pub answered_nine : World Global
 answered_nine = run counter sent_nine (Deliver 1 6 ∷ [])
+
+-- by ticket, the answers that tell how many there were before
+abbrev pub nine_answers : List (ℕ × Answer)
+nine_answers = map (λ k. (k, Done (k ∷ []))) (numbers_from 0 9)
 
 -- Frames handed over in the order in which they were sent, a receiver after the other
 

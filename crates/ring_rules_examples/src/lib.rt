@@ -1,13 +1,15 @@
 //! Worked runs of worlds of nodes, computed from the definitions.
 #![tactic(auto)]
 
-ghost use Rattle.std.specs.Prelude.{◌≡◌, length, [], ◌∷◌, None, Some};
+ghost use Rattle.std.specs.Prelude.{◌≡◌, length, [], ◌∷◌, None, Some, map};
+ghost use Rattle.std.specs.declared.alloc.Global.{Global};
 ghost use Rattle.ring_session.specs.declared.answer.Answer.TheVariants.{Done};
-ghost use Rattle.ring_rules.specs.Nodes.{node_reply};
+ghost use Rattle.ring_session.specs.declared.answered.Answered.{Answered};
+ghost use Rattle.ring_rules.specs.Nodes.{node_pending, node_reply};
 ghost use Rattle.ring_rules.specs.Worlds.{order};
-ghost use Rattle.ring_rules_examples.specs.Rows.{world_of, counter, call_of_seven, done_at, refused_at, one_too_many};
+ghost use Rattle.ring_rules_examples.specs.Rows.{world_of, call_of_seven, done_at, kept_at, nine_answers, refused_at, one_too_many};
 ghost use Rattle.ring_rules_examples.specs.Rows.{late_submit, strange_events, shown, sent_one, answered_one};
-ghost use Rattle.ring_rules_examples.specs.Rows.{sent_nine, answered_nine, answered_three};
+ghost use Rattle.ring_rules_examples.specs.Rows.{sent_again, answered_again, sent_nine, answered_nine, answered_three};
 
 /// One node alone: a call is appended to its log at a visit, and committed and answered at the next.
 pub fn ring_of_one()
@@ -15,8 +17,10 @@ pub fn ring_of_one()
     ensures answered { shown answered_one 1 ≡ (1, 1) ∷ [] }
     ensures told { answered_one.told ≡ done_at 1 1 ∷ [] }
     ensures ordered { order answered_one ≡ call_of_seven 1 ∷ [] }
-    ensures waiting { node_reply counter (sent_one.nodes 1) 0 ≡ None }
-    ensures reply { node_reply counter (answered_one.nodes 1) 0 ≡ Some (Done (0 ∷ [])) }
+    ensures undone { (sent_one.nodes 1).done ≡ [] }
+    ensures done { (answered_one.nodes 1).done ≡ call_of_seven 1 ∷ [] }
+    ensures waiting { node_reply (sent_one.nodes 1) 0 ≡ None }
+    ensures reply { node_reply (answered_one.nodes 1) 0 ≡ Some (Done (0 ∷ [])) }
 {}
 
 /// Nine calls go out at one visit, packed, and are all answered at the next.
@@ -24,14 +28,27 @@ pub fn nine_calls()
     ensures sent { shown sent_nine 1 ≡ (0, 9) ∷ [] }
     ensures answered { shown answered_nine 1 ≡ (9, 9) ∷ [] }
     ensures told { length answered_nine.told ≡ 9 }
+    ensures answers { map (λ (a : Answered Global). (a.ticket, a.answer)) (answered_nine.nodes 1).answers ≡ nine_answers }
     ensures ordered { length (order answered_nine) ≡ 9 }
 {}
 
-/// Three nodes form a ring; a call is answered where it was submitted, and committed everywhere.
+/// Three nodes form a ring; a call is answered where it was submitted, and committed and done everywhere.
 pub fn ring_of_three()
     ensures shown { shown answered_three 3 ≡ (1, 1) ∷ (1, 1) ∷ (1, 1) ∷ [] }
     ensures told { answered_three.told ≡ done_at 2 1 ∷ [] }
+    ensures done { (answered_three.nodes 3).done ≡ call_of_seven 1 ∷ [] }
+    ensures answers { (answered_three.nodes 3).answers ≡ [] }
     ensures ordered { order answered_three ≡ call_of_seven 1 ∷ [] }
+{}
+
+/// A call that is submitted again, once it was done, is the ticket of a later call: it is done again, and answered by the
+/// session table as it is then.
+pub fn submitted_again()
+    ensures waiting { shown sent_again 1 ≡ (1, 2) ∷ [] }
+    ensures pending { length (node_pending (sent_again.nodes 1)) ≡ 1 }
+    ensures done { (answered_again.nodes 1).done ≡ call_of_seven 1 ∷ call_of_seven 1 ∷ [] }
+    ensures told { answered_again.told ≡ done_at 1 1 ∷ kept_at 1 1 ∷ [] }
+    ensures ordered { order answered_again ≡ call_of_seven 1 ∷ [] }
 {}
 
 /// The 65th ticket without an answer is refused, and each submit at a stopped node. An unknown node, and a frame that was

@@ -1,17 +1,18 @@
--- All answers of a node: they grow at the end, a new ticket changes none, and the last of them are kept.
+-- Answers of a node: they grow at the end, a new ticket has none yet, and the last of them are kept.
 use Rattle.std.proofs.Common.{◌≡◌, ℕ, zero, suc, ◌+◌, ◌-◌, ◌==◌, ◌&&◌, nat_le, ◌<◌, ◌≤◌, Bool, true, false, List, []}
 use Rattle.std.proofs.Common.{◌∷◌, ◌++◌, length, take, drop, get_or, map, Option, Some, None, refl, ap, sym}
-use Rattle.std.proofs.Common.{◌∙◌, arith, append_assoc, length-append, if◌then◌else◌}
+use Rattle.std.proofs.Common.{◌∙◌, arith, append_assoc, length-append, fold, if◌then◌else◌}
 use Rattle.std.proofs.lemmas.Bool.{cond-false, and_left, lt-leb}
 use Rattle.std.proofs.lemmas.List.{append-nil, drop-append-le, drop-drop, length-drop, length-map}
 use Rattle.ring_base.proofs.Rows.{drop-next, take-next}
 use Rattle.ring_object.specs.Operations.{Sequential}
 use Rattle.ring_payload.specs.declared.call.Call.{Call}
 use Rattle.ring_session.specs.declared.answer.Answer.{Answer}
-use Rattle.ring_session.specs.SessionAnswer.{is_same, session_answer}
+use Rattle.ring_session.specs.SessionAnswer.{is_same}
 use Rattle.ring_session.specs.declared.answered.Answered.{Answered}
 use Rattle.ring_session.specs.declared.recent.Kept.{Kept}
-use Rattle.ring_session.specs.Tickets.{Asked, first_place, place_of, is_place, answered, answers_at, answers_after, kept_answers, answer_to}
+use Rattle.ring_session.specs.Table.{Table, table_answer, table_next}
+use Rattle.ring_session.specs.Tickets.{Asked, first_place, place_of, is_place, answers_at, answers_after, kept_answers, answer_to}
 use Rattle.ring_session.specs.Recent.{last_kept, kept_of, kept_answer}
 
 -- ---- a new ticket
@@ -21,47 +22,46 @@ late-step : {A : Type 0} (c : Call A) (since at : ℕ) (ds : List (Call A)) (d :
 late-step c since at ds d late e = cond-false (nat_le since at && is_same c d) (Some at)
     (first_place c since (at + 1) ds) (and_left (nat_le since at) (is_same c d) late) ∙ e
 
--- a ticket has no place among those committed before it was given
+-- a ticket has no place among the calls done before it was given
 pub first_place-late : {A : Type 0} (c : Call A) (since at : ℕ) (ds : List (Call A)) → at + length ds ≤ since → first_place c since at ds ≡ None
 first_place-late c since at [] late = refl
 first_place-late c since at (d ∷ ds) late = late-step c since at ds d (lt-leb since at (omega arith)) (first_place-late c since (at + 1) ds (omega arith))
 
+answers_at-push : {A : Type 0} (answer : Answer) (done : List (Call A)) (place i : ℕ) (ts : List (Asked A)) (t : Asked A) → length done ≤ t.since
+    → answers_at answer done place i (ts ++ t ∷ []) ≡ answers_at answer done place i ts
+answers_at-push {A} answer done place i [] t late =
+    let told : List (Answered A) = record { ticket = i; call = t.call; answer = answer } ∷ [] in
+    ap (λ (o : Option ℕ). (if is_place place o then told else []) ++ []) (first_place-late t.call t.since 0 done (omega arith))
+answers_at-push {A} answer done place i (u ∷ ts) t late =
+    let told : List (Answered A) = record { ticket = i; call = u.call; answer = answer } ∷ [] in
+    ap (λ w. (if is_place place (place_of done u) then told else []) ++ w) (answers_at-push answer done place (i + 1) ts t late)
+
 module _ {O A : Type 0} (object : Sequential O) where
-  answers_at-push : (committed : List (Call A)) (place i : ℕ) (ts : List (Asked A)) (t : Asked A)
-      → length committed ≤ t.since → answers_at object committed place i (ts ++ t ∷ [])
-      ≡ answers_at object committed place i ts
-  answers_at-push committed place i [] t late =
-      ap (λ (o : Option ℕ). (if is_place place o then answered i t.call
-      (session_answer object committed place) else []) ++ []) (first_place-late t.call t.since 0 committed
-      (omega arith))
-  answers_at-push committed place i (u ∷ ts) t late =
-      ap (λ w. (if is_place place (place_of committed u) then answered i u.call
-      (session_answer object committed place) else []) ++ w) (answers_at-push committed place (i + 1) ts t late)
-
   -- a new ticket has no answer yet
-  pub answers_after-push : (ts : List (Asked A)) (t : Asked A) (committed more : List (Call A))
-      → length committed + length more ≤ t.since → answers_after object (ts ++ t ∷ []) committed more
-      ≡ answers_after object ts committed more
-  answers_after-push ts t committed [] late = refl
-  answers_after-push ts t committed (c ∷ more) late =
-      ap (λ w. w ++ answers_after object (ts ++ t ∷ []) (committed ++ c ∷ []) more)
-      (answers_at-push (committed ++ c ∷ []) (length committed) 0 ts t
-      (omega (arith, length-append committed (c ∷ []))))
-      ∙ ap (λ w. answers_at object (committed ++ c ∷ []) (length committed) 0 ts ++ w)
-      (answers_after-push ts t (committed ++ c ∷ []) more (omega (arith, length-append committed (c ∷ []))))
+  pub answers_after-push : (table : Table O) (ts : List (Asked A)) (t : Asked A) (done more : List (Call A)) → length done + length more ≤ t.since
+      → answers_after object table (ts ++ t ∷ []) done more ≡ answers_after object table ts done more
+  answers_after-push table ts t done [] late = refl
+  answers_after-push table ts t done (c ∷ more) late =
+      let answer = table_answer object table c in
+      let next = table_next object table c in
+      let long = length-append done (c ∷ []) in
+      ap (λ w. w ++ answers_after object next (ts ++ t ∷ []) (done ++ c ∷ []) more)
+      (answers_at-push answer (done ++ c ∷ []) (length done) 0 ts t (omega (arith, long)))
+      ∙ ap (λ w. answers_at answer (done ++ c ∷ []) (length done) 0 ts ++ w)
+      (answers_after-push next ts t (done ++ c ∷ []) more (omega (arith, long)))
 
-  -- the answers of later places come after those of earlier ones
-  pub answers_after-append : (ts : List (Asked A)) (committed xs ys : List (Call A))
-      → answers_after object ts committed (xs ++ ys) ≡ answers_after object ts committed xs ++ answers_after object ts
-      (committed ++ xs) ys
-  answers_after-append ts committed [] ys = ap (λ w. answers_after object ts w ys) (sym (append-nil committed))
-  answers_after-append ts committed (c ∷ xs) ys =
-      ap (λ w. answers_at object (committed ++ c ∷ []) (length committed) 0 ts ++ w)
-      (answers_after-append ts (committed ++ c ∷ []) xs ys
-      ∙ ap (λ w. answers_after object ts (committed ++ c ∷ []) xs ++ answers_after object ts w ys)
-      (append_assoc committed (c ∷ []) xs))
-      ∙ sym (append_assoc (answers_at object (committed ++ c ∷ []) (length committed) 0 ts)
-      (answers_after object ts (committed ++ c ∷ []) xs) (answers_after object ts (committed ++ c ∷ xs) ys))
+  -- the answers of later calls come after those of earlier ones
+  pub answers_after-append : (table : Table O) (ts : List (Asked A)) (done xs ys : List (Call A)) → answers_after object table ts done (xs ++ ys)
+      ≡ answers_after object table ts done xs ++ answers_after object (fold (table_next object) table xs) ts (done ++ xs) ys
+  answers_after-append table ts done [] ys = ap (λ w. answers_after object table ts w ys) (sym (append-nil done))
+  answers_after-append table ts done (c ∷ xs) ys =
+      let first = answers_at (table_answer object table c) (done ++ c ∷ []) (length done) 0 ts in
+      let next = table_next object table c in
+      let last = fold (table_next object) next xs in
+      ap (λ w. first ++ w)
+      (answers_after-append next ts (done ++ c ∷ []) xs ys
+      ∙ ap (λ w. answers_after object next ts (done ++ c ∷ []) xs ++ answers_after object last ts w ys) (append_assoc done (c ∷ []) xs))
+      ∙ sym (append_assoc first (answers_after object next ts (done ++ c ∷ []) xs) (answers_after object last ts (done ++ c ∷ xs) ys))
 
 -- ---- the last answers
 

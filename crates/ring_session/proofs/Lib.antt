@@ -4,10 +4,10 @@
 -- TableLaws: The table after a list of calls holds each client's last call that took effect, with its reply, and gives the answers that the list
 --   determines.
 -- Adding: One call more: the session table tells whether it takes effect.
--- TicketPlaces: How the tickets' places come as one more call is committed, and what the session table answers at them.
--- AnswersGrow: All answers of a node: they grow at the end, a new ticket changes none, and the last of them are kept.
+-- TicketPlaces: How the places of tickets come as one more call is done.
+-- AnswersGrow: Answers of a node: they grow at the end, a new ticket has none yet, and the last of them are kept.
 -- TicketEffects: How many calls take effect: as many as the session table tells so, and no more than there are.
--- Pendings: What is kept of tickets is what all tickets and all committed calls make it, and the answers of a step are those of the definition.
+-- Pendings: What is kept of tickets is what all tickets, all answers and all calls done make it, and the answers of a step are those of the definition.
 -- Clients: Clients that are read and put in one after the other, as a loop does.
 -- Parts: A snapshot taken apart and put together, as the code does it.
 -- SnapshotTables: The table after calls that keep the limits has a snapshot from which it is restored.

@@ -1,6 +1,6 @@
--- What is kept of tickets is what all tickets and all committed calls make it, and the answers of a step are those of the definition.
+-- What is kept of tickets is what all tickets, all answers and all calls done make it, and the answers of a step are those of the definition.
 
--- A ticket is left where its call stands nowhere among the calls committed since.
+-- A ticket is left where its call stands nowhere among the calls done since.
 use Rattle.std.proofs.Common.{◌≡◌, ℕ, suc, ◌+◌, ◌==◌, ◌&&◌, ◌||◌, nat_le, ◌<◌, ◌≤◌, Bool, true, false, not, List, []}
 use Rattle.std.proofs.Common.{◌∷◌, ◌++◌, length, take, drop, map, Option, Some, None, is_none, refl, ap, sym, ◌∙◌}
 use Rattle.std.proofs.Common.{arith, append_assoc, length-append, if◌then◌else◌}
@@ -8,24 +8,22 @@ use Rattle.std.specs.List.{AllByRecursion}
 use Rattle.std.proofs.lemmas.Bool.{eq-eqb, ne_eqb, le-leb}
 use Rattle.std.proofs.lemmas.List.{append-nil}
 use Rattle.ring_base.specs.Numbers.{max_number}
-use Rattle.std.proofs.lemmas.List.Sums.{fold-append}
 use Rattle.ring_object.specs.Operations.{Sequential}
 use Rattle.ring_payload.specs.declared.call.Call.{Call}
 use Rattle.ring_session.specs.declared.answer.Answer.{Answer}
-use Rattle.ring_session.specs.SessionAnswer.{is_same, session_answer}
-use Rattle.ring_session.specs.Table.{Table, opening, table_answer, table_next, table_after}
-use Rattle.ring_session.proofs.TableLaws.{table_answers}
+use Rattle.ring_session.specs.SessionAnswer.{is_same}
+use Rattle.ring_session.specs.Table.{Table, table_answer, table_next}
 use Rattle.ring_session.specs.declared.answered.Answered.{Answered}
 use Rattle.ring_session.specs.declared.pending.Pending.{Pending}
 use Rattle.ring_session.specs.Recent.{last_kept, kept_of, kept_answer}
-use Rattle.ring_session.specs.Tickets.{Asked, first_place, place_of, unanswered, is_place, answered, answers_at}
-use Rattle.ring_session.specs.Tickets.{answers_after, all_answers, kept_answers, answer_to}
+use Rattle.ring_session.specs.Tickets.{Asked, first_place, place_of, unanswered, is_place, answers_at}
+use Rattle.ring_session.specs.Tickets.{answers_after, kept_answers, answer_to}
 use Rattle.ring_session.specs.Pendings.{Tickets, is_full, with_ticket, stands_in, answer_for, answers_to, answers_behind}
 use Rattle.ring_session.specs.Pendings.{left_by, with_answers, pending_from, AreTickets}
 use Rattle.ring_session.proofs.TicketPlaces.{first_place-below, or_else, place-push}
-use Rattle.ring_session.proofs.AnswersGrow.{first_place-late, answers_after-push, answers_after-append, kept-more, kept_answer-map}
+use Rattle.ring_session.proofs.AnswersGrow.{first_place-late, kept-more, kept_answer-map}
 
--- ---- places of calls committed later
+-- ---- places of calls done later
 
 none-step : (early same stands : Bool) (o : Option ℕ) (at : ℕ) → early ≡ true → is_none o ≡ not stands
     → is_none (if early && same then Some at else o) ≡ not (same || stands)
@@ -51,7 +49,7 @@ none-append c since at (x ∷ xs) ys early =
     or-step (nat_le since at && is_same c x) (stands_in ys c) (first_place c since (at + 1) xs) (first_place c since (at + 1) (xs ++ ys)) at
     (none-append c since (at + 1) xs ys (omega arith))
 
--- a ticket has no answer yet, if it had none and its call isn't among those committed since
+-- a ticket has no answer yet, if it had none and its call isn't among those done since
 unplaced : {A : Type 0} (t : Asked A) (committed more : List (Call A)) → t.since ≤ length committed
     → is_none (place_of (committed ++ more) t) ≡ is_none (place_of committed t) && not (stands_in more t.call)
 unplaced t committed more early = none-append t.call t.since 0 committed more (omega arith)
@@ -72,7 +70,7 @@ left-pending {A} committed more i (t ∷ ts) early =
     left-step more p (pending_from committed (i + 1) ts) rest' (is_none (place_of committed t)) (left-pending committed more (i + 1) ts early.1)
     ∙ ap (λ b. if b then p ∷ rest' else rest') (sym (unplaced t committed more early.0))
 
--- ---- the answers of one committed call
+-- ---- the answers of one call
 
 answer-step : {A : Type 0} (b stands same : Bool) (a : Answered A) (o o' : Option ℕ) (n : ℕ) (told here tail : List (Answered A)) → is_none o ≡ b && not stands
     → o' ≡ or_else o (if same then Some n else None) → ((q : ℕ) → o ≡ Some q → q < n) → told ≡ a ∷ [] → here ≡ tail
@@ -111,66 +109,57 @@ answers-if before c answer p rest false = refl
 earlier : {A : Type 0} (committed before : List (Call A)) (t : Asked A) → t.since ≤ length committed → t.since ≤ length (committed ++ before)
 earlier committed before t early = omega (arith, early, length-append committed before)
 
+answers-at : {A : Type 0} (answer : Answer) (done before : List (Call A)) (c : Call A) (i : ℕ) (ts : List (Asked A))
+    → AllByRecursion (λ (t : Asked A). t.since ≤ length done) ts
+    → answers_to before c answer (pending_from done i ts) ≡ answers_at answer ((done ++ before) ++ c ∷ []) (length (done ++ before)) i ts
+answers-at answer done before c i [] early = refl
+answers-at {A} answer done before c i (t ∷ ts) early =
+    let all = done ++ before in
+    let p : Pending A = record { ticket = i; call = t.call } in
+    let a : Answered A = record { ticket = i; call = t.call; answer = answer } in
+    answers-if before c answer p (pending_from done (i + 1) ts) (is_none (place_of done t))
+    ∙ answer-step (is_none (place_of done t)) (stands_in before t.call) (is_same t.call c) a (place_of all t) (place_of (all ++ c ∷ []) t) (length all)
+    (a ∷ []) (answers_to before c answer (pending_from done (i + 1) ts)) (answers_at answer (all ++ c ∷ []) (length all) (i + 1) ts)
+    (unplaced t done before early.0) (place-push all t c (earlier done before t early.0))
+    (λ q h. omega (arith, first_place-below t.call t.since 0 all q h)) refl (answers-at answer done before c (i + 1) ts early.1)
+
+-- ---- the answers of many
+
 module _ {O A : Type 0} (object : Sequential O) where
-  answers-at : (committed before : List (Call A)) (c : Call A) (i : ℕ) (ts : List (Asked A)) → AllByRecursion (λ (t : Asked A). t.since ≤ length committed) ts
-      → answers_to before c (table_answer object (table_after object (committed ++ before)) c) (pending_from committed i ts)
-      ≡ answers_at object ((committed ++ before) ++ c ∷ []) (length (committed ++ before)) i ts
-  answers-at committed before c i [] early = refl
-  answers-at committed before c i (t ∷ ts) early =
-      let all = committed ++ before in
-      let answer = table_answer object (table_after object all) c in
-      let p : Pending A = record { ticket = i; call = t.call } in
-      let a : Answered A = record { ticket = i; call = t.call; answer = answer } in
-      let told : answered i t.call (session_answer object (all ++ c ∷ []) (length all)) ≡ a ∷ [] = ap (answered i t.call) (table_answers object all c) in
-      answers-if before c answer p (pending_from committed (i + 1) ts) (is_none (place_of committed t))
-      ∙ answer-step (is_none (place_of committed t)) (stands_in before t.call) (is_same t.call c) a (place_of all t) (place_of (all ++ c ∷ []) t) (length all)
-      (answered i t.call (session_answer object (all ++ c ∷ []) (length all))) (answers_to before c answer (pending_from committed (i + 1) ts))
-      (answers_at object (all ++ c ∷ []) (length all) (i + 1) ts)
-      (unplaced t committed before early.0) (place-push all t c (earlier committed before t early.0))
-      (λ q h. omega (arith, first_place-below t.call t.since 0 all q h)) told (answers-at committed before c (i + 1) ts early.1)
+  answers-of : (table : Table O) (asked : List (Asked A)) (done before more : List (Call A)) → AllByRecursion (λ (t : Asked A). t.since ≤ length done) asked
+      → answers_behind object table (pending_from done 0 asked) before more ≡ answers_after object table asked (done ++ before) more
+  answers-of table asked done before [] early = refl
+  answers-of table asked done before (c ∷ more) early =
+      let all = done ++ before in
+      let answer = table_answer object table c in
+      let next = table_next object table c in
+      let assoc : done ++ (before ++ c ∷ []) ≡ all ++ c ∷ [] = sym (append_assoc done before (c ∷ [])) in
+      ap (λ w. w ++ answers_behind object next (pending_from done 0 asked) (before ++ c ∷ []) more) (answers-at answer done before c 0 asked early)
+      ∙ ap (λ w. answers_at answer (all ++ c ∷ []) (length all) 0 asked ++ w)
+      (answers-of next asked done (before ++ c ∷ []) more early ∙ ap (λ (w : List (Call A)). answers_after object next asked w more) assoc)
 
-  -- ---- the answers of many
+  pub are-answers : (table : Table O) (asked : List (Asked A)) (done more : List (Call A)) (all : List (Answered A)) (t : Tickets A)
+      → AreTickets asked done all t → answers_behind object table t.pending [] more ≡ answers_after object table asked done more
+  are-answers table asked done more all t are =
+      ap (λ (w : List (Pending A)). answers_behind object table w [] more) are.pending
+      ∙ answers-of table asked done [] more are.early ∙ ap (λ (w : List (Call A)). answers_after object table asked w more) (append-nil done)
 
-  pub answers-of : (asked : List (Asked A)) (committed before more : List (Call A)) → AllByRecursion (λ (t : Asked A). t.since ≤ length committed) asked
-      → answers_behind object (table_after object (committed ++ before)) (pending_from committed 0 asked) before more ≡ answers_after object asked
-      (committed ++ before) more
-  answers-of asked committed before [] early = refl
-  answers-of asked committed before (c ∷ more) early =
-      let all = committed ++ before in
-      let pending = pending_from committed 0 asked in
-      let assoc : committed ++ (before ++ c ∷ []) ≡ all ++ c ∷ [] = sym (append_assoc committed before (c ∷ [])) in
-      let table : table_next object (table_after object all) c ≡ table_after object (committed ++ (before ++ c ∷ [])) =
-      sym (fold-append (table_next object) (opening object.initial) all (c ∷ [])) ∙ ap (λ (w : List (Call A)). table_after object w) (sym assoc) in
-      ap (λ w. w ++ answers_behind object (table_next object (table_after object all) c) pending (before ++ c ∷ []) more)
-      (answers-at committed before c 0 asked early)
-      ∙ ap (λ w. answers_at object (all ++ c ∷ []) (length all) 0 asked ++ w)
-      (ap (λ (t : Table O). answers_behind object t pending (before ++ c ∷ []) more) table ∙ answers-of asked committed (before ++ c ∷ []) more early
-      ∙ ap (λ (w : List (Call A)). answers_after object asked w more) assoc)
+-- ---- what is kept
 
-  pub are-answers : (asked : List (Asked A)) (committed more : List (Call A)) (t : Tickets A) → AreTickets object asked committed t
-      → answers_behind object (table_after object committed) t.pending [] more ≡ answers_after object asked committed more
-  are-answers asked committed more t are =
-      let all : committed ++ [] ≡ committed = append-nil committed in
-      ap (λ (w : List (Pending A)). answers_behind object (table_after object committed) w [] more) are.pending
-      ∙ ap (λ (w : List (Call A)). answers_behind object (table_after object w) (pending_from committed 0 asked) [] more) (sym all)
-      ∙ answers-of asked committed [] more are.early ∙ ap (λ (w : List (Call A)). answers_after object asked w more) all
+module _ {A : Type 0} where
+  early-more : (done more : List (Call A)) (ts : List (Asked A)) → AllByRecursion (λ (t : Asked A). t.since ≤ length done) ts
+      → AllByRecursion (λ (t : Asked A). t.since ≤ length (done ++ more)) ts
+  early-more done more [] early = early
+  early-more done more (t ∷ ts) early = (earlier done more t early.0, early-more done more ts early.1)
 
-  early-more : (committed more : List (Call A)) (ts : List (Asked A)) → AllByRecursion (λ (t : Asked A). t.since ≤ length committed) ts
-      → AllByRecursion (λ (t : Asked A). t.since ≤ length (committed ++ more)) ts
-  early-more committed more [] early = early
-  early-more committed more (t ∷ ts) early = (earlier committed more t early.0, early-more committed more ts early.1)
-
-  pub are-kept : (asked : List (Asked A)) (committed more : List (Call A)) (t : Tickets A) → AreTickets object asked committed t
-      → AreTickets object asked (committed ++ more) (with_answers t more (answers_after object asked committed more))
-  are-kept asked committed more t are =
-      let answers = answers_after object asked committed more in
+  pub are-kept : (asked : List (Asked A)) (done more : List (Call A)) (all new : List (Answered A)) (t : Tickets A) → AreTickets asked done all t
+      → AreTickets asked (done ++ more) (all ++ new) (with_answers t more new)
+  are-kept asked done more all new t are =
       record {
         given = are.given;
-        early = early-more committed more asked are.early;
-        pending = ap (left_by more) are.pending ∙ left-pending committed more 0 asked are.early;
-        kept =
-            ap (λ w. last_kept (w ++ map (kept_of {A = A}) answers)) are.kept ∙ kept-more (all_answers object asked committed) answers
-            ∙ ap (λ (w : List (Answered A)). map kept_of (kept_answers w)) (sym (answers_after-append object asked [] committed more));
+        early = early-more done more asked are.early;
+        pending = ap (left_by more) are.pending ∙ left-pending done more 0 asked are.early;
+        kept = ap (λ w. last_kept (w ++ map (kept_of {A = A}) new)) are.kept ∙ kept-more all new;
       }
 
   early-push : (committed : List (Call A)) (ts : List (Asked A)) (t : Asked A) → t.since ≤ length committed
@@ -198,18 +187,18 @@ module _ {O A : Type 0} (object : Sequential O) where
       (is_none (place_of committed u))
       (pending-push committed (i + 1) ts t late ∙ ap (λ k. pending_from committed (i + 1) ts ++ last k ∷ []) e)
 
-  pub are-given : (asked : List (Asked A)) (committed : List (Call A)) (t : Tickets A) (c : Call A) → AreTickets object asked committed t
-      → AreTickets object (asked ++ record { call = c; since = length committed } ∷ []) committed (with_ticket t c)
-  are-given asked committed t c are =
-      let new : Asked A = record { call = c; since = length committed } in
+  pub are-given : (asked : List (Asked A)) (done : List (Call A)) (all : List (Answered A)) (t : Tickets A) (c : Call A) → AreTickets asked done all t
+      → AreTickets (asked ++ record { call = c; since = length done } ∷ []) done all (with_ticket t c)
+  are-given asked done all t c are =
+      let new : Asked A = record { call = c; since = length done } in
       let last : ℕ → Pending A = λ k. record { ticket = k; call = c } in
       let number : t.given ≡ 0 + length asked = omega (arith, are.given) in
       record {
         given = omega (arith, are.given, length-append asked (new ∷ []));
-        early = early-push committed asked new (omega arith) are.early;
-        pending = ap (λ w. w ++ last t.given ∷ []) are.pending ∙ ap (λ k. pending_from committed 0 asked ++ last k ∷ []) number
-            ∙ sym (pending-push committed 0 asked new (omega arith));
-        kept = are.kept ∙ ap (λ (w : List (Answered A)). map kept_of (kept_answers w)) (sym (answers_after-push object asked new [] committed (omega arith)));
+        early = early-push done asked new (omega arith) are.early;
+        pending = ap (λ w. w ++ last t.given ∷ []) are.pending ∙ ap (λ k. pending_from done 0 asked ++ last k ∷ []) number
+            ∙ sym (pending-push done 0 asked new (omega arith));
+        kept = are.kept;
       }
 
   length-step : (p : Pending A) (t : Asked A) (rest : List (Pending A)) (ts : List (Asked A)) (b : Bool) → length rest ≡ length ts
@@ -223,15 +212,15 @@ module _ {O A : Type 0} (object : Sequential O) where
       length-step (record { ticket = i; call = t.call }) t (pending_from committed (i + 1) ts) (unanswered committed ts) (is_none (place_of committed t))
       (length-pending committed (i + 1) ts)
 
-  pub are-full : (asked : List (Asked A)) (committed : List (Call A)) (t : Tickets A) → AreTickets object asked committed t
-      → is_full t ≡ nat_le 64 (length (unanswered committed asked)) || nat_le max_number (length asked)
-  are-full asked committed t are =
-      let many : length t.pending ≡ length (unanswered committed asked) = ap length are.pending ∙ length-pending committed 0 asked in
-      ap (λ n. nat_le 64 n || nat_le max_number t.given) many ∙ ap (λ n. nat_le 64 (length (unanswered committed asked)) || nat_le max_number n) are.given
+  pub are-full : (asked : List (Asked A)) (done : List (Call A)) (all : List (Answered A)) (t : Tickets A) → AreTickets asked done all t
+      → is_full t ≡ nat_le 64 (length (unanswered done asked)) || nat_le max_number (length asked)
+  are-full asked done all t are =
+      let many : length t.pending ≡ length (unanswered done asked) = ap length are.pending ∙ length-pending done 0 asked in
+      ap (λ n. nat_le 64 n || nat_le max_number t.given) many ∙ ap (λ n. nat_le 64 (length (unanswered done asked)) || nat_le max_number n) are.given
 
-  pub are-replies : (asked : List (Asked A)) (committed : List (Call A)) (t : Tickets A) (ticket : ℕ) → AreTickets object asked committed t
-      → kept_answer ticket t.kept ≡ answer_to ticket (kept_answers (all_answers object asked committed))
-  are-replies asked committed t ticket are = ap (kept_answer ticket) are.kept ∙ kept_answer-map ticket (kept_answers (all_answers object asked committed))
+  pub are-replies : (asked : List (Asked A)) (done : List (Call A)) (all : List (Answered A)) (t : Tickets A) (ticket : ℕ) → AreTickets asked done all t
+      → kept_answer ticket t.kept ≡ answer_to ticket (kept_answers all)
+  are-replies asked done all t ticket are = ap (kept_answer ticket) are.kept ∙ kept_answer-map ticket (kept_answers all)
 
 -- ---- one committed call more goes through the sessions
 

@@ -1,4 +1,4 @@
--- How the tickets' places come as one more call is committed, and what the session table answers at them.
+-- How the places of tickets come as one more call is done.
 use Rattle.std.proofs.Common.{◌≡◌, ℕ, suc, ◌+◌, ◌&&◌, nat_le, ◌<◌, ◌≤◌, Bool, true, false, List, []}
 use Rattle.std.proofs.Common.{◌∷◌, ◌++◌, length, Option, Some, None, refl, ap, ◌∙◌}
 use Rattle.std.proofs.Common.{arith, if◌then◌else◌}
@@ -15,12 +15,12 @@ below-step : {A : Type 0} (c : Call A) (since at : ℕ) (ds : List (Call A)) (p 
 below-step c since at ds p true later e = let here : at ≡ p = cc e in omega (arith, here)
 below-step c since at ds p false later e = omega (arith, later p e)
 
--- a place lies among those that are committed
+-- a place lies among the calls
 pub first_place-below : {A : Type 0} (c : Call A) (since at : ℕ) (ds : List (Call A)) (p : ℕ) → first_place c since at ds ≡ Some p → p < at + length ds
 first_place-below c since at [] p e = absurd (cc e)
 first_place-below c since at (d ∷ ds) p e = below-step c since at ds p (nat_le since at && is_same c d) (λ q h. first_place-below c since (at + 1) ds q h) e
 
--- the place of a call that stood nowhere so far, if one more is committed
+-- the place of a call that stood nowhere so far, if one more is done
 abbrev pub last_place : {A : Type 0} → Call A → ℕ → ℕ → Call A → Option ℕ
 last_place c since at d = if nat_le since at && is_same c d then Some at else None
 
@@ -42,7 +42,7 @@ first_place-push c since at (x ∷ xs) d =
     (let e : at + 1 + length xs ≡ at + suc (length xs) = omega arith in first_place-push c since (at + 1) xs d
     ∙ ap (λ k. or_else (first_place c since (at + 1) xs) (last_place c since k d)) e)
 
--- one more committed call answers a ticket that waits exactly if it is its call
+-- one more call answers a ticket that waits exactly if it is its call
 abbrev pub place_now : {A : Type 0} → List (Call A) → Asked A → Call A → Option ℕ
 place_now committed t c = if is_same t.call c then Some (length committed) else None
 

@@ -104,8 +104,17 @@ impl<A: Allocator + Copy + Drop> Tickets<A> {
     }
 }
 
-/// Whether the two are one call: of one client and number, and with the same operation.
+/// Whether the two are one call. The calls that wait at a node differ nearly all by their number, so this is compared
+/// first, in line.
+#[inline(always)]
 fn is_same<A: Allocator + Copy>(call: &Call<A>, other: &Call<A>) -> bool
+    ensures { result ≡ is_same call.now other.now }
+{
+    other.number == call.number && is_same_whole(call, other)
+}
+
+/// Whether the two are of one client and number, and with the same operation.
+fn is_same_whole<A: Allocator + Copy>(call: &Call<A>, other: &Call<A>) -> bool
     ensures { result ≡ is_same call.now other.now }
 {
     other.client == call.client

@@ -1,10 +1,10 @@
 //! One step: what an input comes to is done, a ring may be proposed, and what follows is given.
 
-ghost use Rattle.std.specs.Prelude.{◌≡◌, ◌≤◌, ◌++◌, ◌∷◌, [], false, IfOk, IfErr, IfSome, OnOk, OnErr};
+ghost use Rattle.std.specs.Prelude.{◌≡◌, ◌≤◌, ◌++◌, ◌∷◌, [], false, IfOk, IfErr, OnOk, OnErr};
 ghost use Rattle.ring_base.specs.declared.fault.Fault.TheVariants.{Memory};
 ghost use Rattle.ring_wire.specs.Frames.{FrameFits};
 ghost use Rattle.ring_core.specs.Acting.{act, may_follow, done};
-ghost use Rattle.ring_core.specs.Deciding.{decide, Visit as VisitAct};
+ghost use Rattle.ring_core.specs.Deciding.{Visit as VisitAct};
 ghost use Rattle.ring_core.specs.Giving.{sent, may_install, delivered};
 ghost use Rattle.ring_core.specs.Stepping.{ring_step};
 ghost use Rattle.ring_core.specs.declared.input.Input.TheVariants.{Frame as FrameInput, Send as SendInput};
@@ -20,36 +20,8 @@ use ring_srp_state::is_queued;
 use ring_wire::{Frame, Token};
 use std::alloc::Allocator;
 
-/// One step. A token that is visited stays where it is.
+/// One step.
 pub(crate) fn step<A: Allocator + Copy>(
-    machine: &mut Machine<A>,
-    input: Input<A>,
-) -> Result<Vec<Out<A>, A>, Fault>
-    requires { InputFits input }
-    ensures outs { IfOk result (λ outs. outs.items ≡ (ring_step machine.old input).outs) }
-    ensures core { OnOk result (machine.new ≡ (ring_step machine.old input).core) }
-    ensures running { is_stopped machine.old.state ≡ false }
-    ensures refused { IfErr result (λ fault. fault ≡ Memory) }
-{
-    if let Some(token) = visited(machine, &input) {
-        return pass_by(machine, token);
-    }
-    step_by_act(machine, input)
-}
-
-/// The token that an input brings, if it is visited.
-fn visited<'a, A: Allocator + Copy>(machine: &Machine<A>, input: &'a Input<A>) -> Option<&'a Token>
-    ensures { IfSome result (λ token. VisitAct token.now ≡ decide machine.now input.now) }
-{
-    match input {
-        Input::Frame(frame) => machine.visited_by(frame),
-        Input::Timeout(_) | Input::Send(_) => None,
-    }
-}
-
-/// One step, by what the input comes to. It stands apart, since a call clears its room for that.
-#[inline(never)]
-fn step_by_act<A: Allocator + Copy>(
     machine: &mut Machine<A>,
     input: Input<A>,
 ) -> Result<Vec<Out<A>, A>, Fault>
@@ -98,7 +70,7 @@ fn step_copy<A: Allocator + Copy>(
     ensures refused { IfErr result (λ fault. fault ≡ Memory) }
 {
     let copy = copied(frame)?;
-    step_by_act(machine, Input::Frame(copy))
+    step(machine, Input::Frame(copy))
 }
 
 /// One step, of a token that is visited.
@@ -141,6 +113,8 @@ fn room_for<A: Allocator + Copy>(machine: &Machine<A>, what: &Act<A>) -> usize
 {
     match what {
         Act::Visit(token) => machine.room_for_visit(token),
+        // Most often it is the next message, and is given at once; to grow for it would make room for more than one.
+        Act::Take(_) => 1,
         _ => 0,
     }
 }

@@ -3,11 +3,12 @@
 ghost use Rattle.std.specs.Prelude.{◌≡◌, [], ◌∷◌, ◌++◌, IfErr, OnOk};
 ghost use Rattle.ring_base.specs.declared.fault.Fault.TheVariants.{Memory};
 ghost use Rattle.ring_wire.specs.declared.frame.Frame.TheVariants.{Message as MessageFrame, Token as TokenFrame};
+ghost use Rattle.ring_core.specs.declared.out.Out.TheVariants.{Send};
 ghost use Rattle.ring_core.specs.Giving.{sent};
 
 use ring_base::{Fault, ProcSet};
 use ring_core::Out;
-use ring_wire::{Frame, Message, Token};
+use ring_wire::{Frame, Message, Requests, Token};
 use std::alloc::Allocator;
 
 /// Sends a frame, unless it is to nobody.
@@ -65,9 +66,50 @@ fn send_token<A: Allocator + Copy>(
     ensures refused { IfErr result (λ fault. fault ≡ Memory) }
 {
     if !to.is_empty() {
-        outs.reserve(1)?;
-        outs.push_reserved(Out::Send(to, Frame::Token(copied(token))));
+        add_token(outs, to, token)?;
     }
+    Ok(())
+}
+
+/// Sends a copy of a token. That of one that asks for nothing is made in its place: its room for requests is not moved.
+fn add_token<A: Allocator + Copy>(
+    outs: &mut Vec<Out<A>, A>,
+    to: ProcSet,
+    token: &Token,
+) -> Result<(), Fault>
+    ensures ok { OnOk result (outs.new.items ≡ outs.old.items ++ Send to (TokenFrame token.now) ∷ []) }
+    ensures refused { IfErr result (λ fault. fault ≡ Memory) }
+{
+    if !token.requests.as_slice().is_empty() {
+        return add_asking(outs, to, token);
+    }
+    outs.reserve(1)?;
+    outs.push_reserved(Out::Send(
+        to,
+        Frame::Token(Token {
+            ring: token.ring,
+            number: token.number,
+            seq: token.seq,
+            aru: token.aru,
+            aru_id: token.aru_id,
+            requests: Requests::new(),
+        }),
+    ));
+    Ok(())
+}
+
+/// The same for a token that may ask for something. It stands apart, since a call clears its room for the copy.
+#[inline(never)]
+fn add_asking<A: Allocator + Copy>(
+    outs: &mut Vec<Out<A>, A>,
+    to: ProcSet,
+    token: &Token,
+) -> Result<(), Fault>
+    ensures ok { OnOk result (outs.new.items ≡ outs.old.items ++ Send to (TokenFrame token.now) ∷ []) }
+    ensures refused { IfErr result (λ fault. fault ≡ Memory) }
+{
+    outs.reserve(1)?;
+    outs.push_reserved(Out::Send(to, Frame::Token(copied(token))));
     Ok(())
 }
 

@@ -2,7 +2,7 @@
 -- Tellings: Answers are told one after the other, each with the copy of its call that is left.
 -- Spared: The second copies of the calls that wait: what a step answers has its copy, and those that wait on keep theirs.
 -- StoppedNode: The step of a node that has stopped gives nothing and changes nothing.
--- CommittedInRuns: In a run what a node committed only grows, so the copies of the calls that it answers are left.
+-- AnsweredCopies: What a step answers has its copies, and the tickets that wait on keep theirs.
 -- Events: Of the events that stand nothing is told but answers, and refusals whatever the memory.
 -- NodePlaces: Where a node stands in the lists that the code of a world keeps, and what they are with another node in its place.
 -- WorldOfNodes: What the code keeps goes on telling the world, event by event.
@@ -21,7 +21,7 @@ pub mod Storing
 pub mod Tellings
 pub mod Spared
 pub mod StoppedNode
-pub mod CommittedInRuns
+pub mod AnsweredCopies
 pub mod SubmitRefused
 pub mod Events
 pub mod NodePlaces

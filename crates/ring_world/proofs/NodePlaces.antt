@@ -9,7 +9,7 @@ use Rattle.ring_base.specs.Group.{Group}
 use Rattle.ring_base.specs.Processors.{IsProc}
 use Rattle.ring_object.specs.Operations.{Sequential}
 use Rattle.ring_core.specs.State.{Carried}
-use Rattle.ring_rules.specs.Nodes.{Node, node_committed}
+use Rattle.ring_rules.specs.Nodes.{Node}
 use Rattle.ring_rules.specs.declared.event.Event.{Event}
 use Rattle.ring_rules.specs.declared.item.Item.{Item}
 use Rattle.ring_rules.specs.declared.told.Told.{Told}
@@ -211,7 +211,7 @@ module _ {O A : Type 0} {object : Sequential O} {p old : Played A} {nodes : List
       Stands object p old nodes (slice_set spares m t) frames history i m
   spared t is same =
       let n = w.nodes i in
-      let k : KeepsCopies n t = subst (λ cs. Holds cs n.tickets (node_committed n)) (sym same) (copies_are is) in
+      let k : KeepsCopies n t = subst (λ cs. Holds cs n.tickets n.done) (sym same) (copies_are is) in
       record {
         was = here.was;
         world = record {

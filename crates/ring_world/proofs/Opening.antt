@@ -9,20 +9,20 @@ use Rattle.ring_base.proofs.ListPlaces.{get-numbers}
 use Rattle.ring_object.specs.Operations.{Sequential}
 use Rattle.ring_payload.specs.declared.call.Call.{Call}
 use Rattle.ring_core.specs.State.{Carried}
-use Rattle.ring_rules.specs.Nodes.{Node, node_opening, node_committed}
+use Rattle.ring_rules.specs.Nodes.{Node, node_opening}
 use Rattle.ring_rules.specs.declared.event.Event.{Event}
 use Rattle.ring_rules.specs.declared.item.Item.{Item}
 use Rattle.ring_rules.specs.declared.told.Told.{Told}
 use Rattle.ring_world.specs.Spares.{Spares, Holds}
 use Rattle.ring_world.specs.Keeping.{KeepsCopies, IsWorld}
 
-none_asked : {A : Type 0} (committed : List (Call A)) (s : Spares A) → s.calls ≡ [] → Holds s.calls [] committed
-none_asked committed s none = record { many = ap length none; each = λ k t asked. absurd (let q : ⊥ = cc asked in q) }
+none_asked : {A : Type 0} (done : List (Call A)) (s : Spares A) → s.calls ≡ [] → Holds s.calls [] done
+none_asked done s none = record { many = ap length none; each = λ k t asked. absurd (let q : ⊥ = cc asked in q) }
 
 copies_at : {A : Type 0} (group : Group) (f : ℕ → ℕ) (xs : List (Spares A)) (i : ℕ) → i < length xs → AllByRecursion (λ (s : Spares A). s.calls ≡ []) xs →
     (s : Spares A) × (slice_get xs i ≡ Some s) × KeepsCopies (node_opening group (f i)) s
 copies_at group f [] i l none = absurd (omega (arith, l))
-copies_at {A} group f (s ∷ xs) zero l none = (let n : Node A = node_opening group (f zero) in (s, refl, none_asked (node_committed n) s none.0))
+copies_at {A} group f (s ∷ xs) zero l none = (let n : Node A = node_opening group (f zero) in (s, refl, none_asked n.done s none.0))
 copies_at group f (s ∷ xs) (suc i) l none = copies_at group (λ j. f (suc j)) xs i (omega (arith, l)) none.1
 
 opens_at : {O A : Type 0} (object : Sequential O) (group : Group) (spares : List (Spares A)) → length spares ≡ group.count →

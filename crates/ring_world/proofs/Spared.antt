@@ -7,9 +7,9 @@ use Rattle.ring_object.specs.Operations.{Sequential}
 use Rattle.ring_payload.specs.declared.call.Call.{Call}
 use Rattle.ring_order_proof.proofs.RepliesTold.{is_place-true}
 use Rattle.ring_session.specs.declared.answer.Answer.{Answer}
-use Rattle.ring_session.specs.SessionAnswer.{session_answer}
+use Rattle.ring_session.specs.Table.{Table, table_answer, table_next}
 use Rattle.ring_session.specs.declared.answered.Answered.{Answered}
-use Rattle.ring_session.specs.Tickets.{Asked, place_of, is_place, answered, answers_at, answers_after}
+use Rattle.ring_session.specs.Tickets.{Asked, place_of, is_place, answers_at, answers_after}
 use Rattle.ring_session.proofs.TicketPlaces.{first_place-below, or_else, last_place, first_place-push}
 use Rattle.ring_world.specs.Spares.{IsLeft, AllLeft, without, after_answers, Holds}
 use Rattle.ring_base.proofs.ListPlaces.{get-push, get-last, get-left, push-length}
@@ -45,156 +45,157 @@ left-append : {A : Type 0} (calls : List (Option (Call A))) (xs ys : List (Answe
 left-append calls [] ys h k = k
 left-append calls (x ∷ xs) ys h k = (h.0, left-append (without calls x.ticket) xs ys h.1 k)
 
--- One committed place more: a ticket without a place gets this one, or none
+-- One call more: a ticket without a place gets this one, or none
 
-module _ {A : Type 0} (committed : List (Call A)) (d : Call A) where
-  split_new : (o last : Option ℕ) → ((p : ℕ) → o ≡ Some p → p < length committed) → or_else o last ≡ Some (length committed) → o ≡ None
+module _ {A : Type 0} (done : List (Call A)) (d : Call A) where
+  split_new : (o last : Option ℕ) → ((p : ℕ) → o ≡ Some p → p < length done) → or_else o last ≡ Some (length done) → o ≡ None
   split_new None last below e = refl
-  split_new (Some p) last below e = absurd (let l = below p refl in let q : p ≡ length committed = cc e in omega (arith, l, q))
+  split_new (Some p) last below e = absurd (let l = below p refl in let q : p ≡ length done = cc e in omega (arith, l, q))
 
   split_none : (o last : Option ℕ) → or_else o last ≡ None → o ≡ None
   split_none None last e = refl
   split_none (Some p) last e = absurd (let q : ⊥ = cc e in q)
 
-  was_waiting : (t : Asked A) → place_of (committed ++ d ∷ []) t ≡ Some (length committed) → place_of committed t ≡ None
+  was_waiting : (t : Asked A) → place_of (done ++ d ∷ []) t ≡ Some (length done) → place_of done t ≡ None
   was_waiting t e =
-      split_new (place_of committed t) (last_place t.call t.since (0 + length committed) d)
-      (λ p h. (let l = first_place-below t.call t.since 0 committed p h in omega (arith, l)))
-      (sym (first_place-push t.call t.since 0 committed d) ∙ e)
+      split_new (place_of done t) (last_place t.call t.since (0 + length done) d)
+      (λ p h. (let l = first_place-below t.call t.since 0 done p h in omega (arith, l)))
+      (sym (first_place-push t.call t.since 0 done d) ∙ e)
 
-  waits_on : (t : Asked A) → place_of (committed ++ d ∷ []) t ≡ None → place_of committed t ≡ None
-  waits_on t e = split_none (place_of committed t) (last_place t.call t.since (0 + length committed) d)
-      (sym (first_place-push t.call t.since 0 committed d) ∙ e)
+  waits_on : (t : Asked A) → place_of (done ++ d ∷ []) t ≡ None → place_of done t ≡ None
+  waits_on t e = split_none (place_of done t) (last_place t.call t.since (0 + length done) d)
+      (sym (first_place-push t.call t.since 0 done d) ∙ e)
 
 not_place : (place : ℕ) (o : Option ℕ) → is_place place o ≡ true → o ≡ None → ⊥
 not_place place o e n = (let s = is_place-true place o e in let q : ⊥ = cc (sym s ∙ n) in q)
 
-module _ {O A : Type 0} (object : Sequential O) where
+module _ {A : Type 0} where
   -- the answers of one place, to the tickets from this one on
-  record IsGroup (committed : List (Call A)) (calls : List (Option (Call A))) (ticket : ℕ) (ts : List (Asked A)) (answers : List (Answered A)) : Type 0 where
+  record IsGroup (done : List (Call A)) (calls : List (Option (Call A))) (ticket : ℕ) (ts : List (Asked A)) (answers : List (Answered A)) : Type 0 where
     pub left : AllLeft calls answers
-    pub each : (k : ℕ) (t : Asked A) → slice_get ts k ≡ Some t → place_of committed t ≡ None → IsLeft (after_answers calls answers) (ticket + k) t.call
+    pub each : (k : ℕ) (t : Asked A) → slice_get ts k ≡ Some t → place_of done t ≡ None → IsLeft (after_answers calls answers) (ticket + k) t.call
     pub below : (j : ℕ) → j < ticket → slice_get (after_answers calls answers) j ≡ slice_get calls j
     pub many : length (after_answers calls answers) ≡ length calls
 
   abbrev Wait : List (Call A) → List (Option (Call A)) → ℕ → List (Asked A) → Type 0
-  Wait committed calls ticket ts = (k : ℕ) (t : Asked A) → slice_get ts k ≡ Some t → place_of committed t ≡ None → IsLeft calls (ticket + k) t.call
+  Wait done calls ticket ts = (k : ℕ) (t : Asked A) → slice_get ts k ≡ Some t → place_of done t ≡ None → IsLeft calls (ticket + k) t.call
 
   -- where this ticket isn't answered
-  skipped : (committed : List (Call A)) (calls : List (Option (Call A))) (ticket : ℕ) (t : Asked A) (ts : List (Asked A)) (rest : List (Answered A)) →
-      (place_of committed t ≡ None → IsLeft calls ticket t.call) → IsGroup committed calls (ticket + 1) ts rest → IsGroup committed calls ticket (t ∷ ts) rest
-  skipped committed calls ticket t ts rest here g = record {
+  skipped : (done : List (Call A)) (calls : List (Option (Call A))) (ticket : ℕ) (t : Asked A) (ts : List (Asked A)) (rest : List (Answered A)) →
+      (place_of done t ≡ None → IsLeft calls ticket t.call) → IsGroup done calls (ticket + 1) ts rest → IsGroup done calls ticket (t ∷ ts) rest
+  skipped done calls ticket t ts rest here g = record {
     left = g.left;
     each = each_of;
     below = λ j l. g.below j (omega (arith, l));
     many = g.many;
   }
     where
-      each_of : Wait committed (after_answers calls rest) ticket (t ∷ ts)
+      each_of : Wait done (after_answers calls rest) ticket (t ∷ ts)
       each_of zero u e w =
           let same : t ≡ u = cc e in
           let at : ticket + zero ≡ ticket = omega arith in
-          let was = subst (λ (v : Asked A). IsLeft calls ticket v.call) same (here (ap (place_of committed) same ∙ w)) in
+          let was = subst (λ (v : Asked A). IsLeft calls ticket v.call) same (here (ap (place_of done) same ∙ w)) in
           subst (λ n. IsLeft (after_answers calls rest) n u.call) (sym at) (g.below ticket (omega arith) ∙ was)
       each_of (suc k) u e w =
           let at : (ticket + 1) + k ≡ ticket + suc k = omega arith in
           subst (λ n. IsLeft (after_answers calls rest) n u.call) at (g.each k u e w)
 
   -- where it is
-  taken : (committed : List (Call A)) (calls : List (Option (Call A))) (ticket : ℕ) (t : Asked A)
+  taken : (done : List (Call A)) (calls : List (Option (Call A))) (ticket : ℕ) (t : Asked A)
       (ts : List (Asked A)) (rest : List (Answered A)) (a : Answer) → IsLeft calls ticket t.call →
-      (place_of committed t ≡ None → ⊥) → IsGroup committed (without calls ticket) (ticket + 1) ts rest →
-      IsGroup committed calls ticket (t ∷ ts) (record { ticket = ticket; call = t.call; answer = a } ∷ rest)
-  taken committed calls ticket t ts rest a here not g = record {
+      (place_of done t ≡ None → ⊥) → IsGroup done (without calls ticket) (ticket + 1) ts rest →
+      IsGroup done calls ticket (t ∷ ts) (record { ticket = ticket; call = t.call; answer = a } ∷ rest)
+  taken done calls ticket t ts rest a here not g = record {
     left = (here, g.left);
     each = each_of;
     below = λ j l. g.below j (omega (arith, l)) ∙ get-set_other calls ticket j None (λ e. (let q : ⊥ = omega (arith, e, l) in q));
     many = g.many ∙ set-length calls ticket None;
   }
     where
-      each_of : Wait committed (after_answers (without calls ticket) rest) ticket (t ∷ ts)
-      each_of zero u e w = (let same : t ≡ u = cc e in absurd (not (ap (place_of committed) same ∙ w)))
+      each_of : Wait done (after_answers (without calls ticket) rest) ticket (t ∷ ts)
+      each_of zero u e w = (let same : t ≡ u = cc e in absurd (not (ap (place_of done) same ∙ w)))
       each_of (suc k) u e w =
           let at : (ticket + 1) + k ≡ ticket + suc k = omega arith in
           subst (λ n. IsLeft (after_answers (without calls ticket) rest) n u.call) at (g.each k u e w)
 
   -- where it isn't answered, those after it go on
-  passed : (committed : List (Call A)) (d : Call A) (calls : List (Option (Call A))) (ticket : ℕ) (t : Asked A)
-      (ts : List (Asked A)) → Wait committed calls ticket (t ∷ ts) →
-      ((cs : List (Option (Call A))) → Wait committed cs (ticket + 1) ts → IsGroup (committed ++ d ∷ []) cs
-      (ticket + 1) ts (answers_at object (committed ++ d ∷ []) (length committed) (ticket + 1) ts)) →
-      IsGroup (committed ++ d ∷ []) calls ticket (t ∷ ts) (answers_at object (committed ++ d ∷ []) (length committed) (ticket + 1) ts)
-  passed committed d calls ticket t ts wait rest =
+  passed : (answer : Answer) (done : List (Call A)) (d : Call A) (calls : List (Option (Call A))) (ticket : ℕ) (t : Asked A)
+      (ts : List (Asked A)) → Wait done calls ticket (t ∷ ts) →
+      ((cs : List (Option (Call A))) → Wait done cs (ticket + 1) ts → IsGroup (done ++ d ∷ []) cs
+      (ticket + 1) ts (answers_at answer (done ++ d ∷ []) (length done) (ticket + 1) ts)) →
+      IsGroup (done ++ d ∷ []) calls ticket (t ∷ ts) (answers_at answer (done ++ d ∷ []) (length done) (ticket + 1) ts)
+  passed answer done d calls ticket t ts wait rest =
       let at : ticket + 0 ≡ ticket = omega arith in
-      skipped (committed ++ d ∷ []) calls ticket t ts (answers_at object (committed ++ d ∷ []) (length committed) (ticket + 1) ts)
-      (λ w. subst (λ n. IsLeft calls n t.call) at (wait zero t refl (waits_on committed d t w)))
+      skipped (done ++ d ∷ []) calls ticket t ts (answers_at answer (done ++ d ∷ []) (length done) (ticket + 1) ts)
+      (λ w. subst (λ n. IsLeft calls n t.call) at (wait zero t refl (waits_on done d t w)))
       (rest calls (λ k u at_u w.
       let n : ticket + suc k ≡ (ticket + 1) + k = omega arith in
       subst (λ m. IsLeft calls m u.call) n (wait (suc k) u at_u w)))
 
   -- Either
 
-  abbrev head : Bool → ℕ → Call A → Option Answer → List (Answered A)
-  head b ticket c o = if b then answered ticket c o else []
+  abbrev head : Bool → ℕ → Call A → Answer → List (Answered A)
+  head b ticket c answer = if b then record { ticket = ticket; call = c; answer = answer } ∷ [] else []
 
-  module _ (committed : List (Call A)) (d : Call A) where
+  module _ (answer : Answer) (done : List (Call A)) (d : Call A) where
     abbrev now : List (Call A)
-    now = committed ++ d ∷ []
+    now = done ++ d ∷ []
 
-    one : (b : Bool) (o : Option Answer) (calls : List (Option (Call A))) (ticket : ℕ) (t : Asked A)
-        (ts : List (Asked A)) → is_place (length committed) (place_of now t) ≡ b →
-        Wait committed calls ticket (t ∷ ts) → ((cs : List (Option (Call A))) → Wait committed cs (ticket + 1) ts
-        → IsGroup now cs (ticket + 1) ts (answers_at object now (length committed) (ticket + 1) ts)) →
-        IsGroup now calls ticket (t ∷ ts) (head b ticket t.call o ++ answers_at object now (length committed) (ticket + 1) ts)
-    one false o calls ticket t ts e wait rest = passed committed d calls ticket t ts wait rest
-    one true None calls ticket t ts e wait rest = passed committed d calls ticket t ts wait rest
-    one true (Some a) calls ticket t ts e wait rest =
+    one : (b : Bool) (calls : List (Option (Call A))) (ticket : ℕ) (t : Asked A)
+        (ts : List (Asked A)) → is_place (length done) (place_of now t) ≡ b →
+        Wait done calls ticket (t ∷ ts) → ((cs : List (Option (Call A))) → Wait done cs (ticket + 1) ts
+        → IsGroup now cs (ticket + 1) ts (answers_at answer now (length done) (ticket + 1) ts)) →
+        IsGroup now calls ticket (t ∷ ts) (head b ticket t.call answer ++ answers_at answer now (length done) (ticket + 1) ts)
+    one false calls ticket t ts e wait rest = passed answer done d calls ticket t ts wait rest
+    one true calls ticket t ts e wait rest =
         let at : ticket + 0 ≡ ticket = omega arith in
-        let here = subst (λ n. IsLeft calls n t.call) at (wait zero t refl (was_waiting committed d t (is_place-true (length committed) (place_of now t) e))) in
-        taken now calls ticket t ts (answers_at object now (length committed) (ticket + 1) ts) a here (not_place (length committed) (place_of now t) e)
+        let here = subst (λ n. IsLeft calls n t.call) at (wait zero t refl (was_waiting done d t (is_place-true (length done) (place_of now t) e))) in
+        taken now calls ticket t ts (answers_at answer now (length done) (ticket + 1) ts) answer here (not_place (length done) (place_of now t) e)
         (rest (without calls ticket) (λ k u at_u w.
         let n : ticket + suc k ≡ (ticket + 1) + k = omega arith in
         get-set_other calls ticket ((ticket + 1) + k) None (λ q. (let f : ⊥ = omega (arith, q) in f))
         ∙ subst (λ m. IsLeft calls m u.call) n (wait (suc k) u at_u w)))
 
-    group : (calls : List (Option (Call A))) (ticket : ℕ) (ts : List (Asked A)) → Wait committed calls ticket ts
-        → IsGroup now calls ticket ts (answers_at object now (length committed) ticket ts)
+    group : (calls : List (Option (Call A))) (ticket : ℕ) (ts : List (Asked A)) → Wait done calls ticket ts
+        → IsGroup now calls ticket ts (answers_at answer now (length done) ticket ts)
     group calls ticket [] wait = record { left = tt; each = λ k t e w. absurd (let q : ⊥ = cc e in q); below = λ j l. refl; many = refl }
     group calls ticket (t ∷ ts) wait =
-        one (is_place (length committed) (place_of now t)) (session_answer object now (length committed)) calls ticket t ts refl wait
-        (λ cs w. group cs (ticket + 1) ts w)
+        one (is_place (length done) (place_of now t)) calls ticket t ts refl wait (λ cs w. group cs (ticket + 1) ts w)
 
-  -- Place by place
+-- Call by call
 
-  pub record GoesOn (tickets : List (Asked A)) (committed : List (Call A)) (calls : List (Option (Call A))) (answers : List (Answered A)) : Type 0 where
-    pub left : AllLeft calls answers
-    pub holds : Holds (after_answers calls answers) tickets committed
+pub record GoesOn {A : Type 0} (tickets : List (Asked A)) (done : List (Call A)) (calls : List (Option (Call A))) (answers : List (Answered A)) : Type 0 where
+  pub left : AllLeft calls answers
+  pub holds : Holds (after_answers calls answers) tickets done
 
-  pub goes_on : (tickets : List (Asked A)) (committed more : List (Call A)) (calls : List (Option (Call A))) → Holds calls tickets committed →
-      GoesOn tickets (committed ++ more) calls (answers_after object tickets committed more)
-  goes_on tickets committed [] calls h = record { left = tt; holds = subst (Holds calls tickets) (sym (append-nil committed)) h }
-  goes_on tickets committed (c ∷ more) calls h =
-      let now = committed ++ c ∷ [] in
-      let first = answers_at object now (length committed) 0 tickets in
-      let g = group committed c calls 0 tickets (λ k t e w. subst (λ n. IsLeft calls n t.call) (let q : k ≡ 0 + k = omega arith in q) (h.each k t e w)) in
+module _ {O A : Type 0} (object : Sequential O) where
+  pub goes_on : (table : Table O) (tickets : List (Asked A)) (done more : List (Call A)) (calls : List (Option (Call A))) → Holds calls tickets done →
+      GoesOn tickets (done ++ more) calls (answers_after object table tickets done more)
+  goes_on table tickets done [] calls h = record { left = tt; holds = subst (Holds calls tickets) (sym (append-nil done)) h }
+  goes_on table tickets done (c ∷ more) calls h =
+      let now = done ++ c ∷ [] in
+      let answer = table_answer object table c in
+      let next = table_next object table c in
+      let first = answers_at answer now (length done) 0 tickets in
+      let g = group answer done c calls 0 tickets (λ k t e w. subst (λ n. IsLeft calls n t.call) (let q : k ≡ 0 + k = omega arith in q) (h.each k t e w)) in
       let between : Holds (after_answers calls first) tickets now = record {
         many = g.many ∙ h.many;
         each = λ k t e w. subst (λ n. IsLeft (after_answers calls first) n t.call) (let q : 0 + k ≡ k = omega arith in q) (g.each k t e w);
       } in
-      let rest = goes_on tickets now more (after_answers calls first) between in
+      let rest = goes_on next tickets now more (after_answers calls first) between in
       record {
-        left = left-append calls first (answers_after object tickets now more) g.left rest.left;
-        holds = subst (λ cs. Holds cs tickets (committed ++ c ∷ more)) (sym (after-append calls first (answers_after object tickets now more)))
-            (subst (Holds (after_answers (after_answers calls first) (answers_after object tickets now more)) tickets)
-            (append_assoc committed (c ∷ []) more) rest.holds);
+        left = left-append calls first (answers_after object next tickets now more) g.left rest.left;
+        holds = subst (λ cs. Holds cs tickets (done ++ c ∷ more)) (sym (after-append calls first (answers_after object next tickets now more)))
+            (subst (Holds (after_answers (after_answers calls first) (answers_after object next tickets now more)) tickets)
+            (append_assoc done (c ∷ []) more) rest.holds);
       }
 
 -- A ticket more
 
-pub holds-more : {A : Type 0} (calls : List (Option (Call A))) (tickets : List (Asked A)) (committed : List (Call A))
-    (t : Asked A) → Holds calls tickets committed →
-    Holds (calls ++ Some t.call ∷ []) (tickets ++ t ∷ []) committed
-holds-more {A} calls tickets committed t h = record {
+pub holds-more : {A : Type 0} (calls : List (Option (Call A))) (tickets : List (Asked A)) (done : List (Call A))
+    (t : Asked A) → Holds calls tickets done →
+    Holds (calls ++ Some t.call ∷ []) (tickets ++ t ∷ []) done
+holds-more {A} calls tickets done t h = record {
   many = push-length calls (Some t.call) ∙ ap suc h.many ∙ sym (push-length tickets t);
   each = λ k u e w. elim (get-push tickets t k u e) [
     | inl there ↦ get-left calls (Some t.call ∷ []) k (Some u.call) (h.each k u there w)

@@ -1,5 +1,5 @@
 -- The step of a node that has stopped gives nothing and changes nothing.
-use Rattle.std.proofs.Common.{◌≡◌, Bool, true, false, List, [], ◌∷◌}
+use Rattle.std.proofs.Common.{◌≡◌, Bool, true, false, List, [], ◌∷◌, ◌++◌}
 use Rattle.std.proofs.Common.{refl, ap, ◌∙◌, sym, subst, append-nil}
 use Rattle.std.proofs.Math.Seq.{drop-length}
 use Rattle.ring_core.specs.declared.input.Input.TheVariants.{Frame as FrameInput, Timeout}
@@ -11,11 +11,12 @@ use Rattle.ring_payload.specs.declared.content.Payload.{Payload}
 use Rattle.ring_core.specs.declared.out.Out.{Out}
 use Rattle.ring_log.specs.Stays.{Stay, hands}
 use Rattle.ring_log.specs.Lives.{is_sound}
-use Rattle.ring_session.specs.Tickets.{answers_after}
+use Rattle.ring_payload.specs.declared.call.Call.{Call}
+use Rattle.ring_session.specs.declared.answered.Answered.{Answered}
 use Rattle.ring_rules.specs.declared.input.Input.{Input as NodeInput}
 use Rattle.ring_rules.specs.declared.input.Input.TheVariants.{Frame as NodeFrame, Noise as NodeNoise, Timeout as NodeTime, Stop as NodeStop}
 use Rattle.ring_rules.specs.Nodes.{Node, node_committed, is_stopped}
-use Rattle.ring_rules.specs.Stepping.{NodeStepped, node_step, after_core, settled, walked}
+use Rattle.ring_rules.specs.Stepping.{NodeStepped, newly, answers_by, node_step, after_core, settled, walked}
 use Rattle.ring_srp.proofs.StoppedCore.{stopped_step}
 use Rattle.ring_rules.proofs.NodeChanges.{stopped_same}
 
@@ -35,11 +36,17 @@ module _ {O A : Type 0} (object : Sequential O) where
       IsSilent (settled object b n (walked n n.core n.life []) [] n.life) n
   silent-if false n e = record { node = stopped_same n e; sends = refl; answers = refl }
   silent-if true n e =
-      let with_life : List (Stay A) → Node A = λ l. record n { life = l } in
+      let answered : List (Call A) → List (Answered A) = answers_by object n in
+      let of : List (Stay A) → List (Call A) → List (Answered A) → Node A = λ life did answers. record n { life = life; done = did; answers = answers } in
+      let more : newly n n.life ≡ [] = drop-length (node_committed n) in
+      let none : answered (newly n n.life) ≡ [] = ap answered more in
       record {
-        node = ap with_life (hands-nothing n.life);
+        node =
+            ap (λ l. of l (n.done ++ newly n n.life) (n.answers ++ answered (newly n n.life))) (hands-nothing n.life)
+            ∙ ap (λ l. of n.life (n.done ++ l) (n.answers ++ answered (newly n n.life))) more ∙ ap (λ l. of n.life (n.done ++ []) (n.answers ++ l)) none
+            ∙ ap (λ l. of n.life l (n.answers ++ [])) (append-nil n.done) ∙ ap (of n.life n.done) (append-nil n.answers);
         sends = refl;
-        answers = ap (λ more. answers_after object n.tickets (node_committed n) more) (drop-length (node_committed n));
+        answers = none;
       }
 
   silent-core : (n : Node A) (s : Stepped A) → is_stopped n.core.state ≡ true → GaveNothing s n.core → IsSilent (after_core object n s) n

@@ -12,7 +12,7 @@ use Rattle.ring_wire.specs.Frames.{FrameFits}
 use Rattle.ring_object.specs.Operations.{Sequential}
 use Rattle.ring_core.specs.State.{Sent, Carried}
 use Rattle.ring_rules.specs.declared.input.Input.{Input}
-use Rattle.ring_rules.specs.Nodes.{Node, node_committed, node_stopped, is_stopped}
+use Rattle.ring_rules.specs.Nodes.{Node, node_stopped, is_stopped}
 use Rattle.ring_rules.specs.Stepping.{Answered, node_step, submit_fault, submitted}
 use Rattle.ring_session.specs.Tickets.{Asked}
 use Rattle.ring_base.specs.declared.fault.Fault.{Fault}
@@ -29,7 +29,7 @@ use Rattle.ring_rules.specs.declared.told.Told.TheVariants.{Refused as ToldRefus
 use Rattle.ring_rules.specs.WorldLimits.{EventFits}
 use Rattle.ring_rules.specs.Worlds.{World, world_opening, run, happens, put, after_step, stepped, stepped_if}
 use Rattle.ring_rules.specs.Worlds.{stopped_if, issued_or, issued_if, carried, items_of, told_by}
-use Rattle.ring_rules.proofs.NodeChanges.{submitted-committed, stopped_same}
+use Rattle.ring_rules.proofs.NodeChanges.{stopped_same}
 use Rattle.ring_order_proof.proofs.Orderly.{run-more}
 use Rattle.ring_world.specs.Played.{Played, told_of_events, IsCopy, world_of, told_behind, step_in, runs_in, Goes}
 use Rattle.ring_world.specs.Spares.{Spares, AllLeft, Holds, after_answers}
@@ -37,7 +37,7 @@ use Rattle.ring_world.specs.Keeping.{KeepsCopies, IsWorldKept, IsWorld}
 use Rattle.ring_world.proofs.Spared.{set-length, holds-more}
 use Rattle.ring_world.proofs.Events.{tells_answers, tells_refusal, tells_memory}
 use Rattle.ring_world.proofs.StoppedNode.{silent}
-use Rattle.ring_world.proofs.CommittedInRuns.{step-grows, step-goes}
+use Rattle.ring_world.proofs.AnsweredCopies.{step-goes}
 use Rattle.ring_world.proofs.NodePlaces.{Stands, high, known, node_is, copies_are, copies_set, copies_same, put_kept, same_nodes}
 
 -- Copies of events
@@ -152,11 +152,8 @@ module _ {O A : Type 0} {object : Sequential O} {p old : Played A} {nodes : List
 
       step_keeps : AllLeft s.calls (node_step object (w.nodes i) input).answers
           × Holds (after_answers s.calls (node_step object (w.nodes i) input).answers) (node_step object (w.nodes i) input).node.tickets
-          (node_committed (node_step object (w.nodes i) input).node)
-      step_keeps =
-          let was = subst (λ (r : Played A). happens object (world_of object r) e ≡ stepped object (world_of object r) i input) (sym here.was) same in
-          step-goes object (w.nodes i) input s.calls
-          (step-grows object p.group here.world.few p.events e i input here.low (high here) (known here) was) (copies_are here spare)
+          (node_step object (w.nodes i) input).node.done
+      step_keeps = step-goes object (w.nodes i) input s.calls (copies_are here spare)
 
       -- what a step answers has its copies
       pub answers_left : AllLeft s.calls answered
@@ -168,8 +165,8 @@ module _ {O A : Type 0} {object : Sequential O} {p old : Played A} {nodes : List
           → IsWorld object p.group es (slice_set nodes m after) (slice_set spares m s') fs is ts
       step_world d s' copy steps es_is s_is fs_is is_is ts_is =
           let st = node_step object (w.nodes i) input in
-          let keeps : KeepsCopies after s' = subst (λ cs. Holds cs after.tickets (node_committed after)) (sym (s_is ∙ ap (after_answers s.calls) gives.answers))
-          (subst (λ (x : Node A). Holds (after_answers s.calls st.answers) x.tickets (node_committed x)) (sym gives.node) step_keeps.1) in
+          let keeps : KeepsCopies after s' = subst (λ cs. Holds cs after.tickets after.done) (sym (s_is ∙ ap (after_answers s.calls) gives.answers))
+          (subst (λ (x : Node A). Holds (after_answers s.calls st.answers) x.tickets x.done) (sym gives.node) step_keeps.1) in
           tells e d here.world copy (steps_fits (world_of object old) e i steps) step_is refl
           (put_kept here after refl (ap (λ (x : Node A). put w.nodes i x) (sym gives.node))
           (ap (λ xs. xs ++ carried i st.sends) (sym kept.frames_are) ∙ sym (fs_is ∙ ap (λ xs. frames ++ carried i xs) gives.sends))
@@ -290,15 +287,13 @@ module _ {O A : Type 0} {object : Sequential O} {p old : Played A} {nodes : List
         → IsWorld object p.group es (slice_set nodes m after) (slice_set spares m s') frames is p.told
     issue_world {s} {after} s' fits free after_is spare a_is s_is b_is is_is es_is =
         let node = w.nodes i in
-        let t : Asked A = record { call = c; since = length (node_committed node) } in
+        let t : Asked A = record { call = c; since = length node.done } in
         let now : after ≡ submitted node c = after_is ∙ ap (λ (x : Node A). submitted x c) (node_is here found) in
         let calls : s'.calls ≡ s.calls ++ Some c ∷ [] = s_is ∙ ap (λ x. s.calls ++ Some x ∷ []) a_is in
-        let more : Holds (s.calls ++ Some c ∷ []) (submitted node c).tickets (node_committed node) =
-        holds-more s.calls node.tickets (node_committed node) t (copies_are here spare) in
-        let holds : Holds (s.calls ++ Some c ∷ []) (submitted node c).tickets (node_committed (submitted node c)) =
-        subst (Holds (s.calls ++ Some c ∷ []) (submitted node c).tickets) (sym (submitted-committed node c)) more in
-        let keeps : KeepsCopies after s' = subst (λ cs. Holds cs after.tickets (node_committed after)) (sym calls)
-        (subst (λ (x : Node A). Holds (s.calls ++ Some c ∷ []) x.tickets (node_committed x)) (sym now) holds) in
+        let holds : Holds (s.calls ++ Some c ∷ []) (submitted node c).tickets node.done =
+        holds-more s.calls node.tickets node.done t (copies_are here spare) in
+        let keeps : KeepsCopies after s' = subst (λ cs. Holds cs after.tickets after.done) (sym calls)
+        (subst (λ (x : Node A). Holds (s.calls ++ Some c ∷ []) x.tickets x.done) (sym now) holds) in
         tells (Issue i c) d here.world copy (subst EventFits event fits) (issue_is None free) refl
         (put_kept here after refl (ap (λ (x : Node A). put w.nodes i x) (sym now)) (sym kept.frames_are)
         (ap (λ xs. xs ++ IssuedItem c ∷ []) (sym kept.history_is) ∙ sym (is_is ∙ ap (λ x. history ++ IssuedItem x ∷ []) b_is))

@@ -4,7 +4,7 @@ use Rattle.std.specs.List.{AllByRecursion}
 use Rattle.ring_base.specs.Group.{Group}
 use Rattle.ring_object.specs.Operations.{Sequential}
 use Rattle.ring_core.specs.State.{Carried}
-use Rattle.ring_rules.specs.Nodes.{Node, node_committed}
+use Rattle.ring_rules.specs.Nodes.{Node}
 use Rattle.ring_rules.specs.declared.event.Event.{Event}
 use Rattle.ring_rules.specs.declared.item.Item.{Item}
 use Rattle.ring_rules.specs.declared.told.Told.{Told}
@@ -15,7 +15,7 @@ use Rattle.ring_world.specs.Spares.{Spares, Holds}
 
 -- a node's second copies
 abbrev pub KeepsCopies : {A : Type 0} → Node A → Spares A → Type 0
-KeepsCopies n s = Holds s.calls n.tickets (node_committed n)
+KeepsCopies n s = Holds s.calls n.tickets n.done
 
 -- nodes, their copies, frames and history are those of the world, and so is what was told of its events
 pub record IsWorldKept {A : Type 0} (w : World A) (nodes : List (Node A)) (spares : List (Spares A))

@@ -14,10 +14,10 @@ pub record Spares (A : Type 0) : Type 0 where
 abbrev pub IsLeft : {A : Type 0} → List (Option (Call A)) → ℕ → Call A → Type 0
 IsLeft calls ticket c = slice_get calls ticket ≡ Some (Some c)
 
--- each ticket that these committed places don't answer has its copy
-pub record Holds {A : Type 0} (calls : List (Option (Call A))) (tickets : List (Asked A)) (committed : List (Call A)) : Type 0 where
+-- each ticket that these calls, once done, don't answer has its copy
+pub record Holds {A : Type 0} (calls : List (Option (Call A))) (tickets : List (Asked A)) (done : List (Call A)) : Type 0 where
   pub many : length calls ≡ length tickets
-  pub each : (k : ℕ) (t : Asked A) → slice_get tickets k ≡ Some t → place_of committed t ≡ None → IsLeft calls k t.call
+  pub each : (k : ℕ) (t : Asked A) → slice_get tickets k ≡ Some t → place_of done t ≡ None → IsLeft calls k t.call
 
 -- Answers, one after the other
 

@@ -18,3 +18,7 @@ returns-clause-told c = refl
 pub returns-clause-ordered : goal.returns-clause-ordered
 unfolding ring_step elements
 returns-clause-ordered c = refl
+
+pub returns-clause-answers : goal.returns-clause-answers
+unfolding ring_step elements
+returns-clause-answers c = refl

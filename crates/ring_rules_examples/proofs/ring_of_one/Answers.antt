@@ -26,3 +26,11 @@ returns-clause-waiting c = refl
 pub returns-clause-reply : goal.returns-clause-reply
 unfolding ring_step elements
 returns-clause-reply c = refl
+
+pub returns-clause-undone : goal.returns-clause-undone
+unfolding ring_step elements
+returns-clause-undone c = refl
+
+pub returns-clause-done : goal.returns-clause-done
+unfolding ring_step elements
+returns-clause-done c = refl

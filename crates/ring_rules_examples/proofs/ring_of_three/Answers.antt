@@ -14,3 +14,11 @@ returns-clause-told c = refl
 pub returns-clause-ordered : goal.returns-clause-ordered
 unfolding ring_step elements
 returns-clause-ordered c = refl
+
+pub returns-clause-done : goal.returns-clause-done
+unfolding ring_step elements
+returns-clause-done c = refl
+
+pub returns-clause-answers : goal.returns-clause-answers
+unfolding ring_step elements
+returns-clause-answers c = refl

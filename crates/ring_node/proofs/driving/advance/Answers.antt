@@ -4,7 +4,7 @@ use Rattle.std.specs.Prelude.{IfOk, OnOk}
 use Rattle.ring_core.specs.State.{Core}
 use Rattle.ring_rules.specs.Nodes.{is_stopped}
 use Rattle.ring_replica.specs.Courses.{rises}
-use Rattle.ring_replica.specs.Replicas.{ReplicaStepped, replica_done}
+use Rattle.ring_replica.specs.Replicas.{ReplicaStepped, replica_ended}
 use Rattle.ring_replica.proofs.StayMarks.{rises_step, going_step}
 use Rattle.ring_node.proofs.NodeSteps.{followed-as, followed-core}
 use Rattle.ring_node.proofs.driving.advance.Goals as goal
@@ -43,6 +43,6 @@ returns-clause-core g c =
 
 pub returns-clause-replica : goal.returns-clause-replica
 returns-clause-replica g c =
-    subst (λ (s : ReplicaStepped _). OnOk c.follow.result (c.follow.new.replica ≡ replica_done s.replica))
+    subst (λ (s : ReplicaStepped _). OnOk c.follow.result (c.follow.new.replica ≡ replica_ended s))
     (followed-as g.O.Object.sequential c.args.core.now c.step.new.self c.args.replica.now c.args.input c.in_ok-outs.outs.items
     c.in_ok-outs.ensures.ok c.in_ok-outs.ensures.outs) c.follow.ensures.replica

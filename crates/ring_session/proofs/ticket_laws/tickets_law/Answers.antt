@@ -6,16 +6,16 @@ pub returns-clause-opening : goal.returns-clause-opening
 returns-clause-opening g c = record { given = refl; early = tt; pending = refl; kept = refl }
 
 pub returns-clause-given : goal.returns-clause-given
-returns-clause-given g c = are-given g.O.Object.sequential
+returns-clause-given g c = are-given
 
 pub returns-clause-answers : goal.returns-clause-answers
 returns-clause-answers g c = are-answers g.O.Object.sequential
 
 pub returns-clause-kept : goal.returns-clause-kept
-returns-clause-kept g c = are-kept g.O.Object.sequential
+returns-clause-kept g c = are-kept
 
 pub returns-clause-full : goal.returns-clause-full
-returns-clause-full g c = are-full g.O.Object.sequential
+returns-clause-full g c = are-full
 
 pub returns-clause-reply : goal.returns-clause-reply
-returns-clause-reply g c = are-replies g.O.Object.sequential
+returns-clause-reply g c = are-replies

@@ -7,15 +7,15 @@ use Rattle.ring_core.specs.Stepping.{ring_step}
 use Rattle.ring_core.specs.declared.input.Input.TheVariants.{Frame as FrameInput}
 use Rattle.ring_srp.proofs.stepping.step_copy.Goals as goal
 
-pub step_by_act-requires : goal.step_by_act-requires
-step_by_act-requires g c = subst (λ (f : Frame g.row.A.Denot). FrameFits f) (sym c.in_ok-copy.ensures.ok) c.requires
+pub step-requires : goal.step-requires
+step-requires g c = subst (λ (f : Frame g.row.A.Denot). FrameFits f) (sym c.in_ok-copy.ensures.ok) c.requires
 
 pub returns-clause-outs : goal.returns-clause-outs
 returns-clause-outs g c =
-    subst (λ (f : Frame g.row.A.Denot). IfOk c.step_by_act.result (λ outs. outs.items ≡ (ring_step c.args.machine.now (FrameInput f)).outs))
-    c.in_ok-copy.ensures.ok c.step_by_act.ensures.outs
+    subst (λ (f : Frame g.row.A.Denot). IfOk c.step.result (λ outs. outs.items ≡ (ring_step c.args.machine.now (FrameInput f)).outs))
+    c.in_ok-copy.ensures.ok c.step.ensures.outs
 
 pub returns-clause-core : goal.returns-clause-core
 returns-clause-core g c =
-    subst (λ (f : Frame g.row.A.Denot). OnOk c.step_by_act.result (c.step_by_act.new.machine ≡ (ring_step c.args.machine.now (FrameInput f)).core))
-    c.in_ok-copy.ensures.ok c.step_by_act.ensures.core
+    subst (λ (f : Frame g.row.A.Denot). OnOk c.step.result (c.step.new.machine ≡ (ring_step c.args.machine.now (FrameInput f)).core))
+    c.in_ok-copy.ensures.ok c.step.ensures.core

@@ -2,6 +2,7 @@
 use Rattle.std.proofs.Common.{◌≡◌, Some, ◌∷◌, [], ◌++◌, ap, ◌∙◌, sym, subst, rules}
 use Rattle.ring_commit.specs.Rounds.{receiver}
 use Rattle.ring_recover.specs.Recovering.{begun}
+use Rattle.ring_window.specs.Windows.{opened}
 use Rattle.ring_wire.specs.declared.commit.CommitToken.{CommitToken}
 use Rattle.ring_wire.specs.declared.frame.Frame.TheVariants.{Commit as CommitFrame}
 use Rattle.ring_core.specs.State.{Core, Sent}
@@ -33,6 +34,9 @@ recover-requires-clause-plan g c =
     let same : Some c.unwrap-plan.result ≡ Some (begun now.me (plan_at now c.args.boxed)) = sym c.unwrap-plan.ensures ∙ is in
     let came = c.seen-came.ensures ∙ c.token-2.ensures in
     cc
+
+pub recover-requires-clause-window : goal.recover-requires-clause-window
+recover-requires-clause-window g c = c.in_ok-window.ensures.ok ∙ ap (λ (x : Core g.row.A.Denot). opened {A = g.row.A.Denot} x.running.ring) c.self.view_is
 
 pub returns-clause-core : goal.returns-clause-core
 returns-clause-core g c =
