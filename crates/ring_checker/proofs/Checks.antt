@@ -1,34 +1,27 @@
 -- What the checker finds holds exactly of an order that explains the history.
-use Rattle.std.proofs.Common.{◌≡◌, ℕ, zero, suc, ◌+◌, ◌<◌, ◌≤◌, ◌==◌, ◌&&◌, ◌↔◌, Bool, true, false, List, [], ◌∷◌, ◌++◌}
+use Rattle.std.proofs.Common.{◌≡◌, ℕ, zero, suc, ◌+◌, ◌<◌, ◌≤◌, ◌↔◌, Bool, true, false, List, [], ◌∷◌, ◌++◌}
 use Rattle.std.proofs.Common.{length, take, Option, Some, None, slice_get, slice_index_or, IsTrue, refl, ap, sym, subst}
 use Rattle.std.proofs.Common.{◌∙◌, arith, add-one, length-append, inl, inr}
-use Rattle.std.specs.Str.{bytes_eq}
-use Rattle.std.proofs.lemmas.Bool.{eq-eqb, and_from}
+use Rattle.std.proofs.lemmas.List.Elements.{All-nil}
 use Rattle.std.proofs.lemmas.Option.{slice_get_within}
-use Rattle.std.proofs.lemmas.Slice.Eq.{bytes_eq-Decides}
 use Rattle.ring_base.specs.Fronts.{front_get, front_append}
 use Rattle.ring_base.proofs.ListPlaces.{get-last}
 use Rattle.ring_object.specs.Operations.{Sequential, content_after}
 use Rattle.ring_payload.specs.declared.call.Call.{Call}
 use Rattle.ring_session.specs.Deduplicated.{StandsAt, IsNumbered, operations}
 use Rattle.ring_session.specs.DeduplicatedLaws.{numbered_once}
-use Rattle.ring_session.specs.SessionAnswer.{is_same, call_reply}
+use Rattle.ring_session.specs.SessionAnswer.{call_reply}
 use Rattle.ring_session.specs.SessionAnswerLaws.{is_same-true}
 use Rattle.ring_checker.specs.declared.check.Place.{Place}
 use Rattle.ring_rules.specs.declared.item.Item.{Item}
 use Rattle.ring_rules.specs.declared.item.Item.TheVariants.{Issue, Reply}
-use Rattle.ring_checker.specs.Checks.{is_issue_of, first_issue, place_in, IsIssuedBefore, AreIssuedBefore, ArePlaces, IsRightAt, IsRightItem, AreRight}
+use Rattle.ring_checker.specs.Checks.{is_issue_of, first_issue, place_in, IsIssuedBefore, AreIssuedBefore, ArePlaces, IsRightAt, IsRightIn, AreRight}
+use Rattle.ring_checker.proofs.Places.{is_same-self, place_in-stands, place_in-numbered}
 use Rattle.ring_rules.specs.Histories.{IsIssuedAt, IsRepliedAt, IsLinearization}
 use Rattle.ring_rules.proofs.Linear.{below_or_not, all-at}
 use Rattle.ring_rules.proofs.FirstPassing.{has-place, all-from_places, take-within, take-get, get-take, position-found, position-least, option-some, some-option}
 
 -- ---- one call
-
-is_same-self : {A : Type 0} (c : Call A) → is_same c c ≡ true
-is_same-self c =
-    and_from ((c.client == c.client) && (c.number == c.number)) (bytes_eq c.op c.op)
-    (and_from (c.client == c.client) (c.number == c.number) (eq-eqb c.client c.client refl) (eq-eqb c.number c.number refl))
-    ((bytes_eq-Decides c.op c.op).1 refl)
 
 is_issue_of-true : {A : Type 0} (c : Call A) (item : Item A) → is_issue_of c item ≡ true → item ≡ Issue c
 is_issue_of-true c (Issue d) is = ap Issue (is_same-true c d is)
@@ -44,36 +37,18 @@ first_issue-issued history c j is =
 first_issue-least : {A : Type 0} (history : List (Item A)) (c : Call A) (k : ℕ) → IsIssuedAt history c k → (j : ℕ) × (first_issue history c ≡ Some j) × (j ≤ k)
 first_issue-least history c k issued = position-least (is_issue_of c) history k (Issue c) issued (is_same-self c)
 
--- the call stands where it is found in the order
-place_in-stands : {A : Type 0} (order : List (Call A)) (c : Call A) (p : ℕ) → place_in order c ≡ Some p → StandsAt order p c
-place_in-stands order c p is =
-    let found = position-found (is_same c) order p is in
-    found.1 ∙ ap Some (is_same-true c found.0 found.2)
-
--- in a numbered order it is found where it stands
-place_in-numbered : {A : Type 0} (order : List (Call A)) (c : Call A) (p : ℕ) → IsNumbered order → StandsAt order p c → place_in order c ≡ Some p
-place_in-numbered order c p numbered stands =
-    let least = position-least (is_same c) order p c stands (is_same-self c) in
-    let same : least.0 ≡ p = numbered_once order numbered least.0 p c c (place_in-stands order c least.0 least.1) stands refl refl in
-    least.1 ∙ ap Some same
-
 -- ---- the replies of one place
 
-pub right_at-replied : (places : List Place) (at k : ℕ) (r : List ℕ) (place : Place) (issued : Bool) → slice_get places at ≡ Some place → place.reply ≡ r
-    → (IsTrue issued ↔ AreIssuedBefore (take (at + 1) places) k) → IsTrue issued ↔ IsRightAt places at k r
-right_at-replied places at k r place issued is same before = (λ so. (place, is, same, before.0 so), λ right. before.1 right.3)
-
-pub right_at-other : (places : List Place) (at k : ℕ) (r : List ℕ) (place : Place) (same : Bool)
-    → slice_get places at ≡ Some place → same ≡ false → (place.reply ≡ r → ⊥)
-    → IsTrue same ↔ IsRightAt places at k r
-right_at-other places at k r place same is not_same other = (
-  λ so. absurd (cc (so, not_same)),
+pub right_at-found : (issued : List Place) (at : ℕ) (r : List ℕ) (place : Place) (same : Bool) → slice_get issued at ≡ Some place
+    → (same ≡ true → place.reply ≡ r) → (place.reply ≡ r → same ≡ true) → IsTrue same ↔ IsRightAt issued at r
+right_at-found issued at r place same is told back = (
+  λ so. (place, is, told so),
   λ right. let found : Some place ≡ Some right.0 = sym is
-      ∙ right.1 in let one : place ≡ right.0 = cc found in absurd (other (ap (λ (w : Place). w.reply) one ∙ right.2)),
+      ∙ right.1 in let one : place ≡ right.0 = cc found in back (ap (λ (w : Place). w.reply) one ∙ right.2),
 )
 
-pub right_at-none : (places : List Place) (at k : ℕ) (r : List ℕ) → slice_get places at ≡ None → IsTrue false ↔ IsRightAt places at k r
-right_at-none places at k r is = (λ so. absurd (cc so), λ right. absurd (cc (is, right.1)))
+pub right_at-none : (issued : List Place) (at : ℕ) (r : List ℕ) → slice_get issued at ≡ None → IsTrue false ↔ IsRightAt issued at r
+right_at-none issued at r is = (λ so. absurd (cc so), λ right. absurd (cc (is, right.1)))
 
 -- ---- the object's run over the order
 
@@ -152,12 +127,31 @@ module _ {O A : Type 0} (object : Sequential O) where
       let found = option-some (first_issue history c) (λ j. j < k) here in
       (found.0, first_issue-issued history c found.0 found.1, found.2)
 
-  -- the place of a right reply
-  right-place : (order : List (Call A)) (places : List Place) (k : ℕ) (c : Call A) (r : List ℕ) → IsRightItem order places k (Reply c r)
-      → (p : ℕ) × StandsAt order p c × IsRightAt places p k r
+  -- the place of a right reply, and that the calls up to it were issued before
+  record IsRight (order : List (Call A)) (places : List Place) (k : ℕ) (c : Call A) (r : List ℕ) : Type 0 where
+    at : ℕ
+    stands : StandsAt order at c
+    place : Place
+    there : slice_get places at ≡ Some place
+    reply : place.reply ≡ r
+    front : ℕ
+    issued : AreIssuedBefore (take front places) k
+    within : at < front
+
+  right-place : (order : List (Call A)) (places : List Place) (k : ℕ) (c : Call A) (r : List ℕ) → IsRightIn order places k (Reply c r)
+      → IsRight order places k c r
   right-place order places k c r right =
-      let found = option-some (place_in order c) (λ at. IsRightAt places at k r) right in
-      (found.0, place_in-stands order c found.0 found.1, found.2)
+      let found = option-some (place_in order c) (λ at. IsRightAt (take right.0 places) at r) right.2 in
+      record {
+        at = found.0;
+        stands = place_in-stands order c found.0 found.1;
+        place = found.2.0;
+        there = take-get right.0 places found.0 found.2.0 found.2.1;
+        reply = found.2.2;
+        front = right.0;
+        issued = right.1;
+        within = take-within right.0 places found.0 found.2.0 found.2.1;
+      }
 
   -- what passes the checks explains the history
   pub checked-linear : (order : List (Call A)) (history : List (Item A)) (places : List Place) → IsNumbered order
@@ -172,19 +166,19 @@ module _ {O A : Type 0} (object : Sequential O) where
         (found.0, first_issue-issued history c found.0 found.1);
     replied = λ k c r at.
         let there = right-place order places k c r (right k (Reply c r) at) in
-        let found : Some there.2.0 ≡ Some (record {
+        let found : Some there.place ≡ Some (record {
           issued = first_issue history c;
-          reply = call_reply object order there.0;
-        }) = sym there.2.1
-        ∙ place-at order history places there.0 c are there.1 in
-        let place : there.2.0 ≡ record { issued = first_issue history c; reply = call_reply object order there.0 } = cc found in
-        (there.0, there.1, sym (ap (λ (w : Place). w.reply) place) ∙ there.2.2);
+          reply = call_reply object order there.at;
+        }) = sym there.there
+        ∙ place-at order history places there.at c are there.stands in
+        let place : there.place ≡ record { issued = first_issue history c; reply = call_reply object order there.at } = cc found in
+        (there.at, there.stands, sym (ap (λ (w : Place). w.reply) place) ∙ there.reply);
     ordered = λ k a b r q at late stands.
         let there = right-place order places k a r (right k (Reply a r) at) in
-        elim (below_or_not there.0 q) as (λ _. (p : ℕ) × StandsAt order p a × (p < q)) [
-          | inl before ↦ (there.0, there.1, before)
+        elim (below_or_not there.at q) as (λ _. (p : ℕ) × StandsAt order p a × (p < q)) [
+          | inl before ↦ (there.at, there.stands, before)
           | inr past ↦
-              let early = issued-at order history places (there.0 + 1) k q b are stands (omega (arith, past)) there.2.3 in
+              let early = issued-at order history places there.front k q b are stands (omega (arith, past, there.within)) there.issued in
               absurd (omega (arith, early.2, late early.0 early.1))
         ];
   }
@@ -232,7 +226,7 @@ module _ {O A : Type 0} (object : Sequential O) where
   -- its replies are right
   pub linear-right_items : (order : List (Call A)) (history : List (Item A)) (places : List Place) → ArePlaces object order history (length order) places
       → IsLinearization object order history → AreRight order places history
-  linear-right_items order history places are linear k (Issue c) at = tt
+  linear-right_items order history places are linear k (Issue c) at = (0, All-nil (λ (w : Place). IsIssuedBefore w k), tt)
   linear-right_items order history places are linear k (Reply c r) at =
       let replied = linear.replied k c r at in
       let p = replied.0 in
@@ -246,9 +240,12 @@ module _ {O A : Type 0} (object : Sequential O) where
       let is : record { issued = first_issue history stands.0; reply = call_reply object order q } ≡ other = cc found in
       let early = linear-early order history k p q c stands.0 r linear at replied.1 stands.1 (omega (arith, upto)) in
       subst (λ (w : Place). IsIssuedBefore w k) is (some-option (first_issue history stands.0) (λ j. j < k) early.0 early.1 early.2)) in
-      some-option (place_in order c) (λ at. IsRightAt places at k r) p
-      (place_in-numbered order c p linear.numbered replied.1)
-      (place, place-at order history places p c are replied.1, replied.2, before)
+      let there = get-take (p + 1) places p place (omega arith) (place-at order history places p c are replied.1) in (
+        p + 1,
+        before,
+        some-option (place_in order c) (λ at. IsRightAt (take (p + 1) places) at r) p
+            (place_in-numbered order c p linear.numbered replied.1) (place, there, replied.2),
+      )
 
   -- where the calls were issued, the last check decides
   pub explains-issued : (order : List (Call A)) (history : List (Item A)) (places : List Place) (issued right : Bool)

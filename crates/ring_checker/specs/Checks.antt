@@ -1,6 +1,9 @@
 -- What the checker looks at, and what it finds.
 -- Sessions, of docs/PROTOCOL.md.
-use Rattle.std.specs.Prelude.{◌≡◌, ℕ, ◌+◌, ◌<◌, Bool, false, List, length, take, All, Option, Some, MatchOption, position, slice_get}
+use Rattle.std.specs.Prelude.{◌≡◌, ℕ, ◌<◌, ◌≤◌, Bool, false, List, length, take, All, Option, Some, MatchOption, position, slice_get}
+use Rattle.std.specs.BTreeMap.{BTreeMap, get}
+use Rattle.std.specs.Ordering.{nat_cmp, ordering_then}
+use Rattle.std.specs.declared.cmp.Ordering.{Ordering}
 use Rattle.ring_object.specs.Operations.{Sequential}
 use Rattle.ring_payload.specs.declared.call.Call.{Call}
 use Rattle.ring_session.specs.Deduplicated.{StandsAt}
@@ -22,6 +25,16 @@ first_issue history c = position (is_issue_of c) history
 abbrev pub place_in : {A : Type 0} → List (Call A) → Call A → Option ℕ
 place_in order c = position (is_same c) order
 
+-- by client, and then by number
+abbrev pub name_cmp : ℕ × ℕ → ℕ × ℕ → Ordering
+name_cmp a b = ordering_then (nat_cmp a.0 b.0) (nat_cmp a.1 b.1)
+
+-- the index has exactly the first n places of the order, each under its call's client and number
+pub record IsIndexOf {A : Type 0} (order : List (Call A)) (n : ℕ) (index : BTreeMap (ℕ × ℕ) ℕ) : Type 0 where
+  pub found : (name : ℕ × ℕ) (p : ℕ) → get name_cmp index name ≡ Some p
+      → (c : Call A) × (p < n) × StandsAt order p c × (c.client ≡ name.0) × (c.number ≡ name.1)
+  pub finds : (p : ℕ) (c : Call A) → p < n → StandsAt order p c → get name_cmp index (c.client, c.number) ≡ Some p
+
 -- the call of this place was issued before place k of the history
 abbrev pub IsIssuedBefore : Place → ℕ → Type 0
 IsIssuedBefore place k = MatchOption place.issued ⊥ (λ at. at < k)
@@ -30,6 +43,12 @@ IsIssuedBefore place k = MatchOption place.issued ⊥ (λ at. at < k)
 abbrev pub AreIssuedBefore : List Place → ℕ → Type 0
 AreIssuedBefore places k = All (λ (place : Place). IsIssuedBefore place k) places
 
+-- the calls of the first m places were, and that of the place behind them was not
+pub record IsIssuedFront (places : List Place) (k m : ℕ) : Type 0 where
+  pub within : m ≤ length places
+  pub before : AreIssuedBefore (take m places) k
+  pub ends : (place : Place) → slice_get places m ≡ Some place → IsIssuedBefore place k → ⊥
+
 module _ {O : Type 0} (object : Sequential O) where
   -- Each place of the order, up to the nth, has where its call was first issued and the object's reply there.
   pub record ArePlaces {A : Type 0} (order : List (Call A)) (history : List (Item A)) (n : ℕ) (places : List Place) : Type 0 where
@@ -37,20 +56,23 @@ module _ {O : Type 0} (object : Sequential O) where
     pub each : (q : ℕ) (c : Call A) → q < n → StandsAt order q c → slice_get places q ≡ Some
         (record { issued = first_issue history c; reply = call_reply object order q })
 
--- the reply at place k of the history is the object's at this place of the order, and each call up to there was issued
--- before
-abbrev pub IsRightAt : List Place → ℕ → ℕ → List ℕ → Type 0
-IsRightAt places at k r = (place : Place) × (slice_get places at ≡ Some place) × (place.reply ≡ r) × AreIssuedBefore (take (at + 1) places) k
+-- this is one of the first places, and the object's reply there
+abbrev pub IsRightAt : List Place → ℕ → List ℕ → Type 0
+IsRightAt issued at r = (place : Place) × (slice_get issued at ≡ Some place) × (place.reply ≡ r)
 
--- the reply at place k of the history is right: that holds at its call's place
-abbrev pub IsRightReply : {A : Type 0} → List (Call A) → List Place → ℕ → Call A → List ℕ → Type 0
-IsRightReply order places k c r = MatchOption (place_in order c) ⊥ (λ at. IsRightAt places at k r)
+-- the reply is right: that holds at its call's place
+abbrev pub IsRightReply : {A : Type 0} → List (Call A) → List Place → Call A → List ℕ → Type 0
+IsRightReply order issued c r = MatchOption (place_in order c) ⊥ (λ at. IsRightAt issued at r)
 
--- the item at place k of the history is right; that a call was issued always is
-abbrev pub IsRightItem : {A : Type 0} → List (Call A) → List Place → ℕ → Item A → Type 0
-IsRightItem order places k (Issue c) = Unit {0}
-IsRightItem order places k (Reply c r) = IsRightReply order places k c r
+-- the item is right where the calls of these first places were issued before it; that a call was issued always is
+abbrev pub IsRightItem : {A : Type 0} → List (Call A) → List Place → Item A → Type 0
+IsRightItem order issued (Issue c) = Unit {0}
+IsRightItem order issued (Reply c r) = IsRightReply order issued c r
+
+-- the item at place k of the history is right by places whose calls were issued before
+abbrev pub IsRightIn : {A : Type 0} → List (Call A) → List Place → ℕ → Item A → Type 0
+IsRightIn order places k item = (m : ℕ) × AreIssuedBefore (take m places) k × IsRightItem order (take m places) item
 
 -- each item of the history is right
 abbrev pub AreRight : {A : Type 0} → List (Call A) → List Place → List (Item A) → Type 0
-AreRight {A} order places history = (k : ℕ) (item : Item A) → slice_get history k ≡ Some item → IsRightItem order places k item
+AreRight {A} order places history = (k : ℕ) (item : Item A) → slice_get history k ≡ Some item → IsRightIn order places k item

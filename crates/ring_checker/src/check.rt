@@ -1,13 +1,14 @@
 //! The checker: it tells of an order and a history, however they came about, whether the one explains the other.
 
-ghost use Rattle.std.specs.Prelude.{◌≡◌, ℕ, ◌+◌, ◌↔◌, IsTrue, IfOk, IfErr, length};
+ghost use Rattle.std.specs.Prelude.{◌≡◌, ℕ, ◌+◌, ◌≤◌, ◌↔◌, IsTrue, IfOk, IfErr, List, [], ◌∷◌, ◌++◌, length, take};
 ghost use Rattle.ring_base.specs.declared.fault.Fault.TheVariants.{Memory};
-ghost use Rattle.ring_session.specs.Deduplicated.{count_of, IsNumbered};
-ghost use Rattle.ring_session.specs.SessionAnswer.{is_same};
-ghost use Rattle.ring_checker.specs.Checks.{is_issue_of, first_issue, place_in, ArePlaces, IsIssuedBefore};
-ghost use Rattle.ring_checker.specs.Checks.{AreIssuedBefore, IsRightAt, IsRightReply, IsRightItem, AreRight};
+ghost use Rattle.ring_rules.specs.declared.item.Item.{Item as OneItem};
+ghost use Rattle.ring_rules.specs.declared.item.Item.TheVariants.{Issue};
+ghost use Rattle.ring_checker.specs.Checks.{IsIndexOf, ArePlaces, IsIssuedBefore, AreIssuedBefore, IsIssuedFront};
+ghost use Rattle.ring_checker.specs.Checks.{IsRightAt, IsRightReply, IsRightItem, AreRight};
 ghost use Rattle.ring_rules.specs.Histories.{IsLinearization};
 
+use crate::index::{Index, index_of, is_numbered, place_in};
 use ring_base::Fault;
 use ring_object::{Object, Reply};
 use ring_payload::Call;
@@ -25,7 +26,8 @@ struct Place {
 
 /// Whether the order explains the history: each client's calls are numbered 1, 2, .. in it, each of its calls was
 /// issued, each reply is the object's at its call's place, and a call that was replied before another was issued
-/// stands before it. `Memory` is the only refusal. The time grows with the order's length times that of both lists.
+/// stands before it. `Memory` is the only refusal. Beside what the object takes, the time is that of a look-up among
+/// the order's calls for each call of the order and each item of the history: n log n in their number.
 pub fn is_linearization<O: Object>(
     alloc: O::Alloc,
     order: &[Call<O::Alloc>],
@@ -34,113 +36,178 @@ pub fn is_linearization<O: Object>(
     ensures ok { IfOk result (λ explains. IsTrue explains ↔ IsLinearization O.sequential order.now history.now) }
     ensures refused { IfErr result (λ fault. fault ≡ Memory) }
 {
-    if !is_numbered(order) {
+    let numbered = is_numbered(alloc, order)?;
+    if !numbered {
         return Ok(false);
     }
-    let places = places_of::<O>(alloc, order, history)?;
-    let explains = are_issued_before(&places, history.len()) && are_right(order, &places, history);
+    let index = index_of(alloc, order)?;
+    let mut places = unissued_places::<O>(alloc, order)?;
+    note_issues::<O>(order, &index, history, places.as_mut_slice());
+    let explains = are_issued_before(&places, history.len())
+        && are_right(order, &index, &places, history);
     Ok(explains)
 }
 
-/// Whether each client's calls are numbered 1, 2, ..
-fn is_numbered<A: Allocator + Copy>(order: &[Call<A>]) -> bool
-    ensures { IsTrue result ↔ IsNumbered order.now }
-{
-    for (place, call) in order.iter().enumerate() {
-        if !is_next(&order[..place], call) {
-            return false;
-        }
-    }
-    true
-}
+// ---- places
 
-/// Whether the call has its client's next number after these calls.
-fn is_next<A: Allocator + Copy>(before: &[Call<A>], call: &Call<A>) -> bool
-    ensures { IsTrue result ↔ (call.now.number ≡ count_of call.now.client before.now + 1) }
-{
-    call.number > 0 && call.number - 1 == count_of(before, call.client)
-}
-
-/// How many of the calls are the client's.
-fn count_of<A: Allocator + Copy>(calls: &[Call<A>], client: u32) -> u64
-    ensures { result ≡ count_of client calls.now }
-{
-    calls.iter().filter(|call| call.client == client).count() as u64
-}
-
-/// Does the order's calls on the object, from its start, and finds where they were issued.
-fn places_of<O: Object>(
+/// Does the order's calls on the object, from its start. No call was issued yet.
+fn unissued_places<O: Object>(
     alloc: O::Alloc,
     order: &[Call<O::Alloc>],
-    history: &[Item<O::Alloc>],
 ) -> Result<Vec<Place, O::Alloc>, Fault>
-    ensures ok { IfOk result (λ places.
-        ArePlaces O.sequential order.now history.now (length order.now) places.items) }
+    ensures ok { IfOk result (λ places. ArePlaces O.sequential order.now [] (length order.now) places.items) }
     ensures refused { IfErr result (λ fault. fault ≡ Memory) }
 {
     let mut object = O::start(alloc)?;
     let mut places = Vec::with_capacity(alloc, order.len())?;
     for call in order {
         let reply = object.apply(call.op.as_slice())?;
-        let issued = first_issue(history, call);
-        places.push(Place { issued, reply })?;
+        places.push(Place {
+            issued: None,
+            reply,
+        })?;
     }
     Ok(places)
 }
 
-/// Whether each reply of the history is right.
-fn are_right<A: Allocator + Copy>(order: &[Call<A>], places: &[Place], history: &[Item<A>]) -> bool
-    ensures { IsTrue result ↔ AreRight order.now places.now history.now }
+/// Notes at the places where their calls were first issued.
+fn note_issues<O: Object>(
+    order: &[Call<O::Alloc>],
+    index: &Index<O::Alloc>,
+    history: &[Item<O::Alloc>],
+    places: &mut [Place],
+)
+    requires index { IsIndexOf order.now (length order.now) index.now }
+    requires unissued { ArePlaces O.sequential order.now [] (length order.now) places.old }
+    ensures { ArePlaces O.sequential order.now history.now (length order.now) places.new }
 {
     for (k, item) in history.iter().enumerate() {
-        if !is_right(order, places, k, item) {
+        note_issue::<O>(order, index, k, item, places);
+    }
+}
+
+/// Notes the item at place `k` of a history, where it is that a call was first issued.
+fn note_issue<O: Object>(
+    order: &[Call<O::Alloc>],
+    index: &Index<O::Alloc>,
+    k: usize,
+    item: &Item<O::Alloc>,
+    places: &mut [Place],
+)
+    requires index { IsIndexOf order.now (length order.now) index.now }
+    requires many { length places.old ≡ length order.now }
+    ensures { (past : List (OneItem O.Alloc)) → length past ≡ k
+        → ArePlaces O.sequential order.now past (length order.now) places.old
+        → ArePlaces O.sequential order.now (past ++ item.now ∷ []) (length order.now) places.new }
+{
+    match item {
+        Item::Issue(call) => note_call::<O>(order, index, k, call, places),
+        Item::Reply(_, _) => {}
+    }
+}
+
+/// Notes at the call's place that it was issued at place `k` of a history, where it wasn't before.
+fn note_call<O: Object>(
+    order: &[Call<O::Alloc>],
+    index: &Index<O::Alloc>,
+    k: usize,
+    call: &Call<O::Alloc>,
+    places: &mut [Place],
+)
+    requires index { IsIndexOf order.now (length order.now) index.now }
+    requires many { length places.old ≡ length order.now }
+    ensures { (past : List (OneItem O.Alloc)) → length past ≡ k
+        → ArePlaces O.sequential order.now past (length order.now) places.old
+        → ArePlaces O.sequential order.now (past ++ Issue call.now ∷ []) (length order.now) places.new }
+{
+    let Some(at) = place_in(order, index, call) else {
+        return;
+    };
+    let Place { issued, reply } = places[at];
+    if issued.is_some() {
+        return;
+    }
+    places[at] = Place {
+        issued: Some(k),
+        reply,
+    };
+}
+
+// ---- replies
+
+/// Whether each reply of the history is right.
+fn are_right<A: Allocator + Copy>(
+    order: &[Call<A>],
+    index: &Index<A>,
+    places: &[Place],
+    history: &[Item<A>],
+) -> bool
+    requires { IsIndexOf order.now (length order.now) index.now }
+    ensures { IsTrue result ↔ AreRight order.now places.now history.now }
+{
+    let mut front = 0;
+    for (k, item) in history.iter().enumerate() {
+        front = front_before(places, front, k);
+        if !is_right(order, index, &places[..front], item) {
             return false;
         }
     }
     true
 }
 
-/// Whether the item at place `k` of the history is right.
+/// How many places from the front have calls that were issued before place `k` of the history, where those of the
+/// first `from` were.
+fn front_before(places: &[Place], from: usize, k: usize) -> usize
+    requires within { from ≤ length places.now }
+    requires issued { AreIssuedBefore (take from places.now) k }
+    ensures { IsIssuedFront places.now k result }
+{
+    let mut front = from;
+    while front < places.len() && is_issued_before(&places[front], k) {
+        front += 1;
+    }
+    front
+}
+
+/// Whether the item is right where the calls of these first places were issued before it, and no more.
 fn is_right<A: Allocator + Copy>(
     order: &[Call<A>],
-    places: &[Place],
-    k: usize,
+    index: &Index<A>,
+    issued: &[Place],
     item: &Item<A>,
 ) -> bool
-    ensures { IsTrue result ↔ IsRightItem order.now places.now k item.now }
+    requires { IsIndexOf order.now (length order.now) index.now }
+    ensures { IsTrue result ↔ IsRightItem order.now issued.now item.now }
 {
     match item {
         Item::Issue(_) => true,
-        Item::Reply(call, reply) => is_right_reply(order, places, k, call, reply),
+        Item::Reply(call, reply) => is_right_reply(order, index, issued, call, reply),
     }
 }
 
-/// Whether the reply at place `k` of the history is the object's at its call's place in the order, and each call up to
-/// there was issued before.
+/// Whether the reply is the object's at its call's place, and that is one of these first places.
 fn is_right_reply<A: Allocator + Copy>(
     order: &[Call<A>],
-    places: &[Place],
-    k: usize,
+    index: &Index<A>,
+    issued: &[Place],
     call: &Call<A>,
     reply: &Reply,
 ) -> bool
-    ensures { IsTrue result ↔ IsRightReply order.now places.now k call.now reply.now }
+    requires { IsIndexOf order.now (length order.now) index.now }
+    ensures { IsTrue result ↔ IsRightReply order.now issued.now call.now reply.now }
 {
-    match place_in(order, call) {
-        Some(at) => is_right_at(places, at, k, reply),
+    match place_in(order, index, call) {
+        Some(at) => is_right_at(issued, at, reply),
         None => false,
     }
 }
 
-/// Whether the reply at place `k` of the history is the object's at this place of the order, and each call up to there
-/// was issued before.
-fn is_right_at(places: &[Place], at: usize, k: usize, reply: &Reply) -> bool
-    ensures { IsTrue result ↔ IsRightAt places.now at k reply.now }
+/// Whether this is one of the first places, and the object's reply there.
+fn is_right_at(issued: &[Place], at: usize, reply: &Reply) -> bool
+    ensures { IsTrue result ↔ IsRightAt issued.now at reply.now }
 {
-    match places.get(at) {
-        Some(place) => {
-            place.reply.as_slice() == reply.as_slice() && are_issued_before(&places[..=at], k)
-        }
+    match issued.get(at) {
+        Some(place) => place.reply.as_slice() == reply.as_slice(),
         None => false,
     }
 }
@@ -157,37 +224,4 @@ fn is_issued_before(place: &Place, k: usize) -> bool
     ensures { IsTrue result ↔ IsIssuedBefore place.now k }
 {
     place.issued.is_some_and(|at| at < k)
-}
-
-/// Where the call first stands in the order, if it does.
-fn place_in<A: Allocator + Copy>(order: &[Call<A>], call: &Call<A>) -> Option<usize>
-    ensures { result ≡ place_in order.now call.now }
-{
-    order.iter().position(|other| is_same(call, other))
-}
-
-/// Where the call was first issued, if it was.
-fn first_issue<A: Allocator + Copy>(history: &[Item<A>], call: &Call<A>) -> Option<usize>
-    ensures { result ≡ first_issue history.now call.now }
-{
-    history.iter().position(|item| is_issue_of(call, item))
-}
-
-/// Whether the item is that the call was issued.
-fn is_issue_of<A: Allocator + Copy>(call: &Call<A>, item: &Item<A>) -> bool
-    ensures { result ≡ is_issue_of call.now item.now }
-{
-    match item {
-        Item::Issue(issued) => is_same(call, issued),
-        Item::Reply(_, _) => false,
-    }
-}
-
-/// Whether the two are one call: of one client and number, and with the same operation.
-fn is_same<A: Allocator + Copy>(call: &Call<A>, other: &Call<A>) -> bool
-    ensures { result ≡ is_same call.now other.now }
-{
-    other.client == call.client
-        && other.number == call.number
-        && other.op.as_slice() == call.op.as_slice()
 }

@@ -2,5 +2,6 @@
 #![tactic(auto)]
 
 mod check;
+mod index;
 
 pub use check::is_linearization;

@@ -1,6 +1,11 @@
-use Rattle.ring_checker.specs.Checks.{IsRightItem}
+use Rattle.std.proofs.Common.{◌≤◌, length, take}
+use Rattle.ring_checker.specs.Checks.{AreIssuedBefore, IsRightIn}
 use Rattle.ring_rules.proofs.FirstPassing.{EachUpTo}
 use Rattle.ring_checker.proofs.check.are_right.Given as goal
 
 abbrev pub invariant-loop-k : goal.invariant-loop-k
-invariant-loop-k g l = EachUpTo (λ k item. IsRightItem l.order l.places k item) l.history l.k
+invariant-loop-k g l = record {
+  right : EachUpTo (IsRightIn l.order l.places) l.history l.k;
+  within : l.front ≤ length l.places;
+  issued : AreIssuedBefore (take l.front l.places) l.k;
+}

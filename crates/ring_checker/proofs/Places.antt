@@ -1,0 +1,42 @@
+-- The place of one call in an order.
+use Rattle.std.proofs.Common.{◌≡◌, ℕ, ◌==◌, ◌&&◌, ◌⊎◌, true, List, refl, ap, ◌∙◌, Option, Some, None, inl, inr}
+use Rattle.std.specs.Str.{bytes_eq}
+use Rattle.std.proofs.lemmas.Bool.{eq-eqb, and_from}
+use Rattle.std.proofs.lemmas.Slice.Eq.{bytes_eq-Decides}
+use Rattle.ring_payload.specs.declared.call.Call.{Call}
+use Rattle.ring_session.specs.Deduplicated.{StandsAt, IsNumbered}
+use Rattle.ring_session.specs.DeduplicatedLaws.{numbered_once}
+use Rattle.ring_session.specs.SessionAnswer.{is_same}
+use Rattle.ring_session.specs.SessionAnswerLaws.{is_same-true}
+use Rattle.ring_checker.specs.Checks.{place_in}
+use Rattle.ring_rules.proofs.FirstPassing.{position-found, position-least}
+
+-- an option has a value or not
+pub none_or_some : {X : Type 0} (o : Option X) → (o ≡ None) ⊎ ((x : X) × (o ≡ Some x))
+none_or_some None = inl refl
+none_or_some (Some x) = inr (x, refl)
+
+pub is_same-self : {A : Type 0} (c : Call A) → is_same c c ≡ true
+is_same-self c =
+    and_from ((c.client == c.client) && (c.number == c.number)) (bytes_eq c.op c.op)
+    (and_from (c.client == c.client) (c.number == c.number) (eq-eqb c.client c.client refl) (eq-eqb c.number c.number refl))
+    ((bytes_eq-Decides c.op c.op).1 refl)
+
+-- the call stands where it is found in the order
+pub place_in-stands : {A : Type 0} (order : List (Call A)) (c : Call A) (p : ℕ) → place_in order c ≡ Some p → StandsAt order p c
+place_in-stands order c p is =
+    let found = position-found (is_same c) order p is in
+    found.1 ∙ ap Some (is_same-true c found.0 found.2)
+
+-- a call that stands in the order is found in it
+pub place_in-least : {A : Type 0} (order : List (Call A)) (c : Call A) (p : ℕ) → StandsAt order p c → (q : ℕ) × (place_in order c ≡ Some q)
+place_in-least order c p stands =
+    let least = position-least (is_same c) order p c stands (is_same-self c) in
+    (least.0, least.1)
+
+-- in a numbered order it is found where it stands
+pub place_in-numbered : {A : Type 0} (order : List (Call A)) (c : Call A) (p : ℕ) → IsNumbered order → StandsAt order p c → place_in order c ≡ Some p
+place_in-numbered order c p numbered stands =
+    let least = place_in-least order c p stands in
+    let same : least.0 ≡ p = numbered_once order numbered least.0 p c c (place_in-stands order c least.0 least.1) stands refl refl in
+    least.1 ∙ ap Some same
