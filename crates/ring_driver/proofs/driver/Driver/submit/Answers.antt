@@ -1,0 +1,35 @@
+-- The call keeps the limits as it was made, so the submit does.
+use Rattle.std.proofs.Common.{◌≡◌, subst, sym, ap, arith}
+use Rattle.ring_payload.specs.Calls.{CallFits}
+use Rattle.ring_driver.proofs.DriverLimits.{takes, taken_as, kept_as, not_taken}
+use Rattle.ring_driver.proofs.driver.Driver.submit.Goals as goal
+
+pub invariant_of-self : goal.invariant_of-self
+invariant_of-self g c =
+    let call : CallFits c.in_ok-call.call = rw c.in_ok-call.ensures.2 (record {
+      client = omega (arith, c.ranges.client.fits);
+      number = c.in_ok-call.ensures.1;
+      number_fits = omega (arith, c.ranges.number.fits);
+      op = c.in_ok-call.ensures.0;
+    }) in
+    let law = c.node_fits_law.ensures.submit c.self.inside.node c.in_ok-call.call in (
+      takes c.self.inside.node c.submit.new.self c.in_ok-call.call c.submit.result c.self.invariant.0 law call c.submit.ensures.ok c.submit.ensures.err,
+      c.self.invariant.1,
+    )
+
+pub returns-clause-ticket : goal.returns-clause-ticket
+returns-clause-ticket g c = rw (← c.self.view_is) c.submit.ensures.ticket
+
+pub returns-clause-ok : goal.returns-clause-ok
+returns-clause-ok g c =
+    rw (← c.self.view_is) (taken_as (record { node = c.self.inside.node; sends = c.self.inside.sends.items }) c.submit.new.self
+    c.in_ok-call.call c.args.client c.args.number c.args.operation.now c.submit.result c.in_ok-call.ensures.2 c.submit.ensures.ok)
+
+pub returns-clause-err : goal.returns-clause-err
+returns-clause-err g c =
+    rw (← c.self.view_is) (kept_as (record { node = c.self.inside.node; sends = c.self.inside.sends.items }) c.submit.new.self c.submit.result c.submit.ensures.err)
+
+pub returns-clause-refused : goal.returns-clause-refused
+returns-clause-refused g c =
+    rw (← c.self.view_is) (not_taken (record { node = c.self.inside.node; sends = c.self.inside.sends.items }) c.args.number c.args.operation.now
+    c.submit.result c.submit.ensures.refused)

@@ -1,0 +1,43 @@
+-- A node with what its last step sent, and what its calls make of it.
+use Rattle.std.specs.Prelude.{◌≡◌, ℕ, ◌<◌, ◌≤◌, ◌⊎◌, List, [], ◌∷◌, length, Option, Some, None, MatchOption}
+use Rattle.ring_base.specs.Group.{Group}
+use Rattle.ring_base.specs.declared.fault.Fault.{Fault}
+use Rattle.ring_base.specs.declared.fault.Fault.TheVariants.{Memory, OpTooLong, NumberGap}
+use Rattle.ring_object.specs.Operations.{Sequential}
+use Rattle.ring_core.specs.State.{Sent}
+use Rattle.ring_payload.specs.Calls.{call_of}
+use Rattle.ring_payload.specs.Limits.{most_operation}
+use Rattle.ring_wire.specs.declared.frame.Frame.{Frame}
+use Rattle.ring_rules.specs.Nodes.{Node, node_opening, node_stopped}
+use Rattle.ring_rules.specs.Stepping.{node_step, submitted, submit_fault}
+use Rattle.ring_rules.specs.declared.input.Input.{Input}
+
+pub record Driven (A : Type 0) : Type 0 where
+  pub node : Node A
+  -- what the last step sent and nobody took
+  pub sends : List (Sent A)
+
+abbrev pub opened : {A : Type 0} → Group → ℕ → Driven A
+opened group me = record { node = node_opening group me; sends = [] }
+
+-- after a step
+abbrev pub stepped : {A O : Type 0} → Sequential O → Driven A → Input A → Driven A
+stepped object d input = record { node = (node_step object d.node input).node; sends = (node_step object d.node input).sends }
+
+-- once a step was refused
+abbrev pub ended : {A : Type 0} → Driven A → Driven A
+ended d = record d { node = node_stopped d.node }
+
+-- after a client's call was submitted
+abbrev pub called : {A : Type 0} → Driven A → ℕ → ℕ → List ℕ → Driven A
+called d client number op = record d { node = submitted d.node (call_of client number op) }
+
+-- why a call is not submitted
+abbrev pub IsRefused : {A : Type 0} → Driven A → ℕ → List ℕ → Fault → Type 0
+IsRefused d number op fault =
+    (fault ≡ Memory) ⊎ ((fault ≡ OpTooLong) × (most_operation < length op)) ⊎ ((fault ≡ NumberGap) × (number ≡ 0)) ⊎ (submit_fault d.node ≡ Some fault)
+
+-- the first of what was sent is taken, if there is any
+abbrev pub IsTaken : {A : Type 0} → Driven A → Driven A → Option (ℕ × Frame A) → Type 0
+IsTaken before after (Some letter) = (before.sends ≡ (record { to = letter.0; frame = letter.1 }) ∷ after.sends) × (after.node ≡ before.node)
+IsTaken before after None = (before.sends ≡ []) × (after ≡ before)

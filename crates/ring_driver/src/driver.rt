@@ -1,0 +1,140 @@
+//! A node that keeps the limits of frames.
+
+ghost use Rattle.std.specs.Prelude.{◌≡◌, length, if◌then◌else◌, IfOk, IfErr, OnOk, OnErr};
+ghost use Rattle.std.specs.Option.{option_map};
+ghost use Rattle.ring_base.specs.declared.fault.Fault.TheVariants.{Memory, Stopped as StoppedFault};
+ghost use Rattle.ring_driver.specs.Driving.{opened, stepped, ended, called, IsRefused, IsTaken};
+ghost use Rattle.ring_rules.specs.NodeLimits.{InputFits};
+ghost use Rattle.ring_rules.specs.Nodes.{node_reply, is_stopped};
+ghost use Rattle.ring_rules.specs.declared.input.Input.TheVariants.{Frame as FrameInput, Timeout as TimeoutInput, Stop as StopInput};
+
+use crate::letter::Letter;
+use ring_base::{Fault, Fixed, Kind, ProcSet};
+use ring_core::Sent;
+use ring_node::{Input, Node};
+use ring_object::Object;
+use ring_order_proof::fit_laws::node_fits_law;
+use ring_payload::Call;
+use ring_session::{Answer, Ticket};
+use std::collections::VecDeque;
+use std::marker::Model;
+
+/// A node with what its last step sent. Whoever drives it
+///
+/// - hands it each letter that comes for it ([`hear`](Driver::hear)), in the order in which its network hands them over;
+/// - tells it each timeout as it is due ([`timeout`](Driver::timeout)); how long each is, `docs/PROTOCOL.md` leaves open;
+/// - takes what it sends after each of these ([`next_send`](Driver::next_send)), and brings it to its receivers. Letters may be
+///   lost, repeated and reordered; what is left as the next step begins is lost.
+///
+/// Its calls are submitted, and their answers asked for, by ticket.
+#[derive(Drop)]
+pub struct Driver<O: Object> {
+    alloc: O::Alloc,
+    node: Node<O>,
+    sends: VecDeque<Sent<O::Alloc>, O::Alloc>,
+}
+
+impl<O: Object> Model for Driver<O> {
+    ghost use Rattle.ring_order_proof.specs.NodeFits.{NodeFits, SendsFit};
+    ghost use Rattle.ring_driver.specs.Driving.{Driven};
+
+    ghost Value = { Driven O.Alloc };
+
+    ghost view = { λ d. record { node = d.node; sends = d.sends.items } };
+
+    ghost invariant = { λ d. NodeFits d.node × SendsFit d.sends.items };
+}
+
+impl<O: Object> Driver<O> {
+    /// The node of this number in the group, at its opening. `NotMember` where the group has no such node, else `Memory`.
+    pub fn new(alloc: O::Alloc, group: Fixed, number: u8) -> Result<Driver<O>, Fault>
+        ensures { IfOk result (λ driver. driver ≡ opened group number) }
+    {
+        node_fits_law::<O>();
+        // No effect at run time. The proof reads from this call that a group has at most 16 processors.
+        let _ = group.count();
+        let node = Node::new(alloc, group, group.proc(number)?)?;
+        Ok(Driver {
+            alloc,
+            node,
+            sends: VecDeque::new(alloc),
+        })
+    }
+
+    /// Submits a client's call of this number, counted from 1, and gives its ticket. Refused, in this order: `OpTooLong` over
+    /// 1,024 bytes; `NumberGap` for number 0; `Stopped` in a stopped node; `PendingFull` where 64 tickets have no answer;
+    /// `Memory`, which may come before the last two. A refusal leaves the node as it was.
+    #[tactic(auto, using(crate::proofs::DriverLimits::not_made, crate::proofs::DriverLimits::not_taken))]
+    pub fn submit(&mut self, client: u32, number: u64, operation: &[u8]) -> Result<Ticket, Fault>
+        ensures ticket { IfOk result (λ ticket. ticket ≡ length self.old.node.tickets) }
+        ensures ok { OnOk result (self.new ≡ called self.old client number operation.now) }
+        ensures err { OnErr result (self.new ≡ self.old) }
+        ensures refused { IfErr result (IsRefused self.old number operation.now) }
+    {
+        node_fits_law::<O>();
+        let call = Call::new(self.alloc, client, number, operation)?;
+        self.node.submit(call)
+    }
+
+    /// A letter comes. Refused with `Stopped` in a stopped node, else with `Memory`: then the node has stopped for good.
+    pub fn hear(&mut self, letter: Letter<O::Alloc>) -> Result<(), Fault>
+        ensures ok { OnOk result (self.new ≡ stepped O.sequential self.old (FrameInput letter)) }
+        ensures err { OnErr result (self.new ≡ ended self.old) }
+        ensures refused { IfErr result (λ fault. fault ≡ (if is_stopped self.old.node.core.state then StoppedFault else Memory)) }
+    {
+        self.step(Input::Frame(letter.into_frame()))
+    }
+
+    /// A timeout comes. Refused as a letter is.
+    pub fn timeout(&mut self, kind: Kind) -> Result<(), Fault>
+        ensures ok { OnOk result (self.new ≡ stepped O.sequential self.old (TimeoutInput kind)) }
+        ensures err { OnErr result (self.new ≡ ended self.old) }
+        ensures refused { IfErr result (λ fault. fault ≡ (if is_stopped self.old.node.core.state then StoppedFault else Memory)) }
+    {
+        self.step(Input::Timeout(kind))
+    }
+
+    /// The node stops, for good. Refused with `Stopped` where it had.
+    pub fn stop(&mut self) -> Result<(), Fault>
+        ensures ok { OnOk result (self.new ≡ stepped O.sequential self.old StopInput) }
+        ensures err { OnErr result (self.new ≡ ended self.old) }
+        ensures refused { IfErr result (λ fault. fault ≡ (if is_stopped self.old.node.core.state then StoppedFault else Memory)) }
+    {
+        self.step(Input::Stop)
+    }
+
+    /// Does a step, and keeps the frames that it sends.
+    fn step(&mut self, input: Input<O::Alloc>) -> Result<(), Fault>
+        requires { InputFits input }
+        ensures ok { OnOk result (self.new ≡ stepped O.sequential self.old input) }
+        ensures err { OnErr result (self.new ≡ ended self.old) }
+        ensures refused { IfErr result (λ fault. fault ≡ (if is_stopped self.old.node.core.state then StoppedFault else Memory)) }
+    {
+        node_fits_law::<O>();
+        let outs = self.node.step(input)?;
+        self.sends = VecDeque::from_vec(outs.sends);
+        Ok(())
+    }
+
+    /// The next letter of those that the last step sent, with its receivers, in the order in which they were sent.
+    pub fn next_send(&mut self) -> Option<(ProcSet, Letter<O::Alloc>)>
+        ensures { IsTaken self.old self.new (option_map (λ taken. (taken.0, taken.1)) result) }
+    {
+        let sent = self.sends.pop_front()?;
+        Some((sent.to, Letter::of(sent.frame)))
+    }
+
+    /// The answer to a ticket, if it is among the 64 that were answered last.
+    pub fn reply(&self, ticket: Ticket) -> Option<Answer>
+        ensures { result ≡ node_reply self.now.node ticket }
+    {
+        self.node.reply(ticket)
+    }
+
+    /// The node, which tells its state, its ring and its committed log.
+    pub fn node(&self) -> &Node<O>
+        ensures { result.now ≡ self.now.node }
+    {
+        &self.node
+    }
+}

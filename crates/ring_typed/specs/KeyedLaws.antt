@@ -1,0 +1,51 @@
+-- Operations of a code, a key and a value are read and spelled both ways.
+use Rattle.std.proofs.Common.{◌≡◌, ℕ, ◌<◌, ◌==◌, List, [], ◌∷◌, length, Option, Some, None, refl, sym, ap, subst, eqb-true}
+use Rattle.std.proofs.lemmas.Bool.{cond_both}
+use Rattle.std.proofs.lemmas.List.{nil_from_length}
+use Rattle.std.proofs.lemmas.List.Elements.{All-head}
+use Rattle.std.proofs.lemmas.Option.{same_Some}
+use Rattle.ring_object.specs.Bytes.{AreBytes}
+use Rattle.ring_things.specs.Guards.{map_some}
+use Rattle.ring_things.specs.Numbers.{big_number-whole, big_number-lt, exact_8}
+use Rattle.ring_things.specs.Outcome.{value_bytes, value_in, ValueFits}
+use Rattle.ring_things.specs.Replies.{AreBytes-rest}
+use Rattle.ring_typed.specs.Keyed.{spelling, reading, KeyedFits}
+use Rattle.ring_typed.specs.Reads.{Reads}
+use Rattle.ring_typed.specs.declared.keyed.Keyed.{Keyed}
+
+value_in-bytes : (value : Option ℕ) → ValueFits value → value_in (value_bytes value) ≡ Some value
+value_in-bytes (Some value) fits = ap (λ n. Some (Some n)) (big_number-whole 8 value fits)
+value_in-bytes None fits = refl
+
+pub spelled_read : (keyed : Keyed) → ValueFits keyed.value → reading (spelling keyed) ≡ Some keyed
+spelled_read keyed fits = rw (value_in-bytes keyed.value fits) refl
+
+-- the value that bytes are, if they are any, fits, and has them as its bytes
+IsValue : List ℕ → Option (Option ℕ) → Type 0
+IsValue bytes found = (value : Option ℕ) → found ≡ Some value → ValueFits value × (value_bytes value ≡ bytes)
+
+value_in-is : (bytes : List ℕ) → AreBytes bytes → IsValue bytes (value_in bytes)
+unfolding IsValue
+value_in-is bytes are =
+    let P = λ (value : Option ℕ). ValueFits value × (value_bytes value ≡ bytes) in
+    cond_both (length bytes == 0) _ _ (IsValue bytes)
+    (λ none value found. subst P (same_Some _ _ found) (tt, sym (nil_from_length bytes (eqb-true _ _ none))))
+    (λ _. cond_both (length bytes == 8) _ _ (IsValue bytes)
+    (λ eight value found. subst P (same_Some _ _ found) (big_number-lt 8 bytes are, exact_8 bytes (eqb-true _ _ eight) are))
+    (λ _ value found. absurd cc))
+
+only : (bytes : List ℕ) (keyed : Keyed) → AreBytes bytes → reading bytes ≡ Some keyed → KeyedFits keyed × (spelling keyed ≡ bytes)
+unfolding IsValue
+only [] keyed are is = absurd cc
+only (code ∷ []) keyed are is = absurd cc
+only (code ∷ key ∷ rest) keyed are is =
+    let others = AreBytes-rest code (key ∷ rest) are in
+    let value = map_some _ (value_in rest) keyed is in
+    let fits = value_in-is rest (AreBytes-rest key rest others) value.0 value.1 in
+    subst (λ (k : Keyed). KeyedFits k × (spelling k ≡ code ∷ key ∷ rest)) value.2 (
+      record { code = All-head (λ b. b < 256) code (key ∷ rest) are; key = All-head (λ b. b < 256) key rest others; value = fits.0 },
+      ap (λ bytes. code ∷ key ∷ bytes) fits.1,
+    )
+
+pub keyed_reads : Reads KeyedFits spelling reading
+keyed_reads = record { same = λ keyed fits. spelled_read keyed fits.value; only = only }

@@ -1,0 +1,5 @@
+pub mod Keyed
+pub mod KeyedLaws
+pub mod Reads
+pub mod Table
+pub mod Typed

@@ -1,0 +1,44 @@
+//! Totem as one library: what a program of one's own needs of it, by plain names.
+//!
+//! Up to 16 processors agree on one order of calls, over which each keeps the same object. What to take for what:
+//!
+//! | To | Take |
+//! |---|---|
+//! | simulate a group on one thread: say which frames come and which are lost, who times out and who stops | [`World`], by its [`Event`]s; [`Pump`] keeps the copies under way |
+//! | call a simulated group as a client would | [`Client`] over [`WorldPort`]s, which share a [`Network`] |
+//! | run a node over a network of one's own | [`Driver`], which is handed [`Letter`]s and hands out letters with their receivers, and knows no clock and no socket |
+//! | the same with frames that one checks oneself | [`Node`], by its [`Input`]s, which gives [`Outs`] |
+//! | replicate registers, counters, a queue, names, or four of these | [`Registers`], [`Counters`], [`Queue`], [`Names`], [`Shelf`] |
+//! | replicate an object of one's own | [`Object`], made of [`Keyed`], [`Table`] and [`reply_of`]; `docs/TUTORIAL.md` makes one |
+//! | run ring cores without objects, where virtual synchrony is all that is wanted | [`Rings`], by its [`RingEvent`]s |
+//! | test that one order explains what was replied | [`is_linearization`] |
+//!
+//! Nodes on threads of their own are in `totem_threads`, which passes on all that is here.
+//!
+//! A group is a [`Fixed`] number of processors with their votes, and a processor of it a [`Proc`]. Each call that is refused
+//! says why by a [`Fault`], of which there are fifteen. An operation is bytes: the ready objects spell theirs
+//! ([`Operation`]), and [`Replied::read`] reads what a reply says.
+//!
+//! In contracts, `Rattle.totem_ring.specs` has the definitions that a program's own clauses may cite. What is promised, call by
+//! call: `docs/PROMISES.md`; its laws, as functions that cost nothing and whose clauses a proof may use, are [`object_law`],
+//! [`linear_law`] (of every run there is one order) and [`node_fits_law`] (a node keeps the limits of frames).
+#![tactic(auto)]
+
+pub use ring_base::{Fault, Fixed, Kind, MOST_PROCESSORS, Proc, ProcSet, RingId, State};
+pub use ring_checker::is_linearization;
+pub use ring_client::{Asked, Client, Port};
+pub use ring_driver::{Driver, Letter};
+pub use ring_node::{Input, Node, Outs, Sent};
+pub use ring_object::{Object, Reply, Short, object_law};
+pub use ring_order_proof::fit_laws::node_fits_law;
+pub use ring_order_proof::laws::linear_law;
+pub use ring_payload::Call;
+pub use ring_runs::{RingEvent, Rings};
+pub use ring_session::{Answer, Answered, Ticket};
+pub use ring_things::{
+    Counters, Names, Operation, Outcome, Place, Queue, Registers, Replied, Shelf, ShelfOperation,
+};
+pub use ring_typed::{Keyed, Table, done, done_with, refused_with, reply_of};
+pub use ring_wire::{Frame, decode_frame};
+pub use ring_world::{Event, Item, Pump, Told, World, stopped_for_memory_law};
+pub use ring_world_port::{Network, Shared, WorldPort};

@@ -1,0 +1,13 @@
+pub use Rattle.totem_ring.specs.Group
+pub use Rattle.totem_ring.specs.Bytes
+pub use Rattle.totem_ring.specs.Operations
+pub use Rattle.totem_ring.specs.Snapshots
+pub use Rattle.totem_ring.specs.Numbers
+pub use Rattle.totem_ring.specs.Outcome
+pub use Rattle.totem_ring.specs.Keyed
+pub use Rattle.totem_ring.specs.KeyedLaws
+pub use Rattle.totem_ring.specs.Reads
+pub use Rattle.totem_ring.specs.Table
+pub use Rattle.totem_ring.specs.Typed
+pub use Rattle.totem_ring.specs.Types
+pub use Rattle.ring_seat.specs.Seats

@@ -1,0 +1,21 @@
+//! Totem with threads: all of `totem_ring`, and hosts, on which each node has a thread of its own.
+//!
+//! A [`Host`] keeps the nodes of an [`Opening`]. [`Host::run`] runs them, each on a thread with a [`Seat`], until the host is
+//! closed; a [`Gate`] says which frames come ([`Open`]: all of them). A client calls over [`HostPort`]s, each with a seat of
+//! its own, and any thread may stop a node. A [`BookName`] names the opening in types, so that what a host says is said of
+//! that opening's run (`std::marker::Brand` is one).
+//!
+//! In contracts, `Rattle.totem_threads.specs` has what `Rattle.totem_ring.specs` has, and `Seats`.
+#![tactic(auto)]
+
+pub use ring_book::{Book, BookName, Opening};
+pub use ring_host::{Gate, GatePlace, Gauge, Host, HostTicket, Open, Paced, Seat, Stir, Turn};
+pub use ring_host_port::HostPort;
+pub use totem_ring::{
+    Answer, Answered, Asked, Call, Client, Counters, Driver, Event, Fault, Fixed, Frame, Input,
+    Item, Keyed, Kind, Letter, MOST_PROCESSORS, Names, Network, Node, Object, Operation, Outcome,
+    Outs, Place, Port, Proc, ProcSet, Pump, Queue, Registers, Replied, Reply, RingEvent, RingId,
+    Rings, Sent, Shared, Shelf, ShelfOperation, Short, State, Table, Ticket, Told, World,
+    WorldPort, decode_frame, done, done_with, is_linearization, linear_law, node_fits_law,
+    object_law, refused_with, reply_of, stopped_for_memory_law,
+};
