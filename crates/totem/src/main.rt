@@ -1,12 +1,13 @@
 //! The program `totem`: it reads its command line, and has `totem_command` do what that asks for.
 #![tactic(auto)]
 
-use std::io::IsTerminal;
+use std::io::{Input, IsTerminal};
 use std::process::ExitCode;
 use std::{env, io};
 use totem_command::run;
 
 fn main(rt: HostRuntime) -> ExitCode {
+    let mut input = rt.reader();
     let mut out = rt.stdout();
     let mut err = rt.stderr();
     let mut progress = rt.stderr();
@@ -16,7 +17,7 @@ fn main(rt: HostRuntime) -> ExitCode {
     } else {
         None
     };
-    let status = run(&rt, &words, &mut out, &mut err, watched);
+    let status = run(&rt, &words, &mut input, &mut out, &mut err, watched);
     ExitCode::from(status)
 }
 

@@ -1,5 +1,6 @@
 //! The command line.
 
+use crate::seeds::seeds_of;
 use crate::votes::{Votes, votes_of};
 use clap::builder::ValueParser;
 use clap::error::ErrorKind;
@@ -14,15 +15,8 @@ pub(crate) enum Task<'a> {
     Frames {
         file: &'a str,
     },
-    /// To run the script in a file, and to tell whether its run is legal where that is asked for.
-    Script {
-        file: &'a str,
-        is_checked: bool,
-    },
-    /// To run the script in a file with a stop and a cut of each node before each event.
-    Sweep {
-        file: &'a str,
-    },
+    /// To run the script in a file.
+    Script(AskedScript<'a>),
     /// To run nodes and clients in threads, so many calls a client.
     Live {
         nodes: u8,
@@ -34,6 +28,38 @@ pub(crate) enum Task<'a> {
         seed: u64,
         events: u32,
     },
+    /// To make, run and check the scripts of many seeds.
+    Explore(Explored),
+}
+
+/// What is asked for of a script: its file, in which way it is run, and whether a fault in it is explained.
+#[derive(Clone, Copy)]
+pub(crate) struct AskedScript<'a> {
+    pub(crate) file: &'a str,
+    pub(crate) way: Way,
+    pub(crate) is_explained: bool,
+}
+
+/// In which way a script is run.
+#[derive(Clone, Copy, Debug, PartialEq, Eq)]
+pub(crate) enum Way {
+    /// Once.
+    Plain,
+    /// Once, and it is told whether the run is legal.
+    Checked,
+    /// With a stop and a cut of each node before each event.
+    Swept,
+}
+
+/// What `explore` is asked for: the votes of the nodes, the first seed and the last, how many lines each script has, and how many
+/// threads work, where that is said.
+#[derive(Drop)]
+pub(crate) struct Explored {
+    pub votes: Votes,
+    pub first: u64,
+    pub last: u64,
+    pub events: u32,
+    pub threads: Option<u16>,
 }
 
 /// What `totem --help` ends with.
@@ -102,12 +128,35 @@ Exit status:
 Example:
   totem gen --nodes 5 --seed 7 --events 200 > seven.script";
 
+/// What `totem explore --help` ends with.
+const EXPLORE_HELP: &str = "\
+Each script is that of `totem gen` with this seed. Prints how many seeds there were, how many events
+were run, each delivery of a pump counted, how many calls were submitted and how many answered, how
+many rings were installed, and `legal yes`: in each run one order of the calls explains all replies.
+Where that is not so, prints the script of the least such seed in place of all that, under a comment
+`legal no`. What is printed does not depend on the number of threads.
+
+Exit status:
+  0  all runs are legal
+  1  one is not; or `totem: NUMBER TEXT` on standard error says why the work was not done; nothing
+     is there where the output failed
+  2  a bad command line, or a call for help
+
+Example:
+  totem explore --nodes 5 --seeds 1..1000 --events 200";
+
 /// What is said where there is no command.
 const NO_COMMAND: &str = "no command was given";
 
 /// What is said of votes that can't be.
 const BAD_VOTES: &str =
     "--votes takes as many numbers from 1 to 255 as there are nodes, parted by commas";
+
+/// What is said of seeds that can't be.
+const BAD_SEEDS: &str = "--seeds takes A..B, two numbers of which A is not the greater";
+
+/// At most so many threads are started.
+const MOST_THREADS: u64 = 256;
 
 /// A script that is made has at most so many lines that ask for something.
 const MOST_EVENTS: u64 = 10_000;
@@ -138,15 +187,12 @@ pub(crate) fn task_of<'a>(
 
 /// What the words of this command ask for, or what is wrong with them.
 fn task_in<'a>(name: &str, of: &ArgMatches<'a>) -> Result<Task<'a>, &'static str> {
-    if name == "gen" {
-        return generate_in(of);
+    match name {
+        "gen" => generate_in(of),
+        "explore" => explore_in(of),
+        "live" => live_in(of).ok_or(NO_COMMAND),
+        _ => file_in(name, of).ok_or(NO_COMMAND),
     }
-    let task = if name == "live" {
-        live_in(of)
-    } else {
-        file_in(name, of)
-    };
-    task.ok_or(NO_COMMAND)
 }
 
 /// The task of a command that reads a file.
@@ -154,13 +200,20 @@ fn file_in<'a>(name: &str, of: &ArgMatches<'a>) -> Option<Task<'a>> {
     let file = of.get_str("FILE")?;
     match name {
         "frames" => Some(Task::Frames { file }),
-        "script" => {
-            let is_checked = of.get_flag("check");
-            Some(Task::Script { file, is_checked })
-        }
-        "sweep" => Some(Task::Sweep { file }),
+        "script" if of.get_flag("check") => Some(script_in(file, Way::Checked, of)),
+        "script" => Some(script_in(file, Way::Plain, of)),
+        "sweep" => Some(script_in(file, Way::Swept, of)),
         _ => None,
     }
+}
+
+/// The task of a command that runs a script in this way.
+fn script_in<'a>(file: &'a str, way: Way, of: &ArgMatches<'a>) -> Task<'a> {
+    Task::Script(AskedScript {
+        file,
+        way,
+        is_explained: of.get_flag("explain"),
+    })
 }
 
 /// The task of `live`.
@@ -183,6 +236,23 @@ fn generate_in<'a>(of: &ArgMatches<'a>) -> Result<Task<'a>, &'static str> {
     })
 }
 
+/// The task of `explore`, or what is wrong with its words.
+fn explore_in<'a>(of: &ArgMatches<'a>) -> Result<Task<'a>, &'static str> {
+    let nodes = of.get_one::<u8>("nodes").ok_or(NO_COMMAND)?;
+    let votes = votes_of(nodes, of.get_str("votes")).ok_or(BAD_VOTES)?;
+    let seeds = of.get_str("seeds").ok_or(NO_COMMAND)?;
+    let (first, last) = seeds_of(seeds).ok_or(BAD_SEEDS)?;
+    let events = of.get_one::<u32>("events").ok_or(NO_COMMAND)?;
+    let threads = of.get_one::<u16>("threads");
+    Ok(Task::Explore(Explored {
+        votes,
+        first,
+        last,
+        events,
+        threads,
+    }))
+}
+
 /// The commands, and the words of each.
 fn command_of<'a>(alloc: Global) -> Result<Command<'a>, AllocError> {
     Command::new(alloc, "totem")
@@ -195,7 +265,8 @@ fn command_of<'a>(alloc: Global) -> Result<Command<'a>, AllocError> {
         .subcommand(sweep_command(alloc)?)?
         .subcommand(frames_command(alloc)?)?
         .subcommand(live_command(alloc)?)?
-        .subcommand(generate_command(alloc)?)
+        .subcommand(generate_command(alloc)?)?
+        .subcommand(explore_command(alloc)?)
 }
 
 fn script_command<'a>(alloc: Global) -> Result<Command<'a>, AllocError> {
@@ -208,21 +279,26 @@ fn script_command<'a>(alloc: Global) -> Result<Command<'a>, AllocError> {
                 .help("Tells behind all else whether the run is legal")
                 .action(ArgAction::SetTrue),
         )?
-        .arg(file_of(alloc, "The script"))
+        .arg(explain_word(alloc))?
+        .arg(file_of(alloc, "The script; - is standard input"))
 }
 
 fn sweep_command<'a>(alloc: Global) -> Result<Command<'a>, AllocError> {
     Command::new(alloc, "sweep")
         .about("Runs a script with a stop and a cut of each node before each event")
         .after_help(SWEEP_HELP)
-        .arg(file_of(alloc, "The script"))
+        .arg(explain_word(alloc))?
+        .arg(file_of(alloc, "The script; - is standard input"))
 }
 
 fn frames_command<'a>(alloc: Global) -> Result<Command<'a>, AllocError> {
     Command::new(alloc, "frames")
         .about("Lists the frames of a file, a line each")
         .after_help(FRAMES_HELP)
-        .arg(file_of(alloc, "The file of frames, one behind another"))
+        .arg(file_of(
+            alloc,
+            "The file of frames, one behind another; - is standard input",
+        ))
 }
 
 fn live_command<'a>(alloc: Global) -> Result<Command<'a>, AllocError> {
@@ -246,6 +322,30 @@ fn generate_command<'a>(alloc: Global) -> Result<Command<'a>, AllocError> {
             MOST_EVENTS,
         ))?
         .arg(votes_word(alloc))
+}
+
+fn explore_command<'a>(alloc: Global) -> Result<Command<'a>, AllocError> {
+    Command::new(alloc, "explore")
+        .about("Makes, runs and checks the scripts of many seeds, on all processors")
+        .after_help(EXPLORE_HELP)
+        .arg(number_of(alloc, "nodes", "How many nodes", 16))?
+        .arg(seeds_word(alloc))?
+        .arg(number_of(
+            alloc,
+            "events",
+            "How many lines that ask for something",
+            MOST_EVENTS,
+        ))?
+        .arg(votes_word(alloc))?
+        .arg(threads_word(alloc))
+}
+
+/// The word that asks why a script is at fault.
+fn explain_word<'a>(alloc: Global) -> Arg<'a> {
+    Arg::new(alloc, "explain")
+        .long("explain")
+        .help("Tells below a fault what stands there, and what was expected")
+        .action(ArgAction::SetTrue)
 }
 
 /// The word that names a file.
@@ -274,6 +374,24 @@ fn seed_of<'a>(alloc: Global) -> Arg<'a> {
         .required(true)
         .action(ArgAction::Set)
         .value_parser(ValueParser::unsigned(0, u64::MAX))
+}
+
+/// The word for several seeds.
+fn seeds_word<'a>(alloc: Global) -> Arg<'a> {
+    Arg::new(alloc, "seeds")
+        .long("seeds")
+        .help("The seeds A to B, both included, as A..B")
+        .required(true)
+        .action(ArgAction::Set)
+}
+
+/// The word for a number of threads.
+fn threads_word<'a>(alloc: Global) -> Arg<'a> {
+    Arg::new(alloc, "threads")
+        .long("threads")
+        .help("How many threads work, in place of one for each processor")
+        .action(ArgAction::Set)
+        .value_parser(ValueParser::unsigned(1, MOST_THREADS))
 }
 
 /// The word for the votes of all nodes.

@@ -1,48 +1,40 @@
-//! What each command does: it opens the file that is named, and has `ring_sweep`, `ring_live` or `ring_script_maker` do the work.
+//! What each command does: it has `ring_sweep`, `ring_live`, `ring_script_maker` or `ring_explore` do the work.
 
-use crate::command_line::{Task, task_of};
+use crate::command_line::{Explored, Task, task_of};
+use crate::scripts::run_script;
 use clap::Error;
 use clap::error::ErrorKind;
 use ring_base::Fault;
+use ring_explore::{Plan, explore};
 use ring_live::live;
 use ring_script_maker::generate;
-use ring_sweep::{Failure, frames, report, script, script_check, sweep, sweep_watched};
-use std::io::Write;
+use ring_sweep::{Failure, frames, report};
+use std::io::{Read, Write};
 use std::rt::Files;
 use std::sync::Wait;
-use std::thread::Threads;
+use std::thread::{self, Threads};
 use std::{fs, io};
+
+/// The name of a file that is none: the input.
+pub(crate) const INPUT: &str = "-";
 
 /// The exit status of a bad command line, and of a call for help.
 const BAD_COMMAND_LINE: u8 = 2;
 
-/// Does what the words of a command line ask for, the program's own name being the first. Writes on `out` and `err` what the
-/// program writes on standard output and standard error, tells on `progress`, where there is one, how far a sweep has
-/// come, and answers the exit status.
-pub fn run<R: Files + AllocGlobal + Threads + Wait + Sync, O: Write, E: Write, P: Write>(
+/// Does what the words of a command line ask for, the program's own name being the first. Where the file is `-`, what stands on
+/// `input` is read. Writes on `out` and `err` what the program writes on standard output and standard error, tells on `progress`,
+/// where there is one, how far a sweep has come, and answers the exit status.
+pub fn run<R: Files + AllocGlobal + Threads + Wait + Sync, I: Read, O: Write, E: Write, P: Write>(
     rt: &R,
     words: &io::Result<Vec<String>>,
+    input: &mut I,
     out: &mut O,
     err: &mut E,
     progress: Option<&mut P>,
 ) -> u8 {
     match task_of(rt.alloc(), words) {
-        Ok(Task::Frames { file }) => match fs::open(rt, file) {
-            Ok(mut input) => frames(rt.alloc(), &mut input, out, err),
-            Err(_) => report(err, Failure::BadFrame(0)),
-        },
-        Ok(Task::Script { file, is_checked }) => match fs::open(rt, file) {
-            Ok(mut input) if is_checked => script_check(rt.alloc(), &mut input, out, err),
-            Ok(mut input) => script(rt.alloc(), &mut input, out, err),
-            Err(_) => report(err, Failure::BadScript(0)),
-        },
-        Ok(Task::Sweep { file }) => match (fs::open(rt, file), progress) {
-            (Ok(mut input), Some(progress)) => {
-                sweep_watched(rt.alloc(), &mut input, out, err, progress)
-            }
-            (Ok(mut input), None) => sweep(rt.alloc(), &mut input, out, err),
-            (Err(_), _) => report(err, Failure::BadScript(0)),
-        },
+        Ok(Task::Frames { file }) => frames_of(rt, file, input, out, err),
+        Ok(Task::Script(asked)) => run_script(rt, asked, input, out, err, progress),
         Ok(Task::Live { nodes, calls }) => live(rt, rt.alloc(), nodes, calls, out, err),
         Ok(
             Task::Generate {
@@ -51,7 +43,51 @@ pub fn run<R: Files + AllocGlobal + Threads + Wait + Sync, O: Write, E: Write, P
                 events,
             },
         ) => generate(rt.alloc(), votes.as_slice(), seed, events, out, err),
+        Ok(Task::Explore(asked)) => explore_seeds(rt, &asked, out, err),
         Err(error) => tell(&error, out, err),
+    }
+}
+
+/// Lists the frames of a file, or of the input.
+fn frames_of<R: Files + AllocGlobal, I: Read, O: Write, E: Write>(
+    rt: &R,
+    file: &str,
+    input: &mut I,
+    out: &mut O,
+    err: &mut E,
+) -> u8 {
+    if file == INPUT {
+        return frames(rt.alloc(), input, out, err);
+    }
+    match fs::open(rt, file) {
+        Ok(mut file) => frames(rt.alloc(), &mut file, out, err),
+        Err(_) => report(err, Failure::BadFrame(0)),
+    }
+}
+
+/// Makes, runs and checks the scripts of all seeds that are asked for: by as many threads as there are processors, where nothing is
+/// said of these.
+fn explore_seeds<R: AllocGlobal + Threads + Sync, O: Write, E: Write>(
+    rt: &R,
+    asked: &Explored,
+    out: &mut O,
+    err: &mut E,
+) -> u8 {
+    let plan = Plan {
+        votes: asked.votes.as_slice(),
+        first: asked.first,
+        last: asked.last,
+        lines: asked.events,
+    };
+    let threads = asked.threads.unwrap_or(processors(rt));
+    explore(rt, rt.alloc(), plan, threads, out, err)
+}
+
+/// How many processors there are, as far as that is known: or else one.
+fn processors<R: Threads>(rt: &R) -> u16 {
+    match thread::available_parallelism(rt) {
+        Ok(many) => u16::try_from(many.get()).unwrap_or(u16::MAX),
+        Err(_) => 1,
     }
 }
 

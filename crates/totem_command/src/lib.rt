@@ -3,6 +3,8 @@
 
 mod command_line;
 mod commands;
+mod scripts;
+mod seeds;
 mod votes;
 
 pub use commands::run;

@@ -1,0 +1,118 @@
+//! What a word of a line stands for.
+
+use std::fmt;
+
+/// What a word stands for.
+#[derive(Clone, Copy, Debug, PartialEq, Eq)]
+pub(crate) enum Part {
+    /// How many nodes there are.
+    Count,
+    /// The votes of one node.
+    Vote,
+    Node,
+    Client,
+    /// The number of a client's call.
+    Number,
+    /// The number of a frame.
+    Frame,
+    /// The kind of a timeout.
+    Timeout,
+    /// Bytes in hexadecimal.
+    Bytes,
+    /// How many turns.
+    Turns,
+    Key,
+    Value,
+    Name,
+}
+
+/// The kinds of timeouts.
+pub(crate) const TIMEOUTS: [&str; 4] = ["retransmit", "join", "consensus", "loss"];
+
+/// A name has at most so many bytes.
+const LONGEST_NAME: usize = 64;
+
+/// A word of bytes has at most so many digits: two for each of 8,192 bytes.
+const MOST_DIGITS: usize = 16_384;
+
+impl Part {
+    /// The least and the greatest number that such a word may be, among so many nodes. None where it isn't a number within bounds.
+    fn bounds(self, nodes: u8) -> Option<(u64, u64)> {
+        match self {
+            Part::Count => Some((1, 16)),
+            Part::Vote => Some((1, 255)),
+            Part::Node => Some((1, u64::from(nodes))),
+            Part::Client => Some((0, u64::from(u32::MAX))),
+            Part::Number => Some((1, u64::MAX)),
+            Part::Turns => Some((1, 100_000)),
+            Part::Key => Some((0, 255)),
+            Part::Value => Some((0, u64::MAX)),
+            Part::Frame | Part::Timeout | Part::Bytes | Part::Name => None,
+        }
+    }
+
+    /// Whether the word can stand for this, among so many nodes.
+    pub(crate) fn takes(self, nodes: u8, word: &str) -> bool {
+        if let Some((least, most)) = self.bounds(nodes) {
+            return is_decimal(word)
+                && matches!(word.parse::<u64>(), Ok(number) if least <= number && number <= most);
+        }
+        match self {
+            Part::Frame => is_decimal(word) && word != "0",
+            Part::Timeout => TIMEOUTS.iter().any(|kind| *kind == word),
+            Part::Bytes => are_bytes(word),
+            _ => is_name(word),
+        }
+    }
+}
+
+/// Whether the word is digits alone, with no leading zero but in `0` itself.
+fn is_decimal(word: &str) -> bool {
+    let has_leading_zero = word.len() > 1 && word.starts_with("0");
+    !word.is_empty()
+        && !has_leading_zero
+        && word.as_bytes().iter().all(|byte| byte.is_ascii_digit())
+}
+
+/// Whether the word spells bytes, two digits each.
+fn are_bytes(word: &str) -> bool {
+    let are_digits = word.as_bytes().iter().all(|byte| byte.is_ascii_hexdigit()
+        && !byte.is_ascii_uppercase());
+    !word.is_empty() && word.len() <= MOST_DIGITS && word.len() % 2 == 0 && are_digits
+}
+
+/// Whether the word may be a name.
+fn is_name(word: &str) -> bool {
+    let are_graphic = word.as_bytes().iter().all(|byte| byte.is_ascii_graphic());
+    !word.is_empty() && word.len() <= LONGEST_NAME && are_graphic
+}
+
+/// What must stand for a part, among so many nodes.
+#[derive(Clone, Copy)]
+pub(crate) struct Wanted {
+    pub(crate) part: Part,
+    pub(crate) nodes: u8,
+}
+
+impl fmt::Display for Wanted {
+    fn fmt<W: fmt::Write>(&self, f: &mut fmt::Formatter<W>) -> fmt::Result {
+        let words = match self.part {
+            Part::Count => "a number of nodes",
+            Part::Vote => "a number of votes",
+            Part::Node => "a node",
+            Part::Client => "a client",
+            Part::Number => "the number of a call",
+            Part::Turns => "a number of turns",
+            Part::Key => "a key",
+            Part::Value => "a number",
+            Part::Frame => "the number of a frame, 1 or more",
+            Part::Timeout => "`retransmit`, `join`, `consensus` or `loss`",
+            Part::Bytes => "1 to 8192 bytes, each as two digits of `0` to `9` and `a` to `f`",
+            Part::Name => "a name of 1 to 64 bytes",
+        };
+        match self.part.bounds(self.nodes) {
+            Some((least, most)) => write!(f, "{words}, {least} to {most}"),
+            None => write!(f, "{words}"),
+        }
+    }
+}

@@ -1,0 +1,222 @@
+//! Why a line is at fault.
+
+use crate::form::{Form, LINES, OPERATIONS, Rest, line_form, operation_form};
+use crate::groups::groups_reason;
+use crate::line::{Placed, Stand, line_at};
+use crate::nearest::{Meant, nearest};
+use crate::part::{Part, TIMEOUTS, Wanted};
+use crate::shown::Shown;
+use ring_script::{Script, ScriptFault};
+use std::alloc::{AllocError, Global};
+use std::str::Split;
+
+/// A script has at most so many bytes.
+const LONGEST_TEXT: usize = 1_048_576;
+
+/// What is found wrong, if anything is.
+type Reason = Result<Option<String>, AllocError>;
+
+/// Why the text is no script, in words: what stands in the line that `Script::parse` finds at fault, and what was expected there.
+/// None where it is a script. Memory refused is the only refusal.
+pub fn reason_in(alloc: Global, text: &[u8]) -> Result<Option<String>, AllocError> {
+    if text.len() > LONGEST_TEXT {
+        return said(alloc, "the text is longer than 1048576 bytes");
+    }
+    match Script::parse(alloc, text) {
+        Ok(_) => Ok(None),
+        Err(ScriptFault::AtLine(line)) => Ok(Some(line_reason(alloc, text, line)?)),
+        Err(ScriptFault::Memory) => Err(AllocError),
+    }
+}
+
+/// Why the line of this number of the text, counted from 1, is at fault.
+fn line_reason(alloc: Global, text: &[u8], line: u64) -> Result<String, AllocError> {
+    let found = match line_at(text, line) {
+        Some(placed) => placed_reason(alloc, placed)?,
+        None => said(
+            alloc,
+            "no line tells how many nodes there are: `nodes N` comes first",
+        )?,
+    };
+    match found {
+        Some(reason) => Ok(reason),
+        None => String::from_str(alloc, "the line has none of the forms of a script's lines"),
+    }
+}
+
+/// A reason of these words alone.
+fn said(alloc: Global, words: &str) -> Reason {
+    Ok(Some(String::from_str(alloc, words)?))
+}
+
+/// Why a line that stands there is at fault.
+fn placed_reason(alloc: Global, placed: Placed<'_>) -> Reason {
+    let Placed { line, stand } = placed;
+    if let Some(byte) = line.iter().find(|byte| !byte.is_ascii()) {
+        return Ok(Some(format!(in alloc;
+            "the byte {byte:02x} stands there, and a script is ASCII"
+        )?));
+    }
+    if let Some(words) = spacing_reason(line) {
+        return said(alloc, words);
+    }
+    match str::from_utf8(line) {
+        Ok(line) => words_reason(alloc, stand, line),
+        Err(_) => Ok(None),
+    }
+}
+
+/// What is wrong with what parts the words, or ends the line.
+fn spacing_reason(line: &[u8]) -> Option<&'static str> {
+    if line.last() == Some(&b'\r') {
+        return Some("the line ends with a carriage return; a line feed alone ends a line");
+    }
+    if line.contains(&b'\t') {
+        return Some("a tab stands there; one space parts two words");
+    }
+    if line.first() == Some(&b' ') {
+        return Some("the line begins with a space");
+    }
+    if line.last() == Some(&b' ') {
+        return Some("the line ends with a space");
+    }
+    if line.windows(2).any(|pair| pair == [b' ', b' '].as_slice()) {
+        return Some("two spaces stand there; one space parts two words");
+    }
+    None
+}
+
+/// Why these words are no line that may stand there.
+fn words_reason(alloc: Global, stand: Stand, line: &str) -> Reason {
+    let mut words = line.split(' ');
+    let Some(first) = words.next() else {
+        return Ok(None);
+    };
+    match stand {
+        Stand::First => first_reason(alloc, first, &mut words),
+        Stand::Second(nodes) if first == "votes" => votes_reason(alloc, nodes, &mut words),
+        Stand::Second(nodes) | Stand::Later(nodes) => event_reason(alloc, nodes, first, &mut words),
+    }
+}
+
+/// Why the words aren't `nodes N`.
+fn first_reason(alloc: Global, first: &str, words: &mut Split<'_, char>) -> Reason {
+    if first != "nodes" {
+        let reason = format!(in alloc;
+            "{} stands there; the first line is `nodes N`, which tells how many nodes there are",
+            Shown(first)
+        )?;
+        return Ok(Some(reason));
+    }
+    let form = Form {
+        parts: &[Part::Count],
+        rest: Rest::Nothing,
+    };
+    form_reason(alloc, 16, form, words)
+}
+
+/// Why the words behind `votes` aren't the votes of so many nodes.
+fn votes_reason(alloc: Global, nodes: u8, words: &mut Split<'_, char>) -> Reason {
+    for before in 0..nodes.min(16) {
+        let node = before + 1;
+        let Some(word) = words.next() else {
+            return Ok(Some(format!(in alloc;
+                "node {node} has no votes: as many numbers stand behind `votes` as there are nodes"
+            )?));
+        };
+        if !Part::Vote.takes(nodes, word) {
+            return is_not(alloc, word, Part::Vote, nodes);
+        }
+    }
+    end_reason(alloc, words)
+}
+
+/// Why the words are no event.
+fn event_reason(alloc: Global, nodes: u8, first: &str, words: &mut Split<'_, char>) -> Reason {
+    match first {
+        "nodes" => said(
+            alloc,
+            "`nodes` stands there again; it comes once, first of all",
+        ),
+        "votes" => said(
+            alloc,
+            "`votes` stands there; it comes once, directly behind `nodes`",
+        ),
+        _ => match line_form(first) {
+            Some(form) => form_reason(alloc, nodes, form, words),
+            None => {
+                let meant = nearest(alloc, first, &LINES)?;
+                Ok(Some(format!(in alloc;
+                    "{} is nothing that a line can ask for{meant}",
+                    Shown(first)
+                )?))
+            }
+        },
+    }
+}
+
+/// Why the words behind the first one aren't of this form.
+fn form_reason(alloc: Global, nodes: u8, form: Form, words: &mut Split<'_, char>) -> Reason {
+    if let Some(reason) = parts_reason(alloc, nodes, form.parts, words)? {
+        return Ok(Some(reason));
+    }
+    match form.rest {
+        Rest::Nothing => end_reason(alloc, words),
+        Rest::Operation => operation_reason(alloc, nodes, words),
+        Rest::Groups => groups_reason(alloc, nodes, words),
+    }
+}
+
+/// Why the next words aren't these parts.
+fn parts_reason(alloc: Global, nodes: u8, parts: &[Part], words: &mut Split<'_, char>) -> Reason {
+    for part in parts {
+        match words.next() {
+            Some(word) if part.takes(nodes, word) => {}
+            Some(word) => return is_not(alloc, word, *part, nodes),
+            None => {
+                let wanted = Wanted { part: *part, nodes };
+                return Ok(Some(format!(in alloc;
+                    "the line ends where this is expected: {wanted}"
+                )?));
+            }
+        }
+    }
+    Ok(None)
+}
+
+/// That the word can't stand for this part.
+fn is_not(alloc: Global, word: &str, part: Part, nodes: u8) -> Reason {
+    let wanted = Wanted { part, nodes };
+    let meant = match part {
+        Part::Timeout => nearest(alloc, word, &TIMEOUTS)?,
+        _ => Meant(None),
+    };
+    Ok(Some(format!(in alloc; "{} is not {wanted}{meant}", Shown(word))?))
+}
+
+/// Why the next words are no operation.
+fn operation_reason(alloc: Global, nodes: u8, words: &mut Split<'_, char>) -> Reason {
+    let Some(word) = words.next() else {
+        return said(alloc, "the line ends where this is expected: an operation");
+    };
+    match operation_form(word) {
+        Some(form) => {
+            if let Some(reason) = parts_reason(alloc, nodes, form.parts, words)? {
+                return Ok(Some(reason));
+            }
+            end_reason(alloc, words)
+        }
+        None => {
+            let meant = nearest(alloc, word, &OPERATIONS)?;
+            Ok(Some(format!(in alloc; "{} is no operation{meant}", Shown(word))?))
+        }
+    }
+}
+
+/// That a word is left, if one is.
+fn end_reason(alloc: Global, words: &mut Split<'_, char>) -> Reason {
+    match words.next() {
+        Some(word) => Ok(Some(format!(in alloc; "{} is a word too many", Shown(word))?)),
+        None => Ok(None),
+    }
+}

@@ -1,0 +1,44 @@
+use Rattle.std.proofs.Common.{◌≡◌, ◌≤◌, ◌+◌, max, ℕ, length, refl, sym, ap, subst, Option, ◌++◌, ◌∷◌, [], ◌∙◌, arith}
+use Rattle.std.proofs.lemmas.Iterator.Adapters.{YieldsList-from_vec}
+use Rattle.std.proofs.lemmas.Iterator.Consumers.{YieldsList-turn, YieldsList-end}
+use Rattle.ring_explore.specs.declared.found.Found.{Found}
+use Rattle.ring_explore.specs.Explored.{AreTried, seeds_in, share_begin}
+use Rattle.ring_explore.specs.Tried.{IsTried}
+use Rattle.ring_explore.proofs.Sharing.{tried_share, found_of, one_longer, shares_end}
+use Rattle.ring_explore.proofs.exploring.joined.Goals as goal
+
+pub loop-part-preserved : goal.loop-part-preserved
+loop-part-preserved g c =
+    let begun = c.into_iter-part-iterator.ensures.into_iter_gives in
+    let parts = c.args.parts in
+    let turn = YieldsList-turn (YieldsList-from_vec parts.items begun.0 (begun.1 ∙ parts.ok.0)) c.loop-part.yielded
+    c.loop-part.part-iterator c.loop-part.yielded_by c.next.result c.next.new.self c.in-Some.part c.in-Some.is c.next.ensures.steps in
+    let first = c.args.plan.now.first in
+    let many = seeds_in first c.args.plan.now.last in
+    let shares = c.args.shares in
+    let k = length c.loop-part.yielded in
+    let less = turn.0 in
+    let all = c.requires.len in
+    let len = parts.ok.0 in
+    let given = c.requires.each k c.in-Some.part (omega (arith, less, all, len)) in
+    let found = found_of c.in-Some.part _ c.in_ok-found.found
+    (λ (f : Found). AreTried (IsTried g.O.Object.sequential) (first + share_begin many shares k) (first + share_begin many shares (k + 1)) f.illegal) turn.1 c.in_ok-found.was given in
+    let more = tried_share (IsTried g.O.Object.sequential) first many shares k c.loop-part.all.illegal c.in_ok-found.found.illegal c.loop-part.invariant found in
+    let next = one_longer c.loop-part.yielded c.in-Some.part in
+    subst (λ (n : ℕ). AreTried (IsTried g.O.Object.sequential) first (first + share_begin many shares n) c.add.new.self.illegal) next
+    (subst (λ (f : Option ℕ). AreTried (IsTried g.O.Object.sequential) first (first + share_begin many shares (k + 1)) f) (sym c.add.ensures) more)
+
+pub returns : goal.returns
+returns g c =
+    let begun = c.into_iter-part-iterator.ensures.into_iter_gives in
+    let parts = c.args.parts in
+    let ended = YieldsList-end (YieldsList-from_vec parts.items begun.0 (begun.1 ∙ parts.ok.0)) c.loop-part.yielded
+    c.loop-part.part-iterator c.loop-part.yielded_by c.next.result c.next.new.self c.in-None.is c.next.ensures.steps in
+    let first = c.args.plan.now.first in
+    let many = seeds_in first c.args.plan.now.last in
+    let whole = ended.1 in
+    let all = c.requires.len in
+    let len = parts.ok.0 in
+    let most : max c.args.shares 1 ≤ length c.loop-part.yielded = omega (arith, whole, all, len) in
+    subst (λ (n : ℕ). AreTried (IsTried g.O.Object.sequential) first (first + n) c.loop-part.all.illegal)
+    (shares_end many c.args.shares (length c.loop-part.yielded) most) c.loop-part.invariant

@@ -1,0 +1,12 @@
+use Rattle.std.proofs.Common.{subst}
+use Rattle.std.specs.declared.alloc.Global.{Global}
+use Rattle.ring_console.specs.Running.{RunView, Runs}
+use Rattle.ring_explore.proofs.Turning.{found_tried}
+use Rattle.ring_explore.proofs.one.try_script.Goals as goal
+
+pub returns : goal.returns
+returns g c =
+    let done = c.in_ok-take.ensures in
+    found_tried g.O.Object.sequential c.args.script c.args.seed c.take.new.self.run done.0 c.found.result
+    (subst (λ (r : RunView Global). Runs g.O.Object.sequential c.args.script.lines.items r c.take.new.self.run done.0) c.in_ok-seen.ensures done.1)
+    c.found.ensures

@@ -1,0 +1,46 @@
+-- What was found of the scripts of many seeds, and what is printed of them.
+-- Explore, of docs/FORMATS.md.
+use Rattle.std.specs.Prelude.{◌≡◌, ℕ, ◌+◌, ◌-◌, ◌*◌, ◌/◌, ◌^◌, ◌<◌, ◌≤◌, min, max, Bool, true, false, Option, Some, None, List, ◌++◌, codes}
+use Rattle.std.specs.Fmt.{decimal}
+use Rattle.ring_report.specs.Texts.{line_of}
+
+-- how many seeds there are from the first to the last, the last included; of all 2^64 the last is left out
+abbrev pub seeds_in : ℕ → ℕ → ℕ
+seeds_in first last = min (last + 1 - first) (2 ^ 64 - 1)
+
+-- where a share of so many seeds begins, of so many shares
+abbrev pub share_begin : ℕ → ℕ → ℕ → ℕ
+share_begin many shares share = min ((many / max shares 1 + 1) * share) many
+
+-- the first of two, as far as there is one
+abbrev pub first_of : Option ℕ → Option ℕ → Option ℕ
+first_of None other = other
+first_of (Some one) other = Some one
+
+-- a seed is named where its run is not legal
+abbrev pub illegal_of : Bool → ℕ → Option ℕ
+illegal_of true seed = None
+illegal_of false seed = Some seed
+
+-- What was found of the seeds from one up to another, that left out: the run of each is legal; or this is the first whose run is not.
+abbrev pub AreTried : (Bool → Type 0) → ℕ → ℕ → Option ℕ → Type 0
+AreTried IsTried from upto None = (seed : ℕ) → from ≤ seed → seed < upto → IsTried true
+AreTried IsTried from upto (Some first) = (from ≤ first) × (first < upto) × IsTried false × ((seed : ℕ) → from ≤ seed → seed < first → IsTried true)
+
+-- a word, a number, a line
+abbrev pub total_text : List ℕ → ℕ → List ℕ
+total_text word number = line_of (word ++ codes " " ++ decimal number)
+
+-- how much was tried, and that all of it is legal
+abbrev pub totals_text : ℕ → ℕ → ℕ → ℕ → ℕ → List ℕ
+totals_text seeds events calls answered rings =
+    total_text (codes "seeds") seeds ++ total_text (codes "events") events ++ total_text (codes "calls") calls
+    ++ total_text (codes "answered") answered ++ total_text (codes "rings") rings ++ line_of (codes "legal yes")
+
+-- the text says how much was tried of so many seeds, and that all of it is legal
+abbrev pub IsTotals : ℕ → List ℕ → Type 0
+IsTotals seeds text = (events calls answered rings : ℕ) × (text ≡ totals_text seeds events calls answered rings)
+
+-- the text is a script, under a line that says that its run is not legal
+abbrev pub IsIllegal : (List ℕ → Type 0) → List ℕ → Type 0
+IsIllegal IsScript text = (script : List ℕ) × IsScript script × (text ≡ line_of (codes "# legal no") ++ script)

@@ -1,0 +1,202 @@
+//! The trying of many seeds.
+
+ghost use Rattle.std.specs.Prelude.{◌≡◌, ℕ, ◌≤◌, ◌<◌, ◌+◌, ◌↔◌, IsTrue, OnOk, IfOk, None, max, vec_len, slice_index_or};
+ghost use Rattle.std.specs.Io.KnownBytes.{Appends};
+ghost use Rattle.ring_console.specs.Running.{Prints};
+ghost use Rattle.ring_script_maker.specs.Made.{IsScript};
+ghost use Rattle.ring_explore.specs.Explored.{AreTried, seeds_in, share_begin, totals_text, IsTotals, IsIllegal};
+ghost use Rattle.ring_explore.specs.Tried.{IsTried};
+
+use crate::found::Found;
+use crate::one::try_seed;
+use crate::plan::{Plan, share_begin};
+use ring_base::Fault;
+use ring_console::{Failure, Things, report};
+use ring_object::Object;
+use ring_script_maker::made_script;
+use std::alloc::{AllocError, Global};
+use std::io::Write;
+use std::thread::{self, Threads};
+
+/// The exit status where a run is not legal.
+const NOT_LEGAL: u8 = 1;
+
+/// Makes the script of each seed, runs it, and checks that the order of its world explains its history, by so many threads: what is
+/// printed does not depend on how many. Prints how many seeds there were, how many events were run, how many calls were submitted
+/// and answered, how many rings were installed, and `legal yes`. The exit status is 0, or else 1:
+///
+/// - where a run is not legal, a comment that says so and the script of the least such seed are printed, and nothing else;
+/// - where memory or a thread is refused, `err` is told so, and nothing is printed;
+/// - where `out` fails, nothing is told.
+///
+/// Where the status is 0, a script was made and run for each seed, and each run is legal. Which script a seed makes no contract says.
+pub fn explore<R: Threads + Sync, O: Write, E: Write>(
+    rt: &R,
+    alloc: Global,
+    plan: Plan<'_>,
+    threads: u16,
+    out: &mut O,
+    err: &mut E,
+) -> u8
+    ensures status { result ≤ 1 }
+    ensures quiet { result ≡ 0 → err.new ≡ err.old }
+    ensures legal { let object = ⟦<Things<Global> as Object>⟧ in
+        result ≡ 0 → AreTried (IsTried object.sequential) plan.entry.first (plan.entry.first + seeds_in plan.entry.first plan.entry.last) None }
+    ensures printed { result ≡ 0 → Prints (O.contents out.old) (O.contents out.new) (IsTotals (seeds_in plan.entry.first plan.entry.last)) }
+{
+    match explore_all(rt, alloc, &plan, threads, out) {
+        Ok(true) => 0,
+        Ok(false) => NOT_LEGAL,
+        Err(failure) => report(err, failure),
+    }
+}
+
+/// Tries all seeds, and prints what was found. Answers whether all runs are legal.
+fn explore_all<R: Threads + Sync, O: Write>(
+    rt: &R,
+    alloc: Global,
+    plan: &Plan<'_>,
+    threads: u16,
+    out: &mut O,
+) -> Result<bool, Failure>
+    ensures legal { let object = ⟦<Things<Global> as Object>⟧ in IfOk result (λ is_legal. IsTrue is_legal
+        → AreTried (IsTried object.sequential) plan.now.first (plan.now.first + seeds_in plan.now.first plan.now.last) None) }
+    ensures printed { IfOk result (λ is_legal. IsTrue is_legal
+        → Prints (O.contents out.old) (O.contents out.new) (IsTotals (seeds_in plan.now.first plan.now.last))) }
+{
+    let found = try_all(rt, alloc, plan, threads)?;
+    print_found::<Things<Global>, O>(alloc, plan, &found, out)
+}
+
+/// Prints what was found. Answers whether all runs are legal.
+fn print_found<T: Object, O: Write>(
+    alloc: Global,
+    plan: &Plan<'_>,
+    found: &Found,
+    out: &mut O,
+) -> Result<bool, Failure>
+    requires { AreTried (IsTried T.sequential) plan.now.first (plan.now.first + seeds_in plan.now.first plan.now.last) found.now.illegal }
+    ensures legal { IfOk result (λ is_legal. IsTrue is_legal
+        → AreTried (IsTried T.sequential) plan.now.first (plan.now.first + seeds_in plan.now.first plan.now.last) None) }
+    ensures printed { IfOk result (λ is_legal. IsTrue is_legal
+        → Prints (O.contents out.old) (O.contents out.new) (IsTotals (seeds_in plan.now.first plan.now.last))) }
+{
+    match found.illegal {
+        Some(seed) => {
+            print_illegal(alloc, plan, seed, out)?;
+            Ok(false)
+        }
+        None => {
+            print_totals(plan.many(), found, out)?;
+            Ok(true)
+        }
+    }
+}
+
+/// Prints the script of a seed whose run is not legal.
+fn print_illegal<O: Write>(
+    alloc: Global,
+    plan: &Plan<'_>,
+    seed: u64,
+    out: &mut O,
+) -> Result<(), Failure>
+    ensures { OnOk result (Prints (O.contents out.old) (O.contents out.new) (IsIllegal IsScript)) }
+{
+    let text = made_script(alloc, plan.votes, seed, plan.lines)?;
+    write!(out, "# legal no\n{text}").map_err(|_| Failure::Output)
+}
+
+/// Prints how much was tried of so many seeds, and that all of it is legal.
+fn print_totals<O: Write>(seeds: u64, found: &Found, out: &mut O) -> Result<(), Failure>
+    ensures { OnOk result (Appends (O.contents out.old) (O.contents out.new)
+        (totals_text seeds found.now.events found.now.calls found.now.answered found.now.rings)) }
+{
+    let (events, calls) = (found.events, found.calls);
+    let (answered, rings) = (found.answered, found.rings);
+    writeln!(
+        out,
+        "seeds {seeds}\nevents {events}\ncalls {calls}\nanswered {answered}\nrings {rings}\nlegal yes"
+    )
+    .map_err(|_| Failure::Output)
+}
+
+/// Tries all seeds, by so many threads, or by one where that is 0.
+fn try_all<R: Threads + Sync>(
+    rt: &R,
+    alloc: Global,
+    plan: &Plan<'_>,
+    threads: u16,
+) -> Result<Found, Fault>
+    ensures { let object = ⟦<Things<Global> as Object>⟧ in IfOk result (λ found.
+        AreTried (IsTried object.sequential) plan.now.first (plan.now.first + seeds_in plan.now.first plan.now.last) found.illegal) }
+{
+    let parts = try_shares(rt, alloc, plan, threads)?;
+    joined::<Things<Global>>(plan, threads, parts)
+}
+
+/// Tries each of so many shares of the seeds, in a thread of its own where one can be made.
+fn try_shares<R: Threads + Sync>(
+    rt: &R,
+    alloc: Global,
+    plan: &Plan<'_>,
+    shares: u16,
+) -> Result<Vec<Result<Found, Fault>>, AllocError>
+    ensures len { IfOk result (λ parts. vec_len parts ≡ max shares 1) }
+    ensures each { let object = ⟦<Things<Global> as Object>⟧ in let many = seeds_in plan.now.first plan.now.last in
+        IfOk result (λ parts. (share : ℕ) (part : _) → share < max shares 1 → IfOk (slice_index_or parts.items share part) (λ found.
+        AreTried (IsTried object.sequential) (plan.now.first + share_begin many shares share) (plan.now.first + share_begin many shares (share + 1)) found.illegal)) }
+{
+    thread::map_indices(
+        rt,
+        alloc,
+        usize::from(shares.max(1)),
+        &|share| { try_share::<Things<Global>>(alloc, plan, shares, share as u64) },
+    )
+}
+
+/// What was found of all shares, where this was found of each.
+fn joined<O: Object<Alloc = Global>>(
+    plan: &Plan<'_>,
+    shares: u16,
+    parts: Vec<Result<Found, Fault>>,
+) -> Result<Found, Fault>
+    requires len { vec_len parts ≡ max shares 1 }
+    requires each { let many = seeds_in plan.now.first plan.now.last in
+        (share : ℕ) (part : _) → share < max shares 1 → IfOk (slice_index_or parts.items share part) (λ found.
+        AreTried (IsTried O.sequential) (plan.now.first + share_begin many shares share) (plan.now.first + share_begin many shares (share + 1)) found.illegal) }
+    ensures { IfOk result (λ found.
+        AreTried (IsTried O.sequential) plan.now.first (plan.now.first + seeds_in plan.now.first plan.now.last) found.illegal) }
+{
+    // The contract alone speaks of these two.
+    let (_, _) = (plan, shares);
+    let mut all = Found::new();
+    for part in parts {
+        let found = part?;
+        all.add(&found);
+    }
+    Ok(all)
+}
+
+/// Tries the seeds of a share, of so many: in their order, up to the first whose run is not legal.
+fn try_share<O: Object<Alloc = Global>>(
+    alloc: Global,
+    plan: &Plan<'_>,
+    shares: u16,
+    share: u64,
+) -> Result<Found, Fault>
+    ensures { let many = seeds_in plan.now.first plan.now.last in
+        IfOk result (λ found. AreTried (IsTried O.sequential) (plan.now.first + share_begin many shares share) (plan.now.first + share_begin many shares (share + 1)) found.illegal) }
+{
+    let many = plan.many();
+    let mut found = Found::new();
+    let begin = share_begin(many, shares, share);
+    let end = share_begin(many, shares, share.saturating_add(1));
+    for place in begin..end {
+        let one = try_seed::<O>(alloc, plan.votes, plan.first + place, plan.lines)?;
+        found.add(&one);
+        if found.illegal.is_some() {
+            return Ok(found);
+        }
+    }
+    Ok(found)
+}

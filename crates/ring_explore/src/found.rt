@@ -1,0 +1,45 @@
+//! What was found.
+
+ghost use Rattle.std.specs.Prelude.{◌≡◌, None};
+ghost use Rattle.ring_explore.specs.Explored.{first_of};
+
+/// What was found of some seeds.
+#[derive(Clone, Copy, Debug, PartialEq, Eq)]
+pub(crate) struct Found {
+    /// How many events were run, each delivery of a pump counted.
+    pub events: u64,
+    /// How many calls were submitted, each try counted.
+    pub calls: u64,
+    /// How many of these were answered.
+    pub answered: u64,
+    /// How many rings were installed, in each script each counted once.
+    pub rings: u64,
+    /// The first seed whose run is not legal.
+    pub illegal: Option<u64>,
+}
+
+impl Found {
+    /// Nothing yet.
+    pub fn new() -> Found
+        ensures { result.illegal ≡ None }
+    {
+        Found {
+            events: 0,
+            calls: 0,
+            answered: 0,
+            rings: 0,
+            illegal: None,
+        }
+    }
+
+    /// Adds what was found of the seeds behind these.
+    pub fn add(&mut self, other: &Found)
+        ensures { self.new.illegal ≡ first_of self.old.illegal other.now.illegal }
+    {
+        self.events = self.events.saturating_add(other.events);
+        self.calls = self.calls.saturating_add(other.calls);
+        self.answered = self.answered.saturating_add(other.answered);
+        self.rings = self.rings.saturating_add(other.rings);
+        self.illegal = self.illegal.or(other.illegal);
+    }
+}

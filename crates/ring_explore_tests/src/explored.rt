@@ -1,0 +1,32 @@
+//! What is explored.
+
+use ring_explore::{Plan, explore};
+use std::test::Fail;
+use std::thread::Threads;
+
+/// What is printed of three nodes and some seeds, by so many threads.
+fn printed<R: AllocGlobal + Threads + Sync>(rt: &R, threads: u16) -> Vec<u8> {
+    let mut out = Vec::new(rt.alloc());
+    let mut err = Vec::new(rt.alloc());
+    let plan = Plan {
+        votes: &[1, 1, 1],
+        first: 1,
+        last: 6,
+        lines: 40,
+    };
+    let status = explore(rt, rt.alloc(), plan, threads, &mut out, &mut err);
+    if status != 0 || !err.is_empty() {
+        out.clear();
+    }
+    out
+}
+
+#[test]
+fn threads_change_nothing(rt: HostRuntime) -> Result<(), Fail> {
+    let one = printed(&rt, 1);
+    assert!(rt; one.as_slice().starts_with(b"seeds 6\nevents "));
+    assert!(rt; one.as_slice().ends_with(b"\nlegal yes\n"));
+    assert!(rt; printed(&rt, 2).as_slice() == one.as_slice());
+    assert!(rt; printed(&rt, 7).as_slice() == one.as_slice());
+    Ok(())
+}

@@ -1,0 +1,94 @@
+//! The commands that run a script.
+
+use crate::command_line::{AskedScript, Way};
+use crate::commands::INPUT;
+use ring_base::Fault;
+use ring_explanation::reason_in;
+use ring_sweep::{Failure, report, script, script_check, sweep, sweep_watched};
+use std::alloc::Global;
+use std::io::{Error, ErrorKind, Read, Write};
+use std::rt::Files;
+use std::{fs, io};
+
+/// The exit status where the work was not done.
+const FAILED: u8 = 1;
+
+/// So many bytes are read of a script at most: one more than it may have, so that a longer one is seen to be one.
+const MOST_READ: u64 = 1_048_577;
+
+/// Runs the script that is asked for.
+pub(crate) fn run_script<R: Files + AllocGlobal, I: Read, O: Write, E: Write, P: Write>(
+    rt: &R,
+    asked: AskedScript<'_>,
+    input: &mut I,
+    out: &mut O,
+    err: &mut E,
+    progress: Option<&mut P>,
+) -> u8 {
+    let text = match text_of(rt, asked.file, input) {
+        Ok(text) => text,
+        Err(error) => return tell_unread(&error, asked.is_explained, err),
+    };
+    let status = run_text(rt.alloc(), asked.way, text.as_slice(), out, err, progress);
+    if status == FAILED && asked.is_explained {
+        explain(rt.alloc(), text.as_slice(), err);
+    }
+    status
+}
+
+/// What the file has, or the input, as far as a script is read.
+fn text_of<R: Files + AllocGlobal, I: Read>(
+    rt: &R,
+    file: &str,
+    input: &mut I,
+) -> io::Result<Vec<u8>> {
+    let mut text = Vec::new(rt.alloc());
+    if file == INPUT {
+        input.take(MOST_READ).read_to_end(&mut text)?;
+    } else {
+        let mut file = fs::open(rt, file)?;
+        file.take(MOST_READ).read_to_end(&mut text)?;
+    }
+    Ok(text)
+}
+
+/// Runs a script in this way.
+fn run_text<O: Write, E: Write, P: Write>(
+    alloc: Global,
+    way: Way,
+    text: &[u8],
+    out: &mut O,
+    err: &mut E,
+    progress: Option<&mut P>,
+) -> u8 {
+    let mut rest = text;
+    match (way, progress) {
+        (Way::Plain, _) => script(alloc, &mut rest, out, err),
+        (Way::Checked, _) => script_check(alloc, &mut rest, out, err),
+        (Way::Swept, Some(progress)) => sweep_watched(alloc, &mut rest, out, err, progress),
+        (Way::Swept, None) => sweep(alloc, &mut rest, out, err),
+    }
+}
+
+/// Tells below why a text is no script, if it is none.
+fn explain<E: Write>(alloc: Global, text: &[u8], err: &mut E) {
+    if let Ok(Some(reason)) = reason_in(alloc, text) {
+        let _ = writeln!(err, "totem: {reason}");
+    }
+}
+
+/// Tells that a file couldn't be read.
+fn tell_unread<E: Write>(error: &Error, is_explained: bool, err: &mut E) -> u8 {
+    if error.kind() == ErrorKind::OutOfMemory {
+        return report(err, Failure::Refused(Fault::Memory));
+    }
+    let status = report(err, Failure::BadScript(0));
+    if is_explained {
+        let reason = match error.kind() {
+            ErrorKind::NotFound => "there is no file of this name",
+            _ => "the file can't be read",
+        };
+        let _ = writeln!(err, "totem: {reason}");
+    }
+    status
+}

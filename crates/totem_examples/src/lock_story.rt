@@ -1,0 +1,119 @@
+//! A lock table on three nodes, an object of one's own: two clients ask for one lock, and a node is cut off meanwhile.
+//!
+//! Client 1 tries nodes 1 and 2, client 2 nodes 2 and 3. Client 1 acquires lock 7 for holder 11, so client 2 is refused it for
+//! holder 22, and told who has it. Then node 1 is cut off. Client 1 releases the lock: it polls node 1 in vain, and tries the
+//! same call at node 2, where it takes effect. So client 2 gets the lock.
+
+use crate::lock_operation::LockOperation;
+use crate::locks::Locks;
+use std::cell::RefCell;
+use std::io;
+use std::rc::Rc;
+use totem_ring::{
+    Client, Fault, Fixed, Network, Object, Outcome, Port, ProcSet, Replied, Shared, World,
+    WorldPort,
+};
+
+/// How often a client polls a node at most.
+const POLLS: u64 = 400;
+
+/// What the calls were replied, in order.
+#[derive(Clone, Copy)]
+struct Story {
+    acquired: Replied,
+    refused: Replied,
+    released: Replied,
+    passed_on: Replied,
+    holder: Replied,
+}
+
+/// Prints what comes of it.
+pub fn tell<R: AllocGlobal + Print>(rt: &R) -> io::Result<()> {
+    match ask_for_lock::<Locks>(rt.alloc()) {
+        Ok(story) => tell_story(rt, &story),
+        Err(fault) => println!(rt; "{fault}"),
+    }
+}
+
+/// Prints a story.
+fn tell_story<R: Print>(rt: &R, story: &Story) -> io::Result<()> {
+    let Story {
+        acquired,
+        refused,
+        released,
+        passed_on,
+        holder,
+    } = story;
+    println!(rt;
+        "11 acquires lock 7: {acquired:?}\n\
+        22 acquires it: {refused:?}\n\
+        Node 1 is cut off, and 11 releases it: {released:?}\n\
+        22 acquires it: {passed_on:?}\n\
+        Who has it: {holder:?}"
+    )
+}
+
+/// Calls with an operation: what the reply says.
+fn ask<P: Port>(client: &mut Client<P>, operation: LockOperation) -> Result<Replied, Fault> {
+    let reply = client.call(operation.spell().as_slice())?;
+    Ok(Replied::read(reply.as_slice()).unwrap_or(Replied {
+        outcome: Outcome::Unreadable,
+        value: None,
+    }))
+}
+
+/// Three nodes that hear each other.
+fn network_of<O: Object>(alloc: O::Alloc, group: Fixed) -> Result<Shared<O>, Fault> {
+    let network = Network::new(alloc, World::<O>::new(alloc, group)?);
+    Ok(Rc::new(alloc, RefCell::new(network))?)
+}
+
+/// The client of this number, which tries these two nodes.
+fn client_of<O: Object>(
+    alloc: O::Alloc,
+    shared: &Shared<O>,
+    group: Fixed,
+    number: u32,
+    nodes: (u8, u8),
+) -> Result<Client<WorldPort<O>>, Fault> {
+    let mut ports = Vec::new(alloc);
+    ports.push(WorldPort::new(shared.clone()?, group.proc(nodes.0)?))?;
+    ports.push(WorldPort::new(shared.clone()?, group.proc(nodes.1)?))?;
+    Ok(Client::new(alloc, number, ports, POLLS))
+}
+
+/// From now on the other nodes alone hear each other.
+fn cut_off<O: Object>(shared: &Shared<O>, group: Fixed, node: u8) -> Result<(), Fault> {
+    let others = group.everybody().less(ProcSet::only(group.proc(node)?));
+    let mut network = shared.try_borrow_mut().map_err(|_| Fault::NoAnswer)?;
+    network.cut(others);
+    Ok(())
+}
+
+/// The calls, and what they are replied.
+fn call_all<O: Object>(
+    shared: &Shared<O>,
+    group: Fixed,
+    one: &mut Client<WorldPort<O>>,
+    two: &mut Client<WorldPort<O>>,
+) -> Result<Story, Fault> {
+    let acquired = ask(one, LockOperation::Acquire(7, 11))?;
+    let refused = ask(two, LockOperation::Acquire(7, 22))?;
+    cut_off(shared, group, 1)?;
+    Ok(Story {
+        acquired,
+        refused,
+        released: ask(one, LockOperation::Release(7, 11))?,
+        passed_on: ask(two, LockOperation::Acquire(7, 22))?,
+        holder: ask(two, LockOperation::Holder(7))?,
+    })
+}
+
+/// The story of three nodes at their opening.
+fn ask_for_lock<O: Object>(alloc: O::Alloc) -> Result<Story, Fault> {
+    let group = Fixed::new(3)?;
+    let shared = network_of::<O>(alloc, group)?;
+    let mut one = client_of(alloc, &shared, group, 1, (1, 2))?;
+    let mut two = client_of(alloc, &shared, group, 2, (2, 3))?;
+    call_all(&shared, group, &mut one, &mut two)
+}

@@ -1,0 +1,108 @@
+//! The lock table, an object to replicate.
+
+ghost use Rattle.std.specs.Prelude.{◌≡◌};
+
+use crate::lock_operation::LockOperation;
+use std::alloc::{Allocator, Global};
+use std::marker::Model;
+use totem_ring::{Fault, Object, Replied, Reply, Table, done, done_with, refused_with, reply_of};
+
+/// 256 locks, at the start all free. Each is free or has a holder.
+///
+/// | Operation | Reply |
+/// |---|---|
+/// | acquire | done, where the lock was free or the holder's already; else not done, and who has it |
+/// | release | done, where the lock was the holder's, and it is free; else not done, and who has it |
+/// | holder | done, and who has the lock, 0 where it is free |
+#[derive(Drop)]
+pub struct Locks<A: Allocator + Copy = Global> {
+    holders: Table<A>,
+}
+
+impl<A: Allocator + Copy> Model for Locks<A> {
+    ghost use Rattle.std.specs.Prelude.{ℕ, List};
+
+    ghost Value = { List ℕ };
+
+    ghost view = { λ locks. locks.holders };
+}
+
+impl<A: Allocator + Copy + Drop> Object for Locks<A> {
+    ghost use Rattle.totem_ring.specs.Table.{IsTable, zeros_IsTable, zeros, snapshot_of, table_of, tables_restore};
+    ghost use Rattle.totem_ring.specs.Typed.{typed, is_read, typed_keeps, typed_replies, typed_ignores};
+    ghost use Rattle.totem_examples.specs.Locks.{spelling, reading, reply_to, after};
+    ghost use Rattle.totem_examples.specs.LocksLaws.{Fits, reads, keeps_table};
+
+    type Alloc = A;
+
+    ghost is_content = { IsTable 256 };
+
+    ghost is_readable = { is_read reading };
+
+    ghost sequential = { typed (zeros 256) reading reply_to after };
+
+    ghost snapshot_of = { snapshot_of };
+
+    ghost restored = { table_of 256 };
+
+    ghost starts = { zeros_IsTable 256 };
+
+    ghost keeps = { typed_keeps (IsTable 256) Fits spelling reading reads after keeps_table };
+
+    ghost replies = { typed_replies (IsTable 256) reading reply_to };
+
+    ghost ignores = { typed_ignores reading reply_to after };
+
+    ghost restores = { tables_restore 256 };
+
+    fn start(alloc: A) -> Result<Locks<A>, Fault> {
+        let holders = Table::zeros(alloc)?;
+        Ok(Locks { holders })
+    }
+
+    fn apply(&mut self, op: &[u8]) -> Result<Reply, Fault> {
+        let Some(operation) = LockOperation::read(op) else {
+            return Ok(reply_of(None));
+        };
+        Ok(reply_of(Some(self.answer(operation))))
+    }
+
+    fn snapshot(&self, out: &mut Vec<u8, A>) -> Result<(), Fault> {
+        self.holders.snapshot(out)
+    }
+
+    fn restore(alloc: A, bytes: &[u8]) -> Result<Locks<A>, Fault> {
+        let holders = Table::restore(alloc, bytes)?;
+        Ok(Locks { holders })
+    }
+}
+
+impl<A: Allocator + Copy + Drop> Locks<A> {
+    ghost use Rattle.totem_examples.specs.Locks.{reply_to, after};
+
+    /// Does an operation, and says how it went.
+    fn answer(&mut self, operation: LockOperation) -> Replied
+        ensures reply { result ≡ reply_to self.old operation }
+        ensures after { self.new ≡ after self.old operation }
+    {
+        match operation {
+            LockOperation::Acquire(lock, holder) => {
+                let has_it = self.holders.get(lock);
+                if has_it != 0 && has_it != holder {
+                    return refused_with(has_it);
+                }
+                self.holders.set(lock, holder);
+                done()
+            }
+            LockOperation::Release(lock, holder) => {
+                let has_it = self.holders.get(lock);
+                if has_it != holder {
+                    return refused_with(has_it);
+                }
+                self.holders.set(lock, 0);
+                done()
+            }
+            LockOperation::Holder(lock) => done_with(self.holders.get(lock)),
+        }
+    }
+}

@@ -1,0 +1,192 @@
+//! Three nodes on threads of their own, and a counter that two clients add to from their threads.
+//!
+//! Client 1 tries node 1 and then node 2; client 2 tries node 3 and then node 2. A client passes on to its next node, with the
+//! same call under the same number, where one refuses the call or doesn't answer. So each call takes effect once, whatever the
+//! threads do when: each client adds 1 ten times, and 20 calls stand in the one order.
+
+ghost use Rattle.std.specs.Prelude.{◌≡◌, All, IfOk};
+ghost use Rattle.totem_threads.specs.Seats.{IsAt};
+
+use std::alloc::Global;
+use std::marker::Brand;
+use std::sync::Wait;
+use std::sync::atomic::{AtomicU64, Ordering};
+use std::thread::Threads;
+use std::{io, thread};
+use totem_threads::{
+    BookName, Client, Counters, Fault, Fixed, Host, HostPort, Object, Opening, Port, Seat,
+};
+
+/// How often a client polls a node at most, before it passes on to the next.
+const POLLS: u64 = 1_000_000;
+
+/// How often a client tries a call anew at most that none of its nodes has answered.
+const TRIES: u32 = 1_000;
+
+/// A client: its number, and the nodes that it tries.
+#[derive(Clone, Copy)]
+struct Plan {
+    client: u32,
+    first: u8,
+    second: u8,
+}
+
+const CLIENT_1: Plan = Plan {
+    client: 1,
+    first: 1,
+    second: 2,
+};
+
+const CLIENT_2: Plan = Plan {
+    client: 2,
+    first: 3,
+    second: 2,
+};
+
+/// A client adds 1 ten times, by its two nodes, to each of which it has a port from one of these seats of the host's. It ends at
+/// its first fault. The last client to end closes the host.
+fn add_ten<O: Object, K: BookName<O::Alloc>, W: Wait>(
+    rt: &W,
+    alloc: O::Alloc,
+    host: &Host<O, K>,
+    seats: Vec<Seat<O::Alloc>, O::Alloc>,
+    plan: Plan,
+    running: &AtomicU64,
+)
+    requires { All (IsAt host.now) seats.items }
+{
+    let _ = try_add_ten(rt, alloc, host, seats, plan);
+    if running.fetch_sub(1, Ordering::SeqCst) == 1 {
+        host.close();
+    }
+}
+
+/// The calls of a client.
+fn try_add_ten<O: Object, K: BookName<O::Alloc>, W: Wait>(
+    rt: &W,
+    alloc: O::Alloc,
+    host: &Host<O, K>,
+    seats: Vec<Seat<O::Alloc>, O::Alloc>,
+    plan: Plan,
+) -> Result<(), Fault>
+    requires { All (IsAt host.now) seats.items }
+{
+    let mut seats = seats;
+    let mut ports = Vec::new(alloc);
+    let port = HostPort::to(rt, host, &mut seats, plan.first)?;
+    ports.push(port)?;
+    let port = HostPort::to(rt, host, &mut seats, plan.second)?;
+    ports.push(port)?;
+    let mut client = Client::new(alloc, plan.client, ports, POLLS);
+    for _ in 0..10 {
+        add(&mut client)?;
+    }
+    Ok(())
+}
+
+/// Adds 1. A call that no node has answered is tried anew, under the same number, so that it takes effect once: the nodes may still
+/// be forming their ring.
+fn add<P: Port>(client: &mut Client<P>) -> Result<(), Fault> {
+    let mut fault = client.call(Counters::add(0, 1).as_slice()).err();
+    for _ in 0..TRIES {
+        if fault != Some(Fault::NoAnswer) {
+            break;
+        }
+        fault = client.again().err();
+    }
+    match fault {
+        Some(fault) => Err(fault),
+        None => Ok(()),
+    }
+}
+
+/// Two of the host's seats.
+fn two_of<O: Object, K: BookName<O::Alloc>>(
+    alloc: O::Alloc,
+    host: &Host<O, K>,
+    seats: &mut Vec<Seat<O::Alloc>, O::Alloc>,
+) -> Result<Vec<Seat<O::Alloc>, O::Alloc>, Fault>
+    requires { All (IsAt host.now) seats.old.items }
+    ensures seats { All (IsAt host.now) seats.new.items }
+    ensures two { IfOk result (λ two. All (IsAt host.now) two.items) }
+{
+    let mut two = Vec::new(alloc);
+    let (Some(one), Some(other)) = (host.take_seat(seats), host.take_seat(seats)) else {
+        return Err(Fault::NotMember);
+    };
+    two.push(one)?;
+    two.push(other)?;
+    Ok(two)
+}
+
+/// The nodes run, and both clients add, all in threads, of which none is left afterwards. The nodes rest where there is nothing to
+/// do: at full speed an idle ring would fill the book within seconds.
+fn run<O: Object + Send, K: BookName<O::Alloc> + Send + Sync, W: Threads + Wait + Sync>(
+    rt: &W,
+    alloc: O::Alloc,
+    host: &Host<O, K>,
+    seats: Vec<Seat<O::Alloc>, O::Alloc>,
+    ones: Vec<Seat<O::Alloc>, O::Alloc>,
+    others: Vec<Seat<O::Alloc>, O::Alloc>,
+) -> Result<(), Fault>
+where
+    O::Alloc: Send + Sync,
+    requires { All (IsAt host.now) seats.items × All (IsAt host.now) ones.items × All (IsAt host.now) others.items }
+{
+    let paced = host.paced(rt)?;
+    let running = AtomicU64::new(2);
+    let (gate, left) = (&paced, &running);
+    thread::scope(
+        thread::scope_env(),
+        rt,
+        move |scope| -> Result<(), Fault>
+            requires { All (IsAt host.now) seats.items × All (IsAt host.now) ones.items × All (IsAt host.now) others.items }
+        {
+            let one = move ||
+                requires { All (IsAt host.now) ones.items }
+            { add_ten(rt, alloc, host, ones, CLIENT_1, left) };
+            let other = move ||
+                requires { All (IsAt host.now) others.items }
+            { add_ten(rt, alloc, host, others, CLIENT_2, left) };
+            if scope.spawn(one).is_err() || scope.spawn(other).is_err() {
+                host.close();
+            }
+            let mut seats = seats;
+            host.run(rt, seats.as_mut_slice(), gate)
+        },
+    )
+}
+
+/// How many calls stand in the order at the end, on three nodes of the opening that K names.
+fn count<O: Object + Send, K: BookName<O::Alloc> + Send + Sync, W: Threads + Wait + Sync>(
+    rt: &W,
+    alloc: O::Alloc,
+    opening: Opening<O>,
+) -> Result<usize, Fault>
+where
+    O::Alloc: Send + Sync,
+    requires { opening ≡ K.name }
+{
+    let (host, mut seats) = Host::<O, K>::new(alloc, opening, 4)?;
+    let ones = two_of(alloc, &host, &mut seats)?;
+    let others = two_of(alloc, &host, &mut seats)?;
+    run(rt, alloc, &host, seats, ones, others)?;
+    let order = host.read_book(rt, |book| book.order())?;
+    Ok(order.len())
+}
+
+/// The same of counters.
+fn counted<W: Threads + Wait + Sync>(rt: &W, alloc: Global) -> Result<usize, Fault> {
+    let opening = Opening::<Counters>::new(alloc, Fixed::new(3)?)?;
+    count::<Counters, Brand, W>(rt, alloc, opening)
+}
+
+/// Prints how many calls the one order has.
+pub fn tell<R: AllocGlobal + Print + Threads + Wait + Sync>(rt: &R) -> io::Result<()> {
+    match counted(rt, rt.alloc()) {
+        Ok(count) => {
+            println!(rt; "Two clients add 1 ten times each: the one order has {count} calls.")
+        }
+        Err(fault) => println!(rt; "{fault}"),
+    }
+}
