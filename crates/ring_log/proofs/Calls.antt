@@ -2,6 +2,7 @@
 use Rattle.std.proofs.Common.{◌≡◌, ℕ, zero, suc, ◌+◌, ◌-◌, ◌<◌, ◌==◌, ◌&&◌, min, max, Bool, true, false, List, []}
 use Rattle.std.proofs.Common.{◌∷◌, ◌++◌, length, take, drop, ◌↔◌, IsTrue, refl, ap, sym, ◌∙◌, arith, length-append, inl}
 use Rattle.std.proofs.Common.{inr}
+use Rattle.std.specs.Prelude.{is_none}
 use Rattle.std.specs.Bool.{Decides, one_answer}
 use Rattle.std.specs.Str.{bytes_eq}
 use Rattle.std.specs.Cmp.Lexicographic.{pointwise_decides}
@@ -125,8 +126,10 @@ committed-raised log n is = record {
 adopted-same : {A : Type 0} (log : Log A) (base : Base A) → IsLog log → is_adoptable log base ≡ true
     → committed_calls log ≡ take log.committed (based log.calls base)
 adopted-same log base is may =
+    let fits = (and_parts (is_none base.snapshot)
+    (begins (committed_calls log) (based log.calls base) && is_log_length (length (based log.calls base))) may).1 in
     let begun = (begins-Decides (committed_calls log) (based log.calls base)).0
-    (and_parts (begins (committed_calls log) (based log.calls base)) (is_log_length (length (based log.calls base))) may).0 in
+    (and_parts (begins (committed_calls log) (based log.calls base)) (is_log_length (length (based log.calls base))) fits).0 in
     begun ∙ ap (λ n. take n (based log.calls base)) (length-take-le log.committed log.calls is)
 
 pub committed-adopted : {A : Type 0} (log : Log A) (ring : RingId) (base : Base A) → IsLog log → is_adoptable log base ≡ true

@@ -12,7 +12,7 @@ pub born-committed : {A : Type 0} (group : Group) (i : ℕ) → committed_of gro
 born-committed {A} group i =
     let none : exchanged group (only i) [] ≡ None = cond_both (is_primary group (only i)) None None (λ (o : Option (Whole A)). o ≡ None) (λ t. refl)
     (λ f. refl) in
-    ap (committed_by [] []) none
+    ap (committed_by [] [] []) none
 
 -- what is handed over commits nothing
 pub hands-committed : {A : Type 0} (group : Group) (due : List (Payload A)) (life : List (Stay A))

@@ -1,7 +1,8 @@
 -- An exchange that is whole changes no more, so what a member keeps of it hands out the base at one message: that with which the exchange ends.
 use Rattle.std.proofs.Common.{◌≡◌, ℕ, ◌+◌, ◌-◌, ◌≤◌, nat_le, ◌==◌, ◌&&◌, Bool, true, false, List, [], ◌∷◌, ◌++◌, length}
+use Rattle.std.specs.Prelude.{◌||◌, nat_lt, is_none}
 use Rattle.std.proofs.Common.{Option, Some, None, refl, ap, sym, ◌∙◌, arith, add-zero, if◌then◌else◌}
-use Rattle.std.proofs.lemmas.Bool.{and_parts, cond-true, cond-false, eqb-true, leb-true}
+use Rattle.std.proofs.lemmas.Bool.{and_parts, cond-true, cond-false, eqb-true, leb-true, ltb-true, ne_eqb}
 use Rattle.std.proofs.lemmas.List.{append-nil}
 use Rattle.std.proofs.lemmas.Nat.Bits.{bit_at-zero}
 use Rattle.ring_base.specs.Processors.{has, nobody}
@@ -9,24 +10,26 @@ use Rattle.ring_base.specs.Group.{Group, is_primary}
 use Rattle.ring_payload.specs.declared.call.Call.{Call as OneCall}
 use Rattle.ring_payload.specs.declared.calls.Part.{Part as OnePart}
 use Rattle.ring_payload.specs.declared.head.Head.{Head as OneHead}
+use Rattle.ring_payload.specs.declared.snap.Snap.{Snap as OneSnap}
 use Rattle.ring_payload.specs.declared.content.Payload.{Payload}
 use Rattle.ring_payload.specs.declared.content.Payload.TheVariants.{Call, Wrapped, End, Head, Part, Pack, Snap}
 use Rattle.ring_wire.specs.declared.message.Message.{Message}
 use Rattle.ring_log.specs.declared.base.Base.{Base}
 use Rattle.ring_log.specs.declared.wanted.Wanted.{Wanted}
-use Rattle.ring_log.specs.Exchanges.{Exchange, opened, wanted_by, wanted, hear_head, is_wanted, hear_part, heard}
-use Rattle.ring_log.specs.Exchanges.{is_brought, is_whole, base_from, handed_out, base_at, relieved, based}
-use Rattle.ring_log.specs.Lives.{Whole, heard_by, whole_from, after_all, heard_on, exchanged, base_ending, base_on, own_base}
+use Rattle.ring_log.specs.Exchanges.{Exchange, opened, wanted_by, wanted, hear_head, is_snapped, is_piece_of, is_next_piece, hear_snap, is_next}
+use Rattle.ring_log.specs.Exchanges.{is_wanted, hear_part, heard, is_brought, is_whole, snapshot_by, base_from, handed_out, base_at, relieved, based}
+use Rattle.ring_log.specs.Lives.{Whole, heard_by, whole_from, after_all, heard_on, exchanged, base_ending, places_below, base_on, own_base}
+use Rattle.ring_log.specs.Lives.{is_unsnapped}
 
 -- ---- a whole exchange
 
-stated-by : (b : Bool) (o : Option Wanted) (places : ℕ) → is_brought (if b then o else None) places ≡ true → b ≡ true
-stated-by true o places whole = refl
-stated-by false o places whole = absurd (cc whole)
+stated-by : (b : Bool) (o : Option Wanted) (got total places : ℕ) → is_brought (if b then o else None) got total places ≡ true → b ≡ true
+stated-by true o got total places whole = refl
+stated-by false o got total places whole = absurd (cc whole)
 
 -- every member's Head was heard
 pub stated : {A : Type 0} (e : Exchange A) → is_whole e ≡ true → e.unheard ≡ nobody
-stated e whole = eqb-true e.unheard nobody (stated-by (e.unheard == nobody) (wanted_by e.heads) e.places whole)
+stated e whole = eqb-true e.unheard nobody (stated-by (e.unheard == nobody) (wanted_by e.heads) e.got e.total e.places whole)
 
 pub has-nobody : (i : ℕ) → has nobody i ≡ false
 has-nobody i = ap (λ k. k == 1) (bit_at-zero (i - 1))
@@ -35,20 +38,56 @@ whole-head : {A : Type 0} (e : Exchange A) (sender : ℕ) (head : OneHead) → i
 whole-head e sender head whole =
     cond-false (has e.unheard sender) _ e (ap (λ set. has set sender) (stated e whole) ∙ has-nobody sender)
 
+-- after the last piece no other is next
+
+told-total : (b c : Bool) → b || c ≡ true → b ≡ false → c ≡ true
+told-total true c some not = absurd (cc not)
+told-total false c some not = some
+
+never : (b : Bool) → (b ≡ true → ⊥) → b ≡ false
+never true not = absurd (not refl)
+never false not = refl
+
+last-piece : {A : Type 0} (o : Option ℕ) (got total : ℕ) (snap : OneSnap A) → is_snapped o got total ≡ true → is_piece_of o got total snap ≡ true → ⊥
+last-piece None got total snap all next = cc next
+last-piece (Some at) got total snap all next =
+    let whole = and_parts (nat_le 1 total) (got == total) all in
+    let some : 1 ≤ total = leb-true 1 total whole.0 in
+    let end : got ≡ total = eqb-true got total whole.1 in
+    let parts = and_parts ((snap.at == at) && (snap.offset == got) && ((total == 0) || (snap.total == total))) (nat_lt got snap.total) next in
+    let told = (and_parts ((snap.at == at) && (snap.offset == got)) ((total == 0) || (snap.total == total)) parts.0).1 in
+    let same : snap.total ≡ total = eqb-true snap.total total
+    (told-total (total == 0) (snap.total == total) told (ne_eqb total 0 (λ none. omega (arith, some, none)))) in
+    omega (arith, end, same, ltb-true got snap.total parts.1)
+
+no-piece : {A : Type 0} (o : Option Wanted) (got total places sender : ℕ) (snap : OneSnap A) → is_brought o got total places ≡ true
+    → is_next_piece o got total sender snap ≡ false
+no-piece None got total places sender snap whole = refl
+no-piece (Some w) got total places sender snap whole =
+    never (is_next_piece (Some w) got total sender snap) (λ next.
+    last-piece w.snapshot got total snap (and_parts (is_snapped w.snapshot got total) (nat_le w.to (w.from + places)) whole).0
+    (and_parts (sender == w.owner) (is_piece_of w.snapshot got total snap) next).1)
+
+whole-snap : {A : Type 0} (e : Exchange A) (sender : ℕ) (snap : OneSnap A) → is_whole e ≡ true → hear_snap e sender snap ≡ e
+whole-snap e sender snap whole =
+    cond-false (is_next_piece (wanted e) e.got e.total sender snap) _ e (no-piece (wanted e) e.got e.total e.places sender snap whole)
+
 empty : {X : Type 0} (xs : List X) → length xs ≡ 0 → xs ≡ []
 empty [] e = refl
 empty (x ∷ xs) e = absurd (omega arith)
 
 -- a Part that is wanted still has no places
-part-empty : {A : Type 0} (o : Option Wanted) (places sender : ℕ) (part : OnePart A) → is_brought o places ≡ true → is_wanted o places sender part ≡ true
-    → length part.calls ≡ 0
-part-empty None places sender part whole next = absurd (cc next)
-part-empty (Some w) places sender part whole next =
-    let parts = and_parts ((sender == w.owner) && (part.first == w.from + places)) (nat_le (part.first + length part.calls) w.to) next in
+part-empty : {A : Type 0} (o : Option Wanted) (got total places sender : ℕ) (part : OnePart A) → is_brought o got total places ≡ true
+    → is_wanted o got total places sender part ≡ true → length part.calls ≡ 0
+part-empty None got total places sender part whole next = absurd (cc next)
+part-empty (Some w) got total places sender part whole next =
+    let parts = and_parts ((sender == w.owner) && (part.first == w.from + places)) (nat_le (part.first + length part.calls) w.to)
+    (and_parts (is_snapped w.snapshot got total) (is_next w places sender part) next).1 in
     let first : part.first ≡ w.from + places = eqb-true part.first (w.from + places) (and_parts (sender == w.owner) (part.first == w.from + places) parts.0).1
     in
     let within : part.first + length part.calls ≤ w.to = leb-true (part.first + length part.calls) w.to parts.1 in
-    let end : w.to ≤ w.from + places = leb-true w.to (w.from + places) whole in
+    let end : w.to ≤ w.from + places = leb-true w.to (w.from + places)
+    (and_parts (is_snapped w.snapshot got total) (nat_le w.to (w.from + places)) whole).1 in
     omega arith
 
 part-nothing : {A : Type 0} (b : Bool) (e : Exchange A) (calls : List (OneCall A)) → (b ≡ true → calls ≡ [])
@@ -62,7 +101,8 @@ part-nothing false e calls nothing = refl
 
 whole-part : {A : Type 0} (e : Exchange A) (sender : ℕ) (part : OnePart A) → is_whole e ≡ true → hear_part e sender part ≡ e
 whole-part e sender part whole =
-    part-nothing (is_wanted (wanted e) e.places sender part) e part.calls (λ next. empty part.calls (part-empty (wanted e) e.places sender part whole next))
+    part-nothing (is_wanted (wanted e) e.got e.total e.places sender part) e part.calls
+    (λ next. empty part.calls (part-empty (wanted e) e.got e.total e.places sender part whole next))
 
 -- nothing more is heard of it
 pub whole-heard : {A : Type 0} (e : Exchange A) (sender : ℕ) (payload : Payload A) → is_whole e ≡ true → heard e sender payload ≡ e
@@ -72,7 +112,7 @@ whole-heard e sender (Call call) whole = refl
 whole-heard e sender (Wrapped old) whole = refl
 whole-heard e sender End whole = refl
 whole-heard e sender (Pack pack) whole = refl
-whole-heard e sender (Snap snap) whole = refl
+whole-heard e sender (Snap snap) whole = whole-snap e sender snap whole
 
 whole-after : {A : Type 0} (e : Exchange A) (xs : List (Message A)) → is_whole e ≡ true → after_all e xs ≡ e
 whole-after e [] whole = refl
@@ -81,7 +121,7 @@ whole-after e (x ∷ xs) whole = ap (λ r. after_all r xs) (whole-heard e x.send
 -- ---- what is kept of it
 
 abbrev emptied : {A : Type 0} → Exchange A → Exchange A
-emptied e = record e { brought = [] }
+emptied e = record e { bytes = []; brought = [] }
 
 whole-by : {A : Type 0} (b : Bool) (e : Exchange A) → is_whole (if b then emptied e else e) ≡ is_whole e
 whole-by true e = refl
@@ -111,17 +151,17 @@ relieved-nothing : {A : Type 0} (b : Bool) (members : ℕ) → (if b then emptie
 relieved-nothing true members = refl
 relieved-nothing false members = refl
 
--- the exchange that was heard, without the calls that it handed out
+-- the exchange that was heard, without the bytes and calls that it handed out
 pub heard_on-after : {A : Type 0} (members : ℕ) (xs : List (Message A)) → heard_on (opened members) xs ≡ relieved (after_all (opened members) xs)
 heard_on-after {A} members xs =
     ap (λ r. heard_on r xs) (sym (relieved-nothing (is_whole (opened {A = A} members)) members)) ∙ heard_on-relieved (opened members) xs
 
-opened-by : (b : Bool) (places : ℕ) → is_brought (if b then None else None) places ≡ false
-opened-by true places = refl
-opened-by false places = refl
+opened-by : (b : Bool) → is_brought (if b then None else None) 0 0 0 ≡ false
+opened-by true = refl
+opened-by false = refl
 
 pub opened-open : (A : Type 0) (members : ℕ) → is_whole (opened {A = A} members) ≡ false
-opened-open A members = opened-by (members == nobody) 0
+opened-open A members = opened-by (members == nobody)
 
 -- ---- one message more
 
@@ -186,7 +226,7 @@ some-whole e (x ∷ xs) w some =
 handed-last : {A : Type 0} (b : Bool) (e : Exchange A) (n : ℕ) → is_whole e ≡ b
     → handed_out e ≡ base_ending None (if b then Some (record { exchange = e; end = n; rest = [] }) else None)
 handed-last true e n whole = refl
-handed-last false e n whole = cond-false (is_whole e) (base_from (wanted e) e.brought) None whole
+handed-last false e n whole = cond-false (is_whole e) (base_from (wanted e) e.bytes e.brought) None whole
 
 handed-at : {A : Type 0} (members : ℕ) (xs : List (Message A)) (x : Message A) (o : Option (Whole A)) → whole_from (opened members) xs ≡ o
     → base_at (relieved (after_all (opened members) xs)) x.sender x.payload ≡ base_ending o (whole_from (opened members) (xs ++ x ∷ []))
@@ -244,15 +284,61 @@ pub later : {A : Type 0} (group : Group) (members : ℕ) (text : List (Message A
     → exchanged group members text ≡ Some w → exchanged group members (text ++ x ∷ []) ≡ Some (record w { rest = w.rest ++ x ∷ [] })
 later group members text x w some = later-by (is_primary group members) members text x w some
 
-based-by : {A : Type 0} (b : Bool) (o : Option Wanted) (calls : List (OneCall A)) (base : Base A) (own : List (OneCall A))
-    → (if b then base_from o calls else None) ≡ Some base
-    → based own base ≡ base_on own o calls
-based-by true None calls base own some = absurd (cc some)
-based-by {A} true (Some w) calls base own some =
-    let first : Base A = record { from = w.from; calls = calls } in
-    let same : first ≡ base = cc some in
-    ap (based own) (sym same)
-based-by false o calls base own some = absurd (cc some)
+-- ---- what a base makes of a log
 
-pub handed-based : {A : Type 0} (e : Exchange A) (base : Base A) (own : List (OneCall A)) → handed_out e ≡ Some base → based own base ≡ own_base own e
-handed-based e base own some = based-by (is_whole e) (wanted e) e.brought base own some
+unsnapped : (o : Option ℕ) (bytes : List ℕ) → snapshot_by o bytes ≡ None → o ≡ None
+unsnapped None bytes none = refl
+unsnapped (Some at) bytes none = absurd (cc none)
+
+snapped : (o : Option ℕ) (bytes told : List ℕ) → snapshot_by o bytes ≡ Some told → (at : ℕ) × (o ≡ Some at) × (told ≡ bytes)
+snapped None bytes told some = absurd (cc some)
+snapped (Some at) bytes told some = (at, refl, cc some)
+
+based-by : {A : Type 0} (b : Bool) (o : Option Wanted) (bytes : List ℕ) (calls : List (OneCall A)) (base : Base A) (own front : List (OneCall A))
+    → (if b then base_from o bytes calls else None) ≡ Some base → base.snapshot ≡ None
+    → based own base ≡ base_on own front o calls
+based-by true None bytes calls base own front some none = absurd (cc some)
+based-by {A} true (Some w) bytes calls base own front some none =
+    let first : Base A = record { from = w.from; snapshot = snapshot_by w.snapshot bytes; calls = calls } in
+    let same : first ≡ base = cc some in
+    let plain : w.snapshot ≡ None = unsnapped w.snapshot bytes (ap (λ (b : Base A). b.snapshot) same ∙ none) in
+    ap (based own) (sym same) ∙ ap (λ o. places_below own front w.from o ++ calls) (sym plain)
+based-by false o bytes calls base own front some none = absurd (cc some)
+
+pub handed-based : {A : Type 0} (e : Exchange A) (base : Base A) (own front : List (OneCall A)) → handed_out e ≡ Some base → base.snapshot ≡ None
+    → based own base ≡ own_base own front e
+handed-based e base own front some none = based-by (is_whole e) (wanted e) e.bytes e.brought base own front some none
+
+plain-by : {A : Type 0} (b : Bool) (o : Option Wanted) (bytes : List ℕ) (calls : List (OneCall A)) (base : Base A)
+    → (if b then base_from o bytes calls else None) ≡ Some base → is_none base.snapshot ≡ is_unsnapped o
+plain-by true None bytes calls base some = absurd (cc some)
+plain-by {A} true (Some w) bytes calls base some =
+    let first : Base A = record { from = w.from; snapshot = snapshot_by w.snapshot bytes; calls = calls } in
+    let same : first ≡ base = cc some in
+    ap (λ (b : Base A). is_none b.snapshot) (sym same) ∙ both w.snapshot
+  where
+    both : (o : Option ℕ) → is_none (snapshot_by o bytes) ≡ is_none o
+    both None = refl
+    both (Some at) = refl
+plain-by false o bytes calls base some = absurd (cc some)
+
+-- a base comes without a snapshot exactly where none is wanted
+pub handed-plain : {A : Type 0} (e : Exchange A) (base : Base A) → handed_out e ≡ Some base → is_none base.snapshot ≡ is_unsnapped (wanted e)
+handed-plain e base some = plain-by (is_whole e) (wanted e) e.bytes e.brought base some
+
+snapped-by : {A : Type 0} (b : Bool) (o : Option Wanted) (bytes told : List ℕ) (calls : List (OneCall A)) (base : Base A) (own front : List (OneCall A))
+    → (if b then base_from o bytes calls else None) ≡ Some base → base.snapshot ≡ Some told
+    → (told ≡ bytes) × (base_on own front o calls ≡ front ++ base.calls)
+snapped-by true None bytes told calls base own front some is = absurd (cc some)
+snapped-by {A} true (Some w) bytes told calls base own front some is =
+    let first : Base A = record { from = w.from; snapshot = snapshot_by w.snapshot bytes; calls = calls } in
+    let same : first ≡ base = cc some in
+    let parts = snapped w.snapshot bytes told (ap (λ (b : Base A). b.snapshot) same ∙ is) in (
+      parts.2,
+      ap (λ o. places_below own front w.from o ++ calls) parts.1 ∙ ap (λ (b : Base A). front ++ b.calls) same,
+    )
+snapped-by false o bytes told calls base own front some is = absurd (cc some)
+
+pub handed-snapshot : {A : Type 0} (e : Exchange A) (base : Base A) (bytes : List ℕ) (own front : List (OneCall A)) → handed_out e ≡ Some base
+    → base.snapshot ≡ Some bytes → (bytes ≡ e.bytes) × (own_base own front e ≡ front ++ base.calls)
+handed-snapshot e base bytes own front some is = snapped-by (is_whole e) (wanted e) e.bytes bytes e.brought base own front some is

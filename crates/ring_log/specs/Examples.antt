@@ -1,6 +1,6 @@
--- Worked heads: which log an exchange goes by, what is wanted of it, and in which Parts it comes; and a worked life,
--- with the logs that it makes. The replicated log, rules 2 to 6, 11 and 12 of docs/PROTOCOL.md.
-use Rattle.std.specs.Prelude.{ℕ, List, [], ◌∷◌, map, Option, Some, None}
+-- Worked heads: which log an exchange goes by, what is wanted of it, and in which pieces and Parts it comes; and a worked
+-- life, with the logs that it makes. The replicated log, rules 2 to 6, 11 and 12 of docs/PROTOCOL.md.
+use Rattle.std.specs.Prelude.{ℕ, zero, suc, ◌+◌, List, [], ◌∷◌, map, Option, Some, None}
 use Rattle.std.specs.declared.alloc.Global.{Global}
 use Rattle.ring_base.specs.Group.{Group}
 use Rattle.ring_base.specs.Numbers.{numbers_from}
@@ -9,11 +9,14 @@ use Rattle.ring_payload.specs.declared.call.Call.{Call as OneCall}
 use Rattle.ring_payload.specs.declared.calls.Part.{Part as OnePart}
 use Rattle.ring_payload.specs.declared.head.Head.{Head as OneHead}
 use Rattle.ring_payload.specs.declared.content.Payload.{Payload}
-use Rattle.ring_payload.specs.declared.content.Payload.TheVariants.{Call as CallPayload, Head, Part, Pack}
+use Rattle.ring_payload.specs.declared.snap.Snap.{Snap as OneSnap}
+use Rattle.ring_payload.specs.declared.content.Payload.TheVariants.{Call as CallPayload, Head, Part, Pack, Snap}
 use Rattle.ring_wire.specs.declared.message.Message.{Message}
 use Rattle.ring_log.specs.declared.base.Base.{Base}
 use Rattle.ring_log.specs.declared.wanted.Wanted.{Wanted}
 use Rattle.ring_log.specs.Exchanges.{Exchange, opened, heard}
+use Rattle.ring_log.specs.Kept.{Kept}
+use Rattle.ring_log.specs.Lives.{Whole}
 use Rattle.ring_log.specs.Stays.{Stay, stay_in, born, hears, marks}
 
 -- a Head of a log whose last primary is the ring of this number that processor 1 represents
@@ -36,7 +39,7 @@ abbrev pub unequal : Exchange Global
 unequal = heads_of_three (head_at 8 20 16) (head_at 8 18 16) (head_at 4 9 9)
 
 abbrev pub wanted_places : ℕ → ℕ → ℕ → Option Wanted
-wanted_places owner from to = Some (record { owner = owner; from = from; to = to })
+wanted_places owner from to = Some (record { owner = owner; snapshot = None; from = from; to = to })
 
 -- client 7's call of this number
 abbrev pub call_of_seven : ℕ → OneCall Global
@@ -54,7 +57,66 @@ abbrev pub after_one_part : Exchange Global
 after_one_part = heard unequal 1 (Part (part_at 9 7))
 
 abbrev pub unequal_base : Option (Base Global)
-unequal_base = Some (record { from = 9; calls = calls_from 9 11 })
+unequal_base = Some (record { from = 9; snapshot = None; calls = calls_from 9 11 })
+
+-- Logs of which the first 256 places are dropped, and processor 3 has none of these: processor 1 owns a snapshot of them, here of 5 bytes
+
+-- a Head of such a log, whose last primary is ring 4.1
+abbrev pub trimmed_head : ℕ → ℕ → OneHead
+trimmed_head length committed = record { last = Some (record { seq = 4; rep = 1 }); length = length; committed = committed; trimmed = 256 }
+
+-- a Head of a log that no ring was adopted for
+abbrev pub no_head : OneHead
+no_head = record { last = None; length = 0; committed = 0; trimmed = 0 }
+
+abbrev pub trimmed : Exchange Global
+trimmed = heads_of_three (trimmed_head 300 290) (trimmed_head 298 290) no_head
+
+-- a piece of a snapshot
+abbrev pub piece_at : ℕ → ℕ → ℕ → List ℕ → OneSnap Global
+piece_at at total offset bytes = record { at = at; total = total; offset = offset; bytes = bytes }
+
+abbrev pub five_bytes : List ℕ
+five_bytes = 0 ∷ 0 ∷ 7 ∷ 7 ∷ 7 ∷ []
+
+abbrev pub after_snapshot : Exchange Global
+after_snapshot = heard trimmed 1 (Snap (piece_at 256 5 0 five_bytes))
+
+-- the exchange after client 7's calls in Parts of 7, so many of them, from this place on
+abbrev pub after_parts : Exchange Global → ℕ → ℕ → Exchange Global
+after_parts e first zero = e
+after_parts e first (suc count) = after_parts (heard e 1 (Part (part_at first 7))) (first + 7) count
+
+abbrev pub trimmed_base : Option (Base Global)
+trimmed_base = Some (record { from = 256; snapshot = Some five_bytes; calls = calls_from 256 44 })
+
+-- this exchange, whole
+abbrev pub trimmed_whole : Whole Global
+trimmed_whole = record { exchange = heard (after_parts after_snapshot 256 6) 1 (Part (part_at 298 2)); end = 14; rest = [] }
+
+-- what is known of a log of so many places that adopted ring SEQ.1: 290 of them are committed, and the first 256 are dropped
+abbrev pub known : ℕ → ℕ → Kept Global
+known seq length =
+    record {
+      from = 0;
+      calls = calls_from 0 length;
+      committed = 290;
+      trimmed = 256;
+      last = Some (record { seq = seq; rep = 1 });
+      snapshot = [];
+    }
+
+-- and of one that was restored from the snapshot, with ring SEQ.1
+abbrev pub known_restored : ℕ → Kept Global
+known_restored seq =
+    record {
+      from = 256;
+      calls = calls_from 256 44;
+      committed = 256;
+      trimmed = 256;
+      last = Some (record { seq = seq; rep = 1 });
+      snapshot = five_bytes;
+    }
 
 -- A life of processor 2 in a group of three: in its first ring a call is heard after the three Heads; then it is alone;
 -- then its next primary ring brings the log of processor 1, which has a call more
@@ -68,16 +130,12 @@ ring_of seq rep = record { seq = seq; rep = rep }
 abbrev pub message_of : RingId → ℕ → ℕ → Payload Global → Message Global
 message_of ring number sender payload = record { ring = ring; number = number; sender = sender; payload = payload }
 
--- a Head of a log that no ring was adopted for
-abbrev pub empty_head : OneHead
-empty_head = record { last = None; length = 0; committed = 0; trimmed = 0 }
-
 -- numbers 1 to 3 were the members' Ends
 abbrev pub first_heard : List (Message Global)
 first_heard =
-    message_of (ring_of 1 1) 4 1 (Head empty_head)
-    ∷ message_of (ring_of 1 1) 5 2 (Head empty_head)
-    ∷ message_of (ring_of 1 1) 6 3 (Head empty_head)
+    message_of (ring_of 1 1) 4 1 (Head no_head)
+    ∷ message_of (ring_of 1 1) 5 2 (Head no_head)
+    ∷ message_of (ring_of 1 1) 6 3 (Head no_head)
     ∷ message_of (ring_of 1 1) 7 2 (CallPayload (call_of_seven 1))
     ∷ []
 

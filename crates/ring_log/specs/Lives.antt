@@ -1,7 +1,8 @@
 -- The log of a node, its last primary and its committed places, as functions of its life: The replicated log, rules 6, 8, 9, 11 and 12 of docs/PROTOCOL.md.
--- A base is here the node's own places up to the exchange's first, and the places that the exchange brought; that these are the chosen sender's
--- places, as rule 16 says, holds in runs and is to be proved there.
-use Rattle.std.specs.Prelude.{ℕ, Bool, true, false, ◌&&◌, ◌||◌, ◌==◌, nat_lt, nat_le, is_some, if◌then◌else◌, List, [], ◌∷◌, ◌++◌, length, Option, Some, None}
+-- A base is here the node's own places up to the exchange's first, or what a snapshot stands for that was sent instead, and the places that the exchange
+-- brought; that these are the chosen sender's places, as rule 16 says, holds in runs: adoption_law of ring_log_proof.
+use Rattle.std.specs.Prelude.{ℕ, Bool, true, false, ◌&&◌, ◌||◌, ◌==◌, nat_lt, nat_le, is_some, is_none, if◌then◌else◌, List, [], ◌∷◌, ◌++◌, length, take}
+use Rattle.std.specs.Prelude.{Option, Some, None}
 use Rattle.ring_base.specs.Group.{Group, is_primary}
 use Rattle.ring_base.specs.Rings.{same_ring}
 use Rattle.ring_base.specs.declared.ring_id.RingId.{RingId}
@@ -11,7 +12,7 @@ use Rattle.ring_payload.specs.Kinds.{calls_of}
 use Rattle.ring_wire.specs.declared.message.Message.{Message}
 use Rattle.ring_log.specs.declared.base.Base.{Base}
 use Rattle.ring_log.specs.declared.wanted.Wanted.{Wanted}
-use Rattle.ring_log.specs.Exchanges.{Exchange, opened, heard, is_whole, wanted, handed_out, relieved, based}
+use Rattle.ring_log.specs.Exchanges.{Exchange, opened, heard, is_whole, wanted, handed_out, relieved}
 use Rattle.ring_log.specs.Logs.{Log, head_of, begins, is_log_length}
 use Rattle.ring_log.specs.Stays.{Stay}
 
@@ -68,21 +69,26 @@ abbrev pub calls_in : {A : Type 0} → List (Message A) → List (OneCall A)
 calls_in [] = []
 calls_in (x ∷ xs) = calls_of x.payload ++ calls_in xs
 
-abbrev pub base_on : {A : Type 0} → List (OneCall A) → Option Wanted → List (OneCall A) → List (OneCall A)
-base_on own None calls = own
-base_on own (Some w) calls = based own (record { from = w.from; calls = calls })
+-- the places below those that were brought: what the snapshot stands for, where one was sent, or else the node's own
+abbrev pub places_below : {A : Type 0} → List (OneCall A) → List (OneCall A) → ℕ → Option ℕ → List (OneCall A)
+places_below own front from None = take from own
+places_below own front from (Some at) = front
+
+abbrev pub base_on : {A : Type 0} → List (OneCall A) → List (OneCall A) → Option Wanted → List (OneCall A) → List (OneCall A)
+base_on own front None calls = own
+base_on own front (Some w) calls = places_below own front w.from w.snapshot ++ calls
 
 -- the base that an exchange makes of a node's own log
-abbrev pub own_base : {A : Type 0} → List (OneCall A) → Exchange A → List (OneCall A)
-own_base own e = base_on own (wanted e) e.brought
+abbrev pub own_base : {A : Type 0} → List (OneCall A) → List (OneCall A) → Exchange A → List (OneCall A)
+own_base own front e = base_on own front (wanted e) e.brought
 
-abbrev pub log_by : {A : Type 0} → List (OneCall A) → Option (Whole A) → List (OneCall A)
-log_by old None = old
-log_by old (Some w) = own_base old w.exchange ++ calls_in w.rest
+abbrev pub log_by : {A : Type 0} → List (OneCall A) → List (OneCall A) → Option (Whole A) → List (OneCall A)
+log_by old front None = old
+log_by old front (Some w) = own_base old front w.exchange ++ calls_in w.rest
 
 abbrev pub log_of : {A : Type 0} → Group → List (Stay A) → List (OneCall A)
 log_of group [] = []
-log_of group (s ∷ older) = log_by (log_of group older) (exchanged group s.members s.heard)
+log_of group (s ∷ older) = log_by (log_of group older) s.front (exchanged group s.members s.heard)
 
 abbrev pub last_by : {A : Type 0} → RingId → Option RingId → Option (Whole A) → Option RingId
 last_by ring old None = old
@@ -109,14 +115,14 @@ upto mark (x ∷ xs) = if nat_le x.number mark then x ∷ upto mark xs else []
 abbrev pub longer : {A : Type 0} → List (OneCall A) → List (OneCall A) → List (OneCall A)
 longer old new = if nat_lt (length old) (length new) then new else old
 
-abbrev pub committed_by : {A : Type 0} → List (OneCall A) → List (OneCall A) → Option (Whole A) → List (OneCall A)
-committed_by own old None = old
-committed_by own old (Some w) = longer old (own_base own w.exchange ++ calls_in w.rest)
+abbrev pub committed_by : {A : Type 0} → List (OneCall A) → List (OneCall A) → List (OneCall A) → Option (Whole A) → List (OneCall A)
+committed_by own front old None = old
+committed_by own front old (Some w) = longer old (own_base own front w.exchange ++ calls_in w.rest)
 
 abbrev pub committed_of : {A : Type 0} → Group → List (Stay A) → List (OneCall A)
 committed_of group [] = []
 committed_of group (s ∷ older) =
-    committed_by (log_of group older) (committed_of group older) (exchanged group s.members (upto s.mark s.heard))
+    committed_by (log_of group older) s.front (committed_of group older) (exchanged group s.members (upto s.mark s.heard))
 
 -- a life as a log, and what a node states of it
 abbrev pub kept_of : {A : Type 0} → Group → List (Stay A) → Log A
@@ -149,15 +155,20 @@ ring_log group lives ring members text = ring_log_by group lives ring (exchanged
 
 -- What stops a node
 
+-- no snapshot is wanted. Where one is, the node stops, since no node restores one yet; in no run is one wanted, since no node states a trimmed length
+abbrev pub is_unsnapped : Option Wanted → Bool
+is_unsnapped None = true
+is_unsnapped (Some w) = is_none w.snapshot
+
 -- the base that a ring's exchange makes begins with what was committed before
-abbrev pub keeps_committed : {A : Type 0} → List (OneCall A) → List (OneCall A) → Option (Whole A) → Bool
-keeps_committed own committed None = true
-keeps_committed own committed (Some w) = begins committed (own_base own w.exchange)
+abbrev pub keeps_committed : {A : Type 0} → List (OneCall A) → List (OneCall A) → List (OneCall A) → Option (Whole A) → Bool
+keeps_committed own front committed None = true
+keeps_committed own front committed (Some w) = is_unsnapped (wanted w.exchange) && begins committed (own_base own front w.exchange)
 
 -- each base of a life began with the places committed before it, and no log had more than the greatest number of places
 abbrev pub is_sound : {A : Type 0} → Group → List (Stay A) → Bool
 is_sound group [] = true
 is_sound group (s ∷ older) =
     is_sound group older
-    && keeps_committed (log_of group older) (committed_of group older) (exchanged group s.members s.heard)
+    && keeps_committed (log_of group older) s.front (committed_of group older) (exchanged group s.members s.heard)
     && is_log_length (length (log_of group (s ∷ older)))

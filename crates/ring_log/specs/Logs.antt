@@ -1,5 +1,5 @@
 -- A node's log, and what changes it: The replicated log, rules 1, 6, 8, 9, 11 and 12 of docs/PROTOCOL.md.
-use Rattle.std.specs.Prelude.{ℕ, ◌≤◌, max, min, Bool, ◌==◌, ◌&&◌, nat_le, List, [], ◌∷◌, ◌++◌, length, take, Option, Some, None}
+use Rattle.std.specs.Prelude.{ℕ, ◌≤◌, max, min, Bool, ◌==◌, ◌&&◌, nat_le, List, [], ◌∷◌, ◌++◌, length, take, Option, Some, None, is_none}
 use Rattle.std.specs.Cmp.Lexicographic.{pointwise}
 use Rattle.std.specs.Str.{bytes_eq}
 use Rattle.ring_base.specs.Fronts.{IsFront}
@@ -52,9 +52,10 @@ begins front calls = pointwise same_call front (take (length front) calls)
 abbrev pub is_log_length : ℕ → Bool
 is_log_length n = nat_le n max_number
 
--- a base may be adopted: it begins with the committed places, and isn't too long
+-- a base may be adopted: it has no snapshot, which no node restores yet, begins with the committed places, and isn't too long
 abbrev pub is_adoptable : {A : Type 0} → Log A → Base A → Bool
-is_adoptable log base = begins (committed_calls log) (based log.calls base) && is_log_length (length (based log.calls base))
+is_adoptable log base =
+    is_none base.snapshot && (begins (committed_calls log) (based log.calls base) && is_log_length (length (based log.calls base)))
 
 -- What stays
 

@@ -3,21 +3,24 @@
 use Rattle.std.specs.Prelude.{ℕ, List, [], ◌∷◌, ◌++◌}
 use Rattle.ring_base.specs.Processors.{only}
 use Rattle.ring_base.specs.declared.ring_id.RingId.{RingId}
+use Rattle.ring_payload.specs.declared.call.Call.{Call as OneCall}
 use Rattle.ring_payload.specs.declared.content.Payload.{Payload}
 use Rattle.ring_wire.specs.declared.message.Message.{Message}
 
 -- a node's time in a ring that it installed: what was agreed there, in order; up to which number it was safe; and the
--- payloads that the node handed to its core since
+-- payloads that the node handed to its core since. `front` is what a node never knows: the places that the snapshot sent in
+-- this ring stands for. It is empty as long as no log is trimmed
 pub record Stay (A : Type 0) : Type 0 where
   pub ring : RingId
   pub members : ℕ
   pub heard : List (Message A)
   pub mark : ℕ
   pub sent : List (Payload A)
+  pub front : List (OneCall A)
 
 -- a ring's first moment
 abbrev pub stay_in : {A : Type 0} → RingId → ℕ → Stay A
-stay_in ring members = record { ring = ring; members = members; heard = []; mark = 0; sent = [] }
+stay_in ring members = record { ring = ring; members = members; heard = []; mark = 0; sent = []; front = [] }
 
 -- a life begins in the ring of the node alone
 abbrev pub born : {A : Type 0} → ℕ → List (Stay A)

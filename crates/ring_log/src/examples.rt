@@ -2,12 +2,15 @@
 
 ghost use Rattle.std.specs.Prelude.{◌≡◌, true, false, [], ◌∷◌, Some, None};
 ghost use Rattle.std.specs.declared.alloc.Global.{Global};
-ghost use Rattle.ring_payload.specs.declared.content.Payload.TheVariants.{Part};
+ghost use Rattle.ring_payload.specs.declared.content.Payload.TheVariants.{Part, Snap};
 ghost use Rattle.ring_log.specs.Exchanges.{wanted, heard, base_at};
-ghost use Rattle.ring_log.specs.Parts.{parts_of};
+ghost use Rattle.ring_log.specs.Parts.{parts_of, pieces_of};
 ghost use Rattle.ring_log.specs.Examples.{three, longer_but_older, unequal, wanted_places, calls_from, part_at};
 ghost use Rattle.ring_log.specs.Examples.{after_one_part, unequal_base, group_of_three, ring_of, head_at, first_heard};
 ghost use Rattle.ring_log.specs.Examples.{first_life, alone, second_heard, second_life};
+ghost use Rattle.ring_log.specs.Examples.{trimmed, piece_at, five_bytes, after_snapshot, after_parts, trimmed_base};
+ghost use Rattle.ring_log.specs.Examples.{trimmed_whole, known, known_restored};
+ghost use Rattle.ring_log.specs.Kept.{nothing_kept, kept_undropped, adopts};
 ghost use Rattle.ring_log.specs.Lives.{exchange_end, log_of, last_of, has_adopted, committed_of, head_of_life, is_sound};
 
 /// Processor 1 has three places of ring 4.1, processors 2 and 3 have two of ring 8.1: the longer log of the older
@@ -26,6 +29,34 @@ pub fn wanted_parts()
     ensures stranger { heard unequal 2 (Part (part_at 9 7)) ≡ unequal }
     ensures late { heard unequal 1 (Part (part_at 16 4)) ≡ unequal }
     ensures early { heard three 1 (Part (part_at 9 7)) ≡ three }
+{}
+
+/// Logs of 300, 298 and no places, of which 290, 290 and none are committed, and 256, 256 and none dropped: processor 1 sends
+/// a snapshot of its first 256 places, and then the places 256 to 299 in seven Parts, the last of 2 calls. A Part heard before
+/// the whole snapshot is ignored, and so is a piece that isn't the owner's, is of other places, or doesn't begin where the
+/// bytes so far end.
+pub fn wanted_snapshot()
+    ensures wanted { wanted trimmed ≡ Some (record { owner = 1; snapshot = Some 256; from = 256; to = 300 }) }
+    ensures parts { parts_of 256 (calls_from 256 44) ≡ part_at 256 7 ∷ part_at 263 7 ∷ part_at 270 7 ∷ part_at 277 7 ∷ part_at 284 7
+        ∷ part_at 291 7 ∷ part_at 298 2 ∷ [] }
+    ensures pieces { pieces_of 256 five_bytes ≡ piece_at 256 5 0 five_bytes ∷ [] }
+    ensures early { heard trimmed 1 (Part (part_at 256 7)) ≡ trimmed }
+    ensures stranger { heard trimmed 2 (Snap (piece_at 256 5 0 five_bytes)) ≡ trimmed }
+    ensures others { heard trimmed 1 (Snap (piece_at 255 5 0 five_bytes)) ≡ trimmed }
+    ensures late { heard trimmed 1 (Snap (piece_at 256 7005 7000 five_bytes)) ≡ trimmed }
+    ensures again { heard after_snapshot 1 (Snap (piece_at 256 5 0 five_bytes)) ≡ after_snapshot }
+    ensures snapshot { base_at trimmed 1 (Snap (piece_at 256 5 0 five_bytes)) ≡ None }
+    ensures base { base_at (after_parts after_snapshot 256 6) 1 (Part (part_at 298 2)) ≡ trimmed_base }
+{}
+
+/// That exchange, whole, as each of the three nodes would adopt it with ring 9.1, by what it knows of its own log: those that
+/// have committed 290 places keep them, and take the places behind the first 256; the one without places restores the snapshot,
+/// and 256 places are then committed and dropped. (As long as no node restores, all three stop instead.)
+pub fn adopted_snapshot()
+    ensures owner { adopts (known 4 300) (ring_of 9 1) trimmed_whole ≡ known 9 300 }
+    ensures second { adopts (known 4 298) (ring_of 9 1) trimmed_whole ≡ known 9 300 }
+    ensures third { adopts nothing_kept (ring_of 9 1) trimmed_whole ≡ known_restored 9 }
+    ensures undropped { kept_undropped (known 9 300) ≡ calls_from 256 34 }
 {}
 
 /// A life in two primary rings, with a ring of one between them: a ring's log is the base and what comes after the

@@ -2,26 +2,32 @@
 
 ghost use Rattle.std.specs.Prelude.{◌≡◌, ◌+◌, ◌^◌, ◌<◌, ◌==◌, nat_le, length, true, IfOk, IfErr, OnOk, OnErr};
 ghost use Rattle.ring_base.specs.declared.fault.Fault.TheVariants.{Memory};
-ghost use Rattle.ring_log.specs.Exchanges.{opened, wanted, heard, hear_head, hear_part, is_next, is_wanted, is_whole, base_at, handed_out, relieved};
+ghost use Rattle.ring_log.specs.Exchanges.{opened, wanted, heard, hear_head, hear_snap, is_snapped, is_piece_of, is_next_piece, hear_part, is_next};
+ghost use Rattle.ring_log.specs.Exchanges.{is_wanted, is_whole, base_at, handed_out, relieved};
 
 use crate::base::Base;
 use crate::heads::wanted_by;
+use crate::snapshot::Snapshot;
 use crate::stated::Stated;
 use crate::wanted::Wanted;
 use ring_base::{Fault, Proc, ProcSet};
-use ring_payload::{Call, Calls, Head, Part, Payload};
+use ring_payload::{Call, Calls, Head, MOST_SNAPSHOT, Part, Payload, Snap};
 use std::alloc::{Allocator, Global};
 use std::marker::Model;
 use std::mem;
 
-/// What a member heard of the exchange of a primary ring: every member's Head, and then the places that are wanted of the
-/// owner's log. Contracts see what was heard.
+/// What a member heard of the exchange of a primary ring: every member's Head, and then what is wanted of the owner: a
+/// snapshot in pieces, where it has dropped places that some member lacks, and places of its log. Contracts see what was
+/// heard.
 #[derive(Drop)]
 pub struct Exchange<A: Allocator + Copy = Global> {
     alloc: A,
     unheard: ProcSet,
     heads: Vec<Stated, A>,
+    got: u64,
+    total: u32,
     places: u64,
+    bytes: Vec<u8, A>,
     brought: Vec<Call<A>, A>,
 }
 
@@ -30,7 +36,15 @@ impl<A: Allocator + Copy> Model for Exchange<A> {
 
     ghost Value = { ToldExchange A };
 
-    ghost view = { λ e. record { unheard = e.unheard; heads = e.heads.items; places = e.places; brought = e.brought.items } };
+    ghost view = { λ e. record {
+      unheard = e.unheard;
+      heads = e.heads.items;
+      got = e.got;
+      total = e.total;
+      places = e.places;
+      bytes = e.bytes.items;
+      brought = e.brought.items;
+    } };
 }
 
 impl<A: Allocator + Copy> Exchange<A> {
@@ -42,12 +56,15 @@ impl<A: Allocator + Copy> Exchange<A> {
             alloc,
             unheard: members,
             heads: Vec::new(alloc),
+            got: 0,
+            total: 0,
             places: 0,
+            bytes: Vec::new(alloc),
             brought: Vec::new(alloc),
         }
     }
 
-    /// Whose places are wanted, and which; none until every member's Head was heard.
+    /// What is wanted, and of whom; none until every member's Head was heard.
     pub fn wanted(&self) -> Option<Wanted>
         ensures { result ≡ wanted self.now }
     {
@@ -58,9 +75,10 @@ impl<A: Allocator + Copy> Exchange<A> {
         }
     }
 
-    /// Hears a member's payload, in the order of the ring. A member's first Head counts, and then each next Part of the
-    /// places that are wanted; all else is ignored for good. Gives the base exactly where the exchange becomes whole
-    /// by this payload, and has then handed out its calls. `Memory` leaves it as it was.
+    /// Hears a member's payload, in the order of the ring. A member's first Head counts, then each next piece of the
+    /// snapshot if one is wanted, and then each next Part of the places that are wanted; all else is ignored for good.
+    /// Gives the base exactly where the exchange becomes whole by this payload, and has then handed out its bytes and
+    /// its calls. `Memory` leaves it as it was.
     pub fn hear(&mut self, sender: Proc, payload: &Payload<A>) -> Result<Option<Base<A>>, Fault>
         ensures base { IfOk result (λ base. base ≡ base_at self.old sender payload.now) }
         ensures ok { OnOk result (self.new ≡ relieved (heard self.old sender payload.now)) }
@@ -70,6 +88,7 @@ impl<A: Allocator + Copy> Exchange<A> {
         let was_whole = self.is_whole();
         match payload {
             Payload::Head(head) => self.hear_head(sender, head)?,
+            Payload::Snap(snap) => self.hear_snap(sender, snap)?,
             Payload::Part(part) => self.hear_part(sender, part)?,
             _ => {}
         }
@@ -82,8 +101,20 @@ impl<A: Allocator + Copy> Exchange<A> {
         ensures { result ≡ is_whole self.now }
     {
         match self.wanted() {
-            Some(wanted) => wanted.to.saturating_sub(wanted.from) <= self.places,
+            Some(wanted) => {
+                self.is_snapped(&wanted) && wanted.to.saturating_sub(wanted.from) <= self.places
+            }
             None => false,
+        }
+    }
+
+    /// Whether nothing of a snapshot is missing: none is wanted, or all its pieces came.
+    fn is_snapped(&self, wanted: &Wanted) -> bool
+        ensures { result ≡ is_snapped wanted.now.snapshot self.now.got self.now.total }
+    {
+        match wanted.snapshot {
+            Some(_) => self.total >= 1 && self.got == u64::from(self.total),
+            None => true,
         }
     }
 
@@ -102,6 +133,53 @@ impl<A: Allocator + Copy> Exchange<A> {
         Ok(())
     }
 
+    /// Hears a piece. Room for the whole snapshot is asked for as its first piece comes.
+    fn hear_snap(&mut self, sender: Proc, snap: &Snap<A>) -> Result<(), Fault>
+        ensures ok { OnOk result (self.new ≡ hear_snap self.old sender snap.now) }
+        ensures err { OnErr result (self.new ≡ self.old) }
+        ensures refused { IfErr result (λ fault. fault ≡ Memory) }
+    {
+        if self.is_next_piece(sender, snap) {
+            if self.total == 0 {
+                let room = snap.total.min(MOST_SNAPSHOT);
+                self.bytes.reserve_exact(room as usize)?;
+            }
+            let bytes = snap.bytes.as_slice();
+            self.bytes.extend_from_slice(bytes)?;
+            self.got += bytes.len() as u64;
+            self.total = snap.total;
+        }
+        Ok(())
+    }
+
+    /// Whether a piece is the next of the snapshot that is wanted.
+    fn is_next_piece(&self, sender: Proc, snap: &Snap<A>) -> bool
+        ensures value { result ≡ is_next_piece (wanted self.now) self.now.got self.now.total sender snap.now }
+        ensures room { result ≡ true → self.now.got < 2 ^ 32 }
+    {
+        match self.wanted() {
+            Some(wanted) => sender == wanted.owner && self.is_piece_of(wanted.snapshot, snap),
+            None => false,
+        }
+    }
+
+    /// Whether a piece is of the snapshot of so many places, begins where the bytes so far end, and tells as many bytes in
+    /// all as those before it.
+    fn is_piece_of(&self, places: Option<u64>, snap: &Snap<A>) -> bool
+        ensures value { result ≡ is_piece_of places self.now.got self.now.total snap.now }
+        ensures room { result ≡ true → self.now.got < 2 ^ 32 }
+    {
+        match places {
+            Some(at) => {
+                snap.at == at
+                    && u64::from(snap.offset) == self.got
+                    && (self.total == 0 || snap.total == self.total)
+                    && self.got < u64::from(snap.total)
+            }
+            None => false,
+        }
+    }
+
     fn hear_part(&mut self, sender: Proc, part: &Part<A>) -> Result<(), Fault>
         ensures ok { OnOk result (self.new ≡ hear_part self.old sender part.now) }
         ensures err { OnErr result (self.new ≡ self.old) }
@@ -115,18 +193,20 @@ impl<A: Allocator + Copy> Exchange<A> {
         Ok(())
     }
 
-    /// Whether a Part is the next of those wanted.
+    /// Whether a Part is the next of those wanted, and no piece of a snapshot is missing.
     fn is_wanted(&self, sender: Proc, part: &Part<A>) -> bool
-        ensures value { result ≡ is_wanted (wanted self.now) self.now.places sender part.now }
+        ensures value { result ≡ is_wanted (wanted self.now) self.now.got self.now.total self.now.places sender part.now }
         ensures room { result ≡ true → self.now.places + length part.now.calls < 2 ^ 64 }
     {
         match self.wanted() {
-            Some(wanted) => is_next(&wanted, self.places, sender, part),
+            Some(wanted) => {
+                self.is_snapped(&wanted) && is_next(&wanted, self.places, sender, part)
+            }
             None => false,
         }
     }
 
-    /// Hands out the base of an exchange that is whole, its calls without a copy.
+    /// Hands out the base of an exchange that is whole, its bytes and calls without a copy.
     fn hand_out(&mut self) -> Option<Base<A>>
         ensures base { result ≡ handed_out self.old }
         ensures state { self.new ≡ relieved self.old }
@@ -135,9 +215,15 @@ impl<A: Allocator + Copy> Exchange<A> {
             return None;
         }
         let wanted = self.wanted()?;
+        let bytes = mem::replace(&mut self.bytes, Vec::new(self.alloc));
         let calls = mem::replace(&mut self.brought, Vec::new(self.alloc));
+        let snapshot = match wanted.snapshot {
+            Some(_) => Some(Snapshot::from_vec(bytes)),
+            None => None,
+        };
         Some(Base {
             from: wanted.from,
+            snapshot,
             calls: Calls::from_vec(calls),
         })
     }

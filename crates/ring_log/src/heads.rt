@@ -2,10 +2,12 @@
 
 ghost use Rattle.std.specs.Prelude.{◌≡◌};
 ghost use Rattle.ring_log.specs.Heads.{chosen_head, least_committed};
-ghost use Rattle.ring_log.specs.Exchanges.{wanted_by};
+ghost use Rattle.ring_log.specs.Exchanges.{wanted_by, wanted_of};
 
 use crate::stated::Stated;
 use crate::wanted::Wanted;
+use ring_base::Proc;
+use ring_payload::Head;
 
 /// Whose places are wanted by these Heads; none where there is no Head.
 pub(crate) fn wanted_by(heads: &[Stated]) -> Option<Wanted>
@@ -13,11 +15,26 @@ pub(crate) fn wanted_by(heads: &[Stated]) -> Option<Wanted>
 {
     let (first, rest) = heads.split_first()?;
     let chosen = chosen_head(*first, rest);
-    Some(Wanted {
-        owner: chosen.sender,
-        from: least_committed(first.head.committed, rest),
-        to: chosen.head.length,
-    })
+    let least = least_committed(first.head.committed, rest);
+    Some(wanted_of(chosen.sender, &chosen.head, least))
+}
+
+/// What is wanted of an owner with this Head, where the least committed length is so much: its places from there on, or, if
+/// it has dropped some of these, a snapshot of what it has dropped and the places behind that.
+fn wanted_of(owner: Proc, head: &Head, least: u64) -> Wanted
+    ensures { result ≡ wanted_of owner head.now least }
+{
+    let (snapshot, from) = if least < head.trimmed {
+        (Some(head.trimmed), head.trimmed)
+    } else {
+        (None, least)
+    };
+    Wanted {
+        owner,
+        snapshot,
+        from,
+        to: head.length,
+    }
 }
 
 /// The greatest Head.

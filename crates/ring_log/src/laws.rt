@@ -7,7 +7,9 @@ ghost use Rattle.ring_base.specs.declared.ring_id.RingId.{RingId};
 ghost use Rattle.ring_payload.specs.declared.call.Call.{Call as OneCall};
 ghost use Rattle.ring_wire.specs.declared.message.Message.{Message};
 ghost use Rattle.ring_log.specs.declared.base.Base.{Base};
-ghost use Rattle.ring_log.specs.Exchanges.{Exchange, opened, base_at, handed_out, based};
+ghost use Rattle.ring_log.specs.declared.wanted.Wanted.{Wanted};
+ghost use Rattle.ring_log.specs.Exchanges.{Exchange, opened, wanted, heard_pieces, base_at, handed_out, based};
+ghost use Rattle.ring_log.specs.Parts.{pieces_of};
 ghost use Rattle.ring_log.specs.Logs.{Log, empty, appended, adopted, committed_upto, committed_calls, is_adoptable, IsLog, KeepsCommitted};
 ghost use Rattle.ring_log.specs.Lives.{Whole, exchanged, heard_on, base_ending, own_base};
 
@@ -26,8 +28,9 @@ pub fn committed_law<A: Allocator + Copy>()
 {}
 
 /// The text of a primary ring, heard message by message, hands out the base exactly at the message with which its
-/// exchange ends: at no message before, nor at any after it. That base makes of each log what the exchange makes of it,
-/// and what is heard later is what follows the exchange.
+/// exchange ends: at no message before, nor at any after it. That base makes of each log what the exchange makes of it:
+/// without a snapshot the log's own first places come before the calls, with one what the snapshot stands for; and what is
+/// heard later is what follows the exchange. All pieces of a snapshot that is wanted, in their order, bring its bytes.
 pub fn exchange_law<A: Allocator + Copy>()
     ensures handed { (group : Group) (members : ℕ) (text : List (Message A)) (x : Message A) → is_primary group members ≡ true →
         base_at (heard_on (opened members) text) x.sender x.payload
@@ -36,5 +39,11 @@ pub fn exchange_law<A: Allocator + Copy>()
         exchanged group members text ≡ None → exchanged group members (text ++ x ∷ []) ≡ Some w → (w.end ≡ x.number) × (w.rest ≡ []) }
     ensures later { (group : Group) (members : ℕ) (text : List (Message A)) (x : Message A) (w : Whole A) →
         exchanged group members text ≡ Some w → exchanged group members (text ++ x ∷ []) ≡ Some (record w { rest = w.rest ++ x ∷ [] }) }
-    ensures base { (e : Exchange A) (base : Base A) (own : List (OneCall A)) → handed_out e ≡ Some base → based own base ≡ own_base own e }
+    ensures base { (e : Exchange A) (base : Base A) (own front : List (OneCall A)) →
+        handed_out e ≡ Some base → base.snapshot ≡ None → based own base ≡ own_base own front e }
+    ensures snapshot { (e : Exchange A) (base : Base A) (bytes : List ℕ) (own front : List (OneCall A)) →
+        handed_out e ≡ Some base → base.snapshot ≡ Some bytes → (bytes ≡ e.bytes) × (own_base own front e ≡ front ++ base.calls) }
+    ensures pieces { (e : Exchange A) (w : Wanted) (at : ℕ) (bytes : List ℕ) → wanted e ≡ Some w → w.snapshot ≡ Some at →
+        e.got ≡ 0 → e.total ≡ 0 → e.bytes ≡ [] → 1 ≤ length bytes →
+        heard_pieces e w.owner (pieces_of at bytes) ≡ record e { got = length bytes; total = length bytes; bytes = bytes } }
 {}

@@ -9,13 +9,17 @@ mod heads;
 mod laws;
 mod log;
 mod parts;
+mod pieces;
+mod snapshot;
 mod stated;
 mod wanted;
 
 pub use base::Base;
-pub use examples::{chosen_logs, lived_logs, wanted_parts};
+pub use examples::{adopted_snapshot, chosen_logs, lived_logs, wanted_parts, wanted_snapshot};
 pub use exchange::Exchange;
 pub use laws::{committed_law, exchange_law};
 pub use log::Log;
+pub use pieces::pieces_of;
+pub use snapshot::Snapshot;
 pub use stated::Stated;
 pub use wanted::Wanted;

@@ -1,9 +1,10 @@
 //! A node's log.
 
-ghost use Rattle.std.specs.Prelude.{◌≡◌, ◌+◌, ◌++◌, length, IfOk, IfErr, OnOk, OnErr};
+ghost use Rattle.std.specs.Prelude.{◌≡◌, ◌+◌, ◌&&◌, ◌++◌, length, IfOk, IfErr, OnOk, OnErr};
 ghost use Rattle.ring_base.specs.declared.fault.Fault.TheVariants.{Memory};
 ghost use Rattle.ring_log.specs.Parts.{parts_between};
-ghost use Rattle.ring_log.specs.Logs.{empty, appended, adopted, committed_upto, committed_calls, head_of, is_log_length, is_adoptable};
+ghost use Rattle.ring_log.specs.Exchanges.{based};
+ghost use Rattle.ring_log.specs.Logs.{empty, appended, adopted, committed_upto, committed_calls, head_of, begins, is_log_length, is_adoptable};
 
 use crate::base::Base;
 use crate::begins::begins;
@@ -64,7 +65,8 @@ impl<A: Allocator + Copy> Log<A> {
     }
 
     /// Adopts a ring: keeps the first places, as many as the base says, and lets the base's calls follow; the ring
-    /// becomes the last primary. The calls are moved, and none is copied. `Memory` leaves the log as it was.
+    /// becomes the last primary. The calls are moved, and none is copied; a snapshot isn't looked at. `Memory` leaves the
+    /// log as it was.
     pub fn adopt(&mut self, ring: RingId, base: Base<A>) -> Result<(), Fault>
         ensures ok { OnOk result (self.new ≡ adopted self.old ring base) }
         ensures err { OnErr result (self.new ≡ self.old) }
@@ -78,10 +80,17 @@ impl<A: Allocator + Copy> Log<A> {
         Ok(())
     }
 
-    /// Whether a base may be adopted: it begins with the committed places, and makes no log of more than 2^62 places. The
-    /// places that the log keeps aren't looked at.
+    /// Whether a base may be adopted: it comes without a snapshot, since no log is restored from one yet, begins with the
+    /// committed places, and makes no log of more than 2^62 places. The places that the log keeps aren't looked at.
     pub fn may_adopt(&self, base: &Base<A>) -> bool
         ensures { result ≡ is_adoptable self.now base.now }
+    {
+        base.snapshot.is_none() && self.goes_on_with(base)
+    }
+
+    /// Whether a base begins with the committed places, and makes no log that is too long.
+    fn goes_on_with(&self, base: &Base<A>) -> bool
+        ensures { result ≡ begins (committed_calls self.now) (based self.now.calls base.now) && is_log_length (length (based self.now.calls base.now)) }
     {
         let committed = self.committed_calls();
         let same = committed.len().min(base.from as usize);

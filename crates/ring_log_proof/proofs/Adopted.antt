@@ -13,7 +13,7 @@ use Rattle.ring_payload.specs.declared.call.Call.{Call as OneCall}
 use Rattle.ring_payload.specs.declared.head.Head.{Head as OneHead}
 use Rattle.ring_wire.specs.declared.message.Message.{Message}
 use Rattle.ring_log.specs.Stays.{Stay}
-use Rattle.ring_log.specs.Lives.{Whole, exchanged, base_on, own_base, log_of, committed_of, base_of}
+use Rattle.ring_log.specs.Lives.{Whole, exchanged, places_below, base_on, own_base, log_of, committed_of, base_of}
 use Rattle.ring_log_proof.specs.RingFacts.{StayIn, RingFacts}
 use Rattle.ring_log_proof.specs.Discipline.{KeepsDiscipline}
 use Rattle.ring_log_proof.proofs.Stays.{stay-same, stay-trans, rises-older, older-below}
@@ -67,7 +67,7 @@ module _ {A : Type 0} (group : Group) (lives : ℕ → List (Stay A)) (members :
   pub record Adopts (p : ℕ) (r : RingId) (at : StayIn (lives p) r) (w : Whole A) : Type 0 where
     pub outcome : Outcome (Says group lives r) (log_before group lives r) (members r) w.exchange
     pub first : take outcome.w.from (log_of group at.older) ≡ take outcome.w.from (base_of group lives r w.exchange)
-    pub base : own_base (log_of group at.older) w.exchange ≡ base_of group lives r w.exchange
+    pub base : own_base (log_of group at.older) at.stay.front w.exchange ≡ base_of group lives r w.exchange
 
   pub adopts : (p : ℕ) (r : RingId) (at : StayIn (lives p) r) (w : Whole A) → AgreedBelow group lives r.seq → exchanged group at.stay.members at.stay.heard
       ≡ Some w → Adopts p r at w
@@ -100,7 +100,9 @@ module _ {A : Type 0} (group : Group) (lives : ℕ → List (Stay A)) (members :
       record {
         outcome = o;
         first = first ∙ sym (ap (λ l. take from l) is);
-        base = ap (λ v. base_on (log_of group at.older) v w.exchange.brought) o.is ∙ ap (λ l. l ++ w.exchange.brought) first ∙ whole ∙ sym is;
+        base = ap (λ v. base_on (log_of group at.older) at.stay.front v w.exchange.brought) o.is
+            ∙ ap (λ snapshot. places_below (log_of group at.older) at.stay.front from snapshot ++ w.exchange.brought) o.plain
+            ∙ ap (λ l. l ++ w.exchange.brought) first ∙ whole ∙ sym is;
       }
 
   pub agreed-all : (bound : ℕ) → AgreedBelow group lives bound

@@ -29,7 +29,7 @@ pub record Marked {A : Type 0} (group : Group) (life : List (Stay A)) : Type 0 w
   pub whole : Whole A
   pub there : IsStay life stay older
   pub exch : exchanged group stay.members (safe_part stay) ≡ Some whole
-  pub is : committed_of group life ≡ log_on (own_base (log_of group older)) whole
+  pub is : committed_of group life ≡ log_on (own_base (log_of group older) stay.front) whole
 
 marked-more : {A : Type 0} (group : Group) (s : Stay A) (older : List (Stay A)) → committed_of group (s ∷ older) ≡ committed_of group older
     → (committed_of group older ≡ []) ⊎ Marked group older
@@ -40,11 +40,11 @@ marked-more group s older e (inr m) = inr (record { stay = m.stay; older = m.old
 marked-step : {A : Type 0} (group : Group) (s : Stay A) (older : List (Stay A)) (o : Option (Whole A)) → exchanged group s.members (safe_part s) ≡ o
     → (committed_of group older ≡ []) ⊎ Marked group older
     → (committed_of group (s ∷ older) ≡ []) ⊎ Marked group (s ∷ older)
-marked-step group s older None e before = marked-more group s older (ap (committed_by (log_of group older) (committed_of group older)) e) before
+marked-step group s older None e before = marked-more group s older (ap (committed_by (log_of group older) s.front (committed_of group older)) e) before
 marked-step group s older (Some w) e before =
     let old = committed_of group older in
-    let new = log_on (own_base (log_of group older)) w in
-    let now : committed_of group (s ∷ older) ≡ longer old new = ap (committed_by (log_of group older) old) e in
+    let new = log_on (own_base (log_of group older) s.front) w in
+    let now : committed_of group (s ∷ older) ≡ longer old new = ap (committed_by (log_of group older) s.front old) e in
     cond_both (nat_lt (length old) (length new)) new old
     (λ l. committed_of group (s ∷ older) ≡ l → (committed_of group (s ∷ older) ≡ []) ⊎ Marked group (s ∷ older))
     (λ t is. inr (record { stay = s; older = older; whole = w; there = inl (refl, refl); exch = e; is = is }))

@@ -8,8 +8,10 @@ use Rattle.ring_base.specs.Group.{Group}
 use Rattle.ring_payload.specs.declared.call.Call.{Call}
 use Rattle.ring_wire.specs.declared.message.Message.{Message}
 use Rattle.ring_log.specs.Logs.{begins, is_log_length}
+use Rattle.ring_log.specs.Exchanges.{wanted}
 use Rattle.ring_log.specs.Stays.{Stay}
-use Rattle.ring_log.specs.Lives.{Whole, exchanged, own_base, log_by, log_of, upto, longer, committed_by, committed_of, keeps_committed, is_sound}
+use Rattle.ring_log.specs.Lives.{Whole, exchanged, own_base, log_by, log_of, upto, longer, committed_by, committed_of, is_unsnapped, keeps_committed}
+use Rattle.ring_log.specs.Lives.{is_sound}
 use Rattle.ring_log.proofs.Calls.{begins-Decides}
 use Rattle.ring_log_proof.specs.Time.{Grows, LivesOn}
 use Rattle.ring_log_proof.proofs.Wholes.{grown, exchanged-front, log_on, base-front, grown-front}
@@ -31,44 +33,50 @@ front_longer old new h = cond_both (nat_lt (length old) (length new)) new old (�
 
 -- One stay: what was heard up to the mark is a front of all that was heard
 
-module _ {A : Type 0} (group : Group) (m : ℕ) (own old : List (Call A)) (heard : List (Message A)) where
+module _ {A : Type 0} (group : Group) (m : ℕ) (own front old : List (Call A)) (heard : List (Message A)) where
   abbrev Keeps : Type 0
-  Keeps = keeps_committed own old (exchanged group m heard) ≡ true
+  Keeps = keeps_committed own front old (exchanged group m heard) ≡ true
 
   -- the base that the exchange makes begins with what was committed
-  kept_base : Keeps → (xs : List (Message A)) (w : Whole A) → IsFront xs heard → exchanged group m xs ≡ Some w → IsFront old (log_on (own_base own) w)
+  kept_base : Keeps → (xs : List (Message A)) (w : Whole A) → IsFront xs heard → exchanged group m xs ≡ Some w → IsFront old (log_on (own_base own front) w)
   kept_base k xs w f e =
       let there : exchanged group m heard ≡ Some (grown w f.0) = exchanged-front group m xs heard w e f in
-      let kept : begins old (own_base own w.exchange) ≡ true = subst (λ o. keeps_committed own old o ≡ true) there k in
-      front_trans old (own_base own w.exchange) (log_on (own_base own) w) (front_begins old (own_base own w.exchange) kept) (base-front (own_base own) w)
+      let kept : begins old (own_base own front w.exchange) ≡ true =
+      (and_parts (is_unsnapped (wanted w.exchange)) (begins old (own_base own front w.exchange))
+      (subst (λ o. keeps_committed own front old o ≡ true) there k)).1
+      in
+      front_trans old (own_base own front w.exchange) (log_on (own_base own front) w) (front_begins old (own_base own front w.exchange) kept)
+      (base-front (own_base own front) w)
 
-  stay_keeps : Keeps → (xs : List (Message A)) → IsFront xs heard → (o : Option (Whole A)) → exchanged group m xs ≡ o → IsFront old (committed_by own old o)
+  stay_keeps : Keeps → (xs : List (Message A)) → IsFront xs heard → (o : Option (Whole A)) → exchanged group m xs ≡ o
+      → IsFront old (committed_by own front old o)
   stay_keeps k xs f None e = front_self old
-  stay_keeps k xs f (Some w) e = front_longer old (log_on (own_base own) w) (kept_base k xs w f e)
+  stay_keeps k xs f (Some w) e = front_longer old (log_on (own_base own front) w) (kept_base k xs w f e)
 
   stay_within : Keeps → IsFront old own → (xs : List (Message A)) → IsFront xs heard → (o p : Option (Whole A)) →
       exchanged group m xs ≡ o → exchanged group m heard ≡ p →
-      IsFront (committed_by own old o) (log_by own p)
+      IsFront (committed_by own front old o) (log_by own front p)
   stay_within k h xs f None None e d = h
   stay_within k h xs f None (Some w) e d = kept_base k heard w (front_self heard) d
   stay_within k h xs f (Some w) p e d =
       let there : exchanged group m heard ≡ Some (grown w f.0) = exchanged-front group m xs heard w e f in
-      subst (λ q. IsFront (committed_by own old (Some w)) (log_by own q)) (sym there ∙ d)
-      (longer_front old (log_on (own_base own) w) (log_on (own_base own) (grown w f.0))
-      (front_trans old (log_on (own_base own) w) (log_on (own_base own) (grown w f.0)) (kept_base k xs w f e) (grown-front (own_base own) w f.0))
-      (grown-front (own_base own) w f.0))
+      subst (λ q. IsFront (committed_by own front old (Some w)) (log_by own front q)) (sym there ∙ d)
+      (longer_front old (log_on (own_base own front) w) (log_on (own_base own front) (grown w f.0))
+      (front_trans old (log_on (own_base own front) w) (log_on (own_base own front) (grown w f.0)) (kept_base k xs w f e)
+      (grown-front (own_base own front) w f.0))
+      (grown-front (own_base own front) w f.0))
 
 -- A life
 
 -- the tests of its newest stay
 pub record SoundStay {A : Type 0} (group : Group) (s : Stay A) (older : List (Stay A)) : Type 0 where
   pub older_sound : is_sound group older ≡ true
-  pub keeps : keeps_committed (log_of group older) (committed_of group older) (exchanged group s.members s.heard) ≡ true
+  pub keeps : keeps_committed (log_of group older) s.front (committed_of group older) (exchanged group s.members s.heard) ≡ true
   pub length_is : is_log_length (length (log_of group (s ∷ older))) ≡ true
 
 pub sound_stay : {A : Type 0} → (group : Group) (s : Stay A) (older : List (Stay A)) → is_sound group (s ∷ older) ≡ true → SoundStay group s older
 sound_stay group s older h =
-    let keeps = keeps_committed (log_of group older) (committed_of group older) (exchanged group s.members s.heard) in
+    let keeps = keeps_committed (log_of group older) s.front (committed_of group older) (exchanged group s.members s.heard) in
     let p = and_parts (is_sound group older && keeps) (is_log_length (length (log_of group (s ∷ older)))) h in
     let q = and_parts (is_sound group older) keeps p.0 in
     record { older_sound = q.0; keeps = q.1; length_is = p.1 }
@@ -77,14 +85,14 @@ pub committed_front : {A : Type 0} → (group : Group) (life : List (Stay A)) �
 committed_front group [] h = ([], refl)
 committed_front group (s ∷ older) h =
     let p = sound_stay group s older h in
-    stay_within group s.members (log_of group older) (committed_of group older) s.heard p.keeps (committed_front group older p.older_sound)
+    stay_within group s.members (log_of group older) s.front (committed_of group older) s.heard p.keeps (committed_front group older p.older_sound)
     (upto s.mark s.heard) (upto-front s.mark s.heard) _ _ refl refl
 
 committed_older : {A : Type 0} → (group : Group) (s : Stay A) (older : List (Stay A)) → is_sound group (s ∷ older) ≡ true →
     IsFront (committed_of group older) (committed_of group (s ∷ older))
 committed_older group s older h =
     let p = sound_stay group s older h in
-    stay_keeps group s.members (log_of group older) (committed_of group older) s.heard p.keeps (upto s.mark s.heard) (upto-front s.mark s.heard) _ refl
+    stay_keeps group s.members (log_of group older) s.front (committed_of group older) s.heard p.keeps (upto s.mark s.heard) (upto-front s.mark s.heard) _ refl
 
 -- newer stays
 sound_behind : {A : Type 0} → (group : Group) (newer life : List (Stay A)) → is_sound group (newer ++ life) ≡ true → is_sound group life ≡ true
@@ -105,11 +113,13 @@ module _ {A : Type 0} (group : Group) (s t : Stay A) (older : List (Stay A)) (g 
       let p = sound_stay group t older h in
       let safe = front_trans (upto s.mark s.heard) s.heard t.heard (upto-front s.mark s.heard) g.heard in
       let whole = exchanged group t.members (upto s.mark s.heard) in
-      let now : IsFront (committed_by (log_of group older) (committed_of group older) whole) (log_of group (t ∷ older)) =
-      stay_within group t.members (log_of group older) (committed_of group older) t.heard p.keeps (committed_front group older p.older_sound)
+      let now : IsFront (committed_by (log_of group older) t.front (committed_of group older) whole) (log_of group (t ∷ older)) =
+      stay_within group t.members (log_of group older) t.front (committed_of group older) t.heard p.keeps (committed_front group older p.older_sound)
       (upto s.mark s.heard) safe _ _ refl refl in
-      subst (λ m. IsFront (committed_by (log_of group older) (committed_of group older) (exchanged group m (upto s.mark s.heard))) (log_of group (t ∷ older)))
-      (sym g.members) now
+      let safe_log : ℕ → List (Call A) → List (Call A) = λ m front.
+      committed_by (log_of group older) front (committed_of group older) (exchanged group m (upto s.mark s.heard)) in
+      subst (λ m. IsFront (safe_log m s.front) (log_of group (t ∷ older))) (sym g.members)
+      (subst (λ front. IsFront (safe_log t.members front) (log_of group (t ∷ older))) (sym g.front) now)
 
   committed_grown : IsFront (committed_of group (s ∷ older)) (committed_of group (t ∷ older))
   committed_grown =

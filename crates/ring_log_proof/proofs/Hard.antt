@@ -2,7 +2,8 @@
 
 -- By the numbers of rings: the two rings share a processor; its Head in the later ring is of a life in which it had
 -- adopted the earlier one, and the chosen Head is no less.
-use Rattle.std.proofs.Common.{◌≡◌, ℕ, zero, suc, ◌<◌, ◌≤◌, List, ◌++◌, length, Option, Some, None, ◌⊎◌, inl, inr, refl, ap, sym, ◌∙◌, subst, arith}
+use Rattle.std.specs.Prelude.{is_none}
+use Rattle.std.proofs.Common.{◌≡◌, ℕ, zero, suc, ◌<◌, ◌≤◌, true, List, ◌++◌, length, Option, Some, None, ◌⊎◌, inl, inr, refl, ap, sym, ◌∙◌, subst, arith}
 use Rattle.ring_base.specs.Fronts.{IsFront, front_trans}
 use Rattle.ring_base.specs.Group.{Group}
 use Rattle.ring_base.specs.Primaries.{primaries_share}
@@ -14,8 +15,9 @@ use Rattle.ring_payload.specs.declared.call.Call.{Call as OneCall}
 use Rattle.ring_payload.specs.declared.head.Head.{Head as OneHead}
 use Rattle.ring_wire.specs.declared.message.Message.{Message}
 use Rattle.ring_log.specs.declared.stated.Stated.{Stated}
+use Rattle.ring_log.specs.Exchanges.{wanted}
 use Rattle.ring_log.specs.Stays.{Stay}
-use Rattle.ring_log.specs.Lives.{Whole, exchanged, calls_in, log_of, last_of, own_base, head_of_life, base_of}
+use Rattle.ring_log.specs.Lives.{Whole, exchanged, calls_in, log_of, last_of, own_base, head_of_life, base_of, is_unsnapped}
 use Rattle.ring_log_proof.specs.RingFacts.{IsStay, StayIn, AllHeard, RingFacts}
 use Rattle.ring_log_proof.specs.Discipline.{KeepsDiscipline}
 use Rattle.ring_log_proof.proofs.ChosenHead.{LastsOf, no_less-tells}
@@ -27,7 +29,8 @@ use Rattle.ring_log_proof.proofs.Newest.{Newest, newest-or_none, NewestFrom, new
 -- in rings below a number, what a node makes of an exchange and its own log is the ring's base
 abbrev pub AgreedBelow : {A : Type 0} → Group → (ℕ → List (Stay A)) → ℕ → Type 0
 AgreedBelow {A} group lives bound = (p : ℕ) (s : Stay A) (older : List (Stay A)) (w : Whole A) → IsStay (lives p) s older → s.ring.seq < bound
-    → exchanged group s.members s.heard ≡ Some w → own_base (log_of group older) w.exchange ≡ base_of group lives s.ring w.exchange
+    → exchanged group s.members s.heard ≡ Some w
+    → own_base (log_of group older) s.front w.exchange ≡ base_of group lives s.ring w.exchange
 
 -- so below each smaller number
 pub agreed-lower : {A : Type 0} (group : Group) (lives : ℕ → List (Stay A)) (low high : ℕ) → low ≤ high → AgreedBelow group lives high
@@ -61,6 +64,13 @@ module _ {A : Type 0} (group : Group) (lives : ℕ → List (Stay A)) (members :
 
   pub heard-in : (p : ℕ) (r : RingId) (at : StayIn (lives p) r) → IsFront at.stay.heard (text r)
   heard-in p r at = subst (λ q. IsFront at.stay.heard (text q)) at.ring (facts.heard p at.stay at.older at.there)
+
+  -- no snapshot is wanted
+  pub unsnapped-in : (p : ℕ) (r : RingId) (at : StayIn (lives p) r) (w : Whole A) → exchanged group at.stay.members at.stay.heard ≡ Some w
+      → is_unsnapped (wanted w.exchange) ≡ true
+  unsnapped-in p r at w exch =
+      let o = outcome group lives members text facts disc r at.stay.heard w (heard-in p r at) (by-ring p r at w exch) in
+      ap is_unsnapped o.is ∙ ap is_none o.plain
 
   pub seq-in : (p : ℕ) (r : RingId) (at : StayIn (lives p) r) → at.stay.ring.seq ≡ r.seq
   seq-in p r at = ap (λ (q : RingId). q.seq) at.ring

@@ -38,6 +38,10 @@ module _ {A : Type 0} (group : Group) (lives : ℕ → List (Stay A)) where
   abbrev pub Says : RingId → ℕ → OneHead → Type 0
   Says r p h = (at : StayIn (lives p) r) × (h ≡ head_of_life group at.older)
 
+  -- no node states a trimmed length
+  says-untrimmed : (r : RingId) (p : ℕ) (h : OneHead) → Says r p h → h.trimmed ≡ 0
+  says-untrimmed r p h says = ap (λ (k : OneHead). k.trimmed) says.1
+
   -- the log that a processor had before a ring
   abbrev pub log_before : RingId → ℕ → List (OneCall A)
   log_before r p = log_of group (older_at r.seq (lives p))
@@ -116,7 +120,8 @@ module _ {A : Type 0} (group : Group) (lives : ℕ → List (Stay A)) where
         let P : Message A → Type 0 = λ x. IsHonest (Says r) (log_before r) x.sender x.payload in
         let honest = each-front P by.front (text r) (front_trans by.front xs (text r) (w.rest, by.parts) front) (text-honest r) in
         let hears = hears-all (Says r) (log_before r) (members r) (opened (members r)) by.front honest (hears-opened (Says r) (log_before r) (members r)) in
-        whole-outcome (Says r) (log_before r) (members r) w.exchange (subst (Hears (Says r) (log_before r) (members r)) (sym by.after) hears) by.whole
+        whole-outcome (Says r) (log_before r) (members r) (says-untrimmed r) w.exchange
+        (subst (Hears (Says r) (log_before r) (members r)) (sym by.after) hears) by.whole
 
     -- the ring's base is the log that the chosen sender had before it
     pub base-owner : (r : RingId) (w : Whole A) → (o : Outcome (Says r) (log_before r) (members r) w.exchange) → base_of group lives r w.exchange

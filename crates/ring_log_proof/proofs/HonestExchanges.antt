@@ -2,7 +2,8 @@
 use Rattle.std.proofs.Common.{if◌then◌else◌, length-append, ◌≡◌, ℕ, ◌+◌, ◌≤◌, ◌==◌, true, List, [], ◌∷◌, ◌++◌, length, drop}
 use Rattle.std.proofs.Common.{Option, Some, None, ◌⊎◌, inl, inr, refl, ap, sym, ◌∙◌, subst, arith}
 use Rattle.std.specs.List.{AllByRecursion as Each}
-use Rattle.std.proofs.lemmas.Bool.{cond_both, and_parts, eqb-true, leb-true, cases_eq}
+use Rattle.std.specs.Prelude.{nat_lt}
+use Rattle.std.proofs.lemmas.Bool.{cond_both, cond-false, and_parts, eqb-true, le-ltb, leb-true, cases_eq}
 use Rattle.ring_base.specs.Fronts.{IsFront}
 use Rattle.ring_base.specs.Processors.{IsMember, has, nobody, only, less}
 use Rattle.ring_base.specs.Members.{member_had, nobody_member, only_members, less_members}
@@ -11,13 +12,15 @@ use Rattle.ring_base.proofs.ListFronts.{front-on, drop-more}
 use Rattle.ring_payload.specs.declared.call.Call.{Call as OneCall}
 use Rattle.ring_payload.specs.declared.calls.Part.{Part as OnePart}
 use Rattle.ring_payload.specs.declared.head.Head.{Head as OneHead}
+use Rattle.ring_payload.specs.declared.snap.Snap.{Snap as OneSnap}
 use Rattle.ring_payload.specs.declared.content.Payload.{Payload}
 use Rattle.ring_payload.specs.declared.content.Payload.TheVariants.{Call, Wrapped, End, Head, Part, Pack, Snap}
 use Rattle.ring_wire.specs.declared.message.Message.{Message}
 use Rattle.ring_log.specs.declared.stated.Stated.{Stated}
 use Rattle.ring_log.specs.declared.wanted.Wanted.{Wanted}
 use Rattle.ring_log.specs.Heads.{chosen_head, least_committed}
-use Rattle.ring_log.specs.Exchanges.{Exchange, opened, wanted_by, wanted, hear_head, is_wanted, hear_part, heard, is_brought, is_whole}
+use Rattle.ring_log.specs.Exchanges.{Exchange, opened, wanted_of, wanted_by, wanted, hear_head, is_snapped, is_next_piece, hear_snap, is_next, is_wanted}
+use Rattle.ring_log.specs.Exchanges.{hear_part, heard, is_brought, is_whole}
 use Rattle.ring_log.specs.Lives.{heard_by, after_all}
 use Rattle.ring_log_proof.proofs.ChosenHead.{IsNoLess, chosen-is, chosen-greatest, least-first, least-each}
 
@@ -115,12 +118,13 @@ module _ {A : Type 0} (Says : ℕ → OneHead → Type 0) (logs : ℕ → List (
 
   -- A Part
 
-  brings-more : (o : Option Wanted) (places : ℕ) (brought : List (OneCall A)) (p : ℕ) (part : OnePart A) → is_wanted o places p part ≡ true
+  brings-more : (o : Option Wanted) (got total places : ℕ) (brought : List (OneCall A)) (p : ℕ) (part : OnePart A)
+      → is_wanted o got total places p part ≡ true
       → IsFront part.calls (drop part.first (logs p))
       → Brings Says logs o places brought → Brings Says logs o (places + length part.calls) (brought ++ part.calls)
-  brings-more None places brought p part t f b = absurd (cc t)
-  brings-more (Some w) places brought p part t f b =
-      let parts = and_parts _ _ (and_parts _ _ t).0 in
+  brings-more None got total places brought p part t f b = absurd (cc t)
+  brings-more (Some w) got total places brought p part t f b =
+      let parts = and_parts _ _ (and_parts _ _ (and_parts (is_snapped w.snapshot got total) (is_next w places p part) t).1).0 in
       let owner : p ≡ w.owner = eqb-true p w.owner parts.0 in
       let first : part.first ≡ w.from + length brought = eqb-true part.first (w.from + places) parts.1 ∙ ap (λ n. w.from + n) b.1 in
       let log = drop w.from (logs w.owner) in
@@ -131,16 +135,22 @@ module _ {A : Type 0} (Says : ℕ → OneHead → Type 0) (logs : ℕ → List (
   hears-part : (e : Exchange A) (p : ℕ) (part : OnePart A) → IsFront part.calls (drop part.first (logs p)) → Hears e → Hears (hear_part e p part)
   hears-part e p part f k =
       let new : Exchange A = record e { places = e.places + length part.calls; brought = e.brought ++ part.calls } in
-      cond_both (is_wanted (wanted e) e.places p part) new e Hears
-      (λ t. record { heads = k.heads; missing = k.missing; brings = brings-more (wanted e) e.places e.brought p part t f k.brings })
+      cond_both (is_wanted (wanted e) e.got e.total e.places p part) new e Hears
+      (λ t. record { heads = k.heads; missing = k.missing; brings = brings-more (wanted e) e.got e.total e.places e.brought p part t f k.brings })
       (λ f. k)
+
+  -- a piece brings no place
+  hears-snap : (e : Exchange A) (p : ℕ) (snap : OneSnap A) → Hears e → Hears (hear_snap e p snap)
+  hears-snap e p snap k =
+      let new : Exchange A = record e { got = e.got + length snap.bytes; total = snap.total; bytes = e.bytes ++ snap.bytes } in
+      cond_both (is_next_piece (wanted e) e.got e.total p snap) new e Hears (λ t. record { heads = k.heads; missing = k.missing; brings = k.brings }) (λ f. k)
 
   pub hears-payload : (e : Exchange A) (p : ℕ) (payload : Payload A) → IsHonest Says logs p payload → Hears e → Hears (heard e p payload)
   hears-payload e p (Head h) honest k = hears-head e p h honest.0 honest.1 k
   hears-payload e p (Part part) honest k = hears-part e p part honest k
   hears-payload e p (Call call) honest k = k
   hears-payload e p (Pack pack) honest k = k
-  hears-payload e p (Snap snap) honest k = k
+  hears-payload e p (Snap snap) honest k = hears-snap e p snap k
   hears-payload e p (Wrapped old) honest k = k
   hears-payload e p End honest k = k
 
@@ -163,6 +173,7 @@ module _ {A : Type 0} (Says : ℕ → OneHead → Type 0) (logs : ℕ → List (
   pub record Outcome (e : Exchange A) : Type 0 where
     pub w : Wanted
     pub is : wanted e ≡ Some w
+    pub plain : w.snapshot ≡ None
     pub brought : IsFront e.brought (drop w.from (logs w.owner))
     pub full : w.to ≤ w.from + length e.brought
     pub chosen : Stated
@@ -185,15 +196,27 @@ module _ {A : Type 0} (Says : ℕ → OneHead → Type 0) (logs : ℕ → List (
     committed = f.2.1;
   }
 
-  outcome-by : (e : Exchange A) (heads : List Stated) (w : Wanted) → e.heads ≡ heads → Hears e → e.unheard ≡ nobody → wanted e ≡ Some w → wanted_by heads
-      ≡ Some w → w.to ≤ w.from + e.places → Outcome e
-  outcome-by e [] w is k none wants by full = absurd (cc by)
-  outcome-by e (s ∷ rest) w is k none wants by full =
+  -- a log that is whole is wanted without a snapshot
+  wanted-plain : (owner least : ℕ) (h : OneHead) → h.trimmed ≡ 0 → wanted_of owner h least
+      ≡ record { owner = owner; snapshot = None; from = least; to = h.length }
+  wanted-plain owner least h none =
+      cond-false (nat_lt least h.trimmed) (record { owner = owner; snapshot = Some h.trimmed; from = h.trimmed; to = h.length })
+      (record { owner = owner; snapshot = None; from = least; to = h.length })
+      (ap (nat_lt least) none ∙ le-ltb least 0 (omega arith))
+
+  outcome-by : ((p : ℕ) (h : OneHead) → Says p h → h.trimmed ≡ 0) → (e : Exchange A) (heads : List Stated) (w : Wanted) → e.heads ≡ heads
+      → Hears e → e.unheard ≡ nobody → wanted e ≡ Some w → wanted_by heads ≡ Some w → w.to ≤ w.from + e.places → Outcome e
+  outcome-by untrimmed e [] w is k none wants by full = absurd (cc by)
+  outcome-by untrimmed e (s ∷ rest) w is k none wants by full =
       let chosen = chosen_head s rest in
-      let made : record { owner = chosen.sender; from = least_committed s.head.committed rest; to = chosen.head.length } ≡ w = cc by in
+      let least = least_committed s.head.committed rest in
       let brings : Brings Says logs (Some w) e.places e.brought = subst (λ o. Brings Says logs o e.places e.brought) wants k.brings in
       let says : Each (λ (x : Stated). Says x.sender x.head) (s ∷ rest) = subst (Each (λ (x : Stated). Says x.sender x.head)) is k.heads in
-      let from : least_committed s.head.committed rest ≡ w.from = ap (λ (v : Wanted). v.from) made in
+      let stated = chosen-is (λ (x : Stated). Says x.sender x.head) s rest says.0 says.1 in
+      let told : wanted_of chosen.sender chosen.head least ≡ w = cc by in
+      let made : record { owner = chosen.sender; snapshot = None; from = least; to = chosen.head.length } ≡ w =
+      sym (wanted-plain chosen.sender least chosen.head (untrimmed chosen.sender chosen.head stated)) ∙ told in
+      let from : least ≡ w.from = ap (λ (v : Wanted). v.from) made in
       let owner : chosen.sender ≡ w.owner = ap (λ (v : Wanted). v.owner) made in
       let low : Each (λ (x : Stated). w.from ≤ x.head.committed) (s ∷ rest) =
       subst (λ n. Each (λ (x : Stated). n ≤ x.head.committed) (s ∷ rest)) from (least-first s.head.committed rest, least-each s.head.committed rest) in
@@ -201,12 +224,13 @@ module _ {A : Type 0} (Says : ℕ → OneHead → Type 0) (logs : ℕ → List (
       record {
         w = w;
         is = wants;
+        plain = sym (ap (λ (v : Wanted). v.snapshot) made);
         brought = brings.0;
         full = omega (arith, full, brings.1);
         chosen = chosen;
         owner = sym owner;
         to = sym (ap (λ (v : Wanted). v.to) made);
-        says = subst (λ q. Says q chosen.head) owner (chosen-is (λ (x : Stated). Says x.sender x.head) s rest says.0 says.1);
+        says = subst (λ q. Says q chosen.head) owner stated;
         committed = chosen-is (λ (x : Stated). w.from ≤ x.head.committed) s rest low.0 low.1;
         each = λ p m. stands chosen w p (stated-get _ p (s ∷ rest) good (all_stated p m));
       }
@@ -217,15 +241,16 @@ module _ {A : Type 0} (Says : ℕ → OneHead → Type 0) (logs : ℕ → List (
         | inr there ↦ there
       ])
 
-  brought-some : (o : Option Wanted) (places : ℕ) → is_brought o places ≡ true → (w : Wanted) × (o ≡ Some w) × (w.to ≤ w.from + places)
-  brought-some None places t = absurd (cc t)
-  brought-some (Some w) places t = (w, refl, leb-true _ _ t)
+  brought-some : (o : Option Wanted) (got total places : ℕ) → is_brought o got total places ≡ true → (w : Wanted) × (o ≡ Some w) × (w.to ≤ w.from + places)
+  brought-some None got total places t = absurd (cc t)
+  brought-some (Some w) got total places t = (w, refl, leb-true _ _ (and_parts (is_snapped w.snapshot got total) _ t).1)
 
   wanted-when : (u : ℕ) (o : Option Wanted) (w : Wanted) → (if u == nobody then o else None) ≡ Some w → (u ≡ nobody) × (o ≡ Some w)
   wanted-when u o w = cond_both (u == nobody) o None (λ v. v ≡ Some w → (u ≡ nobody) × (o ≡ Some w)) (λ t e. (eqb-true u nobody t, e)) (λ f e. absurd (cc e))
 
-  pub whole-outcome : (e : Exchange A) → Hears e → is_whole e ≡ true → Outcome e
-  whole-outcome e k t =
-      let some = brought-some (wanted e) e.places t in
+  -- where all Heads are of logs that are whole
+  pub whole-outcome : ((p : ℕ) (h : OneHead) → Says p h → h.trimmed ≡ 0) → (e : Exchange A) → Hears e → is_whole e ≡ true → Outcome e
+  whole-outcome untrimmed e k t =
+      let some = brought-some (wanted e) e.got e.total e.places t in
       let when = wanted-when e.unheard (wanted_by e.heads) some.0 some.1 in
-      outcome-by e e.heads some.0 refl k when.0 some.1 when.1 some.2
+      outcome-by untrimmed e e.heads some.0 refl k when.0 some.1 when.1 some.2

@@ -1,7 +1,8 @@
 -- Each call of a log was handed over by some node, as a Call and not only in a Part: what is so of all calls handed over is so of all of logs.
 
 -- By the numbers of rings, since Parts have the places that a log had before their ring.
-use Rattle.std.proofs.Common.{◌≡◌, ℕ, zero, suc, ◌+◌, ◌<◌, List, [], ◌∷◌, ◌++◌, length, take, drop, map, Option, Some, None}
+use Rattle.std.specs.Prelude.{is_none}
+use Rattle.std.proofs.Common.{◌≡◌, ℕ, zero, suc, ◌+◌, ◌<◌, true, List, [], ◌∷◌, ◌++◌, length, drop, map, Option, Some, None}
 use Rattle.std.proofs.Common.{inl, inr, refl, ap, sym, subst, arith}
 use Rattle.std.proofs.Common.{sym, subst}
 use Rattle.std.specs.List.{AllByRecursion as Each}
@@ -13,20 +14,22 @@ use Rattle.ring_base.proofs.Each.{each-weaker, each-append, each-front, each-lef
 use Rattle.ring_payload.specs.declared.call.Call.{Call as OneCall}
 use Rattle.ring_payload.specs.declared.calls.Part.{Part as OnePart}
 use Rattle.ring_payload.specs.declared.head.Head.{Head as OneHead}
+use Rattle.ring_payload.specs.declared.snap.Snap.{Snap as OneSnap}
 use Rattle.ring_payload.specs.declared.content.Payload.{Payload}
 use Rattle.ring_payload.specs.declared.content.Payload.TheVariants.{Call, Wrapped, End, Head, Part, Pack, Snap}
 use Rattle.ring_payload.specs.Kinds.{units, calls_of}
 use Rattle.ring_wire.specs.declared.message.Message.{Message}
 use Rattle.ring_log.specs.declared.wanted.Wanted.{Wanted}
-use Rattle.ring_log.specs.Exchanges.{Exchange, opened, wanted, hear_head, is_wanted, hear_part, heard}
+use Rattle.ring_log.specs.Exchanges.{Exchange, opened, wanted, hear_head, is_next_piece, hear_snap, is_wanted, hear_part, heard}
 use Rattle.ring_log.specs.Stays.{Stay}
-use Rattle.ring_log.specs.Lives.{Whole, heard_by, after_all, exchanged, calls_in, base_on, own_base, log_by, log_of, head_of_life}
+use Rattle.ring_log.specs.Lives.{Whole, heard_by, after_all, exchanged, calls_in, places_below, base_on, own_base, log_by, log_of, head_of_life, is_unsnapped}
 use Rattle.ring_log_proof.specs.RingFacts.{IsStay, said_by, RingFacts}
 use Rattle.ring_log_proof.specs.Time.{IsKnownCall, OnlyHandsOver}
 use Rattle.ring_log_proof.specs.Discipline.{FollowsHead, KeepsDiscipline}
 use Rattle.ring_log_proof.proofs.Wholes.{exchanged-whole}
 use Rattle.ring_log_proof.proofs.Stays.{above, below-above, stay-trans, older-below}
 use Rattle.ring_log_proof.proofs.Heads.{said-each}
+use Rattle.ring_log_proof.proofs.Hard.{unsnapped-in}
 
 -- the calls that a payload holds
 abbrev pub calls_held : {A : Type 0} → Payload A → List (OneCall A)
@@ -78,16 +81,22 @@ module _ {A : Type 0} (Known : OneCall A → Type 0) where
 
   part-known : (e : Exchange A) (p : ℕ) (part : OnePart A) → Each Known part.calls → Each Known e.brought → Each Known (hear_part e p part).brought
   part-known e p part k h =
-      cond_both (is_wanted (wanted e) e.places p part) (record e { places = e.places + length part.calls; brought = e.brought ++ part.calls }) e
+      cond_both (is_wanted (wanted e) e.got e.total e.places p part) (record e { places = e.places + length part.calls; brought = e.brought ++ part.calls }) e
       (λ (x : Exchange A). Each Known x.brought)
       (λ t. each-append Known e.brought part.calls h k) (λ f. h)
+
+  snap-known : (e : Exchange A) (p : ℕ) (snap : OneSnap A) → Each Known e.brought → Each Known (hear_snap e p snap).brought
+  snap-known e p snap h =
+      cond_both (is_next_piece (wanted e) e.got e.total p snap)
+      (record e { got = e.got + length snap.bytes; total = snap.total; bytes = e.bytes ++ snap.bytes }) e
+      (λ (x : Exchange A). Each Known x.brought) (λ t. h) (λ f. h)
 
   heard-known : (e : Exchange A) (p : ℕ) (payload : Payload A) → Each Known (calls_held payload) → Each Known e.brought → Each Known (heard e p payload).brought
   heard-known e p (Head head) k h = head-known e p head h
   heard-known e p (Part part) k h = part-known e p part k h
   heard-known e p (Call call) k h = h
   heard-known e p (Pack pack) k h = h
-  heard-known e p (Snap snap) k h = h
+  heard-known e p (Snap snap) k h = snap-known e p snap h
   heard-known e p (Wrapped old) k h = h
   heard-known e p End k h = h
 
@@ -97,27 +106,38 @@ module _ {A : Type 0} (Known : OneCall A → Type 0) where
 
   -- Logs
 
-  base-known : (own : List (OneCall A)) (o : Option Wanted) (brought : List (OneCall A)) → Each Known own → Each Known brought
-      → Each Known (base_on own o brought)
-  base-known own None brought h k = h
-  base-known own (Some w) brought h k = each-append Known (take w.from own) brought (each-take Known w.from own h) k
+  below-known : (own front : List (OneCall A)) (from : ℕ) (o : Option ℕ) → is_none o ≡ true → Each Known own → Each Known (places_below own front from o)
+  below-known own front from None plain h = each-take Known from own h
+  below-known own front from (Some at) plain h = absurd (cc plain)
 
-  log-known : (group : Group) (m : ℕ) (xs : List (Message A)) (own : List (OneCall A)) (o : Option (Whole A)) → exchanged group m xs ≡ o → Each IsKnown xs
-      → Each Known own → Each Known (log_by own o)
-  log-known group m xs own None e k h = h
-  log-known group m xs own (Some w) e k h =
+  base-known : (own front : List (OneCall A)) (o : Option Wanted) (brought : List (OneCall A)) → is_unsnapped o ≡ true → Each Known own → Each Known brought
+      → Each Known (base_on own front o brought)
+  base-known own front None brought plain h k = h
+  base-known own front (Some w) brought plain h k =
+      each-append Known (places_below own front w.from w.snapshot) brought (below-known own front w.from w.snapshot plain h) k
+
+  -- no snapshot is wanted where an exchange is whole
+  abbrev pub IsPlain : Group → Stay A → Type 0
+  IsPlain group s = (w : Whole A) → exchanged group s.members s.heard ≡ Some w → is_unsnapped (wanted w.exchange) ≡ true
+
+  log-known : (group : Group) (m : ℕ) (xs : List (Message A)) (own front : List (OneCall A)) (o : Option (Whole A)) → exchanged group m xs ≡ o
+      → ((w : Whole A) → o ≡ Some w → is_unsnapped (wanted w.exchange) ≡ true) → Each IsKnown xs → Each Known own → Each Known (log_by own front o)
+  log-known group m xs own front None e plain k h = h
+  log-known group m xs own front (Some w) e plain k h =
       let by = exchanged-whole group m xs w e in
       let parts : Each IsKnown (by.front ++ w.rest) = subst (Each IsKnown) (sym by.parts) k in
       let brought : Each Known w.exchange.brought = subst (λ (x : Exchange A). Each Known x.brought) (sym by.after)
       (all-known (opened m) by.front (each-left IsKnown by.front w.rest parts) tt) in
-      each-append Known (own_base own w.exchange) (calls_in w.rest) (base-known own (wanted w.exchange) w.exchange.brought h brought)
+      each-append Known (own_base own front w.exchange) (calls_in w.rest)
+      (base-known own front (wanted w.exchange) w.exchange.brought (plain w refl) h brought)
       (calls-known w.rest (each-right IsKnown by.front w.rest parts))
 
-  life-known : (group : Group) (life : List (Stay A)) → ((s : Stay A) (older : List (Stay A)) → IsStay life s older → Each IsKnown s.heard)
+  life-known : (group : Group) (life : List (Stay A)) → ((s : Stay A) (older : List (Stay A)) → IsStay life s older → IsPlain group s × Each IsKnown s.heard)
       → Each Known (log_of group life)
   life-known group [] k = tt
   life-known group (s ∷ older) k =
-      log-known group s.members s.heard (log_of group older) (exchanged group s.members s.heard) refl (k s older (inl (refl, refl)))
+      let here = k s older (inl (refl, refl)) in
+      log-known group s.members s.heard (log_of group older) s.front (exchanged group s.members s.heard) refl here.0 here.1
       (life-known group older (λ t before i. k t before (inr i)))
 
   -- Rings
@@ -145,13 +165,15 @@ module _ {A : Type 0} (Known : OneCall A → Type 0) where
         (said-each (λ q payload. Each Known (calls_held payload)) (text r) (said-known bound hands r low))
 
     -- a log of such rings
-    rings-known : (bound p : ℕ) (life : List (Stay A)) → HandsBelow bound →
+    rings-known : KeepsDiscipline group lives → (bound p : ℕ) (life : List (Stay A)) → HandsBelow bound →
         ((s : Stay A) (older : List (Stay A)) → IsStay life s older → IsStay (lives p) s older × (s.ring.seq < bound))
         → Each Known (log_of group life)
-    rings-known bound p life hands within =
+    rings-known disc bound p life hands within =
         life-known group life (λ s older i.
-        let there = within s older i in
-        each-front IsKnown s.heard (text s.ring) (facts.heard p s older there.0) (text-known bound hands s.ring there.1))
+        let there = within s older i in (
+          unsnapped-in group lives members text facts disc p s.ring (record { stay = s; older = older; there = there.0; ring = refl }),
+          each-front IsKnown s.heard (text s.ring) (facts.heard p s older there.0) (text-known bound hands s.ring there.1),
+        ))
 
     follows-known : (log : List (OneCall A)) (payloads : List (Payload A)) → Each Known log → Each (FollowsHead log) payloads →
         Each (IsKnownCall Known) payloads
@@ -177,7 +199,7 @@ module _ {A : Type 0} (Known : OneCall A → Type 0) where
           | inr opens ↦
               let known : Each (IsKnownCall Known) (Head (head_of_life group older) ∷ opens.rest) =
               subst (Each (IsKnownCall Known)) opens.opens (calls p s older there) in
-              let log = rings-known bound p older (hands-below disc calls bound) (λ t before i.
+              let log = rings-known disc bound p older (hands-below disc calls bound) (λ t before i.
               (stay-trans (lives p) s t older before there i, omega (arith, low, older-below (lives p) s t older before (facts.rises p) there i))) in
               subst (Each P) (sym opens.opens) (tt, follows-known (log_of group older) opens.rest log opens.follows known.1)
         ]
@@ -185,4 +207,5 @@ module _ {A : Type 0} (Known : OneCall A → Type 0) where
     pub logs-known : KeepsDiscipline group lives → OnlyHandsOver Known lives → (p : ℕ) → Each Known (log_of group (lives p))
     logs-known disc calls p =
         let bound = above (lives p) in
-        rings-known bound p (lives p) (hands-below disc calls bound) (λ s older i. (i, below-above (lives p) bound (facts.rises p) (omega arith) s older i))
+        rings-known disc bound p (lives p) (hands-below disc calls bound)
+        (λ s older i. (i, below-above (lives p) bound (facts.rises p) (omega arith) s older i))

@@ -22,6 +22,8 @@
 -- Living: Each event of a life lets it go on, and keeps the discipline.
 -- LogsInRuns: Along a run: what each node committed grows, all of it is fronts of one list, and only issued calls are committed.
 -- CommittedGrows: What is committed in a life that is sound is a front of its log, and only grows as the life goes on.
+-- SoundLives: A life that is sound was so before, and its log isn't too long.
+-- KeptLogs: What a node knows of its log by its own life, if that is sound, is the whole log.
 pub mod ChosenHead
 pub mod Wholes
 pub mod Stays
@@ -41,3 +43,5 @@ pub mod Issued
 pub mod Living
 pub mod LogsInRuns
 pub mod CommittedGrows
+pub mod KeptLogs
+pub mod SoundLives

@@ -28,6 +28,7 @@ grows-trans a b c f g = record {
   heard = front_trans a.heard b.heard c.heard f.heard g.heard;
   mark = omega (arith, f.mark, g.mark);
   sent = front_trans a.sent b.sent c.sent f.sent g.sent;
+  front = f.front ∙ g.front;
 }
 
 -- a life behind newer stays goes on as the newest of these does
@@ -55,6 +56,7 @@ event-on group (s ∷ older) (Agreed x) may = (
     mark =
         omega arith;
     sent = front_self s.sent;
+    front = refl;
   },
 )
 event-on group (s ∷ older) (Safe mark) may = (
@@ -68,6 +70,7 @@ event-on group (s ∷ older) (Safe mark) may = (
     mark =
         may;
     sent = front_self s.sent;
+    front = refl;
   },
 )
 event-on group (s ∷ older) (Regular ring members) may = (stay_in ring members ∷ [], s, refl, grows-self s)
@@ -80,8 +83,8 @@ event-on group (s ∷ older) (Handed payloads) may = (
     members = refl;
     heard = front_self s.heard;
     mark = omega arith;
-    sent =
-        front_append s.sent payloads;
+    sent = front_append s.sent payloads;
+    front = refl;
   },
 )
 

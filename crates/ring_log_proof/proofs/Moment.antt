@@ -153,7 +153,7 @@ module _ {A : Type 0} (group : Group) (lives : ℕ → List (Stay A)) (members :
 
   -- what a member makes of an exchange and its own log is the base
   pub adopted-base : (p : ℕ) (r : RingId) (at : StayIn (lives p) r) (w : Whole A) → exchanged group at.stay.members at.stay.heard ≡ Some w
-      → own_base (log_of group at.older) w.exchange ≡ base_of group lives r w.exchange
+      → own_base (log_of group at.older) at.stay.front w.exchange ≡ base_of group lives r w.exchange
   adopted-base p r at w exch = (adopts group lives members text facts disc p r at w (agreed-all group lives members text facts disc r.seq) exch).base
 
   -- of which its own first places are the first
@@ -165,9 +165,17 @@ module _ {A : Type 0} (group : Group) (lives : ℕ → List (Stay A)) (members :
       let same : a.outcome.w ≡ v = let e : Some a.outcome.w ≡ Some v = sym a.outcome.is ∙ wants in cc e in
       subst (λ (u : Wanted). take u.from (log_of group at.older) ≡ take u.from (base_of group lives r w.exchange)) same a.first
 
-  -- and begins with what it had committed
+  -- no snapshot is wanted for it
+  pub adopted-plain : (p : ℕ) (r : RingId) (at : StayIn (lives p) r) (w : Whole A) (v : Wanted) → exchanged group at.stay.members at.stay.heard ≡ Some w
+      → wanted w.exchange ≡ Some v → v.snapshot ≡ None
+  adopted-plain p r at w v exch wants =
+      let a = adopts group lives members text facts disc p r at w (agreed-all group lives members text facts disc r.seq) exch in
+      let same : a.outcome.w ≡ v = let e : Some a.outcome.w ≡ Some v = sym a.outcome.is ∙ wants in cc e in
+      subst (λ (u : Wanted). u.snapshot ≡ None) same a.outcome.plain
+
+  -- and the base begins with what it had committed
   pub adopted-committed : (p : ℕ) (r : RingId) (at : StayIn (lives p) r) (w : Whole A) → exchanged group at.stay.members at.stay.heard ≡ Some w
-      → IsFront (committed_of group at.older) (own_base (log_of group at.older) w.exchange)
+      → IsFront (committed_of group at.older) (own_base (log_of group at.older) at.stay.front w.exchange)
   adopted-committed p r at w exch =
       let agreed = agreed-all group lives members text facts disc r.seq in
       let kept = committed-kept group lives members text facts disc r.seq p at.older agreed (life-before group lives members text facts disc p r at) in

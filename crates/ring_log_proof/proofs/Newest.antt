@@ -14,7 +14,7 @@ pub record Newest {A : Type 0} (group : Group) (life : List (Stay A)) : Type 0 w
   pub there : IsStay life stay older
   pub exch : exchanged group stay.members stay.heard ≡ Some whole
   pub last : last_of group life ≡ Some stay.ring
-  pub log : log_of group life ≡ log_on (own_base (log_of group older)) whole
+  pub log : log_of group life ≡ log_on (own_base (log_of group older) stay.front) whole
 
 newest-top : {A : Type 0} (group : Group) (s : Stay A) (older : List (Stay A)) (w : Whole A) → exchanged group s.members s.heard ≡ Some w
     → Newest group (s ∷ older)
@@ -25,7 +25,7 @@ newest-top group s older w e = record {
   there = inl (refl, refl);
   exch = e;
   last = ap (last_by s.ring (last_of group older)) e;
-  log = ap (log_by (log_of group older)) e;
+  log = ap (log_by (log_of group older) s.front) e;
 }
 
 newest-more : {A : Type 0} (group : Group) (s : Stay A) (older : List (Stay A)) → exchanged group s.members s.heard ≡ None → Newest group older
@@ -37,7 +37,7 @@ newest-more group s older e m = record {
   there = inr m.there;
   exch = m.exch;
   last = ap (last_by s.ring (last_of group older)) e ∙ m.last;
-  log = ap (log_by (log_of group older)) e ∙ m.log;
+  log = ap (log_by (log_of group older) s.front) e ∙ m.log;
 }
 
 newest-step : {A : Type 0} (group : Group) (s : Stay A) (older : List (Stay A)) (o : Option (Whole A)) → exchanged group s.members s.heard ≡ o

@@ -22,7 +22,7 @@ use Rattle.ring_log_proof.proofs.Hard.{shared}
 use Rattle.ring_log_proof.proofs.Settled.{SettledBelow, ground-text}
 
 pub grows-self : {A : Type 0} (s : Stay A) → Grows s s
-grows-self s = record { ring = refl; members = refl; heard = front_self s.heard; mark = omega arith; sent = front_self s.sent }
+grows-self s = record { ring = refl; members = refl; heard = front_self s.heard; mark = omega arith; sent = front_self s.sent; front = refl }
 
 stay-behind : {A : Type 0} (newer life : List (Stay A)) (s : Stay A) (older : List (Stay A)) → IsStay life s older → IsStay (newer ++ life) s older
 stay-behind [] life s older h = h
@@ -73,28 +73,29 @@ longer-most old new =
     not_less m n f = elim (cases_lt m n) as (λ _. n ≤ m) [ inl l ↦ absurd (let k : true ≡ false = sym (lt-ltb m n l) ∙ f in cc k) | inr le ↦ le ]
 
 module _ {A : Type 0} (group : Group) where
-  committed-least : (log old : List (OneCall A)) (o : Option (Whole A)) → length old ≤ length (committed_by log old o)
-  committed-least log old None = omega arith
-  committed-least log old (Some w) = (longer-most old (log_on (own_base log) w)).0
+  committed-least : (log front old : List (OneCall A)) (o : Option (Whole A)) → length old ≤ length (committed_by log front old o)
+  committed-least log front old None = omega arith
+  committed-least log front old (Some w) = (longer-most old (log_on (own_base log front) w)).0
 
   -- rings that come leave what was committed
   committed-newer : (newer life : List (Stay A)) → length (committed_of group life) ≤ length (committed_of group (newer ++ life))
   committed-newer [] life = omega arith
   committed-newer (s ∷ newer) life =
       let rest = committed-newer newer life in
-      let here = committed-least (log_of group (newer ++ life)) (committed_of group (newer ++ life)) (exchanged group s.members (safe_part s)) in
+      let here = committed-least (log_of group (newer ++ life)) s.front (committed_of group (newer ++ life)) (exchanged group s.members (safe_part s)) in
       omega arith
 
-  committed-grown : (log old : List (OneCall A)) (m : ℕ) (xs ys : List (Message A)) (o : Option (Whole A)) → exchanged group m xs ≡ o → IsFront xs ys
-      → length (committed_by log old o) ≤ length (committed_by log old (exchanged group m ys))
-  committed-grown log old m xs ys None e f = committed-least log old (exchanged group m ys)
-  committed-grown log old m xs ys (Some w) e f =
+  committed-grown : (log base old : List (OneCall A)) (m : ℕ) (xs ys : List (Message A)) (o : Option (Whole A)) → exchanged group m xs ≡ o → IsFront xs ys
+      → length (committed_by log base old o) ≤ length (committed_by log base old (exchanged group m ys))
+  committed-grown log base old m xs ys None e f = committed-least log base old (exchanged group m ys)
+  committed-grown log base old m xs ys (Some w) e f =
       let there = exchanged-front group m xs ys w e f in
-      let longest = longer-most old (log_on (own_base log) (grown w f.0)) in
-      let front = front_length (log_on (own_base log) w) (log_on (own_base log) (grown w f.0)) (grown-front (own_base log) w f.0) in
-      let now : committed_by log old (exchanged group m ys) ≡ longer old (log_on (own_base log) (grown w f.0)) = ap (committed_by log old) there in
-      cond_both (nat_lt (length old) (length (log_on (own_base log) w))) (log_on (own_base log) w) old
-      (λ l. length l ≤ length (committed_by log old (exchanged group m ys)))
+      let longest = longer-most old (log_on (own_base log base) (grown w f.0)) in
+      let front = front_length (log_on (own_base log base) w) (log_on (own_base log base) (grown w f.0)) (grown-front (own_base log base) w f.0) in
+      let now : committed_by log base old (exchanged group m ys) ≡ longer old (log_on (own_base log base) (grown w f.0)) =
+      ap (committed_by log base old) there in
+      cond_both (nat_lt (length old) (length (log_on (own_base log base) w))) (log_on (own_base log base) w) old
+      (λ l. length l ≤ length (committed_by log base old (exchanged group m ys)))
       (λ t. omega (arith, longest.1, front, ap length now)) (λ f. omega (arith, longest.0, ap length now))
 
   pub committed-longer : (life after : List (Stay A)) → LivesOn life after → length (committed_of group life) ≤ length (committed_of group after)
@@ -104,10 +105,11 @@ module _ {A : Type 0} (group : Group) where
       let log = log_of group older in
       let old = committed_of group older in
       let safe = upto-grows s.mark t.mark s.heard t.heard on.3.mark on.3.heard in
-      let here : length (committed_of group (s ∷ older)) ≤ length (committed_by log old (exchanged group s.members (safe_part t))) =
-      committed-grown log old s.members (safe_part s) (safe_part t) (exchanged group s.members (safe_part s)) refl safe in
-      let set : committed_by log old (exchanged group s.members (safe_part t)) ≡ committed_of group (t ∷ older) =
-      ap (λ m. committed_by log old (exchanged group m (safe_part t))) on.3.members in
+      let here : length (committed_of group (s ∷ older)) ≤ length (committed_by log s.front old (exchanged group s.members (safe_part t))) =
+      committed-grown log s.front old s.members (safe_part s) (safe_part t) (exchanged group s.members (safe_part s)) refl safe in
+      let set : committed_by log s.front old (exchanged group s.members (safe_part t)) ≡ committed_of group (t ∷ older) =
+      ap (λ m. committed_by log s.front old (exchanged group m (safe_part t))) on.3.members
+      ∙ ap (λ f. committed_by log f old (exchanged group t.members (safe_part t))) on.3.front in
       let newer = committed-newer on.0 (t ∷ older) in
       let is : length (committed_of group after) ≡ length (committed_of group (on.0 ++ t ∷ older)) = ap (λ l. length (committed_of group l)) on.2 in
       omega (arith, here, ap length set, newer, is)

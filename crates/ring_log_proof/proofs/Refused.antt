@@ -32,7 +32,7 @@ refuses-unheard facts =
           let at = all 2 (omega arith, refl) in
           stay-each Bad unheard at.0.stay at.0.older (
             (λ is f. absurd (let l = front_length first_text (message_of first_ring 4 1 first_head ∷ []) f in omega (arith, l))),
-            ((λ is f. not-first (record { ring = record { seq = 0; rep = 2 }; members = 2; heard = []; mark = 0; sent = [] }) refl is), tt),
+            ((λ is f. not-first (record { ring = record { seq = 0; rep = 2 }; members = 2; heard = []; mark = 0; sent = []; front = [] }) refl is), tt),
           ) at.0.there at.0.ring at.1
     ]
 
@@ -43,14 +43,14 @@ sender-first (x ∷ xs) = x.sender
 pub refuses-misheard : RingFacts (lives_with misheard) members text → ⊥
 unfolding sender-first
 refuses-misheard facts =
-    let f = facts.heard 2 (record { ring = first_ring; members = 7; heard = message_of first_ring 4 2 first_head ∷ []; mark = 0; sent = first_head ∷ [] })
-    (born 2) (inl (refl, refl)) in
+    let heard : List (Message Global) = message_of first_ring 4 2 first_head ∷ [] in
+    let f = facts.heard 2 (record { ring = first_ring; members = 7; heard = heard; mark = 0; sent = first_head ∷ []; front = [] }) (born 2) (inl (refl, refl)) in
     let e : 2 ≡ 1 = ap sender-first f.1 in
     absurd (omega (arith, e))
 
 pub refuses-smaller : RingFacts (lives_with smaller) members text → ⊥
 refuses-smaller facts =
-    let e : 3 ≡ 7 = facts.one_set 2 (record { ring = first_ring; members = 3; heard = first_text; mark = 6; sent = first_head ∷ [] }) (born 2)
+    let e : 3 ≡ 7 = facts.one_set 2 (record { ring = first_ring; members = 3; heard = first_text; mark = 6; sent = first_head ∷ []; front = [] }) (born 2)
     (inl (refl, refl)) in
     absurd (omega (arith, e))
 

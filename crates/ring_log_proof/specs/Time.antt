@@ -21,6 +21,8 @@ pub record Grows {A : Type 0} (before after : Stay A) : Type 0 where
   pub heard : IsFront before.heard after.heard
   pub mark : before.mark ≤ after.mark
   pub sent : IsFront before.sent after.sent
+  -- what a snapshot that was sent there stands for
+  pub front : before.front ≡ after.front
 
 -- One life and what it became: its newest stay grew, and newer ones may stand before it; what it heard and knew as safe of the rings that it had left is as
 -- it was.

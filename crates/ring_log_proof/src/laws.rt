@@ -1,6 +1,6 @@
 //! The laws of the one order, of the lives of all nodes at one moment and at two.
 
-ghost use Rattle.std.specs.Prelude.{◌≡◌, ℕ, ◌⊎◌, List, [], map, take, drop, All, Contains, Some, true, slice_get};
+ghost use Rattle.std.specs.Prelude.{◌≡◌, ℕ, ◌⊎◌, List, [], map, take, drop, All, Contains, Some, None, true, slice_get};
 ghost use Rattle.std.specs.List.{AllByRecursion as Each};
 ghost use Rattle.std.specs.declared.alloc.Global.{Global as Heap};
 ghost use Rattle.ring_base.specs.Fronts.{IsFront};
@@ -15,7 +15,8 @@ ghost use Rattle.ring_wire.specs.declared.message.Message.{Message};
 ghost use Rattle.ring_log.specs.declared.wanted.Wanted.{Wanted};
 ghost use Rattle.ring_log.specs.Exchanges.{wanted};
 ghost use Rattle.ring_log.specs.Stays.{Stay};
-ghost use Rattle.ring_log.specs.Lives.{Whole, exchanged, own_base, log_of, committed_of, head_of_life, base_of, ring_log, keeps_committed};
+ghost use Rattle.ring_log.specs.Lives.{Whole, exchanged, own_base, log_of, committed_of, head_of_life, base_of, ring_log, keeps_committed, is_sound};
+ghost use Rattle.ring_log.specs.Kept.{kept_of, head_kept, is_kept_sound, whole_kept};
 ghost use Rattle.ring_log_proof.specs.RingFacts.{IsStay, StayIn, AllHeard};
 ghost use Rattle.ring_log_proof.specs.Discipline.{OrderlyLives, KeepsDiscipline};
 ghost use Rattle.ring_log_proof.specs.Settled.{IsSettled};
@@ -69,17 +70,27 @@ pub fn committed_law<A: Allocator + Copy>()
 
 /// Where a node heard a ring's exchange whole, what it makes of that and of its own log is the ring's base, its own first
 /// places are those of the base, and the base begins with the places that it had committed: no node ever stops for a
-/// base that doesn't.
+/// base that doesn't. No snapshot is wanted there, since no log is trimmed.
 pub fn adoption_law<A: Allocator + Copy>()
     ensures base { (group : Group) (m : OrderlyLives A group) (p : ℕ) (s : Stay A) (older : List (Stay A)) (whole : Whole A) →
         IsStay (m.lives p) s older → exchanged group s.members s.heard ≡ Some whole →
-        own_base (log_of group older) whole.exchange ≡ base_of group m.lives s.ring whole.exchange }
+        own_base (log_of group older) s.front whole.exchange ≡ base_of group m.lives s.ring whole.exchange }
     ensures first { (group : Group) (m : OrderlyLives A group) (p : ℕ) (s : Stay A) (older : List (Stay A)) (whole : Whole A) (w : Wanted) →
         IsStay (m.lives p) s older → exchanged group s.members s.heard ≡ Some whole → wanted whole.exchange ≡ Some w →
         take w.from (log_of group older) ≡ take w.from (base_of group m.lives s.ring whole.exchange) }
     ensures committed { (group : Group) (m : OrderlyLives A group) (p : ℕ) (s : Stay A) (older : List (Stay A)) →
         IsStay (m.lives p) s older →
-        keeps_committed (log_of group older) (committed_of group older) (exchanged group s.members s.heard) ≡ true }
+        keeps_committed (log_of group older) s.front (committed_of group older) (exchanged group s.members s.heard) ≡ true }
+    ensures whole_logs { (group : Group) (m : OrderlyLives A group) (p : ℕ) (s : Stay A) (older : List (Stay A)) (whole : Whole A) (w : Wanted) →
+        IsStay (m.lives p) s older → exchanged group s.members s.heard ≡ Some whole → wanted whole.exchange ≡ Some w → w.snapshot ≡ None }
+{}
+
+/// What a node knows of its log by its own life alone, without what snapshots stand for, is the whole log as long as the life
+/// is sound, since then it restored none; its Head states that; and by its own life alone the life is as sound.
+pub fn kept_law<A: Allocator + Copy>()
+    ensures sound { (group : Group) (life : List (Stay A)) → is_kept_sound group life ≡ is_sound group life }
+    ensures kept { (group : Group) (life : List (Stay A)) → is_sound group life ≡ true → kept_of group life ≡ whole_kept group life }
+    ensures head { (group : Group) (life : List (Stay A)) → is_sound group life ≡ true → head_kept (kept_of group life) ≡ head_of_life group life }
 {}
 
 /// Each call of a log was handed to some core by a Call, wherever Parts brought it since: if all calls handed over are
@@ -124,6 +135,7 @@ pub fn laws_at_global()
     safe_stays_law::<Global>();
     settled_law::<Global>();
     adoption_law::<Global>();
+    kept_law::<Global>();
     issued_law::<Global>();
     life_law::<Global>();
     run_law::<Global>();

@@ -2,8 +2,8 @@
 
 use refusing_alloc::{Refusing, refuse_in_turn};
 use ring_base::{Fault, Proc, ProcSet, RingId};
-use ring_log::{Base, Exchange, Log, Wanted};
-use ring_payload::{Call, Calls, Head, Part, Payload};
+use ring_log::{Base, Exchange, Log, Wanted, pieces_of};
+use ring_payload::{Call, Calls, Head, Part, Payload, Snap};
 use std::alloc::{AllocError, Allocator};
 use std::test::Fail;
 
@@ -94,6 +94,7 @@ fn longer_log_of_an_older_primary_loses(rt: HostRuntime) -> Result<(), Fail> {
     assert!(rt; states_all(&mut exchange, &[(3, 8, 2, 0)], &mut 0)?);
     let wanted = Wanted {
         owner: Proc::new(2),
+        snapshot: None,
         from: 0,
         to: 2,
     };
@@ -190,6 +191,7 @@ fn catches_up<A: Allocator + Copy>(
 fn wanted() -> Wanted {
     Wanted {
         owner: Proc::new(1),
+        snapshot: None,
         from: 9,
         to: 20,
     }
@@ -248,7 +250,11 @@ fn may_adopt<A: Allocator + Copy>(
     numbers: (u64, u64),
 ) -> Result<bool, Fault> {
     let calls = calls(alloc, numbers.0, numbers.1)?;
-    Ok(log.may_adopt(&Base { from, calls }))
+    Ok(log.may_adopt(&Base {
+        from,
+        snapshot: None,
+        calls,
+    }))
 }
 
 /// A log of three places, of which two are committed.
@@ -305,4 +311,195 @@ fn parted_or_refused(heap: &Refusing) -> Result<(), AllocError> {
 fn each_request_is_refused_in_turn(rt: HostRuntime) {
     let requests = refuse_in_turn(rt.alloc(), &|heap: &Refusing| parted_or_refused(heap));
     assert!(rt; requests > Some(6));
+}
+
+/// A Head of a log of which processor 1 had dropped the first 256 places, last in ring 4.1.
+fn trimmed_head<A: Allocator + Copy>(length: u64, committed: u64) -> Payload<A> {
+    let rep = Proc::new(1);
+    Payload::Head(Head {
+        last: Some(RingId { seq: 4, rep }),
+        length,
+        committed,
+        trimmed: 256,
+    })
+}
+
+/// A Head of a log at the opening.
+fn no_head<A: Allocator + Copy>() -> Payload<A> {
+    Payload::Head(Head {
+        last: None,
+        length: 0,
+        committed: 0,
+        trimmed: 0,
+    })
+}
+
+/// Hears the Heads of two logs of which 256 places are dropped, and of one without places.
+fn states_trimmed<A: Allocator + Copy>(
+    exchange: &mut Exchange<A>,
+    refused: &mut u64,
+) -> Result<bool, Fault> {
+    Ok(
+        goes_on(exchange, 1, &trimmed_head(300, 290), refused)?
+            && goes_on(exchange, 2, &trimmed_head(298, 290), refused)?
+            && goes_on(exchange, 3, &no_head(), refused)?,
+    )
+}
+
+#[test]
+fn snapshot_is_wanted_where_places_were_dropped(rt: HostRuntime) -> Result<(), Fail> {
+    let mut exchange = Exchange::new(rt.alloc(), three());
+    assert!(rt; states_trimmed(&mut exchange, &mut 0)?);
+    let wanted = Wanted {
+        owner: Proc::new(1),
+        snapshot: Some(256),
+        from: 256,
+        to: 300,
+    };
+    assert!(rt; exchange.wanted() == Some(wanted));
+    Ok(())
+}
+
+/// Bytes whose values go round.
+fn bytes<A: Allocator + Copy>(alloc: A, count: usize) -> Result<Vec<u8, A>, Fault> {
+    let mut bytes = Vec::new(alloc);
+    for place in 0..count {
+        bytes.push((place % 251) as u8)?;
+    }
+    Ok(bytes)
+}
+
+/// The pieces of so many bytes, at most 20,000.
+fn pieces<A: Allocator + Copy>(alloc: A, count: usize) -> Result<Vec<Snap<A>, A>, Fault> {
+    let bytes = bytes(alloc, count)?;
+    let most = bytes.len().min(20_000);
+    pieces_of(alloc, 256, &bytes.as_slice()[..most])
+}
+
+/// Where the pieces of so many bytes begin, how long each is, and how many bytes each says there are in all.
+fn cuts<A: Allocator + Copy>(alloc: A, count: usize) -> Result<Vec<(u32, usize, u32), A>, Fault> {
+    let mut cuts = Vec::new(alloc);
+    for piece in pieces(alloc, count)? {
+        cuts.push((piece.offset, piece.bytes.as_slice().len(), piece.total))?;
+    }
+    Ok(cuts)
+}
+
+/// A cut of each of three snapshots: where each piece begins, its bytes, and the bytes in all.
+const ONE_PIECE: [(u32, usize, u32); 1] = [(0, 45, 45)];
+
+const WHOLE_PIECES: [(u32, usize, u32); 2] = [(0, 7_000, 14_000), (7_000, 7_000, 14_000)];
+
+const LAST_SHORT: [(u32, usize, u32); 3] = [
+    (0, 7_000, 14_003),
+    (7_000, 7_000, 14_003),
+    (14_000, 3, 14_003),
+];
+
+#[test]
+fn pieces_have_7000_bytes(rt: HostRuntime) -> Result<(), Fail> {
+    assert!(rt; cuts(rt.alloc(), 45)?.as_slice() == ONE_PIECE.as_slice());
+    assert!(rt; cuts(rt.alloc(), 14_000)?.as_slice() == WHOLE_PIECES.as_slice());
+    assert!(rt; cuts(rt.alloc(), 14_003)?.as_slice() == LAST_SHORT.as_slice());
+    Ok(())
+}
+
+/// The first places of the Parts behind the snapshot, but for the last.
+const PARTS_BEHIND: [u64; 6] = [256, 263, 270, 277, 284, 291];
+
+/// Hears the snapshot of so many bytes in pieces, and before each a Part that is too early; and then six of seven Parts.
+/// Whether it goes on after each.
+fn hears_pieces<A: Allocator + Copy>(
+    heap: A,
+    exchange: &mut Exchange<A>,
+    count: usize,
+    refused: &mut u64,
+) -> Result<bool, Fault> {
+    for piece in pieces(heap, count)? {
+        if !goes_past(heap, exchange, (1, 256, 7), refused)?
+            || !goes_on(exchange, 1, &Payload::Snap(piece), refused)?
+        {
+            return Ok(false);
+        }
+    }
+    for first in PARTS_BEHIND {
+        if !goes_past(heap, exchange, (1, first, 7), refused)? {
+            return Ok(false);
+        }
+    }
+    Ok(true)
+}
+
+/// The base that the Heads, a snapshot of so many bytes and seven Parts bring.
+fn brought_behind<A: Allocator + Copy>(
+    heap: A,
+    count: usize,
+    refused: &mut u64,
+) -> Result<Option<Base<A>>, Fault> {
+    let mut exchange = Exchange::new(heap, three());
+    if !states_trimmed(&mut exchange, refused)?
+        || !hears_pieces(heap, &mut exchange, count, refused)?
+    {
+        return Ok(None);
+    }
+    let last = part(heap, 298, 2)?;
+    heard(&mut exchange, 1, &last, refused)
+}
+
+/// Whether the base has the snapshot of so many bytes before place 256, and then 44 of client 7's calls, from number 257 on.
+fn is_behind<A: Allocator + Copy>(heap: A, base: &Base<A>, count: usize) -> Result<bool, Fault> {
+    let wanted = bytes(heap, count)?;
+    let Some(snapshot) = &base.snapshot else {
+        return Ok(false);
+    };
+    let mut number = 256u64;
+    for call in base.calls.as_slice() {
+        number = number.saturating_add(1);
+        if call.number != number {
+            return Ok(false);
+        }
+    }
+    Ok(base.from == 256 && number == 300 && snapshot.as_slice() == wanted.as_slice())
+}
+
+/// Whether the exchange brings that base, which no log adopts, since none is restored from a snapshot yet.
+fn brings_behind<A: Allocator + Copy>(
+    heap: A,
+    count: usize,
+    refused: &mut u64,
+) -> Result<bool, Fault> {
+    let Some(base) = brought_behind(heap, count, refused)? else {
+        return Ok(false);
+    };
+    Ok(is_behind(heap, &base, count)? && !Log::new(heap).may_adopt(&base))
+}
+
+#[test]
+fn snapshot_and_places_make_the_base(rt: HostRuntime) -> Result<(), Fail> {
+    for count in [45, 7_000, 14_003] {
+        assert!(rt; brings_behind(rt.alloc(), count, &mut 0)?, "{count}");
+    }
+    Ok(())
+}
+
+/// What `refuse_in_turn` asks of the exchange with a snapshot in two pieces.
+fn behind_or_refused(heap: &Refusing) -> Result<(), AllocError> {
+    let mut refused = 0;
+    let brings = brings_behind(heap, 7_001, &mut refused);
+    let is_right = match (brings, heap.has_refused()) {
+        (Ok(true), is_refused) => refused == u64::from(is_refused),
+        (Err(Fault::Memory), true) => refused == 0,
+        _ => false,
+    };
+    if is_right == heap.has_refused() {
+        Err(AllocError)
+    } else {
+        Ok(())
+    }
+}
+
+#[test]
+fn each_request_of_a_snapshot_is_refused_in_turn(rt: HostRuntime) {
+    let requests = refuse_in_turn(rt.alloc(), &|heap: &Refusing| behind_or_refused(heap));
+    assert!(rt; requests > Some(20));
 }

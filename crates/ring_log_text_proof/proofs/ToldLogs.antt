@@ -41,11 +41,11 @@ module _ {A : Type 0} (group : Group) (lives : ℕ → List (Stay A)) (members :
   -- what the node makes of what it heard there is the ring's log
   told-log : (s : Stay A) (older : List (Stay A)) → IsStay (lives p) s older → (xs : List (Message A)) (w : Whole A) → IsFront xs s.heard
       → exchanged group s.members xs ≡ Some w
-      → ring_log group lives s.ring s.members xs ≡ Some (log_on (own_base (log_of group older)) w)
+      → ring_log group lives s.ring s.members xs ≡ Some (log_on (own_base (log_of group older) s.front) w)
   told-log s older there xs w f e =
       let at : StayIn (lives p) s.ring = record { stay = s; older = older; there = there; ring = refl } in
       let more = grown w f.0 in
-      let base : own_base (log_of group older) w.exchange ≡ base_of group lives s.ring w.exchange =
+      let base : own_base (log_of group older) s.front w.exchange ≡ base_of group lives s.ring w.exchange =
       adopted-base group lives members text facts disc p s.ring at more (exchanged-front group s.members xs s.heard w e f) in
       ap (ring_log_by group lives s.ring) e ∙ ap (λ (l : List (Call A)). Some (l ++ calls_in w.rest)) (sym base)
 
@@ -53,7 +53,7 @@ module _ {A : Type 0} (group : Group) (lives : ℕ → List (Stay A)) (members :
   record IsHeardWhole (s : Stay A) (older : List (Stay A)) (xs : List (Message A)) (log : List (Call A)) : Type 0 where
     pub whole : Whole A
     pub exch : exchanged group s.members xs ≡ Some whole
-    pub is : log ≡ log_on (own_base (log_of group older)) whole
+    pub is : log ≡ log_on (own_base (log_of group older) s.front) whole
 
   heard-whole : (s : Stay A) (older : List (Stay A)) → IsStay (lives p) s older → (xs : List (Message A)) (log : List (Call A)) → IsFront xs s.heard
       → ring_log group lives s.ring s.members xs ≡ Some log → (o : Option (Whole A)) → exchanged group s.members xs ≡ o → IsHeardWhole s older xs log
@@ -61,7 +61,7 @@ module _ {A : Type 0} (group : Group) (lives : ℕ → List (Stay A)) (members :
       let none : None ≡ Some log = sym (ap (ring_log_by group lives s.ring) e) ∙ told in
       absurd (cc none)
   heard-whole s older there xs log f told (Some w) e =
-      let same : Some log ≡ Some (log_on (own_base (log_of group older)) w) = sym told ∙ told-log s older there xs w f e in
+      let same : Some log ≡ Some (log_on (own_base (log_of group older) s.front) w) = sym told ∙ told-log s older there xs w f e in
       record { whole = w; exch = e; is = cc same }
 
   -- The logs of a life, by this much of what was heard in each stay
@@ -110,14 +110,14 @@ module _ {A : Type 0} (group : Group) (lives : ℕ → List (Stay A)) (members :
 
     -- the newest stay's, where it has one
     newest-tells : (s : Stay A) (older : List (Stay A)) → IsStay (lives p) s older → (w : Whole A) → exchanged group s.members (part.of s) ≡ Some w
-        → Tells (s ∷ older) s.ring (log_on (own_base (log_of group older)) w)
+        → Tells (s ∷ older) s.ring (log_on (own_base (log_of group older) s.front) w)
     newest-tells s older there w e =
         record { stay = s; older = older; there = inl (refl, refl); ring_is = refl; is = told-log s older there (part.of s) w (part.front s) e }
 
     first-is : (s : Stay A) (older : List (Stay A)) → IsStay (lives p) s older → (w : Whole A) → exchanged group s.members (part.of s) ≡ Some w
-        → (ring : RingId) (log : List (Call A)) → IsFirst s older ring log → log ≡ log_on (own_base (log_of group older)) w
+        → (ring : RingId) (log : List (Call A)) → IsFirst s older ring log → log ≡ log_on (own_base (log_of group older) s.front) w
     first-is s older there w e ring log first =
-        let same : Some log ≡ Some (log_on (own_base (log_of group older)) w) = sym first.is ∙ told-log s older there (part.of s) w (part.front s) e in
+        let same : Some log ≡ Some (log_on (own_base (log_of group older) s.front) w) = sym first.is ∙ told-log s older there (part.of s) w (part.front s) e in
         cc same
 
   -- a life whose stays are this node's
@@ -140,7 +140,7 @@ module _ {A : Type 0} (group : Group) (lives : ℕ → List (Stay A)) (members :
   log-step : (s : Stay A) (older : List (Stay A)) → IsStay (lives p) s older → Rises (s ∷ older) → IsLog older (log_of group older)
       → (o : Option (Whole A)) → exchanged group s.members s.heard ≡ o → IsLog (s ∷ older) (log_of group (s ∷ older))
   log-step s older there rises before None e =
-      let same : log_of group (s ∷ older) ≡ log_of group older = ap (log_by (log_of group older)) e in
+      let same : log_of group (s ∷ older) ≡ log_of group older = ap (log_by (log_of group older) s.front) e in
       let less = older-tells all_heard s older e in
       subst (λ (l : List (Call A)). IsLog (s ∷ older) l) (sym same) (elim before as (λ _. IsLog (s ∷ older) (log_of group older)) [
         | inl n ↦ inl (record {
@@ -151,7 +151,7 @@ module _ {A : Type 0} (group : Group) (lives : ℕ → List (Stay A)) (members :
         | inr none ↦ inr (λ other its t. none.0 other its (less other its t), none.1)
       ])
   log-step s older there rises before (Some w) e =
-      let same : log_of group (s ∷ older) ≡ log_on (own_base (log_of group older)) w = ap (log_by (log_of group older)) e in
+      let same : log_of group (s ∷ older) ≡ log_on (own_base (log_of group older) s.front) w = ap (log_by (log_of group older) s.front) e in
       inl (record {
         ring = s.ring;
         is = subst (λ (l : List (Call A)). Tells all_heard (s ∷ older) s.ring l) (sym same) (newest-tells all_heard s older there w e);
@@ -191,13 +191,13 @@ module _ {A : Type 0} (group : Group) (lives : ℕ → List (Stay A)) (members :
       → (o : Option (Whole A)) → exchanged group s.members (safe_part s) ≡ o → AreLongest (s ∷ older) (committed_of group (s ∷ older))
   committed-step s older there before None e =
       let old = committed_of group older in
-      let same : committed_of group (s ∷ older) ≡ old = ap (committed_by (log_of group older) old) e in
+      let same : committed_of group (s ∷ older) ≡ old = ap (committed_by (log_of group older) s.front old) e in
       subst (λ (l : List (Call A)). AreLongest (s ∷ older) l) (sym same)
       (same-longest s older old before (λ ring its t. before.longest ring its (older-tells known_safe s older e ring its t)))
   committed-step s older there before (Some w) e =
       let old = committed_of group older in
-      let new = log_on (own_base (log_of group older)) w in
-      let same : committed_of group (s ∷ older) ≡ longer old new = ap (committed_by (log_of group older) old) e in
+      let new = log_on (own_base (log_of group older) s.front) w in
+      let same : committed_of group (s ∷ older) ≡ longer old new = ap (committed_by (log_of group older) s.front old) e in
       let its-length : (ring : RingId) (its : List (Call A)) → IsFirst known_safe s older ring its → length its ≡ length new =
       λ ring its first. ap (λ (l : List (Call A)). length l) (first-is known_safe s older there w e ring its first) in
       subst (λ (l : List (Call A)). AreLongest (s ∷ older) l) (sym same)

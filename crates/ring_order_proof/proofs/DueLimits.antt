@@ -42,26 +42,31 @@ all_stays n (s ∷ older) h = (h.0, h.2)
 pub hands_fit : {A : Type 0} → (n : ℕ) (ps : List (Payload A)) (life : List (Stay A)) → Each PayloadFits ps → LifeFits n life → LifeFits n (hands ps life)
 hands_fit n ps [] f h = tt
 hands_fit n ps (s ∷ older) f h =
-    (record { ring = (h.0).ring; heard = (h.0).heard; sent = each-append PayloadFits s.sent ps (h.0).sent f }, h.1, h.2)
+    (record { ring = (h.0).ring; heard = (h.0).heard; sent = each-append PayloadFits s.sent ps (h.0).sent f; front = (h.0).front }, h.1, h.2)
 
 hears_fits : {A : Type 0} → (n : ℕ) (x : Message A) (life : List (Stay A)) → HeardFits n x → LifeFits n life → LifeFits n (hears x life)
 hears_fits n x [] f h = tt
 hears_fits n x (s ∷ older) f h = (
-  record { ring = (h.0).ring; heard = each-push (HeardFits s.ring.seq) s.heard x (h.0).heard (subst (λ k. HeardFits k x) (sym h.1) f); sent = (h.0).sent },
+  record {
+    ring = (h.0).ring;
+    heard = each-push (HeardFits s.ring.seq) s.heard x (h.0).heard (subst (λ k. HeardFits k x) (sym h.1) f);
+    sent = (h.0).sent;
+    front = (h.0).front;
+  },
   h.1,
   h.2,
 )
 
 marks_fits : {A : Type 0} → (n m : ℕ) (life : List (Stay A)) → LifeFits n life → LifeFits n (marks m life)
 marks_fits n m [] h = tt
-marks_fits n m (s ∷ older) h = (record { ring = (h.0).ring; heard = (h.0).heard; sent = (h.0).sent }, h.1, h.2)
+marks_fits n m (s ∷ older) h = (record { ring = (h.0).ring; heard = (h.0).heard; sent = (h.0).sent; front = (h.0).front }, h.1, h.2)
 
 pub through_fits : {A : Type 0} → (n m : ℕ) (life : List (Stay A)) (outs : List (Out A)) → Tells n m outs → LifeFits n life →
     LifeFits m (lived_through life outs)
 through_fits n m life [] t h = subst (λ k. LifeFits k life) t h
 through_fits n m life (Agreed ring k x ∷ outs) t h = through_fits n m (hears x life) outs t.1 (hears_fits n x life t.0 h)
 through_fits n m life (Regular ring set ∷ outs) t h =
-    through_fits ring.seq m (stay_in ring set ∷ life) outs t.1 (record { ring = t.0; heard = tt; sent = tt }, refl, all_stays n life h)
+    through_fits ring.seq m (stay_in ring set ∷ life) outs t.1 (record { ring = t.0; heard = tt; sent = tt; front = tt }, refl, all_stays n life h)
 through_fits n m life (Safe ring upto ∷ outs) t h = through_fits n m (marks upto life) outs t (marks_fits n upto life h)
 through_fits n m life (Send to frame ∷ outs) t h = through_fits n m life outs t h
 through_fits n m life (Trans old new set ∷ outs) t h = through_fits n m life outs t h
@@ -163,7 +168,7 @@ module _ {A : Type 0} (n : Node A) (tickets : TicketsFit n.tickets) (core : Core
   due_fit k m life (Regular ring set ∷ outs) t h sound =
       each-append PayloadFits (due_at_regular n.group set life) (due_by n core (stay_in ring set ∷ life) outs)
       (regular_due_fit set life (all_stays k life h) (sound_before n.group ring set life outs sound))
-      (due_fit ring.seq m (stay_in ring set ∷ life) outs t.1 (record { ring = t.0; heard = tt; sent = tt }, refl, all_stays k life h) sound)
+      (due_fit ring.seq m (stay_in ring set ∷ life) outs t.1 (record { ring = t.0; heard = tt; sent = tt; front = tt }, refl, all_stays k life h) sound)
   due_fit k m life (Safe ring upto ∷ outs) t h sound = due_fit k m (marks upto life) outs t (marks_fits k upto life h) sound
   due_fit k m life (Send to frame ∷ outs) t h sound = due_fit k m life outs t h sound
   due_fit k m life (Trans old new set ∷ outs) t h sound = due_fit k m life outs t h sound

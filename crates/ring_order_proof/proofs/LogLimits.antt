@@ -1,5 +1,6 @@
 -- What was heard keeps the limits: so does each call of the log that it makes, and the Head and the Parts that state this log.
 use Rattle.std.proofs.Common.{◌≡◌, ℕ, zero, suc, ◌+◌, ◌-◌, ◌*◌, ◌/◌, ◌<◌, ◌≤◌, true, ◌==◌, List, [], ◌∷◌, ◌++◌, length}
+use Rattle.std.specs.Prelude.{nat_lt}
 use Rattle.std.proofs.Common.{take, drop, Option, Some, None, refl, sym, subst, arith, length-take, length-drop}
 use Rattle.std.specs.List.{AllByRecursion as Each}
 use Rattle.std.proofs.lemmas.Bool.{cond_both, leb-true}
@@ -16,14 +17,16 @@ use Rattle.ring_payload.specs.Kinds.{calls_of}
 use Rattle.ring_payload.specs.Parts.{PartFits}
 use Rattle.ring_payload.specs.Payloads.{PayloadFits}
 use Rattle.ring_payload.specs.declared.call.Call.{Call as OneCall}
+use Rattle.ring_payload.specs.declared.head.Head.{Head as OneHead}
 use Rattle.ring_payload.specs.declared.content.Payload.{Payload}
 use Rattle.ring_payload.specs.declared.content.Payload.TheVariants.{Call, Wrapped, End, Head, Part, Pack, Snap}
 use Rattle.ring_wire.specs.Messages.{MessageFits}
 use Rattle.ring_wire.specs.declared.message.Message.{Message}
 use Rattle.ring_log.specs.declared.stated.Stated.{Stated}
 use Rattle.ring_log.specs.declared.wanted.Wanted.{Wanted}
-use Rattle.ring_log.specs.Exchanges.{Exchange, opened, wanted_by, wanted, is_wanted, heard}
-use Rattle.ring_log.specs.Lives.{Whole, whole_from, after_all, exchanged, calls_in, base_on, own_base, log_by, log_of}
+use Rattle.ring_log.specs.Exchanges.{Exchange, opened, wanted_of, wanted_by, wanted, is_next_piece, is_wanted, heard}
+use Rattle.ring_log.specs.Heads.{chosen_head, least_committed}
+use Rattle.ring_log.specs.Lives.{Whole, whole_from, after_all, exchanged, calls_in, places_below, base_on, own_base, log_by, log_of}
 use Rattle.ring_log.specs.Lives.{last_by, last_of, committed_of, head_of_life, is_sound}
 use Rattle.ring_log.specs.Parts.{nth_part, parts_between}
 use Rattle.ring_log.specs.Stays.{Stay}
@@ -50,7 +53,7 @@ heard_fits e sender (Head head) h f =
     (λ t. record { heads = each-push (λ (s : Stated). HeadFits s.head) e.heads (record { sender = sender; head = head }) f.heads h; brought = f.brought })
     (λ t. f)
 heard_fits e sender (Part part) h f =
-    cond_both (is_wanted (wanted e) e.places sender part)
+    cond_both (is_wanted (wanted e) e.got e.total e.places sender part)
     (record e { places = e.places + length part.calls; brought = e.brought ++ part.calls }) e ExchangeFits
     (λ t. record { heads = f.heads; brought = each-append CallFits e.brought part.calls f.brought h.each })
     (λ t. f)
@@ -58,7 +61,11 @@ heard_fits e sender (Call call) h f = f
 heard_fits e sender (Wrapped old) h f = f
 heard_fits e sender End h f = f
 heard_fits e sender (Pack pack) h f = f
-heard_fits e sender (Snap snap) h f = f
+heard_fits e sender (Snap snap) h f =
+    cond_both (is_next_piece (wanted e) e.got e.total sender snap)
+    (record e { got = e.got + length snap.bytes; total = snap.total; bytes = e.bytes ++ snap.bytes }) e ExchangeFits
+    (λ t. record { heads = f.heads; brought = f.brought })
+    (λ t. f)
 
 after_fits : {A : Type 0} → (e : Exchange A) (xs : List (Message A)) → Each (λ (x : Message A). PayloadFits x.payload) xs → ExchangeFits e →
     ExchangeFits (after_all e xs)
@@ -73,9 +80,17 @@ abbrev pub WantedFits : Option Wanted → Type 0
 WantedFits None = Unit {0}
 WantedFits (Some w) = w.to ≤ max_number
 
+wanted_of_fits : (owner least : ℕ) (h : OneHead) → h.length ≤ max_number → WantedFits (Some (wanted_of owner h least))
+wanted_of_fits owner least h f =
+    cond_both (nat_lt least h.trimmed) (record { owner = owner; snapshot = Some h.trimmed; from = h.trimmed; to = h.length })
+    (record { owner = owner; snapshot = None; from = least; to = h.length }) (λ (w : Wanted). w.to ≤ max_number)
+    (λ t. f) (λ t. f)
+
 wanted_by_fits : (heads : List Stated) → Each (λ (s : Stated). HeadFits s.head) heads → WantedFits (wanted_by heads)
 wanted_by_fits [] h = tt
-wanted_by_fits (s ∷ rest) h = (chosen-is (λ (s : Stated). HeadFits s.head) s rest h.0 h.1).length
+wanted_by_fits (s ∷ rest) h =
+    let chosen = chosen_head s rest in
+    wanted_of_fits chosen.sender (least_committed s.head.committed rest) chosen.head (chosen-is (λ (s : Stated). HeadFits s.head) s rest h.0 h.1).length
 
 pub wanted_fits : {A : Type 0} → (e : Exchange A) → ExchangeFits e → WantedFits (wanted e)
 wanted_fits e f = cond_both (e.unheard == nobody) (wanted_by e.heads) None WantedFits (λ t. wanted_by_fits e.heads f.heads) (λ t. tt)
@@ -95,29 +110,36 @@ calls_in_fit : {A : Type 0} → (xs : List (Message A)) → Each (λ (x : Messag
 calls_in_fit [] h = tt
 calls_in_fit (x ∷ xs) h = each-append CallFits (calls_of x.payload) (calls_in xs) (calls_of_fit x.payload h.0) (calls_in_fit xs h.1)
 
-base_fits : {A : Type 0} → (own : List (OneCall A)) (o : Option Wanted) (calls : List (OneCall A)) → Each CallFits own → Each CallFits calls →
-    Each CallFits (base_on own o calls)
-base_fits own None calls h k = h
-base_fits own (Some w) calls h k = each-append CallFits (take w.from own) calls (each-take CallFits w.from own h) k
+below_fits : {A : Type 0} → (own front : List (OneCall A)) (from : ℕ) (o : Option ℕ) → Each CallFits own → Each CallFits front →
+    Each CallFits (places_below own front from o)
+below_fits own front from None h f = each-take CallFits from own h
+below_fits own front from (Some at) h f = f
+
+base_fits : {A : Type 0} → (own front : List (OneCall A)) (o : Option Wanted) (calls : List (OneCall A)) → Each CallFits own → Each CallFits front →
+    Each CallFits calls → Each CallFits (base_on own front o calls)
+base_fits own front None calls h f k = h
+base_fits own front (Some w) calls h f k =
+    each-append CallFits (places_below own front w.from w.snapshot) calls (below_fits own front w.from w.snapshot h f) k
 
 -- a log goes on by the exchange, if it was heard whole, and the calls heard after it
-log_by_fits : {A : Type 0} → (group : Group) (m n : ℕ) (own : List (OneCall A)) (xs : List (Message A)) → Each CallFits own → Each (HeardFits n) xs →
-    (o : Option (Whole A)) → exchanged group m xs ≡ o → Each CallFits (log_by own o)
-log_by_fits group m n own xs h k None e = h
-log_by_fits {A} group m n own xs h k (Some w) e =
+log_by_fits : {A : Type 0} → (group : Group) (m n : ℕ) (own front : List (OneCall A)) (xs : List (Message A)) → Each CallFits own → Each CallFits front →
+    Each (HeardFits n) xs → (o : Option (Whole A)) → exchanged group m xs ≡ o → Each CallFits (log_by own front o)
+log_by_fits group m n own front xs h f k None e = h
+log_by_fits {A} group m n own front xs h f k (Some w) e =
     let b = exchanged-whole group m xs w e in
     let all : Each (λ (x : Message A). PayloadFits x.payload) (b.front ++ w.rest) =
     subst (Each (λ (x : Message A). PayloadFits x.payload)) (sym b.parts) (heard_payloads n xs k) in
     let first = each-left (λ (x : Message A). PayloadFits x.payload) b.front w.rest all in
     let later = each-right (λ (x : Message A). PayloadFits x.payload) b.front w.rest all in
     let x : ExchangeFits w.exchange = subst ExchangeFits (sym b.after) (after_fits (opened m) b.front first (record { heads = tt; brought = tt })) in
-    each-append CallFits (own_base own w.exchange) (calls_in w.rest) (base_fits own (wanted w.exchange) w.exchange.brought h x.brought)
+    each-append CallFits (own_base own front w.exchange) (calls_in w.rest) (base_fits own front (wanted w.exchange) w.exchange.brought h f x.brought)
     (calls_in_fit w.rest later)
 
 pub log_fits : {A : Type 0} → (group : Group) (life : List (Stay A)) → Each StayFits life → Each CallFits (log_of group life)
 log_fits group [] h = tt
 log_fits group (s ∷ older) h =
-    log_by_fits group s.members s.ring.seq (log_of group older) s.heard (log_fits group older h.1) h.0.heard (exchanged group s.members s.heard) refl
+    log_by_fits group s.members s.ring.seq (log_of group older) s.front s.heard (log_fits group older h.1) h.0.front h.0.heard
+    (exchanged group s.members s.heard) refl
 
 -- The Head of a life
 
@@ -139,15 +161,15 @@ last_fits group (s ∷ older) h =
     last_by_fits group s (last_of group older) h.0 (last_fits group older h.1) (exchanged group s.members s.heard) refl
 
 -- before any ring was adopted the log is empty
-empty_by : {A : Type 0} → (ring : RingId) (own : List (OneCall A)) (old : Option RingId) → (old ≡ None → length own ≡ 0) → (o : Option (Whole A)) →
-    last_by ring old o ≡ None → length (log_by own o) ≡ 0
-empty_by ring own old h None e = h e
-empty_by ring own old h (Some w) e = absurd (let x : ⊥ = cc in x)
+empty_by : {A : Type 0} → (ring : RingId) (own front : List (OneCall A)) (old : Option RingId) → (old ≡ None → length own ≡ 0) → (o : Option (Whole A)) →
+    last_by ring old o ≡ None → length (log_by own front o) ≡ 0
+empty_by ring own front old h None e = h e
+empty_by ring own front old h (Some w) e = absurd (let x : ⊥ = cc in x)
 
 empty_log : {A : Type 0} → (group : Group) (life : List (Stay A)) → last_of group life ≡ None → length (log_of group life) ≡ 0
 empty_log group [] e = refl
 empty_log group (s ∷ older) e =
-    empty_by s.ring (log_of group older) (last_of group older) (empty_log group older) (exchanged group s.members s.heard) e
+    empty_by s.ring (log_of group older) s.front (last_of group older) (empty_log group older) (exchanged group s.members s.heard) e
 
 log_most : {A : Type 0} → (group : Group) (life : List (Stay A)) → is_sound group life ≡ true → length (log_of group life) ≤ max_number
 log_most group [] h = omega arith

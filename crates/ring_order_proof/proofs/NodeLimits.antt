@@ -51,7 +51,7 @@ node_opens group me low high most =
     record {
       core = opening_fits group.count me low high most;
       ready = refl;
-      life = (record { ring = record { seq = omega arith; rep = (low, omega arith) }; heard = tt; sent = tt }, refl, tt);
+      life = (record { ring = record { seq = omega arith; rep = (low, omega arith) }; heard = tt; sent = tt; front = tt }, refl, tt);
       tickets = tt;
     }
 

@@ -39,7 +39,7 @@ ReachedStays {A} group w members text =
 abbrev pub KeepsCommitted : {A : Type 0} → Group → List (Stay A) → Type 0
 KeepsCommitted {A} group life =
     (s : Stay A) (older : List (Stay A)) → IsStay life s older →
-    keeps_committed (log_of group older) (committed_of group older) (exchanged group s.members s.heard) ≡ true
+    keeps_committed (log_of group older) s.front (committed_of group older) (exchanged group s.members s.heard) ≡ true
 
 -- each ticket's call was issued, and so was each call that a node handed over
 abbrev pub IsIssued : {A : Type 0} → World A → Call A → Type 0

@@ -20,11 +20,12 @@ pub record HeardFits {A : Type 0} (n : ℕ) (x : Message A) : Type 0 where
   pub message : MessageFits x
   pub counted : 1 ≤ n
 
--- a ring, what was heard there, and what was handed over
+-- a ring, what was heard there, what was handed over, and what a snapshot that was sent there stands for
 pub record StayFits {A : Type 0} (s : Stay A) : Type 0 where
   pub ring : RingFits s.ring
   pub heard : Each (HeardFits s.ring.seq) s.heard
   pub sent : Each PayloadFits s.sent
+  pub front : Each CallFits s.front
 
 -- a life whose newest ring has this number
 abbrev pub LifeFits : {A : Type 0} → ℕ → List (Stay A) → Type 0

@@ -80,17 +80,17 @@ module _ {A : Type 0} (group : Group) (life : List (Stay A)) (log : Log A) (ring
       let xs = behind s.mark s.heard ++ x ∷ [] in
       let all : front ++ xs ≡ s'.heard = sym (append_assoc front (behind s.mark s.heard) (x ∷ [])) ∙ ap (λ l. l ++ x ∷ []) (upto-behind s.mark s.heard) in
       let is = covers-upto s.mark s.mark s.heard (omega arith) in
-      let reach_is : places ≡ reach_of group s.members own ((front ++ behind s.mark s.heard) ++ x ∷ []) =
+      let reach_is : places ≡ reach_of group s.members own s.front ((front ++ behind s.mark s.heard) ++ x ∷ []) =
       places_is ∙ ap (λ (g : Stage A). reach_at g log') stage_is ∙ ap (reach_at T.stage) log_is ∙ h.reach t
-      ∙ ap (λ l. reach_of group s.members own (l ++ x ∷ [])) (sym (upto-behind s.mark s.heard)) in
-      let more : reaches ++ record { number = x.number; places = places } ∷ [] ≡ reaches_from group s.members own front xs =
+      ∙ ap (λ l. reach_of group s.members own s.front (l ++ x ∷ [])) (sym (upto-behind s.mark s.heard)) in
+      let more : reaches ++ record { number = x.number; places = places } ∷ [] ≡ reaches_from group s.members own s.front front xs =
       ap (λ l. l ++ record { number = x.number; places = places } ∷ []) k.unsafe
-      ∙ ap (λ n. reaches_from group s.members own front (behind s.mark s.heard) ++ record { number = x.number; places = n } ∷ []) reach_is
-      ∙ sym (reaches-push group s.members own front (behind s.mark s.heard) x) in
-      let old_committed : log.committed ≡ max (length (committed_of group older)) (reach_of group s.members own front) =
+      ∙ ap (λ n. reaches_from group s.members own s.front front (behind s.mark s.heard) ++ record { number = x.number; places = n } ∷ []) reach_is
+      ∙ sym (reaches-push group s.members own s.front front (behind s.mark s.heard) x) in
+      let old_committed : log.committed ≡ max (length (committed_of group older)) (reach_of group s.members own s.front front) =
       ap (λ (l : Log A). l.committed) (k.logged ∙ ap (kept_of group) k.parts)
-      ∙ committed-reach group s.members own (committed_of group older) front (exchanged group s.members front) refl in
-      let committed : log'.committed ≡ max (length (committed_of group older)) (reach_of group s.members own front) =
+      ∙ committed-reach group s.members own s.front (committed_of group older) front (exchanged group s.members front) refl in
+      let committed : log'.committed ≡ max (length (committed_of group older)) (reach_of group s.members own s.front front) =
       ap (λ (l : Log A). l.committed) log_is ∙ h.committed ∙ old_committed in
       let log_now : committed_upto log' (covered mark 0 (reaches ++ record { number = x.number; places = places } ∷ [])) ≡ kept_of group (s' ∷ older) =
       ap (λ n. committed_upto log' (covered n 0 (reaches ++ record { number = x.number; places = places } ∷ []))) k.safe
@@ -125,9 +125,9 @@ kept-marks {A} group life log ring stage mark reaches n k risen =
     let all = upto-behind s.mark s.heard in
     let is = covers-upto s.mark n s.heard le in
     let logged = k.logged ∙ ap (kept_of group) k.parts in
-    let committed : log.committed ≡ max (length (committed_of group older)) (reach_of group s.members own front) =
+    let committed : log.committed ≡ max (length (committed_of group older)) (reach_of group s.members own s.front front) =
     ap (λ (l : Log A). l.committed) logged
-    ∙ committed-reach group s.members own (committed_of group older) front (exchanged group s.members front) refl in
+    ∙ committed-reach group s.members own s.front (committed_of group older) front (exchanged group s.members front) refl in
     record {
       stay = s';
       older = older;
@@ -148,7 +148,7 @@ kept-marks {A} group life log ring stage mark reaches n k risen =
 pub sound-short : {A : Type 0} (group : Group) (life : List (Stay A)) → is_sound group life ≡ true → is_log_length (length (log_of group life)) ≡ true
 sound-short group [] t = le-leb 0 max_number (omega arith)
 sound-short group (s ∷ older) t =
-    (and_parts (is_sound group older && keeps_committed (log_of group older) (committed_of group older) (exchanged group s.members s.heard))
+    (and_parts (is_sound group older && keeps_committed (log_of group older) s.front (committed_of group older) (exchanged group s.members s.heard))
     (is_log_length (length (log_of group (s ∷ older)))) t).1
 
 stage-begun : {A : Type 0} (group : Group) (m : ℕ) → stage_in {A = A} group m [] ≡ stage_in group m []
@@ -162,8 +162,8 @@ kept-enters {A} group older log ring members t is =
     let kept = committed_of group older in
     let logged : kept_of group older ≡ kept_of group (stay_in ring members ∷ older) =
     ap (λ (o : Option (Whole A)). record {
-      calls = log_by own o;
-      committed = length (committed_by own kept o);
+      calls = log_by own [] o;
+      committed = length (committed_by own [] kept o);
       last = last_by ring (last_of group older) o;
     }) (sym none) in
     record {
@@ -175,7 +175,7 @@ kept-enters {A} group older log ring members t is =
       safe = refl;
       unsafe = refl;
       logged = is ∙ logged;
-      sound = ap (λ (o : Option (Whole A)). (is_sound group older && keeps_committed own kept o) && is_log_length (length (log_by own o))) none
+      sound = ap (λ (o : Option (Whole A)). (is_sound group older && keeps_committed own [] kept o) && is_log_length (length (log_by own [] o))) none
           ∙ and_from (is_sound group older && true) (is_log_length (length own)) (and_from (is_sound group older) true t refl) (sound-short group older t);
     }
 
@@ -211,17 +211,18 @@ hands-log group due (s ∷ older) = refl
 unsound-step : {A : Type 0} (group : Group) (s : Stay A) (older : List (Stay A)) (x : Message A)
     (o p : Option (Whole A)) → exchanged group s.members s.heard ≡ o
     → exchanged group s.members (s.heard ++ x ∷ []) ≡ p → is_sound group older ≡ true
-    → keeps_committed (log_of group older) (committed_of group older) p ≡ true → is_log_length (length (log_by (log_of group older) p)) ≡ true
-    → (keeps_committed (log_of group older) (committed_of group older) o ≡ true) × (is_log_length (length (log_by (log_of group older) o)) ≡ true)
+    → keeps_committed (log_of group older) s.front (committed_of group older) p ≡ true → is_log_length (length (log_by (log_of group older) s.front p)) ≡ true
+    → (keeps_committed (log_of group older) s.front (committed_of group older) o ≡ true)
+    × (is_log_length (length (log_by (log_of group older) s.front o)) ≡ true)
 unsound-step group s older x None p e k t a b = (refl, sound-short group older t)
 unsound-step group s older x (Some v) None e k t a b =
     absurd (let y = sym (exchanged-front group s.members s.heard (s.heard ++ x ∷ []) v e (x ∷ [], refl)) ∙ k in cc y)
 unsound-step {A} group s older x (Some v) (Some w) e k t a b =
-    let own = own_base (log_of group older) in
+    let own = own_base (log_of group older) s.front in
     let grows : Some (grown v (x ∷ [])) ≡ Some w = sym (exchanged-front group s.members s.heard (s.heard ++ x ∷ []) v e (x ∷ [], refl)) ∙ k in
     let same : grown v (x ∷ []) ≡ w = cc grows in
     let front = log-front own group s.members s.heard (s.heard ++ x ∷ []) v w e k (x ∷ [], refl) in (
-      ap (λ (u : Whole A). keeps_committed (log_of group older) (committed_of group older) (Some u)) same ∙ a,
+      ap (λ (u : Whole A). keeps_committed (log_of group older) s.front (committed_of group older) (Some u)) same ∙ a,
       le-leb (length (log_on own v)) max_number (omega (
         arith,
         front_length (log_on own v) (log_on own w) front,
@@ -235,12 +236,12 @@ sound-before group x (s ∷ older) t =
     let own = log_of group older in
     let kept = committed_of group older in
     let s' = with_message s x in
-    let outer = and_parts (is_sound group older && keeps_committed own kept (exchanged group s'.members s'.heard))
+    let outer = and_parts (is_sound group older && keeps_committed own s.front kept (exchanged group s'.members s'.heard))
     (is_log_length (length (log_of group (s' ∷ older)))) t in
-    let inner = and_parts (is_sound group older) (keeps_committed own kept (exchanged group s'.members s'.heard)) outer.0 in
+    let inner = and_parts (is_sound group older) (keeps_committed own s.front kept (exchanged group s'.members s'.heard)) outer.0 in
     let both = unsound-step group s older x (exchanged group s.members s.heard) (exchanged group s'.members s'.heard) refl refl inner.0 inner.1 outer.1 in
-    and_from (is_sound group older && keeps_committed own kept (exchanged group s.members s.heard)) (is_log_length (length (log_of group (s ∷ older))))
-    (and_from (is_sound group older) (keeps_committed own kept (exchanged group s.members s.heard)) inner.0 both.0) both.1
+    and_from (is_sound group older && keeps_committed own s.front kept (exchanged group s.members s.heard)) (is_log_length (length (log_of group (s ∷ older))))
+    (and_from (is_sound group older) (keeps_committed own s.front kept (exchanged group s.members s.heard)) inner.0 both.0) both.1
 
 marks-before : {A : Type 0} (group : Group) (n : ℕ) (life : List (Stay A)) → is_sound group (marks n life) ≡ is_sound group life
 marks-before group n [] = refl
@@ -250,9 +251,9 @@ sound-lived : {A : Type 0} (group : Group) (life : List (Stay A)) (o : Out A) �
 sound-lived group life (Agreed ring k x) t = sound-before group x life t
 sound-lived group life (Safe ring upto) t = sym (marks-before group upto life) ∙ t
 sound-lived group life (Regular ring set) t =
-    let outer = and_parts (is_sound group life && keeps_committed (log_of group life) (committed_of group life) (exchanged group set []))
+    let outer = and_parts (is_sound group life && keeps_committed (log_of group life) [] (committed_of group life) (exchanged group set []))
     (is_log_length (length (log_of group (stay_in ring set ∷ life)))) t in
-    (and_parts (is_sound group life) (keeps_committed (log_of group life) (committed_of group life) (exchanged group set [])) outer.0).0
+    (and_parts (is_sound group life) (keeps_committed (log_of group life) [] (committed_of group life) (exchanged group set [])) outer.0).0
 sound-lived group life (Send to frame) t = t
 sound-lived group life (Trans old new set) t = t
 sound-lived group life (Rest ring k x) t = t

@@ -72,60 +72,61 @@ upto-behind mark (x ∷ xs) = by (nat_le x.number mark) (upto-behind mark xs)
 
 -- ---- how far the log reaches
 
-module _ {A : Type 0} (group : Group) (m : ℕ) (own : List (OneCall A)) where
+module _ {A : Type 0} (group : Group) (m : ℕ) (own below : List (OneCall A)) where
   pub reaches-push : (front xs : List (Message A)) (x : Message A)
-      → reaches_from group m own front (xs ++ x ∷ []) ≡ reaches_from group m own front xs
-      ++ record { number = x.number; places = reach_of group m own ((front ++ xs) ++ x ∷ []) } ∷ []
+      → reaches_from group m own below front (xs ++ x ∷ []) ≡ reaches_from group m own below front xs
+      ++ record { number = x.number; places = reach_of group m own below ((front ++ xs) ++ x ∷ []) } ∷ []
   reaches-push front [] x =
-      ap (λ (l : List (Message A)). record { number = x.number; places = reach_of group m own (l ++ x ∷ []) } ∷ []) (sym (append-nil front))
+      ap (λ (l : List (Message A)). record { number = x.number; places = reach_of group m own below (l ++ x ∷ []) } ∷ []) (sym (append-nil front))
   reaches-push front (y ∷ ys) x =
-      let one : List (Message A) → Reach = λ l. record { number = x.number; places = reach_of group m own (l ++ x ∷ []) } in
-      let first : Reach = record { number = y.number; places = reach_of group m own (front ++ y ∷ []) } in
+      let one : List (Message A) → Reach = λ l. record { number = x.number; places = reach_of group m own below (l ++ x ∷ []) } in
+      let first : Reach = record { number = y.number; places = reach_of group m own below (front ++ y ∷ []) } in
       ap (λ l. first ∷ l) (reaches-push (front ++ y ∷ []) ys x
-      ∙ ap (λ l. reaches_from group m own (front ++ y ∷ []) ys ++ one l ∷ []) (append_assoc front (y ∷ []) ys))
+      ∙ ap (λ l. reaches_from group m own below (front ++ y ∷ []) ys ++ one l ∷ []) (append_assoc front (y ∷ []) ys))
 
   reached-grows : (xs ys : List (Message A)) (o p : Option (Whole A)) → exchanged group m xs ≡ o → exchanged group m ys ≡ p → IsFront xs ys
-      → IsFront (reached own o) (reached own p)
-  reached-grows xs ys None p e k f = (reached own p, refl)
+      → IsFront (reached own below o) (reached own below p)
+  reached-grows xs ys None p e k f = (reached own below p, refl)
   reached-grows xs ys (Some v) None e k f = absurd (some-none (grown v f.0) (sym (exchanged-front group m xs ys v e f) ∙ k))
-  reached-grows xs ys (Some v) (Some w) e k f = log-front (own_base own) group m xs ys v w e k f
+  reached-grows xs ys (Some v) (Some w) e k f = log-front (own_base own below) group m xs ys v w e k f
 
-  pub reach-grows : (xs ys : List (Message A)) → IsFront xs ys → reach_of group m own xs ≤ reach_of group m own ys
+  pub reach-grows : (xs ys : List (Message A)) → IsFront xs ys → reach_of group m own below xs ≤ reach_of group m own below ys
   reach-grows xs ys f = front_length _ _ (reached-grows xs ys (exchanged group m xs) (exchanged group m ys) refl refl f)
 
   -- what a mark leaves of them
   pub left-is : (mark : ℕ) (front xs : List (Message A))
-      → left mark (reaches_from group m own front xs) ≡ reaches_from group m own (front ++ upto mark xs) (behind mark xs)
+      → left mark (reaches_from group m own below front xs) ≡ reaches_from group m own below (front ++ upto mark xs) (behind mark xs)
   left-is mark front [] = refl
   left-is mark front (x ∷ xs) = by (nat_le x.number mark) (left-is mark (front ++ x ∷ []) xs)
     where
       by : (b : Bool)
-          → left mark (reaches_from group m own (front ++ x ∷ []) xs) ≡ reaches_from group m own ((front ++ x ∷ []) ++ upto mark xs) (behind mark xs)
-          → (if b then left mark (reaches_from group m own (front ++ x ∷ []) xs) else reaches_from group m own front (x ∷ xs))
-          ≡ reaches_from group m own (front ++ (if b then x ∷ upto mark xs else [])) (if b then behind mark xs else x ∷ xs)
+          → left mark (reaches_from group m own below (front ++ x ∷ []) xs)
+          ≡ reaches_from group m own below ((front ++ x ∷ []) ++ upto mark xs) (behind mark xs)
+          → (if b then left mark (reaches_from group m own below (front ++ x ∷ []) xs) else reaches_from group m own below front (x ∷ xs))
+          ≡ reaches_from group m own below (front ++ (if b then x ∷ upto mark xs else [])) (if b then behind mark xs else x ∷ xs)
       by true e =
           e
-          ∙ ap (λ l. reaches_from group m own l (behind mark xs)) (append_assoc front (x ∷ []) (upto mark xs))
-      by false e = ap (λ l. reaches_from group m own l (x ∷ xs)) (sym (append-nil front))
+          ∙ ap (λ l. reaches_from group m own below l (behind mark xs)) (append_assoc front (x ∷ []) (upto mark xs))
+      by false e = ap (λ l. reaches_from group m own below l (x ∷ xs)) (sym (append-nil front))
 
   -- how far the last of those reaches that it covers
   pub covered-is : (mark places : ℕ) (front xs : List (Message A))
-      → ((upto mark xs ≡ []) × (covered mark places (reaches_from group m own front xs) ≡ places))
-      ⊎ (covered mark places (reaches_from group m own front xs) ≡ reach_of group m own (front ++ upto mark xs))
+      → ((upto mark xs ≡ []) × (covered mark places (reaches_from group m own below front xs) ≡ places))
+      ⊎ (covered mark places (reaches_from group m own below front xs) ≡ reach_of group m own below (front ++ upto mark xs))
   covered-is mark places front [] = inl (refl, refl)
   covered-is mark places front (x ∷ xs) =
-      let here = reach_of group m own (front ++ x ∷ []) in
-      let rest = reaches_from group m own (front ++ x ∷ []) xs in
+      let here = reach_of group m own below (front ++ x ∷ []) in
+      let rest = reaches_from group m own below (front ++ x ∷ []) xs in
       by (nat_le x.number mark) here rest (covered-is mark here (front ++ x ∷ []) xs) refl
     where
       by : (b : Bool) (here : ℕ) (rest : List Reach)
-          → ((upto mark xs ≡ []) × (covered mark here rest ≡ here)) ⊎ (covered mark here rest ≡ reach_of group m own ((front ++ x ∷ []) ++ upto mark xs))
-          → here ≡ reach_of group m own (front ++ x ∷ [])
+          → ((upto mark xs ≡ []) × (covered mark here rest ≡ here)) ⊎ (covered mark here rest ≡ reach_of group m own below ((front ++ x ∷ []) ++ upto mark xs))
+          → here ≡ reach_of group m own below (front ++ x ∷ [])
           → (((if b then x ∷ upto mark xs else []) ≡ []) × ((if b then covered mark here rest else places) ≡ places))
-          ⊎ ((if b then covered mark here rest else places) ≡ reach_of group m own (front ++ (if b then x ∷ upto mark xs else [])))
+          ⊎ ((if b then covered mark here rest else places) ≡ reach_of group m own below (front ++ (if b then x ∷ upto mark xs else [])))
       by true here rest (inl none) is =
-          inr (none.1 ∙ is ∙ ap (λ l. reach_of group m own (front ++ x ∷ l)) (sym none.0))
-      by true here rest (inr some) is = inr (some ∙ ap (reach_of group m own) (append_assoc front (x ∷ []) (upto mark xs)))
+          inr (none.1 ∙ is ∙ ap (λ l. reach_of group m own below (front ++ x ∷ l)) (sym none.0))
+      by true here rest (inr some) is = inr (some ∙ ap (reach_of group m own below) (append_assoc front (x ∷ []) (upto mark xs)))
       by false here rest c is = inl (refl, refl)
 
   length-longer : (a b : List (OneCall A)) → length (longer a b) ≡ max (length a) (length b)
@@ -134,44 +135,48 @@ module _ {A : Type 0} (group : Group) (m : ℕ) (own : List (OneCall A)) where
 
   -- what is committed by a safe front: the longer of what was before, and what it reaches
   pub committed-reach : (old : List (OneCall A)) (safe : List (Message A)) (o : Option (Whole A)) → exchanged group m safe ≡ o
-      → length (committed_by own old o) ≡ max (length old) (length (reached own o))
+      → length (committed_by own below old o) ≡ max (length old) (length (reached own below o))
   committed-reach old safe None e = omega arith
-  committed-reach old safe (Some w) e = length-longer old (own_base own w.exchange ++ calls_in w.rest)
+  committed-reach old safe (Some w) e = length-longer old (own_base own below w.exchange ++ calls_in w.rest)
 
   -- what is reached is no longer than the log
-  reach-log : (heard : List (Message A)) (o : Option (Whole A)) → exchanged group m heard ≡ o → length (reached own o) ≤ length (log_by own o)
+  reach-log : (heard : List (Message A)) (o : Option (Whole A)) → exchanged group m heard ≡ o → length (reached own below o) ≤ length (log_by own below o)
   reach-log heard None e = omega arith
   reach-log heard (Some w) e = omega arith
 
 -- the log as the newest stay's mark covers what it covers
 pub settled : {A : Type 0} (group : Group) (s : Stay A) (older : List (Stay A)) (front xs : List (Message A)) (log : Log A) → front ++ xs ≡ s.heard
     → IsCovered s.mark front → log.calls ≡ log_of group (s ∷ older) → log.last ≡ last_of group (s ∷ older)
-    → log.committed ≡ max (length (committed_of group older)) (reach_of group s.members (log_of group older) front)
-    → committed_upto log (covered s.mark 0 (reaches_from group s.members (log_of group older) front xs)) ≡ kept_of group (s ∷ older)
+    → log.committed ≡ max (length (committed_of group older)) (reach_of group s.members (log_of group older) s.front front)
+    → committed_upto log (covered s.mark 0 (reaches_from group s.members (log_of group older) s.front front xs)) ≡ kept_of group (s ∷ older)
 settled {A} group s older front xs log all is calls last committed =
     let own = log_of group older in
     let m = s.members in
     let old = committed_of group older in
-    let rs = reaches_from group m own front xs in
+    let rs = reaches_from group m own s.front front xs in
     let safe = upto s.mark s.heard in
     let safe_is : safe ≡ front ++ upto s.mark xs = ap (upto s.mark) (sym all) ∙ upto-covered s.mark front xs is in
-    let now : length (committed_of group (s ∷ older)) ≡ max (length old) (reach_of group m own safe) =
-    committed-reach group m own old safe (exchanged group m safe) refl in
-    let within : reach_of group m own safe ≤ length (log_of group (s ∷ older)) =
-    omega (arith, reach-grows group m own safe s.heard (upto-front s.mark s.heard), reach-log group m own s.heard (exchanged group m s.heard) refl) in
-    let grows : reach_of group m own front ≤ reach_of group m own safe =
-    reach-grows group m own front safe (subst (λ l. IsFront front l) (sym safe_is) (front_append front (upto s.mark xs))) in
+    let now : length (committed_of group (s ∷ older)) ≡ max (length old) (reach_of group m own s.front safe) =
+    committed-reach group m own s.front old safe (exchanged group m safe) refl in
+    let within : reach_of group m own s.front safe ≤ length (log_of group (s ∷ older)) =
+    omega (
+      arith,
+      reach-grows group m own s.front safe s.heard (upto-front s.mark s.heard),
+      reach-log group m own s.front s.heard (exchanged group m s.heard) refl,
+    ) in
+    let grows : reach_of group m own s.front front ≤ reach_of group m own s.front safe =
+    reach-grows group m own s.front front safe (subst (λ l. IsFront front l) (sym safe_is) (front_append front (upto s.mark xs))) in
     let len : length log.calls ≡ length (log_of group (s ∷ older)) = ap length calls in
     let n : max log.committed (min (covered s.mark 0 rs) (length log.calls)) ≡ length (committed_of group (s ∷ older)) =
-    elim (covered-is group m own s.mark 0 front xs) as
+    elim (covered-is group m own s.front s.mark 0 front xs) as
     (λ _. max log.committed (min (covered s.mark 0 rs) (length log.calls)) ≡ length
     (committed_of group (s ∷ older))) [
       | inl none ↦
-          (let same : reach_of group m own safe ≡ reach_of group m own front =
-          ap (reach_of group m own) (safe_is ∙ ap (λ l. front ++ l) none.0 ∙ append-nil front) in
+          (let same : reach_of group m own s.front safe ≡ reach_of group m own s.front front =
+          ap (reach_of group m own s.front) (safe_is ∙ ap (λ l. front ++ l) none.0 ∙ append-nil front) in
           omega (arith, none.1, same, now, committed))
       | inr some ↦
-          (let there : covered s.mark 0 rs ≡ reach_of group m own safe = some ∙ ap (reach_of group m own) (sym safe_is) in
+          (let there : covered s.mark 0 rs ≡ reach_of group m own s.front safe = some ∙ ap (reach_of group m own s.front) (sym safe_is) in
           omega (arith, there, now, committed, within, grows, len))
     ] in
     made log.calls (max log.committed (min (covered s.mark 0 rs) (length log.calls))) log.last calls n last
@@ -184,9 +189,9 @@ settled {A} group s older front xs log all is calls last committed =
 -- and what it leaves
 pub left-settled : {A : Type 0} (group : Group) (s : Stay A) (own : List (OneCall A)) (front xs : List (Message A))
     → front ++ xs ≡ s.heard → IsCovered s.mark front
-    → left s.mark (reaches_from group s.members own front xs) ≡ reaches_from group s.members own (upto s.mark s.heard) (behind s.mark s.heard)
+    → left s.mark (reaches_from group s.members own s.front front xs) ≡ reaches_from group s.members own s.front (upto s.mark s.heard) (behind s.mark s.heard)
 left-settled group s own front xs all is =
-    left-is group s.members own s.mark front xs
-    ∙ ap (λ l. reaches_from group s.members own l (behind s.mark xs)) (sym (upto-covered s.mark front xs is))
-    ∙ ap (λ l. reaches_from group s.members own (upto s.mark (front ++ xs)) l) (sym (behind-covered s.mark front xs is))
-    ∙ ap (λ l. reaches_from group s.members own (upto s.mark l) (behind s.mark l)) all
+    left-is group s.members own s.front s.mark front xs
+    ∙ ap (λ l. reaches_from group s.members own s.front l (behind s.mark xs)) (sym (upto-covered s.mark front xs is))
+    ∙ ap (λ l. reaches_from group s.members own s.front (upto s.mark (front ++ xs)) l) (sym (behind-covered s.mark front xs is))
+    ∙ ap (λ l. reaches_from group s.members own s.front (upto s.mark l) (behind s.mark l)) all

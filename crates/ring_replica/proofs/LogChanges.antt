@@ -1,8 +1,8 @@
 -- The committed places of a log that changes, and what is due by the calls that wait.
-use Rattle.std.proofs.Common.{◌≡◌, ℕ, min, max, Bool, true, false, not, List, [], ◌∷◌, ◌++◌, length}
+use Rattle.std.proofs.Common.{◌&&◌, ◌≡◌, ℕ, min, max, Bool, true, false, not, List, [], ◌∷◌, ◌++◌, length}
 use Rattle.std.proofs.Common.{take, map, Option, refl, ap, sym, ◌∙◌, subst, arith, append_assoc, if◌then◌else◌}
 use Rattle.std.specs.List.{filter}
-use Rattle.std.specs.Prelude.{Result, OnOk}
+use Rattle.std.specs.Prelude.{Result, OnOk, is_none}
 use Rattle.std.proofs.lemmas.Bool.{and_parts}
 use Rattle.std.proofs.lemmas.List.{append-nil, length-take}
 use Rattle.ring_base.specs.Fronts.{IsFront}
@@ -41,7 +41,8 @@ committed-adopted old new ring base may e =
     let first = committed_calls old in
     let calls = based old.calls base in
     let same : first ≡ take (length first) calls =
-    (begins-Decides first calls).0 (and_parts (begins first calls) (is_log_length (length calls)) may).0 in
+    (begins-Decides first calls).0 (and_parts (begins first calls) (is_log_length (length calls))
+    (and_parts (is_none base.snapshot) (begins first calls && is_log_length (length calls)) may).1).0 in
     subst (λ l. IsFront first (committed_calls l)) (sym e)
     (subst (λ w. IsFront w (take old.committed calls)) (sym same)
     (take-longer (length first) old.committed calls (omega (arith, length-take old.committed old.calls))))

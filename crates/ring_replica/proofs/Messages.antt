@@ -1,5 +1,6 @@
 -- What a message makes of the log, its exchange and what is due is what the definitions make of the longer life.
 use Rattle.std.proofs.Common.{◌≡◌, ℕ, ◌+◌, ◌==◌, ◌&&◌, Bool, true, false, not, List, [], ◌∷◌, ◌++◌, length, take, drop}
+use Rattle.std.specs.Prelude.{is_none}
 use Rattle.std.proofs.Common.{Option, Some, None, refl, ap, sym, ◌∙◌, subst, append_assoc, length-append, if◌then◌else◌}
 use Rattle.std.proofs.lemmas.Bool.{cond_both, cond-true, cond-false, and_parts, eqb-true, eq-eqb}
 use Rattle.std.proofs.lemmas.List.{append-nil}
@@ -10,18 +11,20 @@ use Rattle.ring_payload.specs.Kinds.{calls_of}
 use Rattle.ring_payload.specs.declared.call.Call.{Call as OneCall}
 use Rattle.ring_payload.specs.declared.calls.Part.{Part as OnePart}
 use Rattle.ring_payload.specs.declared.head.Head.{Head as OneHead}
+use Rattle.ring_payload.specs.declared.snap.Snap.{Snap as OneSnap}
 use Rattle.ring_payload.specs.declared.content.Payload.{Payload}
 use Rattle.ring_payload.specs.declared.content.Payload.TheVariants.{Call, Wrapped, End, Head, Part, Pack, Snap}
 use Rattle.ring_wire.specs.declared.message.Message.{Message}
 use Rattle.ring_log.specs.declared.base.Base.{Base}
 use Rattle.ring_log.specs.declared.wanted.Wanted.{Wanted}
-use Rattle.ring_log.specs.Exchanges.{Exchange, opened, wanted_by, wanted, hear_head, is_wanted, hear_part, heard}
-use Rattle.ring_log.specs.Exchanges.{is_brought, is_whole, base_from, handed_out, base_at, relieved, based}
+use Rattle.ring_log.specs.Exchanges.{Exchange, opened, wanted_by, wanted, hear_head, is_next_piece, hear_snap, is_wanted, hear_part, heard}
+use Rattle.ring_log.specs.Exchanges.{is_brought, is_whole, snapshot_by, base_from, handed_out, base_at, relieved, based}
 use Rattle.ring_log.specs.Logs.{Log, begins, is_log_length, is_adoptable, committed_calls}
 use Rattle.ring_log.specs.Stays.{Stay}
 use Rattle.ring_log.specs.Lives.{Whole, heard_by, whole_from, after_all, exchanged, calls_in, own_base, log_by, log_of}
-use Rattle.ring_log.specs.Lives.{last_by, last_of, upto, committed_by, committed_of, kept_of, keeps_committed, is_sound}
+use Rattle.ring_log.specs.Lives.{last_by, last_of, upto, committed_by, committed_of, kept_of, is_unsnapped, keeps_committed, is_sound}
 use Rattle.ring_log.proofs.WholeExchanges.{stated, has-nobody, relieved-open, opened-open, push-none, push-some, none-open, some-whole, handed-based}
+use Rattle.ring_log.proofs.WholeExchanges.{handed-plain}
 use Rattle.ring_log_proof.proofs.Wholes.{calls_in-append}
 use Rattle.ring_log_proof.proofs.Committed.{upto-front}
 use Rattle.ring_log_proof.proofs.CommittedGrows.{committed_front}
@@ -49,7 +52,7 @@ unstated-wanted : {A : Type 0} (e : Exchange A) → is_stated e ≡ false → wa
 unstated-wanted e f = wanted-by-case (e.unheard == nobody) (wanted_by e.heads) f
 
 relieved-wanted : {A : Type 0} (e : Exchange A) → wanted (relieved e) ≡ wanted e
-relieved-wanted {A} e = cond_both (is_whole e) (record e { brought = [] }) e (λ (r : Exchange A). wanted r ≡ wanted e) (λ t. refl) (λ f. refl)
+relieved-wanted {A} e = cond_both (is_whole e) (record e { bytes = []; brought = [] }) e (λ (r : Exchange A). wanted r ≡ wanted e) (λ t. refl) (λ f. refl)
 
 -- where all Heads were heard and nothing is wanted, nothing is heard
 no-head : {A : Type 0} (e : Exchange A) (sender : ℕ) (head : OneHead) → is_stated e ≡ true → hear_head e sender head ≡ e
@@ -60,7 +63,17 @@ no-part : {A : Type 0} (e : Exchange A) (sender : ℕ) (part : OnePart A) → wa
 no-part {A} e sender part none = by (wanted e) none
   where
     by : (o : Option Wanted) → o ≡ None
-        → (if (is_wanted o e.places sender part) then record e { places = e.places + length part.calls; brought = e.brought ++ part.calls } else e) ≡ e
+        → (if (is_wanted o e.got e.total e.places sender part)
+        then record e { places = e.places + length part.calls; brought = e.brought ++ part.calls } else e) ≡ e
+    by None e' = refl
+    by (Some w) e' = absurd (cc e')
+
+no-snap : {A : Type 0} (e : Exchange A) (sender : ℕ) (snap : OneSnap A) → wanted e ≡ None → hear_snap e sender snap ≡ e
+no-snap {A} e sender snap none = by (wanted e) none
+  where
+    by : (o : Option Wanted) → o ≡ None
+        → (if (is_next_piece o e.got e.total sender snap)
+        then record e { got = e.got + length snap.bytes; total = snap.total; bytes = e.bytes ++ snap.bytes } else e) ≡ e
     by None e' = refl
     by (Some w) e' = absurd (cc e')
 
@@ -71,7 +84,7 @@ hears-nothing e sender (Call call) t none = refl
 hears-nothing e sender (Wrapped old) t none = refl
 hears-nothing e sender End t none = refl
 hears-nothing e sender (Pack pack) t none = refl
-hears-nothing e sender (Snap snap) t none = refl
+hears-nothing e sender (Snap snap) t none = no-snap e sender snap none
 
 -- the Parts are due where the last Head was heard
 parts-due-case : {A : Type 0} (me : ℕ) (own : List (OneCall A)) (e new : Exchange A) (b c : Bool) (v w : Option Wanted) → is_stated e ≡ b → is_stated new ≡ c
@@ -105,27 +118,27 @@ pub record Hears {A : Type 0} (group : Group) (s : Stay A) (older : List (Stay A
   pub last : t.fits ≡ true → t.log.last ≡ last_of group (with_message s x ∷ older)
   pub committed : t.log.committed ≡ log.committed
   pub due : t.fits ≡ true → t.due ≡ handed
-  pub reach : t.fits ≡ true → reach_at t.stage t.log ≡ reach_of group s.members (log_of group older) (s.heard ++ x ∷ [])
+  pub reach : t.fits ≡ true → reach_at t.stage t.log ≡ reach_of group s.members (log_of group older) s.front (s.heard ++ x ∷ [])
 
 -- what is known before it, of the newest stay
 record Before {A : Type 0} (group : Group) (s : Stay A) (older : List (Stay A)) (log : Log A) (whole : Option (Whole A)) : Type 0 where
   exch : exchanged group s.members s.heard ≡ whole
   old : is_sound group older ≡ true
-  keeps : keeps_committed (log_of group older) (committed_of group older) whole ≡ true
-  short : is_log_length (length (log_by (log_of group older) whole)) ≡ true
-  calls : log.calls ≡ log_by (log_of group older) whole
+  keeps : keeps_committed (log_of group older) s.front (committed_of group older) whole ≡ true
+  short : is_log_length (length (log_by (log_of group older) s.front whole)) ≡ true
+  calls : log.calls ≡ log_by (log_of group older) s.front whole
   last : log.last ≡ last_by s.ring (last_of group older) whole
 
 -- where the longer text has this exchange
 sound-now : {A : Type 0} (group : Group) (s : Stay A) (older : List (Stay A)) (x : Message A) (b : Bool) (o : Option (Whole A)) → is_sound group older ≡ true
     → exchanged group s.members (s.heard ++ x ∷ []) ≡ o
-    → b ≡ keeps_committed (log_of group older) (committed_of group older) o && is_log_length (length (log_by (log_of group older) o))
+    → b ≡ keeps_committed (log_of group older) s.front (committed_of group older) o && is_log_length (length (log_by (log_of group older) s.front o))
     → b ≡ is_sound group (with_message s x ∷ older)
 sound-now {A} group s older x b o t e is =
     let own = log_of group older in
     let kept = committed_of group older in
-    let now : Option (Whole A) → Bool = λ w. (is_sound group older && keeps_committed own kept w) && is_log_length (length (log_by own w)) in
-    is ∙ ap (λ k. (k && keeps_committed own kept o) && is_log_length (length (log_by own o))) (sym t) ∙ ap now (sym e)
+    let now : Option (Whole A) → Bool = λ w. (is_sound group older && keeps_committed own s.front kept w) && is_log_length (length (log_by own s.front w)) in
+    is ∙ ap (λ k. (k && keeps_committed own s.front kept o) && is_log_length (length (log_by own s.front o))) (sym t) ∙ ap now (sym e)
 
 -- an exchange that stays open, or a ring without one
 hears-none : {A : Type 0} (group : Group) (s : Stay A) (older : List (Stay A)) (x : Message A) (log : Log A) (stage : Stage A) (parts due : List (Payload A))
@@ -137,11 +150,11 @@ hears-none {A} group s older x log stage parts due k none at low same =
     record {
       sound = sound-now group s older x true None k.old none (sym k.short);
       stage = λ t. at;
-      calls = λ t. k.calls ∙ ap (log_by own) (sym none);
+      calls = λ t. k.calls ∙ ap (log_by own s.front) (sym none);
       last = λ t. k.last ∙ ap (last_by s.ring (last_of group older)) (sym none);
       committed = refl;
       due = λ t. same;
-      reach = λ t. low ∙ ap (λ (o : Option (Whole A)). length (reached own o)) (sym none);
+      reach = λ t. low ∙ ap (λ (o : Option (Whole A)). length (reached own s.front o)) (sym none);
     }
 
 -- a ring that is adopted already
@@ -153,23 +166,50 @@ hears-adopted : {A : Type 0} (group : Group) (s : Stay A) (older : List (Stay A)
 hears-adopted {A} group s older x setting pending log w due k some at none =
     let own = log_of group older in
     let w' : Whole A = record w { rest = w.rest ++ x ∷ [] } in
-    let new : log.calls ++ calls_of x.payload ≡ log_by own (Some w') =
-    ap (λ l. l ++ calls_of x.payload) k.calls ∙ append_assoc (own_base own w.exchange) (calls_in w.rest) (calls_of x.payload)
-    ∙ ap (λ l. own_base own w.exchange ++ l)
+    let new : log.calls ++ calls_of x.payload ≡ log_by own s.front (Some w') =
+    ap (λ l. l ++ calls_of x.payload) k.calls ∙ append_assoc (own_base own s.front w.exchange) (calls_in w.rest) (calls_of x.payload)
+    ∙ ap (λ l. own_base own s.front w.exchange ++ l)
     (ap (λ l. calls_in w.rest ++ l) (sym (append-nil (calls_of x.payload))) ∙ sym (calls_in-append w.rest (x ∷ []))) in
-    let long : length log.calls + length (calls_of x.payload) ≡ length (log_by own (Some w')) =
+    let long : length log.calls + length (calls_of x.payload) ≡ length (log_by own s.front (Some w')) =
     sym (length-append log.calls (calls_of x.payload)) ∙ ap length new in
-    let there : log_by own (Some w') ≡ log_of group (with_message s x ∷ older) = ap (log_by own) (sym some) in
+    let there : log_by own s.front (Some w') ≡ log_of group (with_message s x ∷ older) = ap (log_by own s.front) (sym some) in
     record {
       sound = sound-now group s older x (is_log_length (length log.calls + length (calls_of x.payload))) (Some w') k.old some
-          (ap is_log_length long ∙ ap (λ b. b && is_log_length (length (log_by own (Some w')))) (sym k.keeps));
+          (ap is_log_length long ∙ ap (λ b. b && is_log_length (length (log_by own s.front (Some w')))) (sym k.keeps));
       stage = λ t. at;
       calls = λ t. new ∙ there;
       last = λ t. k.last ∙ ap (last_by s.ring (last_of group older)) (sym some);
       committed = refl;
       due = λ t. none;
-      reach = λ t. ap length new ∙ ap (λ (o : Option (Whole A)). length (reached own o)) (sym some);
+      reach = λ t. ap length new ∙ ap (λ (o : Option (Whole A)). length (reached own s.front o)) (sym some);
     }
+
+nothing : {X : Type 0} (o : Option X) → is_none o ≡ true → o ≡ None
+nothing None t = refl
+nothing (Some x) t = absurd (cc t)
+
+-- the test of a base is that of the life in which it is adopted
+adoptable-is : {A : Type 0} (log : Log A) (base : Base A) (e : Exchange A) (own front kept : List (OneCall A)) (number : ℕ) → log.calls ≡ own
+    → committed_calls log ≡ kept → handed_out e ≡ Some base → (o : Option (List ℕ)) → base.snapshot ≡ o
+    → is_adoptable log base
+    ≡ keeps_committed own front kept (Some (record { exchange = e; end = number; rest = [] }))
+    && is_log_length (length (log_by own front (Some (record { exchange = e; end = number; rest = [] }))))
+adoptable-is {A} log base e own front kept number calls first hands None none =
+    let b = based log.calls base in
+    let b' = own_base own front e in
+    let same : b ≡ b' = ap (λ l. based l base) calls ∙ handed-based e base own front hands none in
+    let plain : is_unsnapped (wanted e) ≡ true = sym (handed-plain e base hands) ∙ ap is_none none in
+    ap (λ o. is_none o && (begins (committed_calls log) b && is_log_length (length b))) none
+    ∙ ap (λ l. begins l b && is_log_length (length b)) first
+    ∙ ap (λ l. begins kept l && is_log_length (length l)) same
+    ∙ ap (λ l. begins kept b' && is_log_length (length l)) (sym (append-nil b'))
+    ∙ ap (λ u. (u && begins kept b') && is_log_length (length (b' ++ []))) (sym plain)
+adoptable-is {A} log base e own front kept number calls first hands (Some bytes) some =
+    let b = based log.calls base in
+    let b' = own_base own front e in
+    let snapped : is_unsnapped (wanted e) ≡ false = sym (handed-plain e base hands) ∙ ap is_none some in
+    ap (λ o. is_none o && (begins (committed_calls log) b && is_log_length (length b))) some
+    ∙ ap (λ u. (u && begins kept b') && is_log_length (length (b' ++ []))) (sym snapped)
 
 -- a ring that is adopted by it
 hears-base : {A : Type 0} (group : Group) (s : Stay A) (older : List (Stay A)) (x : Message A) (setting : Setting)
@@ -183,21 +223,21 @@ hears-base : {A : Type 0} (group : Group) (s : Stay A) (older : List (Stay A)) (
 hears-base {A} group s older x setting pending log e parts due base k some at hands ring first is_due =
     let own = log_of group older in
     let w : Whole A = record { exchange = e; end = x.number; rest = [] } in
-    let based_is : based log.calls base ≡ own_base own e = ap (λ l. based l base) k.calls ∙ handed-based e base own hands in
-    let new : based log.calls base ≡ log_by own (Some w) = based_is ∙ sym (append-nil (own_base own e)) in
-    let there : log_by own (Some w) ≡ log_of group (with_message s x ∷ older) = ap (log_by own) (sym some) in
-    let begun : begins (committed_calls log) (based log.calls base) ≡ begins (committed_of group older) (own_base own e) =
-    ap (λ l. begins l (based log.calls base)) first ∙ ap (begins (committed_of group older)) based_is in
+    let log_now = log_by own s.front (Some w) in
+    let plain : is_adoptable log base ≡ true → base.snapshot ≡ None = λ t. nothing base.snapshot
+    (and_parts (is_none base.snapshot) (begins (committed_calls log) (based log.calls base) && is_log_length (length (based log.calls base))) t).0 in
+    let new : base.snapshot ≡ None → based log.calls base ≡ log_now = λ none.
+    ap (λ l. based l base) k.calls ∙ handed-based e base own s.front hands none ∙ sym (append-nil (own_base own s.front e)) in
+    let there : log_now ≡ log_of group (with_message s x ∷ older) = ap (log_by own s.front) (sym some) in
     record {
-      sound = sound-now group s older x (is_adoptable log base) (Some w) k.old some
-          (ap (λ b. b && is_log_length (length (based log.calls base))) begun
-          ∙ ap (λ l. begins (committed_of group older) (own_base own e) && is_log_length (length l)) new);
+      sound = sound-now group s older x (is_adoptable log base) (Some w) k.old some (adoptable-is log base e own s.front (committed_of group older) x.number
+          k.calls first hands base.snapshot refl);
       stage = λ t. at;
-      calls = λ t. new ∙ there;
+      calls = λ t. new (plain t) ∙ there;
       last = λ t. ap (λ r. Some r) ring ∙ ap (last_by s.ring (last_of group older)) (sym some);
       committed = refl;
-      due = λ t. ap (λ l. parts ++ if_runs setting.runs (calls_left pending (drop setting.committed l))) (new ∙ there) ∙ is_due;
-      reach = λ t. ap length new ∙ ap (λ (o : Option (Whole A)). length (reached own o)) (sym some);
+      due = λ t. ap (λ l. parts ++ if_runs setting.runs (calls_left pending (drop setting.committed l))) (new (plain t) ∙ there) ∙ is_due;
+      reach = λ t. ap length (new (plain t)) ∙ ap (λ (o : Option (Whole A)). length (reached own s.front o)) (sym some);
     }
 
 -- ---- by where the exchange stands
@@ -225,14 +265,16 @@ if-never : {X : Type 0} (b c : Bool) (x y : X) → c ≡ true → (if b && not c
 if-never true c x y t = ap (λ k. if not k then x else y) t
 if-never false c x y t = refl
 
-brought-wanted : {A : Type 0} (o : Option Wanted) (places : ℕ) (calls : List (OneCall A)) → is_brought o places ≡ true
-    → (base : Base A) × (base_from o calls ≡ Some base)
-brought-wanted None places calls t = absurd (cc t)
-brought-wanted (Some w) places calls t = (record { from = w.from; calls = calls }, refl)
+brought-wanted : {A : Type 0} (o : Option Wanted) (got total places : ℕ) (bytes : List ℕ) (calls : List (OneCall A)) → is_brought o got total places ≡ true
+    → (base : Base A) × (base_from o bytes calls ≡ Some base)
+brought-wanted None got total places bytes calls t = absurd (cc t)
+brought-wanted (Some w) got total places bytes calls t = (record { from = w.from; snapshot = snapshot_by w.snapshot bytes; calls = calls }, refl)
 
 -- a whole exchange hands out a base
 whole-base : {A : Type 0} (e : Exchange A) → is_whole e ≡ true → (base : Base A) × (handed_out e ≡ Some base)
-whole-base e t = let b = brought-wanted (wanted e) e.places e.brought t in (b.0, cond-true (is_whole e) (base_from (wanted e) e.brought) None t ∙ b.1)
+whole-base e t =
+    let b = brought-wanted (wanted e) e.got e.total e.places e.bytes e.brought t in
+    (b.0, cond-true (is_whole e) (base_from (wanted e) e.bytes e.brought) None t ∙ b.1)
 
 same-nothing : {A : Type 0} (b : Bool) (a : List (Payload A)) → a ≡ [] → (if b then a else []) ≡ []
 same-nothing true a none = none
@@ -262,15 +304,15 @@ module _ {A : Type 0} (group : Group) (s : Stay A) (older : List (Stay A)) (x : 
   before w e t is =
       let own = log_of group older in
       let kept = committed_of group older in
-      let outer = and_parts (is_sound group older && keeps_committed own kept (exchanged group s.members s.heard))
+      let outer = and_parts (is_sound group older && keeps_committed own s.front kept (exchanged group s.members s.heard))
       (is_log_length (length (log_of group (s ∷ older)))) t in
-      let inner = and_parts (is_sound group older) (keeps_committed own kept (exchanged group s.members s.heard)) outer.0 in
+      let inner = and_parts (is_sound group older) (keeps_committed own s.front kept (exchanged group s.members s.heard)) outer.0 in
       record {
         exch = e;
         old = inner.0;
-        keeps = ap (keeps_committed own kept) (sym e) ∙ inner.1;
-        short = ap (λ (o : Option (Whole A)). is_log_length (length (log_by own o))) (sym e) ∙ outer.1;
-        calls = ap (λ (l : Log A). l.calls) is ∙ ap (log_by own) e;
+        keeps = ap (keeps_committed own s.front kept) (sym e) ∙ inner.1;
+        short = ap (λ (o : Option (Whole A)). is_log_length (length (log_by own s.front o))) (sym e) ∙ outer.1;
+        calls = ap (λ (l : Log A). l.calls) is ∙ ap (log_by own s.front) e;
         last = ap (λ (l : Log A). l.last) is ∙ ap (last_by s.ring (last_of group older)) e;
       }
 
@@ -282,7 +324,7 @@ module _ {A : Type 0} (group : Group) (s : Stay A) (older : List (Stay A)) (x : 
       let safe : exchanged group s.members (upto s.mark s.heard) ≡ None =
       none-front group s.members (upto s.mark s.heard) s.heard (upto-front s.mark s.heard) e in
       ap committed_calls is ∙ take-front-is (committed_of group (s ∷ older)) (log_of group (s ∷ older)) front
-      ∙ ap (committed_by (log_of group older) (committed_of group older)) safe
+      ∙ ap (committed_by (log_of group older) s.front (committed_of group older)) safe
     where
       take-front-is : {X : Type 0} (xs ys : List X) → IsFront xs ys → take (length xs) ys ≡ xs
       take-front-is [] ys f = refl
@@ -320,7 +362,7 @@ module _ {A : Type 0} (group : Group) (s : Stay A) (older : List (Stay A)) (x : 
       let then_none : whole_from (opened s.members) text ≡ None = push-none (opened s.members) s.heard x none ∙ cond-false (is_whole new) (Some whole) None c in
       let parts = if_runs setting.runs (parts_asked setting.me log.calls (wanted e) (wanted (relieved new))) in
       let base : base_at e x.sender x.payload ≡ None =
-      cond-false (is_whole e) None (handed_out new) open_yet ∙ cond-false (is_whole new) (base_from (wanted new) new.brought) None c in
+      cond-false (is_whole e) None (handed_out new) open_yet ∙ cond-false (is_whole new) (base_from (wanted new) new.bytes new.brought) None c in
       let here : exchanged group s.members s.heard ≡ None = exchanged-primary s.heard p ∙ none in
       let own : log.calls ≡ log_of group older = (before None here t is).calls in
       let parts_is : parts ++ [] ≡ due =

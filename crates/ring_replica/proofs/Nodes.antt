@@ -1,8 +1,8 @@
 -- What is due by a node, and a step of it, by its replica.
 use Rattle.std.proofs.Common.{◌≡◌, ℕ, ◌+◌, Bool, true, false, not, ◌&&◌, List, [], ◌∷◌, ◌++◌, length, drop, map, Option}
-use Rattle.std.proofs.Common.{Some, None, is_none, refl, ap, sym, ◌∙◌, if◌then◌else◌}
+use Rattle.std.proofs.Common.{Some, None, is_none, refl, ap, ◌∙◌, if◌then◌else◌}
 use Rattle.std.specs.List.{filter}
-use Rattle.std.specs.Prelude.{nat_le, filter_map}
+use Rattle.std.specs.Prelude.{nat_le}
 use Rattle.std.proofs.lemmas.Bool.{cond-false}
 use Rattle.ring_base.specs.Group.{is_primary}
 use Rattle.ring_base.specs.Numbers.{max_number}
@@ -20,14 +20,14 @@ use Rattle.ring_core.specs.declared.out.Out.{Out}
 use Rattle.ring_core.specs.declared.out.Out.TheVariants.{Send, Agreed, Safe, Trans, Rest, Regular}
 use Rattle.ring_log.specs.Exchanges.{Exchange, opened, is_whole}
 use Rattle.ring_log.specs.Stays.{Stay, hands}
-use Rattle.ring_log.specs.Lives.{after_all, log_of, last_of, committed_of, is_sound}
+use Rattle.ring_log.specs.Lives.{after_all, log_of, last_of, is_sound}
 use Rattle.ring_session.specs.Tickets.{Asked, place_of, unanswered}
 use Rattle.ring_session.specs.declared.pending.Pending.{Pending}
 use Rattle.ring_session.specs.Pendings.{pending_from, stands_in}
 use Rattle.ring_rules.specs.Lives.{lived, lived_through}
 use Rattle.ring_rules.specs.Nodes.{Node, node_committed, node_pending, is_stopped, runs, runs_some}
 use Rattle.ring_rules.specs.Dues.{calls_due, due_when_stated, due_when_whole, due_in_stay, due_at_agreed, due_at, due_by}
-use Rattle.ring_rules.specs.Stepping.{handed_over, walked, settled, after_core, submitted, submit_fault, send_of}
+use Rattle.ring_rules.specs.Stepping.{handed_over, walked, settled, after_core, submitted, submit_fault}
 use Rattle.ring_replica.specs.Courses.{Moment, is_running, calls_left, dues_when_whole, dues_in_stay, dues_heard, dues_at, dues_by, handed_if}
 use Rattle.ring_replica.specs.Replicas.{replica_of, running_of, moment_of, is_running_some, submit_refusal}
 use Rattle.ring_replica.specs.Replicas.{replica_given, replica_settled, replica_step, node_by, node_given}

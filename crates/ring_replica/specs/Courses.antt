@@ -35,20 +35,22 @@ staged (Some w) e = Adopted
 abbrev pub stage_in : {A : Type 0} → Group → ℕ → List (Message A) → Stage A
 stage_in group members text = if is_primary group members then staged (whole_from (opened members) text) (after_all (opened members) text) else Apart
 
--- How far a ring's log reaches by what was heard there: nothing is reached before the exchange is whole
+-- How far a ring's log reaches by what was heard there, over a node's own log and what a snapshot stands for that was sent there: nothing is reached before
+-- the exchange is whole
 
-abbrev pub reached : {A : Type 0} → List (OneCall A) → Option (Whole A) → List (OneCall A)
-reached own None = []
-reached own (Some w) = own_base own w.exchange ++ calls_in w.rest
+abbrev pub reached : {A : Type 0} → List (OneCall A) → List (OneCall A) → Option (Whole A) → List (OneCall A)
+reached own below None = []
+reached own below (Some w) = own_base own below w.exchange ++ calls_in w.rest
 
-abbrev pub reach_of : {A : Type 0} → Group → ℕ → List (OneCall A) → List (Message A) → ℕ
-reach_of group members own text = length (reached own (exchanged group members text))
+abbrev pub reach_of : {A : Type 0} → Group → ℕ → List (OneCall A) → List (OneCall A) → List (Message A) → ℕ
+reach_of group members own below text = length (reached own below (exchanged group members text))
 
 -- for each message behind a front, its number and how far the log reaches by it
-abbrev pub reaches_from : {A : Type 0} → Group → ℕ → List (OneCall A) → List (Message A) → List (Message A) → List Reach
-reaches_from group members own front [] = []
-reaches_from group members own front (x ∷ xs) =
-    record { number = x.number; places = reach_of group members own (front ++ x ∷ []) } ∷ reaches_from group members own (front ++ x ∷ []) xs
+abbrev pub reaches_from : {A : Type 0} → Group → ℕ → List (OneCall A) → List (OneCall A) → List (Message A) → List (Message A) → List Reach
+reaches_from group members own below front [] = []
+reaches_from group members own below front (x ∷ xs) =
+    record { number = x.number; places = reach_of group members own below (front ++ x ∷ []) }
+    ∷ reaches_from group members own below (front ++ x ∷ []) xs
 
 -- what was heard behind a number
 abbrev pub behind : {A : Type 0} → ℕ → List (Message A) → List (Message A)
@@ -85,7 +87,7 @@ pub record IsCourseKept {A : Type 0} (group : Group) (life : List (Stay A)) (log
   pub in_ring : ring ≡ stay.ring
   pub stands : stage ≡ stage_in group stay.members stay.heard
   pub safe : mark ≡ stay.mark
-  pub unsafe : reaches ≡ reaches_from group stay.members (log_of group older) (upto stay.mark stay.heard) (behind stay.mark stay.heard)
+  pub unsafe : reaches ≡ reaches_from group stay.members (log_of group older) stay.front (upto stay.mark stay.heard) (behind stay.mark stay.heard)
   pub logged : log ≡ kept_of group life
   pub sound : is_sound group life ≡ true
 

@@ -1,4 +1,5 @@
-use Rattle.ring_log.proofs.WholeExchanges.{handed, ends, later, handed-based}
+use Rattle.ring_log.proofs.WholeExchanges.{handed, ends, later, handed-based, handed-snapshot}
+use Rattle.ring_log.proofs.HeardPieces.{pieces-heard}
 use Rattle.ring_log.proofs.laws.exchange_law.Goals as goal
 
 pub returns-clause-handed : goal.returns-clause-handed
@@ -12,3 +13,9 @@ returns-clause-later g c = later
 
 pub returns-clause-base : goal.returns-clause-base
 returns-clause-base g c = handed-based
+
+pub returns-clause-snapshot : goal.returns-clause-snapshot
+returns-clause-snapshot g c = handed-snapshot
+
+pub returns-clause-pieces : goal.returns-clause-pieces
+returns-clause-pieces g c = pieces-heard

@@ -1,5 +1,5 @@
 -- The new places' calls are told so many effects, and no more than they are.
-use Rattle.std.proofs.Common.{◌+◌, ◌-◌, [], length, drop, fold, ap, ◌∙◌, arith, length-take, length-drop}
+use Rattle.std.proofs.Common.{◌+◌, [], drop, fold, ap, ◌∙◌, arith, length-take, length-drop}
 use Rattle.std.proofs.lemmas.List.{take_rest}
 use Rattle.ring_log.specs.Logs.{committed_calls}
 use Rattle.ring_session.specs.Table.{table_next}

@@ -4,7 +4,6 @@ use Rattle.std.proofs.lemmas.List.{take_rest}
 use Rattle.ring_log.specs.Logs.{Log, committed_calls}
 use Rattle.ring_log.specs.Lives.{committed_of}
 use Rattle.ring_session.specs.Deduplicated.{deduplicated}
-use Rattle.ring_session.specs.Pendings.{with_answers}
 use Rattle.ring_replica.specs.Replicas.{Replica, Tale, tale_done}
 use Rattle.ring_replica.proofs.Replicas.{finished-replica, done-told, more-is, committed-is}
 use Rattle.ring_replica.proofs.replica.Replica.finish.Goals as goal

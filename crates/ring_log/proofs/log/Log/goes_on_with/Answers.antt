@@ -1,7 +1,7 @@
 use Rattle.std.proofs.Common.{Bool, ◌&&◌, ◌+◌, min, length, refl, sym, ap, ◌∙◌}
 use Rattle.ring_log.specs.Logs.{is_log_length}
 use Rattle.ring_log.proofs.Calls.{adoptable}
-use Rattle.ring_log.proofs.log.Log.may_adopt.Goals as goal
+use Rattle.ring_log.proofs.log.Log.goes_on_with.Goals as goal
 
 pub returns-then-begins : goal.returns-then-begins
 returns-then-begins g c =

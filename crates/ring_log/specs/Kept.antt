@@ -1,0 +1,124 @@
+-- What a node knows of its log by its own life alone: the places behind the snapshot that it restored last, if it restored one, and how many places are
+-- committed and how many dropped. What all lives together say of the same log is in Lives; that both say the same of a life that restored nothing:
+-- kept_law of ring_log_proof. The replicated log, rules 6, 8, 9, 11 and 12 of docs/PROTOCOL.md.
+use Rattle.std.specs.Prelude.{ℕ, ◌+◌, ◌-◌, max, Bool, true, ◌&&◌, nat_lt, is_some, is_none, if◌then◌else◌, List, [], ◌∷◌, ◌++◌, length, take, drop}
+use Rattle.std.specs.Prelude.{Option, Some, None}
+use Rattle.ring_base.specs.Group.{Group}
+use Rattle.ring_base.specs.declared.ring_id.RingId.{RingId}
+use Rattle.ring_payload.specs.declared.call.Call.{Call as OneCall}
+use Rattle.ring_payload.specs.declared.head.Head.{Head as OneHead}
+use Rattle.ring_log.specs.declared.wanted.Wanted.{Wanted}
+use Rattle.ring_log.specs.Exchanges.{wanted}
+use Rattle.ring_log.specs.Logs.{begins, is_log_length}
+use Rattle.ring_log.specs.Stays.{Stay}
+use Rattle.ring_log.specs.Lives.{Whole, exchanged, calls_in, upto, log_of, committed_of, last_of}
+
+-- the places from one on; how many places are committed, dropped ones and those below `from` included, and how many dropped; the last primary; and the
+-- bytes that stand for the places below `from`
+pub record Kept (A : Type 0) : Type 0 where
+  pub from : ℕ
+  pub calls : List (OneCall A)
+  pub committed : ℕ
+  pub trimmed : ℕ
+  pub last : Option RingId
+  pub snapshot : List ℕ
+
+abbrev pub nothing_kept : {A : Type 0} → Kept A
+nothing_kept = record { from = 0; calls = []; committed = 0; trimmed = 0; last = None; snapshot = [] }
+
+-- how many places the log has
+abbrev pub kept_length : {A : Type 0} → Kept A → ℕ
+kept_length k = k.from + length k.calls
+
+-- the committed places that are known, and those of them that aren't dropped
+abbrev pub kept_committed : {A : Type 0} → Kept A → List (OneCall A)
+kept_committed k = take (k.committed - k.from) k.calls
+
+abbrev pub kept_undropped : {A : Type 0} → Kept A → List (OneCall A)
+kept_undropped k = drop (k.trimmed - k.from) (kept_committed k)
+
+-- what a node states of it
+abbrev pub head_kept : {A : Type 0} → Kept A → OneHead
+head_kept k = record { last = k.last; length = kept_length k; committed = k.committed; trimmed = k.trimmed }
+
+-- What a life makes of it
+
+-- a snapshot is restored only by a node that has committed less
+abbrev pub restores : {A : Type 0} → Kept A → Wanted → Bool
+restores k w = is_some w.snapshot && nat_lt k.committed w.from
+
+-- what a whole exchange makes of it, with the bytes and the calls brought: of these it takes what doesn't lie below its own first place
+abbrev pub adopted_kept : {A : Type 0} → Kept A → RingId → Wanted → List ℕ → List (OneCall A) → Kept A
+adopted_kept k ring w bytes calls =
+    if restores k w
+    then record { from = w.from; calls = calls; committed = w.from; trimmed = w.from; last = Some ring; snapshot = bytes }
+    else record k { calls = take (w.from - k.from) k.calls ++ drop (k.from - w.from) calls; last = Some ring }
+
+abbrev pub adopts_wanted : {A : Type 0} → Kept A → RingId → Option Wanted → Whole A → Kept A
+adopts_wanted k ring None whole = k
+adopts_wanted k ring (Some w) whole = adopted_kept k ring w whole.exchange.bytes whole.exchange.brought
+
+abbrev pub adopts : {A : Type 0} → Kept A → RingId → Whole A → Kept A
+adopts k ring whole = adopts_wanted k ring (wanted whole.exchange) whole
+
+-- the committed length rises to n; it never falls
+abbrev pub raised : {A : Type 0} → ℕ → Kept A → Kept A
+raised n k = record k { committed = max k.committed n }
+
+-- how far a ring's log reaches by what is safe of it
+abbrev pub reach_by : {A : Type 0} → Kept A → Option (Whole A) → ℕ
+reach_by k None = 0
+reach_by k (Some whole) = kept_length k + length (calls_in whole.rest)
+
+abbrev pub followed_by : {A : Type 0} → Kept A → List (OneCall A) → Kept A
+followed_by k calls = record k { calls = k.calls ++ calls }
+
+-- the base, and the calls after the exchange
+abbrev pub based_on : {A : Type 0} → Kept A → Whole A → Option (Whole A) → Kept A
+based_on base whole safe = raised (reach_by base safe) (followed_by base (calls_in whole.rest))
+
+abbrev pub kept_by : {A : Type 0} → RingId → Kept A → Option (Whole A) → Option (Whole A) → Kept A
+kept_by ring k None safe = k
+kept_by ring k (Some whole) safe = based_on (adopts k ring whole) whole safe
+
+abbrev pub kept_of : {A : Type 0} → Group → List (Stay A) → Kept A
+kept_of group [] = nothing_kept
+kept_of group (s ∷ older) =
+    kept_by s.ring (kept_of group older) (exchanged group s.members s.heard) (exchanged group s.members (upto s.mark s.heard))
+
+-- What stops a node
+
+-- a base begins with the committed places that aren't dropped
+abbrev pub begins_kept : {A : Type 0} → Kept A → Kept A → Bool
+begins_kept old new = begins (kept_undropped old) (drop (old.trimmed - new.from) new.calls)
+
+-- where a snapshot is wanted, the node stops, since no node restores one yet
+abbrev pub keeps_wanted : {A : Type 0} → Kept A → RingId → Option Wanted → Whole A → Bool
+keeps_wanted k ring None whole = true
+keeps_wanted k ring (Some w) whole = is_none w.snapshot && begins_kept k (adopts k ring whole)
+
+abbrev pub keeps_kept : {A : Type 0} → Kept A → RingId → Option (Whole A) → Bool
+keeps_kept k ring None = true
+keeps_kept k ring (Some whole) = keeps_wanted k ring (wanted whole.exchange) whole
+
+-- each base of a life began with the places committed before it, and no log had more than the greatest number of places
+abbrev pub is_kept_sound : {A : Type 0} → Group → List (Stay A) → Bool
+is_kept_sound group [] = true
+is_kept_sound group (s ∷ older) =
+    is_kept_sound group older
+    && keeps_kept (kept_of group older) s.ring (exchanged group s.members s.heard)
+    && is_log_length (kept_length (kept_of group (s ∷ older)))
+
+-- What all lives together say
+
+-- a whole log that nothing was dropped of, as a node knows it
+abbrev pub whole_kept : {A : Type 0} → Group → List (Stay A) → Kept A
+whole_kept group life =
+    record {
+      from = 0;
+      calls = log_of group life;
+      committed = length (committed_of group life);
+      trimmed = 0;
+      last = last_of group life;
+      snapshot = [];
+    }

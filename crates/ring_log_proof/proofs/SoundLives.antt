@@ -1,0 +1,63 @@
+-- A life that is sound was so before a message, a safe mark and an installation; and its log isn't too long.
+use Rattle.std.proofs.Common.{◌≡◌, ℕ, ◌&&◌, true, false, List, [], ◌∷◌, ◌++◌, length, Option, Some, None, refl, ap, sym, ◌∙◌, arith}
+use Rattle.std.proofs.lemmas.Bool.{and_parts, and_from, leb-true, le-leb}
+use Rattle.ring_base.specs.Fronts.{front_length}
+use Rattle.ring_base.specs.Group.{Group}
+use Rattle.ring_base.specs.Numbers.{max_number}
+use Rattle.ring_base.specs.declared.ring_id.RingId.{RingId}
+use Rattle.ring_wire.specs.declared.message.Message.{Message}
+use Rattle.ring_log.specs.Logs.{is_log_length}
+use Rattle.ring_log.specs.Stays.{Stay, stay_in, hears, marks}
+use Rattle.ring_log.specs.Lives.{Whole, exchanged, own_base, log_by, log_of, committed_of, keeps_committed, is_sound}
+use Rattle.ring_log_proof.proofs.Wholes.{grown, exchanged-front, log_on, log-front}
+use Rattle.ring_log_proof.proofs.CommittedGrows.{sound_stay}
+
+-- a sound life's log isn't too long
+pub sound-short : {A : Type 0} (group : Group) (life : List (Stay A)) → is_sound group life ≡ true → is_log_length (length (log_of group life)) ≡ true
+sound-short group [] t = le-leb 0 max_number (omega arith)
+sound-short group (s ∷ older) t =
+    (and_parts (is_sound group older && keeps_committed (log_of group older) s.front (committed_of group older) (exchanged group s.members s.heard))
+    (is_log_length (length (log_of group (s ∷ older)))) t).1
+
+unsound-step : {A : Type 0} (group : Group) (s : Stay A) (older : List (Stay A)) (x : Message A)
+    (o p : Option (Whole A)) → exchanged group s.members s.heard ≡ o
+    → exchanged group s.members (s.heard ++ x ∷ []) ≡ p → is_sound group older ≡ true
+    → keeps_committed (log_of group older) s.front (committed_of group older) p ≡ true → is_log_length (length (log_by (log_of group older) s.front p)) ≡ true
+    → (keeps_committed (log_of group older) s.front (committed_of group older) o ≡ true)
+    × (is_log_length (length (log_by (log_of group older) s.front o)) ≡ true)
+unsound-step group s older x None p e k t a b = (refl, sound-short group older t)
+unsound-step group s older x (Some v) None e k t a b =
+    absurd (let y = sym (exchanged-front group s.members s.heard (s.heard ++ x ∷ []) v e (x ∷ [], refl)) ∙ k in cc y)
+unsound-step {A} group s older x (Some v) (Some w) e k t a b =
+    let own = own_base (log_of group older) s.front in
+    let grows : Some (grown v (x ∷ [])) ≡ Some w = sym (exchanged-front group s.members s.heard (s.heard ++ x ∷ []) v e (x ∷ [], refl)) ∙ k in
+    let same : grown v (x ∷ []) ≡ w = cc grows in
+    let front = log-front own group s.members s.heard (s.heard ++ x ∷ []) v w e k (x ∷ [], refl) in (
+      ap (λ (u : Whole A). keeps_committed (log_of group older) s.front (committed_of group older) (Some u)) same ∙ a,
+      le-leb (length (log_on own v)) max_number (omega (
+        arith,
+        front_length (log_on own v) (log_on own w) front,
+        leb-true (length (log_on own w)) max_number b,
+      )),
+    )
+
+pub before-heard : {A : Type 0} (group : Group) (x : Message A) (life : List (Stay A)) → is_sound group (hears x life) ≡ true → is_sound group life ≡ true
+before-heard group x [] t = t
+before-heard group x (s ∷ older) t =
+    let own = log_of group older in
+    let kept = committed_of group older in
+    let s' : Stay _ = record s { heard = s.heard ++ x ∷ [] } in
+    let outer = and_parts (is_sound group older && keeps_committed own s.front kept (exchanged group s'.members s'.heard))
+    (is_log_length (length (log_of group (s' ∷ older)))) t in
+    let inner = and_parts (is_sound group older) (keeps_committed own s.front kept (exchanged group s'.members s'.heard)) outer.0 in
+    let both = unsound-step group s older x (exchanged group s.members s.heard) (exchanged group s'.members s'.heard) refl refl inner.0 inner.1 outer.1 in
+    and_from (is_sound group older && keeps_committed own s.front kept (exchanged group s.members s.heard)) (is_log_length (length (log_of group (s ∷ older))))
+    (and_from (is_sound group older) (keeps_committed own s.front kept (exchanged group s.members s.heard)) inner.0 both.0) both.1
+
+pub before-marked : {A : Type 0} (group : Group) (n : ℕ) (life : List (Stay A)) → is_sound group (marks n life) ≡ is_sound group life
+before-marked group n [] = refl
+before-marked group n (s ∷ older) = refl
+
+pub before-installed : {A : Type 0} (group : Group) (ring : RingId) (members : ℕ) (life : List (Stay A)) → is_sound group (stay_in ring members ∷ life) ≡ true
+    → is_sound group life ≡ true
+before-installed group ring members life t = (sound_stay group (stay_in ring members) life t).older_sound
