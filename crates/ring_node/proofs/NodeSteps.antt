@@ -5,6 +5,7 @@ use Rattle.std.proofs.lemmas.Bool.{cases_Bool, cond-true}
 use Rattle.ring_base.specs.Numbers.{max_number}
 use Rattle.ring_base.specs.declared.fault.Fault.TheVariants.{PendingFull, Stopped as StoppedFault}
 use Rattle.ring_base.specs.declared.ring_id.RingId.{RingId}
+use Rattle.ring_commit.specs.declared.configuration.Configuration.{Configuration}
 use Rattle.ring_object.specs.Operations.{Sequential}
 use Rattle.ring_payload.specs.declared.call.Call.{Call as OneCall}
 use Rattle.ring_payload.specs.declared.content.Payload.{Payload}
@@ -219,8 +220,8 @@ module _ {O A : Type 0} (object : Sequential O) (core : Core A) (r : Replica A) 
 -- and what the code keeps then
 pub stepped-node : {O A : Type 0} → (object : Sequential O) (core : Core A) (r : Replica A) (ended : Core A)
     (input : Input A) (halts : r.stopped ≡ false) (k : Runs core r)
-    (new : Core A) (given : Replica A) (last : RingId) (ended' : Core A) → new ≡ handed_over (ring_step core input).core (stepped_by object core r input).due →
-    given ≡ replica_ended (stepped_by object core r input) → last ≡ ended'.installed.ring → IsNode new given last ended'
+    (new : Core A) (given : Replica A) (last : Configuration) (ended' : Core A) → new ≡ handed_over (ring_step core input).core (stepped_by object core r input).due →
+    given ≡ replica_ended (stepped_by object core r input) → last ≡ ended'.installed → IsNode new given last ended'
 stepped-node {O} {A} object core r ended input halts k new given last ended' en eg el =
     record {
       runs = λ s. subst (λ (x : Core A). Runs x given) (sym en)
@@ -246,7 +247,7 @@ pub going-told : {A : Type 0} → (core : Core A) (r : Replica A) (ended : Core 
     → is_stopped (told_node core r ended).core.state ≡ false
 going-told core r ended s k = ap (λ b. is_stopped (core_told b core ended).state) s ∙ k.going
 
-pub fault-is : {A : Type 0} → (core : Core A) (r : Replica A) (last : RingId) (ended : Core A)
+pub fault-is : {A : Type 0} → (core : Core A) (r : Replica A) (last : Configuration) (ended : Core A)
     → IsNode core r last ended → submit_fault (told_node core r ended) ≡ submit_refusal r
 fault-is {A} core r last ended k =
     let n = told_node core r ended in
@@ -265,7 +266,7 @@ err-as (Ok x) P Q f h = h
 err-as (Err e) P Q f h = f e h
 
 -- a call is handed to the core, or isn't, and the replica gives it a ticket
-pub given-node : {A : Type 0} → (core new : Core A) (r old given : Replica A) (last last' : RingId)
+pub given-node : {A : Type 0} → (core new : Core A) (r old given : Replica A) (last last' : Configuration)
     (ended ended' : Core A) (running : Option RingId) (c : OneCall A) (b : Bool) →
     IsNode core r last ended → old ≡ r → last' ≡ last → ended' ≡ ended → has_adopted_running running r ≡ b → new ≡ handed_over core (handed_if b c) →
     given ≡ replica_given running old c → IsNode new given last' ended'
@@ -284,7 +285,7 @@ given-node {A} core new r old given last last' ended ended' running c b k eo el 
     } in
     subst (λ (x : Core A). IsNode x given last' ended') (sym is_new)
     (subst (λ (x : Replica A). IsNode (handed_over core due) x last' ended') (sym is_given)
-    (subst (λ (x : RingId). IsNode (handed_over core due) (replica_given running r c) x ended') (sym el)
+    (subst (λ (x : Configuration). IsNode (handed_over core due) (replica_given running r c) x ended') (sym el)
     (subst (λ (x : Core A). IsNode (handed_over core due) (replica_given running r c) last x) (sym ee) made)))
 
 -- A stop

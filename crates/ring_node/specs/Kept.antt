@@ -1,6 +1,6 @@
 -- What the code of a node keeps, and how that tells the node: Nodes, and The replicated log, rules 1 and 18, of docs/PROTOCOL.md.
 use Rattle.std.specs.Prelude.{◌≡◌, Bool, true, false, List}
-use Rattle.ring_base.specs.declared.ring_id.RingId.{RingId}
+use Rattle.ring_commit.specs.declared.configuration.Configuration.{Configuration}
 use Rattle.ring_object.specs.Operations.{Sequential}
 use Rattle.ring_core.specs.State.{Core, halted}
 use Rattle.ring_core.specs.Stepping.{ring_step}
@@ -33,10 +33,10 @@ pub record Runs {A : Type 0} (core : Core A) (replica : Replica A) : Type 0 wher
   pub going : is_stopped core.state ≡ false
   pub marked : IsMarked core replica.life
 
--- of a node that stopped the last installed ring is kept
-pub record IsNode {A : Type 0} (core : Core A) (replica : Replica A) (last : RingId) (ended : Core A) : Type 0 where
+-- of a node that stopped the last installed ring is kept, with its members
+pub record IsNode {A : Type 0} (core : Core A) (replica : Replica A) (last : Configuration) (ended : Core A) : Type 0 where
   pub runs : replica.stopped ≡ false → Runs core replica
-  pub left : replica.stopped ≡ true → last ≡ ended.installed.ring
+  pub left : replica.stopped ≡ true → last ≡ ended.installed
 
 -- what the outputs of a step make of the replica, where the core is this one after the step
 abbrev pub followed_by : {O A : Type 0} → Sequential O → Core A → Replica A → List (Out A) → ReplicaStepped A

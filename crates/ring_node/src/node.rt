@@ -8,6 +8,7 @@ ghost use Rattle.ring_core.specs.Stepping.{ring_step};
 ghost use Rattle.ring_core.specs.declared.input.Input.TheVariants.{Frame as FrameInput, Timeout as TimeoutInput};
 ghost use Rattle.ring_srp_acts.specs.Allowing.{InputFits as CoreInputFits};
 ghost use Rattle.ring_session.specs.Deduplicated.{deduplicated};
+ghost use Rattle.ring_session.specs.Pendings.{pending_from};
 ghost use Rattle.ring_rules.specs.Nodes.{node_opening, node_committed, node_log, node_reply, node_stopped, is_stopped};
 ghost use Rattle.ring_rules.specs.Stepping.{after_core, node_step, submit_fault, submitted};
 ghost use Rattle.ring_rules.specs.NodeLimits.{InputFits};
@@ -15,7 +16,8 @@ ghost use Rattle.ring_rules.specs.declared.input.Input.TheVariants.{Stop as Stop
 
 use crate::driving::{advance, advance_on, running};
 use crate::outs::Outs;
-use ring_base::{Fault, Fixed, Kind, Past, Proc, RingId, State, seen};
+use ring_base::{Fault, Fixed, Kind, Past, Proc, ProcSet, RingId, State, seen};
+use ring_commit::Configuration;
 use ring_core::Input as CoreInput;
 use ring_object::Object;
 use ring_payload::{Call, Payload};
@@ -33,8 +35,8 @@ pub struct Node<O: Object> {
     alloc: O::Alloc,
     core: Srp<O::Alloc>,
     replica: Replica<O>,
-    /// The last installed ring, as the node stopped.
-    last: RingId,
+    /// The last installed ring with its members, as the node stopped.
+    last: Configuration,
     /// The core as it was before the step in which the node stopped.
     ended: Past<Srp<O::Alloc>>,
 }
@@ -59,7 +61,7 @@ impl<O: Object> Node<O> {
     {
         let core = Srp::new(alloc, fixed, me)?;
         let replica = Replica::new(alloc, fixed, me)?;
-        let last = core.ring();
+        let last = core.installed();
         let ended = seen(&core);
         Ok(Node {
             alloc,
@@ -181,11 +183,14 @@ impl<O: Object> Node<O> {
     pub fn ring(&self) -> RingId
         ensures { result ≡ self.now.core.installed.ring }
     {
-        if self.replica.is_stopped() {
-            self.last
-        } else {
-            self.core.ring()
-        }
+        self.installed().ring
+    }
+
+    /// The members of the last installed ring: `me` alone before any.
+    pub fn members(&self) -> ProcSet
+        ensures { result ≡ self.now.core.installed.members }
+    {
+        self.installed().members
     }
 
     /// How many places the log has, committed or not.
@@ -201,9 +206,27 @@ impl<O: Object> Node<O> {
     {
         self.replica.order_len()
     }
+
+    /// How many tickets have no answer: at most 64.
+    pub fn waiting(&self) -> usize
+        ensures { result ≡ length (pending_from self.now.done 0 self.now.tickets) }
+    {
+        self.replica.waiting()
+    }
 }
 
 impl<O: Object> Node<O> {
+    /// The last installed ring with its members.
+    fn installed(&self) -> Configuration
+        ensures { result ≡ self.now.core.installed }
+    {
+        if self.replica.is_stopped() {
+            self.last
+        } else {
+            self.core.installed()
+        }
+    }
+
     /// Refuses a submit that is refused whatever the memory.
     fn check(&self) -> Result<(), Fault>
         ensures ok { OnOk result (submit_fault self.now ≡ None) }
@@ -238,7 +261,7 @@ impl<O: Object> Node<O> {
         ensures err { OnErr result (self.new ≡ node_stopped self.old) }
         ensures refused { IfErr result (λ fault. fault ≡ Memory) }
     {
-        self.last = self.core.ring();
+        self.last = self.core.installed();
         self.ended = seen(&self.core);
         match advance(&mut self.core, &mut self.replica, input) {
             Ok(outs) => Ok(outs),
@@ -263,7 +286,7 @@ impl<O: Object> Node<O> {
         ensures err { OnErr result (self.new ≡ node_stopped self.old) }
         ensures refused { IfErr result (λ fault. fault ≡ Memory) }
     {
-        self.last = self.core.ring();
+        self.last = self.core.installed();
         self.ended = seen(&self.core);
         match advance_on(&mut self.core, &mut self.replica, frame) {
             Ok(outs) => Ok(outs),
@@ -296,7 +319,7 @@ impl<O: Object> Node<O> {
         requires { is_stopped self.old.core.state ≡ false }
         ensures { self.new ≡ node_stopped self.old }
     {
-        self.last = self.core.ring();
+        self.last = self.core.installed();
         self.ended = seen(&self.core);
         self.core.stop();
         self.replica.stop();

@@ -18,7 +18,7 @@ use Rattle.ring_log_proof.proofs.CommittedGrows.{committed_front}
 use Rattle.ring_log.proofs.CommittedOf.{hands-committed}
 use Rattle.ring_session.specs.declared.answered.Answered.{Answered}
 use Rattle.ring_session.specs.Recent.{kept_answer}
-use Rattle.ring_session.specs.Pendings.{Tickets, none_given, is_full, with_ticket, with_answers, AreTickets}
+use Rattle.ring_session.specs.Pendings.{Tickets, none_given, is_full, with_ticket, with_answers, AreTickets, pending_from}
 use Rattle.ring_session.specs.Tickets.{unanswered}
 use Rattle.ring_session.proofs.TicketEffects.{deduplicated_after-few}
 use Rattle.ring_session.proofs.Pendings.{are-kept, are-given, are-full, are-replies}
@@ -153,6 +153,9 @@ module _ {O A : Type 0} {object : Sequential O} {course : Course A} {table : Tab
 
   pub reply-is : {r : Replica A} → told_replica course stopped tale ≡ r → (ticket : ℕ) → kept_answer ticket tickets.kept ≡ replica_reply r ticket
   reply-is is ticket = are-replies tale.tickets tale.done tale.answers tickets ticket k.answers ∙ ap (λ (x : Replica A). replica_reply x ticket) is
+
+  pub waiting-is : {r : Replica A} → told_replica course stopped tale ≡ r → length tickets.pending ≡ length (pending_from r.done 0 r.tickets)
+  waiting-is is = ap length k.answers.pending ∙ ap (λ (x : Replica A). length (pending_from x.done 0 x.tickets)) is
 
   -- the places behind those committed before
   pub more-is : {calls ahead : List (OneCall A)} → calls ≡ ahead → drop first calls ≡ drop (length kept) ahead

@@ -5,7 +5,7 @@ ghost use Rattle.ring_base.specs.declared.fault.Fault.TheVariants.{Memory};
 ghost use Rattle.ring_log.specs.Logs.{committed_calls};
 ghost use Rattle.ring_session.specs.Deduplicated.{deduplicated};
 ghost use Rattle.ring_session.specs.Table.{table_next};
-ghost use Rattle.ring_session.specs.Pendings.{answers_behind};
+ghost use Rattle.ring_session.specs.Pendings.{answers_behind, pending_from};
 ghost use Rattle.ring_session.specs.TicketEffects.{done_after};
 ghost use Rattle.ring_replica.specs.Courses.{rises};
 ghost use Rattle.ring_replica.specs.Replicas.{IsDone, replica_opening, replica_committed, replica_log, replica_stopped};
@@ -210,6 +210,13 @@ impl<O: Object> Replica<O> {
         ensures { result ≡ length (replica_log self.now) }
     {
         self.places
+    }
+
+    /// How many tickets have no answer.
+    pub fn waiting(&self) -> usize
+        ensures { result ≡ length (pending_from self.now.done 0 self.now.tickets) }
+    {
+        self.tickets.pending().len()
     }
 
     /// How many calls of the committed places took effect: how long the committed log is, repeats removed.

@@ -190,14 +190,21 @@ impl<A: Allocator + Copy> Srp<A> {
         }
     }
 
+    /// The last installed ring with its members: (0, me) of `me` alone before any.
+    pub fn installed(&self) -> Configuration
+        ensures { result ≡ self.now.installed }
+    {
+        match &self.machine {
+            Some(machine) => machine.installed(),
+            None => self.last,
+        }
+    }
+
     /// The last installed ring: (0, me) before any.
     pub fn ring(&self) -> RingId
         ensures { result ≡ self.now.installed.ring }
     {
-        match &self.machine {
-            Some(machine) => machine.installed().ring,
-            None => self.last.ring,
-        }
+        self.installed().ring
     }
 }
 

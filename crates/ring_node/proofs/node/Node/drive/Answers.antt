@@ -13,8 +13,8 @@ invariant_of-self g c =
     let halts = runs-told s.core s.replica s.ended.value (ap (λ (n : Node _). is_stopped n.core.state) c.self.view_is ∙ c.requires.runs) in
     let k = c.self.invariant.runs halts in
     stepped-node g.O.Object.sequential s.core s.replica s.ended.value c.args.input halts k c.advance.new.core
-    c.advance.new.replica c.ring-self-inside.result c.seen.result.value
-    c.in-Ok.ensures.core c.in-Ok.ensures.replica (c.ring-self-inside.ensures ∙ ap (λ (x : Core _). x.installed.ring) (sym c.seen.ensures))
+    c.advance.new.replica c.installed-self-inside.result c.seen.result.value
+    c.in-Ok.ensures.core c.in-Ok.ensures.replica (c.installed-self-inside.ensures ∙ ap (λ (x : Core _). x.installed) (sym c.seen.ensures))
 
 pub returns-in-Ok-clause-sends : goal.returns-in-Ok-clause-sends
 returns-in-Ok-clause-sends g c =
