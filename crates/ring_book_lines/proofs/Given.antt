@@ -18,12 +18,13 @@ use Rattle.ring_log.specs.Lives.{committed_of, is_sound}
 use Rattle.ring_session.specs.Table.{Table, table_answer, table_next, table_after}
 use Rattle.ring_session.specs.Tickets.{Asked, answers_after, answers_at, is_place, place_of}
 use Rattle.ring_session.specs.declared.answered.Answered.{Answered}
-use Rattle.ring_rules.specs.Dues.{due_by}
 use Rattle.ring_rules.specs.Lives.{lived_through}
 use Rattle.ring_rules.specs.Nodes.{Node, node_committed, node_stopped}
 use Rattle.ring_rules.specs.declared.input.Input.{Input}
 use Rattle.ring_rules.specs.declared.input.Input.TheVariants.{Frame as FrameInput, Noise as NoiseInput, Timeout as TimeInput, Stop as StopInput}
-use Rattle.ring_rules.specs.Stepping.{NodeStepped, quiet, newly, settled, walked, after_core, node_step, submitted}
+use Rattle.ring_rules.specs.Stepping.{NodeStepped, quiet, walked, node_step, submitted}
+use Rattle.ring_rules.specs.WholeSteps.{due_by, newly, settled, after_core, node_step as whole_step}
+use Rattle.ring_rules.proofs.OneStep.{step-same}
 use Rattle.ring_log.proofs.CommittedOf.{hands-committed}
 use Rattle.ring_book_lines.specs.Answers.{answered_in, by_ticket}
 use Rattle.ring_book_lines.specs.Events.{answers_of}
@@ -111,12 +112,17 @@ module _ {O A : Type 0} (object : Sequential O) where
       let due = due_by n s.core n.life s.outs in
       settled-adds (is_sound n.group life) n (walked n s.core life due) s.outs life (hands-committed n.group due life) refl front
 
+  whole-adds : (n : Node A) (input : Input A) → IsFront (node_committed n) (node_committed (whole_step object n input).node)
+      → Adds n (whole_step object n input)
+  whole-adds n (FrameInput frame) front = core-adds n (ring_step n.core (CoreFrame frame)) front
+  whole-adds n (TimeInput kind) front = core-adds n (ring_step n.core (CoreTimeout kind)) front
+  whole-adds n NoiseInput front = nothing-adds n
+  whole-adds n StopInput front = stopped-adds n
+
   pub step-adds : (n : Node A) (input : Input A) → IsFront (node_committed n) (node_committed (node_step object n input).node)
       → Adds n (node_step object n input)
-  step-adds n (FrameInput frame) front = core-adds n (ring_step n.core (CoreFrame frame)) front
-  step-adds n (TimeInput kind) front = core-adds n (ring_step n.core (CoreTimeout kind)) front
-  step-adds n NoiseInput front = nothing-adds n
-  step-adds n StopInput front = stopped-adds n
+  step-adds n input =
+      subst (λ (s : NodeStepped A). IsFront (node_committed n) (node_committed s.node) → Adds n s) (sym (step-same object n input)) (whole-adds n input)
 
 -- a step tells the answers that come with it
 pub answers_of-stepped : {A : Type 0} (n : Node A) (s : NodeStepped A) → Adds n s → answers_of s.node ≡ answered_in (answers_of n) s.answers

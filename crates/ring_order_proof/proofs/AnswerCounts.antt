@@ -14,15 +14,15 @@ use Rattle.ring_core.specs.declared.input.Input.TheVariants.{Frame as FrameInput
 use Rattle.ring_core.specs.declared.out.Out.{Out}
 use Rattle.ring_core.specs.Stepping.{ring_step}
 use Rattle.ring_log.specs.Stays.{Stay}
-use Rattle.ring_log.specs.Lives.{is_sound}
 use Rattle.ring_session.specs.declared.answered.Answered.{Answered}
 use Rattle.ring_session.specs.Tickets.{Asked, place_of, unanswered, is_place, answers_at, answers_after}
 use Rattle.ring_session.proofs.TicketPlaces.{first_place-below, or_else, last_place, first_place-push}
 use Rattle.ring_rules.specs.declared.input.Input.{Input as NodeInput}
 use Rattle.ring_rules.specs.declared.input.Input.TheVariants.{Frame as NodeFrame, Noise as NodeNoise, Timeout as NodeTime, Stop as NodeStop}
 use Rattle.ring_rules.specs.Lives.{lived_through}
-use Rattle.ring_rules.specs.Nodes.{Node, node_committed, node_pending}
+use Rattle.ring_rules.specs.Nodes.{Node, node_kept, node_pending}
 use Rattle.ring_rules.specs.Stepping.{newly, settled, node_step}
+use Rattle.ring_log.specs.Kept.{kept_of, kept_committed, is_kept_sound}
 
 -- One call more, one ticket
 
@@ -99,14 +99,14 @@ module _ {O A : Type 0} (object : Sequential O) where
       length (settled object b old new outs life).answers ≤ length (node_pending old)
   few_if false old new outs life = omega arith
   few_if true old new outs life =
-      omega (arith, few_more (table_after object (node_committed old)) old.tickets old.done (newly old life))
+      omega (arith, few_more (table_after object (kept_committed (node_kept old))) old.tickets old.done (newly (node_kept old) (kept_of old.group life)))
 
   pub few_answers : (n : Node A) (input : NodeInput A) → length (node_step object n input).answers ≤ length (node_pending n)
   few_answers n (NodeFrame frame) =
       let s = ring_step n.core (FrameInput frame) in
-      few_if (is_sound n.group (lived_through n.life s.outs)) n _ s.outs (lived_through n.life s.outs)
+      few_if (is_kept_sound n.group (lived_through n.life s.outs)) n _ s.outs (lived_through n.life s.outs)
   few_answers n (NodeTime kind) =
       let s = ring_step n.core (TimeInput kind) in
-      few_if (is_sound n.group (lived_through n.life s.outs)) n _ s.outs (lived_through n.life s.outs)
+      few_if (is_kept_sound n.group (lived_through n.life s.outs)) n _ s.outs (lived_through n.life s.outs)
   few_answers n NodeNoise = omega arith
   few_answers n NodeStop = omega arith

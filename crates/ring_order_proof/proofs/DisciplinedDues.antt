@@ -22,8 +22,9 @@ use Rattle.ring_log.specs.Stays.{Stay}
 use Rattle.ring_log.specs.Lives.{after_all, log_of}
 use Rattle.ring_session.specs.Tickets.{Asked}
 use Rattle.ring_rules.specs.Nodes.{Node, node_committed, node_pending, runs}
-use Rattle.ring_rules.specs.Dues.{parts_due, due_when_stated, calls_due, due_when_whole, due_between, due_in_stay, due_at_agreed}
+use Rattle.ring_rules.specs.Dues.{parts_due, due_when_stated, calls_due}
 use Rattle.ring_log_proof.specs.Discipline.{FollowsHead}
+use Rattle.ring_rules.specs.WholeSteps.{due_when_whole, due_between, due_in_stay, due_at_agreed}
 
 -- Parts
 

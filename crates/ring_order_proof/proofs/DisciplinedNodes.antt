@@ -31,8 +31,7 @@ use Rattle.ring_rules.specs.declared.input.Input.{Input as NodeInput}
 use Rattle.ring_rules.specs.declared.input.Input.TheVariants.{Frame as NodeFrame, Noise as NodeNoise, Timeout as NodeTime, Stop as NodeStop}
 use Rattle.ring_rules.specs.Lives.{lived_through}
 use Rattle.ring_rules.specs.Nodes.{Node, node_stopped, runs_some, runs_adopted}
-use Rattle.ring_rules.specs.Dues.{due_by}
-use Rattle.ring_rules.specs.Stepping.{handed_over, walked, settled, after_core, node_step, due_by_submit, submitted}
+use Rattle.ring_rules.specs.Stepping.{NodeStepped, handed_over, walked, node_step, due_by_submit, submitted}
 use Rattle.ring_rules.proofs.QuietHanding.{queued_all}
 use Rattle.ring_log_proof.specs.Time.{LifeEvent, Handed, MayHandAfter, MayHand, AllMayHappen, all_lived}
 use Rattle.ring_synchrony_proof.proofs.Ordered.{Ordered, ordering}
@@ -44,6 +43,8 @@ use Rattle.ring_order_proof.proofs.DisciplinedTelling.{events-append, may-append
 use Rattle.ring_order_proof.proofs.DisciplinedDues.{IsDue, none_due}
 use Rattle.ring_order_proof.proofs.DisciplinedSteps.{may_after, left_nil, Stands, rings_of, installed_rings, IsStep, stays_step}
 use Rattle.ring_order_proof.proofs.DisciplinedSteps.{installs_step, done_operates, operates}
+use Rattle.ring_rules.specs.WholeSteps.{due_by, settled, after_core, node_step as whole_step}
+use Rattle.ring_rules.proofs.OneStep.{step-same}
 
 -- A node, and its life
 
@@ -171,11 +172,15 @@ after_input {O} {A} object n input o =
     settles object n (is_sound n.group (lived_through n.life s.outs)) s.core s.outs o
     (walked_on n s.core s.outs t (kept_step _ ordering n.core input o.ordered) (stepped_is n.core input))
 
+whole_becomes : {O A : Type 0} → (object : Sequential O) (n : Node A) (input : NodeInput A) → IsOrderlyNode n → Becomes n (whole_step object n input).node
+whole_becomes object n (NodeFrame frame) o = after_input object n (FrameInput frame) o
+whole_becomes object n (NodeTime kind) o = after_input object n (TimeInput kind) o
+whole_becomes object n NodeNoise o = stays_orderly n o
+whole_becomes object n NodeStop o = node_stops n o
+
 pub node_becomes : {O A : Type 0} → (object : Sequential O) (n : Node A) (input : NodeInput A) → IsOrderlyNode n → Becomes n (node_step object n input).node
-node_becomes object n (NodeFrame frame) o = after_input object n (FrameInput frame) o
-node_becomes object n (NodeTime kind) o = after_input object n (TimeInput kind) o
-node_becomes object n NodeNoise o = stays_orderly n o
-node_becomes object n NodeStop o = node_stops n o
+node_becomes {O} {A} object n input o =
+    subst (λ (s : NodeStepped A). Becomes n s.node) (sym (step-same object n input)) (whole_becomes object n input o)
 
 -- A submit: a call goes out at once only where the newest stay is primary and was adopted, and so was opened
 

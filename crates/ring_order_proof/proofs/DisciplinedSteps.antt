@@ -27,11 +27,11 @@ use Rattle.ring_log.specs.Stays.{Stay, stay_in}
 use Rattle.ring_log.specs.Lives.{log_of, head_of_life}
 use Rattle.ring_rules.specs.Lives.{lived, lived_through}
 use Rattle.ring_rules.specs.Nodes.{Node, runs}
-use Rattle.ring_rules.specs.Dues.{due_at, due_by, due_at_regular}
 use Rattle.ring_log_proof.specs.Time.{LifeEvent, Regular, MayHandFirst, MayHandAfter, AllMayHappen, all_lived}
 use Rattle.ring_order_proof.proofs.DisciplinedDues.{IsDue, RunsPrimary, none_due}
 use Rattle.ring_order_proof.proofs.DisciplinedTelling.{IsTold, through-append, due-append, events-append, may-append, silent_through, silent_due}
 use Rattle.ring_order_proof.proofs.DisciplinedTelling.{delivered_told, told_then}
+use Rattle.ring_rules.specs.WholeSteps.{due_at_regular, due_at, due_by}
 
 -- What goes out tells a life nothing
 

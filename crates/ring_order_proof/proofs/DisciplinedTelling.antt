@@ -15,10 +15,10 @@ use Rattle.ring_log.specs.Stays.{Stay}
 use Rattle.ring_log.specs.Lives.{log_of}
 use Rattle.ring_rules.specs.Lives.{lived, lived_through}
 use Rattle.ring_rules.specs.Nodes.{Node}
-use Rattle.ring_rules.specs.Dues.{due_at, due_by}
 use Rattle.ring_log_proof.specs.Time.{LifeEvent, Agreed, Safe, AllMayHappen, all_lived}
 use Rattle.ring_log_proof.specs.Time.{lived as life_lived}
 use Rattle.ring_order_proof.proofs.DisciplinedDues.{IsDue, RunsPrimary, none_due, both_due, agreed_due}
+use Rattle.ring_rules.specs.WholeSteps.{due_at, due_by}
 
 -- One list after another
 

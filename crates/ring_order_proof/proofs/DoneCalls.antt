@@ -1,6 +1,6 @@
 -- In every run a node has done just the calls that it has committed, and all answers that it gave are those of the session table, one call after the
 -- other from the first.
-use Rattle.std.proofs.Common.{◌≡◌, ℕ, Bool, true, false, List, [], ◌∷◌, ◌++◌, length, drop, refl, ap, sym, ◌∙◌, arith}
+use Rattle.std.proofs.Common.{◌≡◌, ℕ, Bool, true, false, List, [], ◌∷◌, ◌++◌, length, drop, refl, ap, sym, ◌∙◌, subst, arith}
 use Rattle.std.proofs.Math.Seq.{drop-append_seam}
 use Rattle.ring_base.specs.Fronts.{IsFront}
 use Rattle.ring_base.specs.Group.{Group}
@@ -24,12 +24,13 @@ use Rattle.ring_rules.specs.declared.input.Input.{Input as NodeInput}
 use Rattle.ring_rules.specs.declared.input.Input.TheVariants.{Frame as NodeFrame, Noise as NodeNoise, Timeout as NodeTime, Stop as NodeStop}
 use Rattle.ring_rules.specs.Lives.{lived_through}
 use Rattle.ring_rules.specs.Nodes.{Node, node_committed}
-use Rattle.ring_rules.specs.Dues.{due_by}
-use Rattle.ring_rules.specs.Stepping.{newly, walked, settled, node_step, submitted}
+use Rattle.ring_rules.specs.Stepping.{NodeStepped, walked, node_step, submitted}
 use Rattle.ring_rules.proofs.NodeChanges.{submitted-committed}
 use Rattle.ring_rules.specs.declared.event.Event.{Event}
 use Rattle.ring_rules.specs.Worlds.{world_opening, run}
 use Rattle.ring_order_proof.proofs.KeptByNodes.{all_have}
+use Rattle.ring_rules.specs.WholeSteps.{due_by, newly, settled, node_step as whole_step}
+use Rattle.ring_rules.proofs.OneStep.{step-same}
 
 -- what is handed over is not read
 sound_hands : {A : Type 0} → (group : Group) (ps : List (Payload A)) (life : List (Stay A)) → is_sound group (hands ps life) ≡ is_sound group life
@@ -67,17 +68,21 @@ module _ {O A : Type 0} (object : Sequential O) where
             ∙ sym (answers_after-append object (opening object.initial) n.tickets [] n.done more);
       }
 
-  stepped_done : (n : Node A) (input : NodeInput A) → LivesOn n.life (node_step object n input).node.life → HasDone n → HasDone (node_step object n input).node
-  stepped_done n (NodeFrame frame) on h =
+  whole_done : (n : Node A) (input : NodeInput A) → LivesOn n.life (whole_step object n input).node.life → HasDone n → HasDone (whole_step object n input).node
+  whole_done n (NodeFrame frame) on h =
       let s = ring_step n.core (FrameInput frame) in
       let life = lived_through n.life s.outs in
       settled_done (is_sound n.group life) n s.core life (due_by n s.core n.life s.outs) s.outs refl on h
-  stepped_done n (NodeTime kind) on h =
+  whole_done n (NodeTime kind) on h =
       let s = ring_step n.core (TimeInput kind) in
       let life = lived_through n.life s.outs in
       settled_done (is_sound n.group life) n s.core life (due_by n s.core n.life s.outs) s.outs refl on h
-  stepped_done n NodeNoise on h = h
-  stepped_done n NodeStop on h = record { calls = h.calls; answers = h.answers }
+  whole_done n NodeNoise on h = h
+  whole_done n NodeStop on h = record { calls = h.calls; answers = h.answers }
+
+  stepped_done : (n : Node A) (input : NodeInput A) → LivesOn n.life (node_step object n input).node.life → HasDone n → HasDone (node_step object n input).node
+  stepped_done n input =
+      subst (λ (s : NodeStepped A). LivesOn n.life s.node.life → HasDone n → HasDone s.node) (sym (step-same object n input)) (whole_done n input)
 
   -- a submit does nothing
   submitted_done : (n : Node A) (c : Call A) → HasDone n → HasDone (submitted n c)

@@ -26,12 +26,12 @@ use Rattle.ring_log_proof.specs.RingFacts.{IsStay}
 use Rattle.ring_session.specs.Tickets.{Asked, unanswered}
 use Rattle.ring_rules.specs.Lives.{lived_through}
 use Rattle.ring_rules.specs.Nodes.{Node, node_committed, node_pending, runs}
-use Rattle.ring_rules.specs.Dues.{due_at_regular, parts_due, due_when_stated, stands_in, calls_due, due_when_whole}
-use Rattle.ring_rules.specs.Dues.{due_between, due_in_stay, due_at_agreed, due_by}
+use Rattle.ring_rules.specs.Dues.{parts_due, due_when_stated, stands_in, calls_due}
 use Rattle.ring_log_proof.proofs.CommittedGrows.{sound_stay}
 use Rattle.ring_order_proof.specs.NodeFits.{HeardFits, StayFits, LifeFits, TicketsFit}
 use Rattle.ring_order_proof.proofs.LogLimits.{ExchangeFits, stay_exchange, WantedFits, wanted_fits, log_fits, head_fits, parts_fit}
 use Rattle.ring_order_proof.proofs.OutputLimits.{Tells}
+use Rattle.ring_rules.specs.WholeSteps.{due_at_regular, due_when_whole, due_between, due_in_stay, due_at_agreed, due_by}
 
 -- A life whose newest ring has this number
 

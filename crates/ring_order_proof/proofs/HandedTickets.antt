@@ -1,5 +1,5 @@
 -- Each call that a node hands over is one of its tickets', and each ticket's call was issued.
-use Rattle.std.proofs.Common.{ℕ, ◌==◌, Bool, true, false, List, [], ◌∷◌, ◌++◌, length, drop, map, Option, Some, None, if◌then◌else◌}
+use Rattle.std.proofs.Common.{ℕ, ◌==◌, Bool, true, false, List, [], ◌∷◌, ◌++◌, map, Option, Some, None, if◌then◌else◌}
 use Rattle.std.specs.Prelude.{not, ◌&&◌}
 use Rattle.std.specs.List.{AllByRecursion as Each}
 use Rattle.std.proofs.lemmas.Bool.{cond_both}
@@ -21,16 +21,17 @@ use Rattle.ring_log.specs.declared.wanted.Wanted.{Wanted}
 use Rattle.ring_log.specs.Exchanges.{Exchange, opened, wanted, is_whole}
 use Rattle.ring_log.specs.Parts.{parts_between}
 use Rattle.ring_log.specs.Stays.{Stay}
-use Rattle.ring_log.specs.Lives.{after_all, log_of, head_of_life, is_sound}
+use Rattle.ring_log.specs.Lives.{after_all}
 use Rattle.ring_session.specs.Tickets.{Asked, unanswered}
 use Rattle.ring_rules.specs.Lives.{lived, lived_through}
-use Rattle.ring_rules.specs.Nodes.{Node, node_committed, node_pending, node_stopped, runs, runs_adopted}
-use Rattle.ring_rules.specs.Dues.{is_stated, parts_due, due_when_stated, calls_due, due_when_whole, due_between, due_in_stay, due_at_agreed, due_at, due_by}
+use Rattle.ring_rules.specs.Nodes.{Node, node_kept, node_pending, node_stopped, runs, runs_adopted}
+use Rattle.ring_rules.specs.Dues.{is_stated, places_past, parts_due, due_when_stated, calls_due, due_when_whole, due_between, due_in_stay, due_at_agreed, due_at, due_by}
 use Rattle.ring_rules.specs.declared.input.Input.{Input}
 use Rattle.ring_rules.specs.declared.input.Input.TheVariants.{Frame, Noise, Timeout, Stop}
 use Rattle.ring_rules.specs.Stepping.{settled, walked, after_core, node_step, due_by_submit, submitted}
 use Rattle.ring_log_proof.specs.Time.{IsKnownCall, Handed as HandedEvent, Agreed as AgreedEvent, Safe as SafeEvent, Regular as RegularEvent}
 use Rattle.ring_log_proof.proofs.Living.{LifeHands, event-known}
+use Rattle.ring_log.specs.Kept.{kept_of, head_kept, is_kept_sound}
 
 module _ {A : Type 0} (Known : OneCall A → Type 0) where
   -- of a node: its tickets' calls are known, and the calls that it handed over
@@ -74,11 +75,11 @@ module _ {A : Type 0} (Known : OneCall A → Type 0) where
   between-known : (n : Node A) (older life : List (Stay A)) (old new : Exchange A) → Each (λ (t : Asked A). Known t.call) n.tickets
       → AreKnown (due_between n older life old new)
   between-known n older life old new h =
-      each-append (IsKnownCall Known) (due_when_stated n.core.me (log_of n.group older) old new) (due_when_whole n life old new)
-      (none-known (is_stated new && not (is_stated old)) (parts_due n.core.me (log_of n.group older) (wanted new))
-      (parts-known n.core.me (log_of n.group older) (wanted new)))
-      (none-known (is_whole new && not (is_whole old)) (calls_due (node_pending n) (drop (length (node_committed n)) (log_of n.group life)))
-      (calls-known n.tickets n.done (drop (length (node_committed n)) (log_of n.group life)) h))
+      each-append (IsKnownCall Known) (due_when_stated n.core.me (kept_of n.group older).calls old new) (due_when_whole n life old new)
+      (none-known (is_stated new && not (is_stated old)) (parts_due n.core.me (kept_of n.group older).calls (wanted new))
+      (parts-known n.core.me (kept_of n.group older).calls (wanted new)))
+      (none-known (is_whole new && not (is_whole old)) (calls_due (node_pending n) (places_past (node_kept n).committed (kept_of n.group life)))
+      (calls-known n.tickets n.done (places_past (node_kept n).committed (kept_of n.group life)) h))
 
   agreed-known : (n : Node A) (core : Core A) (ring : RingId) (before : List (Stay A)) (x : Message A) (life : List (Stay A))
       → Each (λ (t : Asked A). Known t.call) n.tickets
@@ -92,7 +93,7 @@ module _ {A : Type 0} (Known : OneCall A → Type 0) where
 
   due-known : (n : Node A) (core : Core A) (life : List (Stay A)) (o : Out A) → Each (λ (t : Asked A). Known t.call) n.tickets → AreKnown (due_at n core life o)
   due-known n core life (Agreed ring k x) h = agreed-known n core ring life x (lived life (Agreed ring k x)) h
-  due-known n core life (Regular ring set) h = none-known (is_primary n.group set) (Head (head_of_life n.group life) ∷ []) (tt, tt)
+  due-known n core life (Regular ring set) h = none-known (is_primary n.group set) (Head (head_kept (kept_of n.group life)) ∷ []) (tt, tt)
   due-known n core life (Send to frame) h = tt
   due-known n core life (Safe ring upto) h = tt
   due-known n core life (Trans old new set) h = tt
@@ -125,7 +126,7 @@ module _ {A : Type 0} (Known : OneCall A → Type 0) where
 
     core-known : (n : Node A) (s : Stepped A) → NodeKnows n → NodeKnows (after_core object n s).node
     core-known n s k =
-        settled-known (is_sound n.group (lived_through n.life s.outs)) n (walked n s.core (lived_through n.life s.outs) (due_by n s.core n.life s.outs))
+        settled-known (is_kept_sound n.group (lived_through n.life s.outs)) n (walked n s.core (lived_through n.life s.outs) (due_by n s.core n.life s.outs))
         s.outs (lived_through n.life s.outs)
         k (walked-known n s.core s.outs k)
 

@@ -12,7 +12,6 @@ use Rattle.ring_core.specs.Stepping.{ring_step}
 use Rattle.ring_core.specs.declared.input.Input.TheVariants.{Frame as CoreFrame, Timeout as CoreTimeout}
 use Rattle.ring_core.specs.declared.out.Out.{Out}
 use Rattle.ring_log.specs.Stays.{Stay, born}
-use Rattle.ring_log.specs.Lives.{is_sound}
 use Rattle.ring_rules.specs.Lives.{lived_through}
 use Rattle.ring_rules.specs.Nodes.{Node, node_stopped}
 use Rattle.ring_rules.specs.Dues.{due_by}
@@ -32,6 +31,7 @@ use Rattle.ring_log_proof.specs.Time.{IsKnownCall}
 use Rattle.std.specs.List.{AllByRecursion as Each}
 pub use Rattle.ring_order_proof.proofs.DisciplinedWorlds.{lives_on}
 use Rattle.ring_order_proof.proofs.HandedTickets.{NodeKnows, step-known, submitted-known, stopped-known, knows-more}
+use Rattle.ring_log.specs.Kept.{is_kept_sound}
 
 abbrev pub IssuedIn : {A : Type 0} → List (Item A) → Call A → Type 0
 IssuedIn history c = (k : ℕ) × IsIssuedAt history c k
@@ -56,7 +56,7 @@ module _ {O A : Type 0} (object : Sequential O) where
 
   core-group : (n : Node A) (s : Stepped A) → (after_core object n s).node.group ≡ n.group
   core-group n s =
-      settled-group (is_sound n.group (lived_through n.life s.outs)) n (walked n s.core (lived_through n.life s.outs) (due_by n s.core n.life s.outs)) s.outs
+      settled-group (is_kept_sound n.group (lived_through n.life s.outs)) n (walked n s.core (lived_through n.life s.outs) (due_by n s.core n.life s.outs)) s.outs
       (lived_through n.life s.outs) refl
 
   step-group : (n : Node A) (input : Input A) → (node_step object n input).node.group ≡ n.group

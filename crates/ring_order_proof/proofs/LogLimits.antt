@@ -10,7 +10,7 @@ use Rattle.ring_base.specs.Numbers.{max_number, numbers_from}
 use Rattle.ring_base.specs.Processors.{has, nobody, only, less}
 use Rattle.ring_base.specs.declared.ring_id.RingId.{RingId}
 use Rattle.ring_base.proofs.Each.{each-weaker, each-append, each-push, each-map, each-left, each-right, each-take, each-drop}
-use Rattle.ring_layout.specs.Rings.{RingFits, SomeRingFits}
+use Rattle.ring_layout.specs.Rings.{SomeRingFits}
 use Rattle.ring_payload.specs.Calls.{CallFits}
 use Rattle.ring_payload.specs.Heads.{HeadFits}
 use Rattle.ring_payload.specs.Kinds.{calls_of}
@@ -20,7 +20,6 @@ use Rattle.ring_payload.specs.declared.call.Call.{Call as OneCall}
 use Rattle.ring_payload.specs.declared.head.Head.{Head as OneHead}
 use Rattle.ring_payload.specs.declared.content.Payload.{Payload}
 use Rattle.ring_payload.specs.declared.content.Payload.TheVariants.{Call, Wrapped, End, Head, Part, Pack, Snap}
-use Rattle.ring_wire.specs.Messages.{MessageFits}
 use Rattle.ring_wire.specs.declared.message.Message.{Message}
 use Rattle.ring_log.specs.declared.stated.Stated.{Stated}
 use Rattle.ring_log.specs.declared.wanted.Wanted.{Wanted}

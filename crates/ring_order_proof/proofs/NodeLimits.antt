@@ -28,8 +28,7 @@ use Rattle.ring_rules.specs.declared.input.Input.TheVariants.{Frame as NodeFrame
 use Rattle.ring_rules.specs.NodeLimits.{InputFits as NodeInputFits}
 use Rattle.ring_rules.specs.Lives.{lived_through}
 use Rattle.ring_rules.specs.Nodes.{Node, node_opening, node_log, node_stopped, runs_adopted}
-use Rattle.ring_rules.specs.Dues.{due_by}
-use Rattle.ring_rules.specs.Stepping.{handed_over, walked, send_of, settled, node_step, due_by_submit, submitted}
+use Rattle.ring_rules.specs.Stepping.{NodeStepped, handed_over, walked, send_of, node_step, due_by_submit, submitted}
 use Rattle.ring_core_proof.specs.Limits.{InputFits, OutFits, CoreFits, SentFits}
 use Rattle.ring_core_proof.proofs.ActLimits.{step_fits}
 use Rattle.ring_core_proof.proofs.RunLimits.{opening_fits, halted_fits}
@@ -38,6 +37,8 @@ use Rattle.ring_order_proof.proofs.LogLimits.{log_fits}
 use Rattle.ring_order_proof.proofs.OutputLimits.{step_tells}
 use Rattle.ring_order_proof.specs.NodeFits.{NodeFits, LifeFits, TicketsFit}
 use Rattle.ring_order_proof.proofs.DueLimits.{all_stays, stay_fits, hands_fit, through_fits, due_fit}
+use Rattle.ring_rules.specs.WholeSteps.{due_by, settled, node_step as whole_step}
+use Rattle.ring_rules.proofs.OneStep.{step-same}
 
 -- each call of its log, and each payload that it handed over
 pub node_log_fits : {A : Type 0} → (n : Node A) → NodeFits n → Each CallFits (node_log n)
@@ -124,11 +125,14 @@ module _ {O A : Type 0} (object : Sequential O) (n : Node A) (f : NodeFits n) wh
         sends = sends_fit s.outs fits.outs;
       }
 
+  whole_fits : (input : NodeInput A) → NodeInputFits input → SteppedFits (whole_step object n input).node (whole_step object n input).sends
+  whole_fits (NodeFrame frame) w = settled_fits (FrameInput frame) w (is_sound n.group (lived_through n.life (ring_step n.core (FrameInput frame)).outs)) refl
+  whole_fits (NodeTime kind) w = settled_fits (TimeInput kind) tt (is_sound n.group (lived_through n.life (ring_step n.core (TimeInput kind)).outs)) refl
+  whole_fits NodeNoise w = record { node = f; sends = tt }
+  whole_fits NodeStop w = record { node = node_halts n f; sends = tt }
+
   pub stepped_fits : (input : NodeInput A) → NodeInputFits input → SteppedFits (node_step object n input).node (node_step object n input).sends
-  stepped_fits (NodeFrame frame) w = settled_fits (FrameInput frame) w (is_sound n.group (lived_through n.life (ring_step n.core (FrameInput frame)).outs)) refl
-  stepped_fits (NodeTime kind) w = settled_fits (TimeInput kind) tt (is_sound n.group (lived_through n.life (ring_step n.core (TimeInput kind)).outs)) refl
-  stepped_fits NodeNoise w = record { node = f; sends = tt }
-  stepped_fits NodeStop w = record { node = node_halts n f; sends = tt }
+  stepped_fits input w = subst (λ (s : NodeStepped A). SteppedFits s.node s.sends) (sym (step-same object n input)) (whole_fits input w)
 
 -- A submit
 

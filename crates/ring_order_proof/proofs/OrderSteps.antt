@@ -24,10 +24,9 @@ use Rattle.ring_log.specs.Stays.{Stay}
 use Rattle.ring_log.specs.Lives.{log_of, committed_of, is_sound}
 use Rattle.ring_rules.specs.Lives.{lived_through}
 use Rattle.ring_rules.specs.Nodes.{Node, node_committed}
-use Rattle.ring_rules.specs.Dues.{due_by}
 use Rattle.ring_rules.specs.declared.input.Input.{Input}
 use Rattle.ring_rules.specs.declared.input.Input.TheVariants.{Frame as FrameInput, Noise as NoiseInput, Timeout as TimeInput, Stop as StopInput}
-use Rattle.ring_rules.specs.Stepping.{settled, walked, after_core, node_step, submit_fault}
+use Rattle.ring_rules.specs.Stepping.{NodeStepped, walked, node_step, submit_fault}
 use Rattle.ring_rules.specs.declared.event.Event.{Event}
 use Rattle.ring_rules.specs.declared.event.Event.TheVariants.{Issue, Deliver, Noise, Timeout, Stop}
 use Rattle.ring_rules.specs.declared.item.Item.{Item}
@@ -46,6 +45,8 @@ use Rattle.ring_order_proof.specs.Living.{lives_of}
 use Rattle.ring_order_proof.proofs.Orderly.{IsOrderlyWorld}
 use Rattle.ring_order_proof.proofs.RepliesTold.{told-after}
 use Rattle.ring_order_proof.proofs.IssuedInWorlds.{IssuedIn, WorldKnows, event-knows}
+use Rattle.ring_rules.specs.WholeSteps.{due_by, settled, after_core, node_step as whole_step}
+use Rattle.ring_rules.proofs.OneStep.{step-same}
 
 -- Lists of the processors' values
 
@@ -146,13 +147,20 @@ module _ {O A : Type 0} (object : Sequential O) where
       let due = due_by n s.core n.life s.outs in
       settled-adds lists node (is_sound n.group life) n (walked n s.core life due) s.outs life (sym (hands-committed n.group due life)) front there
 
+  whole-adds : (lists : List (List (Call A))) (node : ℕ) (n : Node A) (input : Input A)
+      → IsFront (node_committed n) (node_committed (whole_step object n input).node)
+      → slice_get lists node ≡ Some (node_committed (whole_step object n input).node) → All (IsGiven object lists) (items_of (whole_step object n input).answers)
+  whole-adds lists node n (FrameInput frame) front there = core-adds lists node n (ring_step n.core (CoreFrame frame)) front there
+  whole-adds lists node n (TimeInput kind) front there = core-adds lists node n (ring_step n.core (CoreTimeout kind)) front there
+  whole-adds lists node n NoiseInput front there = All-nil (IsGiven object lists)
+  whole-adds lists node n StopInput front there = All-nil (IsGiven object lists)
+
   node-adds : (lists : List (List (Call A))) (node : ℕ) (n : Node A) (input : Input A)
       → IsFront (node_committed n) (node_committed (node_step object n input).node)
       → slice_get lists node ≡ Some (node_committed (node_step object n input).node) → All (IsGiven object lists) (items_of (node_step object n input).answers)
-  node-adds lists node n (FrameInput frame) front there = core-adds lists node n (ring_step n.core (CoreFrame frame)) front there
-  node-adds lists node n (TimeInput kind) front there = core-adds lists node n (ring_step n.core (CoreTimeout kind)) front there
-  node-adds lists node n NoiseInput front there = All-nil (IsGiven object lists)
-  node-adds lists node n StopInput front there = All-nil (IsGiven object lists)
+  node-adds lists node n input =
+      subst (λ (s : NodeStepped A). IsFront (node_committed n) (node_committed s.node) → slice_get lists node ≡ Some (node_committed s.node)
+      → All (IsGiven object lists) (items_of s.answers)) (sym (step-same object n input)) (whole-adds lists node n input)
 
   -- so an event adds an issued call, or such replies
   abbrev Grow : World A → World A → Type 0

@@ -14,19 +14,19 @@ use Rattle.ring_core.specs.declared.out.Out.{Out}
 use Rattle.ring_core.specs.State.{Core}
 use Rattle.ring_core.specs.Stepping.{ring_step}
 use Rattle.ring_log.specs.Stays.{Stay}
-use Rattle.ring_log.specs.Lives.{is_sound}
 use Rattle.ring_session.specs.Table.{table_after}
 use Rattle.ring_session.specs.Tickets.{Asked, place_of, unanswered}
 use Rattle.ring_rules.specs.declared.input.Input.{Input as NodeInput}
 use Rattle.ring_rules.specs.declared.input.Input.TheVariants.{Frame as NodeFrame, Noise as NodeNoise, Timeout as NodeTime, Stop as NodeStop}
 use Rattle.ring_rules.specs.Lives.{lived_through}
-use Rattle.ring_rules.specs.Nodes.{Node, node_committed, node_pending, is_stopped}
+use Rattle.ring_rules.specs.Nodes.{Node, node_kept, node_pending, is_stopped}
 use Rattle.ring_rules.specs.Dues.{due_by}
 use Rattle.ring_rules.specs.Stepping.{newly, walked, settled, node_step, submit_fault, submitted}
 use Rattle.ring_rules.specs.declared.event.Event.{Event}
 use Rattle.ring_rules.specs.Worlds.{world_opening, run}
 use Rattle.ring_order_proof.proofs.KeptByNodes.{all_have}
 use Rattle.ring_order_proof.proofs.AnswerCounts.{few_more}
+use Rattle.ring_log.specs.Kept.{kept_of, kept_committed, is_kept_sound}
 
 -- Tickets that wait
 
@@ -76,18 +76,18 @@ module _ {O A : Type 0} (object : Sequential O) where
       HasFew (settled object b n (walked n core life due) outs life).node
   settled_few false n core life due outs f = f
   settled_few true n core life due outs f =
-      let less = few_more object (table_after object (node_committed n)) n.tickets n.done (newly n life) in
+      let less = few_more object (table_after object (kept_committed (node_kept n))) n.tickets n.done (newly (node_kept n) (kept_of n.group life)) in
       omega (arith, less, f)
 
   stepped_few : (n : Node A) (input : NodeInput A) → HasFew n → HasFew (node_step object n input).node
   stepped_few n (NodeFrame frame) f =
       let s = ring_step n.core (FrameInput frame) in
       let life = lived_through n.life s.outs in
-      settled_few (is_sound n.group life) n s.core life (due_by n s.core n.life s.outs) s.outs f
+      settled_few (is_kept_sound n.group life) n s.core life (due_by n s.core n.life s.outs) s.outs f
   stepped_few n (NodeTime kind) f =
       let s = ring_step n.core (TimeInput kind) in
       let life = lived_through n.life s.outs in
-      settled_few (is_sound n.group life) n s.core life (due_by n s.core n.life s.outs) s.outs f
+      settled_few (is_kept_sound n.group life) n s.core life (due_by n s.core n.life s.outs) s.outs f
   stepped_few n NodeNoise f = f
   stepped_few n NodeStop f = f
 

@@ -17,10 +17,9 @@ use Rattle.ring_core.specs.State.{Core, Stepped, halted}
 use Rattle.ring_core.specs.Giving.{may_install}
 use Rattle.ring_core.specs.Stepping.{ring_step}
 use Rattle.ring_log.specs.Stays.{Stay, born, hands}
-use Rattle.ring_log.specs.Lives.{is_sound}
 use Rattle.ring_rules.specs.declared.input.Input.{Input as NodeInput}
 use Rattle.ring_rules.specs.Lives.{lived, lived_through}
-use Rattle.ring_rules.specs.Nodes.{Node, node_stopped}
+use Rattle.ring_rules.specs.Nodes.{Node, node_kept, node_stopped}
 use Rattle.ring_rules.specs.Dues.{due_by}
 use Rattle.ring_payload.specs.declared.call.Call.{Call as OneCall}
 use Rattle.ring_session.specs.declared.answered.Answered.{Answered}
@@ -34,6 +33,7 @@ use Rattle.ring_order_proof.specs.Projection.{ring_part, heard_life, sends_to, b
 use Rattle.ring_core.proofs.Quiet.{stepped_is}
 use Rattle.ring_order_proof.proofs.ProjectedSends.{with_cores, run_sends, handed_is}
 use Rattle.ring_order_proof.proofs.DisciplinedTelling.{through-append}
+use Rattle.ring_log.specs.Kept.{kept_of, is_kept_sound}
 
 -- Nodes and their cores
 
@@ -243,7 +243,8 @@ module _ {O A : Type 0} (object : Sequential O) (w : World A) (outs : List (ℕ 
   settles input event e false life due l = halts _ (refl, refl, refl)
   settles input event e true life due l =
       let n = w.nodes i in
-      goes_on (n.done ++ newly n life) (n.answers ++ answers_by object n (newly n life)) input event e life due (ap heard_life l) _
+      goes_on (n.done ++ newly (node_kept n) (kept_of n.group life))
+      (n.answers ++ answers_by object n (newly (node_kept n) (kept_of n.group life))) input event e life due (ap heard_life l) _
       (refl, refl, ap (λ frames. w.frames ++ frames) (sym (sends_carried i (ring_step (w.nodes i).core input).outs)))
 
   -- a frame or a timeout
@@ -255,4 +256,4 @@ module _ {O A : Type 0} (object : Sequential O) (w : World A) (outs : List (ℕ 
       let n = w.nodes i in
       let s = ring_step n.core input in
       let life = lived_through n.life s.outs in
-      subst (λ x. Leads w outs (share_of_step n i event s) (after_node w i x)) (sym g) (settles input event e (is_sound n.group life) life (due_by n s.core n.life s.outs) refl)
+      subst (λ x. Leads w outs (share_of_step n i event s) (after_node w i x)) (sym g) (settles input event e (is_kept_sound n.group life) life (due_by n s.core n.life s.outs) refl)

@@ -30,7 +30,6 @@ use Rattle.ring_core.specs.Handing.{proposed}
 use Rattle.ring_core.specs.Giving.{may_install, addressed, sent, given, configured, settle}
 use Rattle.ring_core.specs.Stepping.{ring_step}
 use Rattle.ring_log.specs.Stays.{Stay}
-use Rattle.ring_log.specs.Lives.{is_sound}
 use Rattle.ring_rules.specs.declared.input.Input.{Input as NodeInput}
 use Rattle.ring_rules.specs.declared.input.Input.TheVariants.{Frame as NodeFrame, Noise as NodeNoise, Timeout as NodeTime, Stop as NodeStop}
 use Rattle.ring_rules.specs.NodeLimits.{InputFits as NodeInputFits}
@@ -43,6 +42,7 @@ use Rattle.ring_core_proof.proofs.Causes.{caused}
 use Rattle.ring_core_proof.proofs.Lifting.{IsTold, told_from, told_configured}
 use Rattle.ring_core_proof.proofs.StepsAreMoves.{fresh_few}
 use Rattle.ring_core_proof.specs.Limits.{InputFits}
+use Rattle.ring_log.specs.Kept.{is_kept_sound}
 
 -- Lists
 
@@ -172,7 +172,7 @@ module _ {O A : Type 0} (object : Sequential O) where
   few_after : (n : Node A) (input : Input A) → InputFits input → length (after_core object n (ring_step n.core input)).sends ≤ 64
   few_after n input w =
       let s = ring_step n.core input in
-      few_if (is_sound n.group (lived_through n.life s.outs)) n _ s.outs (lived_through n.life s.outs) (few_frames n.core input w)
+      few_if (is_kept_sound n.group (lived_through n.life s.outs)) n _ s.outs (lived_through n.life s.outs) (few_frames n.core input w)
 
   pub few_sends : (n : Node A) (input : NodeInput A) → NodeInputFits input → length (node_step object n input).sends ≤ 64
   few_sends n (NodeFrame frame) w = few_after n (FrameInput frame) w

@@ -40,7 +40,7 @@ use Rattle.ring_core_proof.proofs.InLists.{each-in}
 use Rattle.ring_synchrony_proof.proofs.Ordered.{Ordered}
 use Rattle.ring_synchrony_proof.proofs.LivesTold.{keeps_done}
 use Rattle.ring_log.specs.Stays.{Stay, hands}
-use Rattle.ring_log.specs.Lives.{is_sound, log_of}
+use Rattle.ring_log.specs.Lives.{log_of}
 use Rattle.ring_rules.specs.declared.input.Input.{Input as NodeInput}
 use Rattle.ring_rules.specs.declared.input.Input.TheVariants.{Frame as NodeFrame, Noise as NodeNoise, Timeout as NodeTime, Stop as NodeStop}
 use Rattle.ring_rules.specs.Lives.{lived, lived_through}
@@ -66,6 +66,7 @@ use Rattle.ring_order_proof.specs.Said.{SpeaksInOrder}
 use Rattle.ring_order_proof.proofs.Speaking.{IsSpeaker, IsSaid, IsNoSend, done_said, done_speaks, install_said, install_new}
 use Rattle.ring_order_proof.proofs.Speaking.{install_speaks, halt_said, halt_speaks, opening_speaks, queue_with, with_queue}
 use Rattle.ring_order_proof.proofs.Speaking.{hand_said, hand_other, hand_speaks}
+use Rattle.ring_log.specs.Kept.{is_kept_sound}
 
 -- A life as the rings with what was handed over there
 
@@ -321,7 +322,7 @@ input_says {O} {A} object n input other o s new q =
     let k = core_says n.core input n.life other o.ordered s.speaks rings s.said in
     let ready : may_install c.core ≡ false = stepped_is n.core input in
     let due = due_by n c.core n.life c.outs in
-    after_says object n (is_sound n.group (lived_through n.life c.outs)) c.core c.outs s ready k.1 k.0 new q
+    after_says object n (is_kept_sound n.group (lived_through n.life c.outs)) c.core c.outs s ready k.1 k.0 new q
     (ap (λ (x : Core A). x.installed) (queued_all c.core due ready).is)
 
 node_says : {O A : Type 0} → (object : Sequential O) (n : Node A) (input : NodeInput A) → IsOrderlyNode n → NodeSays n

@@ -13,7 +13,6 @@ use Rattle.ring_core.specs.declared.input.Input.TheVariants.{Frame as FrameInput
 use Rattle.ring_core.specs.declared.out.Out.{Out}
 use Rattle.ring_core.specs.State.{Carried, Stepped, frame_at}
 use Rattle.ring_core.specs.Stepping.{ring_step}
-use Rattle.ring_log.specs.Lives.{is_sound}
 use Rattle.ring_log.specs.Stays.{Stay, born}
 use Rattle.ring_rules.specs.Dues.{due_by}
 use Rattle.ring_rules.specs.Lives.{lived_through}
@@ -26,6 +25,7 @@ use Rattle.ring_core_proof.specs.declared.event.RingEvent.{RingEvent}
 use Rattle.ring_core_proof.specs.declared.event.RingEvent.TheVariants.{Send, Deliver as RingDeliver, Timeout as RingTimeout, Stop as RingStop}
 use Rattle.ring_core_proof.specs.Worlds.{World as RingWorld, run, unformed}
 use Rattle.ring_core_proof.specs.Lives.{outs_of}
+use Rattle.ring_log.specs.Kept.{is_kept_sound}
 
 -- the cores of the nodes and the frames that these sent, with what the cores gave
 abbrev pub ring_part : {A : Type 0} → World A → List (ℕ × Out A) → RingWorld A
@@ -70,7 +70,7 @@ share_settled true i event due outs = record { events = event ∷ sends_to i due
 
 abbrev pub share_of_step : {A : Type 0} → Node A → ℕ → RingEvent A → Stepped A → Share A
 share_of_step n i event s =
-    share_settled (is_sound n.group (lived_through n.life s.outs)) i event (due_by n s.core n.life s.outs) s.outs
+    share_settled (is_kept_sound n.group (lived_through n.life s.outs)) i event (due_by n s.core n.life s.outs) s.outs
 
 abbrev pub share_if : {A : Type 0} → Bool → World A → ℕ → RingEvent A → Input A → Share A
 share_if false w i event input = no_share

@@ -19,7 +19,8 @@ use Rattle.ring_log.specs.Logs.{Log, empty, is_log_length, committed_upto}
 use Rattle.ring_log.specs.Stays.{Stay, born, stay_in, hears, marks, hands}
 use Rattle.ring_log.specs.Lives.{Whole, exchanged, own_base, log_by, log_of, last_by, last_of, upto, committed_by}
 use Rattle.ring_log.specs.Lives.{committed_of, kept_of, keeps_committed, is_sound}
-use Rattle.ring_log_proof.proofs.Wholes.{grown, exchanged-front, log_on, log-front}
+use Rattle.ring_log_proof.proofs.SoundLives.{sound-short}
+use Rattle.ring_rules.proofs.OneStep.{sound-lived}
 use Rattle.ring_session.specs.declared.pending.Pending.{Pending}
 use Rattle.ring_rules.specs.Lives.{lived, lived_through}
 use Rattle.ring_replica.specs.declared.reach.Reach.{Reach}
@@ -144,13 +145,6 @@ kept-marks {A} group life log ring stage mark reaches n k risen =
 
 -- ---- a new ring
 
--- a sound life's log isn't too long
-pub sound-short : {A : Type 0} (group : Group) (life : List (Stay A)) → is_sound group life ≡ true → is_log_length (length (log_of group life)) ≡ true
-sound-short group [] t = le-leb 0 max_number (omega arith)
-sound-short group (s ∷ older) t =
-    (and_parts (is_sound group older && keeps_committed (log_of group older) s.front (committed_of group older) (exchanged group s.members s.heard))
-    (is_log_length (length (log_of group (s ∷ older)))) t).1
-
 stage-begun : {A : Type 0} (group : Group) (m : ℕ) → stage_in {A = A} group m [] ≡ stage_in group m []
 stage-begun group m = refl
 
@@ -207,56 +201,6 @@ hands-log group due [] = refl
 hands-log group due (s ∷ older) = refl
 
 -- ---- a life that is not sound stays so
-
-unsound-step : {A : Type 0} (group : Group) (s : Stay A) (older : List (Stay A)) (x : Message A)
-    (o p : Option (Whole A)) → exchanged group s.members s.heard ≡ o
-    → exchanged group s.members (s.heard ++ x ∷ []) ≡ p → is_sound group older ≡ true
-    → keeps_committed (log_of group older) s.front (committed_of group older) p ≡ true → is_log_length (length (log_by (log_of group older) s.front p)) ≡ true
-    → (keeps_committed (log_of group older) s.front (committed_of group older) o ≡ true)
-    × (is_log_length (length (log_by (log_of group older) s.front o)) ≡ true)
-unsound-step group s older x None p e k t a b = (refl, sound-short group older t)
-unsound-step group s older x (Some v) None e k t a b =
-    absurd (let y = sym (exchanged-front group s.members s.heard (s.heard ++ x ∷ []) v e (x ∷ [], refl)) ∙ k in cc y)
-unsound-step {A} group s older x (Some v) (Some w) e k t a b =
-    let own = own_base (log_of group older) s.front in
-    let grows : Some (grown v (x ∷ [])) ≡ Some w = sym (exchanged-front group s.members s.heard (s.heard ++ x ∷ []) v e (x ∷ [], refl)) ∙ k in
-    let same : grown v (x ∷ []) ≡ w = cc grows in
-    let front = log-front own group s.members s.heard (s.heard ++ x ∷ []) v w e k (x ∷ [], refl) in (
-      ap (λ (u : Whole A). keeps_committed (log_of group older) s.front (committed_of group older) (Some u)) same ∙ a,
-      le-leb (length (log_on own v)) max_number (omega (
-        arith,
-        front_length (log_on own v) (log_on own w) front,
-        leb-true (length (log_on own w)) max_number b,
-      )),
-    )
-
-sound-before : {A : Type 0} (group : Group) (x : Message A) (life : List (Stay A)) → is_sound group (hears x life) ≡ true → is_sound group life ≡ true
-sound-before group x [] t = t
-sound-before group x (s ∷ older) t =
-    let own = log_of group older in
-    let kept = committed_of group older in
-    let s' = with_message s x in
-    let outer = and_parts (is_sound group older && keeps_committed own s.front kept (exchanged group s'.members s'.heard))
-    (is_log_length (length (log_of group (s' ∷ older)))) t in
-    let inner = and_parts (is_sound group older) (keeps_committed own s.front kept (exchanged group s'.members s'.heard)) outer.0 in
-    let both = unsound-step group s older x (exchanged group s.members s.heard) (exchanged group s'.members s'.heard) refl refl inner.0 inner.1 outer.1 in
-    and_from (is_sound group older && keeps_committed own s.front kept (exchanged group s.members s.heard)) (is_log_length (length (log_of group (s ∷ older))))
-    (and_from (is_sound group older) (keeps_committed own s.front kept (exchanged group s.members s.heard)) inner.0 both.0) both.1
-
-marks-before : {A : Type 0} (group : Group) (n : ℕ) (life : List (Stay A)) → is_sound group (marks n life) ≡ is_sound group life
-marks-before group n [] = refl
-marks-before group n (s ∷ older) = refl
-
-sound-lived : {A : Type 0} (group : Group) (life : List (Stay A)) (o : Out A) → is_sound group (lived life o) ≡ true → is_sound group life ≡ true
-sound-lived group life (Agreed ring k x) t = sound-before group x life t
-sound-lived group life (Safe ring upto) t = sym (marks-before group upto life) ∙ t
-sound-lived group life (Regular ring set) t =
-    let outer = and_parts (is_sound group life && keeps_committed (log_of group life) [] (committed_of group life) (exchanged group set []))
-    (is_log_length (length (log_of group (stay_in ring set ∷ life)))) t in
-    (and_parts (is_sound group life) (keeps_committed (log_of group life) [] (committed_of group life) (exchanged group set [])) outer.0).0
-sound-lived group life (Send to frame) t = t
-sound-lived group life (Trans old new set) t = t
-sound-lived group life (Rest ring k x) t = t
 
 unsound-lived : {A : Type 0} (group : Group) (life : List (Stay A)) (o : Out A) → is_sound group life ≡ false → is_sound group (lived life o) ≡ false
 unsound-lived {A} group life o f = by (is_sound group (lived life o)) refl

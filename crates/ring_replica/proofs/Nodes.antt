@@ -26,8 +26,10 @@ use Rattle.ring_session.specs.declared.pending.Pending.{Pending}
 use Rattle.ring_session.specs.Pendings.{pending_from, stands_in}
 use Rattle.ring_rules.specs.Lives.{lived, lived_through}
 use Rattle.ring_rules.specs.Nodes.{Node, node_committed, node_pending, is_stopped, runs, runs_some}
-use Rattle.ring_rules.specs.Dues.{calls_due, due_when_stated, due_when_whole, due_in_stay, due_at_agreed, due_at, due_by}
-use Rattle.ring_rules.specs.Stepping.{handed_over, walked, settled, after_core, submitted, submit_fault}
+use Rattle.ring_rules.specs.Dues.{calls_due, due_when_stated}
+use Rattle.ring_rules.specs.Stepping.{handed_over, walked, after_core, submitted, submit_fault}
+use Rattle.ring_rules.specs.WholeSteps.{due_when_whole, due_in_stay, due_at_agreed, due_at, due_by, settled}
+use Rattle.ring_rules.proofs.OneStep.{core-same}
 use Rattle.ring_replica.specs.Courses.{Moment, is_running, calls_left, dues_when_whole, dues_in_stay, dues_heard, dues_at, dues_by, handed_if}
 use Rattle.ring_replica.specs.Replicas.{replica_of, running_of, moment_of, is_running_some, submit_refusal}
 use Rattle.ring_replica.specs.Replicas.{replica_given, replica_settled, replica_step, node_by, node_given}
@@ -114,7 +116,8 @@ module _ {O A : Type 0} (object : Sequential O) (n : Node A) (s : Stepped A) whe
 
   pub step-is : after_core object n s ≡ node_by n s.core (replica_step object (running_of s.core) (replica_of n) s.outs)
   step-is =
-      step-by (is_sound n.group life) (due_by n s.core n.life s.outs)
+      core-same object n s
+      ∙ step-by (is_sound n.group life) (due_by n s.core n.life s.outs)
       ∙ ap (λ due. node_by n s.core (replica_settled object (is_sound n.group life) (replica_of n) s.outs life due)) (dues-are n s.core n.life s.outs)
 
 pub refused-is : {A : Type 0} (n : Node A) → is_stopped n.core.state ≡ false → submit_fault n ≡ submit_refusal (replica_of n)

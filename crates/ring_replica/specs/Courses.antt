@@ -19,7 +19,8 @@ use Rattle.ring_log.specs.Stays.{Stay, born}
 use Rattle.ring_log.specs.Lives.{Whole, whole_from, after_all, exchanged, own_base, calls_in, log_of, upto, kept_of, is_sound}
 use Rattle.ring_session.specs.declared.pending.Pending.{Pending}
 use Rattle.ring_session.specs.Pendings.{stands_in}
-use Rattle.ring_rules.specs.Dues.{parts_due, due_at_regular, due_when_stated}
+use Rattle.ring_rules.specs.Dues.{parts_due, due_when_stated}
+use Rattle.ring_rules.specs.WholeSteps.{due_at_regular}
 use Rattle.ring_rules.specs.Lives.{lived}
 use Rattle.ring_replica.specs.declared.setting.Setting.{Setting}
 use Rattle.ring_replica.specs.declared.reach.Reach.{Reach}

@@ -8,7 +8,7 @@ ghost use Rattle.ring_log.specs.Stays.{hears, marks, hands, stay_in};
 ghost use Rattle.ring_log.specs.Lives.{is_sound, kept_of};
 ghost use Rattle.ring_replica.specs.Courses.{course_opening, Moment as OneMoment, dues_heard, dues_at, dues_by};
 ghost use Rattle.ring_replica.specs.Courses.{is_running, is_risen, rises_at, rises, handed_if, covered, left};
-ghost use Rattle.ring_rules.specs.Dues.{due_at_regular};
+ghost use Rattle.ring_rules.specs.WholeSteps.{due_at_regular};
 ghost use Rattle.ring_rules.specs.Lives.{lived, lived_through};
 ghost use Rattle.ring_rules.specs.Stepping.{send_of};
 

@@ -1,6 +1,6 @@
 -- What a node hands to its core to be sent, as its life goes on: a Head, the owner's Parts, and the calls that wait.
 -- The replicated log, rules 2, 7 and 10 of docs/PROTOCOL.md.
-use Rattle.std.specs.Prelude.{ℕ, Bool, not, ◌&&◌, ◌==◌, if◌then◌else◌, List, [], ◌∷◌, ◌++◌, length, map, filter, drop, Option, Some, None}
+use Rattle.std.specs.Prelude.{ℕ, ◌-◌, max, Bool, not, ◌&&◌, ◌==◌, if◌then◌else◌, List, [], ◌∷◌, ◌++◌, map, filter, drop, Option, Some, None}
 use Rattle.std.specs.List.{list_any}
 use Rattle.ring_base.specs.Group.{Group, is_primary}
 use Rattle.ring_base.specs.Processors.{nobody}
@@ -17,14 +17,15 @@ use Rattle.ring_log.specs.declared.wanted.Wanted.{Wanted}
 use Rattle.ring_log.specs.Exchanges.{Exchange, opened, wanted, is_whole}
 use Rattle.ring_log.specs.Parts.{parts_between}
 use Rattle.ring_log.specs.Stays.{Stay}
-use Rattle.ring_log.specs.Lives.{after_all, log_of, head_of_life}
+use Rattle.ring_log.specs.Lives.{after_all}
+use Rattle.ring_log.specs.Kept.{Kept, kept_of, head_kept}
 use Rattle.ring_session.specs.Tickets.{Asked}
 use Rattle.ring_rules.specs.Lives.{lived}
-use Rattle.ring_rules.specs.Nodes.{Node, node_committed, node_pending, runs}
+use Rattle.ring_rules.specs.Nodes.{Node, node_kept, node_pending, runs}
 
 -- as a primary ring is installed: a Head of the log before it
 abbrev pub due_at_regular : {A : Type 0} → Group → ℕ → List (Stay A) → List (Payload A)
-due_at_regular group members older = if is_primary group members then Head (head_of_life group older) ∷ [] else []
+due_at_regular group members older = if is_primary group members then Head (head_kept (kept_of group older)) ∷ [] else []
 
 -- as the last Head is heard: the owner's Parts of its log
 
@@ -38,7 +39,8 @@ parts_due me own (Some w) = if w.owner == me then map (λ part. Part part) (part
 abbrev pub due_when_stated : {A : Type 0} → ℕ → List (OneCall A) → Exchange A → Exchange A → List (Payload A)
 due_when_stated me own old new = if is_stated new && not (is_stated old) then parts_due me own (wanted new) else []
 
--- as the exchange becomes whole: the calls without an answer that stand nowhere in the base past the committed places, in the order of tickets
+-- as the exchange becomes whole: the calls without an answer that stand nowhere in the base past the committed places, in the order of tickets. What a
+-- snapshot stands for that is restored counts as committed
 
 abbrev pub stands_in : {A : Type 0} → List (OneCall A) → Asked A → Bool
 stands_in calls t = list_any (is_same t.call) calls
@@ -46,15 +48,21 @@ stands_in calls t = list_any (is_same t.call) calls
 abbrev pub calls_due : {A : Type 0} → List (Asked A) → List (OneCall A) → List (Payload A)
 calls_due pending calls = map (λ (t : Asked _). Call t.call) (filter (λ (t : Asked _). not (stands_in calls t)) pending)
 
+-- the places that a node knows past those that were committed before, or are by restoring
+abbrev pub places_past : {A : Type 0} → ℕ → Kept A → List (OneCall A)
+places_past committed k = drop (max committed k.from - k.from) k.calls
+
 abbrev pub due_when_whole : {A : Type 0} → Node A → List (Stay A) → Exchange A → Exchange A → List (Payload A)
 due_when_whole n life old new =
-    if is_whole new && not (is_whole old) then calls_due (node_pending n) (drop (length (node_committed n)) (log_of n.group life)) else []
+    if is_whole new && not (is_whole old)
+    then calls_due (node_pending n) (places_past (node_kept n).committed (kept_of n.group life))
+    else []
 
 -- Outputs give what is due. The node is the one before the step, and the core the one after it: things are due only of a ring in which that is Operational
 
 -- a message heard in the newest stay: with the exchange as it was before and is after it
 abbrev pub due_between : {A : Type 0} → Node A → List (Stay A) → List (Stay A) → Exchange A → Exchange A → List (Payload A)
-due_between n older life old new = due_when_stated n.core.me (log_of n.group older) old new ++ due_when_whole n life old new
+due_between n older life old new = due_when_stated n.core.me (kept_of n.group older).calls old new ++ due_when_whole n life old new
 
 abbrev pub due_in_stay : {A : Type 0} → Node A → Stay A → List (Stay A) → Message A → List (Stay A) → List (Payload A)
 due_in_stay n s older x life =

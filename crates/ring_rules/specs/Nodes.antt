@@ -10,6 +10,7 @@ use Rattle.ring_core.specs.Joining.{is_operational}
 use Rattle.ring_core.specs.State.{Core, opening, halted}
 pub use Rattle.ring_core.specs.State.{is_stopped}
 use Rattle.ring_log.specs.Stays.{Stay, born}
+use Rattle.ring_log.specs.Kept.{Kept, kept_of}
 use Rattle.ring_log.specs.Lives.{log_of, last_of, committed_of}
 use Rattle.ring_session.specs.declared.answered.Answered.{Answered}
 use Rattle.ring_session.specs.Tickets.{Asked, unanswered, kept_answers, answer_to}
@@ -29,7 +30,11 @@ pub record Node (A : Type 0) : Type 0 where
 abbrev pub node_opening : {A : Type 0} → Group → ℕ → Node A
 node_opening group me = record { group = group; core = opening group.count me; life = born me; tickets = []; done = []; answers = [] }
 
--- its log, and the committed places of it
+-- what it knows of its log by its own life
+abbrev pub node_kept : {A : Type 0} → Node A → Kept A
+node_kept n = kept_of n.group n.life
+
+-- its log, and the committed places of it, by the view of all lives
 abbrev pub node_log : {A : Type 0} → Node A → List (Call A)
 node_log n = log_of n.group n.life
 

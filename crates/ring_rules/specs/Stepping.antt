@@ -1,5 +1,5 @@
 -- One step of a node, and a submit: The replicated log, rules 1, 8, 9, 13, 14 and 18, of docs/PROTOCOL.md.
-use Rattle.std.specs.Prelude.{Bool, true, false, nat_le, if◌then◌else◌, List, [], ◌∷◌, ◌++◌, map, filter_map, length, drop, Option, Some, None}
+use Rattle.std.specs.Prelude.{◌-◌, max, Bool, true, false, nat_le, if◌then◌else◌, List, [], ◌∷◌, ◌++◌, map, filter_map, length, drop, Option, Some, None}
 use Rattle.ring_base.specs.Numbers.{max_number}
 use Rattle.ring_base.specs.declared.fault.Fault.{Fault}
 use Rattle.ring_base.specs.declared.fault.Fault.TheVariants.{PendingFull, Stopped as StoppedFault}
@@ -13,14 +13,14 @@ use Rattle.ring_core.specs.declared.out.Out.TheVariants.{Send, Agreed, Safe, Tra
 use Rattle.ring_core.specs.State.{Core, Sent, Stepped}
 use Rattle.ring_core.specs.Stepping.{ring_step, after_inputs}
 use Rattle.ring_log.specs.Stays.{Stay, hands}
-use Rattle.ring_log.specs.Lives.{committed_of, is_sound}
+use Rattle.ring_log.specs.Kept.{Kept, kept_of, kept_committed, is_kept_sound}
 pub use Rattle.ring_session.specs.declared.answered.Answered.{Answered}
 use Rattle.ring_session.specs.Table.{table_after}
 use Rattle.ring_session.specs.Tickets.{answers_after}
 use Rattle.ring_rules.specs.declared.input.Input.{Input}
 use Rattle.ring_rules.specs.declared.input.Input.TheVariants.{Frame, Noise, Timeout, Stop}
 use Rattle.ring_rules.specs.Lives.{lived_through}
-use Rattle.ring_rules.specs.Nodes.{Node, node_committed, node_pending, node_stopped, is_stopped, runs_adopted}
+use Rattle.ring_rules.specs.Nodes.{Node, node_kept, node_pending, node_stopped, is_stopped, runs_adopted}
 use Rattle.ring_rules.specs.Dues.{due_by}
 
 -- Handing over
@@ -54,9 +54,9 @@ send_of (Trans old new set) = None
 send_of (Rest ring k x) = None
 send_of (Regular ring set) = None
 
--- what a step commits: the places behind those that were committed before
-abbrev pub newly : {A : Type 0} → Node A → List (Stay A) → List (OneCall A)
-newly old life = drop (length (node_committed old)) (committed_of old.group life)
+-- what a step commits: the places behind those that were committed before, or those that it restored
+abbrev pub newly : {A : Type 0} → Kept A → Kept A → List (OneCall A)
+newly old new = drop (max old.committed new.from - new.from) (kept_committed new)
 
 -- a step that does these calls, and gives these answers
 abbrev pub answered_by : {A : Type 0} → Node A → Node A → List (Out A) → List (Answered A) → List (OneCall A) → NodeStepped A
@@ -71,16 +71,18 @@ answered_by old new outs answers more =
 module _ {O : Type 0} (object : Sequential O) where
   -- what these calls answer, done one after the other on the session table after the places that were committed before
   abbrev pub answers_by : {A : Type 0} → Node A → List (OneCall A) → List (Answered A)
-  answers_by old more = answers_after object (table_after object (node_committed old)) old.tickets old.done more
+  answers_by old more = answers_after object (table_after object (kept_committed (node_kept old))) old.tickets old.done more
 
   -- a base that drops committed places, and a log that is too long, stop the node in the step's place: nothing of the step is given
   abbrev pub settled : {A : Type 0} → Bool → Node A → Node A → List (Out A) → List (Stay A) → NodeStepped A
   settled false old new outs life = quiet (node_stopped old)
-  settled true old new outs life = answered_by old new outs (answers_by old (newly old life)) (newly old life)
+  settled true old new outs life =
+      let more = newly (node_kept old) (kept_of old.group life) in
+      answered_by old new outs (answers_by old more) more
 
   -- the core took a step: the life goes on by its outputs, and what is due by them is handed over
   abbrev pub moved : {A : Type 0} → Node A → Core A → List (Out A) → List (Stay A) → NodeStepped A
-  moved n core outs life = settled (is_sound n.group life) n (walked n core life (due_by n core n.life outs)) outs life
+  moved n core outs life = settled (is_kept_sound n.group life) n (walked n core life (due_by n core n.life outs)) outs life
 
   abbrev pub after_core : {A : Type 0} → Node A → Stepped A → NodeStepped A
   after_core n s = moved n s.core s.outs (lived_through n.life s.outs)

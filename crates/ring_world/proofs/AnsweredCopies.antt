@@ -8,12 +8,12 @@ use Rattle.ring_core.specs.Stepping.{ring_step}
 use Rattle.ring_core.specs.declared.input.Input.TheVariants.{Frame as CoreFrame, Timeout as CoreTimeout}
 use Rattle.ring_core.specs.declared.out.Out.{Out}
 use Rattle.ring_log.specs.Stays.{Stay}
-use Rattle.ring_log.specs.Lives.{is_sound}
+use Rattle.ring_log.specs.Kept.{kept_of, kept_committed, is_kept_sound}
 use Rattle.ring_rules.specs.Lives.{lived_through}
 use Rattle.ring_rules.specs.Dues.{due_by}
 use Rattle.ring_rules.specs.declared.input.Input.{Input}
 use Rattle.ring_rules.specs.declared.input.Input.TheVariants.{Frame as FrameInput, Noise as NoiseInput, Timeout as TimeInput, Stop as StopInput}
-use Rattle.ring_rules.specs.Nodes.{Node, node_committed}
+use Rattle.ring_rules.specs.Nodes.{Node, node_kept}
 use Rattle.ring_rules.specs.Stepping.{NodeStepped, newly, settled, walked, after_core, node_step}
 use Rattle.ring_world.specs.Spares.{AllLeft, after_answers, Holds}
 use Rattle.ring_world.proofs.Spared.{goes_on}
@@ -28,13 +28,13 @@ module _ {O A : Type 0} (object : Sequential O) where
   settled-goes false n new outs life calls tickets h = (tt, h)
   settled-goes true n new outs life calls tickets h =
       let s = settled object true n new outs life in
-      let g = goes_on object (table_after object (node_committed n)) n.tickets n.done (newly n life) calls h in
+      let g = goes_on object (table_after object (kept_committed (node_kept n))) n.tickets n.done (newly (node_kept n) (kept_of n.group life)) calls h in
       (g.left, subst (λ ts. Holds (after_answers calls s.answers) ts s.node.done) (sym tickets) g.holds)
 
   core-goes : (n : Node A) (s : Stepped A) (calls : List (Option (Call A))) → Holds calls n.tickets n.done → CopiesGoOn calls (after_core object n s)
   core-goes n s calls h =
       let life = lived_through n.life s.outs in
-      settled-goes (is_sound n.group life) n (walked n s.core life (due_by n s.core n.life s.outs)) s.outs life calls refl h
+      settled-goes (is_kept_sound n.group life) n (walked n s.core life (due_by n s.core n.life s.outs)) s.outs life calls refl h
 
   pub step-goes : (n : Node A) (input : Input A) (calls : List (Option (Call A))) → Holds calls n.tickets n.done → CopiesGoOn calls (node_step object n input)
   step-goes n (FrameInput frame) calls h = core-goes n (ring_step n.core (CoreFrame frame)) calls h

@@ -5,7 +5,8 @@ use Rattle.ring_log.specs.Logs.{Log, is_log_length, committed_upto, committed_ca
 use Rattle.ring_log.specs.Stays.{hears}
 use Rattle.ring_log.specs.Lives.{is_sound}
 use Rattle.ring_replica.specs.Courses.{Course, covered, left, dues_heard}
-use Rattle.ring_replica.proofs.CourseGoesOn.{kept-as, kept-hears, sound-hears, due-hears, sound-short}
+use Rattle.ring_log_proof.proofs.SoundLives.{sound-short}
+use Rattle.ring_replica.proofs.CourseGoesOn.{kept-as, kept-hears, sound-hears, due-hears}
 use Rattle.ring_replica.proofs.course.Course.hear.Goals as goal
 
 pub hear-requires : goal.hear-requires
