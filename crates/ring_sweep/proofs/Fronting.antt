@@ -1,55 +1,47 @@
--- Whether the calls that take effect of a list are a front of another.
-use Rattle.std.proofs.Common.{◌≡◌, ℕ, ◌+◌, ◌≤◌, Bool, true, false, List, [], ◌∷◌, ◌++◌, take, drop, length}
-use Rattle.std.proofs.Common.{Some, slice_get, sym, ap, subst, ◌∙◌, arith, append-nil}
-use Rattle.std.specs.Prelude.{if◌then◌else◌}
-use Rattle.std.proofs.lemmas.List.{take-append-drop, length-take, take_all}
+-- Whether calls are a front of an order.
+use Rattle.std.proofs.Common.{◌≡◌, ℕ, zero, suc, ◌+◌, ◌<◌, ◌≤◌, ◌↔◌, true, false, IsTrue, List, [], ◌∷◌, length, Some, slice_get, refl, ap, sym, ◌∙◌, arith, inl, inr}
 use Rattle.std.proofs.lemmas.Option.{slice_get_within}
-use Rattle.ring_base.specs.Fronts.{IsFront, front_trans, front_get}
-use Rattle.ring_payload.specs.declared.call.Call.{Call}
-use Rattle.ring_session.specs.Deduplicated.{takes_effect, deduplicated}
-use Rattle.ring_session.specs.DeduplicatedLaws.{deduplicated-push, deduplicated-front}
-use Rattle.ring_base.proofs.Rows.{take-more}
-use Rattle.ring_base.proofs.ListPlaces.{get-last}
+use Rattle.ring_base.specs.Fronts.{IsFront, front_get, front_length}
+use Rattle.ring_rules.proofs.FirstPassing.{EachUpTo}
+use Rattle.ring_rules.proofs.Linear.{below_or_not}
 
--- So many of these calls were looked at, and so many places of the order are those that took effect.
-pub record IsInFront {A : Type 0} (calls order : List (Call A)) (k place : ℕ) : Type 0 where
-  pub within : place ≤ length order
-  pub same : deduplicated (take k calls) ≡ take place order
+-- what stands at each place of the first list stands there in the second
+front_from_places : {X : Type 0} (xs ys : List X) → ((p : ℕ) (x : X) → slice_get xs p ≡ Some x → slice_get ys p ≡ Some x) → IsFront xs ys
+front_from_places [] ys same = (ys, refl)
+front_from_places (x ∷ xs) [] same = absurd (cc (same zero x refl))
+front_from_places (x ∷ xs) (y ∷ ys) same =
+    let head : Some y ≡ Some x = same zero x refl in
+    let rest = front_from_places xs ys (λ p z at. same (suc p) z at) in
+    (rest.0, cc (head, rest.1))
 
-module _ {A : Type 0} (calls order : List (Call A)) (k place : ℕ) (c : Call A) (here : slice_get calls k ≡ Some c)
-    (so_far : IsInFront calls order k place) where
-  pushed : (b : Bool) → takes_effect (take place order) c ≡ b → deduplicated (take (k + 1) calls) ≡ take place order ++ (if b then c ∷ [] else [])
-  pushed b is =
-      ap deduplicated (take-more calls k c here)
-      ∙ (deduplicated-push (take k calls) c
-      ∙ ap (λ kept. kept ++ (if takes_effect kept c then c ∷ [] else [])) so_far.same
-      ∙ ap (λ (t : Bool). take place order ++ (if t then c ∷ [] else [])) is)
+-- so it is at the places so far
+abbrev pub AreSame : {X : Type 0} → List X → List X → ℕ → Type 0
+AreSame {X} xs ys n = EachUpTo (λ p x. slice_get ys p ≡ Some x) xs n
 
-  -- the call takes effect, and is the order's next
-  pub front_next : takes_effect (take place order) c ≡ true → slice_get order place ≡ Some c → IsInFront calls order (k + 1) (place + 1)
-  front_next takes next = record {
-    within = let inside = slice_get_within order place c next in omega (arith, inside);
-    same = pushed true takes ∙ sym (take-more order place c next);
-  }
+pub same-more : {X : Type 0} (xs ys : List X) (n : ℕ) (x : X) → AreSame xs ys n → slice_get xs n ≡ Some x → slice_get ys n ≡ Some x
+    → AreSame xs ys (n + 1)
+same-more xs ys n x same at there p z within here =
+    elim (below_or_not p n) as (λ _. slice_get ys p ≡ Some z) [
+      | inl before ↦ same p z before here
+      | inr past ↦
+          let place : n ≡ p = omega (arith, within, past) in
+          ap (slice_get ys) (sym place) ∙ there ∙ sym at ∙ ap (slice_get xs) place ∙ here
+    ]
 
-  -- the call takes no effect
-  pub front_same : takes_effect (take place order) c ≡ false → IsInFront calls order (k + 1) place
-  front_same not = record { within = so_far.within; same = pushed false not ∙ append-nil (take place order) }
+pub begins-all : {X : Type 0} (xs ys : List X) (n : ℕ) → length xs ≤ n → AreSame xs ys n → IsTrue true ↔ IsFront xs ys
+begins-all xs ys n all same = (
+  λ _. front_from_places xs ys (λ p x at. same p x (omega (arith, all, slice_get_within xs p x at)) at),
+  λ _. refl,
+)
 
-  -- the call takes effect, so it is the order's next, if all is a front
-  pub front_must : takes_effect (take place order) c ≡ true → IsFront (deduplicated calls) order → slice_get order place ≡ Some c
-  front_must takes front =
-      let part : IsFront (take place order ++ c ∷ []) (deduplicated calls) =
-      subst (λ kept. IsFront kept (deduplicated calls)) (pushed true takes)
-      (deduplicated-front (take (k + 1) calls) calls (drop (k + 1) calls, take-append-drop (k + 1) calls)) in
-      let whole = front_trans (take place order ++ c ∷ []) (deduplicated calls) order part front in
-      let many : length (take place order) ≡ place = grind (arith, length-take place order, so_far.within) in
-      subst (λ (n : ℕ). slice_get order n ≡ Some c) many
-      (front_get (take place order ++ c ∷ []) order (length (take place order)) c whole (get-last (take place order) c))
+pub begins-longer : {X : Type 0} (xs ys : List X) → length ys < length xs → IsTrue false ↔ IsFront xs ys
+begins-longer xs ys longer = (λ so. absurd (cc so), λ front. absurd (omega (arith, longer, front_length xs ys front)))
 
--- all calls were looked at
-pub front_all : {A : Type 0} (calls order : List (Call A)) (k place : ℕ) → length calls ≤ k → IsInFront calls order k place
-    → IsFront (deduplicated calls) order
-front_all calls order k place most so_far =
-    let same : deduplicated calls ≡ take place order = ap deduplicated (sym (take_all k calls most)) ∙ so_far.same in
-    subst (λ kept. IsFront kept order) (sym same) (drop place order, take-append-drop place order)
+pub begins-other : {X : Type 0} (xs ys : List X) (n : ℕ) (x y : X) → slice_get xs n ≡ Some x → slice_get ys n ≡ Some y → (x ≡ y → ⊥)
+    → IsTrue false ↔ IsFront xs ys
+begins-other xs ys n x y at there other = (
+  λ so. absurd (cc so),
+  λ front.
+      let one : Some x ≡ Some y = sym (front_get xs ys n x front at) ∙ there in
+      absurd (other (cc one)),
+)

@@ -1,4 +1,4 @@
--- Fronting: Whether the calls that take effect of a list are a front of another.
+-- Fronting: Whether calls are a front of an order.
 -- Legality: Whether a run is legal.
 -- Placing: Each stop and each cut has its place among the variants.
 -- Staging: A script under way into which something is put: what its steps come to.

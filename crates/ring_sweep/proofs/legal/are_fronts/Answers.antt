@@ -8,8 +8,8 @@ use Rattle.ring_world.specs.Played.{world_of}
 use Rattle.ring_sweep.proofs.Legality.{up_next}
 use Rattle.ring_sweep.proofs.legal.are_fronts.Goals as goal
 
-pub returns-then-not-is_front : goal.returns-then-not-is_front
-returns-then-not-is_front g c = (
+pub returns-then-not-front-clause-ok : goal.returns-then-not-front-clause-ok
+returns-then-not-front-clause-ok g c = (
   λ untrue. absurd (cc (untrue)),
   λ all.
       let w = world_of g.O.Object.sequential c.args.world.now in
@@ -20,7 +20,7 @@ returns-then-not-is_front g c = (
       let most : node ≤ c.args.world.now.group.count = omega (arith, c.loop-before-test.true, c.count-before-end.ensures.value, count) in
       let front = subst (λ (cs : List (Call g.row.O-Alloc.Denot)). IsFront (deduplicated cs) c.args.order.now) (sym same)
       (all node (omega arith) most) in
-      sym c.if-not-is_front.true ∙ c.is_front.ensures.1 front,
+      sym c.if-not-front.true ∙ c.in_ok-front.ensures.ok.1 front,
 )
 
 pub loop-before-preserved : goal.loop-before-preserved
@@ -31,4 +31,4 @@ loop-before-preserved g c =
     c.committed.ensures ∙ ap node_committed (c.node-node.ensures ∙ ap w.nodes c.new-proc.ensures) in
     up_next (λ (n : ℕ). IsFront (deduplicated (node_committed (w.nodes n))) c.args.order.now) c.loop-before.before c.loop-before.invariant
     (subst (λ (cs : List (Call g.row.O-Alloc.Denot)). IsFront (deduplicated cs) c.args.order.now) same
-    (c.is_front.ensures.0 c.if-not-is_front.false))
+    (c.in_ok-front.ensures.ok.0 c.if-not-front.false))
