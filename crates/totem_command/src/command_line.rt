@@ -30,6 +30,11 @@ pub(crate) enum Task<'a> {
     },
     /// To make, run and check the scripts of many seeds.
     Explore(Explored),
+    /// To run this node of a group with these votes, as records drive it.
+    Node {
+        me: u8,
+        votes: Votes,
+    },
 }
 
 /// What is asked for of a script: its file, in which way it is run, and whether a fault in it is explained.
@@ -145,6 +150,23 @@ Exit status:
 Example:
   totem explore --nodes 5 --seeds 1..1000 --events 200";
 
+/// What `totem node --help` ends with.
+const NODE_HELP: &str = "\
+Records come on standard input, and what the node tells of each goes out in records on standard
+output before the next is read: docs/FORMATS.md, Records, has them. The program that drives it owns
+the network and the clock. A node that ended must not come back under its number in this group, and
+only frames of this group may be handed to it.
+
+Exit status:
+  0  the input ended
+  1  `totem: NUMBER TEXT` on standard error says why the node ended before its input: a record asks
+     for nothing, or is not whole; memory was refused for one, or to begin with; or the number is
+     above the group's. Nothing is there where the output failed
+  2  a bad command line, or a call for help
+
+Example:
+  totem node --me 1 --of 3";
+
 /// What is said where there is no command.
 const NO_COMMAND: &str = "no command was given";
 
@@ -190,6 +212,7 @@ fn task_in<'a>(name: &str, of: &ArgMatches<'a>) -> Result<Task<'a>, &'static str
     match name {
         "gen" => generate_in(of),
         "explore" => explore_in(of),
+        "node" => node_in(of),
         "live" => live_in(of).ok_or(NO_COMMAND),
         _ => file_in(name, of).ok_or(NO_COMMAND),
     }
@@ -253,6 +276,14 @@ fn explore_in<'a>(of: &ArgMatches<'a>) -> Result<Task<'a>, &'static str> {
     }))
 }
 
+/// The task of `node`, or what is wrong with its words.
+fn node_in<'a>(of: &ArgMatches<'a>) -> Result<Task<'a>, &'static str> {
+    let me = of.get_one::<u8>("me").ok_or(NO_COMMAND)?;
+    let nodes = of.get_one::<u8>("of").ok_or(NO_COMMAND)?;
+    let votes = votes_of(nodes, of.get_str("votes")).ok_or(BAD_VOTES)?;
+    Ok(Task::Node { me, votes })
+}
+
 /// The commands, and the words of each.
 fn command_of<'a>(alloc: Global) -> Result<Command<'a>, AllocError> {
     Command::new(alloc, "totem")
@@ -266,7 +297,8 @@ fn command_of<'a>(alloc: Global) -> Result<Command<'a>, AllocError> {
         .subcommand(frames_command(alloc)?)?
         .subcommand(live_command(alloc)?)?
         .subcommand(generate_command(alloc)?)?
-        .subcommand(explore_command(alloc)?)
+        .subcommand(explore_command(alloc)?)?
+        .subcommand(node_command(alloc)?)
 }
 
 fn script_command<'a>(alloc: Global) -> Result<Command<'a>, AllocError> {
@@ -338,6 +370,15 @@ fn explore_command<'a>(alloc: Global) -> Result<Command<'a>, AllocError> {
         ))?
         .arg(votes_word(alloc))?
         .arg(threads_word(alloc))
+}
+
+fn node_command<'a>(alloc: Global) -> Result<Command<'a>, AllocError> {
+    Command::new(alloc, "node")
+        .about("Runs one node, which records on standard input drive")
+        .after_help(NODE_HELP)
+        .arg(number_of(alloc, "me", "Which node of its group it is", 16))?
+        .arg(number_of(alloc, "of", "How many nodes the group has", 16))?
+        .arg(votes_word(alloc))
 }
 
 /// The word that asks why a script is at fault.

@@ -1,6 +1,7 @@
-//! What each command does: it has `ring_sweep`, `ring_live`, `ring_script_maker` or `ring_explore` do the work.
+//! What each command does: it has `ring_sweep`, `ring_live`, `ring_script_maker`, `ring_explore` or `ring_pipe` do the work.
 
 use crate::command_line::{Explored, Task, task_of};
+use crate::node::node;
 use crate::scripts::run_script;
 use clap::Error;
 use clap::error::ErrorKind;
@@ -21,9 +22,9 @@ pub(crate) const INPUT: &str = "-";
 /// The exit status of a bad command line, and of a call for help.
 const BAD_COMMAND_LINE: u8 = 2;
 
-/// Does what the words of a command line ask for, the program's own name being the first. Where the file is `-`, what stands on
-/// `input` is read. Writes on `out` and `err` what the program writes on standard output and standard error, tells on `progress`,
-/// where there is one, how far a sweep has come, and answers the exit status.
+/// Does what the words of a command line ask for, the program's own name being the first. A node takes the records of `input`, and
+/// other commands read it where the file is `-`. Writes on `out` and `err` what the program writes on standard output and standard
+/// error, tells on `progress`, where there is one, how far a sweep has come, and answers the exit status.
 pub fn run<R: Files + AllocGlobal + Threads + Wait + Sync, I: Read, O: Write, E: Write, P: Write>(
     rt: &R,
     words: &io::Result<Vec<String>>,
@@ -44,6 +45,7 @@ pub fn run<R: Files + AllocGlobal + Threads + Wait + Sync, I: Read, O: Write, E:
             },
         ) => generate(rt.alloc(), votes.as_slice(), seed, events, out, err),
         Ok(Task::Explore(asked)) => explore_seeds(rt, &asked, out, err),
+        Ok(Task::Node { me, votes }) => node(rt.alloc(), me, votes.as_slice(), input, out, err),
         Err(error) => tell(&error, out, err),
     }
 }

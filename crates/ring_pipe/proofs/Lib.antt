@@ -1,0 +1,7 @@
+pub mod Acts
+pub mod Fates
+pub mod Limits
+pub mod Served
+pub mod Submits
+pub mod Telling
+pub mod Writing

@@ -1,0 +1,109 @@
+-- A node that takes one record more, and where its input ends.
+use Rattle.std.proofs.Common.{◌≡◌, ℕ, ◌⊎◌, inl, inr, List, [], ◌∷◌, ◌++◌, length, Option, Some, None, Result, Ok, Err, refl, subst, sym, arith}
+use Rattle.std.specs.Prelude.{IfErr, IsErrAnd}
+use Rattle.std.specs.Io.Iter.{u64_saturate}
+use Rattle.std.specs.Io.KnownBytes.{Keeps, Appends}
+use Rattle.std.proofs.KnownBytes.{Consumes-nil, Consumes-trans, Consumes-kept, Appends-nil, Appends-trans, Appends-kept}
+use Rattle.std.proofs.lemmas.List.{length-append}
+use Rattle.ring_base.specs.declared.fault.Fault.{Fault}
+use Rattle.ring_base.specs.declared.fault.Fault.TheVariants.{Memory, NotMember}
+use Rattle.ring_object.specs.Operations.{Sequential}
+use Rattle.ring_records.specs.Records.{record_of}
+use Rattle.ring_report.specs.declared.failure.Failure.{Failure}
+use Rattle.ring_report.specs.declared.failure.Failure.TheVariants.{Refused, BadFrame, BadScript, Output}
+use Rattle.ring_rules.specs.Nodes.{Node}
+use Rattle.ring_pipe.specs.Piping.{Writes}
+use Rattle.ring_pipe.specs.Serving.{records_text, IsStop, ServesNext, Serves, IsServed, IsCutOff}
+
+-- what was written is kept
+pub written_kept : (old mid new : Option (List ℕ)) (P : List ℕ → Type 0) → Writes old mid P → Keeps mid new → Writes old new P
+written_kept old mid new P w kept = record { text = w.text; told = Appends-kept old mid new w.text w.told kept; holds = w.holds }
+
+-- a node that can't begin lacks memory, or is none of its group
+pub why_none : (fault : Fault) (P : Type 0) → (fault ≡ Memory) ⊎ ((fault ≡ NotMember) × P) → (fault ≡ Memory) ⊎ (fault ≡ NotMember)
+why_none fault P (inl e) = inl e
+why_none fault P (inr both) = inr both.0
+
+module _ {O A : Type 0} (object : Sequential O) where
+  -- the records before this byte were taken
+  pub record ServesTo (at : ℕ) (old new : Node A) (input rest out out' : Option (List ℕ)) : Type 0 where
+    pub so : Serves object old new input rest out out'
+    pub place : at ≡ u64_saturate (length (records_text so.records))
+
+  -- nothing is read yet
+  pub served_none : (old : Node A) (input out : Option (List ℕ)) → ServesTo 0 old old input input out out
+  served_none old input out = record {
+    so = record { records = []; text = []; read = Consumes-nil input; took = (refl, refl); told = Appends-nil out };
+    place = omega arith;
+  }
+
+  -- one record more
+  pub served_more : (at next : ℕ) (old mid new : Node A) (input left rest out told out' : Option (List ℕ))
+      → ServesTo at old mid input left out told → ServesNext object at (Some next) mid new left rest told out' → ServesTo next old new input rest out out'
+  served_more at next old mid new input left rest out told out' to taken =
+      let so = to.so in
+      let r = taken.0 in
+      let writes = taken.2 in
+      let bytes = record_of r.kind r.bytes in
+      record {
+        so = record {
+          records = r ∷ so.records;
+          text = so.text ++ writes.text;
+          read = Consumes-trans input left rest (records_text so.records) bytes so.read taken.1;
+          took = (mid, so.text, writes.text, so.took, writes.holds, refl);
+          told = Appends-trans out told out' so.text writes.text so.told writes.told;
+        };
+        place = omega (arith, to.place, taken.3, length-append (records_text so.records) bytes);
+      }
+
+  -- there is no next record, and the output is as it was
+  cut_here : (at : ℕ) (old new : Node A) (input left out told out' : Option (List ℕ)) (failure : Failure) → ServesTo at old new input left out told
+      → out' ≡ told → IsStop at failure
+      → (n : Node A) × (rest : Option (List ℕ)) × (so : Serves object old n input rest out out') × IsStop (u64_saturate (length (records_text so.records))) failure
+  cut_here at old new input left out told out' failure to same stop =
+      let so = to.so in (
+        new,
+        left,
+        record {
+          records = so.records;
+          text = so.text;
+          read = so.read;
+          took = so.took;
+          told = subst (λ (o : Option (List ℕ)). Appends out o so.text) (sym same) so.told;
+        },
+        subst (λ (n : ℕ). IsStop n failure) to.place stop,
+      )
+
+  -- there is no next record
+  pub served_cut : (at : ℕ) (old new : Node A) (input left out told out' : Option (List ℕ)) (failure : Failure) → ServesTo at old new input left out told
+      → ((failure ≡ Output → ⊥) → out' ≡ told) → IsStop at failure → IsCutOff object old input out out' failure
+  served_cut at old new input left out told out' (Refused fault) to same stop =
+      cut_here at old new input left out told out' (Refused fault) to (same (λ e. absurd (cc e))) stop
+  served_cut at old new input left out told out' (BadFrame byte) to same stop =
+      cut_here at old new input left out told out' (BadFrame byte) to (same (λ e. absurd (cc e))) stop
+  served_cut at old new input left out told out' (BadScript line) to same stop = absurd stop
+  served_cut at old new input left out told out' Output to same stop = tt
+
+  -- no record is left: those before are the whole input
+  pub served_end : (at : ℕ) (old new last : Node A) (input left rest out told out' : Option (List ℕ)) → ServesTo at old new input left out told
+      → ServesNext object at None new last left rest told out' → IsServed object old input rest out out'
+  served_end at old new last input left rest out told out' to none =
+      let so = to.so in (
+        new,
+        record {
+          records = so.records;
+          text = so.text;
+          read = Consumes-kept input left rest (records_text so.records) so.read none.1;
+          took = so.took;
+          told = subst (λ (o : Option (List ℕ)). Appends out o so.text) (sym none.3) so.told;
+        },
+        none.2,
+      )
+
+  -- nothing was read
+  pub cut_at_once : {T : Type 0} (r : Result T Failure) (fault : Fault) (old : Node A) (input out : Option (List ℕ))
+      → IsErrAnd r (λ (f : Failure). f ≡ Refused fault) → (fault ≡ Memory) ⊎ (fault ≡ NotMember) → IfErr r (IsCutOff object old input out out)
+  cut_at_once (Ok x) fault old input out is why = tt
+  cut_at_once (Err failure) fault old input out is why =
+      subst (λ (f : Failure). IsCutOff object old input out out f) (sym is)
+      (served_cut 0 old old input input out out out (Refused fault) (served_none old input out) (λ other. refl) why)

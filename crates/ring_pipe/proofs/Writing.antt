@@ -1,0 +1,49 @@
+-- What an output grew by, as it is said of several texts and of what comes of a record.
+use Rattle.std.proofs.Common.{◌≡◌, ℕ, ◌≤◌, List, ◌++◌, length, Option, Result, Ok, Err, sym, subst}
+use Rattle.std.specs.Prelude.{OnOk, IfErr, IsErrAnd}
+use Rattle.std.specs.Io.KnownBytes.{Appends}
+use Rattle.std.proofs.KnownBytes.{Appends-trans}
+use Rattle.ring_object.specs.Operations.{Sequential}
+use Rattle.ring_rules.specs.Nodes.{Node}
+use Rattle.ring_records.specs.Asking.{Asks}
+use Rattle.ring_records.specs.declared.asked.Asked.{Asked}
+use Rattle.ring_records.specs.declared.asked.Asked.TheVariants.{Frame, Timeout, Call, Stop, Standing}
+use Rattle.ring_pipe.specs.Piping.{Does, Takes, Writes}
+
+-- a text was written of which this holds
+pub writes : {T E : Type 0} (r : Result T E) (out out' : Option (List ℕ)) (text : List ℕ) (P : List ℕ → Type 0)
+    → OnOk r (Appends out out' text) → P text → OnOk r (Writes out out' P)
+writes (Ok x) out out' text P told holds = record { text = text; told = told; holds = holds }
+writes (Err e) out out' text P told holds = tt
+
+-- what holds of the text holds otherwise
+pub writes_as : {T E : Type 0} (r : Result T E) (out out' : Option (List ℕ)) (P Q : List ℕ → Type 0) → ((text : List ℕ) → P text → Q text)
+    → OnOk r (Writes out out' P) → OnOk r (Writes out out' Q)
+writes_as (Ok x) out out' P Q f w = record { text = w.text; told = w.told; holds = f w.text w.holds }
+writes_as (Err e) out out' P Q f w = tt
+
+-- a text was written behind another one
+pub writes_then : {T E : Type 0} (r : Result T E) (old mid new : Option (List ℕ)) (text more : List ℕ) → Appends old mid text
+    → OnOk r (Appends mid new more) → OnOk r (Appends old new (text ++ more))
+writes_then (Ok x) old mid new text more told then = Appends-trans old mid new text more told then
+writes_then (Err e) old mid new text more told then = tt
+
+-- the bytes of a call's record are twelve at least
+pub call_long : (kind : ℕ) (bytes : List ℕ) (what : Asked) → Asks kind bytes what → (client number : ℕ) → what ≡ Call client number → 12 ≤ length bytes
+call_long kind bytes (Call c n) asks client number e = asks.1
+call_long kind bytes Frame asks client number e = absurd cc
+call_long kind bytes (Timeout t) asks client number e = absurd cc
+call_long kind bytes Stop asks client number e = absurd cc
+call_long kind bytes Standing asks client number e = absurd cc
+
+module _ {O A : Type 0} (object : Sequential O) where
+  -- what a record asks for was done, and so it was taken
+  pub writes_taken : (out out' : Option (List ℕ)) (old : Node A) (kind : ℕ) (bytes : List ℕ) (what : Asked) (new : Node A) → Asks kind bytes what
+      → Writes out out' (λ text. Does object old bytes what new text) → Writes out out' (λ text. Takes object old kind bytes new text)
+  writes_taken out out' old kind bytes what new asks w =
+      record { text = w.text; told = w.told; holds = record { what = what; asks = asks; does = w.holds } }
+
+-- what holds of an error holds of the result that it is
+pub value_at_err : {T E : Type 0} (r : Result T E) (f : E) (P : E → Type 0) → IsErrAnd r (λ (e : E). e ≡ f) → P f → IfErr r P
+value_at_err (Ok x) f P is p = tt
+value_at_err (Err e) f P is p = subst P (sym is) p

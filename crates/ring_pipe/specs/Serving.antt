@@ -1,0 +1,68 @@
+-- A node that takes the records of an input, one after the other: Records, of docs/FORMATS.md.
+use Rattle.std.specs.Prelude.{◌≡◌, ℕ, ◌+◌, ◌⊎◌, List, [], ◌∷◌, ◌++◌, length, Option, Some, None}
+use Rattle.std.specs.Io.Iter.{u64_saturate}
+use Rattle.std.specs.Io.KnownBytes.{Keeps, Appends, Consumes, IsAtEnd}
+use Rattle.ring_base.specs.declared.fault.Fault.TheVariants.{Memory, NotMember}
+use Rattle.ring_object.specs.Operations.{Sequential}
+use Rattle.ring_records.specs.Records.{record_of}
+use Rattle.ring_report.specs.declared.failure.Failure.{Failure}
+use Rattle.ring_report.specs.declared.failure.Failure.TheVariants.{Refused, BadFrame, BadScript, Output}
+use Rattle.ring_rules.specs.Nodes.{Node}
+use Rattle.ring_pipe.specs.Piping.{Takes, Writes}
+
+-- a record: its kind and its bytes
+pub record Record : Type 0 where
+  pub kind : ℕ
+  pub bytes : List ℕ
+
+-- records that were read, the newest first, as they stood in the input
+abbrev pub records_text : List Record → List ℕ
+records_text [] = []
+records_text (r ∷ before) = records_text before ++ record_of r.kind r.bytes
+
+-- the first byte of an input behind a record that begins at this byte, counted from 0
+abbrev pub behind : ℕ → Record → ℕ
+behind at r = u64_saturate (at + length (record_of r.kind r.bytes))
+
+-- why no more records are taken where the next one begins at this byte: for want of memory; since there is no such processor; since the
+-- record asks for nothing that a node does, or isn't there whole; or since the output failed
+abbrev pub IsStop : ℕ → Failure → Type 0
+IsStop at (Refused fault) = (fault ≡ Memory) ⊎ (fault ≡ NotMember)
+IsStop at (BadFrame byte) = byte ≡ at
+IsStop at (BadScript line) = ⊥
+IsStop at Output = Unit {0}
+
+module _ {O A : Type 0} (object : Sequential O) where
+  -- a node took the records, the newest first here, and told all this, of each behind what it told of those before
+  abbrev pub TakesAll : Node A → List Record → Node A → List ℕ → Type 0
+  TakesAll old [] new text = (new ≡ old) × (text ≡ [])
+  TakesAll old (r ∷ before) new text =
+      (mid : Node A) × (told : List ℕ) × (more : List ℕ) × TakesAll old before mid told × Takes object mid r.kind r.bytes new more
+      × (text ≡ told ++ more)
+
+  -- the record that begins at this byte was taken, what it asked for was told, and the next begins behind it; or none was left
+  abbrev pub ServesNext : ℕ → Option ℕ → Node A → Node A → Option (List ℕ) → Option (List ℕ) → Option (List ℕ) → Option (List ℕ) → Type 0
+  ServesNext at (Some next) old new input rest out out' =
+      (r : Record) × Consumes input rest (record_of r.kind r.bytes) × Writes out out' (λ text. Takes object old r.kind r.bytes new text)
+      × (next ≡ behind at r)
+  ServesNext at None old new input rest out out' = (new ≡ old) × Keeps input rest × IsAtEnd rest × (out' ≡ out)
+
+  -- the records stood at the front of the input, of which the rest is left; the node took them, and the output has what it told
+  pub record Serves (old new : Node A) (input rest out out' : Option (List ℕ)) : Type 0 where
+    pub records : List Record
+    pub text : List ℕ
+    pub read : Consumes input rest (records_text records)
+    pub took : TakesAll old records new text
+    pub told : Appends out out' text
+
+  -- the input was records, one after the other, nothing of it is left, and the node took each
+  abbrev pub IsServed : Node A → Option (List ℕ) → Option (List ℕ) → Option (List ℕ) → Option (List ℕ) → Type 0
+  IsServed old input rest out out' = (new : Node A) × Serves old new input rest out out' × IsAtEnd rest
+
+  -- where it is not the output that failed, the node took each of the records before, the output has no more than it told of these, and
+  -- the failure is why there are no more
+  abbrev pub IsCutOff : Node A → Option (List ℕ) → Option (List ℕ) → Option (List ℕ) → Failure → Type 0
+  IsCutOff old input out out' Output = Unit {0}
+  IsCutOff old input out out' failure =
+      (new : Node A) × (rest : Option (List ℕ)) × (so : Serves old new input rest out out')
+      × IsStop (u64_saturate (length (records_text so.records))) failure

@@ -1,0 +1,46 @@
+//! Each request for memory of a node that takes four records refused in turn.
+
+use crate::served::served_on;
+use refusing_alloc::{Refusing, refuse_in_turn};
+use std::alloc::{AllocError, Global};
+use std::test::Fail;
+
+/// A call, the join timeout, a stop, and a question.
+const INPUT: [u8; 35] = [
+    0x43, 0, 0x16, 0, 0, 0, 7, 0, 0, 0, 0, 0, 0, 0, 1, 1, 0, 0, 0, 0, 0, 0, 0, 0, 5, 0x54, 0, 1, 1,
+    0x53, 0, 0, 0x51, 0, 0,
+];
+
+/// A refusal for want of memory, as a record.
+const REFUSED: [u8; 4] = [0x58, 0, 1, 11];
+
+/// The line on standard error where the node can't begin.
+const LINE: &str = "totem: 11 out of memory\n";
+
+/// Whether a refusal stands in what was told, or ended the node before it told anything.
+fn tells_refusal(out: &[u8], err: &[u8], status: u8) -> bool {
+    let mut found = status == 1 && out.is_empty() && err == LINE.as_bytes();
+    for place in 0..out.len() {
+        found = found || out[place..].starts_with(&REFUSED) && status == 0;
+    }
+    found
+}
+
+/// What a node makes of the records where a request is refused.
+fn told_on(alloc: Global, heap: &Refusing) -> Result<(), AllocError> {
+    let Ok(served) = served_on(alloc, heap, &INPUT) else {
+        return Ok(());
+    };
+    match tells_refusal(served.out.as_slice(), served.err.as_slice(), served.status) {
+        true => Err(AllocError),
+        false => Ok(()),
+    }
+}
+
+#[test]
+fn each_refused_request_is_told(rt: HostRuntime) -> Result<(), Fail> {
+    let alloc = rt.alloc();
+    let refused = refuse_in_turn(alloc, &|heap: &Refusing| told_on(alloc, heap));
+    assert!(rt; refused.is_some_and(|count| count > 5));
+    Ok(())
+}

@@ -1,0 +1,51 @@
+-- A record is read and written part by part.
+use Rattle.std.proofs.Common.{◌≡◌, ℕ, ◌+◌, List, [], ◌∷◌, ◌++◌, length, Option, Some, None, Result, ◌*◌, ◌<◌, ◌/◌, ◌%◌, sym, ap, subst, ◌∙◌, append_assoc, arith}
+use Rattle.std.specs.Prelude.{OnOk}
+use Rattle.std.specs.Io.KnownBytes.{Keeps, Appends, Consumes, IsAtEnd}
+use Rattle.std.proofs.KnownBytes.{Consumes-trans}
+use Rattle.byteorder.specs.Endian.{big_bytes}
+use Rattle.ring_records.specs.Records.{record_of, IsNextByte}
+
+-- the kind was taken, the two bytes of the length, and the bytes
+pub record_read : (a b c d : Option (List ℕ)) (kind : ℕ) (word bytes : List ℕ) → big_bytes 2 (length bytes) ≡ word
+    → Consumes a b (kind ∷ []) → Consumes b c word → Consumes c d bytes → Consumes a d (record_of kind bytes)
+record_read a b c d kind word bytes e p q r =
+    subst (λ (w : List ℕ). Consumes a d (kind ∷ [] ++ w ++ bytes)) (sym e)
+    (Consumes-trans a b d (kind ∷ []) (word ++ bytes) p (Consumes-trans b c d word bytes q r))
+
+-- what was read of no more than one byte, after reads that took nothing: none, at the end
+pub none_read : (a b c : Option (List ℕ)) → Keeps a b → Consumes b c [] → IsAtEnd c → IsNextByte a c None
+none_read None b c p q end = (tt, end)
+none_read (Some x) None c p q end = absurd p
+none_read (Some x) (Some y) None p q end = absurd q
+none_read (Some x) (Some y) (Some z) p q end = (sym q ∙ p, end)
+
+-- or one
+pub one_read : (a b c : Option (List ℕ)) (byte : ℕ) → Keeps a b → Consumes b c (byte ∷ []) → IsNextByte a c (Some byte)
+one_read None b c byte p q = tt
+one_read (Some x) None c byte p q = absurd p
+one_read (Some x) (Some y) None byte p q = absurd q
+one_read (Some x) (Some y) (Some z) byte p q = sym p ∙ q
+
+-- two bytes were taken, and they are a length
+pub length_read : (a b c : Option (List ℕ)) (high low count : ℕ) → high < 256 → low < 256 → count ≡ 256 * high + low
+    → Consumes a b (high ∷ []) → Consumes b c (low ∷ []) → Consumes a c (big_bytes 2 count)
+length_read a b c high low count small less is p q =
+    let first : count / 256 % 256 ≡ high = omega (arith, is, small, less) in
+    let last : count % 256 ≡ low = omega (arith, is, small, less) in
+    subst (λ (x : ℕ). Consumes a c (x ∷ count % 256 ∷ [])) (sym first)
+    (subst (λ (x : ℕ). Consumes a c (high ∷ x ∷ [])) (sym last) (Consumes-trans a b c (high ∷ []) (low ∷ []) p q))
+
+-- what was written, with the parts of the record as they are otherwise known
+pub told_as : {T E : Type 0} (r : Result T E) (old new : Option (List ℕ)) (kind : ℕ) (first rest first' rest' : List ℕ) → first ≡ first' → rest ≡ rest'
+    → OnOk r (Appends old new (record_of kind (first ++ rest))) → OnOk r (Appends old new (record_of kind (first' ++ rest')))
+told_as r old new kind first rest first' rest' p q told =
+    subst (λ (x : List ℕ). OnOk r (Appends old new (record_of kind (x ++ rest')))) p
+    (subst (λ (y : List ℕ). OnOk r (Appends old new (record_of kind (first ++ y)))) q told)
+
+-- a frame's record is behind what stood there: its head and then its spelling
+pub frame_behind : (out mid new head spelled text : List ℕ) (to : ℕ) → mid ≡ out ++ head → new ≡ mid ++ spelled → spelled ≡ text
+    → head ≡ 70 ∷ big_bytes 2 (length (big_bytes 2 to ++ text)) ++ big_bytes 2 to → new ≡ out ++ record_of 70 (big_bytes 2 to ++ text)
+frame_behind out mid new head spelled text to p q same is =
+    q ∙ ap (λ (x : List ℕ). x ++ spelled) p ∙ append_assoc out head spelled ∙ ap (λ (x : List ℕ). out ++ x)
+    (ap (λ (x : List ℕ). x ++ spelled) is ∙ ap (λ (x : List ℕ). (70 ∷ big_bytes 2 (length (big_bytes 2 to ++ text)) ++ big_bytes 2 to) ++ x) same)

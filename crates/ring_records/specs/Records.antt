@@ -1,0 +1,18 @@
+-- Records: a kind, a length in two bytes, and that many bytes. Records, of docs/FORMATS.md.
+use Rattle.std.specs.Prelude.{ℕ, ◌^◌, ◌<◌, List, [], ◌∷◌, ◌++◌, length, Option, Some, None}
+use Rattle.std.specs.Io.KnownBytes.{Keeps, Consumes, IsAtEnd}
+use Rattle.byteorder.specs.Endian.{big_bytes}
+
+-- a record of this kind and these bytes
+abbrev pub record_of : ℕ → List ℕ → List ℕ
+record_of kind bytes = kind ∷ [] ++ big_bytes 2 (length bytes) ++ bytes
+
+-- nothing was left, or the record stood at the front of what was left, and it is taken
+abbrev pub IsNext : Option (List ℕ) → Option (List ℕ) → Option ℕ → List ℕ → Type 0
+IsNext old new None bytes = Keeps old new × IsAtEnd new
+IsNext old new (Some kind) bytes = Consumes old new (record_of kind bytes) × (length bytes < 2 ^ 16)
+
+-- the same of one byte
+abbrev pub IsNextByte : Option (List ℕ) → Option (List ℕ) → Option ℕ → Type 0
+IsNextByte old new None = Keeps old new × IsAtEnd new
+IsNextByte old new (Some byte) = Consumes old new (byte ∷ [])

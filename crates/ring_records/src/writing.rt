@@ -1,0 +1,28 @@
+//! Writing records.
+
+ghost use Rattle.std.specs.Prelude.{◌++◌, OnOk};
+ghost use Rattle.std.specs.Io.KnownBytes.{Appends};
+ghost use Rattle.ring_records.specs.Records.{record_of};
+
+use byteorder::{BigEndian, ByteOrder};
+use std::io::{self, ErrorKind, Write};
+
+/// Writes a record of this kind, whose bytes are `first` and then `rest`. More than 65,535 bytes are an error.
+pub(crate) fn write_record<W: Write>(
+    out: &mut W,
+    kind: u8,
+    first: &[u8],
+    rest: &[u8],
+) -> io::Result<()>
+    ensures { OnOk result (Appends (W.contents out.old) (W.contents out.new) (record_of kind (first.now ++ rest.now))) }
+{
+    let Ok(length) = u16::try_from(first.len().saturating_add(rest.len())) else {
+        return Err(io::Error::from(ErrorKind::InvalidInput));
+    };
+    let mut word = [0; 2];
+    BigEndian::write_u16(&mut word, length);
+    out.write_all(&[kind])?;
+    out.write_all(&word)?;
+    out.write_all(first)?;
+    out.write_all(rest)
+}
