@@ -11,6 +11,7 @@ mod run;
 mod running;
 
 pub use listing::frames;
+pub use printed::state_word;
 pub use ring_report::{Failure, report};
 pub use ring_script::{Groups, Line, Numbered, Script, ScriptFault};
 pub use ring_world::{Pair, World};

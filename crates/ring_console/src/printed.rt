@@ -123,7 +123,7 @@ pub(crate) fn print_node<W: Write>(
     ensures line { OnOk result (Appends (W.contents out.old) (W.contents out.new) (line_of (node_text node state ring committed log))) }
     ensures failed { IfErr result (λ failure. failure ≡ Output) }
 {
-    let (node, state) = (node.number(), name_of(state));
+    let (node, state) = (node.number(), state_word(state));
     writeln!(
         out,
         "node {node} {state} {ring} committed {committed} log {log}"
@@ -149,7 +149,7 @@ pub(crate) fn print_legal<W: Write>(out: &mut W, is_legal: bool) -> Result<(), F
 }
 
 /// The word for a state.
-fn name_of(state: State) -> &'static str
+pub fn state_word(state: State) -> &'static str
     ensures { result.now ≡ state_text state }
 {
     match state {

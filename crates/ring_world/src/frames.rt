@@ -6,7 +6,7 @@ ghost use Rattle.ring_wire.specs.declared.frame.Frame.{Frame as OneFrame};
 ghost use Rattle.ring_wire.specs.Frames.{FrameFits};
 ghost use Rattle.ring_wire.specs.Spells.{Spells};
 ghost use Rattle.ring_core.specs.State.{Carried, frame_at, frame_for};
-ghost use Rattle.ring_world.specs.Stored.{HasRoom, mark_at, mark_for};
+ghost use Rattle.ring_world.specs.Stored.{HasRoom, mark_at, mark_for, text_of};
 
 use bytes::BytesMut;
 use ring_base::{FRAME_BYTES, Fault, Past, Proc, ProcSet, past_of, told};
@@ -123,6 +123,13 @@ impl<A: Allocator + Copy> Frames<A> {
             Some(mark) => decode(alloc, self.bytes.as_slice(), mark, place),
             None => Ok(()),
         }
+    }
+
+    /// The spellings of all frames, one behind the other.
+    pub(crate) fn text(&self) -> &[u8]
+        ensures { result.now ≡ text_of self.now.frames }
+    {
+        self.bytes.as_slice()
     }
 
     /// Sender and receivers of the frame of this number, if it was sent.

@@ -20,7 +20,7 @@ ghost use Rattle.ring_rules.specs.WorldLimits.{EventFits};
 ghost use Rattle.ring_rules.specs.Worlds.{carried, happens, stepped, order, world_opening};
 ghost use Rattle.ring_order_proof.specs.Projection.{share_of};
 ghost use Rattle.ring_world.specs.Played.{Played, played_opening, told_of_events, world_of, step_in, Goes, Plays};
-ghost use Rattle.ring_world.specs.Stored.{HasRoom};
+ghost use Rattle.ring_world.specs.Stored.{HasRoom, text_of};
 ghost use Rattle.ring_world.specs.Spares.{Spares as ToldSpares};
 ghost use Rattle.ring_world.specs.Synchronous.{IsSynchronous};
 
@@ -213,6 +213,13 @@ impl<O: Object> World<O> {
         ensures { result ≡ option_map (λ (f : Carried O.Alloc). (f.from, f.to)) (frame_at (world_of O.sequential self.now).frames number) }
     {
         self.frames.ends(number)
+    }
+
+    /// All frames ever sent, as they are spelled, one behind the other in the order sent.
+    pub fn sent_text(&self) -> &[u8]
+        ensures { result.now ≡ text_of (world_of O.sequential self.now).frames }
+    {
+        self.frames.text()
     }
 
     /// The group.

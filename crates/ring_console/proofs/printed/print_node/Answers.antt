@@ -20,7 +20,7 @@ returns-clause-line g c =
     let Told : List ℕ → Type 0 = λ text. OnOk c.writeln.result (Appends (g.W.Write.contents a.out.now) (g.W.Write.contents c.writeln.new.self) text) in
     let named = c.number-node.ensures.value in
     let written : Told _ = rw named at c.writeln.ensures.bytes in
-    let word = c.name_of-state.ensures in
+    let word = c.state_word-state.ensures in
     let told : Told (line_of (node_text a.node a.state a.ring a.committed a.log)) =
     subst Told (joined (codes "node ") (decimal a.node) (codes " ") (state_text a.state) (codes " ")
     (ring_text a.ring) (codes " committed ") (decimal a.committed) (codes " log ") (decimal a.log))
