@@ -1,0 +1,209 @@
+#!/usr/bin/env python3
+"""Compares what `totem trace` tells of scripts with what `totem script` prints of them.
+
+    bench/traces.py PROGRAM FOLDER..
+
+PROGRAM is the built program. Each file of the folders whose name ends with `.script` is run by both commands. Where it is a script,
+the trace, as text and as JSON, has to tell the same answers and refusals in the same order, reply by reply; after the last `show`, if
+nothing stands behind it, also the state, the installed ring and the committed length that it prints of each node. A call has to wait at
+the end where, and only where, it was taken and `script` prints no reply to it. The frames that the trace writes are listed again: there
+have to be as many as it counts, and the members told of each ring have to be those of its commit tokens. Where a file is no script,
+both commands have to end alike. Prints what was compared, and ends with 1 where anything differs.
+"""
+import collections
+import glob
+import json
+import os
+import re
+import subprocess
+import sys
+import tempfile
+
+REASONS = {
+    2: "too many pending calls",
+    4: "number used for another call",
+    5: "stale number",
+    6: "number gap",
+    7: "sessions full",
+    8: "stopped",
+    11: "out of memory",
+}
+
+
+def run(program, *words):
+    done = subprocess.run([program, *words], capture_output=True, text=True)
+    return done.returncode, done.stdout, done.stderr
+
+
+def printed_outcomes(out):
+    """Of each line of a reply or a refusal: the node, the call, what came of it, and the reply's bytes or the reason."""
+    found = []
+    for line in out.splitlines():
+        words = line.split(" ")
+        if words[0] == "reply":
+            found.append((int(words[1]), words[2], words[3], words[4] if words[3] != "refused" else REASONS[int(words[4])]))
+        elif words[0] == "refused":
+            found.append((int(words[1]), words[2], "not taken", REASONS[int(words[3])]))
+    return found
+
+
+def is_reply(words, hexadecimal):
+    """Whether words can stand for a reply: its value is told where it has one, and something is where it has none."""
+    value = hexadecimal[2:]
+    if value:
+        return words.split(" ")[-1] == str(int(value, 16))
+    return words not in ("", "unreadable") and not re.search(r"\d", words)
+
+
+def are_same(told, printed):
+    if len(told) != len(printed):
+        return False
+    for (node, call, outcome, words), (of, numbered, kind, reply) in zip(told, printed):
+        if (node, call, outcome) != (of, numbered, kind):
+            return False
+        if kind in ("done", "kept") and not is_reply(words, reply):
+            return False
+        if kind in ("refused", "not taken") and words != reply:
+            return False
+    return True
+
+
+def text_outcomes(out):
+    found = []
+    for line in out.splitlines():
+        for part in line.split("; node ")[1:]:
+            told = re.fullmatch(r"(\d+) (answers|refuses) (\d+\.\d+) (.*?): (.*)", part)
+            if not told:
+                continue
+            node, verb, call, _, words = told.groups()
+            if verb == "refuses":
+                found.append((int(node), call, "not taken", words))
+            elif words.startswith("refused, "):
+                found.append((int(node), call, "refused", words[len("refused, "):]))
+            elif words.endswith(", as before"):
+                found.append((int(node), call, "kept", words[: -len(", as before")]))
+            else:
+                found.append((int(node), call, "done", words))
+    return found
+
+
+def json_outcomes(lines):
+    return [
+        (line["node"], f"{one['client']}.{one['number']}", one["outcome"], one["reply"])
+        for line in lines
+        if line["kind"] == "event"
+        for one in line["told"]
+    ]
+
+
+def json_nodes(lines):
+    """The last state, ring and committed length told of each node."""
+    nodes = collections.defaultdict(lambda: ["gather", None, 0])
+    for line in lines:
+        if line["kind"] != "event":
+            continue
+        of = nodes[line["node"]]
+        for change in line["changes"]:
+            if "state" in change:
+                of[0] = change["state"]
+            elif "ring" in change:
+                of[0], of[1] = "operational", change["ring"]["ring"]
+            elif "committed" in change:
+                of[2] = change["committed"]
+    return nodes
+
+
+def shown_nodes(script, out):
+    """What the last `show` prints of each node, where nothing stands behind it in the script."""
+    lines = [line for line in script.splitlines() if line and not line.startswith("#")]
+    if not lines or lines[-1] != "show":
+        return {}
+    count = int(next(line for line in lines if line.startswith("nodes ")).split(" ")[1])
+    shown = [line.split(" ") for line in out.splitlines() if line.startswith("node ")][-count:]
+    return {int(words[1]): [words[2], words[3], int(words[5])] for words in shown}
+
+
+def waiting(script, printed):
+    """The calls without an answer, with their nodes, each as often as it was taken and not answered."""
+    left = collections.Counter()
+    for line in script.splitlines():
+        words = line.split(" ")
+        if words[0] == "call":
+            left[int(words[1]), f"{words[2]}.{words[3]}"] += 1
+    for node, call, _, _ in printed:
+        left[node, call] -= 1
+    return +left
+
+
+def told_waiting(lines):
+    return collections.Counter((line["node"], f"{line['client']}.{line['number']}") for line in lines if line["kind"] == "no answer")
+
+
+def told_rings(lines):
+    """The members told of each ring."""
+    return {
+        (change["ring"]["ring"], ",".join(map(str, change["ring"]["members"])))
+        for line in lines
+        if line["kind"] == "event"
+        for change in line["changes"]
+        if "ring" in change
+    }
+
+
+def committed_rings(listing):
+    """The members of each ring, by its commit tokens."""
+    words = [line.split(" ") for line in listing.splitlines() if line.startswith("commit ")]
+    return {(word[1], word[3]) for word in words}
+
+
+def compare(program, path, sent):
+    """What differs, and how many outcomes, nodes and waiting calls were compared."""
+    status, out, err = run(program, "script", path)
+    traced, text, fault = run(program, "trace", "--frames", sent, path)
+    as_json, told, _ = run(program, "trace", "--format", "json", path)
+    if (traced, as_json) != (status, status) or fault != err:
+        return "how it ends", 0, 0, 0
+    if status != 0:
+        return None, 0, 0, 0
+    with open(path) as file:
+        script = file.read()
+    lines = [json.loads(line) for line in told.splitlines()]
+    printed = printed_outcomes(out)
+    if not are_same(text_outcomes(text), printed):
+        return "the answers of the text", 0, 0, 0
+    if not are_same(json_outcomes(lines), printed):
+        return "the answers of the JSON", 0, 0, 0
+    nodes = json_nodes(lines)
+    shown = shown_nodes(script, out)
+    for node, (state, ring, committed) in shown.items():
+        has = nodes[node]
+        if (has[0], has[1] or f"0.{node}", has[2]) != (state, ring, committed):
+            return f"how node {node} stands", 0, 0, 0
+    listed, listing, _ = run(program, "frames", sent)
+    if listed != 0 or f"\nframes {len(listing.splitlines())}\n" not in text:
+        return "how many frames were sent", 0, 0, 0
+    if not told_rings(lines) <= committed_rings(listing):
+        return "the members of rings", 0, 0, 0
+    left = waiting(script, printed)
+    if told_waiting(lines) != left or text.count("\nno answer to ") != left.total():
+        return "which calls wait", 0, 0, 0
+    return None, len(printed), len(shown), left.total()
+
+
+def main():
+    program, folders = sys.argv[1], sys.argv[2:]
+    paths = [path for folder in folders for path in sorted(glob.glob(os.path.join(folder, "*.script")))]
+    differing, outcomes, nodes, calls = 0, 0, 0, 0
+    with tempfile.TemporaryDirectory() as folder:
+        for path in paths:
+            wrong, replies, shown, left = compare(program, path, os.path.join(folder, "sent"))
+            outcomes, nodes, calls = outcomes + replies, nodes + shown, calls + left
+            if wrong:
+                differing += 1
+                print(f"{path}: {wrong}", flush=True)
+    print(f"scripts {len(paths)}, answers {outcomes}, nodes {nodes}, waiting calls {calls}, differing {differing}")
+    return 1 if differing or not paths else 0
+
+
+if __name__ == "__main__":
+    sys.exit(main())

@@ -1,0 +1,12 @@
+//! A run as a picture: SVG that stands by itself. A lane for each node, coloured by its state; rings, cuts, stops and calls along it.
+#![tactic(auto)]
+
+mod frame;
+mod mark;
+mod members;
+mod picture;
+mod shapes;
+
+pub use mark::{Mark, Shade};
+pub use members::Members;
+pub use picture::Picture;

@@ -1,0 +1,22 @@
+//! Sets of nodes, as they are written.
+
+use ring_base::{Proc, ProcSet};
+use std::fmt;
+
+/// The numbers of a set's members, parted by commas.
+#[derive(Clone, Copy)]
+pub struct Members(pub ProcSet);
+
+impl fmt::Display for Members {
+    fn fmt<W: fmt::Write>(&self, f: &mut fmt::Formatter<W>) -> fmt::Result {
+        let mut parting = "";
+        for before in 0..16u8 {
+            let node = Proc::new(before + 1);
+            if self.0.contains(node) {
+                write!(f, "{parting}{node}")?;
+                parting = ",";
+            }
+        }
+        Ok(())
+    }
+}

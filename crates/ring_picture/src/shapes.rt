@@ -1,0 +1,362 @@
+//! The shapes of a picture, as SVG.
+
+use crate::frame::Frame;
+use crate::mark::Shade;
+use crate::members::Members;
+use ring_base::{Proc, ProcSet, RingId, State};
+use std::io::{self, Write};
+
+/// The height of a bar.
+const BAR: u64 = 16;
+
+/// How far below a bar's upper edge its text stands.
+const BASE: u64 = 12;
+
+/// How wide a letter is, about.
+const LETTER: u64 = 6;
+
+/// Opens the picture, and in it the strip, with the hatching of rings that are not primary.
+pub(crate) fn write_head<W: Write>(out: &mut W, frame: Frame) -> io::Result<()> {
+    let (width, height) = (frame.width(), frame.height());
+    writeln!(
+        out,
+        "<svg xmlns=\"http://www.w3.org/2000/svg\" viewBox=\"0 0 {width} {height}\" width=\"{width}\" height=\"{height}\" \
+         font-family=\"sans-serif\" font-size=\"10\">"
+    )?;
+    writeln!(
+        out,
+        "<rect width=\"{width}\" height=\"{height}\" fill=\"#ffffff\"/>"
+    )?;
+    writeln!(
+        out,
+        "<defs><pattern id=\"hatch\" width=\"6\" height=\"6\" patternUnits=\"userSpaceOnUse\" \
+         patternTransform=\"rotate(45)\"><rect width=\"6\" height=\"6\" fill=\"#d9ead3\"/>\
+         <rect width=\"1\" height=\"6\" fill=\"#6aa84f\"/></pattern>\n<g id=\"run\">"
+    )
+}
+
+/// Closes the strip.
+pub(crate) fn write_strip_end<W: Write>(out: &mut W) -> io::Result<()> {
+    writeln!(out, "</g></defs>")
+}
+
+/// A band: what it shows of the strip.
+pub(crate) fn write_band<W: Write>(out: &mut W, frame: Frame, band: u64) -> io::Result<()> {
+    let (left, top, begin) = (frame.left(), frame.top(band), frame.begin(band));
+    let (width, height) = (frame.shown(), frame.bottom());
+    writeln!(
+        out,
+        "<svg x=\"{left}\" y=\"{top}\" width=\"{width}\" height=\"{height}\" viewBox=\"{begin} 0 {width} {height}\">\
+         <use href=\"#run\"/></svg>"
+    )
+}
+
+/// Closes the picture.
+pub(crate) fn write_end<W: Write>(out: &mut W) -> io::Result<()> {
+    writeln!(out, "</svg>")
+}
+
+/// What a lane is filled with.
+fn fill_of(shade: Shade) -> &'static str {
+    match shade {
+        Shade::State(State::Gather) => "#f6d55c",
+        Shade::State(State::Commit) => "#f4a261",
+        Shade::State(State::Recovery) => "#b07aa1",
+        Shade::State(State::Operational) => "#93c47d",
+        Shade::State(State::Stopped) => "none",
+        Shade::Minority => "url(#hatch)",
+    }
+}
+
+/// A node's name, left of its lane in a band.
+pub(crate) fn write_name<W: Write>(
+    out: &mut W,
+    frame: Frame,
+    band: u64,
+    node: Proc,
+) -> io::Result<()> {
+    let lane = frame.top(band).saturating_add(frame.y(node));
+    let y = lane.saturating_add(BASE);
+    writeln!(
+        out,
+        "<text x=\"8\" y=\"{y}\" font-size=\"12\">node {node}</text>"
+    )
+}
+
+/// A bar of a lane, from a column to another.
+pub(crate) fn write_bar<W: Write>(
+    out: &mut W,
+    frame: Frame,
+    node: Proc,
+    shade: Shade,
+    from: u64,
+    to: u64,
+) -> io::Result<()> {
+    let (x, y) = (frame.x(from), frame.y(node));
+    let width = frame.x(to).saturating_sub(x);
+    let fill = fill_of(shade);
+    writeln!(
+        out,
+        "<rect x=\"{x}\" y=\"{y}\" width=\"{width}\" height=\"{BAR}\" fill=\"{fill}\" stroke=\"#444444\" stroke-width=\"0.5\"/>"
+    )
+}
+
+/// The end of a lane: its node stopped.
+pub(crate) fn write_stop<W: Write>(
+    out: &mut W,
+    frame: Frame,
+    node: Proc,
+    column: u64,
+) -> io::Result<()> {
+    let (x, y) = (frame.x(column), frame.y(node));
+    let (top, height) = (y.saturating_sub(4), BAR + 8);
+    let (beside, line) = (x.saturating_add(8), y.saturating_add(BASE));
+    writeln!(
+        out,
+        "<rect x=\"{x}\" y=\"{top}\" width=\"4\" height=\"{height}\" fill=\"#cc0000\"/>\
+         <text x=\"{beside}\" y=\"{line}\" fill=\"#cc0000\">stopped</text>"
+    )
+}
+
+/// The name and the members of a ring, in its box.
+pub(crate) fn write_ring<W: Write>(
+    out: &mut W,
+    frame: Frame,
+    node: Proc,
+    ring: RingId,
+    members: ProcSet,
+    column: u64,
+) -> io::Result<()> {
+    let x = frame.x(column).saturating_add(3);
+    let y = frame.y(node).saturating_add(BASE);
+    let members = Members(members);
+    writeln!(
+        out,
+        "<text x=\"{x}\" y=\"{y}\" stroke=\"#ffffff\" stroke-width=\"2\" stroke-opacity=\"0.7\" paint-order=\"stroke\">{ring} {{{members}}}</text>"
+    )
+}
+
+/// How much is committed, below a bar.
+pub(crate) fn write_committed<W: Write>(
+    out: &mut W,
+    frame: Frame,
+    node: Proc,
+    length: u64,
+    column: u64,
+) -> io::Result<()> {
+    let (x, y) = (
+        frame.x(column),
+        frame.y(node).saturating_add(BAR + BASE - 1),
+    );
+    writeln!(
+        out,
+        "<text x=\"{x}\" y=\"{y}\" fill=\"#674ea7\">{length}</text>"
+    )
+}
+
+/// The name of a call, where it is submitted: higher in every other column, so that long names have room.
+pub(crate) fn write_called<W: Write>(
+    out: &mut W,
+    frame: Frame,
+    node: Proc,
+    client: u32,
+    number: u64,
+    column: u64,
+) -> io::Result<()> {
+    let above = if column % 2 == 1 { 21 } else { 13 };
+    let (x, y) = (frame.x(column), frame.y(node).saturating_sub(above));
+    writeln!(
+        out,
+        "<text x=\"{x}\" y=\"{y}\" font-size=\"9\" fill=\"#1155cc\">{client}.{number}</text>"
+    )
+}
+
+/// A call, as an arc from where it was submitted to the column in which it was answered, or as a dashed one to the end where
+/// it was not.
+pub(crate) fn write_call<W: Write>(
+    out: &mut W,
+    frame: Frame,
+    node: Proc,
+    from: u64,
+    answered: Option<u64>,
+) -> io::Result<()> {
+    let stroke = match answered {
+        Some(_) => "stroke=\"#1155cc\"",
+        None => "stroke=\"#cc0000\" stroke-dasharray=\"3 2\"",
+    };
+    let to = answered.unwrap_or(frame.columns);
+    let (x, end, y) = (frame.x(from), frame.x(to), frame.y(node));
+    let (top, middle) = (y.saturating_sub(20), x.saturating_add(end) / 2);
+    writeln!(
+        out,
+        "<path d=\"M {x} {y} Q {middle} {top} {end} {y}\" fill=\"none\" {stroke}/>"
+    )
+}
+
+/// A wall through all lanes: a cut, or where it heals.
+pub(crate) fn write_wall<W: Write>(
+    out: &mut W,
+    frame: Frame,
+    column: u64,
+    stroke: &str,
+) -> io::Result<()> {
+    let (x, foot) = (frame.x(column), frame.foot());
+    writeln!(
+        out,
+        "<line x1=\"{x}\" y1=\"4\" x2=\"{x}\" y2=\"{foot}\" stroke=\"{stroke}\" stroke-width=\"2\"/>"
+    )
+}
+
+/// A side of a cut, at the top of its wall, behind so many letters.
+pub(crate) fn write_side<W: Write>(
+    out: &mut W,
+    frame: Frame,
+    column: u64,
+    side: ProcSet,
+    before: u64,
+) -> io::Result<()> {
+    let behind = before.saturating_mul(LETTER).saturating_add(4);
+    let x = frame.x(column).saturating_add(behind);
+    let members = Members(side);
+    writeln!(
+        out,
+        "<text x=\"{x}\" y=\"13\" fill=\"#cc0000\">{{{members}}}</text>"
+    )
+}
+
+/// That a cut heals, at the top of its wall.
+pub(crate) fn write_heal<W: Write>(out: &mut W, frame: Frame, column: u64) -> io::Result<()> {
+    let x = frame.x(column).saturating_add(4);
+    writeln!(
+        out,
+        "<text x=\"{x}\" y=\"13\" fill=\"#38761d\">heals</text>"
+    )
+}
+
+/// The ground of a column of rounds in which nothing changed.
+pub(crate) fn write_fold<W: Write>(out: &mut W, frame: Frame, column: u64) -> io::Result<()> {
+    let (x, width, foot) = (frame.x(column), frame.x(1), frame.foot());
+    let height = foot.saturating_sub(20);
+    writeln!(
+        out,
+        "<rect x=\"{x}\" y=\"20\" width=\"{width}\" height=\"{height}\" fill=\"#eeeeee\"/>"
+    )
+}
+
+/// Rounds in which nothing changed, below all lanes.
+pub(crate) fn write_rounds<W: Write>(
+    out: &mut W,
+    frame: Frame,
+    column: u64,
+    rounds: u64,
+) -> io::Result<()> {
+    let (x, y) = (frame.x(column), frame.foot().saturating_add(11));
+    if rounds == 0 {
+        return Ok(());
+    }
+    writeln!(
+        out,
+        "<text x=\"{x}\" y=\"{y}\" fill=\"#666666\">x{rounds}</text>"
+    )
+}
+
+/// Copies that were lost, below the rounds.
+pub(crate) fn write_lost<W: Write>(
+    out: &mut W,
+    frame: Frame,
+    column: u64,
+    lost: u64,
+) -> io::Result<()> {
+    let (x, y) = (frame.x(column), frame.foot().saturating_add(22));
+    if lost == 0 {
+        return Ok(());
+    }
+    writeln!(
+        out,
+        "<text x=\"{x}\" y=\"{y}\" fill=\"#cc0000\">-{lost}</text>"
+    )
+}
+
+/// The number of an event, below all that. Long numbers have room in every other column.
+pub(crate) fn write_event<W: Write>(
+    out: &mut W,
+    frame: Frame,
+    column: u64,
+    event: u64,
+) -> io::Result<()> {
+    let (x, y) = (frame.x(column), frame.foot().saturating_add(33));
+    if event >= 1_000 && column % 2 == 1 {
+        return Ok(());
+    }
+    writeln!(
+        out,
+        "<text x=\"{x}\" y=\"{y}\" font-size=\"7\" fill=\"#666666\">{event}</text>"
+    )
+}
+
+/// What the colours say.
+pub(crate) fn write_legend<W: Write>(out: &mut W, frame: Frame) -> io::Result<()> {
+    let mut x = 8u64;
+    for (shade, name) in [
+        (Shade::State(State::Gather), "gather"),
+        (Shade::State(State::Commit), "commit"),
+        (Shade::State(State::Recovery), "recovery"),
+        (Shade::State(State::Operational), "operational"),
+        (Shade::Minority, "operational, not primary"),
+    ] {
+        write_colour(out, frame, shade, name, x)?;
+        x = x.saturating_add(110);
+    }
+    write_words(
+        out,
+        frame,
+        42,
+        "In a box: the ring and its members. Arcs: calls to their answers, dashed red where there is none. Below a lane: how much its \
+         node has committed.",
+    )?;
+    write_words(
+        out,
+        frame,
+        56,
+        "Red wall: a cut, and its sides; green wall: it heals. Grey: rounds in which nothing changes (x20), and copies that are \
+         lost (-3). Small: the events' numbers.",
+    )
+}
+
+/// A line of the legend, so far below its begin.
+fn write_words<W: Write>(out: &mut W, frame: Frame, below: u64, words: &str) -> io::Result<()> {
+    let y = frame.legend().saturating_add(below);
+    writeln!(out, "<text x=\"8\" y=\"{y}\">{words}</text>")
+}
+
+/// A colour, and what it says.
+fn write_colour<W: Write>(
+    out: &mut W,
+    frame: Frame,
+    shade: Shade,
+    name: &str,
+    x: u64,
+) -> io::Result<()> {
+    let y = frame.legend().saturating_add(8);
+    let (beside, line) = (x.saturating_add(28), y.saturating_add(BASE));
+    let fill = fill_of(shade);
+    writeln!(
+        out,
+        "<rect x=\"{x}\" y=\"{y}\" width=\"24\" height=\"{BAR}\" fill=\"{fill}\" stroke=\"#444444\" stroke-width=\"0.5\"/>\
+         <text x=\"{beside}\" y=\"{line}\">{name}</text>"
+    )
+}
+
+/// What is said where not all events have room.
+pub(crate) fn write_rest<W: Write>(
+    out: &mut W,
+    frame: Frame,
+    from: u64,
+    to: u64,
+) -> io::Result<()> {
+    let y = frame.legend().saturating_add(72);
+    writeln!(
+        out,
+        "<text x=\"8\" y=\"{y}\" font-size=\"12\" fill=\"#cc0000\">There is more: --from {from} --to {to}</text>"
+    )
+}

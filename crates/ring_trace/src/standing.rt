@@ -1,0 +1,56 @@
+//! How nodes stand.
+
+use ring_base::{Proc, ProcSet, RingId, State};
+use ring_trace_words::{Change, Votes, Why};
+
+/// What was last seen of a node.
+#[derive(Clone, Copy)]
+pub(crate) struct Standing {
+    pub state: State,
+    pub ring: RingId,
+    pub members: ProcSet,
+    pub committed: usize,
+}
+
+impl Standing {
+    /// A node at its opening.
+    pub fn opening(node: Proc) -> Standing {
+        Standing {
+            state: State::Gather,
+            ring: RingId { seq: 0, rep: node },
+            members: ProcSet::only(node),
+            committed: 0,
+        }
+    }
+
+    /// Whether the node is alone in its ring: then no frame carries its messages.
+    pub fn is_alone(&self) -> bool {
+        self.members.len() == 1
+    }
+
+    /// How the node stands, as changes since its opening.
+    pub fn changes(&self, votes: &Votes) -> [Change; 2] {
+        let first = match self.state {
+            State::Operational => Change::Ring {
+                ring: self.ring,
+                members: self.members,
+                share: votes.share(self.members),
+            },
+            state => Change::State(state),
+        };
+        [first, Change::Committed(self.committed)]
+    }
+
+    /// Why a call waits at the node, which has sent it or not.
+    pub fn reason(&self, votes: &Votes, is_sent: bool) -> Why {
+        let members = self.members;
+        let share = votes.share(members);
+        match self.state {
+            State::Stopped => Why::Stopped,
+            State::Operational if !share.is_primary => Why::Minority { members, share },
+            State::Operational if is_sent => Why::NotSafe,
+            State::Operational => Why::NotSent,
+            state => Why::State(state),
+        }
+    }
+}

@@ -1,0 +1,98 @@
+//! What the program prints of a trace.
+
+ghost use Rattle.std.specs.Prelude.{◌≡◌, ◌≤◌, Ok, OnOk};
+ghost use Rattle.std.specs.declared.alloc.Global.{Global as Heap};
+ghost use Rattle.ring_script.specs.Fits.{AreFit};
+ghost use Rattle.ring_script.specs.Scripts.{AnswersInput};
+ghost use Rattle.ring_script.specs.declared.scripts.Script.{Script};
+ghost use Rattle.ring_trace.specs.Sendings.{Sends};
+
+use crate::selection::Selection;
+use crate::tracer::Tracer;
+use ring_base::Fault;
+use ring_console::{Failure, Script, Things, report};
+use ring_object::Object;
+use ring_report::{Lent, exit_status};
+use ring_trace_forms::{Form, Format};
+use ring_trace_words::Votes;
+use std::alloc::Global;
+use std::io::{BufWriter, Write};
+
+/// What is asked of a trace: in which form, and which events.
+#[derive(Clone, Copy)]
+pub struct Asked {
+    pub format: Format,
+    pub selection: Selection,
+}
+
+/// Reads the script that a text is, checks the whole of it, runs it, and prints in this format what each of the selected events did.
+/// Then writes to `frames` the frames that were sent. The exit status is 0, or else 1:
+///
+/// - where the text is no script, `err` is told so, and nothing is printed;
+/// - where memory is refused, `err` is told so; what was printed before stands on `out`;
+/// - where `out` or `frames` fails, nothing is told.
+///
+/// Where the status is 0, the text is a script, it was run to its end, and `frames` has the frames of that run.
+pub fn trace<O: Write, F: Write, E: Write>(
+    alloc: Global,
+    text: &[u8],
+    asked: Asked,
+    out: &mut O,
+    frames: &mut F,
+    err: &mut E,
+) -> u8
+    ensures status { result ≤ 1 }
+    ensures quiet { result ≡ 0 → err.new ≡ err.old }
+    ensures whole { let object = ⟦<Things<Global> as Object>⟧ in
+        result ≡ 0 → (script : Script Heap) × AnswersInput (Ok script) text.now
+        × Sends object.sequential script (F.contents frames.old) (F.contents frames.new) }
+{
+    match BufWriter::new(alloc, Lent { writer: out }) {
+        Ok(mut buffer) => {
+            let done = trace_text(alloc, text, asked, &mut buffer, frames);
+            exit_status(&mut buffer, err, done)
+        }
+        Err(_) => report(err, Failure::Refused(Fault::Memory)),
+    }
+}
+
+/// Runs the script that a text is, prints what its events did, and writes the frames that were sent.
+fn trace_text<W: Write, F: Write>(
+    alloc: Global,
+    text: &[u8],
+    asked: Asked,
+    out: &mut W,
+    frames: &mut F,
+) -> Result<(), Failure>
+    ensures { let object = ⟦<Things<Global> as Object>⟧ in
+        OnOk result ((script : Script Heap) × AnswersInput (Ok script) text.now
+        × Sends object.sequential script (F.contents frames.old) (F.contents frames.new)) }
+{
+    let mut rest = text;
+    let script = Script::read(alloc, &mut rest)?;
+    let words = str::from_utf8(text).unwrap_or("");
+    let votes = Votes::told(script.nodes, words);
+    trace_script::<Things<Global>, W, F>(alloc, script, votes, asked, out, frames)?;
+    Ok(())
+}
+
+/// Runs a script whose nodes have these votes, prints what its events did, and writes the frames that were sent.
+fn trace_script<O: Object<Alloc = Global>, W: Write, F: Write>(
+    alloc: Global,
+    script: Script,
+    votes: Votes,
+    asked: Asked,
+    out: &mut W,
+    frames: &mut F,
+) -> Result<(), Failure>
+    requires { AreFit script.lines.items }
+    ensures { OnOk result (Sends O.sequential script (F.contents frames.old) (F.contents frames.new)) }
+{
+    let form = Form {
+        alloc,
+        format: asked.format,
+    };
+    let mut tracer = Tracer::<O>::new(alloc, form, &script, votes, asked.selection)?;
+    tracer.tell(script, out, frames)?;
+    Ok(())
+}

@@ -1,0 +1,10 @@
+//! A trace as text, as JSON, and as a picture.
+#![tactic(auto)]
+
+mod drawing;
+mod form;
+mod json;
+mod text;
+
+pub use drawing::Drawing;
+pub use form::{Form, Format};

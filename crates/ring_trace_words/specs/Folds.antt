@@ -1,0 +1,21 @@
+-- Events in which nothing changes, told together.
+-- Trace, of docs/FORMATS.md.
+use Rattle.std.specs.Prelude.{◌≡◌, ℕ, ◌+◌, ◌==◌, ◌^◌, ◌-◌, min, if◌then◌else◌}
+use Rattle.ring_trace_words.specs.declared.fold.Fold.{Fold}
+
+-- one more, as far as a u64 counts
+abbrev pub counted : ℕ → ℕ
+counted n = min (n + 1) (2 ^ 64 - 1)
+
+-- nothing came, and nothing was lost
+abbrev pub IsEmpty : Fold → Type 0
+IsEmpty fold = (fold.frames ≡ 0) × (fold.lost ≡ 0)
+
+-- A frame comes to a node at this event: the first of them tells where the rounds are counted, and the last where the fold ends.
+pub record HasFrame (event at : ℕ) (old new : Fold) : Type 0 where
+  pub first : new.first ≡ (if old.frames == 0 then event else old.first)
+  pub node : new.node ≡ (if old.frames == 0 then at else old.node)
+  pub last : new.last ≡ event
+  pub frames : new.frames ≡ counted old.frames
+  pub rounds : new.rounds ≡ (if new.node == at then counted old.rounds else old.rounds)
+  pub lost : new.lost ≡ old.lost

@@ -1,0 +1,49 @@
+//! What an event changed.
+
+use crate::votes::Share;
+use ring_base::{ProcSet, RingId, State};
+use ring_console::state_word;
+use ring_picture::Members;
+use std::fmt;
+
+/// What an event changed at its node.
+#[derive(Clone, Copy)]
+pub enum Change {
+    /// The node is in this state now.
+    State(State),
+    /// The node installed a ring.
+    Ring {
+        ring: RingId,
+        members: ProcSet,
+        share: Share,
+    },
+    /// So much of the node's log is committed now.
+    Committed(usize),
+}
+
+/// The change, in words that follow the node.
+impl fmt::Display for Change {
+    fn fmt<W: fmt::Write>(&self, f: &mut fmt::Formatter<W>) -> fmt::Result {
+        match *self {
+            Change::State(State::Stopped) => write!(f, "has stopped"),
+            Change::State(state) => write!(f, "is in {}", state_word(state)),
+            Change::Ring {
+                ring,
+                members,
+                share,
+            } => {
+                let kind = if share.is_primary {
+                    "primary"
+                } else {
+                    "not primary"
+                };
+                write!(
+                    f,
+                    "installs ring {ring} of {} with {share}, {kind}",
+                    Members(members)
+                )
+            }
+            Change::Committed(length) => write!(f, "has committed {length}"),
+        }
+    }
+}

@@ -1,0 +1,27 @@
+//! What a trace tells, in words: what an event changed, what its node told, events in which nothing changes, and why a call has no
+//! answer.
+#![tactic(auto)]
+
+mod call_words;
+mod change;
+mod fold;
+mod happening;
+mod operation_words;
+mod reason_words;
+mod reply_words;
+mod told_words;
+mod votes;
+mod waiting;
+mod why;
+
+pub use call_words::CallWords;
+pub use change::Change;
+pub use fold::Fold;
+pub use happening::{Counts, Happening};
+pub use operation_words::OperationWords;
+pub use reason_words::ReasonWords;
+pub use reply_words::ReplyWords;
+pub use told_words::ToldWords;
+pub use votes::{Share, Votes};
+pub use waiting::{Queue, Waiting};
+pub use why::Why;
