@@ -1,6 +1,7 @@
 //! The command line.
 
 use crate::seeds::seeds_of;
+use crate::traces::{Traced, trace_command, traced_in};
 use crate::votes::{Votes, votes_of};
 use clap::builder::ValueParser;
 use clap::error::ErrorKind;
@@ -22,6 +23,8 @@ pub(crate) enum Task<'a> {
         nodes: u8,
         calls: u8,
     },
+    /// To run the script in a file, and to tell what its events did.
+    Trace(Traced<'a>),
     /// To make the script of a seed, of nodes with these votes, and of so many lines.
     Generate {
         votes: Votes,
@@ -226,6 +229,7 @@ fn file_in<'a>(name: &str, of: &ArgMatches<'a>) -> Option<Task<'a>> {
         "script" if of.get_flag("check") => Some(script_in(file, Way::Checked, of)),
         "script" => Some(script_in(file, Way::Plain, of)),
         "sweep" => Some(script_in(file, Way::Swept, of)),
+        "trace" => traced_in(of).map(Task::Trace),
         _ => None,
     }
 }
@@ -296,6 +300,7 @@ fn command_of<'a>(alloc: Global) -> Result<Command<'a>, AllocError> {
         .subcommand(sweep_command(alloc)?)?
         .subcommand(frames_command(alloc)?)?
         .subcommand(live_command(alloc)?)?
+        .subcommand(trace_command(alloc)?)?
         .subcommand(generate_command(alloc)?)?
         .subcommand(explore_command(alloc)?)?
         .subcommand(node_command(alloc)?)
@@ -390,7 +395,7 @@ fn explain_word<'a>(alloc: Global) -> Arg<'a> {
 }
 
 /// The word that names a file.
-fn file_of<'a>(alloc: Global, help: &'a str) -> Arg<'a> {
+pub(crate) fn file_of<'a>(alloc: Global, help: &'a str) -> Arg<'a> {
     Arg::new(alloc, "FILE")
         .help(help)
         .required(true)

@@ -1,8 +1,9 @@
-//! What each command does: it has `ring_sweep`, `ring_live`, `ring_script_maker`, `ring_explore` or `ring_pipe` do the work.
+//! What each command does: it has `ring_sweep`, `ring_trace`, `ring_live`, `ring_script_maker`, `ring_explore` or `ring_pipe` do the work.
 
 use crate::command_line::{Explored, Task, task_of};
 use crate::node::node;
 use crate::scripts::run_script;
+use crate::traces::trace_file;
 use clap::Error;
 use clap::error::ErrorKind;
 use ring_base::Fault;
@@ -36,6 +37,7 @@ pub fn run<R: Files + AllocGlobal + Threads + Wait + Sync, I: Read, O: Write, E:
     match task_of(rt.alloc(), words) {
         Ok(Task::Frames { file }) => frames_of(rt, file, input, out, err),
         Ok(Task::Script(asked)) => run_script(rt, asked, input, out, err, progress),
+        Ok(Task::Trace(asked)) => trace_file(rt, asked, input, out, err),
         Ok(Task::Live { nodes, calls }) => live(rt, rt.alloc(), nodes, calls, out, err),
         Ok(
             Task::Generate {

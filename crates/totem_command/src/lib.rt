@@ -6,6 +6,7 @@ mod commands;
 mod node;
 mod scripts;
 mod seeds;
+mod traces;
 mod votes;
 
 pub use commands::run;

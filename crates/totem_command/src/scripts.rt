@@ -37,7 +37,7 @@ pub(crate) fn run_script<R: Files + AllocGlobal, I: Read, O: Write, E: Write, P:
 }
 
 /// What the file has, or the input, as far as a script is read.
-fn text_of<R: Files + AllocGlobal, I: Read>(
+pub(crate) fn text_of<R: Files + AllocGlobal, I: Read>(
     rt: &R,
     file: &str,
     input: &mut I,
@@ -78,7 +78,7 @@ fn explain<E: Write>(alloc: Global, text: &[u8], err: &mut E) {
 }
 
 /// Tells that a file couldn't be read.
-fn tell_unread<E: Write>(error: &Error, is_explained: bool, err: &mut E) -> u8 {
+pub(crate) fn tell_unread<E: Write>(error: &Error, is_explained: bool, err: &mut E) -> u8 {
     if error.kind() == ErrorKind::OutOfMemory {
         return report(err, Failure::Refused(Fault::Memory));
     }

@@ -3,9 +3,11 @@
 //! `NAME.script` is run, `NAME.check` is run and its order compared with what clients saw, `NAME.sweep` is swept: run with a
 //! stop and a cut of each node before each event. `NAME.frames` is listed: frames in hexadecimal, with comments in lines that
 //! begin with `#`. `NAME.words` has the words of a command line of the program `totem`, one a line. `NAME.legal` is swept too,
-//! and of what it prints the end alone is compared. `NAME.explain` is run by `totem script --explain`. `NAME.out` has what must stand on standard output, of a `NAME.legal` what
-//! must stand at its end; and `NAME.fault` the exit status, a space, and what must stand on standard error; `...` for whatever
-//! a parser of command lines says. Where one of these is missing, nothing may stand there, and the exit status is 0.
+//! and of what it prints the end alone is compared. `NAME.explain` is run by `totem script --explain`. `NAME.out` has what must
+//! stand on standard output, of a `NAME.legal` what must stand at its end; and `NAME.fault` the exit status, a space, and what must
+//! stand on standard error; `...` for whatever a parser of command lines says. Where one of these is missing, nothing may stand
+//! there, and the exit status is 0. `NAME.trace` and `NAME.svg` are what `totem trace` must print of `NAME.script`, as text and as
+//! a picture.
 
 use ring_sweep::{frames, script, script_check, sweep};
 use std::alloc::Global;
@@ -29,10 +31,12 @@ enum Kind {
     Words,
     Legal,
     Explain,
+    Trace,
+    Picture,
 }
 
 /// In this order.
-const KINDS: [Kind; 7] = [
+const KINDS: [Kind; 9] = [
     Kind::Script,
     Kind::Check,
     Kind::Sweep,
@@ -40,6 +44,8 @@ const KINDS: [Kind; 7] = [
     Kind::Words,
     Kind::Legal,
     Kind::Explain,
+    Kind::Trace,
+    Kind::Picture,
 ];
 
 /// The exit status of a bad command line, and of a call for help.
@@ -56,6 +62,8 @@ impl Kind {
             Kind::Words => ".words",
             Kind::Legal => ".legal",
             Kind::Explain => ".explain",
+            Kind::Trace => ".trace",
+            Kind::Picture => ".svg",
         }
     }
 }
@@ -117,7 +125,10 @@ fn prints_as_told<R: Files + AllocGlobal + Threads + Wait + Sync>(
     let input = read(rt, name, kind.ending())?;
     let printed = run_as(rt, kind, name, input.as_slice())?;
     let fault = fault_of(rt.alloc(), &printed)?;
-    let wanted = read_any(rt, name, ".out")?;
+    let wanted = match kind {
+        Kind::Trace | Kind::Picture => input,
+        _ => read_any(rt, name, ".out")?,
+    };
     let is_out = match kind {
         Kind::Legal => printed.out.as_slice().ends_with(wanted.as_slice()),
         _ => printed.out.as_slice() == wanted.as_slice(),
@@ -145,12 +156,22 @@ fn run_as<R: Files + AllocGlobal + Threads + Wait + Sync>(
             frames(alloc, &mut bytes.as_slice(), &mut out, &mut err)
         }
         Kind::Words => command(rt, input, &mut out, &mut err),
-        Kind::Explain => {
-            let words = format!(in alloc; "script\n--explain\n{name}.explain")?;
+        Kind::Explain | Kind::Trace | Kind::Picture => {
+            let words = words_for(alloc, kind, name)?;
             command(rt, words.as_bytes(), &mut out, &mut err)
         }
     };
     Ok(Printed { out, err, status })
+}
+
+/// The words of the command line that is tried on the example of this name, one a line.
+fn words_for(alloc: Global, kind: Kind, name: &str) -> io::Result<String> {
+    let (words, ending) = match kind {
+        Kind::Trace => ("trace", ".script"),
+        Kind::Picture => ("trace\n--format\nsvg", ".script"),
+        _ => ("script\n--explain", ".explain"),
+    };
+    Ok(format!(in alloc; "{words}\n{name}{ending}")?)
 }
 
 /// Does what the words of a command line ask for, of which a text has one in a line. There is no input.
