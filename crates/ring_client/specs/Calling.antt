@@ -1,5 +1,5 @@
 -- What a client does with a call (docs/PROTOCOL.md, "Clients").
-use Rattle.std.specs.Prelude.{◌≡◌, ℕ, ◌+◌, ◌^◌, ◌<◌, ◌≤◌, ◌⊎◌, List, length, Option, Some, None, IsSome}
+use Rattle.std.specs.Prelude.{◌≡◌, ℕ, zero, suc, ◌+◌, ◌^◌, ◌<◌, ◌≤◌, ◌⊎◌, List, length, Option, Some, None, IsSome}
 use Rattle.ring_base.specs.declared.fault.Fault.{Fault}
 use Rattle.ring_base.specs.declared.fault.Fault.TheVariants.{OpTooLong, Conflict, Stale, NumberGap, SessionsFull, Memory, NoAnswer}
 use Rattle.ring_session.specs.SessionAnswer.{refusal, reply_in}
@@ -70,3 +70,25 @@ module _ {P : Type 0} (asked : P → Asked) (old new : ClientOf P) (op : List �
 abbrev pub AgainRefused : {P : Type 0} → (P → Asked) → ClientOf P → ClientOf P → Fault → Type 0
 AgainRefused asked old new NoAnswer = ((old.open_call ≡ None) × (new ≡ old)) ⊎ ((op : List ℕ) × (old.open_call ≡ Some op) × IsUnanswered asked old new op)
 AgainRefused asked old new fault = (op : List ℕ) × (old.open_call ≡ Some op) × AskingRefused asked old new op fault
+
+-- so many times in a row each port was asked in vain, from one client to the other
+unfoldable pub AreInVain : {P : Type 0} → (P → Asked) → List ℕ → ℕ → ClientOf P → ClientOf P → Type 0
+AreInVain asked op zero old new = new ≡ old
+AreInVain {P = P} asked op (suc tries) old new = (before : ClientOf P) × AreInVain asked op tries old before × IsUnanswered asked before new op
+
+-- after at most so many tries in vain a port has given this reply
+abbrev pub IsRepliedWithin : {P : Type 0} → (P → Asked) → ℕ → ClientOf P → ClientOf P → List ℕ → List ℕ → Type 0
+IsRepliedWithin {P = P} asked limit old new op reply = (tries : ℕ) × (before : ClientOf P) × (tries ≤ limit)
+    × AreInVain asked op tries old before × IsReplied asked before new op reply
+
+-- why the ports gave no reply after at most so many tries in vain; after just so many, where no port answered
+abbrev pub AskingRefusedWithin : {P : Type 0} → (P → Asked) → ℕ → ClientOf P → ClientOf P → List ℕ → Fault → Type 0
+AskingRefusedWithin {P = P} asked limit old new op fault = (tries : ℕ) × (before : ClientOf P) × (tries ≤ limit) × (fault ≡ NoAnswer → tries ≡ limit)
+    × AreInVain asked op tries old before × AskingRefused asked before new op fault
+
+-- why `until_answered` gives no reply
+abbrev pub UntilRefused : {P : Type 0} → (P → Asked) → ℕ → ClientOf P → ClientOf P → List ℕ → Fault → Type 0
+UntilRefused asked limit old new op OpTooLong = IsReady old × (1024 < length op) × (new ≡ old)
+UntilRefused asked limit old new op NoAnswer = ((IsSome old.open_call ⊎ (old.next ≡ 2 ^ 64)) × (new ≡ old))
+    ⊎ (IsReady old × IsShort op × AskingRefusedWithin asked limit old new op NoAnswer)
+UntilRefused asked limit old new op fault = IsReady old × IsShort op × AskingRefusedWithin asked limit old new op fault

@@ -2,6 +2,7 @@
 
 ghost use Rattle.std.specs.Prelude.{◌≡◌, ℕ, ◌<◌, ◌^◌, nat_lt, List, Some, None, is_some, IfOk, IfErr, if◌then◌else◌};
 ghost use Rattle.ring_client.specs.Calling.{IsReady, IsShort, IsReplied, AskingRefused, CallRefused, AgainRefused};
+ghost use Rattle.ring_client.specs.Calling.{IsRepliedWithin, AskingRefusedWithin, UntilRefused};
 
 use crate::asked::Op;
 use crate::asking::{CallOutcome, Question, ask_in_turn, reply_of};
@@ -86,6 +87,24 @@ impl<P: Port> Client<P> {
         self.ask_ports(op)
     }
 
+    /// Makes a call as [`call`](Client::call), and where no port answered tries it anew, up to `limit` times, each time from
+    /// the first port on and under the same number, so that it takes effect once.
+    ///
+    /// Refused as `call`, with `NoAnswer` where no port answered in all these tries: then the call is open.
+    pub fn until_answered(&mut self, op: &[u8], limit: u64) -> Result<Reply, Fault>
+        ensures ready { IfOk result (λ _. IsReady self.old × IsShort op.now) }
+        ensures replied { IfOk result (IsRepliedWithin P.asked_of limit self.old self.new op.now) }
+        ensures refused { IfErr result (UntilRefused P.asked_of limit self.old self.new op.now) }
+    {
+        if self.is_open() || self.replied == u64::MAX {
+            return Err(Fault::NoAnswer);
+        }
+        if op.len() > MOST_OPERATION {
+            return Err(Fault::OpTooLong);
+        }
+        self.ask_often(Op::from_slice(op), limit)
+    }
+
     /// The client's number.
     pub fn client(&self) -> u32
         ensures { result ≡ self.now.client }
@@ -116,6 +135,21 @@ impl<P: Port> Client<P> {
 }
 
 impl<P: Port> Client<P> {
+    /// Asks the ports the call of the next number with this operation, and anew, up to `limit` times, where none answers.
+    fn ask_often(&mut self, op: Op, limit: u64) -> Result<Reply, Fault>
+        requires { self.old.next < 2 ^ 64 }
+        ensures replied { IfOk result (IsRepliedWithin P.asked_of limit self.old self.new op) }
+        ensures refused { IfErr result (AskingRefusedWithin P.asked_of limit self.old self.new op) }
+    {
+        for _ in 0..limit {
+            match self.ask_ports(op) {
+                Err(Fault::NoAnswer) => {}
+                answer => return answer,
+            }
+        }
+        self.ask_ports(op)
+    }
+
     /// Asks the ports the call of the next number with this operation.
     fn ask_ports(&mut self, op: Op) -> Result<Reply, Fault>
         requires { self.old.next < 2 ^ 64 }

@@ -107,6 +107,16 @@ fn an_unanswered_call_stays_open(rt: HostRuntime) -> Result<(), Fail> {
     Ok(())
 }
 
+/// A call that is tried until it is answered is submitted once, and as often again as it may be tried anew.
+#[test]
+fn a_call_is_tried_anew_so_often(rt: HostRuntime) -> Result<(), Fail> {
+    let mut client = client_of(rt.alloc(), &[Behaviour::IsSilent], 1)?;
+    assert_eq!(rt; client.until_answered(b"a", 2), Err(Fault::NoAnswer));
+    assert_submits(&rt, &client, 0, &[1, 1, 1]);
+    assert_eq!(rt; client.is_open(), true);
+    Ok(())
+}
+
 /// A refusing, a silent and an answering port, and one behind them that isn't asked.
 #[test]
 fn each_port_is_asked_once_a_call(rt: HostRuntime) -> Result<(), Fail> {

@@ -38,6 +38,7 @@ fn operations_are_spelled_as_the_table_says(rt: HostRuntime) -> Result<(), Fail>
         ("insert a!~", "030161217e"),
         ("remove #", "030223"),
         ("has 0", "030330"),
+        ("raw 00ff7a", "00ff7a"),
     ] {
         assert!(rt; are_spelled(rt.alloc(), words, bytes)?, "{words}");
     }

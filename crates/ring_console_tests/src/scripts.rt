@@ -13,7 +13,7 @@ fn fault_of(alloc: Global, text: &[u8]) -> Option<ScriptFault> {
 }
 
 /// Texts that are no scripts, each with the line at fault.
-const FAULTY: [(&str, u64); 65] = [
+const FAULTY: [(&str, u64); 69] = [
     ("", 1),
     ("\n", 2),
     ("# only a comment", 2),
@@ -57,6 +57,10 @@ const FAULTY: [(&str, u64); 65] = [
     ("nodes 2\ncall 1 7 1 pop 1", 2),
     ("nodes 2\ncall 1 7 1 add 0", 2),
     ("nodes 2\ncall 1 7 1 insert ", 2),
+    ("nodes 2\ncall 1 7 1 raw", 2),
+    ("nodes 2\ncall 1 7 1 raw 010", 2),
+    ("nodes 2\ncall 1 7 1 raw 0A", 2),
+    ("nodes 2\ncall 1 7 1 raw 01 02", 2),
     ("nodes 2\ncall 1 7 18446744073709551616 pop", 2),
     ("nodes 2\ncall 3 7 1 pop", 2),
     ("nodes 2\ndeliver 1", 2),

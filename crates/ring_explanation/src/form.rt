@@ -23,8 +23,8 @@ pub(crate) const LINES: [&str; 9] = [
 ];
 
 /// The first words of operations.
-pub(crate) const OPERATIONS: [&str; 11] = [
-    "get", "put", "cas", "add", "read", "push", "pop", "length", "insert", "remove", "has",
+pub(crate) const OPERATIONS: [&str; 12] = [
+    "get", "put", "cas", "add", "read", "push", "pop", "length", "insert", "remove", "has", "raw",
 ];
 
 /// The form of a line that begins with this word, if there is one.
@@ -45,7 +45,7 @@ pub(crate) fn line_form(word: &str) -> Option<Form> {
 
 /// The form of an operation that is called by this word, if there is one.
 pub(crate) fn operation_form(word: &str) -> Option<Form> {
-    use Part::{Key, Name, Value};
+    use Part::{Key, Name, Operation, Value};
     match word {
         "get" | "read" => made_of(&[Key], Rest::Nothing),
         "put" | "add" => made_of(&[Key, Value], Rest::Nothing),
@@ -53,6 +53,7 @@ pub(crate) fn operation_form(word: &str) -> Option<Form> {
         "push" => made_of(&[Value], Rest::Nothing),
         "pop" | "length" => made_of(&[], Rest::Nothing),
         "insert" | "remove" | "has" => made_of(&[Name], Rest::Nothing),
+        "raw" => made_of(&[Operation], Rest::Nothing),
         _ => None,
     }
 }

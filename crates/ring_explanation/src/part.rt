@@ -19,6 +19,8 @@ pub(crate) enum Part {
     Timeout,
     /// Bytes in hexadecimal.
     Bytes,
+    /// The bytes of an operation in hexadecimal.
+    Operation,
     /// How many turns.
     Turns,
     Key,
@@ -32,8 +34,11 @@ pub(crate) const TIMEOUTS: [&str; 4] = ["retransmit", "join", "consensus", "loss
 /// A name has at most so many bytes.
 const LONGEST_NAME: usize = 64;
 
-/// A word of bytes has at most so many digits: two for each of 8,192 bytes.
-const MOST_DIGITS: usize = 16_384;
+/// A word of bytes has at most so many of them.
+const MOST_BYTES: usize = 8_192;
+
+/// An operation has at most so many bytes.
+const MOST_OPERATION: usize = 1_024;
 
 impl Part {
     /// The least and the greatest number that such a word may be, among so many nodes. None where it isn't a number within bounds.
@@ -47,7 +52,7 @@ impl Part {
             Part::Turns => Some((1, 100_000)),
             Part::Key => Some((0, 255)),
             Part::Value => Some((0, u64::MAX)),
-            Part::Frame | Part::Timeout | Part::Bytes | Part::Name => None,
+            Part::Frame | Part::Timeout | Part::Bytes | Part::Operation | Part::Name => None,
         }
     }
 
@@ -60,7 +65,8 @@ impl Part {
         match self {
             Part::Frame => is_decimal(word) && word != "0",
             Part::Timeout => TIMEOUTS.iter().any(|kind| *kind == word),
-            Part::Bytes => are_bytes(word),
+            Part::Bytes => are_bytes(word, MOST_BYTES),
+            Part::Operation => are_bytes(word, MOST_OPERATION),
             _ => is_name(word),
         }
     }
@@ -74,11 +80,11 @@ fn is_decimal(word: &str) -> bool {
         && word.as_bytes().iter().all(|byte| byte.is_ascii_digit())
 }
 
-/// Whether the word spells bytes, two digits each.
-fn are_bytes(word: &str) -> bool {
+/// Whether the word spells bytes, at most so many, two digits each.
+fn are_bytes(word: &str, most: usize) -> bool {
     let are_digits = word.as_bytes().iter().all(|byte| byte.is_ascii_hexdigit()
         && !byte.is_ascii_uppercase());
-    !word.is_empty() && word.len() <= MOST_DIGITS && word.len() % 2 == 0 && are_digits
+    !word.is_empty() && word.len() / 2 <= most && word.len() % 2 == 0 && are_digits
 }
 
 /// Whether the word may be a name.
@@ -108,6 +114,7 @@ impl fmt::Display for Wanted {
             Part::Frame => "the number of a frame, 1 or more",
             Part::Timeout => "`retransmit`, `join`, `consensus` or `loss`",
             Part::Bytes => "1 to 8192 bytes, each as two digits of `0` to `9` and `a` to `f`",
+            Part::Operation => "1 to 1024 bytes, each as two digits of `0` to `9` and `a` to `f`",
             Part::Name => "a name of 1 to 64 bytes",
         };
         match self.part.bounds(self.nodes) {

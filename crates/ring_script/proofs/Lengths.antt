@@ -1,12 +1,16 @@
 -- An operation of a script is short enough for a call.
 use Rattle.std.proofs.Common.{◌≡◌, ℕ, ◌+◌, ◌-◌, ◌*◌, ◌^◌, ◌≤◌, Bool, true, false, List, [], ◌∷◌, ◌++◌, length, Option}
-use Rattle.std.proofs.Common.{Some, None, Err, refl, ap, arith, inl, inr}
-use Rattle.std.specs.Prelude.{option_and_then, if◌then◌else◌, IfSome, codes, nat_le, ◌&&◌}
-use Rattle.std.specs.Char.{is_ascii_graphic}
-use Rattle.std.specs.List.{list_all}
+use Rattle.std.proofs.Common.{Some, None, Result, Ok, Err, refl, ap, subst, arith, inl, inr}
+use Rattle.std.specs.Prelude.{option_and_then, if◌then◌else◌, IfSome, codes, not, nat_le, ◌&&◌}
+use Rattle.std.specs.Char.{is_ascii_graphic, is_ascii_uppercase}
+use Rattle.std.specs.List.{list_all, list_any}
+use Rattle.std.specs.Result.{result_ok}
 use Rattle.std.specs.Int.{w64, to_be_bytes}
 use Rattle.std.proofs.lemmas.Bool.{cases_Bool, and_parts, leb-true}
 use Rattle.std.proofs.lemmas.List.{length-append}
+use Rattle.std.proofs.lemmas.Option.{same_Some}
+use Rattle.hex.specs.Hex.{decode_of}
+use Rattle.hex.proofs.HexLemmas.{decode_of-ok}
 use Rattle.ring_base.specs.declared.fault.Fault.{Fault}
 use Rattle.ring_base.specs.declared.fault.Fault.TheVariants.{NotMember, PendingFull, OpTooLong, Conflict, Stale}
 use Rattle.ring_base.specs.declared.fault.Fault.TheVariants.{NumberGap, SessionsFull, Stopped, BookFull, Stranger}
@@ -14,8 +18,9 @@ use Rattle.ring_base.specs.declared.fault.Fault.TheVariants.{Memory, BadFrame, B
 use Rattle.ring_payload.specs.Calls.{IsNewCall}
 use Rattle.ring_script.specs.declared.operation.Argument.{Argument}
 use Rattle.ring_script.specs.declared.operation.Argument.TheVariants.{Key, Value, Name}
+use Rattle.ring_script.specs.HexWords.{bytes_of}
 use Rattle.ring_script.specs.Numbers.{is, word_at, number_at}
-use Rattle.ring_script.specs.Operations.{is_name, argument_at, argument_after, arguments_after, Form, form_of, operation_at}
+use Rattle.ring_script.specs.Operations.{is_name, argument_at, argument_after, arguments_after, Form, form_of, named_at, raw_at, operation_at}
 use Rattle.ring_script.specs.Reading.{Refuses}
 
 -- what a step and then another have given
@@ -81,14 +86,48 @@ form_short word =
 pub some_has : {X : Type 0} (P : X → Type 0) (o : Option X) (x : X) → o ≡ Some x → IfSome o P → P x
 some_has P o x e h = rw e at h
 
+named_short : (name : List ℕ) (words : List (List ℕ)) (x : List ℕ × List (List ℕ)) → named_at name words ≡ Some x → length x.0 ≤ 1024
+unfolding named_at
+named_short name words x e =
+    let (form, named, made) = and_then_some (form_of name) _ x e in
+    let short = some_has IsShort (form_of name) form named (form_short name) in
+    let bound = arguments_short form.0 form.1 words x made in
+    omega (arith, short.0, short.1, bound)
+
+ok_from_some : {X E : Type 0} (r : Result X E) (x : X) → result_ok r ≡ Some x → r ≡ Ok x
+ok_from_some (Ok y) x e = ap Ok (same_Some y x e)
+ok_from_some (Err y) x e = absurd cc
+
+-- the bytes that a word spells
+spelled_short : (most : ℕ) (word bytes : List ℕ) → bytes_of most word ≡ Some bytes → length bytes ≤ most
+unfolding bytes_of
+spelled_short most word bytes e =
+    let is_short = nat_le 1 (length word) && nat_le (length word) (2 * most) in
+    let is_lower = not (list_any is_ascii_uppercase word) in
+    elim (cases_Bool (is_short && is_lower)) [
+      | inl kept ↦
+          let low = and_parts (nat_le 1 (length word)) (nat_le (length word) (2 * most)) (and_parts is_short is_lower kept).0 in
+          let read : result_ok (decode_of word) ≡ Some bytes = (let taken = rw kept at e in taken) in
+          let twice = (decode_of-ok word bytes (ok_from_some (decode_of word) bytes read)).2 in
+          omega (arith, leb-true (length word) (2 * most) low.1, twice)
+      | inr lost ↦ let none = rw lost at e in absurd (cc)
+    ]
+
+raw_short : (words : List (List ℕ)) (x : List ℕ × List (List ℕ)) → raw_at words ≡ Some x → length x.0 ≤ 1024
+unfolding raw_at
+raw_short words x e =
+    let (word, at, next) = and_then_some (word_at words) _ x e in
+    let (bytes, read, made) = and_then_some (bytes_of 1024 word.0) _ x next in
+    subst (λ (y : List ℕ × List (List ℕ)). length y.0 ≤ 1024) (same_Some (bytes, word.1) x made) (spelled_short 1024 word.0 bytes read)
+
 pub operation_short : (words : List (List ℕ)) (x : List ℕ × List (List ℕ)) → operation_at words ≡ Some x → length x.0 ≤ 1024
 unfolding operation_at
 operation_short words x e =
     let (word, at, next) = and_then_some (word_at words) _ x e in
-    let (form, named, made) = and_then_some (form_of word.0) _ x next in
-    let short = some_has IsShort (form_of word.0) form named (form_short word.0) in
-    let bound = arguments_short form.0 form.1 word.1 x made in
-    omega (arith, short.0, short.1, bound)
+    elim (cases_Bool (is (codes "raw") word.0)) [
+      | inl raw ↦ raw_short word.1 x (let taken = rw raw at next in taken)
+      | inr named ↦ named_short word.0 word.1 x (let taken = rw named at next in taken)
+    ]
 
 -- a call of such an operation is refused for want of memory alone
 pub call_refused : {Y : Type 0} (A : Type 0) (e : Fault) (client number : ℕ) (op : List ℕ) (read : Option Y)

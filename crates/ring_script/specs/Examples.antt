@@ -121,6 +121,7 @@ operations =
     (codes "insert a~", 3 ∷ 1 ∷ 97 ∷ 126 ∷ []) ∷
     (codes "remove !", 3 ∷ 2 ∷ 33 ∷ []) ∷
     (codes "has b", 3 ∷ 3 ∷ 98 ∷ []) ∷
+    (codes "raw 00ff7a", 0 ∷ 255 ∷ 122 ∷ []) ∷
     []
 
 abbrev pub OperationsTold : Type 0

@@ -2,6 +2,7 @@ pub mod Cuts
 pub mod Examples
 pub mod Faults
 pub mod Fits
+pub mod HexWords
 pub mod Lines
 pub mod Numbers
 pub mod Operations

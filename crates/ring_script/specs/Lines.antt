@@ -1,16 +1,13 @@
 -- The lines of a script after its first: what they ask for, by their words.
 -- Scripts, of docs/FORMATS.md.
-use Rattle.std.specs.Prelude.{ℕ, ◌*◌, ◌^◌, ◌-◌, ◌≤◌, Bool, false, not, nat_le, ◌&&◌, ◌==◌, if◌then◌else◌, List, length, codes, Option, Some, None, IfSome}
-use Rattle.std.specs.Char.{is_ascii_uppercase}
-use Rattle.std.specs.List.{list_any}
-use Rattle.std.specs.Result.{result_ok}
-use Rattle.hex.specs.Hex.{decode_of}
+use Rattle.std.specs.Prelude.{ℕ, ◌^◌, ◌-◌, ◌≤◌, Bool, false, ◌==◌, if◌then◌else◌, List, codes, Option, Some, None, IfSome}
 use Rattle.ring_base.specs.Group.{Group}
 use Rattle.ring_base.specs.declared.kind.Kind.{Kind}
 use Rattle.ring_base.specs.declared.kind.Kind.TheVariants as kinds
 use Rattle.ring_script.specs.declared.line.Line.{Line}
 use Rattle.ring_script.specs.declared.line.Line.TheVariants as lines
 use Rattle.ring_script.specs.Cuts.{cut_at}
+use Rattle.ring_script.specs.HexWords.{bytes_of}
 use Rattle.ring_script.specs.Numbers.{is, decimal_of, word_at, number_at, node_at}
 use Rattle.ring_script.specs.Operations.{operation_at}
 use Rattle.ring_script.specs.Reading.{◌>>=◌}
@@ -80,13 +77,6 @@ frame_of word = do
   frame ← decimal_of word
   if is_zero frame then None else Some frame
 
--- the bytes that the word spells, 1 to 8,192 of them, each as two digits of `0` to `9`, `a` to `f`
-unfoldable pub bytes_of : List ℕ → Option (List ℕ)
-bytes_of word =
-    if nat_le 1 (length word) && nat_le (length word) (2 * 8192) && not (list_any is_ascii_uppercase word)
-    then result_ok (decode_of word)
-    else None
-
 -- ---- the forms of lines, and the words after each
 
 unfoldable pub call_at : Group → List (List ℕ) → Option (Asked × List (List ℕ))
@@ -115,7 +105,7 @@ unfoldable pub noise_at : Group → List (List ℕ) → Option (Asked × List (L
 noise_at nodes words = do
   node ← node_at nodes words
   word ← word_at node.1
-  bytes ← bytes_of word.0
+  bytes ← bytes_of 8192 word.0
   Some (Noise node.0 bytes, word.1)
 
 unfoldable pub stop_at : Group → List (List ℕ) → Option (Asked × List (List ℕ))

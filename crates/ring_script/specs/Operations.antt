@@ -1,4 +1,4 @@
--- The operations of the program's object, by their words: OP of a line `call`.
+-- The operations of a line `call`, OP: of the program's object by their words, and of any object by their bytes.
 -- Scripts, of docs/FORMATS.md.
 use Rattle.std.specs.Prelude.{ℕ, ◌^◌, ◌-◌, Bool, nat_le, ◌&&◌, if◌then◌else◌, List, [], ◌∷◌, ◌++◌, length, codes, Option, Some, None}
 use Rattle.std.specs.Char.{is_ascii_graphic}
@@ -7,6 +7,7 @@ use Rattle.std.specs.List.{list_all}
 use Rattle.ring_script.specs.declared.operation.Argument.{Argument}
 use Rattle.ring_script.specs.declared.operation.Argument.TheVariants.{Key, Value, Name}
 use Rattle.ring_script.specs.declared.operation.Form as declared
+use Rattle.ring_script.specs.HexWords.{bytes_of}
 use Rattle.ring_script.specs.Numbers.{is, word_at, number_at}
 use Rattle.ring_script.specs.Reading.{◌>>=◌}
 
@@ -63,9 +64,21 @@ form_of word =
     else if is (codes "has") word then Some (3 ∷ 3 ∷ [], Name ∷ [])
     else None
 
+-- the bytes of the operation of this name with the arguments that the next words are, and the words after it
+unfoldable pub named_at : List ℕ → List (List ℕ) → Option (List ℕ × List (List ℕ))
+named_at name words = do
+  form ← form_of name
+  arguments_after form.0 form.1 words
+
+-- the operation whose bytes the next word spells, and the words after it
+unfoldable pub raw_at : List (List ℕ) → Option (List ℕ × List (List ℕ))
+raw_at words = do
+  word ← word_at words
+  bytes ← bytes_of 1024 word.0
+  Some (bytes, word.1)
+
 -- the bytes of the operation that the next words say, and the words after it
 unfoldable pub operation_at : List (List ℕ) → Option (List ℕ × List (List ℕ))
 operation_at words = do
   word ← word_at words
-  form ← form_of word.0
-  arguments_after form.0 form.1 word.1
+  if is (codes "raw") word.0 then raw_at word.1 else named_at word.0 word.1

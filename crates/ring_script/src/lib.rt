@@ -4,6 +4,7 @@
 
 mod examples;
 mod groups;
+mod hex_word;
 mod laws;
 mod line;
 mod lines;

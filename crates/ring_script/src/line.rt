@@ -1,13 +1,12 @@
 //! The lines of a script, after its first.
 
-ghost use Rattle.std.specs.Char.{is_ascii_uppercase};
-ghost use Rattle.std.specs.List.{list_any};
 ghost use Rattle.std.specs.Prelude.{◌≡◌};
 ghost use Rattle.ring_script.specs.Lines.{asked_by, asked_of, form_at, call_at, deliver_at, timeout_at, noise_at};
-ghost use Rattle.ring_script.specs.Lines.{stop_at, cut_line_at, pump_at, frame_of, kind_of, bytes_of};
+ghost use Rattle.ring_script.specs.Lines.{stop_at, cut_line_at, pump_at, frame_of, kind_of};
 ghost use Rattle.ring_script.specs.Reading.{Gives, Tells};
 
 use crate::groups::Groups;
+use crate::hex_word::bytes_of;
 use crate::operation::operation_of;
 use crate::words::{Words, decimal, is};
 use ring_base::{FRAME_BYTES, Fault, Fixed, Kind, Proc};
@@ -134,7 +133,7 @@ fn noise_of<A: Allocator + Copy>(
     ensures { Gives (λ line. (asked_by line, words.new)) result (noise_at nodes words.old) }
 {
     let node = words.node(nodes)?;
-    let bytes = bytes_of(alloc, words.word()?)?;
+    let bytes = bytes_of(alloc, words.word()?, FRAME_BYTES)?;
     Ok(Line::Noise { node, bytes })
 }
 
@@ -192,26 +191,4 @@ fn kind_of(word: &[u8]) -> Result<Kind, Fault>
     } else {
         Err(Fault::BadScript)
     }
-}
-
-/// The bytes that the word spells in lower case hex, 1 to 8,192 of them.
-#[tactic(auto, unfolding(crate::specs::Lines::bytes_of))]
-fn bytes_of<A: Allocator + Copy>(alloc: A, word: &[u8]) -> Result<Vec<u8, A>, Fault>
-    ensures { Gives (λ bytes. bytes.items) result (bytes_of word.now) }
-{
-    if word.is_empty() || word.len() > 2 * FRAME_BYTES || has_upper_case(word) {
-        return Err(Fault::BadScript);
-    }
-    match hex::decode(alloc, word) {
-        Ok(bytes) => Ok(bytes),
-        Err(hex::FromHexError::OutOfMemory) => Err(Fault::Memory),
-        Err(_) => Err(Fault::BadScript),
-    }
-}
-
-/// Whether a byte is an upper case letter.
-fn has_upper_case(word: &[u8]) -> bool
-    ensures { result ≡ list_any is_ascii_uppercase word.now }
-{
-    word.iter().any(|byte| byte.is_ascii_uppercase())
 }

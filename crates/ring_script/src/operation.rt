@@ -1,13 +1,15 @@
-//! The operations of the program's object, by their words.
+//! The operations of calls: of the program's object by their words, and of any object by their bytes.
 
 ghost use Rattle.std.specs.Prelude.{◌≡◌, [], ◌∷◌, option_map};
 ghost use Rattle.std.specs.Char.{is_ascii_graphic};
 ghost use Rattle.std.specs.List.{list_all};
-ghost use Rattle.ring_script.specs.Operations.{said, form_of, is_name, operation_at, argument_after, arguments_after};
+ghost use Rattle.ring_script.specs.Operations.{said, form_of, is_name, named_at, raw_at, operation_at, argument_after, arguments_after};
 ghost use Rattle.ring_script.specs.Reading.{Gives};
 
+use crate::hex_word::bytes_of;
 use crate::words::{Words, is};
 use ring_base::Fault;
+use ring_payload::MOST_OPERATION;
 use std::alloc::Allocator;
 
 /// What an argument of an operation is, and so how it is spelled.
@@ -97,7 +99,33 @@ pub(crate) fn operation_of<A: Allocator + Copy>(
 ) -> Result<Vec<u8, A>, Fault>
     ensures { Gives (λ bytes. (bytes.items, words.new)) result (operation_at words.old) }
 {
-    let form = form_of(words.word()?).ok_or(Fault::BadScript)?;
+    let word = words.word()?;
+    if is(word, b"raw") {
+        raw_of(alloc, words)
+    } else {
+        named_of(alloc, word, words)
+    }
+}
+
+/// The bytes that the next word spells. `BadScript` where it spells none, or `Memory`.
+#[tactic(auto, unfolding(crate::specs::Operations::raw_at))]
+fn raw_of<A: Allocator + Copy>(alloc: A, words: &mut Words<'_>) -> Result<Vec<u8, A>, Fault>
+    ensures { Gives (λ bytes. (bytes.items, words.new)) result (raw_at words.old) }
+{
+    bytes_of(alloc, words.word()?, MOST_OPERATION)
+}
+
+/// The bytes of the operation of this name with the arguments that the next words are. `BadScript` where they say none, or
+/// `Memory`.
+#[tactic(auto, unfolding(crate::specs::Operations::named_at))]
+fn named_of<A: Allocator + Copy>(
+    alloc: A,
+    name: &[u8],
+    words: &mut Words<'_>,
+) -> Result<Vec<u8, A>, Fault>
+    ensures { Gives (λ bytes. (bytes.items, words.new)) result (named_at name.now words.old) }
+{
+    let form = form_of(name).ok_or(Fault::BadScript)?;
     let mut bytes = Vec::new(alloc);
     bytes.push(form.object)?;
     bytes.push(form.code)?;
