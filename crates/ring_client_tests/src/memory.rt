@@ -1,13 +1,12 @@
 //! Each request for memory of a call refused in turn.
 
-use crate::scripted::{Behaviour, Scripted};
+use crate::scripted::{Behaviour, client_of};
 use refusing_alloc::Refusing;
 use ring_base::Fault;
 use ring_client::{Client, Port};
 use ring_object::Reply;
 use ring_session::Answer;
-use std::alloc::{Allocator, Global};
-use std::process::Abort;
+use std::alloc::Global;
 use std::test::Fail;
 
 /// The reply that the third port gives.
@@ -15,17 +14,13 @@ fn replied() -> Reply {
     Reply::from_slice(&[5])
 }
 
-/// Client 7, whose calls have their memory in `heap`. The third of its ports answers.
-fn client_of<A: Allocator + Copy + Drop>(heap: A, ample: A) -> Result<Client<Scripted<A>>, Fault> {
-    let mut ports = Vec::new(ample);
-    for behaviour in [
+/// What three ports do, of which the last answers.
+fn ports() -> [Behaviour; 3] {
+    [
         Behaviour::IsSilent,
         Behaviour::Refuses(Fault::Stopped),
         Behaviour::AnswersAfter(0, Answer::Done(replied())),
-    ] {
-        ports.push(Scripted::new(ample, behaviour))?;
-    }
-    Ok(Client::new(heap, 7, ports, 2))
+    ]
 }
 
 /// How many ports were submitted a call at.
@@ -46,41 +41,38 @@ fn called<P: Port>(client: &mut Client<P>) -> Result<Reply, Fault> {
     }
 }
 
-/// A call whose copy for one port is refused memory, after so many copies: at the first port it leaves the client as it was,
-/// at a later one the call open. Tried again, it is answered.
-fn assert_refused_once<P: Port>(rt: &impl Abort, client: &mut Client<P>, passed: u64) {
-    assert_eq!(rt; called(client), Err(Fault::Memory), "at {passed}");
-    assert_eq!(rt; asked_ports(client) as u64, passed);
-    assert_eq!(rt; client.is_open(), passed > 0);
-    assert_eq!(rt; client.next_number(), Some(1));
-    assert_eq!(rt; called(client), Ok(replied()));
-    assert_eq!(rt; client.next_number(), Some(2));
+/// Whether a call whose copy for one port is refused memory, after so many copies, leaves the client as it was where it is the
+/// first port's, else leaves the call open, and is answered when it is tried again.
+fn is_refused_once<P: Port>(client: &mut Client<P>, passed: u64) -> bool {
+    let is_refused = called(client) == Err(Fault::Memory) && asked_ports(client) as u64 == passed;
+    let is_kept = client.is_open() == (passed > 0) && client.next_number() == Some(1);
+    let is_replied = called(client) == Ok(replied()) && client.next_number() == Some(2);
+    is_refused && is_kept && is_replied
 }
 
 /// The same of a new client.
-fn assert_refused(rt: &impl Abort, alloc: Global, passed: u64) -> Result<(), Fault> {
+fn is_refused(alloc: Global, passed: u64) -> Result<bool, Fault> {
     let ample = Refusing::new(alloc, u64::MAX);
     let heap = Refusing::new(alloc, passed);
-    let mut client = client_of(&heap, &ample)?;
-    assert_refused_once(rt, &mut client, passed);
-    Ok(())
+    let mut client = client_of(&heap, &ample, &ports(), 2)?;
+    Ok(is_refused_once(&mut client, passed))
 }
 
-/// How many requests for memory a call makes that isn't refused any.
-fn requests(rt: &impl Abort, alloc: Global) -> Result<u64, Fault> {
+/// How many requests for memory a call makes that isn't refused any, and what it is answered.
+fn requests(alloc: Global) -> Result<(u64, Result<Reply, Fault>), Fault> {
     let ample = Refusing::new(alloc, u64::MAX);
     let heap = Refusing::new(alloc, u64::MAX);
-    let mut client = client_of(&heap, &ample)?;
-    assert_eq!(rt; client.call(b"a"), Ok(replied()));
-    Ok(heap.requests())
+    let mut client = client_of(&heap, &ample, &ports(), 2)?;
+    let answer = called(&mut client);
+    Ok((heap.requests(), answer))
 }
 
 /// Each port's copy of the call is a request.
 #[test]
 fn each_request_is_refused_in_turn(rt: HostRuntime) -> Result<(), Fail> {
     for passed in 0..3 {
-        assert_refused(&rt, rt.alloc(), passed)?;
+        assert!(rt; is_refused(rt.alloc(), passed)?, "at {passed}");
     }
-    assert_eq!(rt; requests(&rt, rt.alloc())?, 3);
+    assert!(rt; requests(rt.alloc())? == (3, Ok(replied())));
     Ok(())
 }

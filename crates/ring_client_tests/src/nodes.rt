@@ -5,6 +5,7 @@ ghost use Rattle.std.specs.Prelude.{IfOk, IfSome};
 ghost use Rattle.ring_client.specs.Asking.{IsTold};
 ghost use Rattle.ring_rules.specs.NodeLimits.{InputFits};
 
+use crate::asked::tell;
 use crate::scripted::told;
 use ring_base::{Fault, Fixed, Kind};
 use ring_client::{Asked, Client, Port};
@@ -12,7 +13,7 @@ use ring_node::{Input, Node};
 use ring_object::{Object, Reply};
 use ring_payload::Call;
 use ring_session::{Answer, Ticket};
-use ring_things::Counters;
+use ring_things::{Counters, Outcome, reply_with};
 use ring_wire::{Frame, Wire};
 use std::alloc::Allocator;
 use std::process::Abort;
@@ -65,32 +66,24 @@ impl<O: Object> Alone<O> {
     }
 }
 
-/// The commit token of ring 1.1 of processor 1 alone, at this hop.
+/// The commit token of ring 1.1 of processor 1 alone; its hop, here 0, stands at 19.
+const COMMIT: [u8; 77] = *b"TR\x01\x04\0\0\0\x45\0\0\0\0\0\0\0\x01\x01\0\x01\0\0\0\0\0\0\0\0\0\x01\
+    \0\0\0\0\0\0\0\0\0\0\0\0\0\0\0\0\0\0\0\0\0\0\0\0\0\0\0\0\0\0\0\0\0\0\0\0\0\0\0\0\0\0\0\0\0\0\0\0";
+
+/// The token of ring 1.1 that asks for nothing; its number, here 0, ends at 24, `seq` at 32 and `aru` at 40.
+const TOKEN: [u8; 43] = *b"TR\x01\x02\0\0\0\x23\0\0\0\0\0\0\0\x01\x01\0\0\0\0\0\0\0\0\
+    \0\0\0\0\0\0\0\0\0\0\0\0\0\0\0\0\0\0";
+
+/// The commit token at this hop.
 fn commit(hop: u8) -> [u8; 77] {
-    let mut bytes = [0u8; 77];
-    bytes[0] = 0x54;
-    bytes[1] = 0x52;
-    bytes[2] = 1;
-    bytes[3] = 4;
-    bytes[7] = 69;
-    bytes[15] = 1;
-    bytes[16] = 1;
-    bytes[18] = 1;
+    let mut bytes = COMMIT;
     bytes[19] = hop;
-    bytes[28] = 1;
     bytes
 }
 
-/// The token of ring 1.1 of this number, where so many messages were sent and all are held.
+/// The token of this number, where so many messages were sent and all are held.
 fn token(number: u8, messages: u8) -> [u8; 43] {
-    let mut bytes = [0u8; 43];
-    bytes[0] = 0x54;
-    bytes[1] = 0x52;
-    bytes[2] = 1;
-    bytes[3] = 2;
-    bytes[7] = 35;
-    bytes[15] = 1;
-    bytes[16] = 1;
+    let mut bytes = TOKEN;
     bytes[24] = number;
     bytes[32] = messages;
     bytes[40] = messages;
@@ -177,8 +170,8 @@ impl<O: Object> Port for NodePort<O> {
 }
 
 /// The reply of a counter that has this count.
-fn counted(count: u8) -> Reply {
-    Reply::from_slice(&[0, 0, 0, 0, 0, 0, 0, 0, count])
+fn counted(count: u64) -> Reply {
+    reply_with(Outcome::Done, count)
 }
 
 /// A node that has stopped.
@@ -198,36 +191,43 @@ fn alive<O: Object>(alloc: O::Alloc) -> Result<NodePort<O>, Fault> {
     NodePort::new(alloc, true)
 }
 
-/// What the ports were asked last: the number, the refusal, and how many polls came.
-fn assert_asked<P: Port>(rt: &impl Abort, client: &Client<P>, want: &[(u64, Option<u8>, u64)]) {
-    assert_eq!(rt; client.ports().len(), want.len());
-    for (port, want) in client.ports().iter().zip(want) {
-        let asked = port.asked();
-        assert_eq!(rt; (asked.number, asked.refused, asked.polls), *want);
-    }
-}
-
-#[test]
-fn a_call_survives_nodes_that_stop_or_never_answer(rt: HostRuntime) -> Result<(), Fail> {
-    let alloc = rt.alloc();
-    let mut ports = Vec::new(alloc);
-    ports.push(stopped::<Counters>(alloc)?)?;
+/// A stopped node, one that hears nothing, and one that answers.
+fn add_ports<O: Object>(
+    alloc: O::Alloc,
+    ports: &mut Vec<NodePort<O>, O::Alloc>,
+) -> Result<(), Fault> {
+    ports.push(stopped(alloc)?)?;
     ports.push(cut_off(alloc)?)?;
     ports.push(alive(alloc)?)?;
-    let mut client = Client::new(alloc, 7, ports, 100);
-    // The reply comes with the sixth frame after the join timeout, and the poll after these seven turns tells it.
-    assert_eq!(rt; client.call(Counters::add(0, 5).as_slice()), Ok(counted(5)));
-    assert_asked(
-        &rt,
-        &client,
-        &[(1, Some(8), 0), (1, None, 100), (1, None, 8)],
-    );
-    // Of a ring that runs, it comes with the second frame.
-    assert_eq!(rt; client.call(Counters::read(0).as_slice()), Ok(counted(5)));
-    assert_asked(
-        &rt,
-        &client,
-        &[(2, Some(8), 0), (2, None, 100), (2, None, 3)],
-    );
+    Ok(())
+}
+
+/// Client 7 over these.
+fn client_of<O: Object>(alloc: O::Alloc) -> Result<Client<NodePort<O>>, Fault> {
+    let mut ports = Vec::new(alloc);
+    add_ports(alloc, &mut ports)?;
+    Ok(Client::new(alloc, 7, ports, 100))
+}
+
+/// The call of this number was answered by the third node, at the last of so many polls: the counter is at 5.
+fn assert_third_answered<P: Port>(rt: &impl Abort, client: &Client<P>, number: u64, polls: u64) {
+    let five = Answer::Done(counted(5));
+    let told = [
+        (number, Some(8), 0, None),
+        (number, None, 100, None),
+        (number, None, polls, Some(five)),
+    ];
+    assert!(rt; tell(client, &told), "call {number}");
+}
+
+/// The reply comes with the sixth frame after the join timeout, and the poll after these seven turns tells it. Of a ring that
+/// runs, it comes with the second frame.
+#[test]
+fn a_call_survives_nodes_that_stop_or_never_answer(rt: HostRuntime) -> Result<(), Fail> {
+    let mut client = client_of::<Counters>(rt.alloc())?;
+    assert!(rt; client.call(Counters::add(0, 5).as_slice()) == Ok(counted(5)));
+    assert_third_answered(&rt, &client, 1, 8);
+    assert!(rt; client.call(Counters::read(0).as_slice()) == Ok(counted(5)));
+    assert_third_answered(&rt, &client, 2, 3);
     Ok(())
 }

@@ -4,7 +4,7 @@ ghost use Rattle.std.specs.Prelude.{◌≡◌, IfSome};
 ghost use Rattle.ring_client.specs.Asking.{IsTold};
 
 use ring_base::Fault;
-use ring_client::{Asked, Port};
+use ring_client::{Asked, Client, Port};
 use ring_payload::Call;
 use ring_session::Answer;
 use std::alloc::{Allocator, Global};
@@ -114,4 +114,28 @@ impl<A: Allocator + Copy + Drop> Port for Scripted<A> {
     fn asked(&self) -> &Asked {
         &self.asked
     }
+}
+
+/// Adds a port for each of these.
+fn add_ports<A: Allocator + Copy + Drop>(
+    ample: A,
+    ports: &mut Vec<Scripted<A>, A>,
+    behaviours: &[Behaviour],
+) -> Result<(), Fault> {
+    for behaviour in behaviours {
+        ports.push(Scripted::new(ample, *behaviour))?;
+    }
+    Ok(())
+}
+
+/// Client 7, whose calls have their memory in `heap`, with a port for each of these, which it polls at most so often.
+pub fn client_of<A: Allocator + Copy + Drop>(
+    heap: A,
+    ample: A,
+    behaviours: &[Behaviour],
+    turns: u64,
+) -> Result<Client<Scripted<A>>, Fault> {
+    let mut ports = Vec::new(ample);
+    add_ports(ample, &mut ports, behaviours)?;
+    Ok(Client::new(heap, 7, ports, turns))
 }
