@@ -1,6 +1,6 @@
--- One variant after another is run.
-use Rattle.std.proofs.Common.{◌≡◌, ℕ, zero, suc, ◌+◌, ◌<◌, ◌≤◌, ◌⊎◌, inl, inr, ◌↔◌, IsTrue, Bool, true, false, List, Option, Some, None, Result, Ok, Err, IfOk}
-use Rattle.std.proofs.Common.{refl, sym, ap, subst, ◌∙◌, add-one, arith}
+-- One variant after another is run, in parts of which one stands behind the other.
+use Rattle.std.proofs.Common.{◌≡◌, ℕ, zero, suc, ◌+◌, ◌-◌, ◌<◌, ◌≤◌, ◌⊎◌, inl, inr, ◌↔◌, IsTrue, Bool, true, false, List, Option, Some, None, Result, Ok, Err, IfOk}
+use Rattle.std.proofs.Common.{refl, sym, ap, subst, ◌∙◌, arith}
 use Rattle.std.proofs.lemmas.Bool.{cases_lt}
 use Rattle.std.specs.Io.KnownBytes.{Appends}
 use Rattle.ring_base.specs.Group.{Group}
@@ -13,7 +13,9 @@ use Rattle.ring_sweep.specs.Legal.{IsLegal}
 use Rattle.ring_sweep.specs.declared.sweeping.Swept.{Swept}
 use Rattle.ring_report.specs.declared.failure.Failure.{Failure}
 use Rattle.ring_sweep.specs.Swept.{are_legal, swept_text, AllLegal, IsSwept, IsSweptText}
-use Rattle.ring_sweep.specs.Variants.{steps_of, upset_at, first_illegal, Passes, HasEvents, IsVariant, IsTried, AreTried, IsFirstIllegal}
+use Rattle.ring_sweep.specs.Variants.{steps_of, upset_at, first_illegal, Passes, HasEvents, IsVariant, IsTried, AreTried, AreTriedFrom, AreTriedIn, IsFirstIllegal}
+use Rattle.ring_shares.specs.Shares.{share_begin, first_of}
+use Rattle.ring_shares.proofs.Sharing.{shares_end}
 use Rattle.ring_sweep.specs.Stages.{Stage, stage, PutsIn, Goes}
 use Rattle.ring_sweep.proofs.Staging.{goes_alone, is_variant}
 
@@ -53,12 +55,108 @@ module _ {O A : Type 0} (object : Sequential O) (group : Group) (lines : List (N
   )
   is_tried (Err x) ls run done pending u t e p same_lines same_run none some h puts same legal = tt
 
+  -- ---- parts
+
+  -- of none of the variants
+  pub tried_none : (a : ℕ) → AreTriedIn object group lines a a None
+  tried_none a = (0, omega arith, refl)
+
   -- one variant more
-  pub tried_more : (n : ℕ) (others : Option Upset) (last : Bool) (illegal : Option Upset) → AreTried object group lines n others
-      → IsTried object group lines (upset_at group.count n) last → illegal ≡ first_illegal others last (upset_at group.count n)
-      → AreTried object group lines (n + 1) illegal
-  tried_more n others last illegal h one is =
-      subst (λ (k : ℕ). AreTried object group lines k illegal) (sym (add-one n)) (others, last, (h, one, is))
+  pub tried_more : (a p : ℕ) (others : Option Upset) (last : Bool) (illegal : Option Upset) → AreTriedIn object group lines a p others
+      → IsTried object group lines (upset_at group.count p) last → illegal ≡ first_illegal others last (upset_at group.count p)
+      → AreTriedIn object group lines a (p + 1) illegal
+  tried_more a p others last illegal h one is =
+      let next : p + 1 ≡ a + suc h.0 = let at = h.1 in omega (arith, at) in (
+        suc h.0,
+        next,
+        (
+          others,
+          last,
+          (
+            h.2,
+            subst (λ (k : ℕ). IsTried object group lines (upset_at group.count k) last) h.1 one,
+            subst (λ (k : ℕ). illegal ≡ first_illegal others last (upset_at group.count k)) h.1 is,
+          ),
+        ),
+      )
+
+  first_none : (f : Option Upset) → first_of f None ≡ f
+  first_none None = refl
+  first_none (Some u) = refl
+
+  first_more : (f g : Option Upset) (last : Bool) (u : Upset) → first_of f (first_illegal g last u) ≡ first_illegal (first_of f g) last u
+  first_more None g last u = refl
+  first_more (Some v) g last u = refl
+
+  append_from : (a n m : ℕ) (f g : Option Upset) → AreTriedFrom object group lines a n f → AreTriedFrom object group lines (a + n) m g
+      → AreTriedFrom object group lines a (n + m) (first_of f g)
+  append_from a n zero f g h k =
+      let same : f ≡ first_of f g = sym (ap (first_of f) k ∙ first_none f) in
+      let many : n ≡ n + 0 = omega arith in
+      subst (λ (i : ℕ). AreTriedFrom object group lines a i (first_of f g)) many (subst (λ (o : Option Upset). AreTriedFrom object group lines a n o) same h)
+  append_from a n (suc m) f g h k =
+      let place : a + n + m ≡ a + (n + m) = omega arith in
+      let many : suc (n + m) ≡ n + suc m = omega arith in
+      let first : first_of f g ≡ first_illegal (first_of f k.0) k.1 (upset_at group.count (a + n + m)) =
+      ap (first_of f) k.2.2 ∙ first_more f k.0 k.1 (upset_at group.count (a + n + m)) in
+      let whole : AreTriedFrom object group lines a (suc (n + m)) (first_of f g) = (
+        first_of f k.0,
+        k.1,
+        (
+          append_from a n m f k.0 h k.2.0,
+          subst (λ (i : ℕ). IsTried object group lines (upset_at group.count i) k.1) place k.2.1,
+          subst (λ (i : ℕ). first_of f g ≡ first_illegal (first_of f k.0) k.1 (upset_at group.count i)) place first,
+        ),
+      ) in
+      subst (λ (i : ℕ). AreTriedFrom object group lines a i (first_of f g)) many whole
+
+  -- the variants of one part, and those of the next
+  pub tried_append : (a b c : ℕ) (f g : Option Upset) → AreTriedIn object group lines a b f → AreTriedIn object group lines b c g
+      → AreTriedIn object group lines a c (first_of f g)
+  tried_append a b c f g h k =
+      let ends : c ≡ a + (h.0 + k.0) = let at = h.1 in let upto = k.1 in omega (arith, at, upto) in
+      (h.0 + k.0, ends, append_from a h.0 k.0 f g h.2 (subst (λ (i : ℕ). AreTriedFrom object group lines i k.0 g) h.1 k.2))
+
+  from_first : (n : ℕ) (f : Option Upset) → AreTriedFrom object group lines 0 n f → AreTried object group lines n f
+  from_first zero f h = h
+  from_first (suc n) f h =
+      let same : 0 + n ≡ n = omega arith in (
+        h.0,
+        h.1,
+        (
+          from_first n h.0 h.2.0,
+          subst (λ (i : ℕ). IsTried object group lines (upset_at group.count i) h.1) same h.2.1,
+          subst (λ (i : ℕ). f ≡ first_illegal h.0 h.1 (upset_at group.count i)) same h.2.2,
+        ),
+      )
+
+  -- all of them
+  pub tried_all : (n : ℕ) (f : Option Upset) → AreTriedIn object group lines 0 n f → AreTried object group lines n f
+  tried_all n f h =
+      let same : h.0 ≡ n = let at = h.1 in omega (arith, at) in
+      subst (λ (i : ℕ). AreTried object group lines i f) same (from_first h.0 f h.2)
+
+  -- where all of them are one part
+  pub tried_whole : {E : Type 0} (n : ℕ) (r : Result (Option Upset) E) → IfOk r (λ (f : Option Upset). 0 ≤ n → AreTriedIn object group lines 0 n f)
+      → IfOk r (AreTried object group lines n)
+  tried_whole n (Ok f) h = tried_all n f (h (omega arith))
+  tried_whole n (Err e) h = tt
+
+  -- all of them in one share
+  pub tried_alone : (n : ℕ) (f : Option Upset)
+      → AreTriedIn object group lines (0 + share_begin (n - 0) 1 0) (0 + share_begin (n - 0) 1 (0 + 1)) f → AreTried object group lines n f
+  tried_alone n f h =
+      let begin : 0 + share_begin (n - 0) 1 0 ≡ 0 = grind arith in
+      let end : 0 + share_begin (n - 0) 1 (0 + 1) ≡ n = let all = shares_end (n - 0) 1 1 (omega arith) in omega (arith, all) in
+      tried_all n f (subst (λ (i : ℕ). AreTriedIn object group lines 0 i f) end
+      (subst (λ (i : ℕ). AreTriedIn object group lines i (0 + share_begin (n - 0) 1 (0 + 1)) f) begin h))
+
+  -- one share more
+  pub tried_share : (from many shares k : ℕ) (f g : Option Upset) → AreTriedIn object group lines from (from + share_begin many shares k) f
+      → AreTriedIn object group lines (from + share_begin many shares k) (from + share_begin many shares (k + 1)) g
+      → AreTriedIn object group lines from (from + share_begin many shares (k + 1)) (first_of f g)
+  tried_share from many shares k f g h more =
+      tried_append from (from + share_begin many shares k) (from + share_begin many shares (k + 1)) f g h more
 
   -- what is printed where all variants are legal
   pub all_legal : (r : Result Swept Failure) (old new : Option (List ℕ)) → AllLegal r → IfOk r (IsSwept object group lines)

@@ -127,6 +127,17 @@ module _ {O : Type 0} (object : Sequential O) where
       (others : Option Upset) × (last : Bool) × (AreTried group lines n others × IsTried group lines (upset_at group.count n) last
       × (illegal ≡ first_illegal others last (upset_at group.count n)))
 
+  -- so many variants from this one on were run, and this is the first of them that is not legal; none where all are
+  abbrev pub AreTriedFrom : {A : Type 0} → Group → List (Numbered A) → ℕ → ℕ → Option Upset → Type 0
+  AreTriedFrom group lines from zero illegal = illegal ≡ None
+  AreTriedFrom group lines from (suc n) illegal =
+      (others : Option Upset) × (last : Bool) × (AreTriedFrom group lines from n others × IsTried group lines (upset_at group.count (from + n)) last
+      × (illegal ≡ first_illegal others last (upset_at group.count (from + n))))
+
+  -- the same of the variants from one up to another, that left out
+  abbrev pub AreTriedIn : {A : Type 0} → Group → List (Numbered A) → ℕ → ℕ → Option Upset → Type 0
+  AreTriedIn group lines from upto illegal = (n : ℕ) × (upto ≡ from + n) × AreTriedFrom group lines from n illegal
+
   -- It is one of the first so many variants, it is not legal, and each one before it is.
   pub record IsFirstIllegal {A : Type 0} (group : Group) (lines : List (Numbered A)) (n : ℕ) (u : Upset) : Type 0 where
     pub place : ℕ

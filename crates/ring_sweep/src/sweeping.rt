@@ -2,6 +2,7 @@
 
 ghost use Rattle.std.specs.Prelude.{◌≡◌, ℕ, ◌+◌, ◌*◌, ◌≤◌, ◌↔◌, true, List, None, Ok, IfOk, IfErr, OnOk};
 ghost use Rattle.std.specs.Io.KnownBytes.{Appends, Keeps};
+ghost use Rattle.std.specs.declared.alloc.Global.{Global as OneGlobal};
 ghost use Rattle.ring_base.specs.declared.fault.Fault.TheVariants.{Memory};
 ghost use Rattle.ring_script.specs.Fits.{AreFit};
 ghost use Rattle.ring_script.specs.Scripts.{IsAllOf, AnswersInput};
@@ -10,19 +11,19 @@ ghost use Rattle.ring_report.specs.declared.failure.Failure.TheVariants.{Output}
 ghost use Rattle.ring_console.specs.Running.{Prints, IsOutputOrMemory};
 ghost use Rattle.ring_report.specs.Texts.{line_of};
 ghost use Rattle.ring_sweep.specs.Swept.{swept_text, upset_text, AllLegal, IsSwept, IsSweptText};
-ghost use Rattle.ring_base.specs.Processors.{IsProc};
-ghost use Rattle.ring_sweep.specs.Variants.{HasEvents, AreTried, IsTried, upset_at, first_illegal};
+ghost use Rattle.ring_sweep.specs.Variants.{HasEvents, AreTried};
 
-use crate::legal::is_legal;
-use crate::progress::{clear_progress, tell_progress};
+use crate::part::{Part, try_share};
+use crate::rounds::try_by_threads;
 use crate::upset::{Told, Upset};
 use crate::variant::Variant;
 use ring_base::Fault;
 use ring_console::{Failure, Script, Things, report};
 use ring_object::Object;
-use std::alloc::Allocator;
+use std::alloc::{Allocator, Global};
 use std::io;
 use std::io::{Read, Write};
+use std::thread::Threads;
 
 /// The exit status where a variant is not legal.
 const NOT_LEGAL: u8 = 1;
@@ -59,46 +60,57 @@ pub fn sweep<A: Allocator + Copy + Drop, R: Read, O: Write, E: Write>(
         result ≡ 0 → (script : Script A) × (bytes : List ℕ) × IsAllOf (R.remaining input.old) bytes × AnswersInput (Ok script) bytes
         × Prints (O.contents out.old) (O.contents out.new) (IsSweptText object.sequential script.nodes script.lines.items true) }
 {
-    sweep_watched(alloc, input, out, err, &mut io::sink())
+    let script = match Script::read(alloc, input) {
+        Ok(script) => script,
+        Err(fault) => return report(err, Failure::from(fault)),
+    };
+    let swept = run_all::<Things<A>>(alloc, &script);
+    let done = print_all::<Things<A>, O>(&script, swept, out);
+    verdict_status(err, done)
 }
 
-/// As [`sweep`], and tells on `progress` after each 1,000 variants how many were run. At the end that is taken away again,
-/// as a terminal does it.
-pub fn sweep_watched<A: Allocator + Copy + Drop, R: Read, O: Write, E: Write, W: Write>(
-    alloc: A,
-    input: &mut R,
+/// As [`sweep`], by so many threads, or by one where that is 0: what is printed and told does not depend on how many. Where there is a
+/// `progress`, it is told on the way how many variants were run: after each 1,000, or more of a sweep of so many that it ends in a
+/// few hundred rounds. At the end that is taken away again, as a terminal does it.
+pub fn sweep_by_threads<R: Threads + Sync, I: Read, O: Write, E: Write, P: Write>(
+    rt: &R,
+    alloc: Global,
+    input: &mut I,
+    threads: u16,
     out: &mut O,
     err: &mut E,
-    progress: &mut W,
+    progress: Option<&mut P>,
 ) -> u8
     ensures status { result ≤ 1 }
     ensures quiet { result ≡ 0 → Keeps (E.contents err.old) (E.contents err.new) }
-    ensures printed { let object = ⟦<Things<A> as Object>⟧ in
-        result ≡ 0 → (script : Script A) × (bytes : List ℕ) × IsAllOf (R.remaining input.old) bytes × AnswersInput (Ok script) bytes
+    ensures printed { let object = ⟦<Things<Global> as Object>⟧ in
+        result ≡ 0 → (script : Script OneGlobal) × (bytes : List ℕ) × IsAllOf (I.remaining input.old) bytes × AnswersInput (Ok script) bytes
         × Prints (O.contents out.old) (O.contents out.new) (IsSweptText object.sequential script.nodes script.lines.items true) }
 {
     let script = match Script::read(alloc, input) {
         Ok(script) => script,
         Err(fault) => return report(err, Failure::from(fault)),
     };
-    let done = sweep_script(alloc, &script, out, progress);
+    let swept = run_all_by_threads(rt, alloc, &script, threads, progress);
+    let done = print_all::<Things<Global>, O>(&script, swept, out);
     verdict_status(err, done)
 }
 
-/// Runs the script and each of its variants, and prints what came of it. Otherwise `Output`, or refused with `Memory`.
-fn sweep_script<A: Allocator + Copy + Drop, O: Write, W: Write>(
-    alloc: A,
-    script: &Script<A>,
+/// Prints what came of a sweep that was made. Otherwise `Output`, or refused with `Memory`.
+fn print_all<T: Object, O: Write>(
+    script: &Script<T::Alloc>,
+    swept: Result<Swept, Fault>,
     out: &mut O,
-    progress: &mut W,
 ) -> Result<Swept, Failure>
-    requires { AreFit script.now.lines.items }
-    ensures swept { let object = ⟦<Things<A> as Object>⟧ in
-        IfOk result (IsSwept object.sequential script.now.nodes script.now.lines.items) }
+    requires swept { IfOk swept (IsSwept T.sequential script.now.nodes script.now.lines.items) }
+    requires refused { IfErr swept (λ fault. fault ≡ Memory) }
+    ensures swept { IfOk result (IsSwept T.sequential script.now.nodes script.now.lines.items) }
     ensures printed { IfOk result (λ swept. Appends (O.contents out.old) (O.contents out.new) (swept_text swept)) }
     ensures failed { IfErr result IsOutputOrMemory }
 {
-    let swept = run_all::<Things<A>, W>(alloc, script, progress)?;
+    // The contract alone speaks of it.
+    let _ = script;
+    let swept = swept?;
     print_swept(&swept, out)?;
     Ok(swept)
 }
@@ -150,18 +162,36 @@ fn print_swept<O: Write>(swept: &Swept, out: &mut O) -> Result<(), Failure>
 }
 
 /// Runs the script as it is, and then each variant of it.
-fn run_all<O: Object, W: Write>(
-    alloc: O::Alloc,
-    script: &Script<O::Alloc>,
-    progress: &mut W,
-) -> Result<Swept, Fault>
+fn run_all<O: Object>(alloc: O::Alloc, script: &Script<O::Alloc>) -> Result<Swept, Fault>
     requires { AreFit script.now.lines.items }
     ensures ok { IfOk result (IsSwept O.sequential script.now.nodes script.now.lines.items) }
     ensures refused { IfErr result (λ fault. fault ≡ Memory) }
 {
     let events = count_events::<O>(alloc, script)?;
     let variants = count_variants(events, script.nodes.count())?;
-    let illegal = try_all::<O, W>(alloc, script, variants, progress)?;
+    let illegal = try_alone::<O>(alloc, script, variants)?;
+    Ok(Swept {
+        events,
+        variants,
+        illegal,
+    })
+}
+
+/// The same by so many threads, or by one where that is 0.
+fn run_all_by_threads<R: Threads + Sync, P: Write>(
+    rt: &R,
+    alloc: Global,
+    script: &Script<Global>,
+    threads: u16,
+    progress: Option<&mut P>,
+) -> Result<Swept, Fault>
+    requires { AreFit script.now.lines.items }
+    ensures ok { let object = ⟦<Things<Global> as Object>⟧ in IfOk result (IsSwept object.sequential script.now.nodes script.now.lines.items) }
+    ensures refused { IfErr result (λ fault. fault ≡ Memory) }
+{
+    let events = count_events::<Things<Global>>(alloc, script)?;
+    let variants = count_variants(events, script.nodes.count())?;
+    let illegal = try_by_threads(rt, alloc, script, variants, threads, progress)?;
     Ok(Swept {
         events,
         variants,
@@ -192,49 +222,18 @@ fn count_variants(events: u64, count: u8) -> Result<u64, Fault>
 }
 
 /// Runs the first so many variants, and tells the first of them that is not legal. None where all are.
-fn try_all<O: Object, W: Write>(
+fn try_alone<O: Object>(
     alloc: O::Alloc,
     script: &Script<O::Alloc>,
     variants: u64,
-    progress: &mut W,
 ) -> Result<Option<Upset>, Fault>
     requires { AreFit script.now.lines.items }
     ensures ok { IfOk result (AreTried O.sequential script.now.nodes script.now.lines.items variants) }
     ensures refused { IfErr result (λ fault. fault ≡ Memory) }
 {
-    let mut illegal = None;
-    for place in 0..variants {
-        tell_progress(progress, place, variants);
-        let upset = Upset::at(script.nodes.count(), place);
-        let is_legal = try_one::<O>(alloc, script, upset)?;
-        keep_first(&mut illegal, is_legal, script.nodes.count(), place);
-    }
-    clear_progress(progress, variants);
-    Ok(illegal)
-}
-
-/// Keeps the variant at this place if it is not legal, and none was kept before.
-fn keep_first(first: &mut Option<Upset>, is_legal: bool, count: u8, place: u64)
-    requires { IsProc count }
-    ensures { first.new ≡ first_illegal first.old is_legal (upset_at count place) }
-{
-    if !is_legal && first.is_none() {
-        *first = Some(Upset::at(count, place));
-    }
-}
-
-/// Runs the script's variant with this upset, and tells whether it is legal.
-fn try_one<O: Object>(
-    alloc: O::Alloc,
-    script: &Script<O::Alloc>,
-    upset: Upset,
-) -> Result<bool, Fault>
-    requires { AreFit script.now.lines.items }
-    ensures ok { IfOk result (IsTried O.sequential script.now.nodes script.now.lines.items upset) }
-    ensures refused { IfErr result (λ fault. fault ≡ Memory) }
-{
-    let mut variant = Variant::<O>::new(alloc, script.nodes, Some(upset))?;
-    variant.follow(script.lines.as_slice())?;
-    variant.put_in()?;
-    is_legal(alloc, variant.world())
+    let all = Part {
+        from: 0,
+        upto: variants,
+    };
+    try_share::<O>(alloc, script, all, 1, 0)
 }

@@ -55,8 +55,8 @@ pub(crate) enum Way {
     Plain,
     /// Once, and it is told whether the run is legal.
     Checked,
-    /// With a stop and a cut of each node before each event.
-    Swept,
+    /// With a stop and a cut of each node before each event, by so many threads, where that is said.
+    Swept(Option<u16>),
 }
 
 /// What `explore` is asked for: the votes of the nodes, the first seed and the last, how many lines each script has, and how many
@@ -97,7 +97,8 @@ stopped and once cut off from all others just before it, and the rest of the scr
 how many events there are, how many variants were run, and `legal yes` or `legal no`: whether in
 each of them one order of the calls explains all replies, and each node's committed calls are a
 front of it. After `legal no` the exit status is 1, and standard error names the first variant that
-is not legal. It takes as many runs as it prints variants.
+is not legal. It takes as many runs as it prints variants. What is printed does not depend on the
+number of threads.
 
 Example:
   totem sweep first_reply.script";
@@ -228,8 +229,7 @@ fn file_in<'a>(name: &str, of: &ArgMatches<'a>) -> Option<Task<'a>> {
         "frames" => Some(Task::Frames { file }),
         "script" if of.get_flag("check") => Some(script_in(file, Way::Checked, of)),
         "script" => Some(script_in(file, Way::Plain, of)),
-        "sweep" => Some(script_in(file, Way::Swept, of)),
-        "trace" => traced_in(of).map(Task::Trace),
+        "sweep" => Some(script_in(file, Way::Swept(of.get_one::<u16>("threads")), of)),
         _ => None,
     }
 }
@@ -324,6 +324,7 @@ fn sweep_command<'a>(alloc: Global) -> Result<Command<'a>, AllocError> {
     Command::new(alloc, "sweep")
         .about("Runs a script with a stop and a cut of each node before each event")
         .after_help(SWEEP_HELP)
+        .arg(threads_word(alloc))?
         .arg(explain_word(alloc))?
         .arg(file_of(alloc, "The script; - is standard input"))
 }

@@ -88,7 +88,7 @@ fn explore_seeds<R: AllocGlobal + Threads + Sync, O: Write, E: Write>(
 }
 
 /// How many processors there are, as far as that is known: or else one.
-fn processors<R: Threads>(rt: &R) -> u16 {
+pub(crate) fn processors<R: Threads>(rt: &R) -> u16 {
     match thread::available_parallelism(rt) {
         Ok(many) => u16::try_from(many.get()).unwrap_or(u16::MAX),
         Err(_) => 1,

@@ -1,13 +1,14 @@
 //! The commands that run a script.
 
 use crate::command_line::{AskedScript, Way};
-use crate::commands::INPUT;
+use crate::commands::{INPUT, processors};
 use ring_base::Fault;
 use ring_explanation::reason_in;
-use ring_sweep::{Failure, report, script, script_check, sweep, sweep_watched};
+use ring_sweep::{Failure, report, script, script_check, sweep_by_threads};
 use std::alloc::Global;
 use std::io::{Error, ErrorKind, Read, Write};
 use std::rt::Files;
+use std::thread::Threads;
 use std::{fs, io};
 
 /// The exit status where the work was not done.
@@ -17,7 +18,13 @@ const FAILED: u8 = 1;
 const MOST_READ: u64 = 1_048_577;
 
 /// Runs the script that is asked for.
-pub(crate) fn run_script<R: Files + AllocGlobal, I: Read, O: Write, E: Write, P: Write>(
+pub(crate) fn run_script<
+    R: Files + AllocGlobal + Threads + Sync,
+    I: Read,
+    O: Write,
+    E: Write,
+    P: Write,
+>(
     rt: &R,
     asked: AskedScript<'_>,
     input: &mut I,
@@ -29,7 +36,7 @@ pub(crate) fn run_script<R: Files + AllocGlobal, I: Read, O: Write, E: Write, P:
         Ok(text) => text,
         Err(error) => return tell_unread(&error, asked.is_explained, err),
     };
-    let status = run_text(rt.alloc(), asked.way, text.as_slice(), out, err, progress);
+    let status = run_text(rt, asked.way, text.as_slice(), out, err, progress);
     if status == FAILED && asked.is_explained {
         explain(rt.alloc(), text.as_slice(), err);
     }
@@ -53,8 +60,8 @@ pub(crate) fn text_of<R: Files + AllocGlobal, I: Read>(
 }
 
 /// Runs a script in this way.
-fn run_text<O: Write, E: Write, P: Write>(
-    alloc: Global,
+fn run_text<R: AllocGlobal + Threads + Sync, O: Write, E: Write, P: Write>(
+    rt: &R,
     way: Way,
     text: &[u8],
     out: &mut O,
@@ -62,11 +69,13 @@ fn run_text<O: Write, E: Write, P: Write>(
     progress: Option<&mut P>,
 ) -> u8 {
     let mut rest = text;
-    match (way, progress) {
-        (Way::Plain, _) => script(alloc, &mut rest, out, err),
-        (Way::Checked, _) => script_check(alloc, &mut rest, out, err),
-        (Way::Swept, Some(progress)) => sweep_watched(alloc, &mut rest, out, err, progress),
-        (Way::Swept, None) => sweep(alloc, &mut rest, out, err),
+    match way {
+        Way::Plain => script(rt.alloc(), &mut rest, out, err),
+        Way::Checked => script_check(rt.alloc(), &mut rest, out, err),
+        Way::Swept(threads) => {
+            let threads = threads.unwrap_or(processors(rt));
+            sweep_by_threads(rt, rt.alloc(), &mut rest, threads, out, err, progress)
+        }
     }
 }
 

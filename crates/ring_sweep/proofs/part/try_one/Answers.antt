@@ -1,6 +1,6 @@
 use Rattle.ring_sweep.specs.Stages.{stage}
 use Rattle.ring_sweep.proofs.Trying.{is_tried}
-use Rattle.ring_sweep.proofs.sweeping.try_one.Goals as goal
+use Rattle.ring_sweep.proofs.part.try_one.Goals as goal
 
 pub returns-clause-ok : goal.returns-clause-ok
 returns-clause-ok g c =

@@ -1,0 +1,150 @@
+//! The running of all variants, by several threads.
+
+ghost use Rattle.std.specs.Prelude.{◌≡◌, ℕ, ◌-◌, ◌+◌, ◌<◌, ◌≤◌, IfOk, IfErr, max, vec_len, slice_index_or};
+ghost use Rattle.ring_base.specs.declared.fault.Fault.TheVariants.{Memory};
+ghost use Rattle.ring_script.specs.Fits.{AreFit};
+ghost use Rattle.ring_shares.specs.Shares.{share_begin, first_of};
+ghost use Rattle.ring_sweep.specs.Variants.{AreTried, AreTriedIn};
+
+use crate::part::{Part, try_share};
+use crate::progress::{clear_progress, round_size, tell_progress};
+use crate::upset::Upset;
+use ring_base::Fault;
+use ring_console::{Script, Things};
+use ring_object::Object;
+use ring_shares::round_end;
+use std::alloc::{AllocError, Global};
+use std::io::Write;
+use std::thread::{self, Threads};
+
+/// Runs the first so many variants by so many threads, or by one where that is 0, and tells the first of them that is not legal. None
+/// where all are. Where somebody watches, tells on the way how far it has come.
+pub(crate) fn try_by_threads<R: Threads + Sync, P: Write>(
+    rt: &R,
+    alloc: Global,
+    script: &Script<Global>,
+    variants: u64,
+    threads: u16,
+    progress: Option<&mut P>,
+) -> Result<Option<Upset>, Fault>
+    requires { AreFit script.now.lines.items }
+    ensures ok { let object = ⟦<Things<Global> as Object>⟧ in
+        IfOk result (AreTried object.sequential script.now.nodes script.now.lines.items variants) }
+    ensures refused { IfErr result (λ fault. fault ≡ Memory) }
+{
+    let all = Part {
+        from: 0,
+        upto: variants,
+    };
+    match progress {
+        Some(out) => {
+            let illegal = try_rounds(rt, alloc, script, all, threads, round_size(variants), out);
+            clear_progress(out, variants);
+            illegal
+        }
+        None => try_part(rt, alloc, script, all, threads),
+    }
+}
+
+/// Runs the variants of a part in rounds of so many, one behind the other, and tells before each how far it has come.
+fn try_rounds<R: Threads + Sync, P: Write>(
+    rt: &R,
+    alloc: Global,
+    script: &Script<Global>,
+    part: Part,
+    threads: u16,
+    size: u64,
+    out: &mut P,
+) -> Result<Option<Upset>, Fault>
+    requires { AreFit script.now.lines.items }
+    ensures ok { let object = ⟦<Things<Global> as Object>⟧ in IfOk result (λ illegal. part.from ≤ part.upto
+        → AreTriedIn object.sequential script.now.nodes script.now.lines.items part.from part.upto illegal) }
+    ensures refused { IfErr result (λ fault. fault ≡ Memory) }
+{
+    let (begin, last) = (part.from, part.upto);
+    if begin >= last {
+        return Ok(None);
+    }
+    tell_progress(out, begin, last);
+    let end = round_end(begin, size, last);
+    let round = Part {
+        from: begin,
+        upto: end,
+    };
+    let found = try_part(rt, alloc, script, round, threads)?;
+    let rest = Part {
+        from: end,
+        upto: last,
+    };
+    let others = try_rounds(rt, alloc, script, rest, threads, size, out)?;
+    Ok(found.or(others))
+}
+
+/// Runs the variants of a part by so many threads, and tells the first of them that is not legal.
+fn try_part<R: Threads + Sync>(
+    rt: &R,
+    alloc: Global,
+    script: &Script<Global>,
+    part: Part,
+    threads: u16,
+) -> Result<Option<Upset>, Fault>
+    requires { AreFit script.now.lines.items }
+    ensures ok { let object = ⟦<Things<Global> as Object>⟧ in IfOk result (λ illegal. part.from ≤ part.upto
+        → AreTriedIn object.sequential script.now.nodes script.now.lines.items part.from part.upto illegal) }
+    ensures refused { IfErr result (λ fault. fault ≡ Memory) }
+{
+    let shares = try_shares(rt, alloc, script, part, threads)?;
+    first_in::<Things<Global>>(script, part, threads, shares)
+}
+
+/// Runs each of so many shares of a part, in a thread of its own where one can be made.
+fn try_shares<R: Threads + Sync>(
+    rt: &R,
+    alloc: Global,
+    script: &Script<Global>,
+    part: Part,
+    shares: u16,
+) -> Result<Vec<Result<Option<Upset>, Fault>>, AllocError>
+    requires { AreFit script.now.lines.items }
+    ensures len { IfOk result (λ found. vec_len found ≡ max shares 1) }
+    ensures each { let object = ⟦<Things<Global> as Object>⟧ in let many = part.upto - part.from in
+        IfOk result (λ found. (share : ℕ) (one : _) → share < max shares 1 → IfOk (slice_index_or found.items share one)
+        (AreTriedIn object.sequential script.now.nodes script.now.lines.items
+        (part.from + share_begin many shares share) (part.from + share_begin many shares (share + 1)))) }
+    ensures refused { IfOk result (λ found.
+        (share : ℕ) (one : _) → share < max shares 1 → IfErr (slice_index_or found.items share one) (λ fault. fault ≡ Memory)) }
+{
+    thread::map_indices(
+        rt,
+        alloc,
+        usize::from(shares.max(1)),
+        &|share| try_share::<Things<Global>>(alloc, script, part, shares, share as u64),
+    )
+}
+
+/// The first variant of all shares that is not legal, where these are the first of each.
+fn first_in<O: Object<Alloc = Global>>(
+    script: &Script<Global>,
+    part: Part,
+    shares: u16,
+    parts: Vec<Result<Option<Upset>, Fault>>,
+) -> Result<Option<Upset>, Fault>
+    requires len { vec_len parts ≡ max shares 1 }
+    requires each { let many = part.upto - part.from in
+        (share : ℕ) (one : _) → share < max shares 1 → IfOk (slice_index_or parts.items share one)
+        (AreTriedIn O.sequential script.now.nodes script.now.lines.items
+        (part.from + share_begin many shares share) (part.from + share_begin many shares (share + 1))) }
+    requires refused { (share : ℕ) (one : _) → share < max shares 1 → IfErr (slice_index_or parts.items share one) (λ fault. fault ≡ Memory) }
+    ensures ok { IfOk result (λ illegal. part.from ≤ part.upto
+        → AreTriedIn O.sequential script.now.nodes script.now.lines.items part.from part.upto illegal) }
+    ensures refused { IfErr result (λ fault. fault ≡ Memory) }
+{
+    // The contract alone speaks of these.
+    let (_, _, _) = (script, part, shares);
+    let mut illegal = None;
+    for one in parts {
+        let found = one?;
+        illegal = illegal.or(found);
+    }
+    Ok(illegal)
+}
