@@ -2,8 +2,8 @@
 use Rattle.std.proofs.Common.{◌≡◌, ℕ, ◌⊎◌, inl, inr, List, [], ◌∷◌, ◌++◌, length, Option, Some, None, Result, Ok, Err, refl, subst, sym, arith}
 use Rattle.std.specs.Prelude.{IfErr, IsErrAnd}
 use Rattle.std.specs.Io.Iter.{u64_saturate}
-use Rattle.std.specs.Io.KnownBytes.{Keeps, Appends}
-use Rattle.std.proofs.KnownBytes.{Consumes-nil, Consumes-trans, Consumes-kept, Appends-nil, Appends-trans, Appends-kept}
+use Rattle.std.specs.Io.KnownBytes.{Appends}
+use Rattle.std.proofs.KnownBytes.{Consumes-nil, Consumes-trans, Consumes-kept, Appends-nil, Appends-trans}
 use Rattle.std.proofs.lemmas.List.{length-append}
 use Rattle.ring_base.specs.declared.fault.Fault.{Fault}
 use Rattle.ring_base.specs.declared.fault.Fault.TheVariants.{Memory, NotMember}
@@ -15,9 +15,9 @@ use Rattle.ring_rules.specs.Nodes.{Node}
 use Rattle.ring_pipe.specs.Piping.{Writes}
 use Rattle.ring_pipe.specs.Serving.{records_text, IsStop, ServesNext, Serves, IsServed, IsCutOff}
 
--- what was written is kept
-pub written_kept : (old mid new : Option (List ℕ)) (P : List ℕ → Type 0) → Writes old mid P → Keeps mid new → Writes old new P
-written_kept old mid new P w kept = record { text = w.text; told = Appends-kept old mid new w.text w.told kept; holds = w.holds }
+-- what was told into an empty room, and then written
+pub written_out : (told : List ℕ) (old new : Option (List ℕ)) (P : List ℕ → Type 0) → Writes (Some []) (Some told) P → Appends old new told → Writes old new P
+written_out told old new P w out = record { text = w.text; told = subst (Appends old new) w.told out; holds = w.holds }
 
 -- a node that can't begin lacks memory, or is none of its group
 pub why_none : (fault : Fault) (P : Type 0) → (fault ≡ Memory) ⊎ ((fault ≡ NotMember) × P) → (fault ≡ Memory) ⊎ (fault ≡ NotMember)

@@ -1,3 +1,4 @@
 pub mod Telling
 pub mod Piping
 pub mod Serving
+pub mod Embedding

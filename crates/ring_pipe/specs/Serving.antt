@@ -66,3 +66,7 @@ module _ {O A : Type 0} (object : Sequential O) where
   IsCutOff old input out out' failure =
       (new : Node A) × (rest : Option (List ℕ)) × (so : Serves old new input rest out out')
       × IsStop (u64_saturate (length (records_text so.records))) failure
+
+  -- so the input was cut off; and where it is the output that failed, nothing is told elsewhere
+  abbrev pub IsCutShort : {E : Type 0} → Node A → Option (List ℕ) → Option (List ℕ) → Option (List ℕ) → E → E → Type 0
+  IsCutShort old input out out' err err' = (failure : Failure) × IsCutOff old input out out' failure × (failure ≡ Output → err' ≡ err)

@@ -1,6 +1,6 @@
 //! Each request for memory of a node that takes four records refused in turn.
 
-use crate::served::served_on;
+use crate::served::{Written, served, served_on};
 use refusing_alloc::{Refusing, refuse_in_turn};
 use std::alloc::{AllocError, Global};
 use std::test::Fail;
@@ -14,24 +14,31 @@ const INPUT: [u8; 35] = [
 /// A refusal for want of memory, as a record.
 const REFUSED: [u8; 4] = [0x58, 0, 1, 11];
 
-/// The line on standard error where the node can't begin.
+/// The line on standard error where the node can't begin, or can't take a record or tell of it.
 const LINE: &str = "totem: 11 out of memory\n";
 
-/// Whether a refusal stands in what was told, or ended the node before it told anything.
-fn tells_refusal(out: &[u8], err: &[u8], status: u8) -> bool {
-    let mut found = status == 1 && out.is_empty() && err == LINE.as_bytes();
+/// Whether a refusal stands in what was told, or ended the node: then what it told begins as all that it tells where nothing is
+/// refused.
+fn tells_refusal(served: &Written, whole: &Written) -> bool {
+    let out = served.out.as_slice();
+    if served.status == 1 {
+        return served.err.as_slice() == LINE.as_bytes()
+            && whole.out.as_slice().starts_with(out)
+            && out.len() < whole.out.len();
+    }
+    let mut found = false;
     for place in 0..out.len() {
-        found = found || out[place..].starts_with(&REFUSED) && status == 0;
+        found = found || out[place..].starts_with(&REFUSED);
     }
     found
 }
 
 /// What a node makes of the records where a request is refused.
 fn told_on(alloc: Global, heap: &Refusing) -> Result<(), AllocError> {
-    let Ok(served) = served_on(alloc, heap, &INPUT) else {
+    let (Ok(whole), Ok(served)) = (served(alloc, &INPUT), served_on(alloc, heap, &INPUT)) else {
         return Ok(());
     };
-    match tells_refusal(served.out.as_slice(), served.err.as_slice(), served.status) {
+    match tells_refusal(&served, &whole) {
         true => Err(AllocError),
         false => Ok(()),
     }

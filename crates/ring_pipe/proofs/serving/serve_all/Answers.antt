@@ -13,21 +13,21 @@ returns-in_err-node-clause-cut g c =
     (why_none _ _ c.in_err-node.ensures.refused)
 
 pub loop-init : goal.loop-init
-loop-init g c = (rw c.in_ok-node.ensures.ok (served_none g.O.Object.sequential _ _ _), c.requires)
+loop-init g c = rw c.in_ok-node.ensures.ok (served_none g.O.Object.sequential _ _ _)
 
 pub loop-preserved : goal.loop-preserved
 loop-preserved g c =
     let next = rw c.in-Some.is at c.in_ok-behind.ensures.next in
-    (served_more g.O.Object.sequential _ _ _ _ _ _ _ _ _ _ _ c.loop.invariant.0 next, c.in_ok-behind.ensures.written_out)
+    served_more g.O.Object.sequential _ _ _ _ _ _ _ _ _ _ _ c.loop.invariant next
 
 pub returns-in_err-behind-clause-cut : goal.returns-in_err-behind-clause-cut
 returns-in_err-behind-clause-cut g c =
     let failure = c.in_err-behind.field-0.0 in
     value_at_err c.from_residual-in_err-behind.result failure _ c.from_residual-in_err-behind.ensures.1
-    (served_cut g.O.Object.sequential _ _ _ _ _ _ _ _ failure c.loop.invariant.0 (λ other. rw (c.in_err-behind.ensures.left other) refl)
+    (served_cut g.O.Object.sequential _ _ _ _ _ _ _ _ failure c.loop.invariant (λ other. rw (c.in_err-behind.ensures.left other) refl)
     c.in_err-behind.ensures.stop)
 
 pub returns-in-None-clause-served : goal.returns-in-None-clause-served
 returns-in-None-clause-served g c =
     let next = rw c.in-None.is at c.in_ok-behind.ensures.next in
-    served_end g.O.Object.sequential _ _ _ _ _ _ _ _ _ _ c.loop.invariant.0 next
+    served_end g.O.Object.sequential _ _ _ _ _ _ _ _ _ _ c.loop.invariant next
