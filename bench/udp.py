@@ -3,6 +3,8 @@
 
     bench/udp.py TOTEM [--nodes 3] [--seconds 60] [--clients 4]     one run, which is checked
     bench/udp.py TOTEM --table                                      calls a second, with 1 and 16 in flight at a node
+    bench/udp.py LIBRARY --library ..                               the same with the library for C in the node's own program, after
+                                                                    the example examples/library has run
 
 Of the frames that come to each node 2 in a hundred are lost, 2 come twice and 2 are swapped with the next. A third into
 the run the last node's processes are stopped for two seconds, and go on; two thirds into it node 1's are killed. Clients
@@ -24,13 +26,24 @@ import tempfile
 import time
 from pathlib import Path
 
-EXAMPLE = Path(__file__).resolve().parent.parent / "examples" / "udp" / "udp_node.c"
+TOP = Path(__file__).resolve().parent.parent
+EXAMPLE, COUNTER = TOP / "examples" / "udp" / "udp_node.c", TOP / "examples" / "library" / "counter.c"
 ADD, READ = "0101" + "00", "0102" + "00"
 
 
-def built(folder):
-    program = folder / "udp_node"
-    subprocess.run(["cc", "-O2", "-Wall", "-Wextra", "-o", program, EXAMPLE], check=True)
+def built(totem, folder, options):
+    """The example as a program, which runs the program `totem` beside it, or has the library within it."""
+    if not options.library:
+        return compiled(folder / "udp_node", [EXAMPLE])
+    # The part of the toolchain's C library that the library for C calls: its heap.
+    parts = [f"-I{TOP / 'include'}", totem, Path(options.kit) / "c" / "liblibc_c.a"]
+    counter = compiled(folder / "counter", ["-fsanitize=address", COUNTER, *parts])
+    print(subprocess.run([counter], check=True, stdout=subprocess.PIPE, text=True, timeout=60).stdout, end="", flush=True)
+    return compiled(folder / "udp_node", ["-DTOTEM_LIBRARY", EXAMPLE, *parts])
+
+
+def compiled(program, words):
+    subprocess.run(["cc", "-O2", "-Wall", "-Wextra", "-o", program, *words], check=True)
     return program
 
 
@@ -105,7 +118,7 @@ def faults(logs, killed_at):
 
 
 def run(totem, folder, options):
-    program = built(folder)
+    program = built(totem, folder, options)
     processes = [start(program, totem, me, folder, options) for me in range(1, options.nodes + 1)]
     try:
         killed_at = trouble(processes, options.seconds)
@@ -131,7 +144,7 @@ def end(processes):
 
 
 def table(totem, folder, options):
-    program = built(folder)
+    program = built(totem, folder, options)
     print("| Nodes | Calls in flight at a node | Calls a second, all nodes |\n|---|---|---|")
     for nodes in (3, 5):
         for clients in (1, 16):
@@ -149,7 +162,9 @@ def table(totem, folder, options):
 
 def main():
     parser = argparse.ArgumentParser(description=__doc__, formatter_class=argparse.RawDescriptionHelpFormatter)
-    parser.add_argument("totem")
+    parser.add_argument("totem", metavar="TOTEM")
+    parser.add_argument("--library", action="store_true")
+    parser.add_argument("--kit", default="/opt/rattle", help="the toolchain's folder")
     parser.add_argument("--nodes", type=int, default=3)
     parser.add_argument("--seconds", type=int, default=60)
     parser.add_argument("--clients", type=int, default=4)

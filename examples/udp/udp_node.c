@@ -6,7 +6,8 @@
  * The periods are a choice, and no rule: join every 10 ms; retransmit after 20 ms, consensus after 100 ms and loss after
  * 300 ms, each since it was last told or a token was last taken.
  *
- * It is an example, and no part of what is proved. Build it with `cc -O2 -o udp_node udp_node.c`. A run: README.md.
+ * It is an example, and no part of what is proved. Build it with `cc -O2 -o udp_node udp_node.c`. A run: README.md. With
+ * -DTOTEM_LIBRARY and the library for C the node is in this program, and no other runs beside it.
  *
  * usage: udp_node --me I --of N [--totem FILE] [--port P] [--seconds S] [--clients C] [--log FILE]
  *                 [--lose PERCENT] [--repeat PERCENT] [--swap PERCENT] [--seed X]
@@ -15,7 +16,6 @@
 #define _GNU_SOURCE
 #include <arpa/inet.h>
 #include <errno.h>
-#include <fcntl.h>
 #include <getopt.h>
 #include <poll.h>
 #include <signal.h>
@@ -24,7 +24,6 @@
 #include <stdlib.h>
 #include <string.h>
 #include <sys/socket.h>
-#include <sys/wait.h>
 #include <time.h>
 #include <unistd.h>
 
@@ -58,7 +57,7 @@ static struct options {
     const char *totem, *log;
 } options = {.port = 47100, .clients = 1, .seed = 1, .seconds = 30, .totem = "totem"};
 
-static int to_node, from_node, sock;
+static int sock;
 static FILE *call_log;
 static struct client clients[MOST_CLIENTS];
 static double begun_at[TIMEOUTS];
@@ -91,27 +90,21 @@ static uint64_t number_at(const unsigned char *at, int bytes) {
     return number;
 }
 
-/* The pipes to the node. */
-static void write_whole(const unsigned char *bytes, size_t length) {
-    while (length > 0) {
-        ssize_t count = write(to_node, bytes, length);
-        if (count < 0 && errno == EINTR) continue;
-        if (count <= 0) end("the node takes no records any more");
-        bytes += count;
-        length -= count;
-    }
-}
+/* How the node is reached: `start_node`, `write_whole` of a record, `read_some` of what it told, and `end_node`. */
+#ifdef TOTEM_LIBRARY
+#include "by_library.h"
+#else
+#include "by_pipes.h"
+#endif
 
 static void read_whole(unsigned char *bytes, size_t length) {
     static unsigned char ahead[1 << 16];
     static size_t first, count;
     while (length > 0) {
         if (count == 0) {
-            ssize_t came = read(from_node, ahead, sizeof ahead);
-            if (came < 0 && errno == EINTR) continue;
-            if (came <= 0) end("the node has ended");
             first = 0;
-            count = came;
+            count = read_some(ahead, sizeof ahead);
+            if (count == 0) end("the node has ended");
         }
         size_t part = count < length ? count : length;
         memcpy(bytes, ahead + first, part);
@@ -275,24 +268,6 @@ static void take_frames(void) {
     if (came == 0) poll(&waits, 1, 1);
 }
 
-static void start_node(void) {
-    int in[2], out[2];
-    char me[12], of[12];
-    if (pipe2(in, O_CLOEXEC) || pipe2(out, O_CLOEXEC)) end("no pipes");
-    snprintf(me, sizeof me, "%d", options.me);
-    snprintf(of, sizeof of, "%d", options.of);
-    if (fork() == 0) {
-        dup2(in[0], 0);
-        dup2(out[1], 1);
-        execlp(options.totem, "totem", "node", "--me", me, "--of", of, (char *)NULL);
-        _exit(127);
-    }
-    close(in[0]);
-    close(out[1]);
-    to_node = in[1];
-    from_node = out[0];
-}
-
 static void open_socket(void) {
     int room = 4 << 20;
     struct sockaddr_in address = {
@@ -350,7 +325,6 @@ int main(int count, char **words) {
         told += 1;
     }
     printf("node %d ends: %lu calls answered, %lu refused\n", options.me, answered, refused);
-    close(to_node);
-    wait(NULL);
+    end_node();
     return 0;
 }

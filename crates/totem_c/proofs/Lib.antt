@@ -1,0 +1,2 @@
+mod Loosed
+mod Handled

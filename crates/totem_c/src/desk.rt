@@ -1,0 +1,35 @@
+//! What a handle has.
+
+ghost use Rattle.std.specs.Prelude.{◌≡◌, ◌⊎◌, IfOk, IfErr};
+ghost use Rattle.ring_base.specs.declared.fault.Fault.TheVariants.{Memory, NotMember};
+ghost use Rattle.totem_c.specs.Calls.{IsOpened, IsOneOf};
+
+use ring_base::{Fault, Fixed};
+use ring_pipe::Embedded;
+use ring_things::{Counters, Names, Queue, Registers, Shelf};
+use std::alloc::Global;
+
+/// The program's objects.
+pub type Things = Shelf<Registers<Global>, Counters<Global>, Queue<Global>, Names<Global>>;
+
+/// A node of the program's objects. It has a name without parameters, since what is told of a handle names it.
+#[derive(Drop)]
+pub struct Desk {
+    pub node: Embedded<Things>,
+}
+
+impl Desk {
+    /// Processor `me` of a group with these votes, at its opening. Refused, in this order: `NotMember` unless these are the votes
+    /// of 1 to 16 processors, each one at least, and it is one of them; `Memory`.
+    pub(crate) fn new(alloc: Global, me: u32, votes: &[u8]) -> Result<Desk, Fault>
+        ensures ok { IfOk result (IsOpened me votes.now) }
+        ensures refused { IfErr result (λ fault. (fault ≡ Memory) ⊎ ((fault ≡ NotMember) × ¬ IsOneOf me votes.now)) }
+    {
+        let group = Fixed::with_votes(votes)?;
+        let Ok(me) = u8::try_from(me) else {
+            return Err(Fault::NotMember);
+        };
+        let node = Embedded::new(alloc, group, me)?;
+        Ok(Desk { node })
+    }
+}
