@@ -60,8 +60,9 @@ static inline enum totem_status totem_node_open_with_votes(struct totem_node *no
 
 /* The same with a vote for each. */
 static inline enum totem_status totem_node_open(struct totem_node *node, uint32_t me, size_t of) {
-    static const uint8_t one_each[16] = {1, 1, 1, 1, 1, 1, 1, 1, 1, 1, 1, 1, 1, 1, 1, 1};
-    return of > sizeof one_each ? TOTEM_NOT_MEMBER : totem_node_open_with_votes(node, me, one_each, of);
+    /* One more than there may be, which the library refuses. */
+    static const uint8_t one_each[17] = {1, 1, 1, 1, 1, 1, 1, 1, 1, 1, 1, 1, 1, 1, 1, 1, 1};
+    return totem_node_open_with_votes(node, me, one_each, of < sizeof one_each ? of : sizeof one_each);
 }
 
 /* Hands the node a record: its kind, a letter, and its bytes. What the node tells of it stands behind what is unread. */

@@ -73,7 +73,7 @@ static void try_what_is_refused(void) {
     want(totem_node_open_with_votes(&node, 1, (const uint8_t[]){1, 0}, 2) == TOTEM_NOT_MEMBER, "each has a vote at least");
     totem_node_close(&node);
     want(totem_node_open(&node, 1, 1) == TOTEM_DONE, "a group of one is opened");
-    want(totem_node_open(&node, 1, 1) == TOTEM_MISUSED, "a handle with a node takes no other");
+    want(totem_node_open(&node, 1, 1) == TOTEM_MISUSED && totem_node_open(&node, 1, 17) == TOTEM_MISUSED, "a handle with a node takes no other");
     want(totem_node_take(&node, 'F', NULL, 1) == TOTEM_MISUSED, "null bytes are told so");
     want(totem_node_take(&node, 'Z', NULL, 0) == TOTEM_BAD_FRAME, "no record is of this kind");
     want(totem_node_take(&node, 'T', (const uint8_t[]){4}, 1) == TOTEM_BAD_FRAME, "there is no fifth timeout");
