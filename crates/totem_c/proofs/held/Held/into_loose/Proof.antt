@@ -42,17 +42,23 @@ use Rattle.totem_c.proofs.held.Held.into_loose.Code as code
 pub into_loose_spec : {M : Type 1} → statement M
 into_loose_spec 𝓤 𝓛 𝓜 𝓡 wired =
     let H = 𝓛.H in let 𝓣 = tables 𝓤 H 𝓜 𝓡 𝓡.env in let c = clauses 𝓛 𝓜.mem 𝓡.returns in let fn = code.function in
-    let R : RattleType = desk.the_row in let Z : RattleType = heap.the_row in let LZ = heap_laws.the_row_laws in let F : RattleType = held.the_row in let L : RattleType = Loose R Z LZ ghosts in
+    let R : RattleType = desk.the_row in let Z : RattleType = heap.the_row in let LZ = heap_laws.the_row_laws in let F : RattleType = held.the_row in
+    let L : RattleType = Loose R Z LZ ghosts in
     let hs : Stays ended.signature.params ended.kept = (stay_dropped (plain (λ _. F)) yes, (stay_dropped (plain (λ _. Z)) yes, tt)) in
-    proved_at 𝓛 ended hs c 𝓜 𝓡 (Goes-dropped 𝓛 0 (plain (λ _. F)) yes (λ κs x f. refl), (Goes-dropped 𝓛 0 (plain (λ _. Z)) yes (λ κs x f. refl), tt)) #self fn (code.unfolded 𝓤 H 𝓜 𝓡 wired) (λ z are.
+    proved_at 𝓛 ended hs c 𝓜 𝓡 (
+      Goes-dropped 𝓛 0 (plain (λ _. F)) yes (λ κs x f. refl),
+      (Goes-dropped 𝓛 0 (plain (λ _. Z)) yes (λ κs x f. refl), tt),
+    ) #self fn (code.unfolded 𝓤 H 𝓜 𝓡 wired) (λ z are.
     let d = z.0.3.0 in let a = z.0.3.1.0 in
     let Post : Val → SProp 𝓤 = (walk_of 𝓛 ended hs c).post z in let Run : List Val → SProp 𝓤 = λ ws. WpFn 𝓤 H 𝓣.C 𝓣.Λ fn ws Post in
     let Out : RattleType = type_at ended.signature.result z.0.0 in
     let h = one (layout Z) z.0.4.1.0 ((LZ.lawful 𝓛).typed a z.0.4.1.0 are.1.0) in let w : Val = pair (ptr_val d.at) (vbool d.made) in
-    qed 𝓛 ((raw (alive 𝓛 ended.signature z.0.0 z.0.1) ⊛ ‵ (owns (types_at ended.signature.params z.0.0) z.0.3 z.0.4)) ∷ raw ((c z.0.0 z.0.3).requires z.1) ∷ []) ∵
+    qed 𝓛 ((raw (alive 𝓛 ended.signature z.0.0 z.0.1) ⊛ ‵ (owns (types_at ended.signature.params z.0.0) z.0.3 z.0.4)) ∷
+    raw ((c z.0.0 z.0.3).requires z.1) ∷ []) ∵
     split ! $ move ! (1 ∷ []) $ fsplit3 ! $ rewrite ! 1 (λ (us : List Val). ‵ (Z.own_val a us)) h.1 refl $ handle_out ! d z.0.4.0 (λ es.
     let good = (subst (Typed F.mir) es (((held_laws.the_row_laws).lawful 𝓛).typed d z.0.4.0 are.0)).0 in
-    suffices ! (Run (w ∷ h.0 ∷ [])) (subst (λ (us : List Val). ent 𝓤 (Run (w ∷ h.0 ∷ [])) (Run us)) (sym (λ i. es i ++ (h.1 i ++ []))) (id⊢ 𝓤 (Run (w ∷ h.0 ∷ [])))) $
+    suffices ! (Run (w ∷ h.0 ∷ [])) (subst (λ (us : List Val). ent 𝓤 (Run (w ∷ h.0 ∷ [])) (Run us)) (sym (λ i. es i ++ (h.1 i ++ [])))
+    (id⊢ 𝓤 (Run (w ∷ h.0 ∷ [])))) $
     -- [what the handle owns; the heap's handle]
     keep ! (0 ∷ 1 ∷ []) $ enter ! 𝓣.C 𝓣.Λ fn (w ∷ h.0 ∷ []) Post $ alloc_all ! (λ l. pass_all ! refl (good, (h.2, tt)) $ let Ev = env fn.locals l in
     sets ! (of_opd ! (get_in ! (fld ! refl (stop !)) (sub ! 0 refl (whole !)))) refl ((rawptr_Lawful 𝓛).typed d.at _ refl).0 $
@@ -69,7 +75,8 @@ into_loose_spec 𝓤 𝓛 𝓜 𝓡 wired =
     rewrite ! 0 (λ (p : Ptr). ‵ (L.own_val (record { at = p; alloc = a; value = x }) (both (ptr_val p) h.0 ∷ []))) (sym ep) refl $
     use1 𝓛 (‵ (Out.own_val (Some r) (v ∷ []))) (Some-of 𝓛 L r made) $
     returns ! (look_at ! 0 refl) $ free_all ! refl $ use0 𝓛 (raw (fact 𝓤 (d.value ≡ Some x))) (fact_i 𝓤 (d.value ≡ Some x) (emp 𝓤) ev) $
-    move ! (1 ∷ 0 ∷ []) $ nothing ! $ nothing ! $ fjoin ! $ nothing ! $ fjoin ! $ nothing ! $ by ! (leaves 𝓛 ended hs c z v (Some r) (tt, (tt, tt)) (tt, (tt, tt)))))
+    move ! (1 ∷ 0 ∷ []) $ nothing ! $ nothing ! $ fjoin ! $ nothing ! $ fjoin ! $ nothing ! $
+    by ! (leaves 𝓛 ended hs c z v (Some r) (tt, (tt, tt)) (tt, (tt, tt)))))
     (λ is. empty ! d.made d.at d.value is (λ ev.
     let v : Val = live 0 vnil in let all : Good (layout Out) v = (tt, (record { fits = lit< tt }, tt)) in
     drop ! $ sets_last ! (agg ! (and_then ! (lit ! tt) (no_more !))) refl all $
