@@ -1,0 +1,70 @@
+//! A lone node, turned by hand: its own frames form its ring, and its call is answered at turn 506.
+
+ghost use Rattle.std.specs.Prelude.{◌≡◌};
+
+use crate::driven::{Driven, done};
+use ring_base::{Fault, Fixed};
+use ring_book::{BookName, Opening};
+use ring_host::{HostTicket, INBOX, Turn};
+use ring_object::Object;
+use ring_session::Answer;
+use ring_things::Counters;
+use std::alloc::Global;
+use std::marker::Brand;
+use std::sync::Wait;
+
+/// What is seen after a turn: what the turn told, what the gauge has for the node, the answer to the call, and whether that is
+/// the book's own.
+type Row = (Turn, u64, (Option<Answer>, bool));
+
+/// What is seen after so many turns more.
+fn row<O: Object, K: BookName<O::Alloc>, W: Wait>(
+    rt: &W,
+    driven: &mut Driven<O, K>,
+    ticket: &HostTicket,
+    turns: u32,
+) -> Result<Row, Fault> {
+    let turn = driven.turns(rt, 1, turns)?;
+    let length = driven.look(1)?;
+    Ok((turn, length, driven.polled(rt, ticket)))
+}
+
+/// What is seen after turn 505 and after turn 506, where a call was submitted before the first one.
+fn both_rows<O: Object, K: BookName<O::Alloc>, W: Wait>(
+    rt: &W,
+    driven: &mut Driven<O, K>,
+) -> Result<(Row, Row), Fault> {
+    let ticket = driven.submit(rt, 1, 7, 1)?;
+    let before = row(rt, driven, &ticket, 505)?;
+    let after = row(rt, driven, &ticket, 1)?;
+    Ok((before, after))
+}
+
+/// The same at an opening.
+fn opened<O: Object, K: BookName<O::Alloc>, W: Wait>(
+    rt: &W,
+    alloc: O::Alloc,
+    opening: Opening<O>,
+) -> Result<(Row, Row), Fault>
+    requires { opening ≡ K.name }
+{
+    let mut driven = Driven::<O, K>::new(alloc, opening, 1, INBOX)?;
+    both_rows(rt, &mut driven)
+}
+
+/// The same of counters.
+fn counted<W: Wait>(rt: &W, alloc: Global) -> Result<(Row, Row), Fault> {
+    let opening = Opening::<Counters>::new(alloc, Fixed::new(1)?)?;
+    opened::<Counters, Brand, W>(rt, alloc, opening)
+}
+
+#[test]
+fn a_call_is_answered_at_turn_506(rt: HostRuntime) {
+    let told = |length| Turn {
+        dropped: 0,
+        length: Some(length),
+    };
+    let before = (told(0), 0, (None, true));
+    let after = (told(1), 1, (Some(done(5)), true));
+    assert!(rt; counted(&rt, rt.alloc()) == Ok((before, after)));
+}

@@ -1,0 +1,305 @@
+//! Hosts whose nodes take their turns by hand.
+
+ghost use Rattle.std.specs.Prelude.{◌≡◌, ◌≤◌, All, IfOk};
+ghost use Rattle.ring_payload.specs.Calls.{CallFits};
+ghost use Rattle.ring_seat.specs.Seats.{IsAt};
+
+use ring_base::{Fault, Kind};
+use ring_book::{BookName, Opening};
+use ring_host::{Host, HostTicket, Open, Seat, Turn};
+use ring_object::{Object, Reply};
+use ring_payload::Call;
+use ring_seat::Clock;
+use ring_session::Answer;
+use ring_things::Counters;
+use std::alloc::Allocator;
+use std::sync::Wait;
+use std::thread::Threads;
+
+/// The most turns that pass until a timeout is due.
+const LONGEST: u32 = 32_000;
+
+/// The answer to the add that brings the counter to this.
+pub fn done(count: u8) -> Answer {
+    Answer::Done(Reply::from_slice(&[0, 0, 0, 0, 0, 0, 0, 0, count]))
+}
+
+/// The call of this client and number that adds 5 to counter 0.
+fn add_of<A: Allocator + Copy>(alloc: A, client: u32, number: u64) -> Result<Call<A>, Fault>
+    ensures { IfOk result CallFits }
+{
+    let call = Call::new(alloc, client, number, Counters::add(0, 5).as_slice())?;
+    Ok(call)
+}
+
+/// A host of up to three nodes, with the seats of all.
+#[derive(Drop)]
+pub struct Driven<O: Object, K: BookName<O::Alloc>> {
+    alloc: O::Alloc,
+    pub host: Host<O, K>,
+    first: Seat<O::Alloc>,
+    second: Seat<O::Alloc>,
+    third: Seat<O::Alloc>,
+    guest: Seat<O::Alloc>,
+    ghost at: { (first.gauge ≡ host) × (second.gauge ≡ host) × (third.gauge ≡ host) × (guest.gauge ≡ host) },
+}
+
+impl<O: Object, K: BookName<O::Alloc>> Driven<O, K> {
+    /// The host of the opening that K names, of so many nodes, with inboxes of this size.
+    pub fn new(
+        alloc: O::Alloc,
+        opening: Opening<O>,
+        nodes: u8,
+        inbox: usize,
+    ) -> Result<Driven<O, K>, Fault>
+        requires name { opening ≡ K.name }
+        requires inbox { (1 ≤ inbox) × (inbox ≤ 1024) }
+    {
+        let guests = u16::from(4u8.saturating_sub(nodes));
+        let (host, mut seats) = Host::<O, K>::with_inbox(alloc, opening, guests, inbox)?;
+        let (first, second, third, guest) = four_of(&host, &mut seats)?;
+        Ok(Driven {
+            alloc,
+            host,
+            first,
+            second,
+            third,
+            guest,
+        })
+    }
+
+    /// One turn of the node.
+    pub fn turn<W: Wait>(&mut self, rt: &W, node: u8) -> Result<Turn, Fault> {
+        match node {
+            1 => turn(rt, &self.host, &mut self.first),
+            2 => turn(rt, &self.host, &mut self.second),
+            _ => turn(rt, &self.host, &mut self.third),
+        }
+    }
+
+    /// So many turns of the node. What the last one told.
+    pub fn turns<W: Wait>(&mut self, rt: &W, node: u8, count: u32) -> Result<Turn, Fault> {
+        let mut last = Turn {
+            dropped: 0,
+            length: None,
+        };
+        for _ in 0..count {
+            last = self.turn(rt, node)?;
+        }
+        Ok(last)
+    }
+
+    /// All three nodes take a turn each, so often at most, or until none of them finds anything. A turn that is refused, as each
+    /// of a stopped node's, finds nothing.
+    pub fn rounds<W: Wait>(&mut self, rt: &W, most: u32) {
+        for _ in 0..most {
+            let first = has_found(self.turn(rt, 1));
+            let second = has_found(self.turn(rt, 2));
+            let third = has_found(self.turn(rt, 3));
+            if !(first || second || third) {
+                break;
+            }
+        }
+    }
+
+    /// Turns of the node pass that do nothing but count, until the timeout of this kind is due at its next turn. Each that finds
+    /// nothing would yield, and thousands of those last long on a busy machine.
+    pub fn pass(&mut self, node: u8, kind: Kind) {
+        match node {
+            1 => pass(&self.host, &mut self.first, kind),
+            2 => pass(&self.host, &mut self.second, kind),
+            _ => pass(&self.host, &mut self.third, kind),
+        }
+    }
+
+    /// The timeout of this kind comes at the node, behind those that are due at the same turn and go first. What the last turn told.
+    pub fn time_out<W: Wait>(&mut self, rt: &W, node: u8, kind: Kind) -> Result<Turn, Fault> {
+        self.pass(node, kind);
+        self.turns(rt, node, 4)
+    }
+
+    /// A ring of all three forms, in so many rounds at most: each node's join comes first.
+    pub fn form<W: Wait>(&mut self, rt: &W, most: u32) {
+        for node in 1..4u8 {
+            self.pass(node, Kind::Join);
+        }
+        self.rounds(rt, most);
+    }
+
+    /// Submits the add of this client and number at the node.
+    pub fn submit<W: Wait>(
+        &mut self,
+        rt: &W,
+        node: u8,
+        client: u32,
+        number: u64,
+    ) -> Result<HostTicket, Fault> {
+        let node = self.host.proc(node)?;
+        let call = add_of(self.alloc, client, number)?;
+        self.host.submit(rt, &mut self.guest, node, call)
+    }
+
+    /// Stops the node.
+    pub fn stop<W: Wait>(&self, rt: &W, node: u8) -> Result<(), Fault> {
+        let node = self.host.proc(node)?;
+        self.host.stop(rt, node)
+    }
+
+    /// What the gauge has for the node, as a seat of none sees it.
+    pub fn look(&mut self, node: u8) -> Result<u64, Fault> {
+        let node = self.host.proc(node)?;
+        Ok(self.host.gauge().look(&mut self.guest, node))
+    }
+
+    /// How many places of the book are used.
+    pub fn places<W: Wait>(&self, rt: &W) -> u32 {
+        self.host.read_book(rt, |book| book.places())
+    }
+
+    /// What a poll of the ticket answers, and whether it is what the host's book answers.
+    pub fn polled<W: Wait>(&self, rt: &W, ticket: &HostTicket) -> (Option<Answer>, bool) {
+        let answer = self.host.poll(rt, ticket);
+        let HostTicket { node, ticket } = *ticket;
+        let told = self.host.read_book(rt, |book| book.answer(node, ticket));
+        (answer, answer == told)
+    }
+}
+
+impl<O: Object + Send, K: BookName<O::Alloc> + Send + Sync> Driven<O, K>
+where
+    O::Alloc: Send + Sync,
+{
+    /// Runs node 1 in a thread, until that ends.
+    pub fn run_first<W: Threads + Wait + Sync>(self, rt: &W) -> Result<(), Fault> {
+        let Driven {
+            alloc,
+            host,
+            first,
+            second: _,
+            third: _,
+            guest: _,
+        } = self;
+        let seats = alone_in(alloc, &host, first)?;
+        run_seats(rt, &host, seats)
+    }
+}
+
+/// Whether a turn was taken and found something.
+fn has_found(turned: Result<Turn, Fault>) -> bool {
+    matches!(
+        turned,
+        Ok(Turn {
+            length: Some(_),
+            ..
+        })
+    )
+}
+
+/// A list of this seat of the host's.
+fn alone_in<O: Object, K: BookName<O::Alloc>>(
+    alloc: O::Alloc,
+    host: &Host<O, K>,
+    seat: Seat<O::Alloc>,
+) -> Result<Vec<Seat<O::Alloc>, O::Alloc>, Fault>
+    requires { IsAt host.now seat }
+    ensures { IfOk result (λ seats. All (IsAt host.now) seats.items) }
+{
+    let _host = host;
+    let mut seats = Vec::new(alloc);
+    seats.push(seat)?;
+    Ok(seats)
+}
+
+/// Runs the nodes whose seats of the host's these are, until their threads end.
+fn run_seats<O: Object + Send, K: BookName<O::Alloc> + Send + Sync, W: Threads + Wait + Sync>(
+    rt: &W,
+    host: &Host<O, K>,
+    seats: Vec<Seat<O::Alloc>, O::Alloc>,
+) -> Result<(), Fault>
+where
+    O::Alloc: Send + Sync,
+    requires { All (IsAt host.now) seats.items }
+{
+    let mut seats = seats;
+    host.run(rt, seats.as_mut_slice(), &Open)
+}
+
+/// Four of the host's seats, the last of them last.
+fn four_of<O: Object, K: BookName<O::Alloc>>(
+    host: &Host<O, K>,
+    seats: &mut Vec<Seat<O::Alloc>, O::Alloc>,
+) -> Result<
+    (
+        Seat<O::Alloc>,
+        Seat<O::Alloc>,
+        Seat<O::Alloc>,
+        Seat<O::Alloc>,
+    ),
+    Fault,
+>
+    requires { All (IsAt host.now) seats.old.items }
+    ensures { IfOk result (λ four. IsAt host.now four.0 × IsAt host.now four.1 × IsAt host.now four.2 × IsAt host.now four.3) }
+{
+    let fourth = last_seat(host, seats)?;
+    let third = last_seat(host, seats)?;
+    let second = last_seat(host, seats)?;
+    let first = last_seat(host, seats)?;
+    Ok((first, second, third, fourth))
+}
+
+/// The last of the host's seats.
+pub fn last_seat<O: Object, K: BookName<O::Alloc>>(
+    host: &Host<O, K>,
+    seats: &mut Vec<Seat<O::Alloc>, O::Alloc>,
+) -> Result<Seat<O::Alloc>, Fault>
+    requires { All (IsAt host.now) seats.old.items }
+    ensures seats { All (IsAt host.now) seats.new.items }
+    ensures seat { IfOk result (IsAt host.now) }
+{
+    match host.take_seat(seats) {
+        Some(seat) => Ok(seat),
+        None => Err(Fault::NotMember),
+    }
+}
+
+/// One turn of a node's own seat. A seat of none has no turn.
+fn turn<O: Object, K: BookName<O::Alloc>, W: Wait>(
+    rt: &W,
+    host: &Host<O, K>,
+    seat: &mut Seat<O::Alloc>,
+) -> Result<Turn, Fault>
+    requires { IsAt host.now seat.old }
+    ensures { IsAt host.now seat.new }
+{
+    let Some(_node) = seat.node() else {
+        return Err(Fault::NotMember);
+    };
+    host.turn(rt, seat)
+}
+
+/// Turns of the seat pass until the timeout of this kind is due at the next one.
+pub fn pass<O: Object, K: BookName<O::Alloc>>(
+    host: &Host<O, K>,
+    seat: &mut Seat<O::Alloc>,
+    kind: Kind,
+)
+    requires { IsAt host.now seat.old }
+    ensures { IsAt host.now seat.new }
+{
+    for _ in 0..LONGEST {
+        if left_of(seat.clock(), kind) <= 1 {
+            break;
+        }
+        seat.tick();
+    }
+}
+
+/// How many turns are left until the timeout of this kind is due.
+fn left_of(clock: Clock, kind: Kind) -> u16 {
+    match kind {
+        Kind::Join => clock.join,
+        Kind::Retransmit => clock.retransmit,
+        Kind::Consensus => clock.consensus,
+        Kind::Loss => clock.loss,
+    }
+}

@@ -1,0 +1,98 @@
+//! A host whose book is full: it refuses all with `BookFull`, before anything else, and a run of it ends by itself.
+
+ghost use Rattle.std.specs.Prelude.{◌≡◌};
+
+use crate::driven::Driven;
+use ring_base::{Fault, Fixed, Kind};
+use ring_book::{BookName, Opening};
+use ring_host::INBOX;
+use ring_object::Object;
+use ring_things::Counters;
+use std::alloc::Global;
+use std::marker::Brand;
+use std::sync::Wait;
+use std::thread::Threads;
+
+/// How many turns fill a book at most: a ring of one hands its token to itself at each.
+const MOST: u32 = 300_000;
+
+/// What was seen.
+#[derive(Clone, Copy, Debug, PartialEq, Eq)]
+struct Shown {
+    /// How many places of the book are used.
+    places: u32,
+    /// Whether a submit is refused as the book is full, at a node that goes and at one that was stopped before.
+    are_submits_refused: bool,
+    /// And a stop of these.
+    are_stops_refused: bool,
+    /// Whether a ticket that has no answer stays without.
+    is_silent: bool,
+}
+
+/// Turns of node 1 until the book is full. Any other refusal is answered.
+fn fill<O: Object, K: BookName<O::Alloc>, W: Wait>(
+    rt: &W,
+    driven: &mut Driven<O, K>,
+) -> Result<(), Fault> {
+    for _ in 0..MOST {
+        match driven.turn(rt, 1) {
+            Ok(_) => {}
+            Err(Fault::BookFull) => return Ok(()),
+            Err(fault) => return Err(fault),
+        }
+    }
+    Err(Fault::NoAnswer)
+}
+
+/// Node 2 of two is given a call and stopped, and node 1, which loses it, goes on alone until the book is full.
+fn filled<O: Object, K: BookName<O::Alloc>, W: Wait>(
+    rt: &W,
+    driven: &mut Driven<O, K>,
+) -> Result<Shown, Fault> {
+    let ticket = driven.submit(rt, 2, 7, 1)?;
+    driven.stop(rt, 2)?;
+    driven.time_out(rt, 1, Kind::Join)?;
+    driven.time_out(rt, 1, Kind::Consensus)?;
+    fill(rt, driven)?;
+    let full = Some(Fault::BookFull);
+    let at_one = driven.submit(rt, 1, 8, 1).err() == full;
+    let at_two = driven.submit(rt, 2, 9, 1).err() == full;
+    Ok(Shown {
+        places: driven.places(rt),
+        are_submits_refused: at_one && at_two,
+        are_stops_refused: driven.stop(rt, 1).err() == full && driven.stop(rt, 2).err() == full,
+        is_silent: driven.polled(rt, &ticket) == (None, true),
+    })
+}
+
+/// The same at an opening, and whether a run of node 1 ends by itself then.
+fn opened<O: Object + Send, K: BookName<O::Alloc> + Send + Sync, W: Threads + Wait + Sync>(
+    rt: &W,
+    alloc: O::Alloc,
+    opening: Opening<O>,
+) -> Result<(Shown, bool), Fault>
+where
+    O::Alloc: Send + Sync,
+    requires { opening ≡ K.name }
+{
+    let mut driven = Driven::<O, K>::new(alloc, opening, 2, INBOX)?;
+    let shown = filled(rt, &mut driven)?;
+    Ok((shown, driven.run_first(rt).is_ok()))
+}
+
+/// The same of counters.
+fn counted<W: Threads + Wait + Sync>(rt: &W, alloc: Global) -> Result<(Shown, bool), Fault> {
+    let opening = Opening::<Counters>::new(alloc, Fixed::new(2)?)?;
+    opened::<Counters, Brand, W>(rt, alloc, opening)
+}
+
+#[test]
+fn a_host_whose_book_is_full_refuses_all_and_its_run_ends(rt: HostRuntime) {
+    let shown = Shown {
+        places: 262_144,
+        are_submits_refused: true,
+        are_stops_refused: true,
+        is_silent: true,
+    };
+    assert!(rt; counted(&rt, rt.alloc()) == Ok((shown, true)));
+}

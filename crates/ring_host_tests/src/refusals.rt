@@ -1,0 +1,133 @@
+//! What a host refuses, and that a refused submit gives its place back.
+
+ghost use Rattle.std.specs.Prelude.{◌≡◌};
+
+use crate::driven::Driven;
+use refusing_alloc::Refusing;
+use ring_base::{Fault, Fixed};
+use ring_book::{BookName, Opening};
+use ring_host::{HostTicket, INBOX};
+use ring_object::Object;
+use ring_things::Counters;
+use std::alloc::{Allocator, Global};
+use std::marker::Brand;
+use std::sync::Wait;
+
+/// What is seen of a submit: what it answered, and how many places it added to those of the book.
+type Seen = (Result<HostTicket, Fault>, u32);
+
+/// A submit at node 1, and how many places it adds.
+fn submitted<O: Object, K: BookName<O::Alloc>, W: Wait>(
+    rt: &W,
+    driven: &mut Driven<O, K>,
+    number: u64,
+) -> Seen {
+    let before = driven.places(rt);
+    let ticket = driven.submit(rt, 1, 7, number);
+    (ticket, driven.places(rt).wrapping_sub(before))
+}
+
+/// Whether a submit was taken, and has a place.
+fn is_taken(seen: Seen) -> bool {
+    seen.0.is_ok() && seen.1 == 1
+}
+
+/// Whether a submit was refused so, with as many places as before.
+fn is_refused(seen: Seen, fault: Fault) -> bool {
+    seen.0.err() == Some(fault) && seen.1 == 0
+}
+
+/// Whether 64 submits are taken at a node that takes no turn, one more is refused as too many, and each call at it is refused
+/// once it has stopped.
+fn refuses<O: Object, K: BookName<O::Alloc>, W: Wait>(rt: &W, driven: &mut Driven<O, K>) -> bool {
+    let mut are_taken = true;
+    for number in 1..65u64 {
+        let is = is_taken(submitted(rt, driven, number));
+        are_taken = are_taken && is;
+    }
+    let is_full = is_refused(submitted(rt, driven, 65), Fault::PendingFull);
+    let stops = driven.stop(rt, 1).is_ok() && driven.stop(rt, 1).err() == Some(Fault::Stopped);
+    let is_stopped = is_refused(submitted(rt, driven, 65), Fault::Stopped);
+    are_taken && is_full && stops && is_stopped
+}
+
+/// The same at an opening.
+fn opened<O: Object, K: BookName<O::Alloc>, W: Wait>(
+    rt: &W,
+    alloc: O::Alloc,
+    opening: Opening<O>,
+) -> Result<bool, Fault>
+    requires { opening ≡ K.name }
+{
+    let mut driven = Driven::<O, K>::new(alloc, opening, 1, INBOX)?;
+    Ok(refuses(rt, &mut driven))
+}
+
+/// The same of counters.
+fn counted<W: Wait>(rt: &W, alloc: Global) -> Result<bool, Fault> {
+    let opening = Opening::<Counters>::new(alloc, Fixed::new(1)?)?;
+    opened::<Counters, Brand, W>(rt, alloc, opening)
+}
+
+#[test]
+fn too_many_calls_and_a_stopped_node(rt: HostRuntime) {
+    assert!(rt; counted(&rt, rt.alloc()) == Ok(true));
+}
+
+/// How many requests for memory were made before a submit and after it, and whether it was refused memory with no place lost, and
+/// the next one taken.
+type Short = (u64, u64, bool);
+
+/// A submit of which one request for memory may be refused.
+fn short<O: Object, K: BookName<O::Alloc>, W: Wait>(
+    rt: &W,
+    alloc: O::Alloc,
+    heap: &Refusing,
+    opening: Opening<O>,
+) -> Result<Short, Fault>
+    requires { opening ≡ K.name }
+{
+    let mut driven = Driven::<O, K>::new(alloc, opening, 1, INBOX)?;
+    let before = heap.requests();
+    let seen = submitted(rt, &mut driven, 1);
+    let after = heap.requests();
+    let is_next_taken = is_taken(submitted(rt, &mut driven, 2));
+    Ok((
+        before,
+        after,
+        is_refused(seen, Fault::Memory) && is_next_taken,
+    ))
+}
+
+/// The same of counters that take their memory from this heap.
+fn short_of<A: Allocator + Copy + Drop, W: Wait>(
+    rt: &W,
+    alloc: A,
+    heap: &Refusing,
+) -> Result<Short, Fault> {
+    let opening = Opening::<Counters<A>>::new(alloc, Fixed::new(1)?)?;
+    short::<Counters<A>, Brand, W>(rt, alloc, heap, opening)
+}
+
+/// The same where the request after so many others is refused.
+fn refused<W: Wait>(rt: &W, alloc: Global, passed: u64) -> Result<Short, Fault> {
+    let heap = Refusing::new(alloc, passed);
+    short_of(rt, &heap, &heap)
+}
+
+/// How many requests a submit makes, and whether each of them, refused, leaves the host as it was.
+fn refused_in_turn<W: Wait>(rt: &W, alloc: Global) -> Result<(u64, bool), Fault> {
+    let (before, after, _) = refused(rt, alloc, u64::MAX)?;
+    let mut are_kept = true;
+    for passed in before..after {
+        let (_, _, is_kept) = refused(rt, alloc, passed)?;
+        are_kept = are_kept && is_kept;
+    }
+    Ok((after.saturating_sub(before), are_kept))
+}
+
+#[test]
+fn a_submit_that_is_refused_memory_gives_its_place_back(rt: HostRuntime) {
+    let refused = refused_in_turn(&rt, rt.alloc());
+    assert!(rt; matches!(refused, Ok((1.., true))), "{refused:?}");
+}
