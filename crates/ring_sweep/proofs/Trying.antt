@@ -117,6 +117,15 @@ module _ {O A : Type 0} (object : Sequential O) (group : Group) (lines : List (N
       let ends : c ≡ a + (h.0 + k.0) = let at = h.1 in let upto = k.1 in omega (arith, at, upto) in
       (h.0 + k.0, ends, append_from a h.0 k.0 f g h.2 (subst (λ (i : ℕ). AreTriedFrom object group lines i k.0 g) h.1 k.2))
 
+  -- none of them is left
+  pub tried_end : (a b : ℕ) → a ≤ b → b ≤ a → AreTriedIn object group lines a b None
+  tried_end a b le ge = (0, omega (arith, le, ge), refl)
+
+  -- the variants of one part and those of the next, of which this is the first that is not legal
+  pub tried_rest : (a b c : ℕ) (f g all : Option Upset) → AreTriedIn object group lines a b f → AreTriedIn object group lines b c g
+      → all ≡ first_of f g → AreTriedIn object group lines a c all
+  tried_rest a b c f g all h k is = subst (λ (o : Option Upset). AreTriedIn object group lines a c o) (sym is) (tried_append a b c f g h k)
+
   from_first : (n : ℕ) (f : Option Upset) → AreTriedFrom object group lines 0 n f → AreTried object group lines n f
   from_first zero f h = h
   from_first (suc n) f h =

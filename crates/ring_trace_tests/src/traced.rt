@@ -69,19 +69,19 @@ fn replies_told(alloc: Global, text: &str) -> Result<String, AllocError> {
     Ok(replies)
 }
 
-/// What a trace tells last of a node: the word behind these.
-fn last_told<'a>(text: &'a str, node: &str, words: &str) -> &'a str {
-    let mut last = "";
+/// Whether this is the word that a trace tells last of a node behind these words. Where it tells none: whether none need be told.
+fn is_told_last(text: &str, node: &str, words: &str, wanted: &str, at_first: bool) -> bool {
+    let mut is_last = at_first;
     for line in text.lines() {
         for part in line.split("; node ") {
             if let Some((of, rest)) = part.split_once(words)
                 && of == node
             {
-                last = rest.split(' ').next().unwrap_or("");
+                is_last = rest.split(' ').next().unwrap_or("") == wanted;
             }
         }
     }
-    last
+    is_last
 }
 
 /// Whether a line of `show` says what a trace tells last of its node: its ring, and how much is committed.
@@ -90,10 +90,9 @@ fn is_as_told(line: &str, told: &str) -> bool {
     let node = words.nth(1).unwrap_or("");
     let ring = words.nth(1).unwrap_or("");
     let committed = words.nth(1).unwrap_or("");
-    let rings = last_told(told, node, " installs ring ");
-    let lengths = last_told(told, node, " has committed ");
-    (rings == ring || (rings == "" && ring.starts_with("0.")))
-        && (lengths == committed || (lengths == "" && committed == "0"))
+    let is_alone = ring.starts_with("0.");
+    is_told_last(told, node, " installs ring ", ring, is_alone)
+        && is_told_last(told, node, " has committed ", committed, committed == "0")
 }
 
 #[test]
@@ -167,11 +166,18 @@ fn the_frames_of_a_trace_are_listed(rt: HostRuntime) {
     assert!(rt; frames_told(told) > 0 && lines.count() == frames_told(told));
 }
 
+/// What happens from this event on, at this node or at all.
+fn from_event(from: u64, node: Option<Proc>) -> Selection {
+    Selection {
+        node,
+        from,
+        to: u64::MAX,
+    }
+}
+
 #[test]
 fn events_are_selected(rt: HostRuntime) {
-    let mut selection = Selection::all();
-    selection.from = 4;
-    let told = traced(rt.alloc(), ALONE, Format::Text, selection);
+    let told = traced(rt.alloc(), ALONE, Format::Text, from_event(4, None));
     assert!(rt; count(told.as_str(), "times out: join") == 0);
     assert!(rt; count(told.as_str(), "times out: loss") == 1);
 }
@@ -205,12 +211,10 @@ fn each_form_tells_the_same_run(rt: HostRuntime) {
 
 #[test]
 fn a_later_part_shows_how_nodes_stand(rt: HostRuntime) {
-    let mut selection = Selection::all();
-    selection.from = 40;
-    let later = traced(rt.alloc(), ALONE, Format::Svg, selection);
+    let later = traced(rt.alloc(), ALONE, Format::Svg, from_event(40, None));
     assert!(rt; count(later.as_str(), ">1.1 {1,2,3}</text>") == 3);
-    selection.node = Some(Proc::new(3));
-    let alone = traced(rt.alloc(), ALONE, Format::Svg, selection);
+    let at_three = from_event(40, Some(Proc::new(3)));
+    let alone = traced(rt.alloc(), ALONE, Format::Svg, at_three);
     assert!(rt; count(alone.as_str(), ">1.1 {1,2,3}</text>") == 1);
     assert!(rt; count(alone.as_str(), ">node 2</text>") == 0);
 }

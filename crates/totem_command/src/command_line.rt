@@ -197,17 +197,21 @@ pub(crate) fn task_of<'a>(
     match words {
         Ok(words) => {
             let matches = command.try_get_matches_from_mut(words.as_slice())?;
-            let asked = match matches.subcommand() {
-                Some((name, of)) => task_in(name, of),
-                None => Err(NO_COMMAND),
-            };
-            match asked {
+            match task_by(&matches) {
                 Ok(task) => Ok(task),
                 Err(wrong) => Err(command.error(ErrorKind::InvalidValue, wrong)?),
             }
         }
         Err(error) if error.kind() == io::ErrorKind::OutOfMemory => Err(Error::from(AllocError)),
         Err(_) => Err(command.error(ErrorKind::InvalidValue, "an argument is not UTF-8")?),
+    }
+}
+
+/// What the words ask for, or what is wrong with them.
+fn task_by<'a>(matches: &ArgMatches<'a>) -> Result<Task<'a>, &'static str> {
+    match matches.subcommand() {
+        Some((name, of)) => task_in(name, of),
+        None => Err(NO_COMMAND),
     }
 }
 
@@ -230,6 +234,7 @@ fn file_in<'a>(name: &str, of: &ArgMatches<'a>) -> Option<Task<'a>> {
         "script" if of.get_flag("check") => Some(script_in(file, Way::Checked, of)),
         "script" => Some(script_in(file, Way::Plain, of)),
         "sweep" => Some(script_in(file, Way::Swept(of.get_one::<u16>("threads")), of)),
+        "trace" => Some(Task::Trace(traced_in(file, of))),
         _ => None,
     }
 }

@@ -34,26 +34,28 @@ const FORMATS: &[&str] = &["text", "json", "svg"];
 /// The exit status where the work was not done.
 const FAILED: u8 = 1;
 
-/// What `trace` is asked for: the file of the script, what is told of it, and the file into which the frames are written, where one
-/// is named.
+/// What `trace` is asked for: the file of the script, the file into which the frames are written, where one is named, the form of
+/// what is told, and of which events: of the node of this number, or of all, from one event to another.
 #[derive(Clone, Copy)]
 pub(crate) struct Traced<'a> {
     file: &'a str,
-    asked: Asked,
     frames: Option<&'a str>,
+    format: Format,
+    node: Option<u8>,
+    from: u64,
+    to: u64,
 }
 
 /// What the words of the command ask for.
-pub(crate) fn traced_in<'a>(of: &ArgMatches<'a>) -> Option<Traced<'a>> {
-    let asked = Asked {
-        format: format_in(of),
-        selection: selection_in(of)?,
-    };
-    Some(Traced {
-        file: of.get_str("FILE")?,
-        asked,
+pub(crate) fn traced_in<'a>(file: &'a str, of: &ArgMatches<'a>) -> Traced<'a> {
+    Traced {
+        file,
         frames: of.get_str("frames"),
-    })
+        format: format_in(of),
+        node: of.get_one::<u8>("node"),
+        from: of.get_one::<u64>("from").unwrap_or(0),
+        to: of.get_one::<u64>("to").unwrap_or(u64::MAX),
+    }
 }
 
 /// In which form events are told.
@@ -65,23 +67,23 @@ fn format_in(of: &ArgMatches<'_>) -> Format {
     }
 }
 
-/// Which events are told.
-fn selection_in(of: &ArgMatches<'_>) -> Option<Selection> {
-    let mut selection = Selection::all();
-    if let Some(number) = of.get_one::<u8>("node") {
-        selection.node = Some(proc_of(number)?);
+/// The same without the files. It stands apart, since no function may take processors beside words that are lent.
+fn asked_of(traced: &Traced<'_>) -> Asked {
+    Asked {
+        format: traced.format,
+        selection: Selection {
+            node: proc_of(traced.node),
+            from: traced.from,
+            to: traced.to,
+        },
     }
-    selection.from = of.get_one::<u64>("from").unwrap_or(selection.from);
-    selection.to = of.get_one::<u64>("to").unwrap_or(selection.to);
-    Some(selection)
 }
 
-/// The processor of this number.
-fn proc_of(number: u8) -> Option<Proc> {
-    if 1 <= number && number <= 16 {
-        Some(Proc::new(number))
-    } else {
-        None
+/// The processor of this number, if there is one.
+fn proc_of(number: Option<u8>) -> Option<Proc> {
+    match number {
+        Some(number) if 1 <= number && number <= 16 => Some(Proc::new(number)),
+        _ => None,
     }
 }
 
@@ -98,25 +100,19 @@ pub(crate) fn trace_file<R: Files + AllocGlobal, I: Read, O: Write, E: Write>(
         Ok(text) => text,
         Err(error) => return tell_unread(&error, false, err),
     };
+    let asked = asked_of(&traced);
     let Some(path) = traced.frames else {
         return trace(
             rt.alloc(),
             text.as_slice(),
-            traced.asked,
+            asked,
             out,
             &mut io::sink(),
             err,
         );
     };
     match fs::create(rt, path) {
-        Ok(mut frames) => trace(
-            rt.alloc(),
-            text.as_slice(),
-            traced.asked,
-            out,
-            &mut frames,
-            err,
-        ),
+        Ok(mut frames) => trace(rt.alloc(), text.as_slice(), asked, out, &mut frames, err),
         Err(_) => FAILED,
     }
 }
