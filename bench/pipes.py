@@ -24,6 +24,8 @@ NAMES = {"insert": 1, "remove": 2, "has": 3}
 
 def operation(words):
     """The bytes of the operation that these words say."""
+    if words[0] == "raw":
+        return bytes.fromhex(words[1])
     if words[0] in NAMES:
         return bytes([3, NAMES[words[0]]]) + words[1].encode()
     place, code, widths = SHORT[words[0]]
