@@ -40,9 +40,9 @@ enum totem_status {
     TOTEM_DONE = 0,
     TOTEM_NOT_MEMBER = 1,     /* no group of 1 to 16 processors with a vote each at least, or none of its processors */
     TOTEM_STOPPED = 8,        /* the node is gone, since memory was refused for what it told */
-    TOTEM_OUT_OF_MEMORY = 11, /* at opening, or for what the node told: then it is gone, and what was unread with it */
+    TOTEM_OUT_OF_MEMORY = 11, /* at opening, or for what the node told: then it is gone, and what was unread with it; close the handle */
     TOTEM_BAD_FRAME = 12,     /* the record asks for nothing that a node does; nothing was done */
-    TOTEM_MISUSED = 255       /* a null pointer, a handle with a node at opening, or one without at a record; nothing was done */
+    TOTEM_MISUSED = 255       /* a null pointer, a handle that isn't empty at opening, or is at a record; nothing was done */
 };
 
 /* The library's own functions, for callers that can't include this header. None of their pointers may be null, of bytes of
@@ -65,15 +65,16 @@ static inline enum totem_status totem_node_open(struct totem_node *node, uint32_
     return totem_node_open_with_votes(node, me, one_each, of < sizeof one_each ? of : sizeof one_each);
 }
 
-/* Hands the node a record: its kind, a letter, and its bytes. What the node tells of it stands behind what is unread. */
+/* Hands the node a record: its kind, a letter, and its bytes. What the node tells of it stands behind what is unread. More than
+ * 65,535 bytes, which no record has, are taken as those of a frame or a call: noise, or an operation that is too long. */
 static inline enum totem_status totem_node_take(struct totem_node *node, uint8_t kind, const uint8_t *bytes, size_t length) {
     static const uint8_t none = 0;
     if (node == NULL || (bytes == NULL && length > 0)) return TOTEM_MISUSED;
     return (enum totem_status)totem_c_take(node, kind, bytes == NULL ? &none : bytes, length);
 }
 
-/* Moves the first bytes that are unread to `into`, and answers how many: 0 only where none are left, or there is no room. As
- * with read(2) there may be more of them, even where there is room for more. */
+/* Moves the first bytes that are unread to `into`, and answers how many: 0 only where none are left, or there is no room, or
+ * a pointer is null or the handle empty. As with read(2) there may be more of them, even where there is room for more. */
 static inline size_t totem_node_read(struct totem_node *node, uint8_t *into, size_t room) {
     return node == NULL || into == NULL ? 0 : totem_c_read(node, into, room);
 }

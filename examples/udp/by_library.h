@@ -8,7 +8,9 @@ static void write_whole(const unsigned char *record, size_t length) {
     if (totem_node_take(&node, record[0], record + 3, length - 3) != TOTEM_DONE) end("the node takes no records any more");
 }
 
-static size_t read_some(unsigned char *bytes, size_t room) { return totem_node_read(&node, bytes, room); }
+static void read_whole(unsigned char *bytes, size_t length) {
+    if (totem_node_read(&node, bytes, length) != length) end("the node has ended");
+}
 
 static void start_node(void) {
     if (totem_node_open(&node, options.me, options.of) != TOTEM_DONE) end("no node");

@@ -1,8 +1,10 @@
 /* The node is a program beside this one, `totem node`, and its records go over two pipes. */
+#include <errno.h>
 #include <fcntl.h>
 #include <sys/wait.h>
 
-static int to_node, from_node;
+static int to_node;
+static FILE *from_node;
 
 static void write_whole(const unsigned char *bytes, size_t length) {
     while (length > 0) {
@@ -14,12 +16,8 @@ static void write_whole(const unsigned char *bytes, size_t length) {
     }
 }
 
-static size_t read_some(unsigned char *bytes, size_t room) {
-    for (;;) {
-        ssize_t came = read(from_node, bytes, room);
-        if (came >= 0) return came;
-        if (errno != EINTR) return 0;
-    }
+static void read_whole(unsigned char *bytes, size_t length) {
+    if (fread(bytes, 1, length, from_node) != length) end("the node has ended");
 }
 
 static void start_node(void) {
@@ -37,7 +35,8 @@ static void start_node(void) {
     close(in[0]);
     close(out[1]);
     to_node = in[1];
-    from_node = out[0];
+    from_node = fdopen(out[0], "r");
+    if (!from_node) end("no memory for a pipe");
 }
 
 static void end_node(void) {

@@ -12,11 +12,9 @@
  * usage: udp_node --me I --of N [--totem FILE] [--port P] [--seconds S] [--clients C] [--log FILE]
  *                 [--lose PERCENT] [--repeat PERCENT] [--swap PERCENT] [--seed X]
  * Processor i listens on port P + i. Of the frames that come, so many percent are lost, repeated, or swapped with the
- * next: to try out what the group makes of a bad network. The log has a line for each call, answer and committed call. */
+ * next (trial.h): to try out what the group makes of a bad network. */
 #define _GNU_SOURCE
 #include <arpa/inet.h>
-#include <errno.h>
-#include <getopt.h>
 #include <poll.h>
 #include <signal.h>
 #include <stdint.h>
@@ -43,6 +41,11 @@ struct frame {
     unsigned char bytes[FRAME_BYTES];
 };
 
+static void keep_frame(struct frame *frame, const unsigned char *bytes, size_t length) {
+    frame->length = length;
+    memcpy(frame->bytes, bytes, length);
+}
+
 /* A client has at most one call under way, so that it knows which number comes next. */
 struct client {
     uint64_t number;
@@ -52,18 +55,15 @@ struct client {
 };
 
 static struct options {
-    int me, of, port, clients, lose, repeat, swap, seed;
-    double seconds;
+    int me, of, port, seconds, clients, lose, repeat, swap, seed;
     const char *totem, *log;
 } options = {.port = 47100, .clients = 1, .seed = 1, .seconds = 30, .totem = "totem"};
 
 static int sock;
-static FILE *call_log;
 static struct client clients[MOST_CLIENTS];
 static double begun_at[TIMEOUTS];
 static struct frame own[OWN_FRAMES]; /* frames that the node sent to itself */
 static unsigned own_first, own_count;
-static struct frame held; /* a frame that came, and is swapped with the next */
 static unsigned long answered, refused, refusals; /* calls that were answered, answered without effect, not taken */
 static uint64_t counter;
 static int state;
@@ -90,26 +90,19 @@ static uint64_t number_at(const unsigned char *at, int bytes) {
     return number;
 }
 
-/* How the node is reached: `start_node`, `write_whole` of a record, `read_some` of what it told, and `end_node`. */
+static void hear_frame(const unsigned char *bytes, size_t length);
+#include "trial.h"
+
+/* How the node is reached: `start_node`, `write_whole` of a record, `read_whole` of what it told, and `end_node`. */
 #ifdef TOTEM_LIBRARY
 #include "by_library.h"
 #else
 #include "by_pipes.h"
 #endif
 
-static void read_whole(unsigned char *bytes, size_t length) {
-    static unsigned char ahead[1 << 16];
-    static size_t first, count;
-    while (length > 0) {
-        if (count == 0) {
-            first = 0;
-            count = read_some(ahead, sizeof ahead);
-            if (count == 0) end("the node has ended");
-        }
-        size_t part = count < length ? count : length;
-        memcpy(bytes, ahead + first, part);
-        first += part, count -= part, bytes += part, length -= part;
-    }
+static struct sockaddr_in address_of(int processor) {
+    return (struct sockaddr_in){
+        .sin_family = AF_INET, .sin_port = htons(options.port + processor), .sin_addr.s_addr = htonl(INADDR_LOOPBACK)};
 }
 
 /* A frame goes out to each of its receivers: bit i - 1 stands for processor i. */
@@ -118,20 +111,12 @@ static void send_frame(unsigned receivers, const unsigned char *bytes, size_t le
         if (!(receivers >> (to - 1) & 1)) continue;
         if (to == options.me) {
             if (own_count == OWN_FRAMES) continue; /* lost */
-            struct frame *frame = &own[(own_first + own_count++) % OWN_FRAMES];
-            frame->length = length;
-            memcpy(frame->bytes, bytes, length);
+            keep_frame(&own[(own_first + own_count++) % OWN_FRAMES], bytes, length);
             continue;
         }
-        struct sockaddr_in address = {
-            .sin_family = AF_INET, .sin_port = htons(options.port + to), .sin_addr.s_addr = htonl(INADDR_LOOPBACK)};
+        struct sockaddr_in address = address_of(to);
         sendto(sock, bytes, length, 0, (struct sockaddr *)&address, sizeof address); /* or lost */
     }
-}
-
-static void log_bytes(const unsigned char *bytes, size_t length) {
-    for (size_t i = 0; i < length; i++) fprintf(call_log, "%02x", bytes[i]);
-    fputc('\n', call_log);
 }
 
 /* The answer to a ticket came. */
@@ -147,11 +132,7 @@ static void take_answer(unsigned char kind, const unsigned char *bytes, size_t l
             answered++;
             if (length == 17 && bytes[8] == 0) counter = number_at(bytes + 9, 8);
         }
-        if (call_log) {
-            fprintf(call_log, "%.6f answer %d %llu %c ", now(), options.me * 100 + i, (unsigned long long)client->number, kind);
-            log_bytes(bytes + 8, length - 8);
-        }
-        client->number++;
+        log_call("answer", options.me * 100 + i, client->number++, (const char[]){kind, ' ', 0}, bytes + 8, length - 8);
     }
 }
 
@@ -165,11 +146,7 @@ static void take_record(unsigned char kind, const unsigned char *bytes, size_t l
         asking->asked_at = now();
         asking->is_waiting = 1;
     }
-    if (kind == 'C' && call_log) {
-        fprintf(call_log, "%.6f committed %llu %llu ", now(), (unsigned long long)number_at(bytes, 4),
-                (unsigned long long)number_at(bytes + 4, 8));
-        log_bytes(bytes + 12, length - 12);
-    }
+    if (kind == 'C') log_call("committed", number_at(bytes, 4), number_at(bytes + 4, 8), "", bytes + 12, length - 12);
 }
 
 /* Hands the node an input, and does all that it tells, up to the record that ends it. */
@@ -195,26 +172,10 @@ static void tell_node(unsigned char kind, const unsigned char *bytes, size_t len
     }
 }
 
-/* Whether one of so many percent comes up. */
-static int comes_up(int percent) { return rand() % 100 < percent; }
+/* The node hears a frame. */
+static void hear_frame(const unsigned char *bytes, size_t length) { tell_node('F', bytes, length, NULL); }
 
-/* A frame came from the network, which may be made a bad one. */
-static void take_frame(const unsigned char *bytes, size_t length) {
-    if (comes_up(options.lose)) return;
-    if (held.length == 0 && comes_up(options.swap)) {
-        held.length = length;
-        memcpy(held.bytes, bytes, length);
-        return;
-    }
-    tell_node('F', bytes, length, NULL);
-    if (comes_up(options.repeat)) tell_node('F', bytes, length, NULL);
-    if (held.length > 0) {
-        size_t count = held.length;
-        held.length = 0;
-        tell_node('F', held.bytes, count, NULL);
-    }
-}
-
+/* Each timeout whose period is over is told. */
 static void tell_timeouts(void) {
     for (int i = 0; i < TIMEOUTS; i++) {
         enum timeout due = DUE_ORDER[i];
@@ -237,10 +198,7 @@ static void make_calls(void) {
             call[13] = 2; /* read, and no amount */
             length = 15;
         }
-        if (call_log) {
-            fprintf(call_log, "%.6f call %d %llu ", now(), options.me * 100 + i, (unsigned long long)clients[i].number);
-            log_bytes(call + 12, length - 12);
-        }
+        log_call("call", options.me * 100 + i, clients[i].number, "", call + 12, length - 12);
         unsigned long before = refusals;
         tell_node('C', call, length, &clients[i]);
         if (refusals != before) return; /* too many calls have no answer yet */
@@ -256,7 +214,7 @@ static void take_frames(void) {
         struct frame *frame = &own[own_first];
         own_first = (own_first + 1) % OWN_FRAMES;
         own_count--;
-        tell_node('F', frame->bytes, frame->length, NULL);
+        hear_frame(frame->bytes, frame->length);
     }
     int came = 0;
     for (; came < 64; came++) {
@@ -270,33 +228,30 @@ static void take_frames(void) {
 
 static void open_socket(void) {
     int room = 4 << 20;
-    struct sockaddr_in address = {
-        .sin_family = AF_INET, .sin_port = htons(options.port + options.me), .sin_addr.s_addr = htonl(INADDR_LOOPBACK)};
+    struct sockaddr_in address = address_of(options.me);
     sock = socket(AF_INET, SOCK_DGRAM | SOCK_NONBLOCK | SOCK_CLOEXEC, 0);
     setsockopt(sock, SOL_SOCKET, SO_RCVBUF, &room, sizeof room);
     if (bind(sock, (struct sockaddr *)&address, sizeof address)) end("its port can't be had");
 }
 
+/* Each option is a word and its value. */
 static void read_options(int count, char **words) {
-    static const struct option KNOWN[] = {
-        {"me", 1, 0, 'm'},      {"of", 1, 0, 'n'},   {"totem", 1, 0, 't'},  {"port", 1, 0, 'p'}, {"seconds", 1, 0, 's'}, {"clients", 1, 0, 'c'},
-        {"log", 1, 0, 'l'},     {"lose", 1, 0, 'x'}, {"repeat", 1, 0, 'r'}, {"swap", 1, 0, 'w'}, {"seed", 1, 0, 'e'},    {0}};
-    for (int option; (option = getopt_long(count, words, "", KNOWN, NULL)) != -1;) {
-        int number = optarg ? atoi(optarg) : 0;
-        switch (option) {
-        case 'm': options.me = number; break;
-        case 'n': options.of = number; break;
-        case 't': options.totem = optarg; break;
-        case 'p': options.port = number; break;
-        case 's': options.seconds = number; break;
-        case 'c': options.clients = number; break;
-        case 'l': options.log = optarg; break;
-        case 'x': options.lose = number; break;
-        case 'r': options.repeat = number; break;
-        case 'w': options.swap = number; break;
-        case 'e': options.seed = number; break;
-        default: exit(2);
-        }
+    const struct {
+        const char *word;
+        int *number;
+        const char **text;
+    } KNOWN[] = {
+        {"--me", &options.me, 0},           {"--of", &options.of, 0},           {"--port", &options.port, 0},
+        {"--seconds", &options.seconds, 0}, {"--clients", &options.clients, 0}, {"--lose", &options.lose, 0},
+        {"--repeat", &options.repeat, 0},   {"--swap", &options.swap, 0},       {"--seed", &options.seed, 0},
+        {"--totem", 0, &options.totem},     {"--log", 0, &options.log}};
+    enum { MANY = sizeof KNOWN / sizeof *KNOWN };
+    for (int at = 1; at < count; at += 2) {
+        int i = 0;
+        while (i < MANY && strcmp(words[at], KNOWN[i].word)) i++;
+        if (i == MANY || at + 1 == count) end("bad options");
+        if (KNOWN[i].text) *KNOWN[i].text = words[at + 1];
+        else *KNOWN[i].number = atoi(words[at + 1]);
     }
     if (options.me < 1 || options.me > options.of || options.of > 16 || options.clients < 0 || options.clients > MOST_CLIENTS) end("bad options");
 }
@@ -307,8 +262,7 @@ int main(int count, char **words) {
     signal(SIGPIPE, SIG_IGN);
     start_node();
     open_socket();
-    if (options.log && !(call_log = fopen(options.log, "w"))) end("its log can't be written");
-    if (call_log) setvbuf(call_log, NULL, _IOLBF, 1 << 16);
+    open_log();
     for (int i = 0; i < options.clients; i++) clients[i].number = 1;
     double begun = now(), told = begun;
     unsigned long before = 0;
