@@ -8,8 +8,14 @@ static void write_whole(const unsigned char *record, size_t length) {
     if (totem_node_take(&node, record[0], record + 3, length - 3) != TOTEM_DONE) end("the node takes no records any more");
 }
 
+/* One read may move fewer bytes than there are. */
 static void read_whole(unsigned char *bytes, size_t length) {
-    if (totem_node_read(&node, bytes, length) != length) end("the node has ended");
+    while (length > 0) {
+        size_t count = totem_node_read(&node, bytes, length);
+        if (count == 0) end("the node has ended");
+        bytes += count;
+        length -= count;
+    }
 }
 
 static void start_node(void) {
