@@ -1,22 +1,22 @@
 -- An index has the places of an order's calls, and a count for each client tells whether they are numbered.
-use Rattle.std.proofs.Common.{◌≡◌, ℕ, ◌+◌, ◌<◌, ◌≤◌, ◌↔◌, true, false, IsTrue, List, [], ◌∷◌, ◌++◌, length, take}
-use Rattle.std.proofs.Common.{Some, None, slice_get, refl, ap, sym, subst, ◌∙◌, arith, inl, inr}
+use Rattle.std.proofs.Common.{◌≡◌, ℕ, zero, suc, ◌+◌, ◌-◌, ◌<◌, ◌≤◌, ◌↔◌, ◌⊎◌, IsTrue, true, false, is_some, List, [], ◌∷◌, ◌++◌, length, length-append, take}
+use Rattle.std.proofs.Common.{Option, Some, None, slice_get, refl, ap, sym, subst, ◌∙◌, arith, add-one, inl, inr}
 use Rattle.std.specs.BTreeMap.{BTreeMap, get, is_at, Updates}
-use Rattle.std.specs.Option.{unwrap_or}
+use Rattle.std.specs.Prelude.{Vec, IsSome}
 use Rattle.std.specs.Ordering.{nat_cmp}
 use Rattle.std.specs.Cmp.{Equal-is}
-use Rattle.std.proofs.lemmas.Bool.{cases_Bool}
+use Rattle.std.proofs.lemmas.Bool.{cases_Bool, cases_eq}
 use Rattle.std.specs.Map.{lookup}
-use Rattle.std.proofs.lemmas.Cmp.{nat_cmp_total, tied_itself}
-use Rattle.std.proofs.lemmas.Map.Lookups.{exact_unsigned, exact_pairs}
+use Rattle.std.proofs.lemmas.Map.Lookups.{exact_unsigned}
 use Rattle.std.proofs.lemmas.Option.{slice_get_within}
+use Rattle.ring_base.proofs.ListPlaces.{get-last}
 use Rattle.ring_base.proofs.Rows.{take-more}
 use Rattle.ring_payload.specs.declared.call.Call.{Call}
 use Rattle.ring_session.specs.Deduplicated.{count_of, StandsAt, IsNumbered}
-use Rattle.ring_session.specs.DeduplicatedLaws.{numbered_once, count_of-push_own, count_of-push_other}
+use Rattle.ring_session.specs.DeduplicatedLaws.{count_of-push_own, count_of-push_other}
 use Rattle.ring_session.specs.SessionAnswer.{is_same}
 use Rattle.ring_session.specs.SessionAnswerLaws.{is_same-true}
-use Rattle.ring_checker.specs.Checks.{place_in, name_cmp, IsIndexOf}
+use Rattle.ring_checker.specs.Checks.{place_in, row_of, places_of, by_number, place_at, AddsPlace, IsIndexOf}
 use Rattle.ring_checker.proofs.Places.{none_or_some, is_same-self, place_in-stands, place_in-least}
 use Rattle.ring_rules.proofs.FirstPassing.{EachUpTo}
 use Rattle.ring_rules.proofs.Linear.{below_or_not}
@@ -40,90 +40,200 @@ each-more P xs n x each at holds q y within there =
 abbrev pub HasNext : {A : Type 0} → List (Call A) → ℕ → Call A → Type 0
 HasNext order p c = c.number ≡ count_of c.client (take p order) + 1
 
--- the map has the last number of each client that called so far
-abbrev pub AreLasts : {A : Type 0} → List (Call A) → ℕ → BTreeMap ℕ ℕ → Type 0
-AreLasts order n lasts = (q : ℕ) → unwrap_or (get nat_cmp lasts q) 0 ≡ count_of q (take n order)
-
 at_number : (k q : ℕ) → is_at (nat_cmp k) q ≡ true → k ≡ q
 at_number k q is = exact_unsigned k q ((Equal-is (nat_cmp k q)).0 is)
 
-at_itself : (k q : ℕ) → k ≡ q → is_at (nat_cmp k) q ≡ true
-at_itself k q same = (Equal-is (nat_cmp k q)).1 (ap (nat_cmp k) (sym same) ∙ tied_itself nat_cmp_total k)
+apart_keys : (k q : ℕ) → (k ≡ q → ⊥) → is_at (nat_cmp k) q ≡ false
+apart_keys k q apart = elim (cases_Bool (is_at (nat_cmp k) q)) as (λ _. is_at (nat_cmp k) q ≡ false) [
+  | inl own ↦ absurd (apart (at_number k q own))
+  | inr other ↦ other
+]
 
-pub lasts-more : {A : Type 0} (order : List (Call A)) (n : ℕ) (c : Call A) (lasts more : BTreeMap ℕ ℕ) → AreLasts order n lasts → StandsAt order n c
-    → HasNext order n c → Updates nat_cmp lasts more c.client (Some c.number) → AreLasts order (n + 1) more
-lasts-more order n c lasts more are at next updates q =
-    let grown : count_of q (take (n + 1) order) ≡ count_of q (take n order ++ c ∷ []) = ap (count_of q) (take-more order n c at) in
-    elim (cases_Bool (is_at (nat_cmp c.client) q)) as (λ _. unwrap_or (get nat_cmp more q) 0 ≡ count_of q (take (n + 1) order)) [
-      | inl own ↦
-          let same : c.client ≡ q = at_number c.client q own in
-          subst (λ k. unwrap_or (get nat_cmp more k) 0 ≡ count_of k (take (n + 1) order)) same
-          (ap (λ o. unwrap_or o 0) updates.1 ∙ next ∙ sym (count_of-push_own (take n order) c)
-          ∙ ap (count_of c.client) (sym (take-more order n c at)))
-      | inr other ↦
-          let apart : c.client ≡ q → ⊥ = (λ same.
-          let itself = at_itself c.client q same in
-          absurd (cc (itself, other))) in
-          ap (λ o. unwrap_or o 0) (updates.2 q other) ∙ are q
-          ∙ sym (count_of-push_other q (take n order) c apart) ∙ sym grown
-    ]
+-- ---- rows of places
 
-pub numbered-all : {A : Type 0} (order : List (Call A)) (n : ℕ) → EachUpTo (HasNext order) order n → length order ≤ n → IsTrue true ↔ IsNumbered order
-numbered-all order n each all = (λ _ p c at. each p c (omega (arith, all, slice_get_within order p c at)) at, λ _. refl)
+-- nothing but the last place is new in a row
+push-apart : {X : Type 0} (xs : List X) (y : X) (k : ℕ) → (k ≡ length xs → ⊥) → slice_get (xs ++ y ∷ []) k ≡ slice_get xs k
+push-apart [] y zero apart = absurd (apart refl)
+push-apart [] y (suc k) apart = refl
+push-apart (x ∷ xs) y zero apart = refl
+push-apart (x ∷ xs) y (suc k) apart = push-apart xs y k (λ same. apart (ap suc same))
 
-pub numbered-not : {A : Type 0} (order : List (Call A)) (n : ℕ) (c : Call A) → StandsAt order n c → (HasNext order n c → ⊥) → IsTrue false ↔ IsNumbered order
-numbered-not order n c at not_next = (λ so. absurd (cc so), λ numbered. absurd (not_next (numbered n c at)))
+by_number-push : (row : List ℕ) (p n : ℕ) → (n ≡ length row + 1 → ⊥) → by_number (row ++ p ∷ []) n ≡ by_number row n
+by_number-push row p zero apart = refl
+by_number-push row p (suc k) apart = push-apart row p k (λ same. apart (ap suc same ∙ sym (add-one (length row))))
+
+by_number-last : (row : List ℕ) (p : ℕ) → by_number (row ++ p ∷ []) (length row + 1) ≡ Some p
+by_number-last row p = ap (by_number (row ++ p ∷ [])) (add-one (length row)) ∙ get-last row p
+
+by_number-within : (row : List ℕ) (n p : ℕ) → by_number row n ≡ Some p → n ≡ length row + 1 → ⊥
+by_number-within row zero p is past = absurd (cc is)
+by_number-within row (suc k) p is past = let within = slice_get_within row k p is in omega (arith, within, past)
+
+by_number-none : (n : ℕ) → by_number [] n ≡ None
+by_number-none zero = refl
+by_number-none (suc k) = refl
+
+by_number-before : (row : List ℕ) (n : ℕ) → (n ≡ 0 → ⊥) → slice_get row (n - 1) ≡ by_number row n
+by_number-before row zero apart = absurd (apart refl)
+by_number-before row (suc k) apart = ap (slice_get row) (omega arith)
+
+-- the place that is looked up: nothing is known of the client, or there is no such number
+pub place_at-unknown : {A : Type 0} (index : BTreeMap ℕ (Vec ℕ A)) (client number : ℕ) → get nat_cmp index client ≡ None
+    → None ≡ place_at index (client, number)
+place_at-unknown {A} index client number none =
+    sym (ap (λ (o : Option (Vec ℕ A)). by_number (row_of o) number) none ∙ by_number-none number)
+
+pub place_at-zero : {A : Type 0} (index : BTreeMap ℕ (Vec ℕ A)) (client number : ℕ) → number ≡ 0 → None ≡ place_at index (client, number)
+place_at-zero index client number none = sym (ap (by_number (places_of index client)) none)
+
+pub place_at-known : {A : Type 0} (index : BTreeMap ℕ (Vec ℕ A)) (client number : ℕ) (row : Vec ℕ A) → get nat_cmp index client ≡ Some row
+    → (number ≡ 0 → ⊥) → slice_get row.items (number - 1) ≡ place_at index (client, number)
+place_at-known {A} index client number row known some =
+    by_number-before row.items number some ∙ ap (λ (o : Option (Vec ℕ A)). by_number (row_of o) number) (sym known)
+
+-- ---- one more place
+
+pub adds-written : {A : Type 0} (old new : BTreeMap ℕ (Vec ℕ A)) (client place : ℕ) (was : Option (Vec ℕ A)) (more : Vec ℕ A)
+    → get nat_cmp old client ≡ was → more.items ≡ row_of was ++ place ∷ [] → Updates nat_cmp old new client (Some more) → AddsPlace old new client place
+adds-written {A} old new client place was more is items updates = record {
+  own = ap row_of updates.1 ∙ items ∙ ap (λ (o : Option (Vec ℕ A)). row_of o ++ place ∷ []) (sym is);
+  others = λ q apart. ap row_of (updates.2 q (apart_keys client q apart));
+}
+
+-- how many places a client has
+pub count-row : {A : Type 0} (index : BTreeMap ℕ (Vec ℕ A)) (client : ℕ) (was : Option (Vec ℕ A)) → get nat_cmp index client ≡ was
+    → length (row_of was) ≡ length (places_of index client)
+count-row index client was is = ap (λ (o : Option (Vec ℕ _)). length (row_of o)) (sym is)
 
 -- ---- the index
 
-same_name : (a b : ℕ × ℕ) → is_at (name_cmp a) b ≡ true → a ≡ b
-same_name a b is = exact_pairs nat_cmp nat_cmp exact_unsigned exact_unsigned a b ((Equal-is (name_cmp a b)).0 is)
+-- the calls of the first n places have their clients' next numbers, and the index has as many places of each client as there are, and
+-- each under its call's client and number
+pub record IsIndexed {A : Type 0} (order : List (Call A)) (n : ℕ) (index : BTreeMap ℕ (Vec ℕ A)) : Type 0 where
+  pub numbered : EachUpTo (HasNext order) order n
+  pub counts : (q : ℕ) → length (places_of index q) ≡ count_of q (take n order)
+  pub is_index : IsIndexOf order n index
 
-pub index-none : {A : Type 0} (order : List (Call A)) (index : BTreeMap (ℕ × ℕ) ℕ) → index.entries ≡ [] → IsIndexOf order 0 index
-index-none order index empty = record {
-  found = λ name p is.
-      let none : get name_cmp index name ≡ None = ap (λ (es : List ((ℕ × ℕ) × ℕ)). lookup (is_at (name_cmp name)) es) empty in
-      absurd (cc (none, is));
-  finds = λ p c within at. absurd (omega (arith, within));
-}
+pub indexed-none : {A : Type 0} (order : List (Call A)) (index : BTreeMap ℕ (Vec ℕ A)) → index.entries ≡ [] → IsIndexed order 0 index
+indexed-none {A} order index empty =
+    let unknown : (q : ℕ) → get nat_cmp index q ≡ None = λ q. ap (λ (es : List (ℕ × Vec ℕ A)). lookup (is_at (nat_cmp q)) es) empty in
+    record {
+      numbered = λ p c within at. absurd (omega (arith, within));
+      counts = λ q. sym (count-row index q None (unknown q));
+      is_index = record {
+        found = λ name p is. absurd (cc (place_at-unknown index name.0 name.1 (unknown name.0), is));
+        finds = λ p c within at. absurd (omega (arith, within));
+      };
+    }
 
--- one more place
-pub index-more : {A : Type 0} (order : List (Call A)) (n : ℕ) (c : Call A) (index more : BTreeMap (ℕ × ℕ) ℕ) → IsNumbered order → IsIndexOf order n index
-    → StandsAt order n c → Updates name_cmp index more (c.client, c.number) (Some n) → IsIndexOf order (n + 1) more
-index-more {A} order n c index more numbered is_index at updates = record {
+-- how many calls of a client there are, with one more call
+counts-more : {A : Type 0} (order : List (Call A)) (n q : ℕ) (c : Call A) (old new : BTreeMap ℕ (Vec ℕ A)) → IsIndexed order n old → StandsAt order n c
+    → AddsPlace old new c.client n → length (places_of new q) ≡ count_of q (take (n + 1) order)
+counts-more order n q c old new are at adds =
+    let grown : count_of q (take n order ++ c ∷ []) ≡ count_of q (take (n + 1) order) = ap (count_of q) (sym (take-more order n c at)) in
+    elim (cases_eq c.client q) as (λ _. length (places_of new q) ≡ count_of q (take (n + 1) order)) [
+      | inl same ↦
+          let own : length (places_of new c.client) ≡ length (places_of old c.client) + 1 =
+          ap length adds.own ∙ length-append (places_of old c.client) (n ∷ []) in
+          let all : length (places_of new c.client) ≡ count_of c.client (take n order ++ c ∷ []) =
+          own ∙ ap (λ m. m + 1) (are.counts c.client) ∙ sym (count_of-push_own (take n order) c) in
+          subst (λ k. length (places_of new k) ≡ count_of k (take n order ++ c ∷ [])) same all ∙ grown
+      | inr apart ↦ ap length (adds.others q apart) ∙ are.counts q ∙ sym (count_of-push_other q (take n order) c apart) ∙ grown
+    ]
+
+-- where a name is looked up in the index with one more place: it is the new one, or it was there
+place_at-more : {A : Type 0} (n : ℕ) (c : Call A) (old new : BTreeMap ℕ (Vec ℕ A)) (name : ℕ × ℕ) → AddsPlace old new c.client n
+    → c.number ≡ length (places_of old c.client) + 1
+    → ((c.client ≡ name.0) × (c.number ≡ name.1) × (place_at new name ≡ Some n)) ⊎ (place_at new name ≡ place_at old name)
+place_at-more {A} n c old new name adds next =
+    elim (cases_eq c.client name.0)
+    as (λ _. ((c.client ≡ name.0) × (c.number ≡ name.1) × (place_at new name ≡ Some n)) ⊎ (place_at new name ≡ place_at old name)) [
+      | inl client ↦
+          let row : places_of new name.0 ≡ places_of old c.client ++ n ∷ [] = ap (places_of new) (sym client) ∙ adds.own in
+          elim (cases_eq c.number name.1)
+          as (λ _. ((c.client ≡ name.0) × (c.number ≡ name.1) × (place_at new name ≡ Some n)) ⊎ (place_at new name ≡ place_at old name)) [
+            | inl number ↦
+                let last : name.1 ≡ length (places_of old c.client) + 1 = sym number ∙ next in
+                inl (
+                  client,
+                  number,
+                  ap (λ (xs : List ℕ). by_number xs name.1) row ∙ ap (by_number (places_of old c.client ++ n ∷ [])) last
+                      ∙ by_number-last (places_of old c.client) n,
+                )
+            | inr apart ↦
+                inr (ap (λ (xs : List ℕ). by_number xs name.1) row
+                ∙ by_number-push (places_of old c.client) n name.1 (λ last. apart (next ∙ sym last))
+                ∙ ap (λ k. by_number (places_of old k) name.1) client)
+          ]
+      | inr apart ↦ inr (ap (λ (xs : List ℕ). by_number xs name.1) (adds.others name.0 apart))
+    ]
+
+index-more : {A : Type 0} (order : List (Call A)) (n : ℕ) (c : Call A) (old new : BTreeMap ℕ (Vec ℕ A)) → IsIndexOf order n old → StandsAt order n c
+    → c.number ≡ length (places_of old c.client) + 1 → AddsPlace old new c.client n → IsIndexOf order (n + 1) new
+index-more {A} order n c old new is_index at next adds = record {
   found = λ name p is.
-      elim (cases_Bool (is_at (name_cmp (c.client, c.number)) name))
+      elim (place_at-more n c old new name adds next)
       as (λ _. (d : Call A) × (p < n + 1) × StandsAt order p d × (d.client ≡ name.0) × (d.number ≡ name.1)) [
         | inl own ↦
-            let same : (c.client, c.number) ≡ name = same_name (c.client, c.number) name own in
-            let here : get name_cmp more name ≡ Some n = ap (get name_cmp more) (sym same) ∙ updates.1 in
-            let one : Some n ≡ Some p = sym here ∙ is in
+            let one : Some n ≡ Some p = sym own.2 ∙ is in
             let place : n ≡ p = cc one in
-            (c, omega (arith, place), subst (λ k. StandsAt order k c) place at, ap (λ (w : ℕ × ℕ). w.0) same, ap (λ (w : ℕ × ℕ). w.1) same)
-        | inr other ↦
-            let before = is_index.found name p (sym (updates.2 name other) ∙ is) in
+            (c, omega (arith, place), subst (λ k. StandsAt order k c) place at, own.0, own.1)
+        | inr same ↦
+            let before = is_index.found name p (sym same ∙ is) in
             (before.0, omega (arith, before.1), before.2, before.3, before.4)
       ];
   finds = λ p d within there.
-      elim (below_or_not p n) as (λ _. get name_cmp more (d.client, d.number) ≡ Some p) [
+      elim (below_or_not p n) as (λ _. place_at new (d.client, d.number) ≡ Some p) [
         | inl before ↦
-            elim (cases_Bool (is_at (name_cmp (c.client, c.number)) (d.client, d.number))) as (λ _. get name_cmp more (d.client, d.number) ≡ Some p) [
+            let was = is_index.finds p d before there in
+            elim (place_at-more n c old new (d.client, d.number) adds next) as (λ _. place_at new (d.client, d.number) ≡ Some p) [
               | inl own ↦
-                  let same : (c.client, c.number) ≡ (d.client, d.number) = same_name (c.client, c.number) (d.client, d.number) own in
-                  let place : n ≡ p = numbered_once order numbered n p c d at there (ap (λ (w : ℕ × ℕ). w.0) same) (ap (λ (w : ℕ × ℕ). w.1) same) in
-                  absurd (omega (arith, place, before))
-              | inr other ↦ updates.2 (d.client, d.number) other ∙ is_index.finds p d before there
+                  let row : places_of old d.client ≡ places_of old c.client = ap (places_of old) (sym own.0) in
+                  let last : d.number ≡ length (places_of old d.client) + 1 = sym own.1 ∙ next ∙ ap (λ (xs : List ℕ). length xs + 1) (sym row) in
+                  absurd (by_number-within (places_of old d.client) d.number p was last)
+              | inr same ↦ same ∙ was
             ]
         | inr past ↦
             let place : n ≡ p = omega (arith, within, past) in
             let one : Some c ≡ Some d = sym at ∙ ap (slice_get order) place ∙ there in
             let call : c ≡ d = cc one in
-            ap (λ (w : Call A). get name_cmp more (w.client, w.number)) (sym call) ∙ updates.1 ∙ ap Some place
+            let last : place_at new (c.client, c.number) ≡ Some n = ap (λ (xs : List ℕ). by_number xs c.number) adds.own
+            ∙ ap (by_number (places_of old c.client ++ n ∷ [])) next ∙ by_number-last (places_of old c.client) n in
+            ap (λ (w : Call A). place_at new (w.client, w.number)) (sym call) ∙ last ∙ ap Some place
       ];
 }
 
+-- one more place
+pub indexed-more : {A : Type 0} (order : List (Call A)) (n : ℕ) (c : Call A) (old new : BTreeMap ℕ (Vec ℕ A)) → IsIndexed order n old → StandsAt order n c
+    → c.number ≡ length (places_of old c.client) + 1 → AddsPlace old new c.client n → IsIndexed order (n + 1) new
+indexed-more order n c old new are at next adds = record {
+  numbered = each-more (HasNext order) order n c are.numbered at (next ∙ ap (λ m. m + 1) (are.counts c.client));
+  counts = λ q. counts-more order n q c old new are at adds;
+  is_index = index-more order n c old new are.is_index at next adds;
+}
+
+-- a call whose number is another than its client's next
+pub unnumbered : {A : Type 0} (order : List (Call A)) (n : ℕ) (c : Call A) (index : BTreeMap ℕ (Vec ℕ A)) → IsIndexed order n index
+    → StandsAt order n c → (c.number ≡ length (places_of index c.client) + 1 → ⊥) → IsTrue false ↔ IsNumbered order
+unnumbered order n c index are at not_next = (
+  λ so. absurd (cc so),
+  λ numbered. absurd (not_next (numbered n c at ∙ ap (λ m. m + 1) (sym (are.counts c.client)))),
+)
+
+pub all_numbered : {A : Type 0} (order : List (Call A)) (n : ℕ) (index : BTreeMap ℕ (Vec ℕ A)) → IsIndexed order n index
+    → length order ≤ n → IsTrue true ↔ IsNumbered order
+all_numbered order n index are all =
+    (λ _ p c at. are.numbered p c (omega (arith, all, slice_get_within order p c at)) at, λ _. refl)
+
+-- that an index was found tells that the order is numbered
+pub found_numbered : {I : Type 0} (found : Option I) (index : I) (N : Type 0) → IsSome found ↔ N → found ≡ Some index → N
+found_numbered found index N tells is = tells.0 (ap is_some is)
+
+pub not_found : {I : Type 0} (found : Option I) (N : Type 0) → IsSome found ↔ N → found ≡ None → N → ⊥
+not_found found N tells none numbered = let some = tells.1 numbered in absurd (cc (ap is_some none, some))
+
 -- two places with one name are one
-pub index-once : {A : Type 0} (order : List (Call A)) (index : BTreeMap (ℕ × ℕ) ℕ) (p q : ℕ) (c : Call A) → IsIndexOf order (length order) index
+pub index-once : {A : Type 0} (order : List (Call A)) (index : BTreeMap ℕ (Vec ℕ A)) (p q : ℕ) (c : Call A) → IsIndexOf order (length order) index
     → StandsAt order p c → StandsAt order q c → p ≡ q
 index-once order index p q c is_index at there =
     let first = is_index.finds p c (slice_get_within order p c at) at in
@@ -134,8 +244,8 @@ index-once order index p q c is_index at there =
 -- ---- the place of a call, by the index
 
 -- it has another operation there
-pub place-other : {A : Type 0} (order : List (Call A)) (index : BTreeMap (ℕ × ℕ) ℕ) (p : ℕ) (c d : Call A) → IsIndexOf order (length order) index
-    → get name_cmp index (c.client, c.number) ≡ Some p → StandsAt order p d → is_same c d ≡ false → None ≡ place_in order c
+pub place-other : {A : Type 0} (order : List (Call A)) (index : BTreeMap ℕ (Vec ℕ A)) (p : ℕ) (c d : Call A) → IsIndexOf order (length order) index
+    → place_at index (c.client, c.number) ≡ Some p → StandsAt order p d → is_same c d ≡ false → None ≡ place_in order c
 place-other order index p c d is_index is at differ =
     elim (none_or_some (place_in order c)) as (λ _. None ≡ place_in order c) [
       | inl none ↦ sym none
@@ -150,8 +260,8 @@ place-other order index p c d is_index is at differ =
     ]
 
 -- or nothing has its name
-pub place-none : {A : Type 0} (order : List (Call A)) (index : BTreeMap (ℕ × ℕ) ℕ) (c : Call A) → IsIndexOf order (length order) index
-    → get name_cmp index (c.client, c.number) ≡ None → None ≡ place_in order c
+pub place-none : {A : Type 0} (order : List (Call A)) (index : BTreeMap ℕ (Vec ℕ A)) (c : Call A) → IsIndexOf order (length order) index
+    → place_at index (c.client, c.number) ≡ None → None ≡ place_in order c
 place-none order index c is_index is =
     elim (none_or_some (place_in order c)) as (λ _. None ≡ place_in order c) [
       | inl none ↦ sym none
@@ -161,7 +271,7 @@ place-none order index c is_index is =
     ]
 
 -- or it stands there
-pub place-found : {A : Type 0} (order : List (Call A)) (index : BTreeMap (ℕ × ℕ) ℕ) (p : ℕ) (c d : Call A) → IsIndexOf order (length order) index
+pub place-found : {A : Type 0} (order : List (Call A)) (index : BTreeMap ℕ (Vec ℕ A)) (p : ℕ) (c d : Call A) → IsIndexOf order (length order) index
     → StandsAt order p d → is_same c d ≡ true → Some p ≡ place_in order c
 place-found order index p c d is_index at same =
     let stands : StandsAt order p c = at ∙ ap Some (is_same-true c d same) in

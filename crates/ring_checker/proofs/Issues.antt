@@ -7,6 +7,7 @@ use Rattle.std.proofs.lemmas.List.Folds.{position_or_len_push}
 use Rattle.std.proofs.lemmas.List.Sums.{prefix_len-le-length}
 use Rattle.std.proofs.lemmas.Option.{slice_get_within}
 use Rattle.std.specs.BTreeMap.{BTreeMap}
+use Rattle.std.specs.Prelude.{Vec}
 use Rattle.ring_base.proofs.ListPlaces.{get-set}
 use Rattle.ring_object.specs.Operations.{Sequential}
 use Rattle.ring_payload.specs.declared.call.Call.{Call}
@@ -146,7 +147,7 @@ module _ {O A : Type 0} (object : Sequential O) where
   strange_item order past places d none are = other_item order past places (Issue d) (λ q c at. not_there order c d q (sym none) at) are
 
   -- a call at another place is another
-  not_same : (order : List (Call A)) (index : BTreeMap (ℕ × ℕ) ℕ) (c d : Call A) (at q : ℕ) → IsIndexOf order (length order) index
+  not_same : (order : List (Call A)) (index : BTreeMap ℕ (Vec ℕ A)) (c d : Call A) (at q : ℕ) → IsIndexOf order (length order) index
       → Some at ≡ place_in order d → (q ≡ at → ⊥) → StandsAt order q c → is_same c d ≡ false
   not_same order index c d at q is_index is apart there = elim (cases_Bool (is_same c d)) as (λ _. is_same c d ≡ false) [
     | inl same ↦
@@ -166,8 +167,8 @@ module _ {O A : Type 0} (object : Sequential O) where
       cc one
 
   -- a call that was issued before is no first issue
-  pub issued_again : (order : List (Call A)) (index : BTreeMap (ℕ × ℕ) ℕ) (past : List (Item A)) (places : List Place) (d : Call A) (at j : ℕ) (place : Place)
-      → IsIndexOf order (length order) index → Some at ≡ place_in order d → slice_get places at ≡ Some place → place.issued ≡ Some j
+  pub issued_again : (order : List (Call A)) (index : BTreeMap ℕ (Vec ℕ A)) (past : List (Item A)) (places : List Place) (d : Call A)
+      (at j : ℕ) (place : Place) → IsIndexOf order (length order) index → Some at ≡ place_in order d → slice_get places at ≡ Some place → place.issued ≡ Some j
       → ArePlaces object order past (length order) places → ArePlaces object order (past ++ Issue d ∷ []) (length order) places
   issued_again order index past places d at j place is_index is here seen are = record {
     many = are.many;
@@ -188,7 +189,7 @@ module _ {O A : Type 0} (object : Sequential O) where
   }
 
   -- one that wasn't is its first
-  pub issued_first : (order : List (Call A)) (index : BTreeMap (ℕ × ℕ) ℕ) (past : List (Item A)) (places : List Place) (d : Call A) (at : ℕ) (place : Place)
+  pub issued_first : (order : List (Call A)) (index : BTreeMap ℕ (Vec ℕ A)) (past : List (Item A)) (places : List Place) (d : Call A) (at : ℕ) (place : Place)
       → IsIndexOf order (length order) index → Some at ≡ place_in order d → slice_get places at ≡ Some place → place.issued ≡ None
       → ArePlaces object order past (length order) places → ArePlaces object order (past ++ Issue d ∷ []) (length order)
       (slice_set places at (record { issued = Some (length past); reply = place.reply }))

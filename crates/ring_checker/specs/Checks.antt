@@ -1,9 +1,9 @@
 -- What the checker looks at, and what it finds.
 -- Sessions, of docs/PROTOCOL.md.
-use Rattle.std.specs.Prelude.{◌≡◌, ℕ, ◌<◌, ◌≤◌, Bool, false, List, length, take, All, Option, Some, MatchOption, position, slice_get}
+use Rattle.std.specs.Prelude.{◌≡◌, ℕ, zero, suc, ◌<◌, ◌≤◌, Bool, false, List, [], ◌∷◌, ◌++◌, length, take, All}
+use Rattle.std.specs.Prelude.{Option, Some, None, MatchOption, position, slice_get, Vec}
 use Rattle.std.specs.BTreeMap.{BTreeMap, get}
-use Rattle.std.specs.Ordering.{nat_cmp, ordering_then}
-use Rattle.std.specs.declared.cmp.Ordering.{Ordering}
+use Rattle.std.specs.Ordering.{nat_cmp}
 use Rattle.ring_object.specs.Operations.{Sequential}
 use Rattle.ring_payload.specs.declared.call.Call.{Call}
 use Rattle.ring_session.specs.Deduplicated.{StandsAt}
@@ -25,15 +25,33 @@ first_issue history c = position (is_issue_of c) history
 abbrev pub place_in : {A : Type 0} → List (Call A) → Call A → Option ℕ
 place_in order c = position (is_same c) order
 
--- by client, and then by number
-abbrev pub name_cmp : ℕ × ℕ → ℕ × ℕ → Ordering
-name_cmp a b = ordering_then (nat_cmp a.0 b.0) (nat_cmp a.1 b.1)
+-- the places of a client's calls by the index, that of its first call first; none of a client that it doesn't know
+abbrev pub row_of : {A : Type 0} → Option (Vec ℕ A) → List ℕ
+row_of None = []
+row_of (Some row) = row.items
+
+abbrev pub places_of : {A : Type 0} → BTreeMap ℕ (Vec ℕ A) → ℕ → List ℕ
+places_of index client = row_of (get nat_cmp index client)
+
+-- the place of the call of this number, where these are the places of the calls of numbers 1, 2, ..
+abbrev pub by_number : List ℕ → ℕ → Option ℕ
+by_number row zero = None
+by_number row (suc k) = slice_get row k
+
+-- the place of the call of this client and number, by the index
+abbrev pub place_at : {A : Type 0} → BTreeMap ℕ (Vec ℕ A) → ℕ × ℕ → Option ℕ
+place_at index name = by_number (places_of index name.0) name.1
+
+-- one more place of this client's stands behind those that it had, and other clients have what they had
+pub record AddsPlace {A : Type 0} (old new : BTreeMap ℕ (Vec ℕ A)) (client place : ℕ) : Type 0 where
+  pub own : places_of new client ≡ places_of old client ++ place ∷ []
+  pub others : (q : ℕ) → (client ≡ q → ⊥) → places_of new q ≡ places_of old q
 
 -- the index has exactly the first n places of the order, each under its call's client and number
-pub record IsIndexOf {A : Type 0} (order : List (Call A)) (n : ℕ) (index : BTreeMap (ℕ × ℕ) ℕ) : Type 0 where
-  pub found : (name : ℕ × ℕ) (p : ℕ) → get name_cmp index name ≡ Some p
+pub record IsIndexOf {A : Type 0} (order : List (Call A)) (n : ℕ) (index : BTreeMap ℕ (Vec ℕ A)) : Type 0 where
+  pub found : (name : ℕ × ℕ) (p : ℕ) → place_at index name ≡ Some p
       → (c : Call A) × (p < n) × StandsAt order p c × (c.client ≡ name.0) × (c.number ≡ name.1)
-  pub finds : (p : ℕ) (c : Call A) → p < n → StandsAt order p c → get name_cmp index (c.client, c.number) ≡ Some p
+  pub finds : (p : ℕ) (c : Call A) → p < n → StandsAt order p c → place_at index (c.client, c.number) ≡ Some p
 
 -- the call of this place was issued before place k of the history
 abbrev pub IsIssuedBefore : Place → ℕ → Type 0

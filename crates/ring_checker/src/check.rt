@@ -8,7 +8,7 @@ ghost use Rattle.ring_checker.specs.Checks.{IsIndexOf, ArePlaces, IsIssuedBefore
 ghost use Rattle.ring_checker.specs.Checks.{IsRightAt, IsRightReply, IsRightItem, AreRight};
 ghost use Rattle.ring_rules.specs.Histories.{IsLinearization};
 
-use crate::index::{Index, index_of, is_numbered, place_in};
+use crate::index::{Index, index_of, place_in};
 use ring_base::Fault;
 use ring_object::{Object, Reply};
 use ring_payload::Call;
@@ -27,7 +27,7 @@ struct Place {
 /// Whether the order explains the history: each client's calls are numbered 1, 2, .. in it, each of its calls was
 /// issued, each reply is the object's at its call's place, and a call that was replied before another was issued
 /// stands before it. `Memory` is the only refusal. Beside what the object takes, the time is that of a look-up among
-/// the order's calls for each call of the order and each item of the history: n log n in their number.
+/// the order's clients for each call of the order and each item of the history: n log n in their number.
 pub fn is_linearization<O: Object>(
     alloc: O::Alloc,
     order: &[Call<O::Alloc>],
@@ -36,11 +36,10 @@ pub fn is_linearization<O: Object>(
     ensures ok { IfOk result (λ explains. IsTrue explains ↔ IsLinearization O.sequential order.now history.now) }
     ensures refused { IfErr result (λ fault. fault ≡ Memory) }
 {
-    let numbered = is_numbered(alloc, order)?;
-    if !numbered {
+    let found = index_of(alloc, order)?;
+    let Some(index) = found else {
         return Ok(false);
-    }
-    let index = index_of(alloc, order)?;
+    };
     let mut places = unissued_places::<O>(alloc, order)?;
     note_issues::<O>(order, &index, history, places.as_mut_slice());
     let explains = are_issued_before(&places, history.len())

@@ -1,32 +1,94 @@
 //! Where the calls of an order stand, by client and number.
 
-ghost use Rattle.std.specs.Prelude.{◌≡◌, ℕ, ◌+◌, ◌↔◌, IsTrue, IfOk, IfErr, length};
+ghost use Rattle.std.specs.Prelude.{◌≡◌, ℕ, ◌+◌, ◌∷◌, [], ◌++◌, ◌↔◌, IsTrue, IsSome, IfSome, IfOk, IfErr, None, length};
+ghost use Rattle.std.specs.BTreeMap.{get};
+ghost use Rattle.std.specs.Ordering.{nat_cmp};
 ghost use Rattle.ring_base.specs.declared.fault.Fault.TheVariants.{Memory};
 ghost use Rattle.ring_session.specs.Deduplicated.{IsNumbered};
 ghost use Rattle.ring_session.specs.SessionAnswer.{is_same};
-ghost use Rattle.ring_checker.specs.Checks.{place_in, IsIndexOf};
+ghost use Rattle.ring_checker.specs.Checks.{place_in, place_at, places_of, AddsPlace, IsIndexOf};
 
 use ring_base::Fault;
 use ring_payload::Call;
 use std::alloc::Allocator;
 use std::collections::BTreeMap;
 
-/// The places of an order's calls, by client and number.
-pub type Index<A: Allocator> = BTreeMap<(u32, u64), usize, A>;
+/// The places of an order's calls, by client: of each client's calls that of the first one is first.
+pub type Index<A: Allocator> = BTreeMap<u32, Vec<usize, A>, A>;
 
-/// Whether each client's calls are numbered 1, 2, ..; or `Memory`.
-pub fn is_numbered<A: Allocator + Copy + Drop>(alloc: A, order: &[Call<A>]) -> Result<bool, Fault>
-    ensures ok { IfOk result (λ numbered. IsTrue numbered ↔ IsNumbered order.now) }
+/// The index of an order, if each client's calls are numbered 1, 2, .. in it; or `Memory`.
+pub fn index_of<A: Allocator + Copy + Drop>(
+    alloc: A,
+    order: &[Call<A>],
+) -> Result<Option<Index<A>>, Fault>
+    ensures numbered { IfOk result (λ index. IsSome index ↔ IsNumbered order.now) }
+    ensures ok { IfOk result (λ index. IfSome index (IsIndexOf order.now (length order.now))) }
     ensures refused { IfErr result (λ fault. fault ≡ Memory) }
 {
-    let mut lasts = BTreeMap::new(alloc);
-    for call in order {
-        let last = lasts.get(&call.client).copied().unwrap_or(0);
-        if !is_next(last, call.number) {
-            return Ok(false);
+    let mut index = BTreeMap::new(alloc);
+    for (place, call) in order.iter().enumerate() {
+        let is_next = add_place(alloc, &mut index, call.client, call.number, place)?;
+        if !is_next {
+            return Ok(None);
         }
-        lasts.insert(call.client, call.number)?;
     }
+    Ok(Some(index))
+}
+
+/// Adds the place of a client's call of this number, if that is the client's next, and answers whether it is. Or `Memory`.
+fn add_place<A: Allocator + Copy + Drop>(
+    alloc: A,
+    index: &mut Index<A>,
+    client: u32,
+    number: u64,
+    place: usize,
+) -> Result<bool, Fault>
+    ensures next { IfOk result (λ is_next. IsTrue is_next ↔ (number ≡ length (places_of index.old client) + 1)) }
+    ensures adds { IfOk result (λ is_next. IsTrue is_next → AddsPlace index.old index.new client place) }
+    ensures refused { IfErr result (λ fault. fault ≡ Memory) }
+{
+    match index.get_mut(&client) {
+        Some(row) => add_to(row, number, place),
+        None => add_row(alloc, index, client, number, place),
+    }
+}
+
+/// Adds the place of the first call of a client, if its number is 1, and answers whether it is. Or `Memory`.
+fn add_row<A: Allocator + Copy + Drop>(
+    alloc: A,
+    index: &mut Index<A>,
+    client: u32,
+    number: u64,
+    place: usize,
+) -> Result<bool, Fault>
+    requires { get nat_cmp index.old client ≡ None }
+    ensures next { IfOk result (λ is_next. IsTrue is_next ↔ (number ≡ 1)) }
+    ensures adds { IfOk result (λ is_next. IsTrue is_next → AddsPlace index.old index.new client place) }
+    ensures refused { IfErr result (λ fault. fault ≡ Memory) }
+{
+    if number != 1 {
+        return Ok(false);
+    }
+    let mut row = Vec::new(alloc);
+    row.push(place)?;
+    index.insert(client, row)?;
+    Ok(true)
+}
+
+/// Adds the place behind those of a client's calls, if its number comes after theirs, and answers whether it does. Or `Memory`.
+fn add_to<A: Allocator + Copy>(
+    row: &mut Vec<usize, A>,
+    number: u64,
+    place: usize,
+) -> Result<bool, Fault>
+    ensures next { IfOk result (λ is_next. IsTrue is_next ↔ (number ≡ length row.old.items + 1)) }
+    ensures adds { IfOk result (λ is_next. IsTrue is_next → row.new.items ≡ row.old.items ++ place ∷ []) }
+    ensures refused { IfErr result (λ fault. fault ≡ Memory) }
+{
+    if !is_next(row.len() as u64, number) {
+        return Ok(false);
+    }
+    row.push(place)?;
     Ok(true)
 }
 
@@ -35,19 +97,6 @@ fn is_next(last: u64, number: u64) -> bool
     ensures { IsTrue result ↔ (number ≡ last + 1) }
 {
     number > 0 && number - 1 == last
-}
-
-/// The index of an order where each client's calls are numbered; or `Memory`.
-pub fn index_of<A: Allocator + Copy + Drop>(alloc: A, order: &[Call<A>]) -> Result<Index<A>, Fault>
-    requires { IsNumbered order.now }
-    ensures ok { IfOk result (λ index. IsIndexOf order.now (length order.now) index) }
-    ensures refused { IfErr result (λ fault. fault ≡ Memory) }
-{
-    let mut index = BTreeMap::new(alloc);
-    for (place, call) in order.iter().enumerate() {
-        index.insert((call.client, call.number), place)?;
-    }
-    Ok(index)
 }
 
 /// Where the call first stands in the order, if it does.
@@ -59,15 +108,27 @@ pub fn place_in<A: Allocator + Copy>(
     requires { IsIndexOf order.now (length order.now) index.now }
     ensures { result ≡ place_in order.now call.now }
 {
-    let Some(place) = index.get(&(call.client, call.number)) else {
+    let Some(place) = place_at(index, call.client, call.number) else {
         return None;
     };
-    let place = *place;
     if is_same(call, &order[place]) {
         Some(place)
     } else {
         None
     }
+}
+
+/// The place of the call of this client and number, if the index has one.
+fn place_at<A: Allocator + Copy>(index: &Index<A>, client: u32, number: u64) -> Option<usize>
+    ensures { result ≡ place_at index.now (client, number) }
+{
+    let Some(row) = index.get(&client) else {
+        return None;
+    };
+    if number == 0 {
+        return None;
+    }
+    row.get((number - 1) as usize).copied()
 }
 
 /// Whether the two are one call: of one client and number, and with the same operation.

@@ -13,7 +13,9 @@ mod running;
 pub use listing::frames;
 pub use printed::state_word;
 pub use ring_report::{Failure, report};
-pub use ring_script::{Groups, Line, Numbered, Script, ScriptFault};
+pub use ring_script::{
+    Groups, Line, NoWords, Numbered, Script, ScriptFault, ShelfWords, Vocabulary,
+};
 pub use ring_world::{Pair, World};
 pub use run::Run;
 pub use running::{Things, script, script_check};

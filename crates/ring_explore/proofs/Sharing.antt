@@ -1,19 +1,11 @@
--- Seeds that are tried in shares: what was found of two ranges, one behind the other, and where shares begin.
-use Rattle.std.proofs.Common.{◌≡◌, ℕ, zero, suc, ◌+◌, ◌-◌, ◌*◌, ◌/◌, ◌%◌, ◌<◌, ◌≤◌, ◌⊎◌, inl, inr, min, max, Bool, true, false}
-use Rattle.std.proofs.Common.{List, [], ◌∷◌, ◌++◌, length, length-append, Option, Some, None, IsSome, Result, Ok, Err, IfOk, refl, sym, ap, subst, ◌∙◌, arith}
+-- Seeds that are tried in shares: what was found of two ranges, one behind the other.
+use Rattle.std.proofs.Common.{◌≡◌, ℕ, ◌+◌, ◌<◌, ◌≤◌, ◌⊎◌, inl, inr, Bool, true}
+use Rattle.std.proofs.Common.{Option, Some, None, IsSome, Result, Ok, Err, IfOk, subst, arith}
+use Rattle.ring_shares.specs.Shares.{share_begin, first_of}
+use Rattle.ring_shares.proofs.Sharing.{under_or_past, share_grows}
 use Rattle.std.specs.Prelude.{◌^◌}
-use Rattle.ring_explore.specs.Explored.{AreTried, first_of, share_begin, seeds_in}
-
-pub one_longer : {X : Type 0} (xs : List X) (x : X) → length xs + 1 ≡ length (xs ++ x ∷ [])
-one_longer xs x = sym (length-append xs (x ∷ []))
-
-under_or_past : (n m : ℕ) → (n < m) ⊎ (m ≤ n)
-under_or_past n m = grind arith
-
--- what was found of a share is what its part is
-pub found_of : {T E : Type 0} (part read : Result T E) (found : T) (P : T → Type 0) → part ≡ read → part ≡ Ok found → IfOk read P → P found
-found_of part (Ok x) found P same is h = let e : x ≡ found = cc in subst P e h
-found_of part (Err e) found P same is h = absurd cc
+use Rattle.ring_explore.specs.declared.found.Found.{Found}
+use Rattle.ring_explore.specs.Explored.{AreTried, seeds_in}
 
 module _ (IsTried : Bool → Type 0) where
   -- no seeds were tried yet
@@ -46,29 +38,6 @@ module _ (IsTried : Bool → Type 0) where
       tried_append (first + a) (first + p) (first + (p + 1)) f g (omega (arith, le)) (omega arith) h
       (subst (λ (n : ℕ). AreTried IsTried (first + p) n g) next k)
 
--- a share begins where the one before it ends, or behind that
-pub share_grows : (many shares share : ℕ) → share_begin many shares share ≤ share_begin many shares (share + 1)
-share_grows many shares share = grind arith
-
--- the last share ends with the last seed
-pub shares_end : (many shares share : ℕ) → max shares 1 ≤ share → share_begin many shares share ≡ many
-shares_end many shares share all = grind arith
-
--- a share so far behind begins with the last seed
-begin_past : (many shares share : ℕ) → many ≤ share → share_begin many shares share ≡ many
-begin_past many shares share past = grind arith
-
-next_is : (many shares share next : ℕ) → many < 2 ^ 64 → next ≡ min (share + 1) (2 ^ 64 - 1) → (share + 1 < 2 ^ 64) ⊎ (2 ^ 64 ≤ share + 1)
-    → share_begin many shares next ≡ share_begin many shares (share + 1)
-next_is many shares share next small is (inl less) = ap (share_begin many shares) (omega (arith, is, less))
-next_is many shares share next small is (inr more) =
-    begin_past many shares next (omega (arith, is, more, small)) ∙ sym (begin_past many shares (share + 1) (omega (arith, more, small)))
-
--- the number of the next share is counted as far as a u64 counts
-pub next_begin : (many shares share next : ℕ) → many < 2 ^ 64 → next ≡ min (share + 1) (2 ^ 64 - 1)
-    → share_begin many shares next ≡ share_begin many shares (share + 1)
-next_begin many shares share next small is = next_is many shares share next small is (under_or_past (share + 1) (2 ^ 64))
-
 module _ (IsTried : Bool → Type 0) where
   -- one share more
   pub tried_share : (first many shares k : ℕ) (f g : Option ℕ) → AreTried IsTried first (first + share_begin many shares k) f
@@ -78,3 +47,19 @@ module _ (IsTried : Bool → Type 0) where
       let grows = share_grows many shares k in
       tried_append IsTried first (first + share_begin many shares k) (first + share_begin many shares (k + 1)) f g (omega arith)
       (omega (arith, grows)) h more
+
+  -- what was tried of a round is what was tried of its part of all seeds
+  pub tried_part : (first a b begin last : ℕ) (f : Option ℕ) → a < b → b < 2 ^ 64 → begin ≡ first + a → last + 1 ≡ first + b
+      → AreTried IsTried begin (begin + seeds_in begin last) f → AreTried IsTried (first + a) (first + b) f
+  tried_part first a b begin last f less small from upto h =
+      let ends : begin + seeds_in begin last ≡ first + b = grind (arith, from, upto, less, small) in
+      subst (λ (n : ℕ). AreTried IsTried n (first + b) f) from (subst (λ (n : ℕ). AreTried IsTried begin n f) ends h)
+
+  -- the rounds from the first seed on are all of them
+  pub tried_whole : {E : Type 0} (first many : ℕ) (r : Result Found E)
+      → IfOk r (λ (found : Found). 0 ≤ many → AreTried IsTried (first + 0) (first + many) found.illegal)
+      → IfOk r (λ (found : Found). AreTried IsTried first (first + many) found.illegal)
+  tried_whole first many (Ok found) h =
+      let begin : first + 0 ≡ first = omega arith in
+      subst (λ (n : ℕ). AreTried IsTried n (first + many) found.illegal) begin (h (omega arith))
+  tried_whole first many (Err e) h = tt

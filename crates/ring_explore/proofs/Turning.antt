@@ -5,7 +5,8 @@ use Rattle.std.specs.Prelude.{◌↔◌, IsTrue}
 use Rattle.std.specs.declared.alloc.Global.{Global}
 use Rattle.ring_object.specs.Operations.{Sequential}
 use Rattle.ring_script.specs.declared.scripts.Script.{Script}
-use Rattle.ring_script.specs.Scripts.{script_of, schedule_by}
+use Rattle.ring_script.specs.Operations.{Form}
+use Rattle.ring_script.specs.Scripts.{script_by, schedule_by}
 use Rattle.ring_console.specs.Running.{Pair, RunView, run_opening, Turns, TurnsTimes, Pumps, Runs, IsLegal, legal_line}
 use Rattle.ring_explore.specs.declared.found.Found.{Found}
 use Rattle.ring_explore.specs.Explored.{AreTried, illegal_of}
@@ -39,10 +40,10 @@ tried_one IsTried true seed tried = λ s from upto. tried
 tried_one IsTried false seed tried = (omega arith, omega arith, tried, λ s from upto. absurd (omega (arith, from, upto)))
 
 -- a script was made, run, and checked
-pub is_tried : {O : Type 0} (object : Sequential O) (made text : List ℕ) (script : Script Global) (ran : RunView Global) (is_legal : Bool)
-    → script_of made ≡ Ok (schedule_by script) → Runs object script.lines.items (run_opening script.nodes) ran text
-    → (IsTrue is_legal ↔ IsLegal object ran.played) → IsTried object is_legal
-is_tried object made text script ran is_legal is_script runs legal = record {
+pub is_tried : {O : Type 0} (object : Sequential O) (forms : List Form) (made text : List ℕ) (script : Script Global) (ran : RunView Global) (is_legal : Bool)
+    → script_by forms made ≡ Ok (schedule_by script) → Runs object script.lines.items (run_opening script.nodes) ran text
+    → (IsTrue is_legal ↔ IsLegal object ran.played) → IsTried object forms is_legal
+is_tried object forms made text script ran is_legal is_script runs legal = record {
   made = made;
   script = script;
   is_script = is_script;
@@ -51,11 +52,11 @@ is_tried object made text script ran is_legal is_script runs legal = record {
 }
 
 -- what was found of a script that ran to its end
-pub found_tried : {O E : Type 0} (object : Sequential O) (script : Script Global) (seed : ℕ) (ran : RunView Global) (text : List ℕ) (r : Result Found E)
-    → Runs object script.lines.items (run_opening script.nodes) ran text
+pub found_tried : {O E : Type 0} (object : Sequential O) (forms : List Form) (script : Script Global) (seed : ℕ) (ran : RunView Global) (text : List ℕ)
+    (r : Result Found E) → Runs object script.lines.items (run_opening script.nodes) ran text
     → IfOk r (λ found. (is_legal : Bool) × (IsTrue is_legal ↔ IsLegal object ran.played) × (found.illegal ≡ illegal_of is_legal seed))
-    → IfOk r (λ found. (made : List ℕ) → script_of made ≡ Ok (schedule_by script) → AreTried (IsTried object) seed (seed + 1) found.illegal)
-found_tried object script seed ran text (Ok found) runs h =
-    λ made is_script. subst (λ (f : Option ℕ). AreTried (IsTried object) seed (seed + 1) f) (sym h.2)
-    (tried_one (IsTried object) h.0 seed (is_tried object made text script ran h.0 is_script runs h.1))
-found_tried object script seed ran text (Err fault) runs h = tt
+    → IfOk r (λ found. (made : List ℕ) → script_by forms made ≡ Ok (schedule_by script) → AreTried (IsTried object forms) seed (seed + 1) found.illegal)
+found_tried object forms script seed ran text (Ok found) runs h =
+    λ made is_script. subst (λ (f : Option ℕ). AreTried (IsTried object forms) seed (seed + 1) f) (sym h.2)
+    (tried_one (IsTried object forms) h.0 seed (is_tried object forms made text script ran h.0 is_script runs h.1))
+found_tried object forms script seed ran text (Err fault) runs h = tt

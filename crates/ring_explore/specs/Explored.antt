@@ -1,21 +1,12 @@
 -- What was found of the scripts of many seeds, and what is printed of them.
 -- Explore, of docs/FORMATS.md.
-use Rattle.std.specs.Prelude.{◌≡◌, ℕ, ◌+◌, ◌-◌, ◌*◌, ◌/◌, ◌^◌, ◌<◌, ◌≤◌, min, max, Bool, true, false, Option, Some, None, List, ◌++◌, codes}
+use Rattle.std.specs.Prelude.{◌≡◌, ℕ, ◌+◌, ◌-◌, ◌^◌, ◌<◌, ◌≤◌, min, Bool, true, false, Option, Some, None, List, ◌++◌, codes}
 use Rattle.std.specs.Fmt.{decimal}
 use Rattle.ring_report.specs.Texts.{line_of}
 
 -- how many seeds there are from the first to the last, the last included; of all 2^64 the last is left out
 abbrev pub seeds_in : ℕ → ℕ → ℕ
 seeds_in first last = min (last + 1 - first) (2 ^ 64 - 1)
-
--- where a share of so many seeds begins, of so many shares
-abbrev pub share_begin : ℕ → ℕ → ℕ → ℕ
-share_begin many shares share = min ((many / max shares 1 + 1) * share) many
-
--- the first of two, as far as there is one
-abbrev pub first_of : Option ℕ → Option ℕ → Option ℕ
-first_of None other = other
-first_of (Some one) other = Some one
 
 -- a seed is named where its run is not legal
 abbrev pub illegal_of : Bool → ℕ → Option ℕ

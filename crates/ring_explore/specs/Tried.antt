@@ -4,13 +4,14 @@ use Rattle.std.specs.Prelude.{◌≡◌, Bool, true, List, ℕ, Ok}
 use Rattle.std.specs.declared.alloc.Global.{Global}
 use Rattle.ring_object.specs.Operations.{Sequential}
 use Rattle.ring_script.specs.declared.scripts.Script.{Script}
-use Rattle.ring_script.specs.Scripts.{script_of, schedule_by}
+use Rattle.ring_script.specs.Operations.{Form}
+use Rattle.ring_script.specs.Scripts.{script_by, schedule_by}
 use Rattle.ring_console.specs.Running.{IsTextOf}
 
--- A script was made and run to its end, and it was found whether its run is legal: as it is checked where a script is run.
-pub record IsTried {O : Type 0} (object : Sequential O) (is_legal : Bool) : Type 0 where
+-- A script over an object with these words was made and run to its end, and it was found whether its run is legal: as it is checked where a script is run.
+pub record IsTried {O : Type 0} (object : Sequential O) (forms : List Form) (is_legal : Bool) : Type 0 where
   pub made : List ℕ
   pub script : Script Global
-  pub is_script : script_of made ≡ Ok (schedule_by script)
+  pub is_script : script_by forms made ≡ Ok (schedule_by script)
   pub text : List ℕ
   pub told : IsTextOf object script.nodes true script.lines.items is_legal text

@@ -3,23 +3,29 @@
 ghost use Rattle.std.specs.Prelude.{◌≡◌, ℕ, ◌≤◌, ◌<◌, ◌+◌, ◌↔◌, IsTrue, OnOk, IfOk, None, max, vec_len, slice_index_or};
 ghost use Rattle.std.specs.Io.KnownBytes.{Appends};
 ghost use Rattle.ring_console.specs.Running.{Prints};
-ghost use Rattle.ring_script_maker.specs.Made.{IsScript};
-ghost use Rattle.ring_explore.specs.Explored.{AreTried, seeds_in, share_begin, totals_text, IsTotals, IsIllegal};
+ghost use Rattle.ring_script_maker.specs.Made.{IsScriptBy};
+ghost use Rattle.ring_shares.specs.Shares.{share_begin};
+ghost use Rattle.ring_explore.specs.Explored.{AreTried, seeds_in, totals_text, IsTotals, IsIllegal};
 ghost use Rattle.ring_explore.specs.Tried.{IsTried};
 
 use crate::found::Found;
 use crate::one::try_seed;
-use crate::plan::{Plan, share_begin};
+use crate::plan::Plan;
 use ring_base::Fault;
-use ring_console::{Failure, Things, report};
+use ring_console::{Failure, ShelfWords, Things, Vocabulary, report};
 use ring_object::Object;
-use ring_script_maker::made_script;
+use ring_script_maker::made_script_by;
+use ring_shares::{Meter, round_end, share_begin};
 use std::alloc::{AllocError, Global};
 use std::io::Write;
 use std::thread::{self, Threads};
+use std::time::Clock;
 
 /// The exit status where a run is not legal.
 const NOT_LEGAL: u8 = 1;
+
+/// So many seeds a thread make the first round.
+const FIRST: u64 = 16;
 
 /// Makes the script of each seed, runs it, and checks that the order of its world explains its history, by so many threads: what is
 /// printed does not depend on how many. Prints how many seeds there were, how many events were run, how many calls were submitted
@@ -30,21 +36,51 @@ const NOT_LEGAL: u8 = 1;
 /// - where `out` fails, nothing is told.
 ///
 /// Where the status is 0, a script was made and run for each seed, and each run is legal. Which script a seed makes no contract says.
-pub fn explore<R: Threads + Sync, O: Write, E: Write>(
+/// Where there is a `progress`, it is told from the first second on how far it has come, and in the end that is taken away again, as a
+/// terminal does it.
+pub fn explore<R: Threads + Clock + Sync, O: Write, E: Write, P: Write>(
     rt: &R,
     alloc: Global,
     plan: Plan<'_>,
     threads: u16,
     out: &mut O,
     err: &mut E,
+    progress: Option<&mut P>,
 ) -> u8
     ensures status { result ≤ 1 }
     ensures quiet { result ≡ 0 → err.new ≡ err.old }
-    ensures legal { let object = ⟦<Things<Global> as Object>⟧ in
-        result ≡ 0 → AreTried (IsTried object.sequential) plan.entry.first (plan.entry.first + seeds_in plan.entry.first plan.entry.last) None }
+    ensures legal { let object = ⟦<Things<Global> as Object>⟧ in let words = ⟦<ShelfWords as Vocabulary>⟧ in
+        result ≡ 0 → AreTried (IsTried object.sequential words.forms) plan.entry.first (plan.entry.first + seeds_in plan.entry.first plan.entry.last) None }
     ensures printed { result ≡ 0 → Prints (O.contents out.old) (O.contents out.new) (IsTotals (seeds_in plan.entry.first plan.entry.last)) }
 {
-    match explore_all(rt, alloc, &plan, threads, out) {
+    explore_of::<Things<Global>, ShelfWords, R, O, E, P>(
+        rt, alloc, plan, threads, out, err, progress,
+    )
+}
+
+/// As [`explore`], of any object, by the words of its operations.
+pub fn explore_of<
+    T: Object<Alloc = Global> + Send,
+    V: Vocabulary + Send,
+    R: Threads + Clock + Sync,
+    O: Write,
+    E: Write,
+    P: Write,
+>(
+    rt: &R,
+    alloc: Global,
+    plan: Plan<'_>,
+    threads: u16,
+    out: &mut O,
+    err: &mut E,
+    progress: Option<&mut P>,
+) -> u8
+    ensures status { result ≤ 1 }
+    ensures quiet { result ≡ 0 → err.new ≡ err.old }
+    ensures legal { result ≡ 0 → AreTried (IsTried T.sequential V.forms) plan.entry.first (plan.entry.first + seeds_in plan.entry.first plan.entry.last) None }
+    ensures printed { result ≡ 0 → Prints (O.contents out.old) (O.contents out.new) (IsTotals (seeds_in plan.entry.first plan.entry.last)) }
+{
+    match explore_all::<T, V, R, O, P>(rt, alloc, &plan, threads, out, progress) {
         Ok(true) => 0,
         Ok(false) => NOT_LEGAL,
         Err(failure) => report(err, failure),
@@ -52,38 +88,45 @@ pub fn explore<R: Threads + Sync, O: Write, E: Write>(
 }
 
 /// Tries all seeds, and prints what was found. Answers whether all runs are legal.
-fn explore_all<R: Threads + Sync, O: Write>(
+fn explore_all<
+    T: Object<Alloc = Global> + Send,
+    V: Vocabulary + Send,
+    R: Threads + Clock + Sync,
+    O: Write,
+    P: Write,
+>(
     rt: &R,
     alloc: Global,
     plan: &Plan<'_>,
     threads: u16,
     out: &mut O,
+    progress: Option<&mut P>,
 ) -> Result<bool, Failure>
-    ensures legal { let object = ⟦<Things<Global> as Object>⟧ in IfOk result (λ is_legal. IsTrue is_legal
-        → AreTried (IsTried object.sequential) plan.now.first (plan.now.first + seeds_in plan.now.first plan.now.last) None) }
+    ensures legal { IfOk result (λ is_legal. IsTrue is_legal
+        → AreTried (IsTried T.sequential V.forms) plan.now.first (plan.now.first + seeds_in plan.now.first plan.now.last) None) }
     ensures printed { IfOk result (λ is_legal. IsTrue is_legal
         → Prints (O.contents out.old) (O.contents out.new) (IsTotals (seeds_in plan.now.first plan.now.last))) }
 {
-    let found = try_all(rt, alloc, plan, threads)?;
-    print_found::<Things<Global>, O>(alloc, plan, &found, out)
+    let found = try_all::<T, V, R, P>(rt, alloc, plan, threads, progress)?;
+    print_found::<T, V, O>(alloc, plan, &found, out)
 }
 
 /// Prints what was found. Answers whether all runs are legal.
-fn print_found<T: Object, O: Write>(
+fn print_found<T: Object, V: Vocabulary, O: Write>(
     alloc: Global,
     plan: &Plan<'_>,
     found: &Found,
     out: &mut O,
 ) -> Result<bool, Failure>
-    requires { AreTried (IsTried T.sequential) plan.now.first (plan.now.first + seeds_in plan.now.first plan.now.last) found.now.illegal }
+    requires { AreTried (IsTried T.sequential V.forms) plan.now.first (plan.now.first + seeds_in plan.now.first plan.now.last) found.now.illegal }
     ensures legal { IfOk result (λ is_legal. IsTrue is_legal
-        → AreTried (IsTried T.sequential) plan.now.first (plan.now.first + seeds_in plan.now.first plan.now.last) None) }
+        → AreTried (IsTried T.sequential V.forms) plan.now.first (plan.now.first + seeds_in plan.now.first plan.now.last) None) }
     ensures printed { IfOk result (λ is_legal. IsTrue is_legal
         → Prints (O.contents out.old) (O.contents out.new) (IsTotals (seeds_in plan.now.first plan.now.last))) }
 {
     match found.illegal {
         Some(seed) => {
-            print_illegal(alloc, plan, seed, out)?;
+            print_illegal::<V, O>(alloc, plan, seed, out)?;
             Ok(false)
         }
         None => {
@@ -94,15 +137,15 @@ fn print_found<T: Object, O: Write>(
 }
 
 /// Prints the script of a seed whose run is not legal.
-fn print_illegal<O: Write>(
+fn print_illegal<V: Vocabulary, O: Write>(
     alloc: Global,
     plan: &Plan<'_>,
     seed: u64,
     out: &mut O,
 ) -> Result<(), Failure>
-    ensures { OnOk result (Prints (O.contents out.old) (O.contents out.new) (IsIllegal IsScript)) }
+    ensures { OnOk result (Prints (O.contents out.old) (O.contents out.new) (IsIllegal (IsScriptBy V.forms))) }
 {
-    let text = made_script(alloc, plan.votes, seed, plan.lines)?;
+    let text = made_script_by::<V, Global>(alloc, plan.votes, seed, plan.lines)?;
     write!(out, "# legal no\n{text}").map_err(|_| Failure::Output)
 }
 
@@ -120,42 +163,106 @@ fn print_totals<O: Write>(seeds: u64, found: &Found, out: &mut O) -> Result<(), 
     .map_err(|_| Failure::Output)
 }
 
-/// Tries all seeds, by so many threads, or by one where that is 0.
-fn try_all<R: Threads + Sync>(
+/// Tries all seeds, by so many threads, or by one where that is 0. Where somebody watches, tells on the way how far it has come.
+fn try_all<
+    O: Object<Alloc = Global> + Send,
+    V: Vocabulary + Send,
+    R: Threads + Clock + Sync,
+    P: Write,
+>(
+    rt: &R,
+    alloc: Global,
+    plan: &Plan<'_>,
+    threads: u16,
+    progress: Option<&mut P>,
+) -> Result<Found, Fault>
+    ensures { IfOk result (λ found.
+        AreTried (IsTried O.sequential V.forms) plan.now.first (plan.now.first + seeds_in plan.now.first plan.now.last) found.illegal) }
+{
+    match progress {
+        Some(out) => {
+            let size = u64::from(threads).saturating_mul(FIRST);
+            let mut meter = Meter::new(rt, plan.many(), size);
+            let found = try_rounds::<O, V, R, P>(rt, alloc, plan, 0, threads, &mut meter, out);
+            meter.clear(out);
+            found
+        }
+        None => try_part::<O, V, R>(rt, alloc, plan, threads),
+    }
+}
+
+/// Tries the seeds from this place on in rounds, one behind the other, up to a round with a run that is not legal, and tells between them
+/// how far it has come.
+fn try_rounds<
+    O: Object<Alloc = Global> + Send,
+    V: Vocabulary + Send,
+    R: Threads + Clock + Sync,
+    P: Write,
+>(
+    rt: &R,
+    alloc: Global,
+    plan: &Plan<'_>,
+    from: u64,
+    threads: u16,
+    meter: &mut Meter,
+    out: &mut P,
+) -> Result<Found, Fault>
+    ensures { let many = seeds_in plan.now.first plan.now.last in IfOk result (λ found. from ≤ many
+        → AreTried (IsTried O.sequential V.forms) (plan.now.first + from) (plan.now.first + many) found.illegal) }
+{
+    let many = plan.many();
+    if from >= many {
+        return Ok(Found::new());
+    }
+    let upto = round_end(from, meter.size(), many);
+    let round = plan.part(from, upto);
+    let mut found = try_part::<O, V, R>(rt, alloc, &round, threads)?;
+    if found.illegal.is_some() {
+        return Ok(found);
+    }
+    meter.pass(rt, out, upto);
+    let others = try_rounds::<O, V, R, P>(rt, alloc, plan, upto, threads, meter, out)?;
+    found.add(&others);
+    Ok(found)
+}
+
+/// Tries the seeds of a plan at once.
+fn try_part<O: Object<Alloc = Global> + Send, V: Vocabulary + Send, R: Threads + Sync>(
     rt: &R,
     alloc: Global,
     plan: &Plan<'_>,
     threads: u16,
 ) -> Result<Found, Fault>
-    ensures { let object = ⟦<Things<Global> as Object>⟧ in IfOk result (λ found.
-        AreTried (IsTried object.sequential) plan.now.first (plan.now.first + seeds_in plan.now.first plan.now.last) found.illegal) }
+    ensures { IfOk result (λ found.
+        AreTried (IsTried O.sequential V.forms) plan.now.first (plan.now.first + seeds_in plan.now.first plan.now.last) found.illegal) }
 {
-    let parts = try_shares(rt, alloc, plan, threads)?;
-    joined::<Things<Global>>(plan, threads, parts)
+    let parts = try_shares::<O, V, R>(rt, alloc, plan, threads)?;
+    joined::<O, V>(plan, threads, parts)
 }
 
 /// Tries each of so many shares of the seeds, in a thread of its own where one can be made.
-fn try_shares<R: Threads + Sync>(
+fn try_shares<O: Object<Alloc = Global> + Send, V: Vocabulary + Send, R: Threads + Sync>(
     rt: &R,
     alloc: Global,
     plan: &Plan<'_>,
     shares: u16,
 ) -> Result<Vec<Result<Found, Fault>>, AllocError>
     ensures len { IfOk result (λ parts. vec_len parts ≡ max shares 1) }
-    ensures each { let object = ⟦<Things<Global> as Object>⟧ in let many = seeds_in plan.now.first plan.now.last in
+    ensures each { let many = seeds_in plan.now.first plan.now.last in
         IfOk result (λ parts. (share : ℕ) (part : _) → share < max shares 1 → IfOk (slice_index_or parts.items share part) (λ found.
-        AreTried (IsTried object.sequential) (plan.now.first + share_begin many shares share) (plan.now.first + share_begin many shares (share + 1)) found.illegal)) }
+        AreTried (IsTried O.sequential V.forms) (plan.now.first + share_begin many shares share)
+        (plan.now.first + share_begin many shares (share + 1)) found.illegal)) }
 {
     thread::map_indices(
         rt,
         alloc,
         usize::from(shares.max(1)),
-        &|share| { try_share::<Things<Global>>(alloc, plan, shares, share as u64) },
+        &|share| { try_share::<O, V>(alloc, plan, shares, share as u64) },
     )
 }
 
 /// What was found of all shares, where this was found of each.
-fn joined<O: Object<Alloc = Global>>(
+fn joined<O: Object<Alloc = Global>, V: Vocabulary>(
     plan: &Plan<'_>,
     shares: u16,
     parts: Vec<Result<Found, Fault>>,
@@ -163,9 +270,10 @@ fn joined<O: Object<Alloc = Global>>(
     requires len { vec_len parts ≡ max shares 1 }
     requires each { let many = seeds_in plan.now.first plan.now.last in
         (share : ℕ) (part : _) → share < max shares 1 → IfOk (slice_index_or parts.items share part) (λ found.
-        AreTried (IsTried O.sequential) (plan.now.first + share_begin many shares share) (plan.now.first + share_begin many shares (share + 1)) found.illegal) }
+        AreTried (IsTried O.sequential V.forms) (plan.now.first + share_begin many shares share)
+        (plan.now.first + share_begin many shares (share + 1)) found.illegal) }
     ensures { IfOk result (λ found.
-        AreTried (IsTried O.sequential) plan.now.first (plan.now.first + seeds_in plan.now.first plan.now.last) found.illegal) }
+        AreTried (IsTried O.sequential V.forms) plan.now.first (plan.now.first + seeds_in plan.now.first plan.now.last) found.illegal) }
 {
     // The contract alone speaks of these two.
     let (_, _) = (plan, shares);
@@ -178,21 +286,22 @@ fn joined<O: Object<Alloc = Global>>(
 }
 
 /// Tries the seeds of a share, of so many: in their order, up to the first whose run is not legal.
-fn try_share<O: Object<Alloc = Global>>(
+fn try_share<O: Object<Alloc = Global>, V: Vocabulary>(
     alloc: Global,
     plan: &Plan<'_>,
     shares: u16,
     share: u64,
 ) -> Result<Found, Fault>
     ensures { let many = seeds_in plan.now.first plan.now.last in
-        IfOk result (λ found. AreTried (IsTried O.sequential) (plan.now.first + share_begin many shares share) (plan.now.first + share_begin many shares (share + 1)) found.illegal) }
+        IfOk result (λ found. AreTried (IsTried O.sequential V.forms) (plan.now.first + share_begin many shares share)
+        (plan.now.first + share_begin many shares (share + 1)) found.illegal) }
 {
     let many = plan.many();
     let mut found = Found::new();
     let begin = share_begin(many, shares, share);
     let end = share_begin(many, shares, share.saturating_add(1));
     for place in begin..end {
-        let one = try_seed::<O>(alloc, plan.votes, plan.first + place, plan.lines)?;
+        let one = try_seed::<O, V>(alloc, plan.votes, plan.first + place, plan.lines)?;
         found.add(&one);
         if found.illegal.is_some() {
             return Ok(found);

@@ -1,7 +1,7 @@
 //! What was found.
 
 ghost use Rattle.std.specs.Prelude.{◌≡◌, None};
-ghost use Rattle.ring_explore.specs.Explored.{first_of};
+ghost use Rattle.ring_shares.specs.Shares.{first_of};
 
 /// What was found of some seeds.
 #[derive(Clone, Copy, Debug, PartialEq, Eq)]

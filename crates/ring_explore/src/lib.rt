@@ -6,5 +6,5 @@ mod found;
 mod one;
 mod plan;
 
-pub use exploring::explore;
+pub use exploring::{explore, explore_of};
 pub use plan::Plan;

@@ -2,7 +2,7 @@
 
 ghost use Rattle.std.specs.Prelude.{◌≡◌, ℕ, ◌+◌, ◌↔◌, Bool, List, Ok, OnOk, IfOk, IsTrue};
 ghost use Rattle.ring_script.specs.Fits.{IsFit, AreFit};
-ghost use Rattle.ring_script.specs.Scripts.{script_of, schedule_by};
+ghost use Rattle.ring_script.specs.Scripts.{script_by, schedule_by};
 ghost use Rattle.ring_console.specs.Running.{run_opening, Does, Pumps, Runs, IsLegal};
 ghost use Rattle.ring_explore.specs.Explored.{AreTried, illegal_of};
 ghost use Rattle.ring_explore.specs.Tried.{IsTried};
@@ -10,38 +10,39 @@ ghost use Rattle.ring_explore.specs.Tried.{IsTried};
 use crate::found::Found;
 use ring_base::{Fault, Fixed, Proc, RingId};
 use ring_checker::is_linearization;
-use ring_console::{Line, Run, Script, ScriptFault, World};
+use ring_console::{Line, Run, Script, ScriptFault, Vocabulary, World};
 use ring_object::Object;
 use ring_rules::Told;
-use ring_script_maker::made_script;
+use ring_script_maker::made_script_by;
 use std::alloc::{Allocator, Global};
 
 /// What is found of one seed: its script is made, and run, and its run is checked. Or `Memory`; `BadScript` where what was
 /// made is no script.
-pub(crate) fn try_seed<O: Object<Alloc = Global>>(
+pub(crate) fn try_seed<O: Object<Alloc = Global>, V: Vocabulary>(
     alloc: Global,
     votes: &[u8],
     seed: u64,
     lines: u32,
 ) -> Result<Found, Fault>
-    ensures { IfOk result (λ found. AreTried (IsTried O.sequential) seed (seed + 1) found.illegal) }
+    ensures { IfOk result (λ found. AreTried (IsTried O.sequential V.forms) seed (seed + 1) found.illegal) }
 {
-    let text = made_script(alloc, votes, seed, lines)?;
-    match Script::parse(alloc, text.as_bytes()) {
-        Ok(script) => try_script::<O>(alloc, script, seed),
+    let text = made_script_by::<V, Global>(alloc, votes, seed, lines)?;
+    match Script::parse_by::<V>(alloc, text.as_bytes()) {
+        Ok(script) => try_script::<O, V>(alloc, script, seed),
         Err(ScriptFault::Memory) => Err(Fault::Memory),
         Err(ScriptFault::AtLine(_)) => Err(Fault::BadScript),
     }
 }
 
 /// What is found of the script of a seed: it is run, and its run is checked.
-fn try_script<O: Object<Alloc = Global>>(
+fn try_script<O: Object<Alloc = Global>, V: Vocabulary>(
     alloc: Global,
     script: Script,
     seed: u64,
 ) -> Result<Found, Fault>
     requires { AreFit script.lines.items }
-    ensures { IfOk result (λ found. (made : List ℕ) → script_of made ≡ Ok (schedule_by script) → AreTried (IsTried O.sequential) seed (seed + 1) found.illegal) }
+    ensures { IfOk result (λ found. (made : List ℕ) → script_by V.forms made ≡ Ok (schedule_by script)
+        → AreTried (IsTried O.sequential V.forms) seed (seed + 1) found.illegal) }
 {
     let mut seen = Seen::<O>::new(alloc, script.nodes)?;
     seen.take(script)?;

@@ -1,7 +1,7 @@
 //! Which scripts are tried.
 
 ghost use Rattle.std.specs.Prelude.{◌≡◌, ◌≤◌, ◌+◌, ◌^◌, ◌<◌, IsTrue};
-ghost use Rattle.ring_explore.specs.Explored.{seeds_in, share_begin};
+ghost use Rattle.ring_explore.specs.Explored.{seeds_in};
 
 /// The scripts that are tried: those of all seeds from the first to the last, the last included.
 #[derive(Clone, Copy)]
@@ -24,12 +24,19 @@ impl Plan<'_> {
         }
         (self.last - self.first).saturating_add(1)
     }
-}
 
-/// Where a share of so many seeds begins, of so many shares: each is as large as the others, but for the last of them.
-pub(crate) fn share_begin(many: u64, shares: u16, share: u64) -> u64
-    ensures { result ≡ share_begin many shares share }
-{
-    let each = (many / u64::from(shares.max(1))).saturating_add(1);
-    each.saturating_mul(share).min(many)
+    /// Of these seeds those from one place up to another, that left out.
+    pub(crate) fn part(&self, from: u64, upto: u64) -> Plan<'_>
+        requires some { from < upto }
+        requires within { upto ≤ seeds_in self.now.first self.now.last }
+        ensures first { result.first ≡ self.now.first + from }
+        ensures last { result.last + 1 ≡ self.now.first + upto }
+    {
+        Plan {
+            votes: self.votes,
+            first: self.first + from,
+            last: self.first + (upto - 1),
+            lines: self.lines,
+        }
+    }
 }

@@ -3,18 +3,25 @@
 use ring_explore::{Plan, explore};
 use std::test::Fail;
 use std::thread::Threads;
+use std::time::Clock;
 
 /// What is printed of three nodes and some seeds, by so many threads.
-fn printed<R: AllocGlobal + Threads + Sync>(rt: &R, threads: u16) -> Vec<u8> {
+fn printed<R: AllocGlobal + Threads + Clock + Sync>(rt: &R, threads: u16) -> Vec<u8> {
     let mut out = Vec::new(rt.alloc());
     let mut err = Vec::new(rt.alloc());
+    let mut watched = Vec::new(rt.alloc());
+    let progress = if threads > 1 {
+        Some(&mut watched)
+    } else {
+        None
+    };
     let plan = Plan {
         votes: &[1, 1, 1],
         first: 1,
         last: 6,
         lines: 40,
     };
-    let status = explore(rt, rt.alloc(), plan, threads, &mut out, &mut err);
+    let status = explore(rt, rt.alloc(), plan, threads, &mut out, &mut err, progress);
     if status != 0 || !err.is_empty() {
         out.clear();
     }

@@ -5,24 +5,20 @@ use Rattle.std.specs.Io.Iter.{u64_saturate}
 use Rattle.std.specs.Io.KnownBytes.{Appends}
 use Rattle.std.proofs.KnownBytes.{Consumes-nil, Consumes-trans, Consumes-kept, Appends-nil, Appends-trans}
 use Rattle.std.proofs.lemmas.List.{length-append}
+use Rattle.ring_base.specs.Group.{Group}
 use Rattle.ring_base.specs.declared.fault.Fault.{Fault}
 use Rattle.ring_base.specs.declared.fault.Fault.TheVariants.{Memory, NotMember}
 use Rattle.ring_object.specs.Operations.{Sequential}
 use Rattle.ring_records.specs.Records.{record_of}
 use Rattle.ring_report.specs.declared.failure.Failure.{Failure}
 use Rattle.ring_report.specs.declared.failure.Failure.TheVariants.{Refused, BadFrame, BadScript, Output}
-use Rattle.ring_rules.specs.Nodes.{Node}
+use Rattle.ring_rules.specs.Nodes.{Node, node_opening}
 use Rattle.ring_pipe.specs.Piping.{Writes}
-use Rattle.ring_pipe.specs.Serving.{records_text, IsStop, ServesNext, Serves, IsServed, IsCutOff}
+use Rattle.ring_pipe.specs.Serving.{records_text, IsAmong, IsStop, ServesNext, Serves, IsServed, IsCutOff}
 
 -- what was told into an empty room, and then written
 pub written_out : (told : List ℕ) (old new : Option (List ℕ)) (P : List ℕ → Type 0) → Writes (Some []) (Some told) P → Appends old new told → Writes old new P
 written_out told old new P w out = record { text = w.text; told = subst (Appends old new) w.told out; holds = w.holds }
-
--- a node that can't begin lacks memory, or is none of its group
-pub why_none : (fault : Fault) (P : Type 0) → (fault ≡ Memory) ⊎ ((fault ≡ NotMember) × P) → (fault ≡ Memory) ⊎ (fault ≡ NotMember)
-why_none fault P (inl e) = inl e
-why_none fault P (inr both) = inr both.0
 
 module _ {O A : Type 0} (object : Sequential O) where
   -- the records before this byte were taken
@@ -75,20 +71,23 @@ module _ {O A : Type 0} (object : Sequential O) where
       )
 
   -- there is no next record
-  pub served_cut : (at : ℕ) (old new : Node A) (input left out told out' : Option (List ℕ)) (failure : Failure) → ServesTo at old new input left out told
-      → ((failure ≡ Output → ⊥) → out' ≡ told) → IsStop at failure → IsCutOff object old input out out' failure
-  served_cut at old new input left out told out' (Refused fault) to same stop =
-      cut_here at old new input left out told out' (Refused fault) to (same (λ e. absurd (cc e))) stop
-  served_cut at old new input left out told out' (BadFrame byte) to same stop =
-      cut_here at old new input left out told out' (BadFrame byte) to (same (λ e. absurd (cc e))) stop
-  served_cut at old new input left out told out' (BadScript line) to same stop = absurd stop
-  served_cut at old new input left out told out' Output to same stop = tt
+  pub served_cut : (at : ℕ) (group : Group) (me : ℕ) (new : Node A) (input left out told out' : Option (List ℕ)) (failure : Failure)
+      → ServesTo at (node_opening group me) new input left out told → ((failure ≡ Output → ⊥) → out' ≡ told) → IsStop at failure
+      → IsCutOff object A group me input out out' failure
+  served_cut at group me new input left out told out' (Refused fault) to same stop =
+      inr (cut_here at (node_opening group me) new input left out told out' (Refused fault) to (same (λ e. absurd (cc e))) stop)
+  served_cut at group me new input left out told out' (BadFrame byte) to same stop =
+      inr (cut_here at (node_opening group me) new input left out told out' (BadFrame byte) to (same (λ e. absurd (cc e))) stop)
+  served_cut at group me new input left out told out' (BadScript line) to same stop = absurd stop
+  served_cut at group me new input left out told out' Output to same stop = tt
 
   -- no record is left: those before are the whole input
-  pub served_end : (at : ℕ) (old new last : Node A) (input left rest out told out' : Option (List ℕ)) → ServesTo at old new input left out told
-      → ServesNext object at None new last left rest told out' → IsServed object old input rest out out'
-  served_end at old new last input left rest out told out' to none =
+  pub served_end : (at : ℕ) (group : Group) (me : ℕ) (new last : Node A) (input left rest out told out' : Option (List ℕ)) → IsAmong group me
+      → ServesTo at (node_opening group me) new input left out told → ServesNext object at None new last left rest told out'
+      → IsServed object A group me input rest out out'
+  served_end at group me new last input left rest out told out' among to none =
       let so = to.so in (
+        among,
         new,
         record {
           records = so.records;
@@ -100,10 +99,18 @@ module _ {O A : Type 0} (object : Sequential O) where
         none.2,
       )
 
+module _ {O : Type 0} (object : Sequential O) (A : Type 0) where
+  -- a node can't begin, for want of memory or since its group has none of this number
+  cut_first : (group : Group) (me : ℕ) (fault : Fault) (input out : Option (List ℕ)) → (fault ≡ Memory) ⊎ ((fault ≡ NotMember) × ¬ IsAmong group me)
+      → IsCutOff object A group me input out out (Refused fault)
+  cut_first group me fault input out (inl e) =
+      served_cut object 0 group me (node_opening {A = A} group me) input input out out out (Refused fault) (served_none object (node_opening group me) input out) (λ other. refl) e
+  cut_first group me fault input out (inr both) = inl (subst (λ (f : Fault). Refused fault ≡ Refused f) both.0 refl, both.1, refl)
+
   -- nothing was read
-  pub cut_at_once : {T : Type 0} (r : Result T Failure) (fault : Fault) (old : Node A) (input out : Option (List ℕ))
-      → IsErrAnd r (λ (f : Failure). f ≡ Refused fault) → (fault ≡ Memory) ⊎ (fault ≡ NotMember) → IfErr r (IsCutOff object old input out out)
-  cut_at_once (Ok x) fault old input out is why = tt
-  cut_at_once (Err failure) fault old input out is why =
-      subst (λ (f : Failure). IsCutOff object old input out out f) (sym is)
-      (served_cut 0 old old input input out out out (Refused fault) (served_none old input out) (λ other. refl) why)
+  pub cut_at_once : {T : Type 0} (r : Result T Failure) (group : Group) (me : ℕ) (fault : Fault) (input out : Option (List ℕ))
+      → IsErrAnd r (λ (f : Failure). f ≡ Refused fault) → (fault ≡ Memory) ⊎ ((fault ≡ NotMember) × ¬ IsAmong group me)
+      → IfErr r (IsCutOff object A group me input out out)
+  cut_at_once (Ok x) group me fault input out is why = tt
+  cut_at_once (Err failure) group me fault input out is why =
+      subst (λ (f : Failure). IsCutOff object A group me input out out f) (sym is) (cut_first group me fault input out why)

@@ -30,4 +30,5 @@ module _ {O A : Type 0} (object : Sequential O) (old : Node A) (client number : 
         subst (λ (c : Call A). new ≡ submitted old c) same done,
         subst (λ (c : Call A). IsNewCall client number operation (Ok c)) same is,
       )
-  made new call (Err fault) is place taken done kept why = (kept, inr why)
+  made new call (Err fault) is place taken done kept why =
+      (kept, inr (subst (λ (c : Call A). IsNewCall client number operation (Ok c)) is.2 is, why))

@@ -4,6 +4,8 @@ use Rattle.ring_base.specs.declared.fault.Fault.{Fault}
 use Rattle.ring_base.specs.declared.fault.Fault.TheVariants.{Stopped, Memory, BadFrame}
 use Rattle.ring_object.specs.Operations.{Sequential}
 use Rattle.ring_rules.specs.Nodes.{Node}
+use Rattle.ring_records.specs.Asking.{Asks}
+use Rattle.ring_records.specs.declared.asked.Asked.{Asked}
 use Rattle.ring_pipe.specs.Piping.{Takes, AsksNothing}
 
 -- the node, none once it is gone, and the bytes that it told and that are unread
@@ -26,5 +28,6 @@ module _ {O A : Type 0} (object : Sequential O) where
 abbrev pub IsUntold : {A : Type 0} → Embedding A → ℕ → List ℕ → Fault → Embedding A → Type 0
 IsUntold old kind bytes Stopped new = (old.node ≡ None) × (new ≡ old)
 IsUntold old kind bytes BadFrame new = AsksNothing kind bytes × (new ≡ old)
-IsUntold old kind bytes Memory new = new ≡ record { node = None; unread = [] }
+IsUntold {A} old kind bytes Memory new =
+    (before : Node A) × (what : Asked) × (old.node ≡ Some before) × Asks kind bytes what × (new ≡ record { node = None; unread = [] })
 IsUntold old kind bytes _ new = ⊥

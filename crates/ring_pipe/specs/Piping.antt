@@ -51,13 +51,15 @@ module _ {O A : Type 0} (object : Sequential O) where
   abbrev pub Hears : Node A → List ℕ → Node A → List ℕ → Type 0
   Hears old bytes new text = ((i : Input A) × IsHeard bytes i × Steps old i new text) ⊎ Halts old new text
 
-  -- a call was submitted, and got a ticket or was refused
+  -- a call was submitted, and got a ticket; or it is none, and that is told first; or it is one, and was refused
   abbrev pub Gives : Node A → ℕ → ℕ → List ℕ → Result ℕ Fault → Node A → Type 0
   Gives old client number operation (Ok ticket) new =
       (submit_fault old ≡ None) × (ticket ≡ length old.tickets) × (new ≡ submitted old (call_of client number operation))
       × IsNewCall client number operation (Ok (call_of {A = A} client number operation))
   Gives old client number operation (Err fault) new =
-      (new ≡ old) × (IsNewCall {A = A} client number operation (Err fault) ⊎ MatchOption (submit_fault old) (fault ≡ Memory) (λ first. fault ≡ first))
+      (new ≡ old) × (IsNewCall {A = A} client number operation (Err fault)
+      ⊎ (IsNewCall client number operation (Ok (call_of {A = A} client number operation))
+      × MatchOption (submit_fault old) (fault ≡ Memory) (λ first. fault ≡ first)))
 
   -- what it tells of that
   abbrev pub given_text : Result ℕ Fault → Node A → List ℕ

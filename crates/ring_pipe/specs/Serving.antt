@@ -1,19 +1,21 @@
 -- A node that takes the records of an input, one after the other: Records, of docs/FORMATS.md.
-use Rattle.std.specs.Prelude.{◌≡◌, ℕ, ◌+◌, ◌⊎◌, List, [], ◌∷◌, ◌++◌, length, Option, Some, None}
+use Rattle.std.specs.Prelude.{◌≡◌, ℕ, ◌+◌, ◌^◌, ◌<◌, ◌≤◌, ◌⊎◌, List, [], ◌∷◌, ◌++◌, length, Option, Some, None}
 use Rattle.std.specs.Io.Iter.{u64_saturate}
 use Rattle.std.specs.Io.KnownBytes.{Keeps, Appends, Consumes, IsAtEnd}
+use Rattle.ring_base.specs.Group.{Group}
 use Rattle.ring_base.specs.declared.fault.Fault.TheVariants.{Memory, NotMember}
 use Rattle.ring_object.specs.Operations.{Sequential}
 use Rattle.ring_records.specs.Records.{record_of}
 use Rattle.ring_report.specs.declared.failure.Failure.{Failure}
 use Rattle.ring_report.specs.declared.failure.Failure.TheVariants.{Refused, BadFrame, BadScript, Output}
-use Rattle.ring_rules.specs.Nodes.{Node}
+use Rattle.ring_rules.specs.Nodes.{Node, node_opening}
 use Rattle.ring_pipe.specs.Piping.{Takes, Writes}
 
--- a record: its kind and its bytes
+-- a record: its kind and its bytes, as many as two bytes can tell
 pub record Record : Type 0 where
   pub kind : ℕ
   pub bytes : List ℕ
+  pub short : length bytes < 2 ^ 16
 
 -- records that were read, the newest first, as they stood in the input
 abbrev pub records_text : List Record → List ℕ
@@ -24,10 +26,14 @@ records_text (r ∷ before) = records_text before ++ record_of r.kind r.bytes
 abbrev pub behind : ℕ → Record → ℕ
 behind at r = u64_saturate (at + length (record_of r.kind r.bytes))
 
--- why no more records are taken where the next one begins at this byte: for want of memory; since there is no such processor; since the
--- record asks for nothing that a node does, or isn't there whole; or since the output failed
+-- the group has a processor of this number
+abbrev pub IsAmong : Group → ℕ → Type 0
+IsAmong group me = (1 ≤ me) × (me ≤ group.count)
+
+-- why no more records are taken where the next one begins at this byte: for want of memory; since the record asks for nothing that a node
+-- does, or isn't there whole; or since the output failed
 abbrev pub IsStop : ℕ → Failure → Type 0
-IsStop at (Refused fault) = (fault ≡ Memory) ⊎ (fault ≡ NotMember)
+IsStop at (Refused fault) = fault ≡ Memory
 IsStop at (BadFrame byte) = byte ≡ at
 IsStop at (BadScript line) = ⊥
 IsStop at Output = Unit {0}
@@ -55,18 +61,23 @@ module _ {O A : Type 0} (object : Sequential O) where
     pub took : TakesAll old records new text
     pub told : Appends out out' text
 
-  -- the input was records, one after the other, nothing of it is left, and the node took each
-  abbrev pub IsServed : Node A → Option (List ℕ) → Option (List ℕ) → Option (List ℕ) → Option (List ℕ) → Type 0
-  IsServed old input rest out out' = (new : Node A) × Serves old new input rest out out' × IsAtEnd rest
+module _ {O : Type 0} (object : Sequential O) (A : Type 0) where
+  -- the processor of this number is one of the group; the input was records, one after the other, nothing of it is left, and its node,
+  -- at its opening, took each
+  abbrev pub IsServed : Group → ℕ → Option (List ℕ) → Option (List ℕ) → Option (List ℕ) → Option (List ℕ) → Type 0
+  IsServed group me input rest out out' =
+      IsAmong group me × (new : Node A) × Serves object (node_opening group me) new input rest out out' × IsAtEnd rest
 
-  -- where it is not the output that failed, the node took each of the records before, the output has no more than it told of these, and
-  -- the failure is why there are no more
-  abbrev pub IsCutOff : Node A → Option (List ℕ) → Option (List ℕ) → Option (List ℕ) → Failure → Type 0
-  IsCutOff old input out out' Output = Unit {0}
-  IsCutOff old input out out' failure =
-      (new : Node A) × (rest : Option (List ℕ)) × (so : Serves old new input rest out out')
-      × IsStop (u64_saturate (length (records_text so.records))) failure
+  -- where it is not the output that failed: there is no such processor, and nothing is told; or its node, at its opening, took each of the
+  -- records before, the output has no more than it told of these, and the failure is why there are no more
+  abbrev pub IsCutOff : Group → ℕ → Option (List ℕ) → Option (List ℕ) → Option (List ℕ) → Failure → Type 0
+  IsCutOff group me input out out' Output = Unit {0}
+  IsCutOff group me input out out' failure =
+      ((failure ≡ Refused NotMember) × (¬ IsAmong group me) × (out' ≡ out))
+      ⊎ ((new : Node A) × (rest : Option (List ℕ)) × (so : Serves object (node_opening group me) new input rest out out')
+      × IsStop (u64_saturate (length (records_text so.records))) failure)
 
   -- so the input was cut off; and where it is the output that failed, nothing is told elsewhere
-  abbrev pub IsCutShort : {E : Type 0} → Node A → Option (List ℕ) → Option (List ℕ) → Option (List ℕ) → E → E → Type 0
-  IsCutShort old input out out' err err' = (failure : Failure) × IsCutOff old input out out' failure × (failure ≡ Output → err' ≡ err)
+  abbrev pub IsCutShort : {E : Type 0} → Group → ℕ → Option (List ℕ) → Option (List ℕ) → Option (List ℕ) → E → E → Type 0
+  IsCutShort group me input out out' err err' =
+      (failure : Failure) × IsCutOff group me input out out' failure × (failure ≡ Output → err' ≡ err)

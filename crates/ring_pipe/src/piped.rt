@@ -11,6 +11,9 @@ ghost use Rattle.ring_rules.specs.Stepping.{node_step};
 ghost use Rattle.ring_records.specs.Told.{answers_text, all_committed_text, ticket_record, refusal_record};
 ghost use Rattle.ring_records.specs.declared.fate.TokenFate.TheVariants.{NoToken};
 ghost use Rattle.ring_pipe.specs.Telling.{sends_text, end_text, standing_text};
+ghost use Rattle.ring_records.specs.Asking.{Asks};
+ghost use Rattle.ring_records.specs.declared.asked.Asked.{Asked};
+ghost use Rattle.ring_pipe.specs.Serving.{IsAmong};
 ghost use Rattle.ring_pipe.specs.Piping.{Acts, Gives, Steps, Halts, Hears, Submits, Does, Takes, AsksNothing, Writes};
 
 use crate::parts::{has_sent, input_of, is_token};
@@ -52,7 +55,8 @@ impl<O: Object> Piped<O> {
     /// The processor of this number at its opening. Refused, in this order: `NotMember` unless it is one of these; `Memory`.
     pub fn new(alloc: O::Alloc, fixed: Fixed, me: u8) -> Result<Piped<O>, Fault>
         ensures ok { IfOk result (λ piped. piped ≡ node_opening fixed me) }
-        ensures refused { IfErr result (λ fault. (fault ≡ Memory) ⊎ ((fault ≡ NotMember) × ¬ ((1 ≤ me) × (me ≤ fixed.count)))) }
+        ensures member { OnOk result (IsAmong fixed me) }
+        ensures refused { IfErr result (λ fault. (fault ≡ Memory) ⊎ ((fault ≡ NotMember) × ¬ IsAmong fixed me)) }
     {
         node_fits_law::<O>();
         let _count = fixed.count();
@@ -67,6 +71,7 @@ impl<O: Object> Piped<O> {
             → Writes (W.contents out.old) (W.contents out.new) (Takes O.sequential self.old kind bytes.now self.new)) }
         ensures left { IfOk result (λ is_taken. is_taken ≡ false → AsksNothing kind bytes.now × (self.new ≡ self.old) × (out.new ≡ out.old)) }
         ensures failed { IfErr result (λ failure. failure ≡ Output) }
+        ensures asked { OnErr result ((what : Asked) × Asks kind bytes.now what) }
     {
         let Some(asked) = record_asks(kind, bytes) else {
             return Ok(false);

@@ -3,7 +3,6 @@
 ghost use Rattle.std.specs.Prelude.{◌≡◌, ◌≤◌, OnOk, IfOk, IfErr};
 ghost use Rattle.std.specs.Io.KnownBytes.{Appends};
 ghost use Rattle.ring_report.specs.declared.failure.Failure.TheVariants.{Output};
-ghost use Rattle.ring_rules.specs.Nodes.{node_opening};
 ghost use Rattle.ring_pipe.specs.Serving.{ServesNext, IsServed, IsCutOff, IsCutShort, IsStop};
 
 use crate::piped::Piped;
@@ -33,9 +32,9 @@ pub fn serve<O: Object, R: Read, W: Write, E: Write>(
 ) -> u8
     ensures status { result ≤ 1 }
     ensures quiet { result ≡ 0 → err.new ≡ err.old }
-    ensures served { result ≡ 0 → IsServed {A = O.Alloc} O.sequential (node_opening fixed me) (R.remaining input.old) (R.remaining input.new)
+    ensures served { result ≡ 0 → IsServed O.sequential O.Alloc fixed me (R.remaining input.old) (R.remaining input.new)
         (W.contents out.old) (W.contents out.new) }
-    ensures cut { result ≡ 1 → IsCutShort {A = O.Alloc} O.sequential (node_opening fixed me) (R.remaining input.old)
+    ensures cut { result ≡ 1 → IsCutShort O.sequential O.Alloc fixed me (R.remaining input.old)
         (W.contents out.old) (W.contents out.new) err.old err.new }
 {
     match serve_all::<O, R, W>(alloc, fixed, me, input, out) {
@@ -53,9 +52,9 @@ fn serve_all<O: Object, R: Read, W: Write>(
     input: &mut R,
     out: &mut W,
 ) -> Result<(), Failure>
-    ensures served { OnOk result (IsServed {A = O.Alloc} O.sequential (node_opening fixed me) (R.remaining input.old) (R.remaining input.new)
+    ensures served { OnOk result (IsServed O.sequential O.Alloc fixed me (R.remaining input.old) (R.remaining input.new)
         (W.contents out.old) (W.contents out.new)) }
-    ensures cut { IfErr result (IsCutOff {A = O.Alloc} O.sequential (node_opening fixed me) (R.remaining input.old)
+    ensures cut { IfErr result (IsCutOff O.sequential O.Alloc fixed me (R.remaining input.old)
         (W.contents out.old) (W.contents out.new)) }
 {
     let mut bytes = Vec::with_capacity(alloc, MOST_BYTES).map_err(Fault::from)?;

@@ -8,6 +8,7 @@ use Rattle.ring_base.specs.Group.{Group}
 use Rattle.ring_script.specs.declared.scripts.Numbered.{Numbered}
 use Rattle.ring_script.specs.Lines.{Asked, IsAmong, call_at, deliver_at, timeout_at, noise_at, stop_at, cut_line_at, pump_at, form_at, asked_of}
 use Rattle.ring_script.specs.Numbers.{word_at, node_at}
+use Rattle.ring_script.specs.Operations.{Form}
 use Rattle.ring_script.specs.Reading.{◌>>=◌}
 use Rattle.ring_script.specs.Scripts.{unless_skipped, then_asked, asked_in, numbered_by, AreAmong}
 use Rattle.ring_script.specs.Words.{words_of, whole}
@@ -21,9 +22,9 @@ node_low nodes words = grind (arith, common_steps)
 abbrev ReadAmong : ℕ → Option (Asked × List (List ℕ)) → Type 0
 ReadAmong count read = IfSome read (λ asked. IsAmong count asked.0)
 
-call_among : (nodes : Group) (words : List (List ℕ)) → ReadAmong nodes.count (call_at nodes words)
+call_among : (forms : List Form) (nodes : Group) (words : List (List ℕ)) → ReadAmong nodes.count (call_at forms nodes words)
 unfolding call_at
-call_among nodes words = grind (arith, node_low)
+call_among forms nodes words = grind (arith, node_low)
 
 deliver_among : (nodes : Group) (words : List (List ℕ)) → ReadAmong nodes.count (deliver_at nodes words)
 unfolding deliver_at
@@ -49,22 +50,23 @@ pump_among : (count : ℕ) (words : List (List ℕ)) → ReadAmong count (pump_a
 unfolding pump_at
 pump_among count words = grind arith
 
-form_among : (nodes : Group) (word : List ℕ) (words : List (List ℕ)) → ReadAmong nodes.count (form_at nodes word words)
+form_among : (forms : List Form) (nodes : Group) (word : List ℕ) (words : List (List ℕ)) → ReadAmong nodes.count (form_at forms nodes word words)
 unfolding form_at
-form_among nodes word words = grind (arith, call_among, deliver_among, timeout_among, noise_among, stop_among, cut_among, pump_among)
+form_among forms nodes word words = grind (arith, call_among, deliver_among, timeout_among, noise_among, stop_among, cut_among, pump_among)
 
 -- ---- one line
 
 whole_among : (count : ℕ) (read : Option (Asked × List (List ℕ))) → ReadAmong count read → IfSome (read >>= whole) (IsAmong count)
 whole_among count read among = grind arith
 
-words_among : (nodes : Group) (words : List (List ℕ)) → IfSome (word_at words >>= (λ word. form_at nodes word.0 word.1 >>= whole)) (IsAmong nodes.count)
-words_among nodes [] = tt
-words_among nodes (word ∷ words) = whole_among nodes.count (form_at nodes word words) (form_among nodes word words)
+words_among : (forms : List Form) (nodes : Group) (words : List (List ℕ))
+    → IfSome (word_at words >>= (λ word. form_at forms nodes word.0 word.1 >>= whole)) (IsAmong nodes.count)
+words_among forms nodes [] = tt
+words_among forms nodes (word ∷ words) = whole_among nodes.count (form_at forms nodes word words) (form_among forms nodes word words)
 
-asked_among : (nodes : Group) (line : List ℕ) → IfSome (asked_of nodes line) (IsAmong nodes.count)
+asked_among : (forms : List Form) (nodes : Group) (line : List ℕ) → IfSome (asked_of forms nodes line) (IsAmong nodes.count)
 unfolding asked_of
-asked_among nodes line = words_among nodes (words_of line)
+asked_among forms nodes line = words_among forms nodes (words_of line)
 
 -- ---- all lines
 
@@ -72,20 +74,21 @@ asked_among nodes line = words_among nodes (words_of line)
 abbrev AllAmong : ℕ → List (ℕ × Asked) → Type 0
 AllAmong count asked = AllByRecursion (λ (a : ℕ × Asked). IsAmong count a.1) asked
 
-told_among : (nodes : Group) (line : List ℕ) → IfSome (unless_skipped (asked_of nodes) line) (λ told. IfSome told (IsAmong nodes.count))
-told_among nodes line = grind (arith, asked_among nodes line)
+told_among : (forms : List Form) (nodes : Group) (line : List ℕ)
+    → IfSome (unless_skipped (asked_of forms nodes) line) (λ told. IfSome told (IsAmong nodes.count))
+told_among forms nodes line = grind (arith, asked_among forms nodes line)
 
 then_among : (count number : ℕ) (told : Option (Option Asked)) (others : Result (List (ℕ × Asked)) ℕ)
     → IfSome told (λ asked. IfSome asked (IsAmong count)) → IfOk others (AllAmong count)
     → IfOk (then_asked number told others) (AllAmong count)
 then_among count number told others first later = grind arith
 
-all_among : (nodes : Group) (before : ℕ) (lines : List (List ℕ)) → IfOk (asked_in nodes before lines) (AllAmong nodes.count)
+all_among : (forms : List Form) (nodes : Group) (before : ℕ) (lines : List (List ℕ)) → IfOk (asked_in forms nodes before lines) (AllAmong nodes.count)
 unfolding asked_in
-all_among nodes before [] = tt
-all_among nodes before (line ∷ lines) =
-    then_among nodes.count (before + 1) (unless_skipped (asked_of nodes) line)
-    (asked_in nodes (before + 1) lines) (told_among nodes line) (all_among nodes (before + 1) lines)
+all_among forms nodes before [] = tt
+all_among forms nodes before (line ∷ lines) =
+    then_among nodes.count (before + 1) (unless_skipped (asked_of forms nodes) line)
+    (asked_in forms nodes (before + 1) lines) (told_among forms nodes line) (all_among forms nodes (before + 1) lines)
 
 -- the same of the program's lines
 AreAmong-numbered : {A : Type 0} (count : ℕ) (lines : List (Numbered A)) → AllAmong count (map numbered_by lines) → AreAmong count lines
@@ -93,8 +96,8 @@ AreAmong-numbered count [] among = tt
 AreAmong-numbered count (line ∷ lines) among = (among.0, AreAmong-numbered count lines among.1)
 
 -- the lines that were read of a text
-pub lines_among : {A : Type 0} (nodes : Group) (before : ℕ) (text : List (List ℕ))
-    (lines : List (Numbered A)) → asked_in nodes before text ≡ Ok (map numbered_by lines)
+pub lines_among : {A : Type 0} (forms : List Form) (nodes : Group) (before : ℕ) (text : List (List ℕ))
+    (lines : List (Numbered A)) → asked_in forms nodes before text ≡ Ok (map numbered_by lines)
     → AreAmong nodes.count lines
-lines_among nodes before text lines read =
-    AreAmong-numbered nodes.count lines (IfOk-at_ok (AllAmong nodes.count) read (all_among nodes before text))
+lines_among forms nodes before text lines read =
+    AreAmong-numbered nodes.count lines (IfOk-at_ok (AllAmong nodes.count) read (all_among forms nodes before text))

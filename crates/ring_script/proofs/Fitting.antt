@@ -1,5 +1,5 @@
 -- Each call that a script asks for keeps the limits of calls.
-use Rattle.std.proofs.Common.{◌≡◌, ℕ, ◌+◌, ◌-◌, ◌^◌, ◌<◌, ◌≤◌, List, [], ◌∷◌, length, map, Option, Some, None, Result, Ok, arith, refl}
+use Rattle.std.proofs.Common.{◌≡◌, ℕ, ◌+◌, ◌-◌, ◌^◌, ◌<◌, ◌≤◌, true, List, [], ◌∷◌, length, map, Option, Some, None, Result, Ok, arith, refl}
 use Rattle.std.specs.Prelude.{IfSome, IfOk}
 use Rattle.std.specs.List.{AllByRecursion}
 use Rattle.std.proofs.lemmas.Grind.{common_steps}
@@ -13,7 +13,7 @@ use Rattle.ring_script.specs.Lines.{Asked, Call, Deliver, Timeout, Noise, Stop, 
 use Rattle.ring_script.specs.Lines.{call_at, deliver_at, timeout_at, noise_at, stop_at, cut_line_at, pump_at, form_at}
 use Rattle.ring_script.specs.Lines.{asked_of}
 use Rattle.ring_script.specs.Numbers.{word_at, number_at, node_at}
-use Rattle.ring_script.specs.Operations.{operation_at}
+use Rattle.ring_script.specs.Operations.{Form, are_short, operation_at}
 use Rattle.ring_script.specs.Reading.{◌>>=◌}
 use Rattle.ring_script.specs.Scripts.{unless_skipped, then_asked, asked_in, numbered_by}
 use Rattle.ring_script.specs.Words.{words_of, whole}
@@ -39,20 +39,21 @@ client_low words = grind (arith, common_steps)
 number_low : (words : List (List ℕ)) → IfSome (number_at 1 (2 ^ 64 - 1) words) (λ number. (1 ≤ number.0) × (number.0 < 2 ^ 64))
 number_low words = grind (arith, common_steps)
 
-operation_low : (words : List (List ℕ)) → IfSome (operation_at words) (λ operation. length operation.0 ≤ 1024)
-operation_low words = at_some (operation_at words) refl
+operation_low : (forms : List Form) (words : List (List ℕ)) → are_short forms ≡ true
+    → IfSome (operation_at forms words) (λ operation. length operation.0 ≤ 1024)
+operation_low forms words are = at_some (operation_at forms words) refl
   where
-    at_some : (o : Option (List ℕ × List (List ℕ))) → operation_at words ≡ o → IfSome o (λ operation. length operation.0 ≤ 1024)
+    at_some : (o : Option (List ℕ × List (List ℕ))) → operation_at forms words ≡ o → IfSome o (λ operation. length operation.0 ≤ 1024)
     at_some None e = tt
-    at_some (Some x) e = operation_short words x e
+    at_some (Some x) e = operation_short forms words x are e
 
 -- what a form reads, and the words after it
 abbrev ReadFits : Option (Asked × List (List ℕ)) → Type 0
 ReadFits read = IfSome read (λ asked. FitsAsked asked.0)
 
-call_fits : (nodes : Group) (words : List (List ℕ)) → ReadFits (call_at nodes words)
+call_fits : (forms : List Form) (nodes : Group) (words : List (List ℕ)) → are_short forms ≡ true → ReadFits (call_at forms nodes words)
 unfolding call_at
-call_fits nodes words = after_node (node_at nodes words)
+call_fits forms nodes words are = after_node (node_at nodes words)
   where
     after_operation : (node client number : ℕ) → client < 2 ^ 32 → (1 ≤ number) × (number < 2 ^ 64)
         → (o : Option (List ℕ × List (List ℕ))) → IfSome o (λ operation. length operation.0 ≤ 1024)
@@ -61,13 +62,13 @@ call_fits nodes words = after_node (node_at nodes words)
     after_operation node client number low within (Some operation) short = (low, within.0, within.1, short)
 
     after_number : (node client : ℕ) → client < 2 ^ 32 → (o : Option (ℕ × List (List ℕ))) → IfSome o (λ number. (1 ≤ number.0) × (number.0 < 2 ^ 64))
-        → ReadFits (o >>= (λ number. operation_at number.1 >>= (λ operation. Some (Call node client number.0 operation.0, operation.1))))
+        → ReadFits (o >>= (λ number. operation_at forms number.1 >>= (λ operation. Some (Call node client number.0 operation.0, operation.1))))
     after_number node client low None within = tt
-    after_number node client low (Some number) within = after_operation node client number.0 low within (operation_at number.1) (operation_low number.1)
+    after_number node client low (Some number) within = after_operation node client number.0 low within (operation_at forms number.1) (operation_low forms number.1 are)
 
     after_client : (node : ℕ) → (o : Option (ℕ × List (List ℕ))) → IfSome o (λ client. client.0 < 2 ^ 32)
         → ReadFits (o >>= (λ client. number_at 1 (2 ^ 64 - 1) client.1
-        >>= (λ number. operation_at number.1 >>= (λ operation. Some (
+        >>= (λ number. operation_at forms number.1 >>= (λ operation. Some (
           Call node client.0 number.0 operation.0,
           operation.1,
         )))))
@@ -76,7 +77,7 @@ call_fits nodes words = after_node (node_at nodes words)
 
     after_node : (o : Option (ℕ × List (List ℕ)))
         → ReadFits (o >>= (λ node. number_at 0 (2 ^ 32 - 1) node.1 >>= (λ client. number_at 1 (2 ^ 64 - 1) client.1
-        >>= (λ number. operation_at number.1 >>= (λ operation. Some (
+        >>= (λ number. operation_at forms number.1 >>= (λ operation. Some (
           Call node.0 client.0 number.0 operation.0,
           operation.1,
         ))))))
@@ -107,22 +108,24 @@ pump_fits : (words : List (List ℕ)) → ReadFits (pump_at words)
 unfolding pump_at
 pump_fits words = grind arith
 
-form_fits : (nodes : Group) (word : List ℕ) (words : List (List ℕ)) → ReadFits (form_at nodes word words)
+form_fits : (forms : List Form) (nodes : Group) (word : List ℕ) (words : List (List ℕ)) → are_short forms ≡ true
+    → ReadFits (form_at forms nodes word words)
 unfolding form_at
-form_fits nodes word words = grind (arith, call_fits, deliver_fits, timeout_fits, noise_fits, stop_fits, cut_fits, pump_fits)
+form_fits forms nodes word words are = grind (arith, call_fits forms nodes words are, deliver_fits, timeout_fits, noise_fits, stop_fits, cut_fits, pump_fits)
 
 -- ---- one line
 
 whole_fits : (read : Option (Asked × List (List ℕ))) → ReadFits read → IfSome (read >>= whole) FitsAsked
 whole_fits read fits = grind arith
 
-words_fit : (nodes : Group) (words : List (List ℕ)) → IfSome (word_at words >>= (λ word. form_at nodes word.0 word.1 >>= whole)) FitsAsked
-words_fit nodes [] = tt
-words_fit nodes (word ∷ words) = whole_fits (form_at nodes word words) (form_fits nodes word words)
+words_fit : (forms : List Form) (nodes : Group) (words : List (List ℕ)) → are_short forms ≡ true
+    → IfSome (word_at words >>= (λ word. form_at forms nodes word.0 word.1 >>= whole)) FitsAsked
+words_fit forms nodes [] are = tt
+words_fit forms nodes (word ∷ words) are = whole_fits (form_at forms nodes word words) (form_fits forms nodes word words are)
 
-asked_fits : (nodes : Group) (line : List ℕ) → IfSome (asked_of nodes line) FitsAsked
+asked_fits : (forms : List Form) (nodes : Group) (line : List ℕ) → are_short forms ≡ true → IfSome (asked_of forms nodes line) FitsAsked
 unfolding asked_of
-asked_fits nodes line = words_fit nodes (words_of line)
+asked_fits forms nodes line are = words_fit forms nodes (words_of line) are
 
 -- ---- all lines
 
@@ -130,19 +133,21 @@ asked_fits nodes line = words_fit nodes (words_of line)
 abbrev AllFit : List (ℕ × Asked) → Type 0
 AllFit asked = AllByRecursion (λ (a : ℕ × Asked). FitsAsked a.1) asked
 
-told_fits : (nodes : Group) (line : List ℕ) → IfSome (unless_skipped (asked_of nodes) line) (λ told. IfSome told FitsAsked)
-told_fits nodes line = grind (arith, asked_fits nodes line)
+told_fits : (forms : List Form) (nodes : Group) (line : List ℕ) → are_short forms ≡ true
+    → IfSome (unless_skipped (asked_of forms nodes) line) (λ told. IfSome told FitsAsked)
+told_fits forms nodes line are = grind (arith, asked_fits forms nodes line are)
 
 then_fits : (number : ℕ) (told : Option (Option Asked)) (others : Result (List (ℕ × Asked)) ℕ)
     → IfSome told (λ asked. IfSome asked FitsAsked) → IfOk others AllFit → IfOk (then_asked number told others) AllFit
 then_fits number told others first later = grind arith
 
-all_fit : (nodes : Group) (before : ℕ) (lines : List (List ℕ)) → IfOk (asked_in nodes before lines) AllFit
+all_fit : (forms : List Form) (nodes : Group) (before : ℕ) (lines : List (List ℕ)) → are_short forms ≡ true
+    → IfOk (asked_in forms nodes before lines) AllFit
 unfolding asked_in
-all_fit nodes before [] = tt
-all_fit nodes before (line ∷ lines) =
-    then_fits (before + 1) (unless_skipped (asked_of nodes) line) (asked_in nodes (before + 1) lines)
-    (told_fits nodes line) (all_fit nodes (before + 1) lines)
+all_fit forms nodes before [] are = tt
+all_fit forms nodes before (line ∷ lines) are =
+    then_fits (before + 1) (unless_skipped (asked_of forms nodes) line) (asked_in forms nodes (before + 1) lines)
+    (told_fits forms nodes line are) (all_fit forms nodes (before + 1) lines are)
 
 -- the same of the program's lines
 IsFit-asked : {A : Type 0} (line : Line A) → FitsAsked (asked_by line) → IsFit line
@@ -161,6 +166,6 @@ AreFit-numbered [] fit = tt
 AreFit-numbered (line ∷ lines) fit = (IsFit-asked line.line fit.0, AreFit-numbered lines fit.1)
 
 -- the lines that were read of a text
-pub lines_fit : {A : Type 0} (nodes : Group) (before : ℕ) (text : List (List ℕ))
-    (lines : List (Numbered A)) → asked_in nodes before text ≡ Ok (map numbered_by lines) → AreFit lines
-lines_fit nodes before text lines read = AreFit-numbered lines (IfOk-at_ok AllFit read (all_fit nodes before text))
+pub lines_fit : {A : Type 0} (forms : List Form) (nodes : Group) (before : ℕ) (text : List (List ℕ)) (lines : List (Numbered A))
+    → are_short forms ≡ true → asked_in forms nodes before text ≡ Ok (map numbered_by lines) → AreFit lines
+lines_fit forms nodes before text lines are read = AreFit-numbered lines (IfOk-at_ok AllFit read (all_fit forms nodes before text are))

@@ -4,7 +4,8 @@ use Rattle.std.specs.Prelude.{IfSome, option_map, unwrap_or}
 use Rattle.std.proofs.lemmas.List.{length-take, take_all}
 use Rattle.ring_script.specs.declared.scripts.ScriptFault.{ScriptFault}
 use Rattle.ring_script.specs.declared.scripts.ScriptFault.TheVariants.{Memory, AtLine}
-use Rattle.ring_script.specs.Scripts.{IsAllOf, AnswersInput, IsUnread}
+use Rattle.ring_script.specs.Operations.{Form}
+use Rattle.ring_script.specs.Scripts.{IsAllOf, AnswersInputBy, IsUnread}
 
 -- what was read up to a limit, and stayed below it, is all
 pub whole_below : (limit : ℕ) (known : Option (List ℕ)) (bytes : List ℕ) → IfSome (option_map (take limit) known)
@@ -20,6 +21,6 @@ whole_is None = tt
 whole_is (Some xs) = refl
 
 -- an input that was not read is answered so whatever its bytes are
-pub unread : (A : Type 0) (fault : ScriptFault) (bytes : List ℕ) → IsUnread fault → AnswersInput {A = A} (Err fault) bytes
-unread A Memory bytes refused = tt
-unread A (AtLine line) bytes refused = inl refused
+pub unread : (A : Type 0) (forms : List Form) (fault : ScriptFault) (bytes : List ℕ) → IsUnread fault → AnswersInputBy {A = A} forms (Err fault) bytes
+unread A forms Memory bytes refused = tt
+unread A forms (AtLine line) bytes refused = inl refused

@@ -16,11 +16,11 @@ use Rattle.ring_base.specs.declared.fault.Fault.TheVariants.{NotMember, PendingF
 use Rattle.ring_base.specs.declared.fault.Fault.TheVariants.{NumberGap, SessionsFull, Stopped, BookFull, Stranger}
 use Rattle.ring_base.specs.declared.fault.Fault.TheVariants.{Memory, BadFrame, BadScript, NoAnswer, BadSnapshot}
 use Rattle.ring_payload.specs.Calls.{IsNewCall}
-use Rattle.ring_script.specs.declared.operation.Argument.{Argument}
-use Rattle.ring_script.specs.declared.operation.Argument.TheVariants.{Key, Value, Name}
+use Rattle.ring_script.specs.declared.vocabulary.Argument.{Argument}
+use Rattle.ring_script.specs.declared.vocabulary.Argument.TheVariants.{Key, Value, Name}
 use Rattle.ring_script.specs.HexWords.{bytes_of}
 use Rattle.ring_script.specs.Numbers.{is, word_at, number_at}
-use Rattle.ring_script.specs.Operations.{is_name, argument_at, argument_after, arguments_after, Form, form_of, named_at, raw_at, operation_at}
+use Rattle.ring_script.specs.Operations.{is_name, argument_at, argument_after, arguments_after, Form, is_short, are_short, form_of, named_at, raw_at, operation_at}
 use Rattle.ring_script.specs.Reading.{Refuses}
 
 -- what a step and then another have given
@@ -64,35 +64,29 @@ arguments_short bytes (argument ∷ others) words x e =
     let same : bytes ++ first.0 ≡ next.0 = cc in
     omega (arith, ap length same, length-append bytes first.0, argument_short argument words first read, arguments_short next.0 others next.1 x made)
 
--- two bytes and at most three arguments
-abbrev IsShort : Form → Type 0
-IsShort form = (length form.0 ≡ 2) × (length form.1 ≤ 3)
+-- what is found among these has at most 1,024 bytes
+either_short : (b : Bool) (first form : Form) (others : Option Form) → is_short first ≡ true → (others ≡ Some form → is_short form ≡ true)
+    → (if b then Some first else others) ≡ Some form → is_short form ≡ true
+either_short true first form others short more e = subst (λ (f : Form). is_short f ≡ true) (same_Some first form e) short
+either_short false first form others short more e = more e
 
-pick : (b : Bool) (form : Form) (rest : Option Form) → IsShort form → IfSome rest IsShort → IfSome (if b then Some form else rest) IsShort
-pick true form rest short others = short
-pick false form rest short others = others
-
-form_short : (word : List ℕ) → IfSome (form_of word) IsShort
+found_short : (forms : List Form) (word : List ℕ) (form : Form) → are_short forms ≡ true → form_of forms word ≡ Some form → is_short form ≡ true
 unfolding form_of
-form_short word =
-    pick (is (codes "get") word) _ _ (refl, omega arith) (pick (is (codes "put") word) _ _ (refl, omega arith)
-    (pick (is (codes "cas") word) _ _ (refl, omega arith) (pick (is (codes "add") word) _ _ (refl, omega arith)
-    (pick (is (codes "read") word) _ _ (refl, omega arith) (pick (is (codes "push") word) _ _ (refl, omega arith)
-    (pick (is (codes "pop") word) _ _ (refl, omega arith) (pick (is (codes "length") word) _ _ (refl, omega arith)
-    (pick (is (codes "insert") word) _ _ (refl, omega arith)
-    (pick (is (codes "remove") word) _ _ (refl, omega arith) (pick (is (codes "has") word) _ _ (refl, omega arith)
-    (tt)))))))))))
+found_short [] word form short e = absurd cc
+found_short (first ∷ forms) word form short e =
+    let parts = and_parts (is_short first) (are_short forms) short in
+    either_short (is first.word word) first form (form_of forms word) parts.0 (found_short forms word form parts.1) e
+
+named_short : (forms : List Form) (name : List ℕ) (words : List (List ℕ)) (x : List ℕ × List (List ℕ)) → are_short forms ≡ true
+    → named_at forms name words ≡ Some x → length x.0 ≤ 1024
+unfolding named_at
+named_short forms name words x short e =
+    let (form, named, made) = and_then_some (form_of forms name) _ x e in
+    let low = leb-true (length form.first + 64 * length form.arguments) 1024 (found_short forms name form short named) in
+    omega (arith, low, arguments_short form.first form.arguments words x made)
 
 pub some_has : {X : Type 0} (P : X → Type 0) (o : Option X) (x : X) → o ≡ Some x → IfSome o P → P x
 some_has P o x e h = rw e at h
-
-named_short : (name : List ℕ) (words : List (List ℕ)) (x : List ℕ × List (List ℕ)) → named_at name words ≡ Some x → length x.0 ≤ 1024
-unfolding named_at
-named_short name words x e =
-    let (form, named, made) = and_then_some (form_of name) _ x e in
-    let short = some_has IsShort (form_of name) form named (form_short name) in
-    let bound = arguments_short form.0 form.1 words x made in
-    omega (arith, short.0, short.1, bound)
 
 ok_from_some : {X E : Type 0} (r : Result X E) (x : X) → result_ok r ≡ Some x → r ≡ Ok x
 ok_from_some (Ok y) x e = ap Ok (same_Some y x e)
@@ -120,13 +114,14 @@ raw_short words x e =
     let (bytes, read, made) = and_then_some (bytes_of 1024 word.0) _ x next in
     subst (λ (y : List ℕ × List (List ℕ)). length y.0 ≤ 1024) (same_Some (bytes, word.1) x made) (spelled_short 1024 word.0 bytes read)
 
-pub operation_short : (words : List (List ℕ)) (x : List ℕ × List (List ℕ)) → operation_at words ≡ Some x → length x.0 ≤ 1024
+pub operation_short : (forms : List Form) (words : List (List ℕ)) (x : List ℕ × List (List ℕ)) → are_short forms ≡ true
+    → operation_at forms words ≡ Some x → length x.0 ≤ 1024
 unfolding operation_at
-operation_short words x e =
+operation_short forms words x short e =
     let (word, at, next) = and_then_some (word_at words) _ x e in
     elim (cases_Bool (is (codes "raw") word.0)) [
       | inl raw ↦ raw_short word.1 x (let taken = rw raw at next in taken)
-      | inr named ↦ named_short word.0 word.1 x (let taken = rw named at next in taken)
+      | inr named ↦ named_short forms word.0 word.1 x short (let taken = rw named at next in taken)
     ]
 
 -- a call of such an operation is refused for want of memory alone

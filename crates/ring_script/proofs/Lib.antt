@@ -1,6 +1,7 @@
 -- Among: No line of a script names a node past the script's nodes.
 -- Cutting: The words of a cut, taken one after the other.
 -- Fitting: Each call that a script asks for keeps the limits of calls.
+-- FoundForms: The form that a word calls, as the program finds it.
 -- Inputs: The bytes of an input that was read whole.
 -- Lengths: An operation of a script is short enough for a call.
 -- Numerals: What `parse` gives of a decimal word.
@@ -13,6 +14,7 @@
 pub mod Among
 pub mod Cutting
 pub mod Fitting
+pub mod FoundForms
 pub mod Inputs
 pub mod Lengths
 pub mod Numerals

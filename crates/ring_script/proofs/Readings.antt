@@ -10,6 +10,7 @@ use Rattle.ring_script.specs.declared.scripts.ScriptFault.{ScriptFault}
 use Rattle.ring_script.specs.declared.scripts.ScriptFault.TheVariants.{Memory, AtLine}
 use Rattle.ring_script.specs.Faults.{IsOfText}
 use Rattle.ring_script.specs.Lines.{Asked, asked_by, asked_of}
+use Rattle.ring_script.specs.Operations.{Form}
 use Rattle.ring_script.specs.Scripts.{unless_skipped, nodes_of, then_asked, asked_in, then_nodes, nodes_in, numbered_by, Faults}
 use Rattle.ring_script.specs.Votes.{votes_of, is_votes, then_votes, votes_in}
 use Rattle.ring_script.specs.Words.{LinesLeft, are_ascii, is_skipped}
@@ -26,19 +27,19 @@ then-behind front number asked (Ok rest) = ap Ok (append_assoc front ((number, a
 then-behind front number asked (Err line) = refl
 
 -- one line more was read
-pub next_asked : {A : Type 0} (nodes : Group) (items : List (Numbered A)) (numbered : Numbered A) (line : List ℕ)
+pub next_asked : {A : Type 0} (forms : List Form) (nodes : Group) (items : List (Numbered A)) (numbered : Numbered A) (line : List ℕ)
     (old left : LinesLeft) (whole : Result (List (ℕ × Asked)) ℕ)
-    → behind (map numbered_by items) (asked_in nodes old.before old.lines) ≡ whole
+    → behind (map numbered_by items) (asked_in forms nodes old.before old.lines) ≡ whole
     → old.lines ≡ line ∷ left.lines → numbered.number ≡ old.before + 1 → left.before ≡ old.before + 1
-    → unless_skipped (asked_of nodes) line ≡ Some (Some (asked_by numbered.line))
-    → behind (map numbered_by (items ++ numbered ∷ [])) (asked_in nodes left.before left.lines) ≡ whole
+    → unless_skipped (asked_of forms nodes) line ≡ Some (Some (asked_by numbered.line))
+    → behind (map numbered_by (items ++ numbered ∷ [])) (asked_in forms nodes left.before left.lines) ≡ whole
 unfolding asked_in
-next_asked nodes items numbered line old left whole before lines_are number_is after told =
+next_asked forms nodes items numbered line old left whole before lines_are number_is after told =
     let front = map numbered_by items in
-    let others = asked_in nodes (old.before + 1) left.lines in
+    let others = asked_in forms nodes (old.before + 1) left.lines in
     let asked = asked_by numbered.line in
     let now : map numbered_by (items ++ numbered ∷ []) ≡ front ++ (numbered.number, asked) ∷ [] = map-append numbered_by items (numbered ∷ []) in
-    let step : behind front (asked_in nodes old.before old.lines) ≡ behind front (then_asked (old.before + 1) (Some (Some asked)) others) =
+    let step : behind front (asked_in forms nodes old.before old.lines) ≡ behind front (then_asked (old.before + 1) (Some (Some asked)) others) =
     rw (lines_are, told) refl in
     rw (now, number_is, after) (then-behind front (old.before + 1) asked others) ∙ sym step ∙ before
 
@@ -51,12 +52,12 @@ told_low number line (Some None) others low later e = later e
 told_low number line (Some (Some asked)) (Ok rest) low later e = absurd cc
 told_low number line (Some (Some asked)) (Err other) low later e = later (let same : other ≡ line = cc in ap Err same)
 
-pub asked_low : (nodes : Group) (before : ℕ) (lines : List (List ℕ)) (line : ℕ) → asked_in nodes before lines ≡ Err line → 1 ≤ line
+pub asked_low : (forms : List Form) (nodes : Group) (before : ℕ) (lines : List (List ℕ)) (line : ℕ) → asked_in forms nodes before lines ≡ Err line → 1 ≤ line
 unfolding asked_in
-asked_low nodes before [] line e = absurd cc
-asked_low nodes before (first ∷ lines) line e =
-    told_low (before + 1) line (unless_skipped (asked_of nodes) first)
-    (asked_in nodes (before + 1) lines) (omega arith) (asked_low nodes (before + 1) lines line) e
+asked_low forms nodes before [] line e = absurd cc
+asked_low forms nodes before (first ∷ lines) line e =
+    told_low (before + 1) line (unless_skipped (asked_of forms nodes) first)
+    (asked_in forms nodes (before + 1) lines) (omega arith) (asked_low forms nodes (before + 1) lines line) e
 
 first_low : (number line : ℕ) (read : Option (Option Group)) (lines : List (List ℕ))
     (others : Result (Group × LinesLeft) ℕ) → 1 ≤ number → (others ≡ Err line → 1 ≤ line)

@@ -2,7 +2,7 @@
 use Rattle.std.proofs.Common.{◌≡◌, ℕ, ◌+◌, ◌<◌, ◌≤◌, List, length, drop, get_or, Option, Some, None, refl, sym, ◌∙◌}
 use Rattle.ring_base.specs.declared.fault.Fault.{Fault}
 use Rattle.std.proofs.lemmas.List.{at_drop_more, at_drop_all}
-use Rattle.ring_script.specs.declared.operation.Argument.{Argument}
+use Rattle.ring_script.specs.declared.vocabulary.Argument.{Argument}
 use Rattle.ring_script.specs.Reading.{Refuses}
 use Rattle.ring_script.proofs.RefusalsPassOn.{Refuses-on}
 use Rattle.ring_script.specs.Operations.{argument_after, arguments_after}

@@ -5,6 +5,7 @@ use Rattle.ring_base.specs.declared.kind.Kind.TheVariants.{Loss}
 use Rattle.ring_script.specs.Lines.{Call, Deliver, Timeout, Noise, Stop, Cut, Heal, Pump, Show}
 use Rattle.ring_script.specs.Operations.{operation_at}
 use Rattle.ring_script.specs.Scripts.{Schedule, script_of}
+use Rattle.ring_script.specs.ShelfWords.{shelf_forms}
 use Rattle.ring_script.specs.Votes.{nodes_alike}
 use Rattle.ring_script.specs.Words.{words_of}
 
@@ -39,6 +40,9 @@ faulty =
     (2, codes "nodes 2" ∷ codes "call 1 7 0 pop" ∷ []) ∷
     (2, codes "nodes 2" ∷ codes "call 1 7 1 add 256 1" ∷ []) ∷
     (2, codes "nodes 2" ∷ codes "call 1 7 1 add 0 18446744073709551616" ∷ []) ∷
+    (2, codes "nodes 2" ∷ codes "call 1 7 1 raw" ∷ []) ∷
+    (2, codes "nodes 2" ∷ codes "call 1 7 1 raw 010" ∷ []) ∷
+    (2, codes "nodes 2" ∷ codes "call 1 7 1 raw 0A" ∷ []) ∷
     (2, codes "nodes 2" ∷ codes "deliver 1 0" ∷ []) ∷
     (2, codes "nodes 2" ∷ codes "noise 1" ∷ []) ∷
     (2, codes "nodes 2" ∷ codes "noise 1 545" ∷ []) ∷
@@ -125,4 +129,4 @@ operations =
     []
 
 abbrev pub OperationsTold : Type 0
-OperationsTold = map (λ row. operation_at (words_of row.0)) operations ≡ map (λ row. Some (row.1, [])) operations
+OperationsTold = map (λ row. operation_at shelf_forms (words_of row.0)) operations ≡ map (λ row. Some (row.1, [])) operations

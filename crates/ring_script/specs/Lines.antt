@@ -9,7 +9,7 @@ use Rattle.ring_script.specs.declared.line.Line.TheVariants as lines
 use Rattle.ring_script.specs.Cuts.{cut_at}
 use Rattle.ring_script.specs.HexWords.{bytes_of}
 use Rattle.ring_script.specs.Numbers.{is, decimal_of, word_at, number_at, node_at}
-use Rattle.ring_script.specs.Operations.{operation_at}
+use Rattle.ring_script.specs.Operations.{Form, operation_at}
 use Rattle.ring_script.specs.Reading.{◌>>=◌}
 use Rattle.ring_script.specs.Words.{words_of, whole}
 
@@ -79,12 +79,12 @@ frame_of word = do
 
 -- ---- the forms of lines, and the words after each
 
-unfoldable pub call_at : Group → List (List ℕ) → Option (Asked × List (List ℕ))
-call_at nodes words = do
+unfoldable pub call_at : List Form → Group → List (List ℕ) → Option (Asked × List (List ℕ))
+call_at forms nodes words = do
   node ← node_at nodes words
   client ← number_at 0 (2 ^ 32 - 1) node.1
   number ← number_at 1 (2 ^ 64 - 1) client.1
-  operation ← operation_at number.1
+  operation ← operation_at forms number.1
   Some (Call node.0 client.0 number.0 operation.0, operation.1)
 
 unfoldable pub deliver_at : Group → List (List ℕ) → Option (Asked × List (List ℕ))
@@ -124,9 +124,9 @@ pump_at words = do
   Some (Pump turns.0, turns.1)
 
 -- the form that has this first word
-unfoldable pub form_at : Group → List ℕ → List (List ℕ) → Option (Asked × List (List ℕ))
-form_at nodes word words =
-    if is (codes "call") word then call_at nodes words
+unfoldable pub form_at : List Form → Group → List ℕ → List (List ℕ) → Option (Asked × List (List ℕ))
+form_at forms nodes word words =
+    if is (codes "call") word then call_at forms nodes words
     else if is (codes "deliver") word then deliver_at nodes words
     else if is (codes "timeout") word then timeout_at nodes words
     else if is (codes "noise") word then noise_at nodes words
@@ -137,9 +137,9 @@ form_at nodes word words =
     else if is (codes "show") word then Some (Show, words)
     else None
 
--- what the line asks for
-unfoldable pub asked_of : Group → List ℕ → Option Asked
-asked_of nodes line = do
+-- what the line asks for, of an object with these words
+unfoldable pub asked_of : List Form → Group → List ℕ → Option Asked
+asked_of forms nodes line = do
   word ← word_at (words_of line)
-  read ← form_at nodes word.0 word.1
+  read ← form_at forms nodes word.0 word.1
   whole read

@@ -1,12 +1,12 @@
--- The operations of a line `call`, OP: of the program's object by their words, and of any object by their bytes.
+-- The operations of a line `call`, OP: by the words of an object, or by their bytes.
 -- Scripts, of docs/FORMATS.md.
-use Rattle.std.specs.Prelude.{ℕ, ◌^◌, ◌-◌, Bool, nat_le, ◌&&◌, if◌then◌else◌, List, [], ◌∷◌, ◌++◌, length, codes, Option, Some, None}
+use Rattle.std.specs.Prelude.{ℕ, ◌+◌, ◌*◌, ◌^◌, ◌-◌, Bool, nat_le, ◌&&◌, if◌then◌else◌, List, [], ◌∷◌, ◌++◌, length, codes, Option, Some, None}
 use Rattle.std.specs.Char.{is_ascii_graphic}
 use Rattle.std.specs.Int.{w64, to_be_bytes}
-use Rattle.std.specs.List.{list_all}
-use Rattle.ring_script.specs.declared.operation.Argument.{Argument}
-use Rattle.ring_script.specs.declared.operation.Argument.TheVariants.{Key, Value, Name}
-use Rattle.ring_script.specs.declared.operation.Form as declared
+use Rattle.std.specs.List.{find, list_all}
+use Rattle.ring_script.specs.declared.vocabulary.Argument.{Argument}
+use Rattle.ring_script.specs.declared.vocabulary.Argument.TheVariants.{Key, Value, Name}
+use Rattle.ring_script.specs.declared.vocabulary.Form as declared
 use Rattle.ring_script.specs.HexWords.{bytes_of}
 use Rattle.ring_script.specs.Numbers.{is, word_at, number_at}
 use Rattle.ring_script.specs.Reading.{◌>>=◌}
@@ -40,35 +40,33 @@ arguments_after bytes (argument ∷ others) words = do
   next ← argument_after bytes argument words
   arguments_after next.0 others next.1
 
--- an operation's first bytes, the object's number on the shelf and the operation's at the object, and its arguments
-abbrev pub Form : Type 0
-Form = List ℕ × List Argument
+-- how an operation is called, the bytes that it begins with, and what its arguments are
+pub record Form : Type 0 where
+  pub word : List ℕ
+  pub first : List ℕ
+  pub arguments : List Argument
 
--- the declared form, as such a pair
+-- the declared form, as such a form
 abbrev pub said : declared.Form → Form
-said form = (form.object ∷ form.code ∷ [], form.arguments.now)
+said form = record { word = form.word.now; first = form.first.now; arguments = form.arguments.now }
 
--- the form of the operation that is called by this word
-unfoldable pub form_of : List ℕ → Option Form
-form_of word =
-    if is (codes "get") word then Some (0 ∷ 1 ∷ [], Key ∷ [])
-    else if is (codes "put") word then Some (0 ∷ 2 ∷ [], Key ∷ Value ∷ [])
-    else if is (codes "cas") word then Some (0 ∷ 3 ∷ [], Key ∷ Value ∷ Value ∷ [])
-    else if is (codes "add") word then Some (1 ∷ 1 ∷ [], Key ∷ Value ∷ [])
-    else if is (codes "read") word then Some (1 ∷ 2 ∷ [], Key ∷ [])
-    else if is (codes "push") word then Some (2 ∷ 1 ∷ [], Value ∷ [])
-    else if is (codes "pop") word then Some (2 ∷ 2 ∷ [], [])
-    else if is (codes "length") word then Some (2 ∷ 3 ∷ [], [])
-    else if is (codes "insert") word then Some (3 ∷ 1 ∷ [], Name ∷ [])
-    else if is (codes "remove") word then Some (3 ∷ 2 ∷ [], Name ∷ [])
-    else if is (codes "has") word then Some (3 ∷ 3 ∷ [], Name ∷ [])
-    else None
+-- whether an operation of this form has at most 1,024 bytes, for no argument has more than 64
+abbrev pub is_short : Form → Bool
+is_short form = nat_le (length form.first + 64 * length form.arguments) 1024
+
+-- whether all have
+abbrev pub are_short : List Form → Bool
+are_short forms = list_all is_short forms
+
+-- the form of the operation that is called by this word: the first that has it
+unfoldable pub form_of : List Form → List ℕ → Option Form
+form_of forms word = find (λ form. is form.word word) forms
 
 -- the bytes of the operation of this name with the arguments that the next words are, and the words after it
-unfoldable pub named_at : List ℕ → List (List ℕ) → Option (List ℕ × List (List ℕ))
-named_at name words = do
-  form ← form_of name
-  arguments_after form.0 form.1 words
+unfoldable pub named_at : List Form → List ℕ → List (List ℕ) → Option (List ℕ × List (List ℕ))
+named_at forms name words = do
+  form ← form_of forms name
+  arguments_after form.first form.arguments words
 
 -- the operation whose bytes the next word spells, and the words after it
 unfoldable pub raw_at : List (List ℕ) → Option (List ℕ × List (List ℕ))
@@ -77,8 +75,8 @@ raw_at words = do
   bytes ← bytes_of 1024 word.0
   Some (bytes, word.1)
 
--- the bytes of the operation that the next words say, and the words after it
-unfoldable pub operation_at : List (List ℕ) → Option (List ℕ × List (List ℕ))
-operation_at words = do
+-- the bytes of the operation that the next words say, of an object with these words, and the words after it
+unfoldable pub operation_at : List Form → List (List ℕ) → Option (List ℕ × List (List ℕ))
+operation_at forms words = do
   word ← word_at words
-  if is (codes "raw") word.0 then raw_at word.1 else named_at word.0 word.1
+  if is (codes "raw") word.0 then raw_at word.1 else named_at forms word.0 word.1

@@ -12,7 +12,9 @@ use Rattle.ring_script.specs.declared.scripts.ScriptFault.{ScriptFault}
 use Rattle.ring_script.specs.declared.scripts.ScriptFault.TheVariants.{Memory, AtLine}
 use Rattle.ring_script.specs.Lines.{Asked, asked_by, asked_of, IsAmong}
 use Rattle.ring_script.specs.Numbers.{is, word_at, number_at}
+use Rattle.ring_script.specs.Operations.{Form}
 use Rattle.ring_script.specs.Reading.{◌>>=◌}
+use Rattle.ring_script.specs.ShelfWords.{shelf_forms}
 use Rattle.ring_script.specs.Votes.{nodes_alike, votes_in}
 use Rattle.ring_script.specs.Words.{LinesLeft, words_of, whole, are_ascii, is_skipped, lines_of}
 
@@ -49,9 +51,10 @@ then_asked number (Some None) others = others
 then_asked number (Some (Some asked)) others = with_asked (number, asked) others
 
 -- what the lines ask for, each with its number, or the number of the first line at fault; so many lines stand before them
-unfoldable pub asked_in : Group → ℕ → List (List ℕ) → Result (List (ℕ × Asked)) ℕ
-asked_in nodes before [] = Ok []
-asked_in nodes before (line ∷ lines) = then_asked (before + 1) (unless_skipped (asked_of nodes) line) (asked_in nodes (before + 1) lines)
+unfoldable pub asked_in : List Form → Group → ℕ → List (List ℕ) → Result (List (ℕ × Asked)) ℕ
+asked_in forms nodes before [] = Ok []
+asked_in forms nodes before (line ∷ lines) =
+    then_asked (before + 1) (unless_skipped (asked_of forms nodes) line) (asked_in forms nodes (before + 1) lines)
 
 -- what a line is, before the others: the number of a fault, nothing, or the nodes that it tells with the lines after it
 abbrev pub then_nodes : ℕ → Option (Option Group) → List (List ℕ) → Result (Group × LinesLeft) ℕ → Result (Group × LinesLeft) ℕ
@@ -70,18 +73,23 @@ with_nodes nodes (Ok asked) = Ok (record { nodes = nodes; asked = asked })
 with_nodes nodes (Err line) = Err line
 
 -- the schedule of the nodes with their votes and of the lines after them
-abbrev pub with_votes : Result (Group × LinesLeft) ℕ → Result Schedule ℕ
-with_votes (Ok voted) = with_nodes voted.0 (asked_in voted.0 voted.1.before voted.1.lines)
-with_votes (Err line) = Err line
+abbrev pub with_votes : List Form → Result (Group × LinesLeft) ℕ → Result Schedule ℕ
+with_votes forms (Ok voted) = with_nodes voted.0 (asked_in forms voted.0 voted.1.before voted.1.lines)
+with_votes forms (Err line) = Err line
 
 -- the schedule of the nodes and of the lines after them
-abbrev pub schedule_of : Result (Group × LinesLeft) ℕ → Result Schedule ℕ
-schedule_of (Ok first) = with_votes (votes_in first.0 first.1.before first.1.lines)
-schedule_of (Err line) = Err line
+abbrev pub schedule_of : List Form → Result (Group × LinesLeft) ℕ → Result Schedule ℕ
+schedule_of forms (Ok first) = with_votes forms (votes_in first.0 first.1.before first.1.lines)
+schedule_of forms (Err line) = Err line
 
--- the script that a text is, or the number of its first line at fault, counted from 1: the line after the last where all lines are skipped
-unfoldable pub script_of : List ℕ → Result Schedule ℕ
-script_of text = schedule_of (nodes_in 0 (lines_of text))
+-- the script that a text is, of an object with these words, or the number of its first line at fault, counted from 1: the line
+-- after the last where all lines are skipped
+unfoldable pub script_by : List Form → List ℕ → Result Schedule ℕ
+script_by forms text = schedule_of forms (nodes_in 0 (lines_of text))
+
+-- the same of the program's object
+abbrev pub script_of : List ℕ → Result Schedule ℕ
+script_of text = script_by shelf_forms text
 
 -- ---- what the program's calls answer
 
@@ -123,11 +131,15 @@ abbrev pub IsAllOf : Option (List ℕ) → List ℕ → Type 0
 IsAllOf None bytes = ⊤
 IsAllOf (Some known) bytes = bytes ≡ known
 
--- what an input of these bytes is answered: line 0 where it can't be read or is too long, and else as its text
+-- what an input of these bytes is answered, by these words: line 0 where it can't be read or is too long, and else as its text
+abbrev pub AnswersInputBy : {A : Type 0} → List Form → Result (Script A) ScriptFault → List ℕ → Type 0
+AnswersInputBy forms (Ok script) bytes = (length bytes ≤ longest_text) × (script_by forms bytes ≡ Ok (schedule_by script))
+AnswersInputBy forms (Err Memory) bytes = ⊤
+AnswersInputBy forms (Err (AtLine line)) bytes = (line ≡ 0) ⊎ ((length bytes ≤ longest_text) × (script_by forms bytes ≡ Err line))
+
+-- the same of the program's object
 abbrev pub AnswersInput : {A : Type 0} → Result (Script A) ScriptFault → List ℕ → Type 0
-AnswersInput (Ok script) bytes = (length bytes ≤ longest_text) × (script_of bytes ≡ Ok (schedule_by script))
-AnswersInput (Err Memory) bytes = ⊤
-AnswersInput (Err (AtLine line)) bytes = (line ≡ 0) ⊎ ((length bytes ≤ longest_text) × (script_of bytes ≡ Err line))
+AnswersInput answer bytes = AnswersInputBy shelf_forms answer bytes
 
 -- an input as a whole is refused: memory is, or it can't be read or is too long
 abbrev pub IsUnread : ScriptFault → Type 0

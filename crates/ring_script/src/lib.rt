@@ -10,6 +10,8 @@ mod line;
 mod lines;
 mod operation;
 mod scripts;
+mod shelf_words;
+mod vocabulary;
 mod votes;
 mod words;
 
@@ -18,3 +20,5 @@ pub use groups::Groups;
 pub use laws::cut_law;
 pub use line::Line;
 pub use scripts::{Numbered, Script, ScriptFault};
+pub use shelf_words::ShelfWords;
+pub use vocabulary::{Argument, Form, NoWords, Vocabulary};

@@ -8,6 +8,7 @@ ghost use Rattle.ring_script.specs.Reading.{Gives, Tells};
 use crate::groups::Groups;
 use crate::hex_word::bytes_of;
 use crate::operation::operation_of;
+use crate::vocabulary::Vocabulary;
 use crate::words::{Words, decimal, is};
 use ring_base::{FRAME_BYTES, Fault, Fixed, Kind, Proc};
 use ring_payload::Call;
@@ -40,14 +41,19 @@ pub enum Line<A: Allocator + Copy = Global> {
 }
 
 impl<A: Allocator + Copy> Line<A> {
-    /// What the line asks for, among these nodes. `BadScript` where it has none of the forms, or `Memory`.
+    /// What the line asks for, among these nodes, of an object with these words. `BadScript` where it has none of the forms, or
+    /// `Memory`.
     #[tactic(auto, unfolding(crate::specs::Lines::asked_of))]
-    pub(crate) fn parse(alloc: A, nodes: Fixed, line: &[u8]) -> Result<Line<A>, Fault>
-        ensures { Gives asked_by result (asked_of nodes line.now) }
+    pub(crate) fn parse<V: Vocabulary>(
+        alloc: A,
+        nodes: Fixed,
+        line: &[u8],
+    ) -> Result<Line<A>, Fault>
+        ensures { Gives asked_by result (asked_of V.forms nodes line.now) }
     {
         let mut words = Words::new(line, b' ');
         let word = words.word()?;
-        let asked = form_of(alloc, nodes, word, &mut words)?;
+        let asked = form_of::<V, A>(alloc, nodes, word, &mut words)?;
         words.end()?;
         Ok(asked)
     }
@@ -55,16 +61,16 @@ impl<A: Allocator + Copy> Line<A> {
 
 /// What the form with this first word asks for, by the words after it.
 #[tactic(auto, unfolding(crate::specs::Lines::form_at))]
-fn form_of<A: Allocator + Copy>(
+fn form_of<V: Vocabulary, A: Allocator + Copy>(
     alloc: A,
     nodes: Fixed,
     word: &[u8],
     words: &mut Words<'_>,
 ) -> Result<Line<A>, Fault>
-    ensures { Gives (λ line. (asked_by line, words.new)) result (form_at nodes word.now words.old) }
+    ensures { Gives (λ line. (asked_by line, words.new)) result (form_at V.forms nodes word.now words.old) }
 {
     if is(word, b"call") {
-        call_of(alloc, nodes, words)
+        call_of::<V, A>(alloc, nodes, words)
     } else if is(word, b"deliver") {
         deliver_of(nodes, words)
     } else if is(word, b"timeout") {
@@ -88,17 +94,17 @@ fn form_of<A: Allocator + Copy>(
 
 /// The call that the words say.
 #[tactic(auto, unfolding(crate::specs::Lines::call_at))]
-fn call_of<A: Allocator + Copy>(
+fn call_of<V: Vocabulary, A: Allocator + Copy>(
     alloc: A,
     nodes: Fixed,
     words: &mut Words<'_>,
 ) -> Result<Line<A>, Fault>
-    ensures { Gives (λ line. (asked_by line, words.new)) result (call_at nodes words.old) }
+    ensures { Gives (λ line. (asked_by line, words.new)) result (call_at V.forms nodes words.old) }
 {
     let node = words.node(nodes)?;
     let client = words.number(0, u64::from(u32::MAX))? as u32;
     let number = words.number(1, u64::MAX)?;
-    let op = operation_of(alloc, words)?;
+    let op = operation_of::<V, A>(alloc, words)?;
     let call = Call::new(alloc, client, number, op.as_slice())?;
     Ok(Line::Call { node, call })
 }

@@ -8,12 +8,14 @@ ghost use Rattle.ring_script.specs.Fits.{AreFit};
 ghost use Rattle.ring_script.specs.Lines.{asked_by, asked_of};
 ghost use Rattle.ring_script.specs.Reading.{Gives, Tells};
 ghost use Rattle.ring_script.specs.Scripts.{nodes_of, unless_skipped, at_line};
-ghost use Rattle.ring_script.specs.Scripts.{nodes_in, asked_in, script_of, numbered_by, schedule_by, AreAmong, Answers};
-ghost use Rattle.ring_script.specs.Scripts.{longest_text, IsAllOf, AnswersInput, IsUnread};
+ghost use Rattle.ring_script.specs.Scripts.{nodes_in, asked_in, script_by, script_of, numbered_by, schedule_by, AreAmong, Answers};
+ghost use Rattle.ring_script.specs.Scripts.{longest_text, IsAllOf, AnswersInputBy, AnswersInput, IsUnread};
 ghost use Rattle.ring_script.specs.Words.{are_ascii, is_skipped};
 
 use crate::line::Line;
 use crate::lines::Lines;
+use crate::shelf_words::ShelfWords;
+use crate::vocabulary::Vocabulary;
 use crate::votes::read_votes;
 use crate::words::{Words, is};
 use ring_base::{Fault, Fixed};
@@ -47,7 +49,7 @@ pub struct Numbered<A: Allocator + Copy = Global> {
 }
 
 impl<A: Allocator + Copy> Script<A> {
-    /// The script that the whole input is, as `parse` reads it: no line names a node past the script's nodes,
+    /// The script that the whole input is, as [`parse`](Script::parse) reads it: no line names a node past the script's nodes,
     /// and each call keeps the limits of calls. `AtLine(0)` where it can't be read or is longer than 1,048,576 bytes.
     pub fn read<R: Read>(alloc: A, input: &mut R) -> Result<Script<A>, ScriptFault>
         ensures among { IfOk result (λ script. AreAmong script.nodes.count script.lines.items) }
@@ -55,23 +57,46 @@ impl<A: Allocator + Copy> Script<A> {
         ensures read { (bytes : List ℕ) × IsAllOf (R.remaining input.old) bytes
             × AnswersInput result bytes }
     {
-        let text = read_text(alloc, input)?;
-        Script::parse(alloc, text.as_slice())
+        Script::read_by::<ShelfWords, R>(alloc, input)
     }
 
-    /// The script that the text is, in which no line names a node past the script's nodes. Otherwise `AtLine` with
-    /// the first line at fault, or with the line after the last where all lines are skipped, or `Memory`.
-    #[tactic(auto, unfolding(crate::specs::Scripts::script_of))]
+    /// The script that the text is, by the words of the program's object; no line of it names a node past the script's nodes.
+    /// Otherwise `AtLine` with the first line at fault, or with the line after the last where all lines are skipped, or `Memory`.
     pub fn parse(alloc: A, text: &[u8]) -> Result<Script<A>, ScriptFault>
         ensures among { IfOk result (λ script. AreAmong script.nodes.count script.lines.items) }
         ensures fit { IfOk result (λ script. AreFit script.lines.items) }
         ensures read { Answers schedule_by result (script_of text.now) }
         ensures refused { IfErr result IsOfText }
     {
+        Script::parse_by::<ShelfWords>(alloc, text)
+    }
+
+    /// As [`read`](Script::read), by these words.
+    pub fn read_by<V: Vocabulary, R: Read>(
+        alloc: A,
+        input: &mut R,
+    ) -> Result<Script<A>, ScriptFault>
+        ensures among { IfOk result (λ script. AreAmong script.nodes.count script.lines.items) }
+        ensures fit { IfOk result (λ script. AreFit script.lines.items) }
+        ensures read { (bytes : List ℕ) × IsAllOf (R.remaining input.old) bytes
+            × AnswersInputBy V.forms result bytes }
+    {
+        let text = read_text(alloc, input)?;
+        Script::parse_by::<V>(alloc, text.as_slice())
+    }
+
+    /// As [`parse`](Script::parse), by these words.
+    #[tactic(auto, unfolding(crate::specs::Scripts::script_by))]
+    pub fn parse_by<V: Vocabulary>(alloc: A, text: &[u8]) -> Result<Script<A>, ScriptFault>
+        ensures among { IfOk result (λ script. AreAmong script.nodes.count script.lines.items) }
+        ensures fit { IfOk result (λ script. AreFit script.lines.items) }
+        ensures read { Answers schedule_by result (script_by V.forms text.now) }
+        ensures refused { IfErr result IsOfText }
+    {
         let mut rest = Lines::new(text);
         let alike = read_nodes(&mut rest)?;
         let nodes = read_votes(&mut rest, alike)?;
-        let lines = read_lines(alloc, nodes, &mut rest)?;
+        let lines = read_lines::<V, A>(alloc, nodes, &mut rest)?;
         Ok(Script { nodes, lines })
     }
 }
@@ -112,17 +137,17 @@ fn read_nodes(lines: &mut Lines<'_>) -> Result<Fixed, ScriptFault>
 
 /// What the other lines ask for, in their order.
 #[tactic(auto, unfolding(crate::specs::Scripts::asked_in))]
-fn read_lines<A: Allocator + Copy>(
+fn read_lines<V: Vocabulary, A: Allocator + Copy>(
     alloc: A,
     nodes: Fixed,
     lines: &mut Lines<'_>,
 ) -> Result<Vec<Numbered<A>, A>, ScriptFault>
     ensures { Answers (λ asked. map numbered_by asked.items) result
-        (asked_in nodes lines.old.before lines.old.lines) }
+        (asked_in V.forms nodes lines.old.before lines.old.lines) }
 {
     let mut asked = Vec::new(alloc);
     while let Some((number, line)) = lines.next_line() {
-        match line_of(alloc, nodes, line) {
+        match line_of::<V, A>(alloc, nodes, line) {
             Ok(None) => {}
             Ok(Some(line)) => {
                 if asked.push(Numbered { number, line }).is_err() {
@@ -156,17 +181,17 @@ fn first_of(line: &[u8]) -> Result<Option<Fixed>, Fault>
 }
 
 /// What a line asks for, none where it is skipped. `BadScript` where it has none of the forms, or `Memory`.
-fn line_of<A: Allocator + Copy>(
+fn line_of<V: Vocabulary, A: Allocator + Copy>(
     alloc: A,
     nodes: Fixed,
     line: &[u8],
 ) -> Result<Option<Line<A>>, Fault>
-    ensures { Gives (option_map asked_by) result (unless_skipped (asked_of nodes) line.now) }
+    ensures { Gives (option_map asked_by) result (unless_skipped (asked_of V.forms nodes) line.now) }
 {
     if skips(line)? {
         return Ok(None);
     }
-    Ok(Some(Line::parse(alloc, nodes, line)?))
+    Ok(Some(Line::parse::<V>(alloc, nodes, line)?))
 }
 
 /// Whether the line asks for nothing: it is empty, or a comment. `BadScript` where it is not ASCII.

@@ -8,8 +8,10 @@ use crate::sides::Sides;
 use crate::step::Step;
 use crate::tale::Tale;
 use ring_base::{Fault, Fixed, Kind, Proc, ProcSet};
+use ring_script::Vocabulary;
 use std::alloc::Allocator;
 use std::fmt::Write;
+use std::marker::PhantomData;
 
 /// A client: its name, its node, how many calls it made, and its last one.
 #[derive(Clone, Copy)]
@@ -22,9 +24,11 @@ struct Client {
 
 /// A script that is being made: its text so far, and what its story knows of the nodes.
 #[derive(Drop)]
-pub(crate) struct Maker<A: Allocator> {
+pub(crate) struct Maker<V: Vocabulary, A: Allocator> {
     pub draws: Draws,
     pub nodes: Fixed,
+    /// The operations that clients call.
+    vocabulary: PhantomData<V>,
     /// The nodes that have not stopped.
     pub live: ProcSet,
     pub sides: Sides,
@@ -39,19 +43,20 @@ pub(crate) struct Maker<A: Allocator> {
     text: String<A>,
 }
 
-impl<A: Allocator> Maker<A> {
+impl<V: Vocabulary, A: Allocator> Maker<V, A> {
     /// A script whose head is written, of so many lines.
-    pub fn new(head: String<A>, nodes: Fixed, seed: u64, lines: u32) -> Maker<A> {
+    pub fn new(head: String<A>, nodes: Fixed, seed: u64, lines: u32) -> Maker<V, A> {
         let live = nodes.everybody();
         let nobody = Client {
             name: 0,
             home: Proc::new(1),
             number: 0,
-            last: Operation::Pop,
+            last: Operation::first(),
         };
         Maker {
             draws: Draws::new(seed),
             nodes,
+            vocabulary: PhantomData,
             live,
             sides: Sides::joined(live),
             clients: [nobody; 4],
@@ -97,11 +102,19 @@ impl<A: Allocator> Maker<A> {
 
     /// Adds a line, if there are still lines to come.
     pub fn put(&mut self, step: Step) -> Result<(), Fault> {
-        if self.left() > 0 {
-            self.left = self.left.saturating_sub(1);
+        if self.takes_line() {
             writeln!(&mut self.text, "{step}")?;
         }
         Ok(())
+    }
+
+    /// Takes the next of the lines that are still to come, and tells whether there is one.
+    fn takes_line(&mut self) -> bool {
+        if self.left() == 0 {
+            return false;
+        }
+        self.left = self.left.saturating_sub(1);
+        true
     }
 
     /// The last line: the state is shown.
@@ -166,7 +179,7 @@ impl<A: Allocator> Maker<A> {
     /// A client makes its next call at its node. Where that has stopped, and sometimes so, another client comes in its place.
     pub fn call(&mut self) -> Result<(), Fault> {
         let place = self.draws.below(4);
-        let last = Operation::draw(&mut self.draws);
+        let last = Operation::draw(V::forms().len(), &mut self.draws);
         let client = self.caller(place);
         let (name, home) = (client.name, client.home);
         let number = client.number.saturating_add(1);
@@ -206,12 +219,13 @@ impl<A: Allocator> Maker<A> {
 
     /// A client's last call is submitted at a node.
     fn submit(&mut self, client: Client, node: Proc) -> Result<(), Fault> {
-        self.put(Step::Call {
-            node,
-            client: client.name,
-            number: client.number,
-            operation: client.last,
-        })
+        if self.takes_line() {
+            let (name, number) = (client.name, client.number);
+            write!(&mut self.text, "call {node} {name} {number} ")?;
+            client.last.write(V::forms(), &mut self.text)?;
+            writeln!(&mut self.text)?;
+        }
+        Ok(())
     }
 
     /// A client tries its last call again, at any node.

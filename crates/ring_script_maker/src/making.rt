@@ -2,20 +2,20 @@
 
 ghost use Rattle.std.specs.Prelude.{◌≡◌, ◌≤◌, ℕ, List, IfOk, OnOk, string_bytes};
 ghost use Rattle.std.specs.Io.KnownBytes.{Appends, Keeps};
-ghost use Rattle.ring_script_maker.specs.Made.{IsScript};
+ghost use Rattle.ring_script_maker.specs.Made.{IsScriptBy, IsScript};
 
 use crate::maker::Maker;
 use ring_base::{Fault, Fixed};
 use ring_report::{Failure, report};
-use ring_script::{Script, ScriptFault};
+use ring_script::{Script, ScriptFault, ShelfWords, Vocabulary};
 use std::alloc::Allocator;
 use std::fmt::Write as _;
 use std::io::Write;
 
-/// The script of this seed: of as many nodes as there are votes, each with its own, and of so many lines that call, deliver,
-/// time out, make noise, stop, cut, heal and pump, of 1 to 10,000. Comments say what these tell, and `show` stands last.
-/// `NotMember` unless there are 1 to 16 votes, each at least 1; or `Memory`. What was made is read back before it is given: where
-/// it were no script, that would be `BadScript`.
+/// The script of this seed, over the program's object: of as many nodes as there are votes, each with its own, and of so many lines
+/// that call, deliver, time out, make noise, stop, cut, heal and pump, of 1 to 10,000. Comments say what these tell, and `show` stands
+/// last. `NotMember` unless there are 1 to 16 votes, each at least 1; or `Memory`. What was made is read back before it is given:
+/// where it were no script, that would be `BadScript`.
 pub fn made_script<A: Allocator + Copy + Drop>(
     alloc: A,
     votes: &[u8],
@@ -24,13 +24,25 @@ pub fn made_script<A: Allocator + Copy + Drop>(
 ) -> Result<String<A>, Fault>
     ensures { IfOk result (λ text. IsScript (string_bytes text)) }
 {
-    let text = told_script(alloc, votes, seed, lines)?;
-    read_back(alloc, text.as_bytes())?;
+    made_script_by::<ShelfWords, A>(alloc, votes, seed, lines)
+}
+
+/// As [`made_script`], over an object with these words.
+pub fn made_script_by<V: Vocabulary, A: Allocator + Copy + Drop>(
+    alloc: A,
+    votes: &[u8],
+    seed: u64,
+    lines: u32,
+) -> Result<String<A>, Fault>
+    ensures { IfOk result (λ text. IsScriptBy V.forms (string_bytes text)) }
+{
+    let text = told_script::<V, A>(alloc, votes, seed, lines)?;
+    read_back::<V, A>(alloc, text.as_bytes())?;
     Ok(text)
 }
 
 /// The script as it is told.
-fn told_script<A: Allocator>(
+fn told_script<V: Vocabulary, A: Allocator>(
     alloc: A,
     votes: &[u8],
     seed: u64,
@@ -39,17 +51,17 @@ fn told_script<A: Allocator>(
     let nodes = Fixed::with_votes(votes)?;
     let mut head = String::new(alloc);
     write_head(&mut head, votes, seed, lines)?;
-    let mut maker = Maker::new(head, nodes, seed, lines.min(MOST_LINES));
+    let mut maker = Maker::<V, A>::new(head, nodes, seed, lines.min(MOST_LINES));
     maker.tell_all()?;
     maker.show()?;
     Ok(maker.into_text())
 }
 
 /// Reads a text as a script. `BadScript` where it is none; or `Memory`.
-fn read_back<A: Allocator + Copy + Drop>(alloc: A, text: &[u8]) -> Result<(), Fault>
-    ensures { OnOk result (IsScript text.now) }
+fn read_back<V: Vocabulary, A: Allocator + Copy + Drop>(alloc: A, text: &[u8]) -> Result<(), Fault>
+    ensures { OnOk result (IsScriptBy V.forms text.now) }
 {
-    match Script::parse(alloc, text) {
+    match Script::parse_by::<V>(alloc, text) {
         Ok(_) => Ok(()),
         Err(ScriptFault::Memory) => Err(Fault::Memory),
         Err(ScriptFault::AtLine(_)) => Err(Fault::BadScript),
@@ -96,7 +108,23 @@ pub fn generate<A: Allocator + Copy + Drop, O: Write, E: Write>(
     ensures quiet { result ≡ 0 → Keeps (E.contents err.old) (E.contents err.new) }
     ensures printed { result ≡ 0 → (text : List ℕ) × IsScript text × Appends (O.contents out.old) (O.contents out.new) text }
 {
-    match made_script(alloc, votes, seed, lines) {
+    generate_by::<ShelfWords, A, O, E>(alloc, votes, seed, lines, out, err)
+}
+
+/// As [`generate`], over an object with these words.
+pub fn generate_by<V: Vocabulary, A: Allocator + Copy + Drop, O: Write, E: Write>(
+    alloc: A,
+    votes: &[u8],
+    seed: u64,
+    lines: u32,
+    out: &mut O,
+    err: &mut E,
+) -> u8
+    ensures status { result ≤ 1 }
+    ensures quiet { result ≡ 0 → Keeps (E.contents err.old) (E.contents err.new) }
+    ensures printed { result ≡ 0 → (text : List ℕ) × IsScriptBy V.forms text × Appends (O.contents out.old) (O.contents out.new) text }
+{
+    match made_script_by::<V, A>(alloc, votes, seed, lines) {
         Ok(text) => match out.write_all(text.as_bytes()) {
             Ok(()) => 0,
             Err(_) => report(err, Failure::Output),

@@ -1,72 +1,89 @@
 //! The operations that clients call.
 
 use crate::draws::Draws;
-use std::fmt;
+use ring_base::Fault;
+use ring_script::{Argument, Form};
+use std::alloc::Allocator;
+use std::fmt::Write;
 
-/// An operation of the program's object, with its arguments. A name is one letter.
+/// An operation of a table of forms, with its arguments. Where the table has no such form it is the one byte 0.
 #[derive(Clone, Copy)]
-pub(crate) enum Operation {
-    Get(u8),
-    Put(u8, u32),
-    Swap(u8, u32, u32),
-    Add(u8, u32),
-    Read(u8),
-    Push(u32),
-    Pop,
-    Length,
-    Insert(u8),
-    Remove(u8),
-    Has(u8),
+pub(crate) struct Operation {
+    /// The place of its form.
+    place: u32,
+    /// The key, or the name of this number.
+    key: u32,
+    /// The first value, and every other one behind it.
+    value: u32,
+    /// The second value, and every other one behind it.
+    other: u32,
 }
 
 /// Keys and names are drawn among so many, so that clients meet at them.
 const KEYS: u32 = 3;
 
-/// Values are drawn below this.
+/// Values are drawn below this number.
 const VALUES: u32 = 10;
 
 impl Operation {
-    /// One that is drawn.
-    pub fn draw(draws: &mut Draws) -> Operation {
-        let key = draws.below(KEYS) as u8;
-        let (value, other) = (draws.below(VALUES), draws.below(VALUES));
-        match draws.below(12) {
-            0 => Operation::Get(key),
-            1 => Operation::Put(key, value),
-            2 => Operation::Swap(key, value, other),
-            3 | 4 => Operation::Add(key, value),
-            5 => Operation::Read(key),
-            6 => Operation::Push(value),
-            7 => Operation::Pop,
-            8 => Operation::Length,
-            9 => Operation::Insert(key),
-            10 => Operation::Remove(key),
-            _ => Operation::Has(key),
+    /// The first one.
+    pub fn first() -> Operation {
+        Operation {
+            place: 0,
+            key: 0,
+            value: 0,
+            other: 0,
         }
     }
-}
 
-/// Its words in a script.
-impl fmt::Display for Operation {
-    fn fmt<W: fmt::Write>(&self, f: &mut fmt::Formatter<W>) -> fmt::Result {
-        match *self {
-            Operation::Get(key) => write!(f, "get {key}"),
-            Operation::Put(key, value) => write!(f, "put {key} {value}"),
-            Operation::Swap(key, old, new) => write!(f, "cas {key} {old} {new}"),
-            Operation::Add(key, value) => write!(f, "add {key} {value}"),
-            Operation::Read(key) => write!(f, "read {key}"),
-            Operation::Push(value) => write!(f, "push {value}"),
-            Operation::Pop => write!(f, "pop"),
-            Operation::Length => write!(f, "length"),
-            Operation::Insert(key) => write!(f, "insert {}", name_of(key)),
-            Operation::Remove(key) => write!(f, "remove {}", name_of(key)),
-            Operation::Has(key) => write!(f, "has {}", name_of(key)),
+    /// One that is drawn, of so many forms.
+    pub fn draw(forms: usize, draws: &mut Draws) -> Operation {
+        let key = draws.below(KEYS);
+        let (value, other) = (draws.below(VALUES), draws.below(VALUES));
+        let many = u32::try_from(forms).unwrap_or(u32::MAX).max(1);
+        let place = draws.below(many);
+        Operation {
+            place,
+            key,
+            value,
+            other,
         }
+    }
+
+    /// Appends its words, by these forms.
+    pub fn write<A: Allocator>(self, forms: &[Form], text: &mut String<A>) -> Result<(), Fault> {
+        let Some(form) = forms.get(self.place as usize) else {
+            write!(text, "raw 00")?;
+            return Ok(());
+        };
+        write!(text, "{}", form.word)?;
+        let mut is_other = false;
+        for argument in form.arguments {
+            self.write_argument(*argument, is_other, text)?;
+            is_other = is_other != (*argument == Argument::Value);
+        }
+        Ok(())
+    }
+
+    /// Appends a space and such an argument: if it is a value, the first or the other.
+    fn write_argument<A: Allocator>(
+        self,
+        argument: Argument,
+        is_other: bool,
+        text: &mut String<A>,
+    ) -> Result<(), Fault> {
+        match argument {
+            Argument::Key => write!(text, " {}", self.key)?,
+            Argument::Value if is_other => write!(text, " {}", self.other)?,
+            Argument::Value => write!(text, " {}", self.value)?,
+            Argument::Name => write!(text, " {}", name_of(self.key))?,
+        }
+        Ok(())
     }
 }
 
 /// The name of this number.
-fn name_of(key: u8) -> &'static str {
+fn name_of(key: u32) -> &'static str {
     match key {
         0 => "ada",
         1 => "bob",

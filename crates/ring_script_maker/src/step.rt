@@ -1,6 +1,5 @@
-//! The lines of a script.
+//! The lines of a script, but for calls.
 
-use crate::operation::Operation;
 use crate::sides::Sides;
 use ring_base::{Kind, Proc};
 use std::fmt;
@@ -8,44 +7,19 @@ use std::fmt;
 /// What a line asks for.
 #[derive(Clone, Copy)]
 pub(crate) enum Step {
-    Call {
-        node: Proc,
-        client: u32,
-        number: u32,
-        operation: Operation,
-    },
-    Deliver {
-        node: Proc,
-        frame: u32,
-    },
-    Timeout {
-        node: Proc,
-        kind: Kind,
-    },
-    Noise {
-        node: Proc,
-        byte: u8,
-    },
-    Stop {
-        node: Proc,
-    },
+    Deliver { node: Proc, frame: u32 },
+    Timeout { node: Proc, kind: Kind },
+    Noise { node: Proc, byte: u8 },
+    Stop { node: Proc },
     Cut(Sides),
     Heal,
-    Pump {
-        turns: u32,
-    },
+    Pump { turns: u32 },
 }
 
 /// The line, without its end.
 impl fmt::Display for Step {
     fn fmt<W: fmt::Write>(&self, f: &mut fmt::Formatter<W>) -> fmt::Result {
         match *self {
-            Step::Call {
-                node,
-                client,
-                number,
-                operation,
-            } => write!(f, "call {node} {client} {number} {operation}"),
             Step::Deliver { node, frame } => write!(f, "deliver {node} {frame}"),
             Step::Timeout { node, kind } => write!(f, "timeout {node} {}", name_of(kind)),
             Step::Noise { node, byte } => write!(f, "noise {node} {byte:02x}"),

@@ -5,9 +5,10 @@ use crate::sides::Sides;
 use crate::step::Step;
 use crate::tale::Tale;
 use ring_base::{Fault, Kind, ProcSet};
+use ring_script::Vocabulary;
 use std::alloc::Allocator;
 
-impl<A: Allocator> Maker<A> {
+impl<V: Vocabulary, A: Allocator> Maker<V, A> {
     /// The whole story: an opening, whatever comes, and an end.
     pub fn tell_all(&mut self) -> Result<(), Fault> {
         self.open()?;

@@ -1,7 +1,7 @@
 //! What is made by seeds.
 
-use ring_script::Script;
-use ring_script_maker::made_script;
+use ring_script::{NoWords, Script};
+use ring_script_maker::{made_script, made_script_by};
 use std::alloc::Global;
 use std::test::Fail;
 
@@ -63,5 +63,14 @@ fn votes_are_told_where_one_is_more(rt: HostRuntime) -> Result<(), Fail> {
             .as_str()
             .starts_with("# Seed 7, 2 nodes, 5 lines.\nnodes 2\nvotes 1 2\n# ")
     );
+    Ok(())
+}
+
+/// An object without words is called by the one byte 0.
+#[test]
+fn an_object_without_words_is_called_by_its_bytes(rt: HostRuntime) -> Result<(), Fail> {
+    let text = made_script_by::<NoWords, _>(rt.alloc(), &[1], 7, 50)?;
+    assert!(rt; Script::parse_by::<NoWords>(rt.alloc(), text.as_bytes()).is_ok());
+    assert!(rt; text.as_str().contains(" raw 00\n"));
     Ok(())
 }

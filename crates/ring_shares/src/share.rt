@@ -3,7 +3,8 @@
 ghost use Rattle.std.specs.Prelude.{◌≡◌};
 ghost use Rattle.ring_shares.specs.Shares.{share_begin, round_end};
 
-/// Where a share of so many things begins, of so many shares: each is as large as the others, but for the last of them.
+/// Where a share of so many things begins, of so many shares: each has as many as the first, while there are so many; the last
+/// ones may have fewer, or none.
 pub fn share_begin(many: u64, shares: u16, share: u64) -> u64
     ensures { result ≡ share_begin many shares share }
 {

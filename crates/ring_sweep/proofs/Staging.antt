@@ -1,5 +1,5 @@
 -- A script under way into which something is put: what its steps come to.
-use Rattle.std.proofs.Common.{◌≡◌, ℕ, zero, suc, ◌+◌, ◌-◌, ◌==◌, ◌<◌, ◌≤◌, ◌&&◌, ◌⊎◌, inl, inr, take, slice_get, Bool, true, false, List, [], ◌∷◌, ◌++◌}
+use Rattle.std.proofs.Common.{◌≡◌, ℕ, zero, suc, ◌+◌, ◌-◌, ◌≤◌, ◌&&◌, ◌⊎◌, inl, inr, take, slice_get, Bool, true, false, List, [], ◌∷◌, ◌++◌}
 use Rattle.std.proofs.Common.{Option, Some, None, Result, Ok, Err, OnOk, refl, sym, ap, subst, ◌∙◌, arith, append-nil}
 use Rattle.std.proofs.lemmas.Bool.{eqb-true, eqb-false}
 use Rattle.std.proofs.lemmas.Grind.{flat_map-append, replicate_next}
@@ -15,7 +15,7 @@ use Rattle.ring_script.specs.Fits.{IsFit}
 use Rattle.ring_console.specs.Running.{Pair}
 use Rattle.ring_console.specs.Running.{RunView, Does, Ends, Happens}
 use Rattle.ring_sweep.specs.declared.upset.Upset.{Upset}
-use Rattle.ring_sweep.specs.Variants.{turn, steps_in, steps_of, is_first_heard, is_event, bit, line_of_upset, Passes, IsDue, IsVariant}
+use Rattle.ring_sweep.specs.Variants.{turn, steps_in, steps_of, is_first_heard, is_event, bit, Passes, IsVariant}
 use Rattle.ring_base.proofs.Rows.{take-more}
 use Rattle.ring_sweep.specs.Stages.{Stage, stage, IsCopyOf, is_due, Strikes, PutsIn, Readies, Steps, Goes}
 
@@ -71,15 +71,15 @@ module _ {O A : Type 0} (object : Sequential O) where
   unready false s m e h = h
 
   -- nothing is put in before the step
-  alone : (l : Line A) (s n : Stage A) (step : Steps object l s n) → s.pending ≡ None → step.mid ≡ s
+  pub alone : (l : Line A) (s n : Stage A) (step : Steps object l s n) → s.pending ≡ None → step.mid ≡ s
   alone l s n step none =
       unready (is_event s.run l && is_due s.pending s.done) s step.mid (none_due (is_event s.run l) s.pending s.done none) step.ready
 
-  still_none : (l : Line A) (s n : Stage A) (step : Steps object l s n) → s.pending ≡ None → n.pending ≡ None
+  pub still_none : (l : Line A) (s n : Stage A) (step : Steps object l s n) → s.pending ≡ None → n.pending ≡ None
   still_none l s n step none = step.pending ∙ (ap (λ (r : Stage A). r.pending) (alone l s n step none) ∙ none)
 
   -- how many events there are behind a step before which nothing is put in
-  counted : (l : Line A) (s n : Stage A) (step : Steps object l s n) → step.mid ≡ s → n.done ≡ s.done + bit (is_event s.run l)
+  pub counted : (l : Line A) (s n : Stage A) (step : Steps object l s n) → step.mid ≡ s → n.done ≡ s.done + bit (is_event s.run l)
   counted l s n step same = step.done ∙ ap (λ (r : Stage A). r.done + bit (is_event r.run l)) same
 
   -- a step before which nothing is put in, and what comes behind it
@@ -93,7 +93,7 @@ module _ {O A : Type 0} (object : Sequential O) where
     ),
   )
 
-  goes_none : (ls : List (Line A)) (s t : Stage A) → s.pending ≡ None → Goes object ls s t → t.pending ≡ None
+  pub goes_none : (ls : List (Line A)) (s t : Stage A) → s.pending ≡ None → Goes object ls s t → t.pending ≡ None
   goes_none [] s t none h = ap (λ (r : Stage A). r.pending) h ∙ none
   goes_none (l ∷ ls) s t none h = goes_none ls h.0 t (still_none l s h.0 h.1.0 none) h.1.1
 

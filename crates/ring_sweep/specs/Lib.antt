@@ -1,3 +1,4 @@
+pub mod Gaps
 pub mod Legal
 pub mod Stages
 pub mod Swept

@@ -7,19 +7,22 @@ ghost use Rattle.ring_shares.specs.Shares.{share_begin, first_of};
 ghost use Rattle.ring_sweep.specs.Variants.{AreTried, AreTriedIn};
 
 use crate::part::{Part, try_share};
-use crate::progress::{clear_progress, round_size, tell_progress};
 use crate::upset::Upset;
 use ring_base::Fault;
 use ring_console::{Script, Things};
 use ring_object::Object;
-use ring_shares::round_end;
+use ring_shares::{Meter, round_end};
 use std::alloc::{AllocError, Global};
 use std::io::Write;
 use std::thread::{self, Threads};
+use std::time::Clock;
+
+/// So many variants a thread make the first round.
+const FIRST: u64 = 4;
 
 /// Runs the first so many variants by so many threads, or by one where that is 0, and tells the first of them that is not legal. None
 /// where all are. Where somebody watches, tells on the way how far it has come.
-pub(crate) fn try_by_threads<R: Threads + Sync, P: Write>(
+pub(crate) fn try_by_threads<R: Threads + Clock + Sync, P: Write>(
     rt: &R,
     alloc: Global,
     script: &Script<Global>,
@@ -38,22 +41,24 @@ pub(crate) fn try_by_threads<R: Threads + Sync, P: Write>(
     };
     match progress {
         Some(out) => {
-            let illegal = try_rounds(rt, alloc, script, all, threads, round_size(variants), out);
-            clear_progress(out, variants);
+            let size = u64::from(threads).saturating_mul(FIRST);
+            let mut meter = Meter::new(rt, variants, size);
+            let illegal = try_rounds(rt, alloc, script, all, threads, &mut meter, out);
+            meter.clear(out);
             illegal
         }
         None => try_part(rt, alloc, script, all, threads),
     }
 }
 
-/// Runs the variants of a part in rounds of so many, one behind the other, and tells before each how far it has come.
-fn try_rounds<R: Threads + Sync, P: Write>(
+/// Runs the variants of a part in rounds, one behind the other, and tells between them how far it has come.
+fn try_rounds<R: Threads + Clock + Sync, P: Write>(
     rt: &R,
     alloc: Global,
     script: &Script<Global>,
     part: Part,
     threads: u16,
-    size: u64,
+    meter: &mut Meter,
     out: &mut P,
 ) -> Result<Option<Upset>, Fault>
     requires { AreFit script.now.lines.items }
@@ -65,18 +70,18 @@ fn try_rounds<R: Threads + Sync, P: Write>(
     if begin >= last {
         return Ok(None);
     }
-    tell_progress(out, begin, last);
-    let end = round_end(begin, size, last);
+    let end = round_end(begin, meter.size(), last);
     let round = Part {
         from: begin,
         upto: end,
     };
     let found = try_part(rt, alloc, script, round, threads)?;
+    meter.pass(rt, out, end);
     let rest = Part {
         from: end,
         upto: last,
     };
-    let others = try_rounds(rt, alloc, script, rest, threads, size, out)?;
+    let others = try_rounds(rt, alloc, script, rest, threads, meter, out)?;
     Ok(found.or(others))
 }
 

@@ -5,7 +5,7 @@ ghost use Rattle.std.specs.Io.KnownBytes.{Appends, Keeps};
 ghost use Rattle.std.specs.declared.alloc.Global.{Global as OneGlobal};
 ghost use Rattle.ring_base.specs.declared.fault.Fault.TheVariants.{Memory};
 ghost use Rattle.ring_script.specs.Fits.{AreFit};
-ghost use Rattle.ring_script.specs.Scripts.{IsAllOf, AnswersInput};
+ghost use Rattle.ring_script.specs.Scripts.{IsAllOf, AnswersInputBy, AnswersInput};
 ghost use Rattle.ring_script.specs.declared.scripts.Script.{Script};
 ghost use Rattle.ring_report.specs.declared.failure.Failure.TheVariants.{Output};
 ghost use Rattle.ring_console.specs.Running.{Prints, IsOutputOrMemory};
@@ -18,12 +18,13 @@ use crate::rounds::try_by_threads;
 use crate::upset::{Told, Upset};
 use crate::variant::Variant;
 use ring_base::Fault;
-use ring_console::{Failure, Script, Things, report};
+use ring_console::{Failure, Script, ShelfWords, Things, Vocabulary, report};
 use ring_object::Object;
 use std::alloc::{Allocator, Global};
 use std::io;
 use std::io::{Read, Write};
 use std::thread::Threads;
+use std::time::Clock;
 
 /// The exit status where a variant is not legal.
 const NOT_LEGAL: u8 = 1;
@@ -60,19 +61,34 @@ pub fn sweep<A: Allocator + Copy + Drop, R: Read, O: Write, E: Write>(
         result ≡ 0 → (script : Script A) × (bytes : List ℕ) × IsAllOf (R.remaining input.old) bytes × AnswersInput (Ok script) bytes
         × Prints (O.contents out.old) (O.contents out.new) (IsSweptText object.sequential script.nodes script.lines.items true) }
 {
-    let script = match Script::read(alloc, input) {
+    sweep_of::<Things<A>, ShelfWords, R, O, E>(alloc, input, out, err)
+}
+
+/// As [`sweep`], of any object, by the words of its operations.
+pub fn sweep_of<T: Object, V: Vocabulary, R: Read, O: Write, E: Write>(
+    alloc: T::Alloc,
+    input: &mut R,
+    out: &mut O,
+    err: &mut E,
+) -> u8
+    ensures status { result ≤ 1 }
+    ensures quiet { result ≡ 0 → Keeps (E.contents err.old) (E.contents err.new) }
+    ensures printed { result ≡ 0 → (script : Script T.Alloc) × (bytes : List ℕ) × IsAllOf (R.remaining input.old) bytes
+        × AnswersInputBy V.forms (Ok script) bytes × Prints (O.contents out.old) (O.contents out.new) (IsSweptText T.sequential script.nodes script.lines.items true) }
+{
+    let script = match Script::read_by::<V, R>(alloc, input) {
         Ok(script) => script,
         Err(fault) => return report(err, Failure::from(fault)),
     };
-    let swept = run_all::<Things<A>>(alloc, &script);
-    let done = print_all::<Things<A>, O>(&script, swept, out);
+    let swept = run_all::<T>(alloc, &script);
+    let done = print_all::<T, O>(&script, swept, out);
     verdict_status(err, done)
 }
 
 /// As [`sweep`], by so many threads, or by one where that is 0: what is printed and told does not depend on how many. Where there is a
-/// `progress`, it is told on the way how many variants were run: after each 1,000, or more of a sweep of so many that it ends in a
-/// few hundred rounds. At the end that is taken away again, as a terminal does it.
-pub fn sweep_by_threads<R: Threads + Sync, I: Read, O: Write, E: Write, P: Write>(
+/// `progress`, it is told from the first second on how far the sweep has come, and in the end that is taken away again, as a terminal
+/// does it.
+pub fn sweep_by_threads<R: Threads + Clock + Sync, I: Read, O: Write, E: Write, P: Write>(
     rt: &R,
     alloc: Global,
     input: &mut I,
@@ -178,7 +194,7 @@ fn run_all<O: Object>(alloc: O::Alloc, script: &Script<O::Alloc>) -> Result<Swep
 }
 
 /// The same by so many threads, or by one where that is 0.
-fn run_all_by_threads<R: Threads + Sync, P: Write>(
+fn run_all_by_threads<R: Threads + Clock + Sync, P: Write>(
     rt: &R,
     alloc: Global,
     script: &Script<Global>,

@@ -1,10 +1,11 @@
 //! A script under way into which a stop or a cut is put.
 
-ghost use Rattle.std.specs.Prelude.{◌≡◌, ◌+◌, ◌&&◌, replicate, IfOk, IfErr, OnOk};
+ghost use Rattle.std.specs.Prelude.{◌≡◌, ◌+◌, ◌&&◌, ◌==◌, [], ◌∷◌, replicate, IfOk, IfErr, OnOk};
 ghost use Rattle.ring_base.specs.declared.fault.Fault.TheVariants.{Memory};
 ghost use Rattle.ring_script.specs.Fits.{IsFit, AreFit};
 ghost use Rattle.ring_console.specs.Running.{run_opening, Does};
 ghost use Rattle.ring_sweep.specs.Variants.{turn, steps_in, steps_of, is_event, bit};
+ghost use Rattle.ring_sweep.specs.Gaps.{IsUntil};
 ghost use Rattle.ring_sweep.specs.Stages.{stage, IsCopyOf, is_due, PutsIn, Readies, Steps, Goes};
 
 use crate::upset::Upset;
@@ -63,6 +64,59 @@ impl<O: Object> Variant<O> {
             self.take_line(&numbered.line)?;
         }
         Ok(())
+    }
+
+    /// Does what a line asks for, a pump turn by turn, up to the event that has so many before it: tells behind how many turns of the
+    /// line that comes. None where it doesn't come in this line, and all of the line is done. Otherwise `Memory`.
+    pub fn follow_until(&mut self, line: &Line<O::Alloc>, before: u64) -> Result<Option<u32>, Fault>
+        requires { IsFit line.now }
+        ensures ok { IfOk result (λ turns. IsUntil O.sequential (steps_in line.now) before turns
+            (stage self.old.run self.old.done self.old.pending) (stage self.new.run self.new.done self.new.pending)) }
+        ensures refused { IfErr result (λ fault. fault ≡ Memory) }
+    {
+        match line {
+            Line::Pump { turns } => self.take_turns_until(*turns, before),
+            _ => self.step_until(line, before),
+        }
+    }
+
+    /// Takes turns, fewer where no copy is open: then those left do nothing.
+    fn take_turns_until(&mut self, turns: u32, before: u64) -> Result<Option<u32>, Fault>
+        ensures ok { IfOk result (λ taken. IsUntil O.sequential (replicate turns turn) before taken
+            (stage self.old.run self.old.done self.old.pending) (stage self.new.run self.new.done self.new.pending)) }
+        ensures refused { IfErr result (λ fault. fault ≡ Memory) }
+    {
+        for taken in 0..turns {
+            let Some(_) = self.run.first_open() else {
+                return Ok(None);
+            };
+            if self.comes(&Line::Pump { turns: 1 }, before) {
+                return Ok(Some(taken));
+            }
+            self.step(&Line::Pump { turns: 1 })?;
+        }
+        Ok(None)
+    }
+
+    /// A step of the script, unless it is the event that has so many before it.
+    fn step_until(&mut self, line: &Line<O::Alloc>, before: u64) -> Result<Option<u32>, Fault>
+        requires { IsFit line.now }
+        ensures ok { IfOk result (λ turns. IsUntil O.sequential (line.now ∷ []) before turns
+            (stage self.old.run self.old.done self.old.pending) (stage self.new.run self.new.done self.new.pending)) }
+        ensures refused { IfErr result (λ fault. fault ≡ Memory) }
+    {
+        if self.comes(line, before) {
+            return Ok(Some(0));
+        }
+        self.step(line)?;
+        Ok(None)
+    }
+
+    /// Whether the step is the event that has so many before it.
+    fn comes(&self, line: &Line<O::Alloc>, before: u64) -> bool
+        ensures { result ≡ (is_event self.now.run line.now && self.now.done == before) }
+    {
+        self.is_event(line) && self.done == before
     }
 
     /// Puts in what is still to be put in. Otherwise `Memory`.

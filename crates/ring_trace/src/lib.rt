@@ -11,5 +11,6 @@ mod tracer;
 mod tracing;
 
 pub use ring_trace_forms::Format;
+pub use ring_trace_words::{Replies, ReplyForm};
 pub use selection::Selection;
-pub use tracing::{Asked, trace};
+pub use tracing::{TraceOptions, trace, trace_of};

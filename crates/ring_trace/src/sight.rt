@@ -2,7 +2,7 @@
 
 use ring_base::{Kind, Proc};
 use ring_console::{Line, Pair};
-use ring_trace_words::{CallWords, Waiting};
+use ring_trace_words::{CallWords, Waiting, Wording};
 use std::alloc::{AllocError, Allocator};
 use std::fmt::Write;
 
@@ -37,13 +37,17 @@ pub(crate) fn sight_of<A: Allocator + Copy>(line: &Line<A>) -> Option<Sight> {
     })
 }
 
-/// Writes what a line asks of a node.
+/// Writes what a line asks of a node, in the words of the object.
 pub(crate) fn write_what<A: Allocator + Copy>(
     what: &mut String<A>,
+    wording: &Wording,
     line: &Line<A>,
 ) -> Result<(), AllocError> {
     match line {
-        Line::Call { node, call } => write!(what, "node {node} is called {}", CallWords(call)),
+        Line::Call { node, call } => {
+            let words = CallWords { wording, call };
+            write!(what, "node {node} is called {words}")
+        }
         Line::Deliver { node, frame } => match frame {
             Some(frame) => write!(what, "node {node} is given frame {frame}"),
             None => write!(what, "node {node} is given a frame that was not sent"),

@@ -17,7 +17,7 @@ use ring_console::{Failure, Groups, Line, Pair, Run, Script};
 use ring_object::Object;
 use ring_rules::Told;
 use ring_trace_forms::{Drawing, Form, Format};
-use ring_trace_words::{Change, Counts, Fold, Happening, Queue, Votes, Waiting, Why};
+use ring_trace_words::{Change, Counts, Fold, Happening, Queue, Votes, Waiting, Why, Wording};
 use std::alloc::Allocator;
 use std::io::Write;
 
@@ -27,6 +27,7 @@ pub(crate) struct Tracer<O: Object> {
     alloc: O::Alloc,
     run: Run<O>,
     form: Form,
+    wording: Wording,
     drawing: Drawing<O::Alloc>,
     votes: Votes,
     /// The sides of the cut, if there is one.
@@ -51,6 +52,7 @@ impl<O: Object> Tracer<O> {
     pub fn new(
         alloc: O::Alloc,
         form: Form,
+        wording: Wording,
         script: &Script<O::Alloc>,
         votes: Votes,
         selection: Selection,
@@ -66,6 +68,7 @@ impl<O: Object> Tracer<O> {
             alloc,
             run: Run::new(alloc, script.nodes)?,
             form,
+            wording,
             drawing: Drawing::new(alloc, script.nodes, selection.node),
             votes,
             sides: Vec::new(alloc),
@@ -162,7 +165,9 @@ impl<O: Object> Tracer<O> {
     {
         let sight = sight_of(&line);
         self.what.clear();
-        write_what(&mut self.what, &line).map_err(|_| Failure::Refused(Fault::Memory))?;
+        write_what(&mut self.what, &self.wording, &line).map_err(|_| Failure::Refused(
+            Fault::Memory,
+        ))?;
         self.run.perform(line)?;
         match sight {
             Some(sight) => self.look(&sight, out),
@@ -317,7 +322,8 @@ impl<O: Object> Tracer<O> {
         for one in told.iter().skip(self.told) {
             match one {
                 Told::Answer(node, call, _) => self.queue.take(Waiting::of(*node, call, 0)),
-                Told::Refused(node, call, _) => self.queue.take(Waiting::of(*node, call, 0)),
+                // Only the call that was just submitted can be refused.
+                Told::Refused(_, _, _) => self.queue.drop_newest(),
             }
         }
         self.told = told.len();
@@ -343,8 +349,9 @@ impl<O: Object> Tracer<O> {
             what: self.what.as_str(),
         };
         let told = told_behind(self.run.world().told(), told);
+        let changes = self.changes.as_slice();
         self.form
-            .print_event(out, &happening, self.changes.as_slice(), told)
+            .print_event(out, &self.wording, &happening, changes, told)
     }
 
     /// Prints the events in which nothing changed, if there are any.

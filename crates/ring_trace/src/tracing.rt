@@ -3,24 +3,24 @@
 ghost use Rattle.std.specs.Prelude.{◌≡◌, ◌≤◌, Ok, OnOk};
 ghost use Rattle.std.specs.declared.alloc.Global.{Global as Heap};
 ghost use Rattle.ring_script.specs.Fits.{AreFit};
-ghost use Rattle.ring_script.specs.Scripts.{AnswersInput};
+ghost use Rattle.ring_script.specs.Scripts.{AnswersInput, AnswersInputBy};
 ghost use Rattle.ring_script.specs.declared.scripts.Script.{Script};
 ghost use Rattle.ring_trace.specs.Sendings.{Sends};
 
 use crate::selection::Selection;
 use crate::tracer::Tracer;
 use ring_base::Fault;
-use ring_console::{Failure, Script, Things, report};
+use ring_console::{Failure, Script, ShelfWords, Things, Vocabulary, report};
 use ring_object::Object;
 use ring_report::{Lent, exit_status};
 use ring_trace_forms::{Form, Format};
-use ring_trace_words::Votes;
+use ring_trace_words::{Replies, Votes, Wording};
 use std::alloc::Global;
 use std::io::{BufWriter, Write};
 
 /// What is asked of a trace: in which form, and which events.
 #[derive(Clone, Copy)]
-pub struct Asked {
+pub struct TraceOptions {
     pub format: Format,
     pub selection: Selection,
 }
@@ -36,7 +36,7 @@ pub struct Asked {
 pub fn trace<O: Write, F: Write, E: Write>(
     alloc: Global,
     text: &[u8],
-    asked: Asked,
+    asked: TraceOptions,
     out: &mut O,
     frames: &mut F,
     err: &mut E,
@@ -47,9 +47,26 @@ pub fn trace<O: Write, F: Write, E: Write>(
         result ≡ 0 → (script : Script Heap) × AnswersInput (Ok script) text.now
         × Sends object.sequential script (F.contents frames.old) (F.contents frames.new) }
 {
+    trace_of::<Things<Global>, ShelfWords, O, F, E>(alloc, text, asked, out, frames, err)
+}
+
+/// The same of any object, as [`trace`], with the words of its operations and its replies.
+pub fn trace_of<T: Object<Alloc = Global>, V: Vocabulary + Replies, O: Write, F: Write, E: Write>(
+    alloc: Global,
+    text: &[u8],
+    asked: TraceOptions,
+    out: &mut O,
+    frames: &mut F,
+    err: &mut E,
+) -> u8
+    ensures status { result ≤ 1 }
+    ensures quiet { result ≡ 0 → err.new ≡ err.old }
+    ensures whole { result ≡ 0 → (script : Script Heap) × AnswersInputBy V.forms (Ok script) text.now
+        × Sends T.sequential script (F.contents frames.old) (F.contents frames.new) }
+{
     match BufWriter::new(alloc, Lent { writer: out }) {
         Ok(mut buffer) => {
-            let done = trace_text(alloc, text, asked, &mut buffer, frames);
+            let done = trace_text::<T, V, _, F>(alloc, text, asked, &mut buffer, frames);
             exit_status(&mut buffer, err, done)
         }
         Err(_) => report(err, Failure::Refused(Fault::Memory)),
@@ -57,31 +74,30 @@ pub fn trace<O: Write, F: Write, E: Write>(
 }
 
 /// Runs the script that a text is, prints what its events did, and writes the frames that were sent.
-fn trace_text<W: Write, F: Write>(
+fn trace_text<T: Object<Alloc = Global>, V: Vocabulary + Replies, W: Write, F: Write>(
     alloc: Global,
     text: &[u8],
-    asked: Asked,
+    asked: TraceOptions,
     out: &mut W,
     frames: &mut F,
 ) -> Result<(), Failure>
-    ensures { let object = ⟦<Things<Global> as Object>⟧ in
-        OnOk result ((script : Script Heap) × AnswersInput (Ok script) text.now
-        × Sends object.sequential script (F.contents frames.old) (F.contents frames.new)) }
+    ensures { OnOk result ((script : Script Heap) × AnswersInputBy V.forms (Ok script) text.now
+        × Sends T.sequential script (F.contents frames.old) (F.contents frames.new)) }
 {
     let mut rest = text;
-    let script = Script::read(alloc, &mut rest)?;
+    let script = Script::read_by::<V, &[u8]>(alloc, &mut rest)?;
     let words = str::from_utf8(text).unwrap_or("");
     let votes = Votes::told(script.nodes, words);
-    trace_script::<Things<Global>, W, F>(alloc, script, votes, asked, out, frames)?;
+    trace_script::<T, V, W, F>(alloc, script, votes, asked, out, frames)?;
     Ok(())
 }
 
 /// Runs a script whose nodes have these votes, prints what its events did, and writes the frames that were sent.
-fn trace_script<O: Object<Alloc = Global>, W: Write, F: Write>(
+fn trace_script<O: Object<Alloc = Global>, V: Vocabulary + Replies, W: Write, F: Write>(
     alloc: Global,
     script: Script,
     votes: Votes,
-    asked: Asked,
+    asked: TraceOptions,
     out: &mut W,
     frames: &mut F,
 ) -> Result<(), Failure>
@@ -92,7 +108,8 @@ fn trace_script<O: Object<Alloc = Global>, W: Write, F: Write>(
         alloc,
         format: asked.format,
     };
-    let mut tracer = Tracer::<O>::new(alloc, form, &script, votes, asked.selection)?;
+    let wording = Wording::of::<V>();
+    let mut tracer = Tracer::<O>::new(alloc, form, wording, &script, votes, asked.selection)?;
     tracer.tell(script, out, frames)?;
     Ok(())
 }

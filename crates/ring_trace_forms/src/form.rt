@@ -7,7 +7,7 @@ use crate::{json, text};
 use ring_base::ProcSet;
 use ring_report::Failure;
 use ring_rules::Told;
-use ring_trace_words::{Change, Counts, Fold, Happening, Waiting, Why};
+use ring_trace_words::{Change, Counts, Fold, Happening, Waiting, Why, Wording};
 use std::alloc::{Allocator, Global};
 use std::io::Write;
 
@@ -30,10 +30,11 @@ pub struct Form {
 }
 
 impl Form {
-    /// Prints an event, what it changed at its node, and what its node told.
+    /// Prints an event, what it changed at its node, and what its node told, in the words of the object.
     pub fn print_event<A: Allocator + Copy, W: Write>(
         self,
         out: &mut W,
+        wording: &Wording,
         happening: &Happening<'_>,
         changes: &[Change],
         told: &[Told<A>],
@@ -42,8 +43,11 @@ impl Form {
         ensures failed { IfErr result IsOutputOrMemory }
     {
         match self.format {
-            Format::Text => text::print_event(out, happening, changes, told),
-            Format::Json => json::print_event(self.alloc, out, happening, changes, told),
+            Format::Text => text::print_event(out, wording, happening, changes, told),
+            Format::Json => {
+                let told = json::told_values(self.alloc, wording, told)?;
+                json::print_event(self.alloc, out, happening, changes, told)
+            }
             Format::Svg => Ok(()),
         }
     }

@@ -12,7 +12,7 @@ use ring_report::Failure;
 use ring_rules::Told;
 use ring_session::Answer;
 use ring_trace_words::{
-    Change, Counts, Fold, Happening, OperationWords, ReasonWords, ReplyWords, Waiting, Why,
+    Change, Counts, Fold, Happening, OperationWords, ReasonWords, ReplyWords, Waiting, Why, Wording,
 };
 use serde::Serialize;
 use serde_json::to_string;
@@ -52,7 +52,7 @@ struct RingValue {
 }
 
 #[derive(Drop, Serialize)]
-struct ToldValue {
+pub(crate) struct ToldValue {
     client: u32,
     number: u64,
     operation: String,
@@ -107,17 +107,16 @@ fn print_line<T: Serialize, W: Write>(alloc: Global, out: &mut W, line: &T) -> R
 }
 
 /// Prints an event, what it changed at its node, and what its node told.
-pub(crate) fn print_event<A: Allocator + Copy, W: Write>(
+pub(crate) fn print_event<W: Write>(
     alloc: Global,
     out: &mut W,
     happening: &Happening<'_>,
     changes: &[Change],
-    told: &[Told<A>],
+    told: Vec<ToldValue>,
 ) -> Result<(), Failure>
     ensures { IfErr result IsOutputOrMemory }
 {
     let changes = change_values(alloc, changes)?;
-    let told = told_values(alloc, told)?;
     let line = EventLine {
         version: VERSION,
         kind: "event",
@@ -167,8 +166,9 @@ fn change_value(alloc: Global, change: &Change) -> Result<ChangeValue, Fault>
 }
 
 /// What a node told, as values.
-fn told_values<A: Allocator + Copy>(
+pub(crate) fn told_values<A: Allocator + Copy>(
     alloc: Global,
+    wording: &Wording,
     told: &[Told<A>],
 ) -> Result<Vec<ToldValue>, Fault>
     ensures { IfErr result (λ fault. fault ≡ Memory) }
@@ -176,8 +176,14 @@ fn told_values<A: Allocator + Copy>(
     let mut values = Vec::new(alloc);
     for one in told {
         let value = match one {
-            Told::Answer(_, call, answer) => answer_value(alloc, call, answer)?,
-            Told::Refused(_, call, reason) => refusal_value(alloc, call, "not taken", *reason)?,
+            Told::Answer(_, call, answer) => answer_value(alloc, wording, call, answer)?,
+            Told::Refused(_, call, reason) => refusal_value(
+                alloc,
+                wording,
+                call,
+                "not taken",
+                *reason,
+            )?,
         };
         values.push(value)?;
     }
@@ -187,21 +193,23 @@ fn told_values<A: Allocator + Copy>(
 /// An answer as a value.
 fn answer_value<A: Allocator + Copy>(
     alloc: Global,
+    wording: &Wording,
     call: &Call<A>,
     answer: &Answer,
 ) -> Result<ToldValue, Fault>
     ensures { IfErr result (λ fault. fault ≡ Memory) }
 {
     match answer {
-        Answer::Done(reply) => reply_value(alloc, call, "done", reply),
-        Answer::Kept(reply) => reply_value(alloc, call, "kept", reply),
-        Answer::Refused(reason) => refusal_value(alloc, call, "refused", *reason),
+        Answer::Done(reply) => reply_value(alloc, wording, call, "done", reply),
+        Answer::Kept(reply) => reply_value(alloc, wording, call, "kept", reply),
+        Answer::Refused(reason) => refusal_value(alloc, wording, call, "refused", *reason),
     }
 }
 
 /// A refusal for the reason of this number, as a value.
 fn refusal_value<A: Allocator + Copy>(
     alloc: Global,
+    wording: &Wording,
     call: &Call<A>,
     outcome: &'static str,
     reason: u8,
@@ -210,12 +218,13 @@ fn refusal_value<A: Allocator + Copy>(
 {
     let words = ReasonWords(reason);
     let text = format!(in alloc; "{words}")?;
-    told_value(alloc, call, outcome, text)
+    told_value(alloc, wording, call, outcome, text)
 }
 
 /// A reply as a value.
 fn reply_value<A: Allocator + Copy>(
     alloc: Global,
+    wording: &Wording,
     call: &Call<A>,
     outcome: &'static str,
     reply: &Reply,
@@ -223,23 +232,28 @@ fn reply_value<A: Allocator + Copy>(
     ensures { IfErr result (λ fault. fault ≡ Memory) }
 {
     let words = ReplyWords {
+        wording,
         operation: call.op.as_slice(),
         reply: reply.as_slice(),
     };
     let text = format!(in alloc; "{words}")?;
-    told_value(alloc, call, outcome, text)
+    told_value(alloc, wording, call, outcome, text)
 }
 
 /// What was told of a call, as a value.
 fn told_value<A: Allocator + Copy>(
     alloc: Global,
+    wording: &Wording,
     call: &Call<A>,
     outcome: &'static str,
     reply: String,
 ) -> Result<ToldValue, Fault>
     ensures { IfErr result (λ fault. fault ≡ Memory) }
 {
-    let words = OperationWords(call.op.as_slice());
+    let words = OperationWords {
+        wording,
+        operation: call.op.as_slice(),
+    };
     Ok(ToldValue {
         client: call.client,
         number: call.number,

@@ -7,13 +7,14 @@ use ring_base::ProcSet;
 use ring_picture::Members;
 use ring_report::Failure;
 use ring_rules::Told;
-use ring_trace_words::{Change, Counts, Fold, Happening, ToldWords, Waiting, Why};
+use ring_trace_words::{Change, Counts, Fold, Happening, ToldWords, Waiting, Why, Wording};
 use std::alloc::Allocator;
 use std::io::Write;
 
 /// Prints an event, what it changed at its node, and what its node told.
 pub(crate) fn print_event<A: Allocator + Copy, W: Write>(
     out: &mut W,
+    wording: &Wording,
     happening: &Happening<'_>,
     changes: &[Change],
     told: &[Told<A>],
@@ -25,8 +26,9 @@ pub(crate) fn print_event<A: Allocator + Copy, W: Write>(
     for change in changes {
         write!(out, "; node {node} {change}").map_err(|_| Failure::Output)?;
     }
-    for one in told {
-        write!(out, "; node {node} {}", ToldWords(one)).map_err(|_| Failure::Output)?;
+    for told in told {
+        let words = ToldWords { wording, told };
+        write!(out, "; node {node} {words}").map_err(|_| Failure::Output)?;
     }
     writeln!(out).map_err(|_| Failure::Output)
 }

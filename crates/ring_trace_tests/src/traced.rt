@@ -3,7 +3,7 @@
 use ring_base::Proc;
 use ring_console::{frames, script};
 use ring_script_maker::made_script;
-use ring_trace::{Asked, Format, Selection, trace};
+use ring_trace::{Format, Selection, TraceOptions, trace};
 use std::alloc::{AllocError, Global};
 use std::fmt::Write;
 use std::test::Fail;
@@ -25,7 +25,7 @@ fn printed(alloc: Global, text: &str) -> String {
 fn traced(alloc: Global, text: &str, format: Format, selection: Selection) -> String {
     let mut out = Vec::new(alloc);
     let mut err = Vec::new(alloc);
-    let asked = Asked { format, selection };
+    let asked = TraceOptions { format, selection };
     let mut frames = Vec::new(alloc);
     let status = trace(
         alloc,
@@ -144,7 +144,7 @@ fn why_a_call_waits_is_told(rt: HostRuntime) {
 
 #[test]
 fn the_frames_of_a_trace_are_listed(rt: HostRuntime) {
-    let asked = Asked {
+    let asked = TraceOptions {
         format: Format::Text,
         selection: Selection::all(),
     };

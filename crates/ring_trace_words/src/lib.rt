@@ -2,6 +2,7 @@
 //! answer.
 #![tactic(auto)]
 
+mod argument_words;
 mod call_words;
 mod change;
 mod fold;
@@ -9,10 +10,12 @@ mod happening;
 mod operation_words;
 mod reason_words;
 mod reply_words;
+mod shelf_replies;
 mod told_words;
 mod votes;
 mod waiting;
 mod why;
+mod wording;
 
 pub use call_words::CallWords;
 pub use change::Change;
@@ -25,3 +28,4 @@ pub use told_words::ToldWords;
 pub use votes::{Share, Votes};
 pub use waiting::{Queue, Waiting};
 pub use why::Why;
+pub use wording::{Replies, ReplyForm, Wording};

@@ -1,6 +1,6 @@
 //! Calls that wait for their answers.
 
-ghost use Rattle.std.specs.Prelude.{◌≡◌, [], ◌∷◌, ◌++◌, OnOk, OnErr, IfErr, position};
+ghost use Rattle.std.specs.Prelude.{◌≡◌, ◌-◌, [], ◌∷◌, ◌++◌, length, take, OnOk, OnErr, IfErr, position};
 ghost use Rattle.ring_base.specs.declared.fault.Fault.TheVariants.{Memory};
 ghost use Rattle.ring_trace_words.specs.Waits.{is_same, without};
 
@@ -84,6 +84,13 @@ impl<A: Allocator + Copy> Queue<A> {
     {
         self.calls.push(call)?;
         Ok(())
+    }
+
+    /// The call that was added last waits no longer.
+    pub fn drop_newest(&mut self)
+        ensures { self.new ≡ take (length self.old - 1) self.old }
+    {
+        let _ = self.calls.pop();
     }
 
     /// A call waits no longer. Where it was submitted twice at its node, the first of these.

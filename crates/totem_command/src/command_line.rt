@@ -57,6 +57,8 @@ pub(crate) enum Way {
     Checked,
     /// With a stop and a cut of each node before each event, by so many threads, where that is said.
     Swept(Option<u16>),
+    /// Not at all: that variant of a sweep is printed which has this place among them, counted from 1.
+    Variant(u64),
 }
 
 /// What `explore` is asked for: the votes of the nodes, the first seed and the last, how many lines each script has, and how many
@@ -98,10 +100,11 @@ how many events there are, how many variants were run, and `legal yes` or `legal
 each of them one order of the calls explains all replies, and each node's committed calls are a
 front of it. After `legal no` the exit status is 1, and standard error names the first variant that
 is not legal. It takes as many runs as it prints variants. What is printed does not depend on the
-number of threads.
+number of threads. With --variant K it prints the script of the Kth variant, and runs none.
 
-Example:
-  totem sweep first_reply.script";
+Examples:
+  totem sweep first_reply.script
+  totem sweep --variant 3 first_reply.script";
 
 /// What `totem frames --help` ends with.
 const FRAMES_HELP: &str = "\
@@ -233,7 +236,7 @@ fn file_in<'a>(name: &str, of: &ArgMatches<'a>) -> Option<Task<'a>> {
         "frames" => Some(Task::Frames { file }),
         "script" if of.get_flag("check") => Some(script_in(file, Way::Checked, of)),
         "script" => Some(script_in(file, Way::Plain, of)),
-        "sweep" => Some(script_in(file, Way::Swept(of.get_one::<u16>("threads")), of)),
+        "sweep" => Some(script_in(file, sweep_in(of), of)),
         "trace" => Some(Task::Trace(traced_in(file, of))),
         _ => None,
     }
@@ -246,6 +249,14 @@ fn script_in<'a>(file: &'a str, way: Way, of: &ArgMatches<'a>) -> Task<'a> {
         way,
         is_explained: of.get_flag("explain"),
     })
+}
+
+/// In which way `sweep` runs a script.
+fn sweep_in<'a>(of: &ArgMatches<'a>) -> Way {
+    match of.get_one::<u64>("variant") {
+        Some(place) => Way::Variant(place),
+        None => Way::Swept(of.get_one::<u16>("threads")),
+    }
 }
 
 /// The task of `live`.
@@ -327,9 +338,12 @@ fn script_command<'a>(alloc: Global) -> Result<Command<'a>, AllocError> {
 
 fn sweep_command<'a>(alloc: Global) -> Result<Command<'a>, AllocError> {
     Command::new(alloc, "sweep")
-        .about("Runs a script with a stop and a cut of each node before each event")
+        .about(
+            "Runs a script with a stop and a cut of each node before each event, on all processors",
+        )
         .after_help(SWEEP_HELP)
         .arg(threads_word(alloc))?
+        .arg(variant_word(alloc))?
         .arg(explain_word(alloc))?
         .arg(file_of(alloc, "The script; - is standard input"))
 }
@@ -444,6 +458,15 @@ fn threads_word<'a>(alloc: Global) -> Arg<'a> {
         .help("How many threads work, in place of one for each processor")
         .action(ArgAction::Set)
         .value_parser(ValueParser::unsigned(1, MOST_THREADS))
+}
+
+/// The word for a variant of a sweep.
+fn variant_word<'a>(alloc: Global) -> Arg<'a> {
+    Arg::new(alloc, "variant")
+        .long("variant")
+        .help("Prints the script of this variant, counted from 1, in place of a sweep")
+        .action(ArgAction::Set)
+        .value_parser(ValueParser::unsigned(1, u64::MAX))
 }
 
 /// The word for the votes of all nodes.

@@ -15,6 +15,7 @@ use std::io::{Read, Write};
 use std::rt::Files;
 use std::sync::Wait;
 use std::thread::{self, Threads};
+use std::time::Clock;
 use std::{fs, io};
 
 /// The name of a file that is none: the input.
@@ -25,8 +26,14 @@ const BAD_COMMAND_LINE: u8 = 2;
 
 /// Does what the words of a command line ask for, the program's own name being the first. A node takes the records of `input`, and
 /// other commands read it where the file is `-`. Writes on `out` and `err` what the program writes on standard output and standard
-/// error, tells on `progress`, where there is one, how far a sweep has come, and answers the exit status.
-pub fn run<R: Files + AllocGlobal + Threads + Wait + Sync, I: Read, O: Write, E: Write, P: Write>(
+/// error, tells on `progress`, where there is one, how far long work has come, and answers the exit status.
+pub fn run<
+    R: Files + AllocGlobal + Threads + Wait + Clock + Sync,
+    I: Read,
+    O: Write,
+    E: Write,
+    P: Write,
+>(
     rt: &R,
     words: &io::Result<Vec<String>>,
     input: &mut I,
@@ -46,8 +53,8 @@ pub fn run<R: Files + AllocGlobal + Threads + Wait + Sync, I: Read, O: Write, E:
                 events,
             },
         ) => generate(rt.alloc(), votes.as_slice(), seed, events, out, err),
-        Ok(Task::Explore(asked)) => explore_seeds(rt, &asked, out, err),
         Ok(Task::Node { me, votes }) => node(rt.alloc(), me, votes.as_slice(), input, out, err),
+        Ok(Task::Explore(asked)) => explore_seeds(rt, &asked, out, err, progress),
         Err(error) => tell(&error, out, err),
     }
 }
@@ -71,11 +78,12 @@ fn frames_of<R: Files + AllocGlobal, I: Read, O: Write, E: Write>(
 
 /// Makes, runs and checks the scripts of all seeds that are asked for: by as many threads as there are processors, where nothing is
 /// said of these.
-fn explore_seeds<R: AllocGlobal + Threads + Sync, O: Write, E: Write>(
+fn explore_seeds<R: AllocGlobal + Threads + Clock + Sync, O: Write, E: Write, P: Write>(
     rt: &R,
     asked: &Explored,
     out: &mut O,
     err: &mut E,
+    progress: Option<&mut P>,
 ) -> u8 {
     let plan = Plan {
         votes: asked.votes.as_slice(),
@@ -84,7 +92,7 @@ fn explore_seeds<R: AllocGlobal + Threads + Sync, O: Write, E: Write>(
         lines: asked.events,
     };
     let threads = asked.threads.unwrap_or(processors(rt));
-    explore(rt, rt.alloc(), plan, threads, out, err)
+    explore(rt, rt.alloc(), plan, threads, out, err, progress)
 }
 
 /// How many processors there are, as far as that is known: or else one.

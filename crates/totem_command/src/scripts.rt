@@ -4,11 +4,12 @@ use crate::command_line::{AskedScript, Way};
 use crate::commands::{INPUT, processors};
 use ring_base::Fault;
 use ring_explanation::reason_in;
-use ring_sweep::{Failure, report, script, script_check, sweep_by_threads};
+use ring_sweep::{Failure, print_variant, report, script, script_check, sweep_by_threads};
 use std::alloc::Global;
 use std::io::{Error, ErrorKind, Read, Write};
 use std::rt::Files;
 use std::thread::Threads;
+use std::time::Clock;
 use std::{fs, io};
 
 /// The exit status where the work was not done.
@@ -19,7 +20,7 @@ const MOST_READ: u64 = 1_048_577;
 
 /// Runs the script that is asked for.
 pub(crate) fn run_script<
-    R: Files + AllocGlobal + Threads + Sync,
+    R: Files + AllocGlobal + Threads + Clock + Sync,
     I: Read,
     O: Write,
     E: Write,
@@ -60,7 +61,7 @@ pub(crate) fn text_of<R: Files + AllocGlobal, I: Read>(
 }
 
 /// Runs a script in this way.
-fn run_text<R: AllocGlobal + Threads + Sync, O: Write, E: Write, P: Write>(
+fn run_text<R: AllocGlobal + Threads + Clock + Sync, O: Write, E: Write, P: Write>(
     rt: &R,
     way: Way,
     text: &[u8],
@@ -76,6 +77,7 @@ fn run_text<R: AllocGlobal + Threads + Sync, O: Write, E: Write, P: Write>(
             let threads = threads.unwrap_or(processors(rt));
             sweep_by_threads(rt, rt.alloc(), &mut rest, threads, out, err, progress)
         }
+        Way::Variant(place) => print_variant(rt.alloc(), text, place, out, err),
     }
 }
 

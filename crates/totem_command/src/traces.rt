@@ -5,7 +5,7 @@ use crate::scripts::{tell_unread, text_of};
 use clap::builder::ValueParser;
 use clap::{Arg, ArgAction, ArgMatches, Command};
 use ring_base::Proc;
-use ring_trace::{Asked, Format, Selection, trace};
+use ring_trace::{Format, Selection, TraceOptions, trace};
 use std::alloc::{AllocError, Global};
 use std::io::{Read, Write};
 use std::rt::Files;
@@ -68,8 +68,8 @@ fn format_in(of: &ArgMatches<'_>) -> Format {
 }
 
 /// The same without the files. It stands apart, since no function may take processors beside words that are lent.
-fn asked_of(traced: &Traced<'_>) -> Asked {
-    Asked {
+fn asked_of(traced: &Traced<'_>) -> TraceOptions {
+    TraceOptions {
         format: traced.format,
         selection: Selection {
             node: proc_of(traced.node),

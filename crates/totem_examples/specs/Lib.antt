@@ -1,2 +1,3 @@
+pub mod LockWords
 pub mod Locks
 pub mod LocksLaws

@@ -63,14 +63,18 @@ fn tell_story<R: Print>(rt: &R, story: &Story) -> io::Result<()> {
 }
 
 /// A network of three nodes, of which this one hears nobody.
-fn cut_network<O: Object>(alloc: O::Alloc, fixed: Fixed, alone: Proc) -> Result<Shared<O>, Fault> {
+pub fn cut_network<O: Object>(
+    alloc: O::Alloc,
+    fixed: Fixed,
+    alone: Proc,
+) -> Result<Shared<O>, Fault> {
     let mut network = Network::new(alloc, World::<O>::new(alloc, fixed)?);
     network.cut(fixed.everybody().less(ProcSet::only(alone)));
     Ok(Rc::new(alloc, RefCell::new(network))?)
 }
 
 /// A client with a port to each of two of its nodes.
-fn client_of<O: Object>(
+pub fn client_of<O: Object>(
     alloc: O::Alloc,
     shared: &Shared<O>,
     first: Proc,
@@ -134,7 +138,7 @@ fn heal<O: Object>(shared: &Shared<O>, node: Proc) -> Result<(usize, u64), Fault
 }
 
 /// The count that a counter's reply tells, 0 where it tells none.
-fn count_of(reply: &Reply) -> u64 {
+pub fn count_of(reply: &Reply) -> u64 {
     match Replied::read(reply.as_slice()) {
         Some(
             Replied {

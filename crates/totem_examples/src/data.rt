@@ -15,6 +15,7 @@ use std::io::{Error, ErrorKind};
 use std::rt::Files;
 use std::sync::Wait;
 use std::thread::Threads;
+use std::time::Clock;
 use std::{fs, io, str};
 use totem_command::run;
 
@@ -70,7 +71,7 @@ impl Kind {
 
 /// Runs these examples, prints a line for each, those of a kind in alphabetical order, and tells whether all printed what they
 /// must.
-pub fn run_all<R: Files + AllocGlobal + Print + Threads + Wait + Sync + Clone + Drop>(
+pub fn run_all<R: Files + AllocGlobal + Print + Threads + Wait + Clock + Sync + Clone + Drop>(
     rt: &R,
 ) -> io::Result<bool> {
     let mut are_right = true;
@@ -82,7 +83,7 @@ pub fn run_all<R: Files + AllocGlobal + Print + Threads + Wait + Sync + Clone + 
 }
 
 /// The same of those of one kind.
-fn run_each<R: Files + AllocGlobal + Print + Threads + Wait + Sync + Clone + Drop>(
+fn run_each<R: Files + AllocGlobal + Print + Threads + Wait + Clock + Sync + Clone + Drop>(
     rt: &R,
     kind: Kind,
 ) -> io::Result<bool> {
@@ -117,7 +118,7 @@ struct Printed {
 }
 
 /// Whether the example of this name prints just what it must.
-fn prints_as_told<R: Files + AllocGlobal + Threads + Wait + Sync>(
+fn prints_as_told<R: Files + AllocGlobal + Threads + Wait + Clock + Sync>(
     rt: &R,
     name: &str,
     kind: Kind,
@@ -138,7 +139,7 @@ fn prints_as_told<R: Files + AllocGlobal + Threads + Wait + Sync>(
 }
 
 /// Does what is done with an example of this kind and name whose file has these bytes.
-fn run_as<R: Files + AllocGlobal + Threads + Wait + Sync>(
+fn run_as<R: Files + AllocGlobal + Threads + Wait + Clock + Sync>(
     rt: &R,
     kind: Kind,
     name: &str,
@@ -175,7 +176,7 @@ fn words_for(alloc: Global, kind: Kind, name: &str) -> io::Result<String> {
 }
 
 /// Does what the words of a command line ask for, of which a text has one in a line. There is no input.
-fn command<R: Files + AllocGlobal + Threads + Wait + Sync>(
+fn command<R: Files + AllocGlobal + Threads + Wait + Clock + Sync>(
     rt: &R,
     text: &[u8],
     out: &mut Vec<u8>,

@@ -1,9 +1,9 @@
 //! The examples. The exit status is 0 only where all of them could be printed, and those that are data printed what they must.
 //!
-//! `counter` drives a node from a program of one's own. `client` has a client of three nodes, the first of
-//! which is cut off; `locks` is an object of one's own, a lock table, and `lock_story` what two clients make of it;
-//! `threads` has nodes and clients on threads. `data` runs what the program `totem` runs: scripts, sweeps, listings of
-//! frames, command lines.
+//! `counter` drives a node from a program of one's own. `client` has a client of three nodes, the first of which is cut off, and
+//! `outage` one that asks until it is answered, as nodes stop. `locks` is an object of one's own, a lock table, `lock_story` what two
+//! clients make of it, and `lock_tools` has it in the tools of the program `totem`, by `lock_words`. `threads` has nodes and clients
+//! on threads. `data` runs what the program runs: scripts, sweeps, listings of frames, command lines.
 #![tactic(auto)]
 
 mod client;
@@ -11,7 +11,10 @@ mod counter;
 mod data;
 mod lock_operation;
 mod lock_story;
+mod lock_tools;
+mod lock_words;
 mod locks;
+mod outage;
 mod threads;
 
 use std::io;
@@ -19,6 +22,7 @@ use std::process::ExitCode;
 use std::rt::Files;
 use std::sync::Wait;
 use std::thread::Threads;
+use std::time::Clock;
 
 fn main(rt: HostRuntime) -> ExitCode {
     match tell_all(&rt) {
@@ -32,12 +36,14 @@ fn main(rt: HostRuntime) -> ExitCode {
 }
 
 /// Prints all examples, and tells whether those that are data printed what they must.
-fn tell_all<R: Files + AllocGlobal + Print + Threads + Wait + Sync + Clone + Drop>(
+fn tell_all<R: Files + AllocGlobal + Print + Threads + Wait + Clock + Sync + Clone + Drop>(
     rt: &R,
 ) -> io::Result<bool> {
     counter::tell(rt)?;
     client::tell(rt)?;
+    outage::tell(rt)?;
     lock_story::tell(rt)?;
+    lock_tools::tell(rt)?;
     threads::tell(rt)?;
     data::run_all(rt)
 }

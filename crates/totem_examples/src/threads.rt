@@ -1,27 +1,28 @@
-//! Three nodes on threads of their own, and a counter that two clients add to from their threads.
+//! Three nodes on threads of their own, and a lock table that two clients ask for locks from their threads.
 //!
 //! Client 1 tries node 1 and then node 2; client 2 tries node 3 and then node 2. A client passes on to its next node, with the
-//! same call under the same number, where one refuses the call or doesn't answer. So each call takes effect once, whatever the
-//! threads do when: each client adds 1 ten times, and 20 calls stand in the one order.
+//! same call under the same number, where one refuses the call or doesn't answer; and where none of them answers it begins anew. So
+//! each call takes effect once, whatever the threads do when: both ask for the same ten locks, of which each gets some, and 20 calls
+//! stand in the one order.
 
 ghost use Rattle.std.specs.Prelude.{◌≡◌, All, IfOk};
 ghost use Rattle.totem_threads.specs.Seats.{IsAt};
 
+use crate::lock_operation::LockOperation;
+use crate::locks::Locks;
 use std::alloc::Global;
 use std::marker::Brand;
 use std::sync::Wait;
 use std::sync::atomic::{AtomicU64, Ordering};
 use std::thread::Threads;
 use std::{io, thread};
-use totem_threads::{
-    BookName, Client, Counters, Fault, Fixed, Host, HostPort, Object, Opening, Port, Seat,
-};
+use totem_threads::{BookName, Client, Fault, Fixed, Host, HostPort, Object, Opening, Seat};
 
 /// How often a client polls a node at most, before it passes on to the next.
 const POLLS: u64 = 1_000_000;
 
-/// How often a client tries a call anew at most that none of its nodes has answered.
-const TRIES: u32 = 1_000;
+/// How often a client tries a call anew at most that none of its nodes has answered: they may still be forming their ring.
+const TRIES: u64 = 1_000;
 
 /// A client: its number, and the nodes that it tries.
 #[derive(Clone, Copy)]
@@ -43,9 +44,9 @@ const CLIENT_2: Plan = Plan {
     second: 2,
 };
 
-/// A client adds 1 ten times, by its two nodes, to each of which it has a port from one of these seats of the host's. It ends at
+/// A client asks for ten locks, by its two nodes, to each of which it has a port from one of these seats of the host's. It ends at
 /// its first fault. The last client to end closes the host.
-fn add_ten<O: Object, K: BookName<O::Alloc>, W: Wait>(
+fn ask_for_ten<O: Object, K: BookName<O::Alloc>, W: Wait>(
     rt: &W,
     alloc: O::Alloc,
     host: &Host<O, K>,
@@ -55,14 +56,14 @@ fn add_ten<O: Object, K: BookName<O::Alloc>, W: Wait>(
 )
     requires { All (IsAt host.now) seats.items }
 {
-    let _ = try_add_ten(rt, alloc, host, seats, plan);
+    let _ = call_ten(rt, alloc, host, seats, plan);
     if running.fetch_sub(1, Ordering::SeqCst) == 1 {
         host.close();
     }
 }
 
 /// The calls of a client.
-fn try_add_ten<O: Object, K: BookName<O::Alloc>, W: Wait>(
+fn call_ten<O: Object, K: BookName<O::Alloc>, W: Wait>(
     rt: &W,
     alloc: O::Alloc,
     host: &Host<O, K>,
@@ -78,26 +79,11 @@ fn try_add_ten<O: Object, K: BookName<O::Alloc>, W: Wait>(
     let port = HostPort::to(rt, host, &mut seats, plan.second)?;
     ports.push(port)?;
     let mut client = Client::new(alloc, plan.client, ports, POLLS);
-    for _ in 0..10 {
-        add(&mut client)?;
+    for lock in 0..10u8 {
+        let acquire = LockOperation::Acquire(lock, u64::from(plan.client));
+        client.until_answered(acquire.spell().as_slice(), TRIES)?;
     }
     Ok(())
-}
-
-/// Adds 1. A call that no node has answered is tried anew, under the same number, so that it takes effect once: the nodes may still
-/// be forming their ring.
-fn add<P: Port>(client: &mut Client<P>) -> Result<(), Fault> {
-    let mut fault = client.call(Counters::add(0, 1).as_slice()).err();
-    for _ in 0..TRIES {
-        if fault != Some(Fault::NoAnswer) {
-            break;
-        }
-        fault = client.again().err();
-    }
-    match fault {
-        Some(fault) => Err(fault),
-        None => Ok(()),
-    }
 }
 
 /// Two of the host's seats.
@@ -119,7 +105,7 @@ fn two_of<O: Object, K: BookName<O::Alloc>>(
     Ok(two)
 }
 
-/// The nodes run, and both clients add, all in threads, of which none is left afterwards. The nodes rest where there is nothing to
+/// The nodes run, and both clients ask, all in threads, of which none is left afterwards. The nodes rest where there is nothing to
 /// do: at full speed an idle ring would fill the book within seconds.
 fn run<O: Object + Send, K: BookName<O::Alloc> + Send + Sync, W: Threads + Wait + Sync>(
     rt: &W,
@@ -144,10 +130,10 @@ where
         {
             let one = move ||
                 requires { All (IsAt host.now) ones.items }
-            { add_ten(rt, alloc, host, ones, CLIENT_1, left) };
+            { ask_for_ten(rt, alloc, host, ones, CLIENT_1, left) };
             let other = move ||
                 requires { All (IsAt host.now) others.items }
-            { add_ten(rt, alloc, host, others, CLIENT_2, left) };
+            { ask_for_ten(rt, alloc, host, others, CLIENT_2, left) };
             if scope.spawn(one).is_err() || scope.spawn(other).is_err() {
                 host.close();
             }
@@ -175,17 +161,17 @@ where
     Ok(order.len())
 }
 
-/// The same of counters.
+/// The same of lock tables.
 fn counted<W: Threads + Wait + Sync>(rt: &W, alloc: Global) -> Result<usize, Fault> {
-    let opening = Opening::<Counters>::new(alloc, Fixed::new(3)?)?;
-    count::<Counters, Brand, W>(rt, alloc, opening)
+    let opening = Opening::<Locks>::new(alloc, Fixed::new(3)?)?;
+    count::<Locks, Brand, W>(rt, alloc, opening)
 }
 
 /// Prints how many calls the one order has.
 pub fn tell<R: AllocGlobal + Print + Threads + Wait + Sync>(rt: &R) -> io::Result<()> {
     match counted(rt, rt.alloc()) {
         Ok(count) => {
-            println!(rt; "Two clients add 1 ten times each: the one order has {count} calls.")
+            println!(rt; "Two clients ask for ten locks each: the one order has {count} calls.")
         }
         Err(fault) => println!(rt; "{fault}"),
     }

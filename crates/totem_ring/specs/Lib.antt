@@ -10,3 +10,4 @@ pub use Rattle.ring_typed.specs.Reads
 pub use Rattle.ring_typed.specs.Table
 pub use Rattle.ring_typed.specs.Typed
 pub mod Types
+pub mod Words

@@ -12,6 +12,10 @@
 //! | replicate an object of one's own | [`Object`], made of [`Keyed`], [`Table`] and [`reply_of`]; `docs/TUTORIAL.md` makes one |
 //! | run ring cores without objects, where virtual synchrony is all that is wanted | [`Rings`], by its [`RingEvent`]s |
 //! | test that one order explains what was replied | [`is_linearization`] |
+//! | say operations of an object of one's own in scripts | [`Vocabulary`], by [`Form`]s; or [`NoWords`], where their bytes do |
+//! | make a script of one's own object by a seed | [`made_script_by`], [`generate_by`] |
+//! | run a script of one's own object with a stop and a cut of each node before each event, and check all that | [`sweep_of`] |
+//! | see what each event of such a script did | [`trace_of`], with the words of replies as [`Replies`] |
 //!
 //! Nodes on threads of their own are in `totem_threads`, which passes on all that is here.
 //!
@@ -34,10 +38,14 @@ pub use ring_order_proof::fit_laws::node_fits_law;
 pub use ring_order_proof::laws::linear_law;
 pub use ring_payload::Call;
 pub use ring_runs::{RingEvent, Rings};
+pub use ring_script::{Argument, Form, NoWords, ShelfWords, Vocabulary};
+pub use ring_script_maker::{generate_by, made_script_by};
 pub use ring_session::{Answer, Answered, Ticket};
+pub use ring_sweep::sweep_of;
 pub use ring_things::{
     Counters, Names, Operation, Outcome, Place, Queue, Registers, Replied, Shelf, ShelfOperation,
 };
+pub use ring_trace::{Format, Replies, ReplyForm, Selection, TraceOptions, trace_of};
 pub use ring_typed::{Keyed, Table, done, done_with, refused_with, reply_of};
 pub use ring_wire::{Frame, decode_frame};
 pub use ring_world::{Event, Item, Pump, Told, World, stopped_for_memory_law};

@@ -9,13 +9,16 @@
 #![tactic(auto)]
 
 pub use ring_book::{Book, BookName, Opening};
+pub use ring_explore::{Plan, explore_of};
 pub use ring_host::{Gate, GatePlace, Gauge, Host, HostTicket, Open, Paced, Seat, Stir, Turn};
 pub use ring_host_port::HostPort;
 pub use totem_ring::{
-    Answer, Answered, Asked, Call, Client, Counters, Driver, Event, Fault, Fixed, Frame, Input,
-    Item, Keyed, Kind, Letter, MOST_PROCESSORS, Names, Network, Node, Object, Operation, Outcome,
-    Outs, Place, Port, Proc, ProcSet, Pump, Queue, Registers, Replied, Reply, RingEvent, RingId,
-    Rings, Sent, Shared, Shelf, ShelfOperation, Short, State, Table, Ticket, Told, World,
-    WorldPort, decode_frame, done, done_with, is_linearization, linear_law, node_fits_law,
-    object_law, refused_with, reply_of, stopped_for_memory_law,
+    Answer, Answered, Argument, Asked, Call, Client, Counters, Driver, Event, Fault, Fixed, Form,
+    Format, Frame, Input, Item, Keyed, Kind, Letter, MOST_PROCESSORS, Names, Network, NoWords,
+    Node, Object, Operation, Outcome, Outs, Place, Port, Proc, ProcSet, Pump, Queue, Registers,
+    Replied, Replies, Reply, ReplyForm, RingEvent, RingId, Rings, Selection, Sent, Shared, Shelf,
+    ShelfOperation, ShelfWords, Short, State, Table, Ticket, Told, TraceOptions, Vocabulary, World,
+    WorldPort, decode_frame, done, done_with, generate_by, is_linearization, linear_law,
+    made_script_by, node_fits_law, object_law, refused_with, reply_of, stopped_for_memory_law,
+    sweep_of, trace_of,
 };

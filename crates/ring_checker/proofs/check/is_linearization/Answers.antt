@@ -4,18 +4,22 @@ use Rattle.std.proofs.lemmas.List.{take_at}
 use Rattle.ring_checker.specs.Checks.{ArePlaces, AreRight}
 use Rattle.ring_rules.specs.Histories.{IsLinearization}
 use Rattle.ring_checker.proofs.Checks.{explains-issued, explains-not_issued}
+use Rattle.ring_checker.proofs.Indexes.{found_numbered, not_found}
 use Rattle.ring_checker.proofs.check.is_linearization.Goals as goal
 use Rattle.ring_checker.proofs.check.is_linearization.Goals.{then-are_issued_before, else-are_issued_before}
 
-pub index_of-requires : goal.index_of-requires
-index_of-requires g c = c.in_ok-numbered.ensures.ok.0 c.if-not-numbered.false
+pub returns-in_default-clause-ok : goal.returns-in_default-clause-ok
+returns-in_default-clause-ok g c = (
+  λ so. absurd (cc so),
+  λ linear. absurd (not_found _ _ c.in_ok-found.ensures.numbered c.in_default.is linear.numbered),
+)
 
 pub returns-clause-ok : goal.returns-clause-ok
 returns-clause-ok g c =
     let order = c.args.order.now in
     let history = c.args.history.now in
     let places = c.deref.result.now in
-    let numbered = c.in_ok-numbered.ensures.ok.0 c.if-not-numbered.false in
+    let numbered = found_numbered _ _ _ c.in_ok-found.ensures.numbered c.in-Some.is in
     let noted = c.note_issues.new.places in
     let old = c.in_ok-places.places in
     let many : length noted ≡ old.len = omega (arith, c.note_issues.ensures.many, c.in_ok-places.ensures.ok.many, old.ok.0) in

@@ -5,27 +5,27 @@ use Rattle.ring_checker.proofs.Indexes.{place-none, place-other, place-found}
 use Rattle.ring_checker.proofs.index.place_in.Goals as goal
 
 pub returns-in_default : goal.returns-in_default
-returns-in_default g c = place-none c.args.order.now c.args.index.now c.args.call.now c.requires (sym c.in_default.ensures.value)
+returns-in_default g c = place-none c.args.order.now c.args.index.now c.args.call.now c.requires (sym c.in_default.ensures)
 
 pub offset_bounds-order-place : goal.offset_bounds-order-place
 offset_bounds-order-place g c =
     let call = c.args.call.now in
-    let there = c.requires.found (call.client, call.number) c.in-Some.place.now (sym c.in-Some.ensures.value) in
-    omega (arith, slice_get_within c.args.order.now c.in-Some.place.now there.0 there.2)
+    let there = c.requires.found (call.client, call.number) c.in-Some.place (sym c.in-Some.ensures) in
+    omega (arith, slice_get_within c.args.order.now c.in-Some.place there.0 there.2)
 
 pub bounds-order-place : goal.bounds-order-place
 bounds-order-place g c =
     let call = c.args.call.now in
-    let there = c.requires.found (call.client, call.number) c.in-Some.place.now (sym c.in-Some.ensures.value) in
-    slice_get_within c.args.order.now c.in-Some.place.now there.0 there.2
+    let there = c.requires.found (call.client, call.number) c.in-Some.place (sym c.in-Some.ensures) in
+    slice_get_within c.args.order.now c.in-Some.place there.0 there.2
 
 pub returns-then-is_same : goal.returns-then-is_same
 returns-then-is_same g c =
     let order = c.args.order.now in
     let call = c.args.call.now in
-    let place = c.in-Some.place.now in
+    let place = c.in-Some.place in
     let other = c.index-order-place.result in
-    let there = c.requires.found (call.client, call.number) place (sym c.in-Some.ensures.value) in
+    let there = c.requires.found (call.client, call.number) place (sym c.in-Some.ensures) in
     let at = slice_get_read order (length order) place other refl (slice_get_within order place there.0 there.2) c.index-order-place.is in
     place-found order c.args.index.now place call other c.requires at (sym c.is_same.ensures ∙ c.if-is_same.true)
 
@@ -33,9 +33,9 @@ pub returns-else-is_same : goal.returns-else-is_same
 returns-else-is_same g c =
     let order = c.args.order.now in
     let call = c.args.call.now in
-    let place = c.in-Some.place.now in
+    let place = c.in-Some.place in
     let other = c.index-order-place.result in
-    let is = sym c.in-Some.ensures.value in
+    let is = sym c.in-Some.ensures in
     let there = c.requires.found (call.client, call.number) place is in
     let at = slice_get_read order (length order) place other refl (slice_get_within order place there.0 there.2) c.index-order-place.is in
     place-other order c.args.index.now place call other c.requires is at (sym c.is_same.ensures ∙ c.if-is_same.false)

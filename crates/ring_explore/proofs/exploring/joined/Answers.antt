@@ -1,14 +1,17 @@
-use Rattle.std.proofs.Common.{◌≡◌, ◌≤◌, ◌+◌, max, ℕ, length, refl, sym, ap, subst, Option, ◌++◌, ◌∷◌, [], ◌∙◌, arith}
+use Rattle.std.proofs.Common.{◌≤◌, ◌+◌, max, ℕ, length, sym, subst, Option, ◌∙◌, arith}
 use Rattle.std.proofs.lemmas.Iterator.Adapters.{YieldsList-from_vec}
 use Rattle.std.proofs.lemmas.Iterator.Consumers.{YieldsList-turn, YieldsList-end}
 use Rattle.ring_explore.specs.declared.found.Found.{Found}
-use Rattle.ring_explore.specs.Explored.{AreTried, seeds_in, share_begin}
+use Rattle.ring_shares.specs.Shares.{share_begin}
+use Rattle.ring_shares.proofs.Sharing.{found_of, one_longer, shares_end}
+use Rattle.ring_explore.specs.Explored.{AreTried, seeds_in}
 use Rattle.ring_explore.specs.Tried.{IsTried}
-use Rattle.ring_explore.proofs.Sharing.{tried_share, found_of, one_longer, shares_end}
+use Rattle.ring_explore.proofs.Sharing.{tried_share}
 use Rattle.ring_explore.proofs.exploring.joined.Goals as goal
 
 pub loop-part-preserved : goal.loop-part-preserved
 loop-part-preserved g c =
+    let IsT = IsTried g.O.Object.sequential g.V.Vocabulary.forms in
     let begun = c.into_iter-part-iterator.ensures.into_iter_gives in
     let parts = c.args.parts in
     let turn = YieldsList-turn (YieldsList-from_vec parts.items begun.0 (begun.1 ∙ parts.ok.0)) c.loop-part.yielded
@@ -22,14 +25,15 @@ loop-part-preserved g c =
     let len = parts.ok.0 in
     let given = c.requires.each k c.in-Some.part (omega (arith, less, all, len)) in
     let found = found_of c.in-Some.part _ c.in_ok-found.found
-    (λ (f : Found). AreTried (IsTried g.O.Object.sequential) (first + share_begin many shares k) (first + share_begin many shares (k + 1)) f.illegal) turn.1 c.in_ok-found.was given in
-    let more = tried_share (IsTried g.O.Object.sequential) first many shares k c.loop-part.all.illegal c.in_ok-found.found.illegal c.loop-part.invariant found in
+    (λ (f : Found). AreTried IsT (first + share_begin many shares k) (first + share_begin many shares (k + 1)) f.illegal) turn.1 c.in_ok-found.was given in
+    let more = tried_share IsT first many shares k c.loop-part.all.illegal c.in_ok-found.found.illegal c.loop-part.invariant found in
     let next = one_longer c.loop-part.yielded c.in-Some.part in
-    subst (λ (n : ℕ). AreTried (IsTried g.O.Object.sequential) first (first + share_begin many shares n) c.add.new.self.illegal) next
-    (subst (λ (f : Option ℕ). AreTried (IsTried g.O.Object.sequential) first (first + share_begin many shares (k + 1)) f) (sym c.add.ensures) more)
+    subst (λ (n : ℕ). AreTried IsT first (first + share_begin many shares n) c.add.new.self.illegal) next
+    (subst (λ (f : Option ℕ). AreTried IsT first (first + share_begin many shares (k + 1)) f) (sym c.add.ensures) more)
 
 pub returns : goal.returns
 returns g c =
+    let IsT = IsTried g.O.Object.sequential g.V.Vocabulary.forms in
     let begun = c.into_iter-part-iterator.ensures.into_iter_gives in
     let parts = c.args.parts in
     let ended = YieldsList-end (YieldsList-from_vec parts.items begun.0 (begun.1 ∙ parts.ok.0)) c.loop-part.yielded
@@ -40,5 +44,5 @@ returns g c =
     let all = c.requires.len in
     let len = parts.ok.0 in
     let most : max c.args.shares 1 ≤ length c.loop-part.yielded = omega (arith, whole, all, len) in
-    subst (λ (n : ℕ). AreTried (IsTried g.O.Object.sequential) first (first + n) c.loop-part.all.illegal)
+    subst (λ (n : ℕ). AreTried IsT first (first + n) c.loop-part.all.illegal)
     (shares_end many c.args.shares (length c.loop-part.yielded) most) c.loop-part.invariant

@@ -6,4 +6,4 @@ use Rattle.ring_explore.proofs.exploring.print_found.Goals as goal
 pub returns-in_ok-print_totals-in-None-clause-legal : goal.returns-in_ok-print_totals-in-None-clause-legal
 returns-in_ok-print_totals-in-None-clause-legal g c =
     let plan = c.args.plan.now in
-    λ is. subst (AreTried (IsTried g.T.Object.sequential) plan.first (plan.first + seeds_in plan.first plan.last)) c.in-None.is c.requires
+    λ is. subst (AreTried (IsTried g.T.Object.sequential g.V.Vocabulary.forms) plan.first (plan.first + seeds_in plan.first plan.last)) c.in-None.is c.requires

@@ -1,12 +1,14 @@
-use Rattle.std.proofs.Common.{◌≡◌, ◌≤◌, ◌<◌, ◌+◌, ℕ, Option, sym, ap, subst, ◌∙◌, arith}
-use Rattle.ring_explore.specs.Explored.{AreTried, seeds_in, share_begin}
+use Rattle.std.proofs.Common.{◌≡◌, ◌+◌, ℕ, Option, sym, ap, subst, ◌∙◌, arith}
+use Rattle.ring_shares.specs.Shares.{share_begin}
+use Rattle.ring_shares.proofs.Sharing.{share_grows, next_begin}
+use Rattle.ring_explore.specs.Explored.{AreTried, seeds_in}
 use Rattle.ring_explore.specs.Tried.{IsTried}
-use Rattle.ring_explore.proofs.Sharing.{tried_next, tried_more, share_grows, next_begin}
+use Rattle.ring_explore.proofs.Sharing.{tried_next, tried_more}
 use Rattle.ring_explore.proofs.exploring.try_share.Goals as goal
 
 pub returns-then-is_some : goal.returns-then-is_some
 returns-then-is_some g c =
-    let IsT = IsTried g.O.Object.sequential in
+    let IsT = IsTried g.O.Object.sequential g.V.Vocabulary.forms in
     let plan = c.args.plan.now in
     let first = plan.first in
     let many = seeds_in first plan.last in
@@ -29,7 +31,7 @@ returns-then-is_some g c =
 
 pub loop-place-preserved : goal.loop-place-preserved
 loop-place-preserved g c =
-    let IsT = IsTried g.O.Object.sequential in
+    let IsT = IsTried g.O.Object.sequential g.V.Vocabulary.forms in
     let plan = c.args.plan.now in
     let first = plan.first in
     let many = seeds_in first plan.last in
@@ -46,7 +48,7 @@ loop-place-preserved g c =
 
 pub returns : goal.returns
 returns g c =
-    let IsT = IsTried g.O.Object.sequential in
+    let IsT = IsTried g.O.Object.sequential g.V.Vocabulary.forms in
     let plan = c.args.plan.now in
     let first = plan.first in
     let many = seeds_in first plan.last in

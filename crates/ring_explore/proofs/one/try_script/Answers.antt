@@ -7,6 +7,6 @@ use Rattle.ring_explore.proofs.one.try_script.Goals as goal
 pub returns : goal.returns
 returns g c =
     let done = c.in_ok-take.ensures in
-    found_tried g.O.Object.sequential c.args.script c.args.seed c.take.new.self.run done.0 c.found.result
+    found_tried g.O.Object.sequential g.V.Vocabulary.forms c.args.script c.args.seed c.take.new.self.run done.0 c.found.result
     (subst (λ (r : RunView Global). Runs g.O.Object.sequential c.args.script.lines.items r c.take.new.self.run done.0) c.in_ok-seen.ensures done.1)
     c.found.ensures

@@ -10,7 +10,7 @@ returns-in-Ok-clause-next g c =
     let next = rw c.in-Ok-Some.field-0-is at c.in-Ok-Some.ensures.next in
     let taken = rw c.as_slice.ensures.value at (c.in-Ok-true.ensures.taken is) in
     let told = rw c.clear.ensures.items at taken in (
-      record { kind = c.in-Ok-Some.kind; bytes = c.read_record.new.bytes.items },
+      record { kind = c.in-Ok-Some.kind; bytes = c.read_record.new.bytes.items; short = next.1 },
       next.0,
       written_out _ _ _ _ told (rw c.as_slice-2.ensures.value at c.in-Ok.ensures),
       omega (arith, c.saturating_add.ensures, c.len.ensures),

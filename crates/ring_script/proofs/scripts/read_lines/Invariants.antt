@@ -6,8 +6,8 @@ use Rattle.ring_script.proofs.scripts.read_lines.Given as goal
 -- what was read, and then what the lines that are left ask for, is what all of them ask for
 abbrev pub invariant-loop-number : goal.invariant-loop-number
 invariant-loop-number g l =
-    behind (map numbered_by l.asked.items) (asked_in l.nodes l.lines.before l.lines.lines)
-    ≡ asked_in l.nodes l.initial.lines.before l.initial.lines.lines
+    behind (map numbered_by l.asked.items) (asked_in g.V.Vocabulary.forms l.nodes l.lines.before l.lines.lines)
+    ≡ asked_in g.V.Vocabulary.forms l.nodes l.initial.lines.before l.initial.lines.lines
 
 abbrev pub decreases-loop-number : goal.decreases-loop-number
 decreases-loop-number g l = length l.lines.lines
