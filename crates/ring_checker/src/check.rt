@@ -8,7 +8,7 @@ ghost use Rattle.ring_checker.specs.Checks.{IsIndexOf, ArePlaces, IsIssuedBefore
 ghost use Rattle.ring_checker.specs.Checks.{IsRightAt, IsRightReply, IsRightItem, AreRight};
 ghost use Rattle.ring_rules.specs.Histories.{IsLinearization};
 
-use crate::index::{Index, index_of, place_in};
+use crate::index::{Index, index_of, place_near};
 use ring_base::Fault;
 use ring_object::{Object, Reply};
 use ring_payload::Call;
@@ -80,8 +80,9 @@ fn note_issues<O: Object>(
     requires unissued { ArePlaces O.sequential order.now [] (length order.now) places.old }
     ensures { ArePlaces O.sequential order.now history.now (length order.now) places.new }
 {
+    let mut next = 0;
     for (k, item) in history.iter().enumerate() {
-        note_issue::<O>(order, index, k, item, places);
+        note_issue::<O>(order, index, &mut next, k, item, places);
     }
 }
 
@@ -89,6 +90,7 @@ fn note_issues<O: Object>(
 fn note_issue<O: Object>(
     order: &[Call<O::Alloc>],
     index: &Index<O::Alloc>,
+    next: &mut usize,
     k: usize,
     item: &Item<O::Alloc>,
     places: &mut [Place],
@@ -100,7 +102,7 @@ fn note_issue<O: Object>(
         → ArePlaces O.sequential order.now (past ++ item.now ∷ []) (length order.now) places.new }
 {
     match item {
-        Item::Issue(call) => note_call::<O>(order, index, k, call, places),
+        Item::Issue(call) => note_call::<O>(order, index, next, k, call, places),
         Item::Reply(_, _) => {}
     }
 }
@@ -109,6 +111,7 @@ fn note_issue<O: Object>(
 fn note_call<O: Object>(
     order: &[Call<O::Alloc>],
     index: &Index<O::Alloc>,
+    next: &mut usize,
     k: usize,
     call: &Call<O::Alloc>,
     places: &mut [Place],
@@ -119,7 +122,7 @@ fn note_call<O: Object>(
         → ArePlaces O.sequential order.now past (length order.now) places.old
         → ArePlaces O.sequential order.now (past ++ Issue call.now ∷ []) (length order.now) places.new }
 {
-    let Some(at) = place_in(order, index, call) else {
+    let Some(at) = place_near(order, index, next, call) else {
         return;
     };
     let Place { issued, reply } = places[at];
@@ -145,9 +148,10 @@ fn are_right<A: Allocator + Copy>(
     ensures { IsTrue result ↔ AreRight order.now places.now history.now }
 {
     let mut front = 0;
+    let mut next = 0;
     for (k, item) in history.iter().enumerate() {
         front = front_before(places, front, k);
-        if !is_right(order, index, &places[..front], item) {
+        if !is_right(order, index, &mut next, &places[..front], item) {
             return false;
         }
     }
@@ -172,6 +176,7 @@ fn front_before(places: &[Place], from: usize, k: usize) -> usize
 fn is_right<A: Allocator + Copy>(
     order: &[Call<A>],
     index: &Index<A>,
+    next: &mut usize,
     issued: &[Place],
     item: &Item<A>,
 ) -> bool
@@ -180,7 +185,7 @@ fn is_right<A: Allocator + Copy>(
 {
     match item {
         Item::Issue(_) => true,
-        Item::Reply(call, reply) => is_right_reply(order, index, issued, call, reply),
+        Item::Reply(call, reply) => is_right_reply(order, index, next, issued, call, reply),
     }
 }
 
@@ -188,6 +193,7 @@ fn is_right<A: Allocator + Copy>(
 fn is_right_reply<A: Allocator + Copy>(
     order: &[Call<A>],
     index: &Index<A>,
+    next: &mut usize,
     issued: &[Place],
     call: &Call<A>,
     reply: &Reply,
@@ -195,7 +201,7 @@ fn is_right_reply<A: Allocator + Copy>(
     requires { IsIndexOf order.now (length order.now) index.now }
     ensures { IsTrue result ↔ IsRightReply order.now issued.now call.now reply.now }
 {
-    match place_in(order, index, call) {
+    match place_near(order, index, next, call) {
         Some(at) => is_right_at(issued, at, reply),
         None => false,
     }

@@ -4,7 +4,7 @@ ghost use Rattle.std.specs.Prelude.{◌≡◌, ℕ, ◌+◌, ◌∷◌, [], ◌+
 ghost use Rattle.std.specs.BTreeMap.{get};
 ghost use Rattle.std.specs.Ordering.{nat_cmp};
 ghost use Rattle.ring_base.specs.declared.fault.Fault.TheVariants.{Memory};
-ghost use Rattle.ring_session.specs.Deduplicated.{IsNumbered};
+ghost use Rattle.ring_session.specs.Deduplicated.{StandsAt, IsNumbered};
 ghost use Rattle.ring_session.specs.SessionAnswer.{is_same};
 ghost use Rattle.ring_checker.specs.Checks.{place_in, place_at, places_of, AddsPlace, IsIndexOf};
 
@@ -99,8 +99,51 @@ fn is_next(last: u64, number: u64) -> bool
     number > 0 && number - 1 == last
 }
 
+/// As [`place_in`]. The next place is tried before the index is asked, since calls mostly come as they stand in the order. Then the
+/// place behind the found one is next.
+pub fn place_near<A: Allocator + Copy>(
+    order: &[Call<A>],
+    index: &Index<A>,
+    next: &mut usize,
+    call: &Call<A>,
+) -> Option<usize>
+    requires { IsIndexOf order.now (length order.now) index.now }
+    ensures { result ≡ place_in order.now call.now }
+{
+    let place = place_by(order, index, *next, call)?;
+    *next = place.saturating_add(1);
+    Some(place)
+}
+
+/// As [`place_in`]. This place is tried before the index is asked.
+fn place_by<A: Allocator + Copy>(
+    order: &[Call<A>],
+    index: &Index<A>,
+    next: usize,
+    call: &Call<A>,
+) -> Option<usize>
+    requires { IsIndexOf order.now (length order.now) index.now }
+    ensures { result ≡ place_in order.now call.now }
+{
+    if is_at(order, next, call) {
+        Some(next)
+    } else {
+        place_in(order, index, call)
+    }
+}
+
+/// Whether the call stands at this place of the order.
+fn is_at<A: Allocator + Copy>(order: &[Call<A>], place: usize, call: &Call<A>) -> bool
+    ensures { IsTrue result → StandsAt order.now place call.now }
+{
+    match order.get(place) {
+        Some(other) => is_same(call, other),
+        None => false,
+    }
+}
+
 /// Where the call first stands in the order, if it does.
-pub fn place_in<A: Allocator + Copy>(
+fn place_in<A: Allocator + Copy>(
     order: &[Call<A>],
     index: &Index<A>,
     call: &Call<A>,

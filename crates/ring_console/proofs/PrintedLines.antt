@@ -2,11 +2,11 @@
 use Rattle.std.proofs.Common.{◌≡◌, ℕ, zero, suc, ◌+◌, ◌<◌, add-one, slice_get, Option, Some, take, drop, get_or, length}
 use Rattle.std.proofs.Common.{◌++◌, List, [], ◌∷◌, inl, inr, Result, Ok, Err, refl, sym, ap, subst, ◌∙◌}
 use Rattle.std.proofs.Common.{append-nil, append_assoc}
-use Rattle.std.specs.Prelude.{IfOk, Bool, true, false}
+use Rattle.std.specs.Prelude.{IfOk, IsTrue, ◌↔◌, Bool, true, false}
 use Rattle.ring_base.specs.Group.{Group}
 use Rattle.ring_base.proofs.Rows.{drop-next}
 use Rattle.std.specs.Io.KnownBytes.{Appends}
-use Rattle.std.proofs.KnownBytes.{Appends-trans}
+use Rattle.std.proofs.KnownBytes.{Appends-nil, Appends-trans}
 use Rattle.std.proofs.lemmas.List.{take-append-drop}
 use Rattle.ring_object.specs.Operations.{Sequential}
 use Rattle.ring_script.specs.declared.line.Line.{Line}
@@ -17,8 +17,8 @@ use Rattle.ring_report.specs.declared.failure.Failure.TheVariants.{Refused, BadF
 use Rattle.ring_world.specs.Played.{Played}
 use Rattle.ring_rules.specs.declared.told.Told.{Told}
 use Rattle.ring_report.specs.Texts.{line_of}
-use Rattle.ring_console.specs.Printed.{told_text, one_text}
-use Rattle.ring_console.specs.Running.{RunView, Prints, UnlessOutput, Does, Breaks, Runs, BreaksRun, IsTextOf, IsVerdict, run_opening, legal_line, text_of}
+use Rattle.ring_console.specs.Printed.{told_text, one_text, legal_text}
+use Rattle.ring_console.specs.Running.{RunView, Prints, UnlessOutput, Does, Breaks, Runs, BreaksRun, IsTextOf, IsLegal, IsVerdict, run_opening, legal_line, text_of}
 
 -- what holds of the text holds otherwise
 pub printed_as : (old new : Option (List ℕ)) (P Q : List ℕ → Type 0) → ((text : List ℕ) → P text → Q text) → Prints old new P → Prints old new Q
@@ -145,45 +145,42 @@ pub at_true : {E : Type 0} (r : Result Bool E) (P : Bool → Type 0) → IfOk r 
 at_true (Ok b) P h e = let same : b ≡ true = cc in subst P same h
 at_true (Err x) P h e = absurd cc
 
--- a text of a run, and whether it is legal
+-- where it isn't asked for, nothing is printed of whether a run is legal
+pub unasked_line : (is_checked : Bool) (out : Option (List ℕ)) → is_checked ≡ false → Appends out out (legal_line is_checked true)
+unasked_line is_checked out unchecked = subst (λ (b : Bool). Appends out out (legal_line b true)) (sym unchecked) (Appends-nil out)
+
+-- and nothing is said against it
+pub unasked_verdict : {O A : Type 0} (object : Sequential O) (is_checked : Bool) (p : Played A)
+    → is_checked ≡ false → IsVerdict object is_checked true p
+unasked_verdict object is_checked p unchecked = subst (λ (b : Bool). IsVerdict object b true p) (sym unchecked) refl
+
+-- where it is asked for, its line is printed
+pub asked_line : (is_checked is_legal : Bool) (old new : Option (List ℕ)) → is_checked ≡ true
+    → Appends old new (line_of (legal_text is_legal)) → Appends old new (legal_line is_checked is_legal)
+asked_line is_checked is_legal old new checked p = subst (λ (b : Bool). Appends old new (legal_line b is_legal)) (sym checked) p
+
+-- and says exactly whether the run is legal
+pub asked_verdict : {O A : Type 0} (object : Sequential O) (is_checked is_legal : Bool) (p : Played A)
+    → is_checked ≡ true → (IsTrue is_legal ↔ IsLegal object p) → IsVerdict object is_checked is_legal p
+asked_verdict object is_checked is_legal p checked legal = subst (λ (b : Bool). IsVerdict object b is_legal p) (sym checked) legal
+
+-- a text of a run, and then what is printed of whether it is legal
 pub whole_text : {O A : Type 0} (object : Sequential O) (group : Group) (is_checked : Bool)
-    (lines : List (Numbered A)) (is_legal : Bool) (old mid new : Option (List ℕ)) (opening ran : RunView A) (verdict : List ℕ)
-    → opening ≡ run_opening group
-    → Prints old mid (λ text. Runs object lines opening ran text) → Appends mid new verdict
-    → verdict ≡ legal_line is_checked is_legal → IsVerdict object is_checked is_legal ran.played
-    → Prints old new (IsTextOf object group is_checked lines is_legal)
-whole_text object group is_checked lines is_legal old mid new opening ran verdict first p q is legal = record {
-  text = p.text ++ verdict;
-  appended = Appends-trans old mid new p.text verdict p.appended q;
+    (lines : List (Numbered A)) (r : Result Bool Failure) (old mid new : Option (List ℕ)) (opening ran : RunView A)
+    → opening ≡ run_opening group → Prints old mid (λ text. Runs object lines opening ran text)
+    → IfOk r (λ is_legal. Appends mid new (legal_line is_checked is_legal))
+    → IfOk r (λ is_legal. IsVerdict object is_checked is_legal ran.played)
+    → IfOk r (λ is_legal. Prints old new (IsTextOf object group is_checked lines is_legal))
+whole_text object group is_checked lines (Err failure) old mid new opening ran first p q legal = tt
+whole_text object group is_checked lines (Ok is_legal) old mid new opening ran first p q legal = record {
+  text = p.text ++ legal_line is_checked is_legal;
+  appended = Appends-trans old mid new p.text (legal_line is_checked is_legal) p.appended q;
   holds = record {
     ran = ran;
     told = p.text;
     runs = subst (λ (r : RunView _). Runs object lines r ran p.text)
         first p.holds;
     legal = legal;
-    whole = ap (λ v. p.text ++ v) is;
+    whole = refl;
   };
 }
-
--- a text of a run, of which it isn't asked whether it is legal
-pub unasked_text : {O A : Type 0} (object : Sequential O) (group : Group) (is_checked : Bool)
-    (lines : List (Numbered A)) (old mid new : Option (List ℕ)) (opening ran : RunView A)
-    → is_checked ≡ false → opening ≡ run_opening group
-    → Prints old mid (λ text. Runs object lines opening ran text) → Appends mid new []
-    → Prints old new (IsTextOf object group is_checked lines true)
-unasked_text object group is_checked lines old mid new opening ran unchecked first p q =
-    whole_text object group is_checked lines true old mid new opening ran [] first p q
-    (sym (ap (λ (b : Bool). legal_line b true) unchecked))
-    (subst (λ (b : Bool). IsVerdict object b true ran.played) (sym unchecked) refl)
-
--- a text of a run, and what was found of it
-pub asked_text : {O A : Type 0} (object : Sequential O) (group : Group) (is_checked : Bool)
-    (lines : List (Numbered A)) (is_legal : Bool) (old mid new : Option (List ℕ)) (opening ran : RunView A) (verdict : List ℕ)
-    → is_checked ≡ true → opening ≡ run_opening group
-    → Prints old mid (λ text. Runs object lines opening ran text) → Appends mid new verdict
-    → verdict ≡ legal_line true is_legal → IsVerdict object true is_legal ran.played
-    → Prints old new (IsTextOf object group is_checked lines is_legal)
-asked_text object group is_checked lines is_legal old mid new opening ran verdict checked first p q is legal =
-    whole_text object group is_checked lines is_legal old mid new opening ran verdict first p q
-    (is ∙ sym (ap (λ (b : Bool). legal_line b is_legal) checked))
-    (subst (λ (b : Bool). IsVerdict object b is_legal ran.played) (sym checked) legal)

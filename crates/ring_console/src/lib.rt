@@ -18,4 +18,4 @@ pub use ring_script::{
 };
 pub use ring_world::{Pair, World};
 pub use run::Run;
-pub use running::{Things, script, script_check};
+pub use running::{Things, script, script_check, script_of};

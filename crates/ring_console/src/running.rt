@@ -2,12 +2,12 @@
 
 ghost use Rattle.std.specs.Prelude.{◌≡◌, ℕ, ◌≤◌, ◌↔◌, List, [], Ok, OnOk, IfOk, IfErr, true, false, IsTrue};
 ghost use Rattle.std.specs.Io.Buffered.{writer_buffer, writer_contents};
-ghost use Rattle.std.specs.Io.KnownBytes.{Keeps};
+ghost use Rattle.std.specs.Io.KnownBytes.{Appends, Keeps};
 ghost use Rattle.ring_base.specs.declared.fault.Fault.TheVariants.{Memory};
 ghost use Rattle.ring_script.specs.Fits.{AreFit};
-ghost use Rattle.ring_script.specs.Scripts.{IsAllOf, AnswersInput};
+ghost use Rattle.ring_script.specs.Scripts.{IsAllOf, AnswersInputBy, AnswersInput};
 ghost use Rattle.ring_script.specs.declared.scripts.Script.{Script};
-ghost use Rattle.ring_console.specs.Running.{Prints, IsTextOf, IsLegal, IsOutputOrMemory};
+ghost use Rattle.ring_console.specs.Running.{Prints, IsTextOf, IsLegal, IsVerdict, IsOutputOrMemory, legal_line};
 
 use crate::printed::print_legal;
 use crate::run::Run;
@@ -15,7 +15,7 @@ use ring_base::Fault;
 use ring_checker::is_linearization;
 use ring_object::Object;
 use ring_report::{Failure, Lent, exit_status, report};
-use ring_script::Script;
+use ring_script::{Script, ShelfWords, Vocabulary};
 use ring_things::{Counters, Names, Queue, Registers, Shelf};
 use std::alloc::Allocator;
 use std::io::{BufWriter, Read, Write};
@@ -47,7 +47,7 @@ pub fn script<A: Allocator + Copy + Drop, R: Read, O: Write, E: Write>(
         result ≡ 0 → (script : Script A) × (bytes : List ℕ) × IsAllOf (R.remaining input.old) bytes × AnswersInput (Ok script) bytes
         × Prints (O.contents out.old) (O.contents out.new) (IsTextOf object.sequential script.nodes false script.lines.items true) }
 {
-    print_script(alloc, input, false, out, err)
+    script_of::<Things<A>, ShelfWords, R, O, E>(alloc, input, false, out, err)
 }
 
 /// As [`script`], and behind all that prints `legal yes` or `legal no`: whether the order of the run's world explains its
@@ -64,12 +64,12 @@ pub fn script_check<A: Allocator + Copy + Drop, R: Read, O: Write, E: Write>(
         result ≡ 0 → (script : Script A) × (bytes : List ℕ) × IsAllOf (R.remaining input.old) bytes × AnswersInput (Ok script) bytes
         × Prints (O.contents out.old) (O.contents out.new) (IsTextOf object.sequential script.nodes true script.lines.items true) }
 {
-    print_script(alloc, input, true, out, err)
+    script_of::<Things<A>, ShelfWords, R, O, E>(alloc, input, true, out, err)
 }
 
-/// Reads a script and runs it, with whether its run is legal behind what it prints, where that is asked for.
-fn print_script<A: Allocator + Copy + Drop, R: Read, O: Write, E: Write>(
-    alloc: A,
+/// The same of any object, as [`script`], or as [`script_check`] where that is asked for, with the words of its operations.
+pub fn script_of<T: Object, V: Vocabulary, R: Read, O: Write, E: Write>(
+    alloc: T::Alloc,
     input: &mut R,
     is_checked: bool,
     out: &mut O,
@@ -77,17 +77,16 @@ fn print_script<A: Allocator + Copy + Drop, R: Read, O: Write, E: Write>(
 ) -> u8
     ensures status { result ≤ 1 }
     ensures quiet { result ≡ 0 → Keeps (E.contents err.old) (E.contents err.new) }
-    ensures printed { let object = ⟦<Things<A> as Object>⟧ in
-        result ≡ 0 → (script : Script A) × (bytes : List ℕ) × IsAllOf (R.remaining input.old) bytes × AnswersInput (Ok script) bytes
-        × Prints (O.contents out.old) (O.contents out.new) (IsTextOf object.sequential script.nodes is_checked script.lines.items true) }
+    ensures printed { result ≡ 0 → (script : Script T.Alloc) × (bytes : List ℕ) × IsAllOf (R.remaining input.old) bytes × AnswersInputBy V.forms (Ok script) bytes
+        × Prints (O.contents out.old) (O.contents out.new) (IsTextOf T.sequential script.nodes is_checked script.lines.items true) }
 {
-    let script = match Script::read(alloc, input) {
+    let script = match Script::read_by::<V, R>(alloc, input) {
         Ok(script) => script,
         Err(fault) => return report(err, Failure::from(fault)),
     };
     match BufWriter::new(alloc, Lent { writer: out }) {
         Ok(mut buffer) => {
-            let done = run_script(alloc, script, is_checked, &mut buffer);
+            let done = Run::<T>::print_script(alloc, script, is_checked, &mut buffer);
             let status = verdict_status(&mut buffer, err, done);
             let (Lent { writer }, _) = buffer.into_parts();
             // No effect at run time. The proof reads what `out` holds from this use.
@@ -98,28 +97,47 @@ fn print_script<A: Allocator + Copy + Drop, R: Read, O: Write, E: Write>(
     }
 }
 
-/// Runs the script, and prints whether its run is legal, where that is asked for. Answers what it printed of that, and true
-/// where it isn't asked for. It ends before the script for one of two reasons alone: `Output`, or refused with `Memory`.
-fn run_script<A: Allocator + Copy + Drop, W: Write>(
-    alloc: A,
-    script: Script<A>,
-    is_checked: bool,
-    out: &mut W,
-) -> Result<bool, Failure>
-    requires { AreFit script.lines.items }
-    ensures ok { let object = ⟦<Things<A> as Object>⟧ in
-        IfOk result (λ is_legal. Prints (W.contents out.old) (W.contents out.new)
-        (IsTextOf object.sequential script.nodes is_checked script.lines.items is_legal)) }
-    ensures failed { IfErr result IsOutputOrMemory }
-{
-    let mut run = Run::<Things<A>>::new(alloc, script.nodes)?;
-    run.take(script, out)?;
-    if !is_checked {
-        return Ok(true);
+// Functions of the type, and none beside it: in them the parameters of types stand in the places that they have in `Run::take`. Where
+// they stand in others, the checker compares the types of that call down to their last field, and its steps end.
+impl<O: Object> Run<O> {
+    /// Runs the script from the opening of its nodes, and prints whether its run is legal, where that is asked for. Answers what it
+    /// printed of that, and true where it isn't asked for. It ends before the script for one of two reasons alone: `Output`, or
+    /// refused with `Memory`.
+    fn print_script<W: Write>(
+        alloc: O::Alloc,
+        script: Script<O::Alloc>,
+        is_checked: bool,
+        out: &mut W,
+    ) -> Result<bool, Failure>
+        requires { AreFit script.lines.items }
+        ensures ok { IfOk result (λ is_legal. Prints (W.contents out.old) (W.contents out.new)
+            (IsTextOf O.sequential script.nodes is_checked script.lines.items is_legal)) }
+        ensures failed { IfErr result IsOutputOrMemory }
+    {
+        let mut run = Run::<O>::new(alloc, script.nodes)?;
+        run.take(script, out)?;
+        run.print_verdict(alloc, is_checked, out)
     }
-    let is_legal = is_legal(alloc, &run)?;
-    print_legal(out, is_legal)?;
-    Ok(is_legal)
+
+    /// Prints whether the run is legal, where that is asked for. Answers what it printed of that, and true where it isn't asked
+    /// for. Otherwise `Output`, or refused with `Memory`.
+    fn print_verdict<W: Write>(
+        &self,
+        alloc: O::Alloc,
+        is_checked: bool,
+        out: &mut W,
+    ) -> Result<bool, Failure>
+        ensures line { IfOk result (λ is_legal. Appends (W.contents out.old) (W.contents out.new) (legal_line is_checked is_legal)) }
+        ensures verdict { IfOk result (λ is_legal. IsVerdict O.sequential is_checked is_legal self.now.played) }
+        ensures failed { IfErr result IsOutputOrMemory }
+    {
+        if !is_checked {
+            return Ok(true);
+        }
+        let is_legal = is_legal(alloc, self)?;
+        print_legal(out, is_legal)?;
+        Ok(is_legal)
+    }
 }
 
 /// Whether the order of a run's world explains its history. Or `Memory`.

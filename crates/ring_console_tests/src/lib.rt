@@ -4,6 +4,8 @@
 #![tactic(auto)]
 
 #[cfg(test)]
+mod any_object;
+#[cfg(test)]
 mod explained;
 #[cfg(test)]
 mod failures;

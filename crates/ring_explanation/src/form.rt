@@ -1,4 +1,4 @@
-//! The forms of lines, by their first words, and of operations.
+//! The forms of lines, by their first words.
 
 use crate::part::Part;
 
@@ -10,7 +10,7 @@ pub(crate) enum Rest {
     Groups,
 }
 
-/// The words of a line or of an operation, behind its first one.
+/// The words of a line, behind its first one.
 #[derive(Clone, Copy)]
 pub(crate) struct Form {
     pub(crate) parts: &'static [Part],
@@ -20,11 +20,6 @@ pub(crate) struct Form {
 /// The first words of lines that ask for something.
 pub(crate) const LINES: [&str; 9] = [
     "call", "deliver", "timeout", "noise", "stop", "cut", "heal", "pump", "show",
-];
-
-/// The first words of operations.
-pub(crate) const OPERATIONS: [&str; 12] = [
-    "get", "put", "cas", "add", "read", "push", "pop", "length", "insert", "remove", "has", "raw",
 ];
 
 /// The form of a line that begins with this word, if there is one.
@@ -39,21 +34,6 @@ pub(crate) fn line_form(word: &str) -> Option<Form> {
         "cut" => made_of(&[], Rest::Groups),
         "heal" | "show" => made_of(&[], Rest::Nothing),
         "pump" => made_of(&[Turns], Rest::Nothing),
-        _ => None,
-    }
-}
-
-/// The form of an operation that is called by this word, if there is one.
-pub(crate) fn operation_form(word: &str) -> Option<Form> {
-    use Part::{Key, Name, Operation, Value};
-    match word {
-        "get" | "read" => made_of(&[Key], Rest::Nothing),
-        "put" | "add" => made_of(&[Key, Value], Rest::Nothing),
-        "cas" => made_of(&[Key, Value, Value], Rest::Nothing),
-        "push" => made_of(&[Value], Rest::Nothing),
-        "pop" | "length" => made_of(&[], Rest::Nothing),
-        "insert" | "remove" | "has" => made_of(&[Name], Rest::Nothing),
-        "raw" => made_of(&[Operation], Rest::Nothing),
         _ => None,
     }
 }

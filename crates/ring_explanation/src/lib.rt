@@ -8,8 +8,9 @@ mod form;
 mod groups;
 mod line;
 mod nearest;
+mod operation;
 mod part;
 mod reason;
 mod shown;
 
-pub use reason::reason_in;
+pub use reason::{reason_by, reason_in};

@@ -1,12 +1,13 @@
 //! Why a line is at fault.
 
-use crate::form::{Form, LINES, OPERATIONS, Rest, line_form, operation_form};
+use crate::form::{Form, LINES, Rest, line_form};
 use crate::groups::groups_reason;
 use crate::line::{Placed, Stand, line_at};
 use crate::nearest::{Meant, nearest};
+use crate::operation::operation_reason;
 use crate::part::{Part, TIMEOUTS, Wanted};
 use crate::shown::Shown;
-use ring_script::{Script, ScriptFault};
+use ring_script::{Script, ScriptFault, ShelfWords, Vocabulary};
 use std::alloc::{AllocError, Global};
 use std::str::Split;
 
@@ -14,25 +15,30 @@ use std::str::Split;
 const LONGEST_TEXT: usize = 1_048_576;
 
 /// What is found wrong, if anything is.
-type Reason = Result<Option<String>, AllocError>;
+pub(crate) type Reason = Result<Option<String>, AllocError>;
 
 /// Why the text is no script, in words: what stands in the line that `Script::parse` finds at fault, and what was expected there.
 /// None where it is a script. Memory refused is the only refusal.
 pub fn reason_in(alloc: Global, text: &[u8]) -> Result<Option<String>, AllocError> {
+    reason_by::<ShelfWords>(alloc, text)
+}
+
+/// As [`reason_in`], by the words of another object's operations.
+pub fn reason_by<V: Vocabulary>(alloc: Global, text: &[u8]) -> Result<Option<String>, AllocError> {
     if text.len() > LONGEST_TEXT {
         return said(alloc, "the text is longer than 1048576 bytes");
     }
-    match Script::parse(alloc, text) {
+    match Script::parse_by::<V>(alloc, text) {
         Ok(_) => Ok(None),
-        Err(ScriptFault::AtLine(line)) => Ok(Some(line_reason(alloc, text, line)?)),
+        Err(ScriptFault::AtLine(line)) => Ok(Some(line_reason::<V>(alloc, text, line)?)),
         Err(ScriptFault::Memory) => Err(AllocError),
     }
 }
 
 /// Why the line of this number of the text, counted from 1, is at fault.
-fn line_reason(alloc: Global, text: &[u8], line: u64) -> Result<String, AllocError> {
+fn line_reason<V: Vocabulary>(alloc: Global, text: &[u8], line: u64) -> Result<String, AllocError> {
     let found = match line_at(text, line) {
-        Some(placed) => placed_reason(alloc, placed)?,
+        Some(placed) => placed_reason::<V>(alloc, placed)?,
         None => said(
             alloc,
             "no line tells how many nodes there are: `nodes N` comes first",
@@ -45,12 +51,12 @@ fn line_reason(alloc: Global, text: &[u8], line: u64) -> Result<String, AllocErr
 }
 
 /// A reason of these words alone.
-fn said(alloc: Global, words: &str) -> Reason {
+pub(crate) fn said(alloc: Global, words: &str) -> Reason {
     Ok(Some(String::from_str(alloc, words)?))
 }
 
 /// Why a line that stands there is at fault.
-fn placed_reason(alloc: Global, placed: Placed<'_>) -> Reason {
+fn placed_reason<V: Vocabulary>(alloc: Global, placed: Placed<'_>) -> Reason {
     let Placed { line, stand } = placed;
     if let Some(byte) = line.iter().find(|byte| !byte.is_ascii()) {
         return Ok(Some(format!(in alloc;
@@ -61,7 +67,7 @@ fn placed_reason(alloc: Global, placed: Placed<'_>) -> Reason {
         return said(alloc, words);
     }
     match str::from_utf8(line) {
-        Ok(line) => words_reason(alloc, stand, line),
+        Ok(line) => words_reason::<V>(alloc, stand, line),
         Err(_) => Ok(None),
     }
 }
@@ -87,7 +93,7 @@ fn spacing_reason(line: &[u8]) -> Option<&'static str> {
 }
 
 /// Why these words are no line that may stand there.
-fn words_reason(alloc: Global, stand: Stand, line: &str) -> Reason {
+fn words_reason<V: Vocabulary>(alloc: Global, stand: Stand, line: &str) -> Reason {
     let mut words = line.split(' ');
     let Some(first) = words.next() else {
         return Ok(None);
@@ -95,7 +101,9 @@ fn words_reason(alloc: Global, stand: Stand, line: &str) -> Reason {
     match stand {
         Stand::First => first_reason(alloc, first, &mut words),
         Stand::Second(nodes) if first == "votes" => votes_reason(alloc, nodes, &mut words),
-        Stand::Second(nodes) | Stand::Later(nodes) => event_reason(alloc, nodes, first, &mut words),
+        Stand::Second(nodes) | Stand::Later(nodes) => {
+            event_reason::<V>(alloc, nodes, first, &mut words)
+        }
     }
 }
 
@@ -108,11 +116,10 @@ fn first_reason(alloc: Global, first: &str, words: &mut Split<'_, char>) -> Reas
         )?;
         return Ok(Some(reason));
     }
-    let form = Form {
-        parts: &[Part::Count],
-        rest: Rest::Nothing,
-    };
-    form_reason(alloc, 16, form, words)
+    match part_reason(alloc, 16, Part::Count, words)? {
+        Some(reason) => Ok(Some(reason)),
+        None => end_reason(alloc, words),
+    }
 }
 
 /// Why the words behind `votes` aren't the votes of so many nodes.
@@ -132,7 +139,12 @@ fn votes_reason(alloc: Global, nodes: u8, words: &mut Split<'_, char>) -> Reason
 }
 
 /// Why the words are no event.
-fn event_reason(alloc: Global, nodes: u8, first: &str, words: &mut Split<'_, char>) -> Reason {
+fn event_reason<V: Vocabulary>(
+    alloc: Global,
+    nodes: u8,
+    first: &str,
+    words: &mut Split<'_, char>,
+) -> Reason {
     match first {
         "nodes" => said(
             alloc,
@@ -143,7 +155,7 @@ fn event_reason(alloc: Global, nodes: u8, first: &str, words: &mut Split<'_, cha
             "`votes` stands there; it comes once, directly behind `nodes`",
         ),
         _ => match line_form(first) {
-            Some(form) => form_reason(alloc, nodes, form, words),
+            Some(form) => form_reason::<V>(alloc, nodes, form, words),
             None => {
                 let meant = nearest(alloc, first, &LINES)?;
                 Ok(Some(format!(in alloc;
@@ -156,13 +168,18 @@ fn event_reason(alloc: Global, nodes: u8, first: &str, words: &mut Split<'_, cha
 }
 
 /// Why the words behind the first one aren't of this form.
-fn form_reason(alloc: Global, nodes: u8, form: Form, words: &mut Split<'_, char>) -> Reason {
+fn form_reason<V: Vocabulary>(
+    alloc: Global,
+    nodes: u8,
+    form: Form,
+    words: &mut Split<'_, char>,
+) -> Reason {
     if let Some(reason) = parts_reason(alloc, nodes, form.parts, words)? {
         return Ok(Some(reason));
     }
     match form.rest {
         Rest::Nothing => end_reason(alloc, words),
-        Rest::Operation => operation_reason(alloc, nodes, words),
+        Rest::Operation => operation_reason::<V>(alloc, nodes, words),
         Rest::Groups => groups_reason(alloc, nodes, words),
     }
 }
@@ -170,18 +187,28 @@ fn form_reason(alloc: Global, nodes: u8, form: Form, words: &mut Split<'_, char>
 /// Why the next words aren't these parts.
 fn parts_reason(alloc: Global, nodes: u8, parts: &[Part], words: &mut Split<'_, char>) -> Reason {
     for part in parts {
-        match words.next() {
-            Some(word) if part.takes(nodes, word) => {}
-            Some(word) => return is_not(alloc, word, *part, nodes),
-            None => {
-                let wanted = Wanted { part: *part, nodes };
-                return Ok(Some(format!(in alloc;
-                    "the line ends where this is expected: {wanted}"
-                )?));
-            }
+        if let Some(reason) = part_reason(alloc, nodes, *part, words)? {
+            return Ok(Some(reason));
         }
     }
     Ok(None)
+}
+
+/// Why the next word isn't this part.
+pub(crate) fn part_reason(
+    alloc: Global,
+    nodes: u8,
+    part: Part,
+    words: &mut Split<'_, char>,
+) -> Reason {
+    match words.next() {
+        Some(word) if part.takes(nodes, word) => Ok(None),
+        Some(word) => is_not(alloc, word, part, nodes),
+        None => {
+            let wanted = Wanted { part, nodes };
+            Ok(Some(format!(in alloc; "the line ends where this is expected: {wanted}")?))
+        }
+    }
 }
 
 /// That the word can't stand for this part.
@@ -194,27 +221,8 @@ fn is_not(alloc: Global, word: &str, part: Part, nodes: u8) -> Reason {
     Ok(Some(format!(in alloc; "{} is not {wanted}{meant}", Shown(word))?))
 }
 
-/// Why the next words are no operation.
-fn operation_reason(alloc: Global, nodes: u8, words: &mut Split<'_, char>) -> Reason {
-    let Some(word) = words.next() else {
-        return said(alloc, "the line ends where this is expected: an operation");
-    };
-    match operation_form(word) {
-        Some(form) => {
-            if let Some(reason) = parts_reason(alloc, nodes, form.parts, words)? {
-                return Ok(Some(reason));
-            }
-            end_reason(alloc, words)
-        }
-        None => {
-            let meant = nearest(alloc, word, &OPERATIONS)?;
-            Ok(Some(format!(in alloc; "{} is no operation{meant}", Shown(word))?))
-        }
-    }
-}
-
 /// That a word is left, if one is.
-fn end_reason(alloc: Global, words: &mut Split<'_, char>) -> Reason {
+pub(crate) fn end_reason(alloc: Global, words: &mut Split<'_, char>) -> Reason {
     match words.next() {
         Some(word) => Ok(Some(format!(in alloc; "{} is a word too many", Shown(word))?)),
         None => Ok(None),

@@ -3,16 +3,16 @@
 ghost use Rattle.std.specs.Prelude.{◌≡◌, ℕ, ◌+◌, ◌↔◌, Bool, List, Ok, OnOk, IfOk, IsTrue};
 ghost use Rattle.ring_script.specs.Fits.{IsFit, AreFit};
 ghost use Rattle.ring_script.specs.Scripts.{script_by, schedule_by};
-ghost use Rattle.ring_console.specs.Running.{run_opening, Does, Pumps, Runs, IsLegal};
+ghost use Rattle.ring_console.specs.Running.{run_opening, hears, Comes, Does, Pumps, Runs, IsLegal};
 ghost use Rattle.ring_explore.specs.Explored.{AreTried, illegal_of};
 ghost use Rattle.ring_explore.specs.Tried.{IsTried};
 
 use crate::found::Found;
 use ring_base::{Fault, Fixed, Proc, RingId};
 use ring_checker::is_linearization;
-use ring_console::{Line, Run, Script, ScriptFault, Vocabulary, World};
+use ring_console::{Line, Pair, Run, Script, ScriptFault, Vocabulary, World};
 use ring_object::Object;
-use ring_rules::Told;
+use ring_rules::{Event, Told};
 use ring_script_maker::made_script_by;
 use std::alloc::{Allocator, Global};
 
@@ -56,6 +56,8 @@ struct Seen<O: Object> {
     calls: u64,
     /// The rings that were installed, each once.
     rings: Vec<RingId, O::Alloc>,
+    /// The ring that each node had when it was looked at last, before that one that is never installed.
+    last: [RingId; 16],
 }
 
 impl<O: Object> Seen<O> {
@@ -63,10 +65,15 @@ impl<O: Object> Seen<O> {
     fn new(alloc: O::Alloc, nodes: Fixed) -> Result<Seen<O>, Fault>
         ensures { IfOk result (λ seen. seen.run ≡ run_opening nodes) }
     {
+        let none = RingId {
+            seq: 0,
+            rep: Proc::new(1),
+        };
         Ok(Seen {
             run: Run::new(alloc, nodes)?,
             calls: 0,
             rings: Vec::new(alloc),
+            last: [none; 16],
         })
     }
 
@@ -112,13 +119,23 @@ impl<O: Object> Seen<O> {
         ensures { OnOk result (Pumps O.sequential turns self.old.run self.new.run) }
     {
         for _ in 0..turns {
-            let Some(pair) = self.run.first_open() else {
+            let Some(pair) = self.run.close_first() else {
                 return Ok(());
             };
-            self.run.perform(Line::Pump { turns: 1 })?;
-            self.look(pair.receiver)?;
+            self.come(pair)?;
         }
         Ok(())
+    }
+
+    /// A copy that is closed comes to its receiver, or is lost at the cut.
+    fn come(&mut self, pair: Pair) -> Result<(), Fault>
+        ensures { OnOk result (Comes O.sequential (hears self.old.run.groups pair.sender pair.receiver) pair self.old.run self.new.run) }
+    {
+        if !self.run.hears(pair.sender, pair.receiver) {
+            return Ok(());
+        }
+        self.run.happen(Event::Deliver(pair.receiver, pair.frame))?;
+        self.look(pair.receiver)
     }
 
     /// Keeps the ring that is installed at this node, if it was not seen before.
@@ -126,6 +143,11 @@ impl<O: Object> Seen<O> {
         ensures { self.new.run ≡ self.old.run }
     {
         let ring = ring_of(self.run.world(), node)?;
+        let place = usize::from(node.number()) - 1;
+        if self.last[place] == ring {
+            return Ok(());
+        }
+        self.last[place] = ring;
         if ring.seq > 0 && !self.rings.contains(&ring) {
             self.rings.push(ring)?;
         }

@@ -9,7 +9,7 @@ ghost use Rattle.ring_sweep.specs.Variants.{AreTried, AreTriedIn};
 use crate::part::{Part, try_share};
 use crate::upset::Upset;
 use ring_base::Fault;
-use ring_console::{Script, Things};
+use ring_console::Script;
 use ring_object::Object;
 use ring_shares::{Meter, round_end};
 use std::alloc::{AllocError, Global};
@@ -22,7 +22,7 @@ const FIRST: u64 = 4;
 
 /// Runs the first so many variants by so many threads, or by one where that is 0, and tells the first of them that is not legal. None
 /// where all are. Where somebody watches, tells on the way how far it has come.
-pub(crate) fn try_by_threads<R: Threads + Clock + Sync, P: Write>(
+pub(crate) fn try_by_threads<O: Object<Alloc = Global> + Send, R: Threads + Clock + Sync, P: Write>(
     rt: &R,
     alloc: Global,
     script: &Script<Global>,
@@ -31,8 +31,7 @@ pub(crate) fn try_by_threads<R: Threads + Clock + Sync, P: Write>(
     progress: Option<&mut P>,
 ) -> Result<Option<Upset>, Fault>
     requires { AreFit script.now.lines.items }
-    ensures ok { let object = ⟦<Things<Global> as Object>⟧ in
-        IfOk result (AreTried object.sequential script.now.nodes script.now.lines.items variants) }
+    ensures ok { IfOk result (AreTried O.sequential script.now.nodes script.now.lines.items variants) }
     ensures refused { IfErr result (λ fault. fault ≡ Memory) }
 {
     let all = Part {
@@ -43,16 +42,16 @@ pub(crate) fn try_by_threads<R: Threads + Clock + Sync, P: Write>(
         Some(out) => {
             let size = u64::from(threads).saturating_mul(FIRST);
             let mut meter = Meter::new(rt, variants, size);
-            let illegal = try_rounds(rt, alloc, script, all, threads, &mut meter, out);
+            let illegal = try_rounds::<O, R, P>(rt, alloc, script, all, threads, &mut meter, out);
             meter.clear(out);
             illegal
         }
-        None => try_part(rt, alloc, script, all, threads),
+        None => try_part::<O, R>(rt, alloc, script, all, threads),
     }
 }
 
 /// Runs the variants of a part in rounds, one behind the other, and tells between them how far it has come.
-fn try_rounds<R: Threads + Clock + Sync, P: Write>(
+fn try_rounds<O: Object<Alloc = Global> + Send, R: Threads + Clock + Sync, P: Write>(
     rt: &R,
     alloc: Global,
     script: &Script<Global>,
@@ -62,8 +61,8 @@ fn try_rounds<R: Threads + Clock + Sync, P: Write>(
     out: &mut P,
 ) -> Result<Option<Upset>, Fault>
     requires { AreFit script.now.lines.items }
-    ensures ok { let object = ⟦<Things<Global> as Object>⟧ in IfOk result (λ illegal. part.from ≤ part.upto
-        → AreTriedIn object.sequential script.now.nodes script.now.lines.items part.from part.upto illegal) }
+    ensures ok { IfOk result (λ illegal. part.from ≤ part.upto
+        → AreTriedIn O.sequential script.now.nodes script.now.lines.items part.from part.upto illegal) }
     ensures refused { IfErr result (λ fault. fault ≡ Memory) }
 {
     let (begin, last) = (part.from, part.upto);
@@ -75,18 +74,18 @@ fn try_rounds<R: Threads + Clock + Sync, P: Write>(
         from: begin,
         upto: end,
     };
-    let found = try_part(rt, alloc, script, round, threads)?;
+    let found = try_part::<O, R>(rt, alloc, script, round, threads)?;
     meter.pass(rt, out, end);
     let rest = Part {
         from: end,
         upto: last,
     };
-    let others = try_rounds(rt, alloc, script, rest, threads, meter, out)?;
+    let others = try_rounds::<O, R, P>(rt, alloc, script, rest, threads, meter, out)?;
     Ok(found.or(others))
 }
 
 /// Runs the variants of a part by so many threads, and tells the first of them that is not legal.
-fn try_part<R: Threads + Sync>(
+fn try_part<O: Object<Alloc = Global> + Send, R: Threads + Sync>(
     rt: &R,
     alloc: Global,
     script: &Script<Global>,
@@ -94,16 +93,16 @@ fn try_part<R: Threads + Sync>(
     threads: u16,
 ) -> Result<Option<Upset>, Fault>
     requires { AreFit script.now.lines.items }
-    ensures ok { let object = ⟦<Things<Global> as Object>⟧ in IfOk result (λ illegal. part.from ≤ part.upto
-        → AreTriedIn object.sequential script.now.nodes script.now.lines.items part.from part.upto illegal) }
+    ensures ok { IfOk result (λ illegal. part.from ≤ part.upto
+        → AreTriedIn O.sequential script.now.nodes script.now.lines.items part.from part.upto illegal) }
     ensures refused { IfErr result (λ fault. fault ≡ Memory) }
 {
-    let shares = try_shares(rt, alloc, script, part, threads)?;
-    first_in::<Things<Global>>(script, part, threads, shares)
+    let shares = try_shares::<O, R>(rt, alloc, script, part, threads)?;
+    first_in::<O>(script, part, threads, shares)
 }
 
 /// Runs each of so many shares of a part, in a thread of its own where one can be made.
-fn try_shares<R: Threads + Sync>(
+fn try_shares<O: Object<Alloc = Global> + Send, R: Threads + Sync>(
     rt: &R,
     alloc: Global,
     script: &Script<Global>,
@@ -112,9 +111,9 @@ fn try_shares<R: Threads + Sync>(
 ) -> Result<Vec<Result<Option<Upset>, Fault>>, AllocError>
     requires { AreFit script.now.lines.items }
     ensures len { IfOk result (λ found. vec_len found ≡ max shares 1) }
-    ensures each { let object = ⟦<Things<Global> as Object>⟧ in let many = part.upto - part.from in
+    ensures each { let many = part.upto - part.from in
         IfOk result (λ found. (share : ℕ) (one : _) → share < max shares 1 → IfOk (slice_index_or found.items share one)
-        (AreTriedIn object.sequential script.now.nodes script.now.lines.items
+        (AreTriedIn O.sequential script.now.nodes script.now.lines.items
         (part.from + share_begin many shares share) (part.from + share_begin many shares (share + 1)))) }
     ensures refused { IfOk result (λ found.
         (share : ℕ) (one : _) → share < max shares 1 → IfErr (slice_index_or found.items share one) (λ fault. fault ≡ Memory)) }
@@ -123,7 +122,7 @@ fn try_shares<R: Threads + Sync>(
         rt,
         alloc,
         usize::from(shares.max(1)),
-        &|share| try_share::<Things<Global>>(alloc, script, part, shares, share as u64),
+        &|share| try_share::<O>(alloc, script, part, shares, share as u64),
     )
 }
 

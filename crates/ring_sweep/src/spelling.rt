@@ -5,7 +5,8 @@ ghost use Rattle.std.specs.Prelude.{◌≡◌, ◌≤◌};
 use crate::gap::{Gap, gap_of};
 use crate::upset::{Blow, Told, Upset};
 use ring_base::Proc;
-use ring_console::{Failure, Line, Numbered, Script, Things, report};
+use ring_console::{Failure, Line, Numbered, Script, ShelfWords, Things, Vocabulary, report};
+use ring_object::Object;
 use std::alloc::Allocator;
 use std::fmt;
 use std::io::Write;
@@ -30,13 +31,27 @@ pub fn print_variant<A: Allocator + Copy + Drop, O: Write, E: Write>(
     ensures status { result ≤ 2 }
     ensures quiet { result ≡ 0 → err.new ≡ err.old }
 {
+    print_variant_of::<Things<A>, ShelfWords, O, E>(alloc, text, place, out, err)
+}
+
+/// As [`print_variant`], of any object, by the words of its operations.
+pub fn print_variant_of<T: Object, V: Vocabulary, O: Write, E: Write>(
+    alloc: T::Alloc,
+    text: &[u8],
+    place: u64,
+    out: &mut O,
+    err: &mut E,
+) -> u8
+    ensures status { result ≤ 2 }
+    ensures quiet { result ≡ 0 → err.new ≡ err.old }
+{
     let mut rest = text;
-    let script = match Script::read(alloc, &mut rest) {
+    let script = match Script::read_by::<V, _>(alloc, &mut rest) {
         Ok(script) => script,
         Err(fault) => return report(err, Failure::from(fault)),
     };
     let upset = Upset::at(script.nodes.count(), place.saturating_sub(1));
-    let gap = match gap_of::<Things<A>>(alloc, &script, upset.before) {
+    let gap = match gap_of::<T>(alloc, &script, upset.before) {
         Ok(gap) => gap,
         Err(fault) => return report(err, Failure::Refused(fault)),
     };

@@ -103,12 +103,40 @@ pub fn sweep_by_threads<R: Threads + Clock + Sync, I: Read, O: Write, E: Write, 
         result ≡ 0 → (script : Script OneGlobal) × (bytes : List ℕ) × IsAllOf (I.remaining input.old) bytes × AnswersInput (Ok script) bytes
         × Prints (O.contents out.old) (O.contents out.new) (IsSweptText object.sequential script.nodes script.lines.items true) }
 {
-    let script = match Script::read(alloc, input) {
+    sweep_of_by_threads::<Things<Global>, ShelfWords, R, I, O, E, P>(
+        rt, alloc, input, threads, out, err, progress,
+    )
+}
+
+/// As [`sweep_by_threads`], of any object, by the words of its operations.
+pub fn sweep_of_by_threads<
+    T: Object<Alloc = Global> + Send,
+    V: Vocabulary,
+    R: Threads + Clock + Sync,
+    I: Read,
+    O: Write,
+    E: Write,
+    P: Write,
+>(
+    rt: &R,
+    alloc: Global,
+    input: &mut I,
+    threads: u16,
+    out: &mut O,
+    err: &mut E,
+    progress: Option<&mut P>,
+) -> u8
+    ensures status { result ≤ 1 }
+    ensures quiet { result ≡ 0 → Keeps (E.contents err.old) (E.contents err.new) }
+    ensures printed { result ≡ 0 → (script : Script OneGlobal) × (bytes : List ℕ) × IsAllOf (I.remaining input.old) bytes
+        × AnswersInputBy V.forms (Ok script) bytes × Prints (O.contents out.old) (O.contents out.new) (IsSweptText T.sequential script.nodes script.lines.items true) }
+{
+    let script = match Script::read_by::<V, I>(alloc, input) {
         Ok(script) => script,
         Err(fault) => return report(err, Failure::from(fault)),
     };
-    let swept = run_all_by_threads(rt, alloc, &script, threads, progress);
-    let done = print_all::<Things<Global>, O>(&script, swept, out);
+    let swept = run_all_by_threads::<T, R, P>(rt, alloc, &script, threads, progress);
+    let done = print_all::<T, O>(&script, swept, out);
     verdict_status(err, done)
 }
 
@@ -194,7 +222,7 @@ fn run_all<O: Object>(alloc: O::Alloc, script: &Script<O::Alloc>) -> Result<Swep
 }
 
 /// The same by so many threads, or by one where that is 0.
-fn run_all_by_threads<R: Threads + Clock + Sync, P: Write>(
+fn run_all_by_threads<O: Object<Alloc = Global> + Send, R: Threads + Clock + Sync, P: Write>(
     rt: &R,
     alloc: Global,
     script: &Script<Global>,
@@ -202,12 +230,12 @@ fn run_all_by_threads<R: Threads + Clock + Sync, P: Write>(
     progress: Option<&mut P>,
 ) -> Result<Swept, Fault>
     requires { AreFit script.now.lines.items }
-    ensures ok { let object = ⟦<Things<Global> as Object>⟧ in IfOk result (IsSwept object.sequential script.now.nodes script.now.lines.items) }
+    ensures ok { IfOk result (IsSwept O.sequential script.now.nodes script.now.lines.items) }
     ensures refused { IfErr result (λ fault. fault ≡ Memory) }
 {
-    let events = count_events::<Things<Global>>(alloc, script)?;
+    let events = count_events::<O>(alloc, script)?;
     let variants = count_variants(events, script.nodes.count())?;
-    let illegal = try_by_threads(rt, alloc, script, variants, threads, progress)?;
+    let illegal = try_by_threads::<O, R, P>(rt, alloc, script, variants, threads, progress)?;
     Ok(Swept {
         events,
         variants,

@@ -3,8 +3,7 @@
 
 use std::io::{Input, IsTerminal};
 use std::process::ExitCode;
-use std::{env, io};
-use totem_command::run;
+use totem_command::{run, words_of};
 
 fn main(rt: HostRuntime) -> ExitCode {
     let mut input = rt.reader();
@@ -19,13 +18,4 @@ fn main(rt: HostRuntime) -> ExitCode {
     };
     let status = run(&rt, &words, &mut input, &mut out, &mut err, watched);
     ExitCode::from(status)
-}
-
-/// The words of the command line, the program's own name first.
-fn words_of<R: env::Env + Alloc>(rt: &R) -> io::Result<Vec<String<R::A>, R::A>> {
-    let mut words = Vec::new(rt.alloc());
-    for word in env::args(rt)? {
-        words.push(word)?;
-    }
-    Ok(words)
 }

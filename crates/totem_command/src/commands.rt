@@ -7,22 +7,35 @@ use crate::traces::trace_file;
 use clap::Error;
 use clap::error::ErrorKind;
 use ring_base::Fault;
-use ring_explore::{Plan, explore};
+use ring_console::{ShelfWords, Things, Vocabulary};
+use ring_explore::{Plan, explore_of};
 use ring_live::live;
-use ring_script_maker::generate;
+use ring_object::Object;
+use ring_script_maker::generate_by;
 use ring_sweep::{Failure, frames, report};
+use ring_trace::Replies;
+use std::alloc::Global;
 use std::io::{Read, Write};
 use std::rt::Files;
 use std::sync::Wait;
 use std::thread::{self, Threads};
 use std::time::Clock;
-use std::{fs, io};
+use std::{env, fs, io};
 
 /// The name of a file that is none: the input.
 pub(crate) const INPUT: &str = "-";
 
 /// The exit status of a bad command line, and of a call for help.
 const BAD_COMMAND_LINE: u8 = 2;
+
+/// The words of the command line, the program's own name first.
+pub fn words_of<R: env::Env + Alloc>(rt: &R) -> io::Result<Vec<String<R::A>, R::A>> {
+    let mut words = Vec::new(rt.alloc());
+    for word in env::args(rt)? {
+        words.push(word)?;
+    }
+    Ok(words)
+}
 
 /// Does what the words of a command line ask for, the program's own name being the first. A node takes the records of `input`, and
 /// other commands read it where the file is `-`. Writes on `out` and `err` what the program writes on standard output and standard
@@ -41,10 +54,32 @@ pub fn run<
     err: &mut E,
     progress: Option<&mut P>,
 ) -> u8 {
+    run_of::<Things<Global>, ShelfWords, R, I, O, E, P>(rt, words, input, out, err, progress)
+}
+
+/// As [`run`], of any object, by the words of its operations and replies; but `live` calls the program's own counters.
+pub fn run_of<
+    T: Object<Alloc = Global> + Send,
+    V: Vocabulary + Replies + Send,
+    R: Files + AllocGlobal + Threads + Wait + Clock + Sync,
+    I: Read,
+    O: Write,
+    E: Write,
+    P: Write,
+>(
+    rt: &R,
+    words: &io::Result<Vec<String>>,
+    input: &mut I,
+    out: &mut O,
+    err: &mut E,
+    progress: Option<&mut P>,
+) -> u8 {
     match task_of(rt.alloc(), words) {
         Ok(Task::Frames { file }) => frames_of(rt, file, input, out, err),
-        Ok(Task::Script(asked)) => run_script(rt, asked, input, out, err, progress),
-        Ok(Task::Trace(asked)) => trace_file(rt, asked, input, out, err),
+        Ok(Task::Script(asked)) => run_script::<T, V, _, _, _, _, _>(
+            rt, asked, input, out, err, progress,
+        ),
+        Ok(Task::Trace(asked)) => trace_file::<T, V, _, _, _, _>(rt, asked, input, out, err),
         Ok(Task::Live { nodes, calls }) => live(rt, rt.alloc(), nodes, calls, out, err),
         Ok(
             Task::Generate {
@@ -52,9 +87,18 @@ pub fn run<
                 seed,
                 events,
             },
-        ) => generate(rt.alloc(), votes.as_slice(), seed, events, out, err),
-        Ok(Task::Node { me, votes }) => node(rt.alloc(), me, votes.as_slice(), input, out, err),
-        Ok(Task::Explore(asked)) => explore_seeds(rt, &asked, out, err, progress),
+        ) => generate_by::<V, _, _, _>(rt.alloc(), votes.as_slice(), seed, events, out, err),
+        Ok(Task::Node { me, votes }) => node::<T, _, _, _>(
+            rt.alloc(),
+            me,
+            votes.as_slice(),
+            input,
+            out,
+            err,
+        ),
+        Ok(Task::Explore(asked)) => explore_seeds::<T, V, _, _, _, _>(
+            rt, &asked, out, err, progress,
+        ),
         Err(error) => tell(&error, out, err),
     }
 }
@@ -78,13 +122,14 @@ fn frames_of<R: Files + AllocGlobal, I: Read, O: Write, E: Write>(
 
 /// Makes, runs and checks the scripts of all seeds that are asked for: by as many threads as there are processors, where nothing is
 /// said of these.
-fn explore_seeds<R: AllocGlobal + Threads + Clock + Sync, O: Write, E: Write, P: Write>(
-    rt: &R,
-    asked: &Explored,
-    out: &mut O,
-    err: &mut E,
-    progress: Option<&mut P>,
-) -> u8 {
+fn explore_seeds<
+    T: Object<Alloc = Global> + Send,
+    V: Vocabulary + Send,
+    R: AllocGlobal + Threads + Clock + Sync,
+    O: Write,
+    E: Write,
+    P: Write,
+>(rt: &R, asked: &Explored, out: &mut O, err: &mut E, progress: Option<&mut P>) -> u8 {
     let plan = Plan {
         votes: asked.votes.as_slice(),
         first: asked.first,
@@ -92,7 +137,7 @@ fn explore_seeds<R: AllocGlobal + Threads + Clock + Sync, O: Write, E: Write, P:
         lines: asked.events,
     };
     let threads = asked.threads.unwrap_or(processors(rt));
-    explore(rt, rt.alloc(), plan, threads, out, err, progress)
+    explore_of::<T, V, R, O, E, P>(rt, rt.alloc(), plan, threads, out, err, progress)
 }
 
 /// How many processors there are, as far as that is known: or else one.

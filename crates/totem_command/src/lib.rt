@@ -9,4 +9,4 @@ mod seeds;
 mod traces;
 mod votes;
 
-pub use commands::run;
+pub use commands::{run, run_of, words_of};

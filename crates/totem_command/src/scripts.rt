@@ -3,8 +3,10 @@
 use crate::command_line::{AskedScript, Way};
 use crate::commands::{INPUT, processors};
 use ring_base::Fault;
-use ring_explanation::reason_in;
-use ring_sweep::{Failure, print_variant, report, script, script_check, sweep_by_threads};
+use ring_console::Vocabulary;
+use ring_explanation::reason_by;
+use ring_object::Object;
+use ring_sweep::{Failure, print_variant_of, report, script_of, sweep_of_by_threads};
 use std::alloc::Global;
 use std::io::{Error, ErrorKind, Read, Write};
 use std::rt::Files;
@@ -20,6 +22,8 @@ const MOST_READ: u64 = 1_048_577;
 
 /// Runs the script that is asked for.
 pub(crate) fn run_script<
+    T: Object<Alloc = Global> + Send,
+    V: Vocabulary,
     R: Files + AllocGlobal + Threads + Clock + Sync,
     I: Read,
     O: Write,
@@ -37,9 +41,9 @@ pub(crate) fn run_script<
         Ok(text) => text,
         Err(error) => return tell_unread(&error, asked.is_explained, err),
     };
-    let status = run_text(rt, asked.way, text.as_slice(), out, err, progress);
+    let status = run_text::<T, V, R, O, E, P>(rt, asked.way, text.as_slice(), out, err, progress);
     if status == FAILED && asked.is_explained {
-        explain(rt.alloc(), text.as_slice(), err);
+        explain::<V, E>(rt.alloc(), text.as_slice(), err);
     }
     status
 }
@@ -61,29 +65,37 @@ pub(crate) fn text_of<R: Files + AllocGlobal, I: Read>(
 }
 
 /// Runs a script in this way.
-fn run_text<R: AllocGlobal + Threads + Clock + Sync, O: Write, E: Write, P: Write>(
-    rt: &R,
-    way: Way,
-    text: &[u8],
-    out: &mut O,
-    err: &mut E,
-    progress: Option<&mut P>,
-) -> u8 {
+fn run_text<
+    T: Object<Alloc = Global> + Send,
+    V: Vocabulary,
+    R: AllocGlobal + Threads + Clock + Sync,
+    O: Write,
+    E: Write,
+    P: Write,
+>(rt: &R, way: Way, text: &[u8], out: &mut O, err: &mut E, progress: Option<&mut P>) -> u8 {
     let mut rest = text;
     match way {
-        Way::Plain => script(rt.alloc(), &mut rest, out, err),
-        Way::Checked => script_check(rt.alloc(), &mut rest, out, err),
+        Way::Plain => script_of::<T, V, _, _, _>(rt.alloc(), &mut rest, false, out, err),
+        Way::Checked => script_of::<T, V, _, _, _>(rt.alloc(), &mut rest, true, out, err),
         Way::Swept(threads) => {
             let threads = threads.unwrap_or(processors(rt));
-            sweep_by_threads(rt, rt.alloc(), &mut rest, threads, out, err, progress)
+            sweep_of_by_threads::<T, V, R, _, _, _, _>(
+                rt,
+                rt.alloc(),
+                &mut rest,
+                threads,
+                out,
+                err,
+                progress,
+            )
         }
-        Way::Variant(place) => print_variant(rt.alloc(), text, place, out, err),
+        Way::Variant(place) => print_variant_of::<T, V, _, _>(rt.alloc(), text, place, out, err),
     }
 }
 
 /// Tells below why a text is no script, if it is none.
-fn explain<E: Write>(alloc: Global, text: &[u8], err: &mut E) {
-    if let Ok(Some(reason)) = reason_in(alloc, text) {
+fn explain<V: Vocabulary, E: Write>(alloc: Global, text: &[u8], err: &mut E) {
+    if let Ok(Some(reason)) = reason_by::<V>(alloc, text) {
         let _ = writeln!(err, "totem: {reason}");
     }
 }

@@ -5,7 +5,9 @@ use crate::scripts::{tell_unread, text_of};
 use clap::builder::ValueParser;
 use clap::{Arg, ArgAction, ArgMatches, Command};
 use ring_base::Proc;
-use ring_trace::{Format, Selection, TraceOptions, trace};
+use ring_console::Vocabulary;
+use ring_object::Object;
+use ring_trace::{Format, Replies, Selection, TraceOptions, trace_of};
 use std::alloc::{AllocError, Global};
 use std::io::{Read, Write};
 use std::rt::Files;
@@ -89,30 +91,32 @@ fn proc_of(number: Option<u8>) -> Option<Proc> {
 
 /// Runs the script in a file, or in the input, and tells what its events did. Where a file for the frames is named that can't be
 /// made, nothing is done, and nothing told: an output fails.
-pub(crate) fn trace_file<R: Files + AllocGlobal, I: Read, O: Write, E: Write>(
-    rt: &R,
-    traced: Traced<'_>,
-    input: &mut I,
-    out: &mut O,
-    err: &mut E,
-) -> u8 {
+pub(crate) fn trace_file<
+    T: Object<Alloc = Global>,
+    V: Vocabulary + Replies,
+    R: Files + AllocGlobal,
+    I: Read,
+    O: Write,
+    E: Write,
+>(rt: &R, traced: Traced<'_>, input: &mut I, out: &mut O, err: &mut E) -> u8 {
     let text = match text_of(rt, traced.file, input) {
         Ok(text) => text,
         Err(error) => return tell_unread(&error, false, err),
     };
     let asked = asked_of(&traced);
     let Some(path) = traced.frames else {
-        return trace(
+        let mut sink = io::sink();
+        return trace_of::<T, V, _, _, _>(rt.alloc(), text.as_slice(), asked, out, &mut sink, err);
+    };
+    match fs::create(rt, path) {
+        Ok(mut frames) => trace_of::<T, V, _, _, _>(
             rt.alloc(),
             text.as_slice(),
             asked,
             out,
-            &mut io::sink(),
+            &mut frames,
             err,
-        );
-    };
-    match fs::create(rt, path) {
-        Ok(mut frames) => trace(rt.alloc(), text.as_slice(), asked, out, &mut frames, err),
+        ),
         Err(_) => FAILED,
     }
 }

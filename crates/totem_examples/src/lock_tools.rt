@@ -1,9 +1,15 @@
-//! The lock table in the program's tools: a script of it is swept, one is made, and a trace tells the replies.
+//! The lock table's own program, which has the commands of the program `totem` by its own words, and what it prints of a script.
 
 use crate::lock_words::LockWords;
 use crate::locks::Locks;
+use std::alloc::Global;
+use std::io::{Read, Write};
+use std::rt::Files;
+use std::sync::Wait;
+use std::thread::Threads;
+use std::time::Clock;
 use std::{io, str};
-use totem_ring::{Format, Selection, TraceOptions, generate_by, sweep_of, trace_of};
+use totem_command::run_of;
 
 /// Three nodes settle. Client 7 acquires lock 7 for holder 11, in words, and then for holder 22, by the operation's bytes.
 const SCRIPT: &str = "nodes 3\n\
@@ -15,47 +21,70 @@ const SCRIPT: &str = "nodes 3\n\
     call 2 7 2 raw 01070000000000000016\n\
     pump 100\n";
 
-/// The votes of three nodes.
-const VOTES: [u8; 3] = [1, 1, 1];
-
-/// How many lines of the script that is made call, deliver, time out, cut, ..
-const LINES: u32 = 100;
-
-/// Prints whether the script is legal with a stop or a cut of each node before any of its events, with which exit status the script that
-/// seed 1 makes is traced, and what a trace tells of replies.
-pub fn tell<R: AllocGlobal + Print>(rt: &R) -> io::Result<()> {
-    let alloc = rt.alloc();
-    let (mut out, mut made, mut err) = (Vec::new(alloc), Vec::new(alloc), Vec::new(alloc));
-    let mut script = SCRIPT.as_bytes();
-    sweep_of::<Locks, LockWords, _, _, _>(alloc, &mut script, &mut out, &mut err);
-    let swept = str::from_utf8(out.as_slice()).unwrap_or("no text");
-    let verdict = swept.lines().last().unwrap_or("nothing");
-    println!(rt; "The sweep of the script: {verdict}")?;
-    generate_by::<LockWords, _, _, _>(alloc, &VOTES, 1, LINES, &mut made, &mut err);
-    let (mut all, mut sink, asked) = (io::sink(), io::sink(), options());
-    let text = made.as_slice();
-    let status = trace_of::<Locks, LockWords, _, _, _>(
-        alloc, text, asked, &mut all, &mut sink, &mut err,
-    );
-    println!(rt; "The script that seed 1 makes: status {status}")?;
-    tell_replies(rt)
+/// Does what the words of a command line ask for, the program's own name being the first, and answers the exit status.
+pub fn run<R: Files + AllocGlobal + Threads + Wait + Clock + Sync, I: Read, O: Write, E: Write>(
+    rt: &R,
+    words: &io::Result<Vec<String>>,
+    input: &mut I,
+    out: &mut O,
+    err: &mut E,
+) -> u8 {
+    run_of::<Locks, LockWords, R, I, O, E, E>(rt, words, input, out, err, None)
 }
 
-/// A trace of all events, as text.
-fn options() -> TraceOptions {
-    TraceOptions {
-        format: Format::Text,
-        selection: Selection::all(),
+/// Prints what the program prints of the script; whether the script is legal with a stop or a cut of each node before any of its
+/// events; the same of scripts that are made; and what a trace tells of replies.
+pub fn tell<R: Files + AllocGlobal + Print + Threads + Wait + Clock + Sync>(
+    rt: &R,
+) -> io::Result<()> {
+    let script = SCRIPT.as_bytes();
+    let run = printed(rt, "locks script --check -", script)?;
+    print!(rt; "{}", text_of(&run))?;
+    let swept = printed(rt, "locks sweep -", script)?;
+    println!(rt; "A stop or a cut before any event: {}", last_line(&swept))?;
+    let made = printed(rt, "locks gen --nodes 3 --seed 1 --events 100", &[])?;
+    let checked = printed(rt, "locks script --check -", made.as_slice())?;
+    println!(rt; "The script that seed 1 makes: {}", last_line(&checked))?;
+    let explored = printed(rt, "locks explore --nodes 3 --seeds 1..9 --events 100", &[])?;
+    println!(rt; "The scripts of nine seeds: {}", last_line(&explored))?;
+    let traced = printed(rt, "locks trace -", script)?;
+    tell_replies(rt, text_of(&traced))
+}
+
+/// What the program prints on standard output, of a command line and an input.
+fn printed<R: Files + AllocGlobal + Threads + Wait + Clock + Sync>(
+    rt: &R,
+    line: &str,
+    input: &[u8],
+) -> io::Result<Vec<u8>> {
+    let alloc = rt.alloc();
+    let (mut out, mut err, mut input) = (Vec::new(alloc), Vec::new(alloc), input);
+    run(rt, &words_in(alloc, line), &mut input, &mut out, &mut err);
+    Ok(out)
+}
+
+/// The words of a command line, parted by spaces.
+fn words_in(alloc: Global, line: &str) -> io::Result<Vec<String>> {
+    let mut words = Vec::new(alloc);
+    for word in line.split(' ') {
+        words.push(String::from_str(alloc, word)?)?;
     }
+    Ok(words)
 }
 
-/// Prints what a trace of the script tells of replies.
-fn tell_replies<R: AllocGlobal + Print>(rt: &R) -> io::Result<()> {
-    let alloc = rt.alloc();
-    let (mut out, mut err, mut sink) = (Vec::new(alloc), Vec::new(alloc), io::sink());
-    let (script, asked) = (SCRIPT.as_bytes(), options());
-    trace_of::<Locks, LockWords, _, _, _>(alloc, script, asked, &mut out, &mut sink, &mut err);
-    for line in str::from_utf8(out.as_slice()).unwrap_or("no text").lines() {
+/// What was printed, as text.
+fn text_of(printed: &Vec<u8>) -> &str {
+    str::from_utf8(printed.as_slice()).unwrap_or("no text")
+}
+
+/// The last line of what was printed.
+fn last_line(printed: &Vec<u8>) -> &str {
+    text_of(printed).lines().last().unwrap_or("nothing")
+}
+
+/// Prints what a trace tells of replies.
+fn tell_replies<R: Print>(rt: &R, trace: &str) -> io::Result<()> {
+    for line in trace.lines() {
         for part in line.split("; node ") {
             if part.contains(" answers ") {
                 println!(rt; "Node {part}")?;

@@ -2,7 +2,8 @@
 //!
 //! `counter` drives a node from a program of one's own. `client` has a client of three nodes, the first of which is cut off, and
 //! `outage` one that asks until it is answered, as nodes stop. `locks` is an object of one's own, a lock table, `lock_story` what two
-//! clients make of it, and `lock_tools` has it in the tools of the program `totem`, by `lock_words`. `threads` has nodes and clients
+//! clients make of it, and `lock_tools` its own program, which has the commands of `totem`, by `lock_words`: it is run where the command
+//! line has words. `threads` has nodes and clients
 //! on threads. `data` runs what the program runs: scripts, sweeps, listings of frames, command lines.
 #![tactic(auto)]
 
@@ -17,14 +18,20 @@ mod locks;
 mod outage;
 mod threads;
 
-use std::io;
+use std::io::{self, Input};
 use std::process::ExitCode;
 use std::rt::Files;
 use std::sync::Wait;
 use std::thread::Threads;
 use std::time::Clock;
+use totem_command::words_of;
 
 fn main(rt: HostRuntime) -> ExitCode {
+    let words = words_of(&rt);
+    if !is_bare(&words) {
+        let (mut input, mut out, mut err) = (rt.reader(), rt.stdout(), rt.stderr());
+        return ExitCode::from(lock_tools::run(&rt, &words, &mut input, &mut out, &mut err));
+    }
     match tell_all(&rt) {
         Ok(true) => ExitCode::SUCCESS,
         Ok(false) => ExitCode::FAILURE,
@@ -33,6 +40,11 @@ fn main(rt: HostRuntime) -> ExitCode {
             ExitCode::FAILURE
         }
     }
+}
+
+/// Whether a command line has the program's name alone.
+fn is_bare(words: &io::Result<Vec<String>>) -> bool {
+    matches!(words, Ok(words) if words.len() < 2)
 }
 
 /// Prints all examples, and tells whether those that are data printed what they must.

@@ -14,7 +14,8 @@
 //! | test that one order explains what was replied | [`is_linearization`] |
 //! | say operations of an object of one's own in scripts | [`Vocabulary`], by [`Form`]s; or [`NoWords`], where their bytes do |
 //! | make a script of one's own object by a seed | [`made_script_by`], [`generate_by`] |
-//! | run a script of one's own object with a stop and a cut of each node before each event, and check all that | [`sweep_of`] |
+//! | run a script of one's own object, and check it | [`script_of`] |
+//! | the same with a stop and a cut of each node before each event | [`sweep_of`] |
 //! | see what each event of such a script did | [`trace_of`], with the words of replies as [`Replies`] |
 //!
 //! Nodes on threads of their own are in `totem_threads`, which passes on all that is here.
@@ -31,6 +32,7 @@
 pub use ring_base::{Fault, Fixed, Kind, MOST_PROCESSORS, Proc, ProcSet, RingId, State};
 pub use ring_checker::is_linearization;
 pub use ring_client::{Asked, Client, Port};
+pub use ring_console::script_of;
 pub use ring_driver::{Driver, Letter};
 pub use ring_node::{Input, Node, Outs, Sent};
 pub use ring_object::{Object, Reply, Short, object_law};

@@ -1,15 +1,13 @@
 use Rattle.std.proofs.Common.{◌∙◌, sym, subst, arith}
-use Rattle.ring_console.specs.Running.{RunView, Turns}
-use Rattle.ring_console.proofs.RunGoesOn.{one_more, pumped}
-use Rattle.ring_explore.proofs.Turning.{none_open, one_turn}
+use Rattle.ring_console.specs.Running.{RunView, TurnsTimes}
+use Rattle.ring_console.proofs.RunGoesOn.{turned, one_more, pumped, none_left}
 use Rattle.ring_explore.proofs.one.Seen.pump.Goals as goal
 
 pub loop-preserved : goal.loop-preserved
 loop-preserved g c =
-    let turn = one_turn g.O.Object.sequential c.loop.self.run c.perform.new.self c.in-Some.pair c.in_ok-perform.ensures.ends
-    (sym c.first_open.ensures ∙ c.in-Some.is) in
-    one_more g.O.Object.sequential c.loop.counter c.args.self.now.run c.loop.self.run c.look.new.self.run c.loop.invariant
-    (subst (λ (r : RunView g.row.O-Alloc.Denot). Turns g.O.Object.sequential c.loop.self.run r) (sym c.look.ensures) turn)
+    one_more g.O.Object.sequential c.loop.counter c.args.self.now.run c.loop.self.run c.come.new.self.run c.loop.invariant
+    (turned g.O.Object.sequential c.in-Some.pair c.loop.self.run c.close_first.new.self c.come.new.self.run
+    c.in-Some.ensures.takes c.close_first.ensures.same c.in_ok-come.ensures)
 
 pub returns : goal.returns
 returns g c =
@@ -18,5 +16,7 @@ returns g c =
 
 pub returns-in_default : goal.returns-in_default
 returns-in_default g c =
-    pumped g.O.Object.sequential c.args.turns c.loop.counter c.args.self.now.run c.loop.self.run c.loop.auto.counter-end
-    (λ less. none_open c.loop.self.run.open_pairs (sym c.first_open.ensures ∙ c.in_default.is)) c.loop.invariant
+    let none = c.in_default.ensures.takes in
+    let same = none_left g.O.Object.sequential c.loop.self.run c.close_first.new.self c.close_first.ensures.same none.1 in
+    pumped g.O.Object.sequential c.args.turns c.loop.counter c.args.self.now.run c.close_first.new.self c.loop.auto.counter-end (λ less. none.1 ∙ none.0)
+    (subst (λ (r : RunView g.row.O-Alloc.Denot). TurnsTimes g.O.Object.sequential c.loop.counter c.args.self.now.run r) (sym same) c.loop.invariant)

@@ -1,7 +1,7 @@
 use Rattle.std.proofs.Common.{rules}
 use Rattle.ring_report.proofs.LentLemmas.{given_back, where_known}
 use Rattle.ring_console.proofs.PrintedLines.{at_true}
-use Rattle.ring_console.proofs.running.print_script.Goals as goal
+use Rattle.ring_console.proofs.running.script_of.Goals as goal
 
 pub returns-in-Ok-new-clause-printed : goal.returns-in-Ok-new-clause-printed
 returns-in-Ok-new-clause-printed g c = λ zero_is.
