@@ -2,11 +2,11 @@
 use Rattle.std.proofs.Common.{◌≡◌, ℕ, zero, suc, ◌+◌, ◌<◌, add-one, slice_get, Option, Some, take, drop, get_or, length}
 use Rattle.std.proofs.Common.{◌++◌, List, [], ◌∷◌, inl, inr, Result, Ok, Err, refl, sym, ap, subst, ◌∙◌}
 use Rattle.std.proofs.Common.{append-nil, append_assoc}
-use Rattle.std.specs.Prelude.{IfOk, IsTrue, ◌↔◌, Bool, true, false}
+use Rattle.std.specs.Prelude.{IfOk, Bool, true}
 use Rattle.ring_base.specs.Group.{Group}
 use Rattle.ring_base.proofs.Rows.{drop-next}
 use Rattle.std.specs.Io.KnownBytes.{Appends}
-use Rattle.std.proofs.KnownBytes.{Appends-nil, Appends-trans}
+use Rattle.std.proofs.KnownBytes.{Appends-trans}
 use Rattle.std.proofs.lemmas.List.{take-append-drop}
 use Rattle.ring_object.specs.Operations.{Sequential}
 use Rattle.ring_script.specs.declared.line.Line.{Line}
@@ -17,8 +17,8 @@ use Rattle.ring_report.specs.declared.failure.Failure.TheVariants.{Refused, BadF
 use Rattle.ring_world.specs.Played.{Played}
 use Rattle.ring_rules.specs.declared.told.Told.{Told}
 use Rattle.ring_report.specs.Texts.{line_of}
-use Rattle.ring_console.specs.Printed.{told_text, one_text, legal_text}
-use Rattle.ring_console.specs.Running.{RunView, Prints, UnlessOutput, Does, Breaks, Runs, BreaksRun, IsTextOf, IsLegal, IsVerdict, run_opening, legal_line, text_of}
+use Rattle.ring_console.specs.Printed.{told_text, one_text}
+use Rattle.ring_console.specs.Running.{RunView, Prints, UnlessOutput, Does, Breaks, Runs, BreaksRun, IsTextOf, IsVerdict, run_opening, legal_line, text_of}
 
 -- what holds of the text holds otherwise
 pub printed_as : (old new : Option (List ℕ)) (P Q : List ℕ → Type 0) → ((text : List ℕ) → P text → Q text) → Prints old new P → Prints old new Q
@@ -144,25 +144,6 @@ unless_both (Err Output) P Q h k = tt
 pub at_true : {E : Type 0} (r : Result Bool E) (P : Bool → Type 0) → IfOk r P → r ≡ Ok true → P true
 at_true (Ok b) P h e = let same : b ≡ true = cc in subst P same h
 at_true (Err x) P h e = absurd cc
-
--- where it isn't asked for, nothing is printed of whether a run is legal
-pub unasked_line : (is_checked : Bool) (out : Option (List ℕ)) → is_checked ≡ false → Appends out out (legal_line is_checked true)
-unasked_line is_checked out unchecked = subst (λ (b : Bool). Appends out out (legal_line b true)) (sym unchecked) (Appends-nil out)
-
--- and nothing is said against it
-pub unasked_verdict : {O A : Type 0} (object : Sequential O) (is_checked : Bool) (p : Played A)
-    → is_checked ≡ false → IsVerdict object is_checked true p
-unasked_verdict object is_checked p unchecked = subst (λ (b : Bool). IsVerdict object b true p) (sym unchecked) refl
-
--- where it is asked for, its line is printed
-pub asked_line : (is_checked is_legal : Bool) (old new : Option (List ℕ)) → is_checked ≡ true
-    → Appends old new (line_of (legal_text is_legal)) → Appends old new (legal_line is_checked is_legal)
-asked_line is_checked is_legal old new checked p = subst (λ (b : Bool). Appends old new (legal_line b is_legal)) (sym checked) p
-
--- and says exactly whether the run is legal
-pub asked_verdict : {O A : Type 0} (object : Sequential O) (is_checked is_legal : Bool) (p : Played A)
-    → is_checked ≡ true → (IsTrue is_legal ↔ IsLegal object p) → IsVerdict object is_checked is_legal p
-asked_verdict object is_checked is_legal p checked legal = subst (λ (b : Bool). IsVerdict object b is_legal p) (sym checked) legal
 
 -- a text of a run, and then what is printed of whether it is legal
 pub whole_text : {O A : Type 0} (object : Sequential O) (group : Group) (is_checked : Bool)

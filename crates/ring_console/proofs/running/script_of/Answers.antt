@@ -5,7 +5,7 @@ use Rattle.ring_console.proofs.running.script_of.Goals as goal
 
 pub returns-in-Ok-new-clause-printed : goal.returns-in-Ok-new-clause-printed
 returns-in-Ok-new-clause-printed g c = λ zero_is.
-    let told = at_true c.run_script-done.result _ c.run_script-done.ensures.ok (c.verdict_status-status.ensures.ok zero_is) in (
+    let told = at_true c.print_script-done.result _ c.print_script-done.ensures.ok (c.verdict_status-status.ensures.ok zero_is) in (
       c.in-Ok.script,
       c.in-Ok.ensures.read.0,
       c.in-Ok.ensures.read.1,
@@ -14,7 +14,7 @@ returns-in-Ok-new-clause-printed g c = λ zero_is.
         text = told.text;
         appended = where_known _ _ _ (λ xs known.
             let back = given_back g.O.Write.contents _ c.into_parts-writer.result.0 c.in-Ok-new.buffer
-            c.run_script-done.new.out c.verdict_status-status.new.out told.text xs known
+            c.print_script-done.new.out c.verdict_status-status.new.out told.text xs known
             c.in-Ok-new.ensures.inner c.in-Ok-new.ensures.empty told.appended c.verdict_status-status.ensures.kept
             (c.verdict_status-status.ensures.flushed zero_is) c.into_parts-writer.ensures.inner in
             let name = back.0 in

@@ -1,5 +1,5 @@
 use Rattle.ring_console.proofs.PrintedLines.{whole_text}
-use Rattle.ring_console.proofs.running.Run.print_script.Goals as goal
+use Rattle.ring_console.proofs.run.Run.print_script.Goals as goal
 
 pub returns-clause-ok : goal.returns-clause-ok
 returns-clause-ok g c =
