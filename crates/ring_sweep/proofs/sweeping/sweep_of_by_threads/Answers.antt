@@ -1,5 +1,5 @@
 use Rattle.ring_sweep.proofs.Trying.{all_legal}
-use Rattle.ring_sweep.proofs.sweeping.sweep_by_threads.Goals as goal
+use Rattle.ring_sweep.proofs.sweeping.sweep_of_by_threads.Goals as goal
 
 pub returns-clause-printed : goal.returns-clause-printed
 returns-clause-printed g c = λ zero_is. (
