@@ -29,7 +29,8 @@ pub fn run<R: Files + AllocGlobal + Threads + Wait + Clock + Sync, I: Read, O: W
     out: &mut O,
     err: &mut E,
 ) -> u8 {
-    run_of::<Locks, LockWords, R, I, O, E, E>(rt, words, input, out, err, None)
+    let nobody: Option<&mut Vec<u8>> = None;
+    run_of::<Locks, LockWords, _, _, _, _, _>(rt, words, input, out, err, nobody)
 }
 
 /// Prints what the program prints of the script; whether the script is legal with a stop or a cut of each node before any of its
@@ -58,8 +59,9 @@ fn printed<R: Files + AllocGlobal + Threads + Wait + Clock + Sync>(
     input: &[u8],
 ) -> io::Result<Vec<u8>> {
     let alloc = rt.alloc();
+    let words = words_in(alloc, line);
     let (mut out, mut err, mut input) = (Vec::new(alloc), Vec::new(alloc), input);
-    run(rt, &words_in(alloc, line), &mut input, &mut out, &mut err);
+    run(rt, &words, &mut input, &mut out, &mut err);
     Ok(out)
 }
 
