@@ -104,6 +104,8 @@ class Run:
             if told == b"F":
                 self.frames.append(Frame(me, number(record[:2]), record[2:]))
                 self.open += [(len(self.frames), to) for to in self.nodes if self.frames[-1].goes_to(to)]
+            elif told == b"G":
+                node.committed += self.longest()[len(node.committed):number(record)]
             elif told == b"C":
                 node.committed.append((number(record[:4]), number(record[4:12])))
             elif told == b"T":
@@ -114,6 +116,10 @@ class Run:
                 self.printed.append(f"reply {me} {node.calls[number(record[:8])]} {ANSWERS[told]} {record[8:].hex()}")
             elif told == b"R":
                 self.printed.append(f"reply {me} {node.calls[number(record[:8])]} refused {record[8]}")
+
+    def longest(self):
+        """The longest list of calls that a node committed."""
+        return max((node.committed for node in self.nodes.values()), key=len)
 
     def pump(self, turns):
         for _ in range(turns):
@@ -128,9 +134,9 @@ class Run:
         for me, node in self.nodes.items():
             _, at = node.ask(b"Q")[0]
             ring = f"{number(at[1:9])}.{at[9]}"
-            self.printed.append(f"node {me} {STATES[at[0]]} {ring} committed {number(at[10:18])} log {number(at[18:26])}")
-        longest = max((node.committed for node in self.nodes.values()), key=len)
-        self.printed.append(f"order {effects(longest)}")
+            trimmed = f" trimmed {number(at[26:34])}" if number(at[26:34]) else ""
+            self.printed.append(f"node {me} {STATES[at[0]]} {ring} committed {number(at[10:18])} log {number(at[18:26])}{trimmed}")
+        self.printed.append(f"order {effects(self.longest())}")
 
     def do(self, words):
         match words:

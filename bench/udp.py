@@ -10,7 +10,8 @@ Of the frames that come to each node 2 in a hundred are lost, 2 come twice and 2
 the run the last node's processes are stopped for two seconds, and go on; two thirds into it node 1's are killed. Clients
 try a call again that has waited half a second. The logs of all nodes are compared:
 
-- the committed calls that each node tells are fronts of one list;
+- the committed calls that each node tells stand in one list, each at its place: one after the other from the first, and behind the
+  places of a snapshot that the node was given;
 - in that list, repeats left out, each answer is what the counter makes of the calls up to its own, so no call takes effect
   twice, and each that is read is the sum of all adds before;
 - an answer counts each add that was answered before its call was made, by one clock for all.
@@ -68,13 +69,31 @@ def trouble(processes, seconds):
 
 
 def read_log(path):
-    """The calls, answers and committed calls of a node, each with its time."""
-    told = {"call": [], "answer": [], "committed": []}
+    """The calls and answers of a node, each with its time, and by its place each call that it committed."""
+    told, committed, place = {"call": [], "answer": []}, {}, 0
     for line in path.read_text(encoding="ascii").splitlines(keepends=True):
         words = line.split()
-        if line.endswith("\n"):  # a killed node's last line may be cut off
+        if not line.endswith("\n"):  # a killed node's last line may be cut off
+            continue
+        if words[1] == "restored":
+            place = max(place, int(words[2]))
+        elif words[1] == "committed":
+            committed[place] = ((int(words[2]), int(words[3])), words[4])
+            place += 1
+        else:
             told[words[1]].append((float(words[0]), (int(words[2]), int(words[3])), words[4:]))
-    return told
+    return told | {"committed": committed}
+
+
+def one_list(logs):
+    """The calls that nodes committed, by their places, and what nodes differ in."""
+    places, wrong = {}, []
+    for me, log in enumerate(logs, 1):
+        for place, call in log["committed"].items():
+            if places.setdefault(place, call) != call:
+                wrong.append(f"node {me}'s committed call at {place} is another")
+    missing = set(range(len(places))) - set(places)
+    return [places[place] for place in sorted(places)], wrong + [f"no node told the call at {place}" for place in sorted(missing)]
 
 
 def replayed(order):
@@ -91,9 +110,7 @@ def replayed(order):
 
 def faults(logs, killed_at):
     """What does not hold of the logs."""
-    lists = [[(call, rest[0]) for _, call, rest in log["committed"]] for log in logs]
-    order = max(lists, key=len)
-    wrong = [f"node {me + 1}'s committed calls are no front" for me, calls in enumerate(lists) if calls != order[:len(calls)]]
+    order, wrong = one_list(logs)
     replies, values = replayed(order)
     answers = [answer for log in logs for answer in log["answer"]]
     for _, call, (kind, reply) in answers:

@@ -81,7 +81,7 @@ static void try_what_is_refused(void) {
 }
 
 static void try_worked_records(void) {
-    static const unsigned char STANDS[] = {'Q', 0, 26, 0, 0, 0, 0, 0, 0, 0, 0, 0, 1, 0, 0, 0, 0, 0, 0, 0, 0, 0, 0, 0, 0, 0, 0, 0, 0, 'E', 0, 2, 0, 0};
+    static const unsigned char STANDS[] = {'Q', 0, 34, 0, 0, 0, 0, 0, 0, 0, 0, 0, 1, 0, 0, 0, 0, 0, 0, 0, 0, 0, 0, 0, 0, 0, 0, 0, 0, 0, 0, 0, 0, 0, 0, 0, 0, 'E', 0, 2, 0, 0};
     unsigned char call[32];
     take('Q', NULL, 0);
     want(tells(STANDS, sizeof STANDS), "a node at its opening stands at ring 0.1");

@@ -146,6 +146,7 @@ static void take_record(unsigned char kind, const unsigned char *bytes, size_t l
         asking->asked_at = now();
         asking->is_waiting = 1;
     }
+    if (kind == 'G') log_call("restored", number_at(bytes, 8), 0, "", bytes, 0);
     if (kind == 'C') log_call("committed", number_at(bytes, 4), number_at(bytes + 4, 8), "", bytes + 12, length - 12);
 }
 

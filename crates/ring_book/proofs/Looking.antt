@@ -12,7 +12,7 @@ use Rattle.ring_book.specs.Cells.{IsCell}
 use Rattle.ring_book.specs.Ends.{Name}
 use Rattle.ring_book.specs.Openings.{Writer}
 use Rattle.ring_book.specs.Told.{ToldView}
-use Rattle.ring_book.proofs.Entering.{Looked, Popped, one_left, first_same}
+use Rattle.ring_book.proofs.Entering.{Looked, one_left, first_same}
 
 module _ {S A : Type 0} {m : Machine S A} {IsSound : S → Type 0} {name : Name A} {lines : List (LineView A)}
     {ends : List (End A)} {told : List ToldView} {log : LogView} {reserved capacity places space room me : ℕ}

@@ -21,7 +21,7 @@ module _ {O A : Type 0} (object : Sequential O) (group : Group)
     (submits : (n : Node A) (c : Call A) → NodeFits n → CallFits c → NodeFits (submitted n c)) where
   sound_by : (s : Node A) (input : LineInput A) (l : StepView A) (t : Node A) → NodeFits s → LineFits input
       → Makes (node_machine object group) s input l t → NodeFits t
-  sound_by s (Called c) l t h fits made = subst NodeFits (sym made.1) (submits s c h fits)
+  sound_by s (Called c) l t h fits made = subst NodeFits (sym made.1) (submits s c h fits.fits)
   sound_by s (Came i at) l t h fits made = subst NodeFits (sym made.1) (steps s i h fits)
 
   pub node_sound : (s : Node A) (l : StepView A) (t : Node A) → NodeFits s → IsStep (node_machine object group) s l t → NodeFits t

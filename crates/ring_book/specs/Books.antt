@@ -1,6 +1,6 @@
 -- What a book keeps, and what entering a step does.
 -- The book and the threads, of docs/PROTOCOL.md.
-use Rattle.std.specs.Prelude.{ℕ, suc, Option, ◌≡◌, ◌≤◌, ◌+◌, ◌⊎◌, false, List, [], ◌∷◌, ◌++◌, Some, slice_get, length}
+use Rattle.std.specs.Prelude.{ℕ, suc, ◌≡◌, ◌≤◌, ◌+◌, ◌⊎◌, false, List, [], ◌∷◌, ◌++◌, Some, slice_get, length}
 use Rattle.rtrb.specs.declared.consumer.Consumer.{Consumer}
 use Rattle.rtrb.specs.declared.AnyItems.{AnyItems}
 use Rattle.rtrb.specs.Ring.{received, consumer_capacity}

@@ -11,7 +11,7 @@ use ring_base::{Fault, Proc};
 use ring_book_lines::{FrameRef, Frames, LineInput, Step};
 use ring_node::{Node, Outs};
 use ring_object::Object;
-use ring_order_proof::fit_laws::node_fits_law;
+use ring_order_proof::fit_laws::{call_keeps_law, node_fits_law};
 use ring_payload::Call;
 use ring_rules::Input;
 use ring_session::Ticket;
@@ -81,9 +81,11 @@ impl<O: Object, K: BookName<O::Alloc>> Cell<O, K> {
                     sends,
                     answers,
                     committed,
+                    dropped: _,
+                    restored: _,
                 } = outs;
                 let frames = Frames::new(self.alloc, sends, &mut self.text);
-                let places = self.node.committed().len();
+                let places = self.node.committed_len() as usize;
                 self.journal.push_reserved(Step::came(
                     self.me,
                     LineInput::Came(input, at),
@@ -97,7 +99,7 @@ impl<O: Object, K: BookName<O::Alloc>> Cell<O, K> {
             }
             Err(fault) => match fault {
                 Fault::Memory => {
-                    let committed = self.node.committed().len();
+                    let committed = self.node.committed_len() as usize;
                     let stop = Step::stop(self.alloc, self.me, at, committed);
                     self.journal.push_reserved(stop);
                     self.ahead = true;
@@ -123,8 +125,9 @@ impl<O: Object, K: BookName<O::Alloc>> Cell<O, K> {
             return Err(Fault::Stranger);
         }
         node_fits_law::<O>();
+        call_keeps_law(&call);
         let ticket = self.node.submit_on(&call)?;
-        let places = self.node.committed().len();
+        let places = self.node.committed_len() as usize;
         self.journal
             .push_reserved(Step::called(self.alloc, self.me, call, places));
         self.ahead = true;

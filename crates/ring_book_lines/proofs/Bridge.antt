@@ -1,14 +1,12 @@
 -- A book run is the run of its lines' events.
-use Rattle.std.proofs.Common.{◌≡◌, ℕ, ◌-◌, ◌≤◌, ◌++◌, ◌==◌, Bool, true, false, List, [], ◌∷◌, length}
-use Rattle.std.proofs.Common.{Option, None, Some, slice_get, refl, inl, inr, ap, subst, sym, ◌∙◌, arith, append-nil, append_assoc, eq-eqb}
-use Rattle.std.specs.Prelude.{map, IsSomeAnd}
+use Rattle.std.proofs.Common.{◌≡◌, ℕ, ◌-◌, ◌≤◌, ◌++◌, ◌==◌, Bool, true, false, List, [], ◌∷◌, length, take}
+use Rattle.std.proofs.Common.{Option, None, Some, refl, inl, inr, ap, subst, sym, ◌∙◌, arith, append-nil, append_assoc, eq-eqb}
+use Rattle.std.specs.Prelude.{IsSomeAnd}
 use Rattle.std.specs.List.{AllByRecursion as Each}
 use Rattle.std.proofs.lemmas.Bool.{cases_Bool, eqb-true, cond-true, cond-false, and_from, le-leb}
 use Rattle.std.proofs.lemmas.Bool.Decides.{nat_tests}
-use Rattle.std.proofs.lemmas.List.{map-append}
-use Rattle.ring_base.specs.Fronts.{IsFront}
+use Rattle.std.proofs.lemmas.List.{map-append, drop_all}
 use Rattle.ring_base.specs.Group.{Group}
-use Rattle.ring_base.specs.Numbers.{numbers_from}
 use Rattle.ring_base.specs.Processors.{has}
 use Rattle.ring_base.specs.declared.fault.Fault.{Fault}
 use Rattle.ring_object.specs.Operations.{Sequential}
@@ -21,15 +19,12 @@ use Rattle.ring_session.specs.Tickets.{Asked, asked_calls}
 use Rattle.ring_session.specs.declared.answered.Answered.{Answered}
 use Rattle.ring_rules.specs.declared.input.Input.{Input}
 use Rattle.ring_rules.specs.declared.input.Input.TheVariants.{Frame as Comes, Noise, Timeout, Stop}
-use Rattle.ring_rules.specs.Nodes.{Node, node_committed, node_opening, node_stopped}
+use Rattle.ring_rules.specs.Nodes.{Node, node_kept, node_opening, node_stopped}
 use Rattle.ring_rules.specs.Stepping.{NodeStepped, node_step, submit_fault, submitted}
 use Rattle.ring_rules.specs.WorldLimits.{EventFits}
-use Rattle.ring_rules.specs.Orders.{AreOneLog, order_of}
-use Rattle.ring_rules.proofs.Linear.{all-at}
-use Rattle.ring_rules.proofs.NodeChanges.{submitted-committed}
-use Rattle.ring_rules.specs.Worlds.{World, world_opening, put, is_node, carried, items_of, after_step, issued_or, issued_if}
-use Rattle.ring_rules.specs.Worlds.{stopped_if, stepped_if, handed_if, handed, happens, run, committed_in, order}
-use Rattle.ring_log.proofs.CommittedOf.{born-committed}
+use Rattle.ring_rules.specs.Worlds.{World, world_opening, put, is_node, carried, items_of, calls_past, after_step, issued_or, issued_if}
+use Rattle.ring_rules.specs.Worlds.{stopped_if, stepped_if, handed_if, handed, happens, run, order}
+use Rattle.ring_order_proof.specs.Linear.{EventKeeps}
 use Rattle.ring_book_lines.specs.declared.frame_ref.FrameRef.{FrameRef}
 use Rattle.ring_book_lines.specs.declared.input.LineInput.{LineInput}
 use Rattle.ring_book_lines.specs.declared.input.LineInput.TheVariants.{Called, Came}
@@ -37,16 +32,16 @@ use Rattle.ring_book_lines.specs.Answers.{told_by, told_from, told_to}
 use Rattle.ring_book_lines.specs.Events.{answers_of, frames_of, frame_number, event_of, events_after}
 use Rattle.ring_book_lines.specs.Events.{events_of, items_in, history_of, IsDone, AreDone, IsRun}
 use Rattle.ring_book_lines.specs.Lines.{steps_of, IsFound}
-use Rattle.ring_book_lines.specs.Logs.{committed_by, committed_to, longest_log}
+use Rattle.ring_book_lines.specs.Logs.{places_after, places_of}
 use Rattle.ring_book_lines.specs.Machines.{Machine, node_machine}
 use Rattle.ring_book_lines.specs.Orders.{call_in, calls_of}
 use Rattle.ring_book_lines.specs.Runs.{LineFits, Makes, IsStep, Leads, AllFound, IsInside, IsBookRun}
 use Rattle.ring_book_lines.specs.Steps.{StepView, LineView}
 use Rattle.ring_book_lines.proofs.Given.{HasOwn, step-adds, answers_of-stepped, answers_of-submitted, own-stepped, own-submitted}
-use Rattle.ring_book_lines.proofs.CommittedInLines.{grown, one-log-after, one-log-now, committed-after, committed-now}
+use Rattle.ring_order_proof.proofs.LongestCommitted.{born-known, within-longest, taken-longest, order-longest}
 use Rattle.ring_order_proof.proofs.Orderly.{run-more}
 use Rattle.ring_book_lines.proofs.Leading.{leads_one, steps_of-own, steps_of-other, steps_of-first, steps_of-skip}
-use Rattle.ring_book_lines.proofs.Logging.{IsGrown, IsLongest, longest-next, order-longest}
+use Rattle.ring_book_lines.proofs.Logging.{IsLogged, logged-next}
 use Rattle.ring_book_lines.proofs.FramesInLines.{number_stands}
 use Rattle.ring_book_lines.proofs.AnswersByTicket.{told_from-snoc}
 
@@ -66,9 +61,9 @@ calls_of-snoc : {A : Type 0} (ss : List (StepView A)) (s : StepView A) → calls
 calls_of-snoc [] s = append-nil (call_in s.input)
 calls_of-snoc (x ∷ ss) s = ap (λ ys. call_in x.input ++ ys) (calls_of-snoc ss s) ∙ sym (append_assoc (call_in x.input) (calls_of ss) (call_in s.input))
 
-committed_by-snoc : {A : Type 0} (ss : List (StepView A)) (s : StepView A) → committed_by (ss ++ s ∷ []) ≡ committed_by ss ++ s.calls
-committed_by-snoc [] s = append-nil s.calls
-committed_by-snoc (x ∷ ss) s = ap (λ ys. x.calls ++ ys) (committed_by-snoc ss s) ∙ sym (append_assoc x.calls (committed_by ss) s.calls)
+places_after-snoc : {A : Type 0} (places : ℕ) (ss : List (StepView A)) (s : StepView A) → places_after places (ss ++ s ∷ []) ≡ s.committed
+places_after-snoc places [] s = refl
+places_after-snoc places (x ∷ ss) s = places_after-snoc x.committed ss s
 
 after-snoc : {A : Type 0} (before ls : List (LineView A)) (l : LineView A)
     → events_after before (ls ++ l ∷ []) ≡ events_after before ls ++ event_of (before ++ ls) l.step.node l.step.input ∷ []
@@ -80,11 +75,24 @@ after-snoc before (x ∷ ls) l =
 
 -- what comes keeps the limits
 event-fits : {A : Type 0} (before : List (LineView A)) (node : ℕ) (input : LineInput A) → LineFits input → EventFits (event_of before node input)
-event-fits before node (Called c) h = h
+event-fits before node (Called c) h = h.fits
 event-fits before node (Came (Comes f) at) h = tt
 event-fits before node (Came Noise at) h = tt
 event-fits before node (Came (Timeout kind) at) h = tt
 event-fits before node (Came Stop at) h = tt
+
+event-keeps : {A : Type 0} (before : List (LineView A)) (node : ℕ) (input : LineInput A) → LineFits input → EventKeeps (event_of before node input)
+event-keeps before node (Called c) h = h
+event-keeps before node (Came (Comes f) at) h = tt
+event-keeps before node (Came Noise at) h = tt
+event-keeps before node (Came (Timeout kind) at) h = tt
+event-keeps before node (Came Stop at) h = tt
+
+-- nothing that is new makes a log no longer
+no-calls : {A : Type 0} (longest calls : List (Call A)) (all : ℕ) → calls ≡ [] → longest ≡ longest ++ calls_past (length longest) all calls
+no-calls {A} longest calls all e =
+    sym (append-nil longest) ∙ ap (λ (cs : List (Call A)). longest ++ cs)
+    (sym (ap (calls_past (length longest) all) e ∙ drop_all (0 - (all - length longest)) [] (omega arith)))
 
 module _ {O A : Type 0} (object : Sequential O) (group : Group) where
   abbrev machine : Machine (Node A) A
@@ -99,6 +107,7 @@ module _ {O A : Type 0} (object : Sequential O) (group : Group) where
     pub others : (i : ℕ) → (i == node) ≡ false → after.nodes i ≡ w.nodes i
     pub frames : after.frames ≡ w.frames ++ carried node l.frames
     pub history : after.history ≡ w.history ++ items_in input l.answers
+    pub longest : after.longest ≡ w.longest ++ calls_past (length w.longest) (node_kept u).committed l.calls
 
   put-own : (w : World A) (node : ℕ) (n : Node A) → put w.nodes node n node ≡ n
   put-own w node n = cond-true (node == node) n (w.nodes node) (eq-eqb node node refl)
@@ -110,25 +119,29 @@ module _ {O A : Type 0} (object : Sequential O) (group : Group) where
   issued_in w node c = issued_or None w node c
 
   next_issued : (w after : World A) (node : ℕ) (c : Call A) (l : StepView A) (u : Node A) → after ≡ issued_in w node c → u ≡ submitted (w.nodes node) c
-      → l.frames ≡ []
-      → IsNext w after node (Called c) l u
-  next_issued w after node c l u e new none = record {
+      → l.frames ≡ [] → l.calls ≡ [] → IsNext w after node (Called c) l u
+  next_issued w after node c l u e new none same = record {
     group_is = ap (λ x. x.group) e;
     own = ap (λ (x : World A). x.nodes node) e ∙ (put-own w node (submitted (w.nodes node) c) ∙ sym new);
     others = λ i apart. ap (λ (x : World A). x.nodes i) e ∙ put-other w node (submitted (w.nodes node) c) i apart;
     frames = ap (λ x. x.frames) e ∙ (sym (append-nil w.frames) ∙ ap (λ fs. w.frames ++ carried node fs) (sym none));
     history = ap (λ x. x.history) e;
+    longest = ap (λ x. x.longest) e ∙ no-calls w.longest l.calls (node_kept u).committed same;
   }
 
   next_done : (w after : World A) (node : ℕ) (input : Input A) (at : FrameRef) (l : StepView A) (u : Node A) (d : NodeStepped A) → after.group ≡ w.group
       → after.nodes ≡ put w.nodes node d.node → after.frames ≡ w.frames ++ carried node d.sends → after.history ≡ w.history ++ items_of d.answers
-      → u ≡ d.node → l.frames ≡ d.sends → l.answers ≡ d.answers → IsNext w after node (Came input at) l u
-  next_done w after node input at l u d same nodes frames history new sent told = record {
+      → after.longest ≡ w.longest ++ calls_past (length w.longest) (node_kept d.node).committed d.committed
+      → u ≡ d.node → l.frames ≡ d.sends → l.answers ≡ d.answers → l.calls ≡ d.committed → IsNext w after node (Came input at) l u
+  next_done w after node input at l u d same nodes frames history longest new sent told calls = record {
     group_is = same;
     own = ap (λ (f : ℕ → Node A). f node) nodes ∙ (put-own w node d.node ∙ sym new);
     others = λ i apart. ap (λ (f : ℕ → Node A). f i) nodes ∙ put-other w node d.node i apart;
     frames = frames ∙ ap (λ fs. w.frames ++ carried node fs) (sym sent);
     history = history ∙ ap (λ (as' : List _). w.history ++ items_of as') (sym told);
+    longest = longest
+        ∙ (ap (λ (n : Node A). w.longest ++ calls_past (length w.longest) (node_kept n).committed d.committed) (sym new)
+        ∙ ap (λ (cs : List (Call A)). w.longest ++ calls_past (length w.longest) (node_kept u).committed cs) (sym calls));
   }
 
   -- the frame that comes was sent in the world
@@ -161,7 +174,7 @@ module _ {O A : Type 0} (object : Sequential O) (group : Group) where
   follows w before node (Called c) l u known e made found = record {
     done = (made.0, made.2, made.3, made.4);
     next = next_issued w (happens object w (event_of before node (Called c))) node c l u
-        (ap (λ (b : Bool). issued_if b w node c) known ∙ issues (submit_fault (w.nodes node)) w node c made.0) made.1 made.2;
+        (ap (λ (b : Bool). issued_if b w node c) known ∙ issues (submit_fault (w.nodes node)) w node c made.0) made.1 made.2 made.4;
   }
   follows w before node (Came (Comes f) at) l u known e made found =
       let d = node_step object (w.nodes node) (Comes f) in
@@ -172,7 +185,7 @@ module _ {O A : Type 0} (object : Sequential O) (group : Group) where
         done = (made.0, made.2, made.3, made.4, c.1);
         next = next_done w (happens object w (event_of before node (Came (Comes f) at))) node (Comes f) at l u d
             (ap (λ (x : World A). x.group) c.0) (ap (λ (x : World A). x.nodes) c.0) (ap (λ (x : World A). x.frames) c.0) (ap (λ (x : World A). x.history) c.0)
-            made.1 made.2 made.3;
+            (ap (λ (x : World A). x.longest) c.0) made.1 made.2 made.3 made.4;
       }
   follows w before node (Came Noise at) l u known e made found = record {
     done = (made.0, made.2, made.3, made.4, tt);
@@ -182,6 +195,7 @@ module _ {O A : Type 0} (object : Sequential O) (group : Group) where
       others = λ i apart. refl;
       frames = sym (append-nil w.frames) ∙ ap (λ fs. w.frames ++ carried node fs) (sym made.2);
       history = sym (append-nil w.history) ∙ ap (λ (as' : List (Answered A)). w.history ++ items_of as') (sym made.3);
+      longest = no-calls w.longest l.calls (node_kept u).committed made.4;
     };
   }
   follows w before node (Came (Timeout kind) at) l u known e made found =
@@ -192,7 +206,7 @@ module _ {O A : Type 0} (object : Sequential O) (group : Group) where
         done = (made.0, made.2, made.3, made.4, tt);
         next = next_done w (happens object w (event_of before node (Came (Timeout kind) at))) node (Timeout kind) at l u d
             (ap (λ (x : World A). x.group) is) (ap (λ (x : World A). x.nodes) is) (ap (λ (x : World A). x.frames) is) (ap (λ (x : World A). x.history) is)
-            made.1 made.2 made.3;
+            (ap (λ (x : World A). x.longest) is) made.1 made.2 made.3 made.4;
       }
   follows w before node (Came Stop at) l u known e made found =
       let n = node_stopped (w.nodes node) in
@@ -202,7 +216,8 @@ module _ {O A : Type 0} (object : Sequential O) (group : Group) where
         done = (made.0, made.2, made.3, made.4, tt);
         next = next_done w (happens object w (event_of before node (Came Stop at))) node Stop at l u (node_step object (w.nodes node) Stop)
             (ap (λ (x : World A). x.group) is) (ap (λ (x : World A). x.nodes) is) (ap (λ (x : World A). x.frames) is ∙ sym (append-nil w.frames))
-            (ap (λ (x : World A). x.history) is ∙ sym (append-nil w.history)) made.1 made.2 made.3;
+            (ap (λ (x : World A). x.history) is ∙ sym (append-nil w.history))
+            (ap (λ (x : World A). x.longest) is ∙ no-calls w.longest [] (node_kept n).committed refl) made.1 made.2 made.3 made.4;
       }
 
   -- ---- what the lines say of the world after them
@@ -214,65 +229,39 @@ module _ {O A : Type 0} (object : Sequential O) (group : Group) where
     pub calls : (i : ℕ) → asked_calls (w.nodes i).tickets ≡ calls_of (steps_of i before)
     pub answers : (i : ℕ) → answers_of (w.nodes i) ≡ told_to i before
     pub own : (i : ℕ) → HasOwn (w.nodes i)
-    pub committed : (i : ℕ) → node_committed (w.nodes i) ≡ committed_to i before
-    pub longest : IsLongest (λ i. node_committed (w.nodes i)) group.count before
+    pub committed : (i : ℕ) → (node_kept (w.nodes i)).committed ≡ places_of i before
+    pub logged : IsLogged before w.longest
 
-  -- what a step makes of a node's calls, answers and committed log
+  -- what a step makes of a node's calls and answers
   record Makes3 (n u : Node A) (input : LineInput A) (l : StepView A) : Type 0 where
     calls : asked_calls u.tickets ≡ asked_calls n.tickets ++ call_in input
     answers : answers_of u ≡ told_by (answers_of n) input l.answers
     own : HasOwn u
-    committed : node_committed u ≡ node_committed n ++ l.calls
 
-  makes3 : (n u : Node A) (input : LineInput A) (l : StepView A) → Makes machine n input l u → IsFront (node_committed n) (node_committed u) → HasOwn n
-      → Makes3 n u input l
-  makes3 n u (Called c) l made front own = record {
+  makes3 : (n u : Node A) (input : LineInput A) (l : StepView A) → Makes machine n input l u → HasOwn n → Makes3 n u input l
+  makes3 n u (Called c) l made own = record {
     calls = ap (λ (x : Node A). asked_calls x.tickets) made.1
         ∙ map-append (λ (t : Asked A). t.call) n.tickets (record { call = c; since = length n.done } ∷ []);
     answers = ap (λ (x : Node A). answers_of x) made.1 ∙ answers_of-submitted n c own;
     own = subst (λ (x : Node A). HasOwn x) (sym made.1) (own-submitted n c own);
-    committed = ap (λ (x : Node A). node_committed x) made.1
-        ∙ (submitted-committed n c ∙ (sym (append-nil (node_committed n)) ∙ ap (λ cs. node_committed n ++ cs) (sym made.4)));
   }
-  makes3 n u (Came input at) l made front own =
+  makes3 n u (Came input at) l made own =
       let d = node_step object n input in
-      let adds = step-adds object n input (subst (λ (x : Node A). IsFront (node_committed n) (node_committed x)) made.1 front) in
+      let adds = step-adds object n input in
       record {
         calls = ap (λ (x : Node A). asked_calls x.tickets) made.1 ∙ (ap asked_calls adds.tickets ∙ sym (append-nil (asked_calls n.tickets)));
         answers = ap (λ (x : Node A). answers_of x) made.1
             ∙ (answers_of-stepped n d adds ∙ ap (λ (as' : List (Answered A)). told_by (answers_of n) (Came input at) as') (sym made.3));
         own = subst (λ (x : Node A). HasOwn x) (sym made.1) (own-stepped n d adds own);
-        committed = ap (λ (x : Node A). node_committed x) made.1 ∙ (adds.committed ∙ ap (λ cs. node_committed n ++ cs) (sym made.4));
       }
 
-  all-fronts : (w : World A) → AreOneLog (committed_in w)
-      → ((i : ℕ) → 1 ≤ i → i ≤ group.count → slice_get (committed_in w) (i - 1) ≡ Some (node_committed (w.nodes i)))
-      → (log : List (Call A)) × ((i : ℕ) → 1 ≤ i → i ≤ group.count → IsFront (node_committed (w.nodes i)) log)
-  all-fronts w one at = (
-    one.0,
-    λ i low high. all-at (λ (calls : List (Call A)). IsFront calls one.0) (committed_in w) (i - 1) (node_committed (w.nodes i)) one.1
-        (at i low high),
-  )
-
-  -- after one line more
-  says-next : (w after : World A) (before : List (LineView A)) (l : LineView A) (u : Node A) → Says w before → 1 ≤ l.step.node → l.step.node ≤ group.count
+  -- after one line more, whose node has committed no more than there is
+  says-next : (w after : World A) (before : List (LineView A)) (l : LineView A) (u : Node A) → Says w before
       → IsStep machine (w.nodes l.step.node) l.step u → IsNext w after l.step.node l.step.input l.step u
-      → IsFront (node_committed (w.nodes l.step.node)) (node_committed (after.nodes l.step.node)) → AreOneLog (committed_in after)
-      → ((i : ℕ) → 1 ≤ i → i ≤ group.count → slice_get (committed_in after) (i - 1) ≡ Some (node_committed (after.nodes i)))
-      → Says after (before ++ l ∷ [])
-  says-next w after before l u says low high step next front one at =
+      → (node_kept (after.nodes l.step.node)).committed ≤ length after.longest → Says after (before ++ l ∷ [])
+  says-next w after before l u says step next within =
       let node = l.step.node in
-      let n = w.nodes node in
-      let m = makes3 n u l.step.input l.step step.makes (subst (λ (x : Node A). IsFront (node_committed n) (node_committed x)) next.own front)
-      (says.own node) in
-      let grow : IsGrown (λ i. node_committed (w.nodes i)) (λ i. node_committed (after.nodes i)) group.count node l.step = record {
-        low = low;
-        high = high;
-        own = ap (λ (x : Node A). node_committed x) next.own ∙ m.committed;
-        others = λ i apart. ap (λ (x : Node A). node_committed x) (next.others i apart);
-        length_is = step.committed ∙ ap (λ (x : Node A). length (node_committed x)) (sym next.own);
-      } in
-      let fronts = all-fronts after one at in
+      let m = makes3 (w.nodes node) u l.step.input l.step step.makes (says.own node) in
       record {
         group_is = next.group_is ∙ says.group_is;
         frames = next.frames ∙ (ap (λ xs. xs ++ carried node l.step.frames) says.frames ∙ sym (frames_of-snoc before l));
@@ -292,12 +281,12 @@ module _ {O A : Type 0} (object : Sequential O) (group : Group) where
           | inr f ↦ subst (λ (x : Node A). HasOwn x) (sym (next.others i f)) (says.own i)
         ];
         committed = λ i. elim (cases_Bool (i == node)) [
-          | inl t ↦ own-committed i (eqb-true i node t) m
-          | inr f ↦ ap (λ (x : Node A). node_committed x) (next.others i f)
-              ∙ (says.committed i ∙ sym (ap committed_by (steps_of-other i before l (apart-sym i node f))))
+          | inl t ↦ own-committed i (eqb-true i node t)
+          | inr f ↦ ap (λ (x : Node A). (node_kept x).committed) (next.others i f)
+              ∙ (says.committed i ∙ sym (ap (places_after 0) (steps_of-other i before l (apart-sym i node f))))
         ];
-        longest = longest-next (λ i. node_committed (w.nodes i))
-            (λ i. node_committed (after.nodes i)) group.count node before l grow fronts.0 fronts.1 says.longest;
+        logged = subst (IsLogged (before ++ l ∷ [])) (sym longer) (logged-next before l w.longest says.logged
+            (omega (arith, within, step.committed, ap (λ (x : Node A). (node_kept x).committed) next.own, ap length longer)));
       }
     where
       apart-sym : (i node : ℕ) → (i == node) ≡ false → (node == i) ≡ false
@@ -320,13 +309,15 @@ module _ {O A : Type 0} (object : Sequential O) (group : Group) where
           ∙ (sym (told_from-snoc [] (steps_of l.step.node before) l.step) ∙ (sym (ap (told_from []) (steps_of-own l.step.node before l refl))
           ∙ ap (λ (k : ℕ). told_to k (before ++ l ∷ [])) (sym e))))))
 
-      own-committed : (i : ℕ) → i ≡ l.step.node → Makes3 (w.nodes l.step.node) u l.step.input l.step
-          → node_committed (after.nodes i) ≡ committed_to i (before ++ l ∷ [])
-      own-committed i e m =
-          ap (λ (k : ℕ). node_committed (after.nodes k)) e
-          ∙ (ap (λ (x : Node A). node_committed x) next.own ∙ (m.committed ∙ (ap (λ xs. xs ++ l.step.calls) (says.committed l.step.node)
-          ∙ (sym (committed_by-snoc (steps_of l.step.node before) l.step) ∙ (sym (ap committed_by (steps_of-own l.step.node before l refl))
-          ∙ ap (λ (k : ℕ). committed_to k (before ++ l ∷ [])) (sym e))))))
+      own-committed : (i : ℕ) → i ≡ l.step.node → (node_kept (after.nodes i)).committed ≡ places_of i (before ++ l ∷ [])
+      own-committed i e =
+          ap (λ (k : ℕ). (node_kept (after.nodes k)).committed) e
+          ∙ (ap (λ (x : Node A). (node_kept x).committed) next.own
+          ∙ (sym step.committed ∙ (sym (places_after-snoc 0 (steps_of l.step.node before) l.step)
+          ∙ (sym (ap (places_after 0) (steps_of-own l.step.node before l refl)) ∙ ap (λ (k : ℕ). places_of k (before ++ l ∷ [])) (sym e)))))
+
+      longer : after.longest ≡ w.longest ++ calls_past (length w.longest) l.step.committed l.step.calls
+      longer = next.longest ∙ ap (λ (n : ℕ). w.longest ++ calls_past (length w.longest) n l.step.calls) (sym step.committed)
 
 -- ---- the whole run
 
@@ -356,6 +347,7 @@ module _ {O A : Type 0} (object : Sequential O) (group : Group) (few : group.cou
   pub record Ran (before ls : List (LineView A)) : Type 0 where
     pub done : AreDone object (world before) before ls
     pub fit : Each EventFits (events_after before ls)
+    pub keep : Each EventKeeps (events_after before ls)
     pub says : Says object group (world (before ++ ls)) (before ++ ls)
     pub nodes : LeadTo (world before) ls (world (before ++ ls))
 
@@ -407,6 +399,7 @@ module _ {O A : Type 0} (object : Sequential O) (group : Group) (few : group.cou
       record {
         done = tt;
         fit = tt;
+        keep = tt;
         says = subst (λ (xs : List (LineView A)). Says object group (world xs) xs) (sym e) says;
         nodes = λ i low high. ap (λ (xs : List (LineView A)). (world xs).nodes i) e;
       }
@@ -420,9 +413,10 @@ module _ {O A : Type 0} (object : Sequential O) (group : Group) (few : group.cou
       let u = h.1.0 in
       let step = h.1.1.0 in
       let f = follows object group w before l.step.node l.step.input l.step u (is-known w l.step.node says.group_is low high) says.frames step.makes found.0 in
-      let says' = says-next object group w after before l u says low high step f.next (grown object group few (events_of before) event l.step.node low high)
-      (one-log-after object group few (events_of before) event) (committed-after object group few (events_of before) event) in
       let more = world-more before l in
+      let within = subst (λ (x : World A). (node_kept (x.nodes l.step.node)).committed ≤ length x.longest) more
+      (within-longest object group few (events_of (before ++ l ∷ [])) l.step.node low high) in
+      let says' = says-next object group w after before l u says step f.next within in
       let lead' = rest-leads w after l ls u f.next (h.0, h.1.1.1) lead in
       let rest = ran (before ++ l ∷ []) ls (subst (λ (x : World A). Says object group x (before ++ l ∷ [])) (sym more) says')
       (subst (λ (x : World A). Lead x ls) (sym more) lead') inside.1 found.1 in
@@ -430,6 +424,7 @@ module _ {O A : Type 0} (object : Sequential O) (group : Group) (few : group.cou
       record {
         done = (f.done, subst (λ (x : World A). AreDone object x (before ++ l ∷ []) ls) more rest.done);
         fit = (event-fits before l.step.node l.step.input step.fits, rest.fit);
+        keep = (event-keeps before l.step.node l.step.input step.fits, rest.keep);
         says = subst (λ (xs : List (LineView A)). Says object group (world xs) xs) all rest.says;
         nodes = subst (λ (xs : List (LineView A)). LeadTo w (l ∷ ls) (world xs)) all
             (led-on w after (world ((before ++ l ∷ []) ++ ls)) l ls u f.next step
@@ -444,13 +439,8 @@ module _ {O A : Type 0} (object : Sequential O) (group : Group) (few : group.cou
     calls = λ i. refl;
     answers = λ i. refl;
     own = λ i. tt;
-    committed = λ i. born-committed group i;
-    longest = record {
-      below = tt;
-      total = refl;
-      fronts = λ i low high. subst (λ (calls : List (Call A)). IsFront calls []) (sym (born-committed group i)) ([], refl);
-      some = inl refl;
-    };
+    committed = λ i. born-known A group i;
+    logged = record { below = tt; total = refl; calls_are = refl };
   }
 
   pub book_ran : (lines : List (LineView A)) → IsBookRun m group.count lines → Ran [] lines
@@ -460,26 +450,20 @@ module _ {O A : Type 0} (object : Sequential O) (group : Group) (few : group.cou
   is_run lines r =
       let n = book_ran lines r in
       let w = world lines in
-      let counts : w.group.count ≡ group.count = ap (λ (g : Group). g.count) n.says.group_is in
+      let log = sym n.says.logged.calls_are in
       record {
         done = n.done;
         fit = n.fit;
+        keep = n.keep;
         frames = n.says.frames;
         history = n.says.history;
-        order = order-is lines n.says;
+        order = order-longest object group few (events_of lines) ∙ ap deduplicated log;
         calls = λ i low high. n.says.calls i;
         answers = λ i low high. n.says.answers i;
-        committed = λ i low high. n.says.committed i;
+        committed = λ i low high.
+            taken-longest object group few (events_of lines) i low high
+            ∙ (ap (λ (k : ℕ). take k w.longest) (n.says.committed i) ∙ ap (take (places_of i lines)) log);
       }
-    where
-      order-is : (ls : List (LineView A)) → Says object group (world ls) ls → order (world ls) ≡ deduplicated (longest_log ls)
-      order-is ls says =
-          let w = world ls in
-          let same : committed_in w ≡ map (λ i. node_committed (w.nodes i)) (numbers_from 1 group.count) =
-          ap (λ (g : Group). map (λ i. node_committed (w.nodes i)) (numbers_from 1 g.count)) says.group_is in
-          ap order_of same
-          ∙ order-longest (λ i. node_committed (w.nodes i)) group.count ls says.longest (subst AreOneLog same (one-log-now object group few (events_of ls)))
-          (λ j low high. ap (λ (cs : List (List (Call A))). slice_get cs (j - 1)) (sym same) ∙ committed-now object group few (events_of ls) j low high)
 
   pub node_is : (lines : List (LineView A)) (i : ℕ) (t : Node A) → IsBookRun m group.count lines → 1 ≤ i → i ≤ group.count
       → Leads m (node_opening group i) (steps_of i lines) t → t ≡ (world lines).nodes i

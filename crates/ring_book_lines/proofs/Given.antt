@@ -1,11 +1,10 @@
--- What a node's step and submit add to its committed log and to the answers of its tickets.
+-- What a node's step and submit add to the answers of its tickets.
 use Rattle.std.proofs.Common.{◌≡◌, ℕ, ◌+◌, ◌<◌, ◌≤◌, Bool, true, false, List, [], ◌∷◌, ◌++◌, length}
-use Rattle.std.proofs.Common.{drop, Option, Some, None, refl, ap, sym, subst, ◌∙◌, arith, append-nil, length-append, if◌then◌else◌}
-use Rattle.std.specs.Prelude.{replicate}
+use Rattle.std.proofs.Common.{Option, None, refl, ap, sym, subst, ◌∙◌, arith, append-nil, length-append, if◌then◌else◌}
+use Rattle.std.specs.Prelude.{replicate, ◌&&◌}
 use Rattle.std.specs.List.{AllByRecursion}
+use Rattle.std.proofs.lemmas.Bool.{cond_both}
 use Rattle.std.proofs.lemmas.List.{length-replicate, replicate-append-replicate}
-use Rattle.std.proofs.Math.Seq.{drop-append_seam}
-use Rattle.ring_base.specs.Fronts.{IsFront}
 use Rattle.ring_object.specs.Operations.{Sequential}
 use Rattle.ring_payload.specs.declared.call.Call.{Call}
 use Rattle.ring_session.specs.declared.answer.Answer.{Answer}
@@ -13,28 +12,20 @@ use Rattle.ring_core.specs.State.{Stepped}
 use Rattle.ring_core.specs.Stepping.{ring_step}
 use Rattle.ring_core.specs.declared.input.Input.TheVariants.{Frame as CoreFrame, Timeout as CoreTimeout}
 use Rattle.ring_core.specs.declared.out.Out.{Out}
-use Rattle.ring_log.specs.Stays.{Stay}
-use Rattle.ring_log.specs.Lives.{committed_of, is_sound}
-use Rattle.ring_session.specs.Table.{Table, table_answer, table_next, table_after}
+use Rattle.ring_log.specs.Kept.{Kept, kept_of, log_kept, is_kept_sound}
+use Rattle.ring_log.specs.Logs.{committed_calls}
+use Rattle.ring_session.specs.Table.{Table, table_answer, table_next}
 use Rattle.ring_session.specs.Tickets.{Asked, answers_after, answers_at, is_place, place_of}
 use Rattle.ring_session.specs.declared.answered.Answered.{Answered}
+use Rattle.ring_rules.specs.Dues.{due_by}
 use Rattle.ring_rules.specs.Lives.{lived_through}
-use Rattle.ring_rules.specs.Nodes.{Node, node_committed, node_stopped}
+use Rattle.ring_rules.specs.Nodes.{Node, node_kept, node_stopped, is_closed, is_restored}
 use Rattle.ring_rules.specs.declared.input.Input.{Input}
 use Rattle.ring_rules.specs.declared.input.Input.TheVariants.{Frame as FrameInput, Noise as NoiseInput, Timeout as TimeInput, Stop as StopInput}
-use Rattle.ring_rules.specs.Stepping.{NodeStepped, quiet, walked, node_step, submitted}
-use Rattle.ring_rules.specs.WholeSteps.{due_by, newly, settled, after_core, node_step as whole_step}
-use Rattle.ring_rules.proofs.OneStep.{step-same}
-use Rattle.ring_log.proofs.CommittedOf.{hands-committed}
+use Rattle.ring_rules.specs.Stepping.{NodeStepped, quiet, with_dropped, newly, drops, ended, table_since, did, settled, walked, after_core, node_step, submitted}
 use Rattle.ring_book_lines.specs.Answers.{answered_in, by_ticket}
 use Rattle.ring_book_lines.specs.Events.{answers_of}
 use Rattle.ring_book_lines.proofs.AnswersByTicket.{answered_in-append, answered_in-left}
-
--- The committed log
-
--- what stands behind a front
-behind : {X : Type 0} (xs ys : List X) → IsFront xs ys → ys ≡ xs ++ drop (length xs) ys
-behind xs ys front = sym front.1 ∙ ap (λ zs. xs ++ zs) (sym (ap (drop (length xs)) (sym front.1) ∙ drop-append_seam xs front.0))
 
 -- Answers
 
@@ -79,50 +70,46 @@ HasOwn n = AreBelow (length n.tickets) n.answers
 
 -- A step
 
--- what it adds, of a node whose committed log grows by it
+-- what it adds
 pub record Adds {A : Type 0} (n : Node A) (s : NodeStepped A) : Type 0 where
-  pub committed : node_committed s.node ≡ node_committed n ++ s.committed
   pub tickets : s.node.tickets ≡ n.tickets
   pub answers : s.node.answers ≡ n.answers ++ s.answers
   pub own : AreBelow (length n.tickets) s.answers
 
 nothing-adds : {A : Type 0} (n : Node A) → Adds n (quiet n)
-nothing-adds n = record { committed = sym (append-nil (node_committed n)); tickets = refl; answers = sym (append-nil n.answers); own = tt }
+nothing-adds n = record { tickets = refl; answers = sym (append-nil n.answers); own = tt }
 
 stopped-adds : {A : Type 0} (n : Node A) → Adds n (quiet (node_stopped n))
-stopped-adds n = record { committed = sym (append-nil (node_committed n)); tickets = refl; answers = sym (append-nil n.answers); own = tt }
+stopped-adds n = record { tickets = refl; answers = sym (append-nil n.answers); own = tt }
 
 module _ {O A : Type 0} (object : Sequential O) where
-  settled-adds : (b : Bool) (n new : Node A) (outs : List (Out A)) (life : List (Stay A)) → node_committed new ≡ committed_of n.group life
-      → new.tickets ≡ n.tickets → IsFront (node_committed n) (node_committed (settled object b n new outs life).node)
-      → Adds n (settled object b n new outs life)
-  settled-adds false n new outs life is same front = stopped-adds n
-  settled-adds true n new outs life is same front =
-      record {
-        committed = behind (node_committed n) (node_committed new) front
-            ∙ ap (λ (calls : List (Call A)). node_committed n ++ drop (length (node_committed n)) calls) is;
-        tickets = same;
-        answers = refl;
-        own = below-after object (table_after object (node_committed n)) n.tickets n.done (newly n life);
-      }
+  -- dropping places adds nothing
+  ended-adds : (closed : Bool) (k : Kept A) (n : Node A) (s : NodeStepped A) → Adds n s → Adds n (ended object closed k s)
+  ended-adds closed k n s adds =
+      cond_both (drops object closed k) (record s { node = with_dropped k.committed s.node; dropped = committed_calls (log_kept k) }) s (Adds n)
+      (λ t. record { tickets = adds.tickets; answers = adds.answers; own = adds.own }) (λ f. adds)
 
-  core-adds : (n : Node A) (s : Stepped A) → IsFront (node_committed n) (node_committed (after_core object n s).node) → Adds n (after_core object n s)
-  core-adds n s front =
+  did-adds : (n new : Node A) (outs : List (Out A)) (k : Kept A) (more : List (Call A)) → new.tickets ≡ n.tickets → Adds n (did object n new outs k more)
+  did-adds n new outs k more same =
+      record { tickets = same; answers = refl; own = below-after object (table_since object (node_kept n) k) n.tickets n.done more }
+
+  settled-adds : (b : Bool) (n new : Node A) (outs : List (Out A)) (k : Kept A) → new.tickets ≡ n.tickets → Adds n (settled object b n new outs k)
+  settled-adds false n new outs k same = stopped-adds n
+  settled-adds true n new outs k same =
+      let more = newly (node_kept n) k in
+      ended-adds (is_closed n.group new.life) k n (did object n new outs k more) (did-adds n new outs k more same)
+
+  core-adds : (n : Node A) (s : Stepped A) → Adds n (after_core object n s)
+  core-adds n s =
       let life = lived_through n.life s.outs in
-      let due = due_by n s.core n.life s.outs in
-      settled-adds (is_sound n.group life) n (walked n s.core life due) s.outs life (hands-committed n.group due life) refl front
+      settled-adds (is_kept_sound n.group life && is_restored object (kept_of n.group life)) n
+      (walked n s.core life (due_by object n s.core n.life s.outs)) s.outs (kept_of n.group life) refl
 
-  whole-adds : (n : Node A) (input : Input A) → IsFront (node_committed n) (node_committed (whole_step object n input).node)
-      → Adds n (whole_step object n input)
-  whole-adds n (FrameInput frame) front = core-adds n (ring_step n.core (CoreFrame frame)) front
-  whole-adds n (TimeInput kind) front = core-adds n (ring_step n.core (CoreTimeout kind)) front
-  whole-adds n NoiseInput front = nothing-adds n
-  whole-adds n StopInput front = stopped-adds n
-
-  pub step-adds : (n : Node A) (input : Input A) → IsFront (node_committed n) (node_committed (node_step object n input).node)
-      → Adds n (node_step object n input)
-  step-adds n input =
-      subst (λ (s : NodeStepped A). IsFront (node_committed n) (node_committed s.node) → Adds n s) (sym (step-same object n input)) (whole-adds n input)
+  pub step-adds : (n : Node A) (input : Input A) → Adds n (node_step object n input)
+  step-adds n (FrameInput frame) = core-adds n (ring_step n.core (CoreFrame frame))
+  step-adds n (TimeInput kind) = core-adds n (ring_step n.core (CoreTimeout kind))
+  step-adds n NoiseInput = nothing-adds n
+  step-adds n StopInput = stopped-adds n
 
 -- a step tells the answers that come with it
 pub answers_of-stepped : {A : Type 0} (n : Node A) (s : NodeStepped A) → Adds n s → answers_of s.node ≡ answered_in (answers_of n) s.answers

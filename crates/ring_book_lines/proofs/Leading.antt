@@ -1,5 +1,5 @@
 -- Runs of one node, and the steps of each node in the lines.
-use Rattle.std.proofs.Common.{◌≡◌, ℕ, ◌++◌, List, [], ◌∷◌, refl, ap, subst, sym, ◌∙◌, eq-eqb, true, false, Bool, ◌==◌, append-nil, None}
+use Rattle.std.proofs.Common.{◌≡◌, ℕ, ◌++◌, List, [], ◌∷◌, refl, ap, subst, sym, ◌∙◌, eq-eqb, true, false, Bool, ◌==◌, append-nil}
 use Rattle.std.specs.Prelude.{if◌then◌else◌}
 use Rattle.std.proofs.lemmas.List.Elements.{filter-append}
 use Rattle.ring_book_lines.specs.declared.input.LineInput.{LineInput}

@@ -2,8 +2,7 @@
 -- FramesInLines: Frames that stand in the lines, and where they stand among all frames.
 -- AnswersByTicket: Answers by ticket, answer by answer and step by step.
 -- Shown: Histories, line by line and reply by reply.
--- Given: What a node's step and submit add to its committed log and to the answers of its tickets.
--- CommittedInLines: In every run of at most 16 nodes each committed log grows by an event, and all are fronts of one list.
+-- Given: What a node's step and submit add to the answers of its tickets.
 -- Logging: The longest committed log, line by line.
 -- Bridge: A book run is the run of its lines' events.
 -- Puts: What appending the bytes of a frame answers.
@@ -12,7 +11,6 @@ pub mod FramesInLines
 pub mod AnswersByTicket
 pub mod Shown
 pub mod Given
-pub mod CommittedInLines
 pub mod Logging
 pub mod Bridge
 pub mod Puts

@@ -1,26 +1,27 @@
 -- The book's lines as the events of a run of a world of nodes.
 -- The book and the threads, of docs/PROTOCOL.md.
-use Rattle.std.specs.Prelude.{ℕ, suc, ◌≡◌, ◌+◌, ◌≤◌, true, false, List, [], ◌∷◌, ◌++◌, length, take, Option, None, Some, IsSomeAnd}
+use Rattle.std.specs.Prelude.{ℕ, suc, ◌≡◌, ◌+◌, ◌≤◌, true, false, List, [], ◌∷◌, ◌++◌, length, take, Option, None, IsSomeAnd}
 use Rattle.std.specs.List.{AllByRecursion}
 use Rattle.ring_base.specs.Group.{Group}
 use Rattle.ring_base.specs.Processors.{has}
 use Rattle.ring_object.specs.Operations.{Sequential}
-use Rattle.ring_payload.specs.declared.call.Call.{Call}
 use Rattle.ring_session.specs.declared.answer.Answer.{Answer}
 use Rattle.ring_session.specs.Deduplicated.{deduplicated}
 use Rattle.ring_core.specs.State.{Carried, frame_at}
+use Rattle.ring_log.specs.Lives.{committed_of}
 use Rattle.ring_session.specs.Tickets.{asked_calls}
 use Rattle.ring_session.specs.declared.answered.Answered.{Answered}
 use Rattle.ring_rules.specs.declared.input.Input.{Input}
 use Rattle.ring_rules.specs.declared.input.Input.TheVariants.{Frame as Comes, Noise, Timeout, Stop}
-use Rattle.ring_rules.specs.Nodes.{Node, node_committed, is_stopped}
+use Rattle.ring_rules.specs.Nodes.{Node, is_stopped}
 use Rattle.ring_rules.specs.Stepping.{node_step, submit_fault}
 use Rattle.ring_rules.specs.declared.event.Event.{Event}
 use Rattle.ring_rules.specs.declared.event.Event.TheVariants as events
 use Rattle.ring_rules.specs.declared.item.Item.{Item}
 use Rattle.ring_rules.specs.declared.item.Item.TheVariants.{Issue as Issued}
 use Rattle.ring_rules.specs.WorldLimits.{EventFits}
-use Rattle.ring_rules.specs.Worlds.{World, world_opening, carried, happens, items_of, order, run}
+use Rattle.ring_order_proof.specs.Linear.{EventKeeps}
+use Rattle.ring_rules.specs.Worlds.{World, world_opening, carried, happens, items_of, lives_of, order, run}
 use Rattle.ring_book_lines.specs.declared.frame_ref.FrameRef.{FrameRef}
 use Rattle.ring_book_lines.specs.declared.input.LineInput.{LineInput}
 use Rattle.ring_book_lines.specs.declared.input.LineInput.TheVariants.{Called, Came}
@@ -97,10 +98,11 @@ module _ {O : Type 0} (object : Sequential O) where
 
   -- The lines are a run of the group: their inputs are its events, with just these frames, answers and committed calls. Its
   -- frames, its history and its order are those of the lines, and so are each node's calls, of which a ticket is a place,
-  -- the answers of its tickets, and its committed log.
+  -- the answers of its tickets, and what it has committed, from the log's beginning. And each call that was issued keeps the limits.
   pub record IsRun {A : Type 0} (group : Group) (lines : List (LineView A)) : Type 0 where
     pub done : AreDone (world_opening group) [] lines
     pub fit : AllByRecursion EventFits (events_of lines)
+    pub keep : AllByRecursion EventKeeps (events_of lines)
     pub frames : (run object (world_opening group) (events_of lines)).frames ≡ frames_of lines
     pub history : (run object (world_opening group) (events_of lines)).history ≡ history_of lines
     pub order : order (run object (world_opening group) (events_of lines)) ≡ deduplicated (longest_log lines)
@@ -109,4 +111,4 @@ module _ {O : Type 0} (object : Sequential O) where
     pub answers : (i : ℕ) → 1 ≤ i → i ≤ group.count →
         answers_of ((run object (world_opening group) (events_of lines)).nodes i) ≡ told_to i lines
     pub committed : (i : ℕ) → 1 ≤ i → i ≤ group.count →
-        node_committed ((run object (world_opening group) (events_of lines)).nodes i) ≡ committed_to i lines
+        committed_of group (lives_of (run object (world_opening group) (events_of lines)) i) ≡ committed_to i lines

@@ -1,6 +1,7 @@
--- The longest committed log of the nodes, as the lines give it: of each line that makes it longer, the calls by which it does.
+-- The longest committed log of the nodes, as the lines give it: of each line that makes it longer, the calls by which it does. A line by which its node
+-- restored a snapshot has no calls of the places that this stands for: they were committed by others before.
 -- The book and the threads, of docs/PROTOCOL.md.
-use Rattle.std.specs.Prelude.{ℕ, suc, ◌+◌, ◌-◌, nat_lt, List, [], ◌∷◌, ◌++◌, length, drop, Option, Some, None, slice_get, if◌then◌else◌}
+use Rattle.std.specs.Prelude.{ℕ, suc, ◌+◌, ◌-◌, nat_lt, List, [], ◌∷◌, ◌++◌, length, take, drop, Option, Some, None, slice_get, if◌then◌else◌}
 use Rattle.ring_payload.specs.declared.call.Call.{Call}
 use Rattle.ring_book_lines.specs.declared.log.Segment.{Segment}
 use Rattle.ring_book_lines.specs.Lines.{steps_of}
@@ -47,11 +48,15 @@ calls_at lines (s ∷ ss) = calls_on s.from (slice_get lines s.line) ++ calls_at
 abbrev pub longest_log : {A : Type 0} → List (LineView A) → List (Call A)
 longest_log lines = calls_at lines (log_in lines).segments
 
--- the calls that steps committed, in order
-abbrev pub committed_by : {A : Type 0} → List (StepView A) → List (Call A)
-committed_by [] = []
-committed_by (s ∷ ss) = s.calls ++ committed_by ss
+-- how many places a node has committed after these steps, of one that had committed so many
+abbrev pub places_after : {A : Type 0} → ℕ → List (StepView A) → ℕ
+places_after places [] = places
+places_after places (s ∷ ss) = places_after s.committed ss
 
--- the calls that a node committed
+-- how many places a node has committed, by its last line: 0 where it has none
+abbrev pub places_of : {A : Type 0} → ℕ → List (LineView A) → ℕ
+places_of node lines = places_after 0 (steps_of node lines)
+
+-- what a node has committed, from the log's beginning: so many places of the longest committed log
 abbrev pub committed_to : {A : Type 0} → ℕ → List (LineView A) → List (Call A)
-committed_to node lines = committed_by (steps_of node lines)
+committed_to node lines = take (places_of node lines) (longest_log lines)

@@ -12,7 +12,7 @@ use Rattle.ring_core_proof.specs.Limits.{SentFits}
 use Rattle.ring_session.specs.declared.answered.Answered.{Answered}
 use Rattle.ring_rules.specs.declared.input.Input.{Input}
 use Rattle.ring_rules.specs.NodeLimits.{InputFits}
-use Rattle.ring_rules.specs.Nodes.{Node, node_opening, node_committed, is_stopped}
+use Rattle.ring_rules.specs.Nodes.{Node, node_opening, node_kept, is_stopped}
 use Rattle.ring_rules.specs.Stepping.{node_step, submit_fault, submitted}
 
 -- What a step makes: the next state, the frames sent, the answers given, and the calls newly committed.
@@ -35,8 +35,8 @@ pub record Machine (S A : Type 0) : Type 0 where
   pub submitted : S → Call A → S
   -- how many tickets were given
   pub tickets : S → ℕ
-  -- the committed log
-  pub committed : S → List (Call A)
+  -- how many places are committed
+  pub committed : S → ℕ
 
 -- a node of this group
 abbrev pub node_machine : {O A : Type 0} → Sequential O → Group → Machine (Node A) A
@@ -47,7 +47,7 @@ node_machine object group = record {
   refusal = submit_fault;
   submitted = submitted;
   tickets = λ n. length n.tickets;
-  committed = node_committed;
+  committed = λ n. (node_kept n).committed;
 }
 
 -- What a machine keeps along its runs, where what comes to it keeps the limits of frames: then what it sends keeps them.

@@ -1,8 +1,8 @@
 -- Which lists of lines are runs: each node's steps are a run of that node, and each frame that came was sent before.
 -- The book and the threads, of docs/PROTOCOL.md.
-use Rattle.std.specs.Prelude.{ℕ, ◌≡◌, ◌≤◌, ◌++◌, false, List, [], ◌∷◌, length, None}
+use Rattle.std.specs.Prelude.{ℕ, ◌≡◌, ◌≤◌, ◌++◌, false, List, [], ◌∷◌, None}
 use Rattle.std.specs.List.{AllByRecursion}
-use Rattle.ring_payload.specs.Calls.{CallFits}
+use Rattle.ring_session.specs.Snapshots.{KeepsLimits}
 use Rattle.ring_rules.specs.NodeLimits.{InputFits}
 use Rattle.ring_book_lines.specs.declared.input.LineInput.{LineInput}
 use Rattle.ring_book_lines.specs.declared.input.LineInput.TheVariants.{Called, Came}
@@ -10,9 +10,9 @@ use Rattle.ring_book_lines.specs.Lines.{steps_of, IsFound}
 use Rattle.ring_book_lines.specs.Machines.{Machine}
 use Rattle.ring_book_lines.specs.Steps.{StepView, LineView}
 
--- what came keeps the limits of frames
+-- what came keeps the limits of frames, and the operation of a call is of bytes
 abbrev pub LineFits : {A : Type 0} → LineInput A → Type 0
-LineFits (Called c) = CallFits c
+LineFits (Called c) = KeepsLimits c
 LineFits (Came input at) = InputFits input
 
 -- the line is of one of so many processors
@@ -36,7 +36,7 @@ module _ {S A : Type 0} (m : Machine S A) where
   pub record IsStep (s : S) (l : StepView A) (t : S) : Type 0 where
     pub fits : LineFits l.input
     pub makes : Makes s l.input l t
-    pub committed : l.committed ≡ length (m.committed t)
+    pub committed : l.committed ≡ m.committed t
 
   -- the steps take a node from the state s to the state t
   abbrev pub Leads : S → List (StepView A) → S → Type 0

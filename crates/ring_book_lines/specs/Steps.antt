@@ -14,7 +14,7 @@ pub record StepView (A : Type 0) : Type 0 where
   -- the frames sent, with their receivers
   pub frames : List (Sent A)
   pub answers : List (Answered A)
-  -- the calls newly committed, and how many the node's committed log has afterwards
+  -- the calls newly committed, and how many places the node has committed afterwards, from the log's beginning
   pub calls : List (Call A)
   pub committed : ℕ
 

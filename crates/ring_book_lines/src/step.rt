@@ -10,6 +10,7 @@ use crate::frame_ref::FrameRef;
 use crate::frames::Frames;
 use crate::input::LineInput;
 use ring_base::Proc;
+use ring_order_proof::fit_laws::call_keeps_law;
 use ring_payload::Call;
 use ring_rules::Input;
 use ring_session::Answered;
@@ -17,7 +18,7 @@ use std::alloc::{Allocator, Global};
 use std::marker::Model;
 
 /// One step of a node, or one submit at it: what happened, the frames sent, the answers given, the calls newly committed,
-/// and how many places its committed log then has.
+/// and how many places it then has committed, from the log's beginning.
 #[derive(Drop)]
 pub struct Step<A: Allocator + Copy + Drop = Global> {
     pub(crate) node: Proc,
@@ -74,6 +75,7 @@ impl<A: Allocator + Copy + Drop> Step<A> {
         requires { CallFits call }
         ensures { result ≡ record { node = node; input = Called call; frames = []; answers = []; calls = []; committed = committed } }
     {
+        call_keeps_law(&call);
         Step::came(
             node,
             LineInput::Called(call),

@@ -40,6 +40,7 @@ pub struct Driven<O: Object, K: BookName<O::Alloc>> {
     pub book: Book<O, K>,
     pub cells: Vec<Cell<O, K>, O::Alloc>,
     open: Way<O::Alloc>,
+    apart: ProcSet,
 }
 
 impl<O: Object, K: BookName<O::Alloc>> Driven<O, K> {
@@ -54,6 +55,7 @@ impl<O: Object, K: BookName<O::Alloc>> Driven<O, K> {
             book,
             cells,
             open,
+            apart: ProcSet::new(),
         })
     }
 
@@ -89,10 +91,29 @@ impl<O: Object, K: BookName<O::Alloc>> Driven<O, K> {
         self.step(processor.number(), Input::Frame(frame), at)
     }
 
-    /// Delivers the oldest of the frames that are on their way, if there is one.
+    /// These are cut off from the others from now on.
+    pub fn cut(&mut self, apart: ProcSet) {
+        self.apart = apart;
+    }
+
+    /// Whether the frame's sender and its receiver are cut off from each other.
+    fn is_cut(&self, at: FrameRef, receiver: Proc) -> bool {
+        match self.book.line(at.line) {
+            Some(line) => self.apart.contains(line.node()) != self.apart.contains(receiver),
+            None => false,
+        }
+    }
+
+    /// Delivers the oldest of the frames that are on their way, if there is one; it is lost where a cut holds it back.
     fn turn(&mut self) -> Result<(), Fault> {
         match self.open.pop_front() {
-            Some((at, receiver)) => self.deliver(receiver, at),
+            Some((at, receiver)) => {
+                if self.is_cut(at, receiver) {
+                    Ok(())
+                } else {
+                    self.deliver(receiver, at)
+                }
+            }
             None => Ok(()),
         }
     }
@@ -107,7 +128,12 @@ impl<O: Object, K: BookName<O::Alloc>> Driven<O, K> {
 
     /// The join time of this processor is over.
     pub fn time(&mut self, processor: u8) -> Result<(), Fault> {
-        self.step(processor, Input::Timeout(Kind::Join), FIRST)
+        self.time_out(processor, Kind::Join)
+    }
+
+    /// A time of this processor is over.
+    pub fn time_out(&mut self, processor: u8, kind: Kind) -> Result<(), Fault> {
+        self.step(processor, Input::Timeout(kind), FIRST)
     }
 
     /// The join time of each node is over, and so many frames are delivered.

@@ -6,10 +6,11 @@ ghost use Rattle.ring_base.specs.declared.fault.Fault.TheVariants.{Memory};
 ghost use Rattle.ring_session.specs.Deduplicated.{deduplicated};
 ghost use Rattle.ring_rules.specs.Histories.{IsLinearization};
 ghost use Rattle.ring_rules.specs.Worlds.{order, run, world_opening};
-ghost use Rattle.ring_rules.specs.Nodes.{node_committed};
+ghost use Rattle.ring_order_proof.specs.Linear.{Follows, FollowsOrder};
 ghost use Rattle.ring_book_lines.specs.Answers.{told_at};
 ghost use Rattle.ring_book_lines.specs.Events.{answers_of, events_of};
 ghost use Rattle.ring_book_lines.specs.Lines.{steps_of};
+ghost use Rattle.ring_book_lines.specs.Logs.{committed_to};
 
 use ring_base::{Fault, Proc};
 use ring_book::{Book, BookName, Cell, linear_law};
@@ -41,11 +42,16 @@ pub fn explained<O: Object, K: BookName<O::Alloc>>(
     Ok(Seen { order, history })
 }
 
-/// The committed calls of a cell whose steps are all entered, repeats removed, are a front of the book's order.
+/// A cell whose steps are all entered. What its node has committed from the log's beginning, as the book tells it, repeats removed, is
+/// a front of the book's order. The node's snapshot is of the sessions after the places that it has dropped, and the committed places
+/// that it keeps are those that follow: so the object in the snapshot is that after a front of the order, and the kept calls that
+/// take effect behind this front follow there.
 pub fn in_order<O: Object, K: BookName<O::Alloc>>(book: &Book<O, K>, cell: &Cell<O, K>)
     requires { cell.now.journal ≡ steps_of cell.now.me book.now.lines }
-    ensures { IsFront (deduplicated (node_committed cell.now.node))
+    ensures fronts { IsFront (deduplicated (committed_to cell.now.me book.now.lines))
         (order (run O.sequential (world_opening K.name.group) (events_of book.now.lines))) }
+    ensures follows { Follows O.sequential cell.now.node (committed_to cell.now.me book.now.lines)
+        × FollowsOrder O.sequential cell.now.node (order (run O.sequential (world_opening K.name.group) (events_of book.now.lines))) }
 {
     book.run_law();
     book.node_law(cell);

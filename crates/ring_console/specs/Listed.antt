@@ -1,6 +1,6 @@
 -- How frames stand in a listing: a line each.
 -- Listing frames, of docs/FORMATS.md.
-use Rattle.std.specs.Prelude.{ℕ, List, [], ◌∷◌, ◌++◌, length, flat_map, codes, Option, Some, None, ◌==◌, if◌then◌else◌}
+use Rattle.std.specs.Prelude.{ℕ, List, [], ◌∷◌, ◌++◌, length, flat_map, codes, Option, Some, None}
 use Rattle.std.specs.Fmt.{decimal}
 use Rattle.std.specs.List.{join_by}
 use Rattle.ring_base.specs.Processors.{elements}
@@ -23,6 +23,7 @@ use Rattle.ring_wire.specs.declared.join.Join.{Join}
 use Rattle.ring_wire.specs.declared.message.Message.{Message}
 use Rattle.ring_wire.specs.declared.token.Token.{Token}
 use Rattle.ring_report.specs.Texts.{line_of}
+use Rattle.ring_console.specs.Printed.{trimmed_text}
 
 -- numbers by commas, a dash where there are none
 abbrev pub numbers_text : List ℕ → List ℕ
@@ -38,10 +39,6 @@ call_text call =
 abbrev pub primary_text : Option RingId → List ℕ
 primary_text None = codes "none"
 primary_text (Some ring) = ring_text ring
-
--- the trimmed length, where there is one
-abbrev pub trimmed_text : ℕ → List ℕ
-trimmed_text n = if n == 0 then [] else codes " trimmed " ++ decimal n
 
 -- a head: the last primary ring, the log's length, its committed length and, where it isn't 0, its trimmed length
 abbrev pub head_text : Head → List ℕ

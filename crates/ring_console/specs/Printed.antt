@@ -1,6 +1,6 @@
 -- The lines that a script prints.
 -- What a script prints, of docs/FORMATS.md.
-use Rattle.std.specs.Prelude.{ℕ, Bool, true, false, List, ◌++◌, flat_map, codes}
+use Rattle.std.specs.Prelude.{ℕ, Bool, true, false, ◌==◌, if◌then◌else◌, List, [], ◌++◌, flat_map, codes}
 use Rattle.std.specs.Fmt.{decimal}
 use Rattle.hex.specs.Hex.{encode_lower}
 use Rattle.ring_base.specs.Rings.{ring_text}
@@ -56,8 +56,12 @@ state_text Recovery = codes "recovery"
 state_text Operational = codes "operational"
 state_text Stopped = codes "stopped"
 
--- a node's state, its last installed ring, and how much of its log is committed
-abbrev pub node_text : ℕ → State → RingId → ℕ → ℕ → List ℕ
-node_text number state ring committed log =
+-- how many places are dropped, where any are
+abbrev pub trimmed_text : ℕ → List ℕ
+trimmed_text n = if n == 0 then [] else codes " trimmed " ++ decimal n
+
+-- a node's state, its last installed ring, how much of its log is committed, and how much it has dropped
+abbrev pub node_text : ℕ → State → RingId → ℕ → ℕ → ℕ → List ℕ
+node_text number state ring committed log trimmed =
     codes "node " ++ decimal number ++ codes " " ++ state_text state ++ codes " " ++ ring_text ring
-    ++ codes " committed " ++ decimal committed ++ codes " log " ++ decimal log
+    ++ codes " committed " ++ decimal committed ++ codes " log " ++ decimal log ++ trimmed_text trimmed

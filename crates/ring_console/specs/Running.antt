@@ -7,7 +7,7 @@ use Rattle.ring_base.specs.Group.{Group}
 use Rattle.ring_base.specs.Processors.{has}
 use Rattle.ring_base.specs.declared.fault.Fault.TheVariants.{Memory}
 use Rattle.ring_object.specs.Operations.{Sequential}
-use Rattle.ring_rules.specs.Nodes.{Node, node_committed, node_log}
+use Rattle.ring_rules.specs.Nodes.{Node, node_kept, node_length, node_trimmed}
 use Rattle.ring_rules.specs.declared.event.Event.{Event}
 use Rattle.ring_rules.specs.declared.event.Event.TheVariants as events
 use Rattle.ring_rules.specs.Histories.{IsLinearization}
@@ -87,7 +87,8 @@ event_of Show = None
 
 -- a node's line
 abbrev pub shown_text : {A : Type 0} → ℕ → Node A → List ℕ
-shown_text number node = line_of (node_text number node.core.state node.core.installed.ring (length (node_committed node)) (length (node_log node)))
+shown_text number node =
+    line_of (node_text number node.core.state node.core.installed.ring (node_kept node).committed (node_length node) (node_trimmed node))
 
 module _ {O : Type 0} (object : Sequential O) where
   -- The world runs an event, and each frame that it sends opens its copies.

@@ -4,10 +4,11 @@ ghost use Rattle.std.specs.Prelude.{ℕ, List, Some};
 ghost use Rattle.std.specs.Fmt.{WritesOnOk};
 ghost use Rattle.std.specs.Iterator.{IsFinite, AlwaysYields};
 ghost use Rattle.ring_base.specs.Processors.{elements};
-ghost use Rattle.ring_console.specs.Listed.{numbers_text, call_text, primary_text, trimmed_text, head_text, part_text};
+ghost use Rattle.ring_console.specs.Listed.{numbers_text, call_text, primary_text, head_text, part_text};
 ghost use Rattle.ring_console.specs.Listed.{pack_text, snap_text, content_text, wrapped_text, payload_text};
 ghost use Rattle.ring_console.specs.Listed.{message_text, lowered_text, token_text, join_text, commit_text, frame_text};
 
+use crate::printed::Trimmed;
 use ring_base::{Proc, ProcSet, RingId};
 use ring_payload::{Call, Content, Head, Pack, Part, Payload, Snap, Wrapped};
 use ring_wire::{CommitToken, Frame, Join, Message, Requests, Token};
@@ -157,22 +158,6 @@ impl fmt::Display for Listed<'_, Head> {
             f,
             "head last {last} length {length} committed {committed}{trimmed}"
         )
-    }
-}
-
-/// A trimmed length at the end of a head: nothing where it is 0.
-#[derive(Drop)]
-struct Trimmed(u64);
-
-impl fmt::Display for Trimmed {
-    ghost output = { λ trimmed. Some (trimmed_text trimmed.0) };
-
-    fn fmt<W: fmt::Write>(&self, f: &mut fmt::Formatter<W>) -> fmt::Result {
-        let length = self.0;
-        if length == 0 {
-            return Ok(());
-        }
-        write!(f, " trimmed {length}")
     }
 }
 

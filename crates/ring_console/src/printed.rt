@@ -111,22 +111,43 @@ fn print_refused<A: Allocator + Copy + Drop, W: Write>(
     writeln!(out, "refused {node} {client}.{number} {reason}").map_err(|_| Failure::Output)
 }
 
-/// Prints a node's state, its last installed ring, and how much of its log is committed. Otherwise `Output`.
+/// How many places of a log are dropped, at the end of what is told of it: nothing where that is 0.
+#[derive(Drop)]
+pub(crate) struct Trimmed(pub u64);
+
+impl fmt::Display for Trimmed {
+    ghost use Rattle.std.specs.Prelude.{Some};
+    ghost use Rattle.ring_console.specs.Printed.{trimmed_text};
+
+    ghost output = { λ trimmed. Some (trimmed_text trimmed.0) };
+
+    fn fmt<W: fmt::Write>(&self, f: &mut fmt::Formatter<W>) -> fmt::Result {
+        let length = self.0;
+        if length == 0 {
+            return Ok(());
+        }
+        write!(f, " trimmed {length}")
+    }
+}
+
+/// Prints a node's state, its last installed ring, how much of its log is committed, and how much it has dropped. Otherwise
+/// `Output`.
 pub(crate) fn print_node<W: Write>(
     out: &mut W,
     node: Proc,
     state: State,
     ring: RingId,
-    committed: usize,
+    committed: u64,
     log: u64,
+    trimmed: u64,
 ) -> Result<(), Failure>
-    ensures line { OnOk result (Appends (W.contents out.old) (W.contents out.new) (line_of (node_text node state ring committed log))) }
+    ensures line { OnOk result (Appends (W.contents out.old) (W.contents out.new) (line_of (node_text node state ring committed log trimmed))) }
     ensures failed { IfErr result (λ failure. failure ≡ Output) }
 {
-    let (node, state) = (node.number(), state_word(state));
+    let (node, state, dropped) = (node.number(), state_word(state), Trimmed(trimmed));
     writeln!(
         out,
-        "node {node} {state} {ring} committed {committed} log {log}"
+        "node {node} {state} {ring} committed {committed} log {log}{dropped}"
     )
     .map_err(|_| Failure::Output)
 }

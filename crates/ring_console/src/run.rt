@@ -212,14 +212,14 @@ impl<O: Object> Run<O> {
         for before in 0..world.fixed().count() {
             let proc = Proc::new(before + 1);
             let node = world.node(proc);
-            let committed = node.committed().len();
             print_node(
                 out,
                 proc,
                 node.state(),
                 node.ring(),
-                committed,
+                node.committed_len(),
                 node.log_len(),
+                node.trimmed(),
             )?;
         }
         print_order(out, world.order_len())

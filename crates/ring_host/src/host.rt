@@ -131,8 +131,8 @@ impl<C, B, A: Allocator + Copy + Drop> HostOf<C, B, A> {
 }
 
 impl<O: Object, K: BookName<O::Alloc>> HostOf<Cell<O, K>, Book<O, K>, O::Alloc> {
-    /// One turn of the seat's node: a timeout that is due, or else the first item of its inbox. Tells the length of the node's
-    /// committed log, which is published on the seat; a turn that finds nothing yields, and publishes none.
+    /// One turn of the seat's node: a timeout that is due, or else the first item of its inbox. Tells how many places
+    /// the node has committed, dropped ones included, which is published on the seat; a turn that finds nothing yields, and publishes none.
     ///
     /// Refused: `Memory` or `Stranger` where the item can't be read or doesn't stand in the book; `BookFull`, `Memory` of the place;
     /// then as the node's step, `Stopped` or `Memory`, which leaves the node stopped. Nothing is published then.

@@ -20,7 +20,7 @@ use std::alloc::Allocator;
 use std::sync::Wait;
 use std::thread;
 
-/// What a step made: the length of the node's committed log, whether it took a token, and whether there is anything to do.
+/// What a step made: how many places the node has committed, whether it took a token, and whether there is anything to do.
 #[derive(Clone, Copy)]
 struct Done {
     length: u64,
@@ -30,7 +30,7 @@ struct Done {
 
 // What a step made that found this and sent so many frames, of the node after it. A token that the node ignores sends nothing.
 fn done_of<O: Object>(node: &Node<O>, found: Found, sent: usize) -> Done {
-    let length = node.committed().len() as u64;
+    let length = node.committed_len();
     let is_quiet = found != Found::Message
         && sent <= 1
         && node.state() == State::Operational

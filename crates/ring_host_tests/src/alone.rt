@@ -1,4 +1,5 @@
-//! A lone node, turned by hand: its own frames form its ring, and its call is answered at turn 506.
+//! A lone node, turned by hand: its own frames form its ring, and its call is answered at turn 506. The length that it tells counts
+//! the places that it has dropped.
 
 ghost use Rattle.std.specs.Prelude.{◌≡◌};
 
@@ -58,13 +59,58 @@ fn counted<W: Wait>(rt: &W, alloc: Global) -> Result<(Row, Row), Fault> {
     opened::<Counters, Brand, W>(rt, alloc, opening)
 }
 
-#[test]
-fn a_call_is_answered_at_turn_506(rt: HostRuntime) {
-    let told = |length| Turn {
+/// The calls of client 7 from this number on, so many, are submitted, and turns pass until they are done. What the last one told.
+fn calls<O: Object, K: BookName<O::Alloc>, W: Wait>(
+    rt: &W,
+    driven: &mut Driven<O, K>,
+    first: u64,
+    many: u64,
+) -> Result<Turn, Fault> {
+    for more in 0..many {
+        driven.submit(rt, 1, 7, first.saturating_add(more))?;
+    }
+    driven.turns(rt, 1, 4)
+}
+
+/// What is told once the node has done 256 calls, and after one more.
+fn many<O: Object, K: BookName<O::Alloc>, W: Wait>(
+    rt: &W,
+    alloc: O::Alloc,
+    opening: Opening<O>,
+) -> Result<(Turn, Turn), Fault>
+    requires { opening ≡ K.name }
+{
+    let mut driven = Driven::<O, K>::new(alloc, opening, 1, INBOX)?;
+    driven.turns(rt, 1, 506)?;
+    for first in [1, 65, 129] {
+        calls(rt, &mut driven, first, 64)?;
+    }
+    let all = calls(rt, &mut driven, 193, 64)?;
+    Ok((all, calls(rt, &mut driven, 257, 1)?))
+}
+
+/// The same of counters.
+fn counted_many<W: Wait>(rt: &W, alloc: Global) -> Result<(Turn, Turn), Fault> {
+    let opening = Opening::<Counters>::new(alloc, Fixed::new(1)?)?;
+    many::<Counters, Brand, W>(rt, alloc, opening)
+}
+
+/// A turn that told this length, and dropped no copy.
+fn told(length: u64) -> Turn {
+    Turn {
         dropped: 0,
         length: Some(length),
-    };
+    }
+}
+
+#[test]
+fn a_call_is_answered_at_turn_506(rt: HostRuntime) {
     let before = (told(0), 0, (None, true));
     let after = (told(1), 1, (Some(done(5)), true));
     assert!(rt; counted(&rt, rt.alloc()) == Ok((before, after)));
+}
+
+#[test]
+fn dropped_places_count(rt: HostRuntime) {
+    assert!(rt; counted_many(&rt, rt.alloc()) == Ok((told(256), told(257))));
 }

@@ -1,21 +1,22 @@
 -- Calls that begin others, compared one by one; and the committed places of a log, as it changes.
-use Rattle.std.proofs.Common.{◌≡◌, ℕ, zero, suc, ◌+◌, ◌-◌, ◌<◌, ◌==◌, ◌&&◌, min, max, Bool, true, false, List, []}
-use Rattle.std.proofs.Common.{◌∷◌, ◌++◌, length, take, drop, ◌↔◌, IsTrue, refl, ap, sym, ◌∙◌, arith, length-append, inl}
+use Rattle.std.proofs.Common.{◌≡◌, ℕ, zero, suc, ◌+◌, ◌-◌, ◌<◌, ◌≤◌, ◌==◌, ◌&&◌, min, max, Bool, true, false, List, []}
+use Rattle.std.proofs.Common.{◌∷◌, ◌++◌, length, take, drop, ◌↔◌, IsTrue, Some, refl, ap, sym, ◌∙◌, subst, arith, length-append, inl}
 use Rattle.std.proofs.Common.{inr}
-use Rattle.std.specs.Prelude.{is_none}
+use Rattle.std.specs.Prelude.{nat_le, nat_lt, is_some, ◌||◌}
 use Rattle.std.specs.Bool.{Decides, one_answer}
 use Rattle.std.specs.Str.{bytes_eq}
 use Rattle.std.specs.Cmp.Lexicographic.{pointwise_decides}
-use Rattle.std.proofs.lemmas.Bool.{cases_lt, eqb-true, eq-eqb, and_parts, and_from}
-use Rattle.std.proofs.lemmas.List.{append-nil, take-append-drop, take-append-le, length-take, length-take-le, drop_all, take_rest}
+use Rattle.std.proofs.lemmas.Bool.{cases_lt, eqb-true, eq-eqb, and_parts, and_from, cond_both, ltb-true, leb-true}
+use Rattle.std.proofs.lemmas.List.{append-nil, take-append-drop, take-append-le, length-take, length-take-le, length-drop, drop_all, take_rest}
 use Rattle.std.proofs.lemmas.Slice.Eq.{bytes_eq-Decides}
 use Rattle.ring_base.specs.Fronts.{IsFront}
+use Rattle.ring_base.specs.Numbers.{max_number}
 use Rattle.ring_base.specs.declared.ring_id.RingId.{RingId}
 use Rattle.ring_base.proofs.ListFronts.{take-longer}
 use Rattle.ring_payload.specs.declared.call.Call.{Call as OneCall}
 use Rattle.ring_log.specs.declared.base.Base.{Base}
-use Rattle.ring_log.specs.Exchanges.{based}
-use Rattle.ring_log.specs.Logs.{Log, appended, adopted, committed_upto, committed_calls, same_call, begins, is_log_length, is_adoptable, IsLog, KeepsCommitted}
+use Rattle.ring_log.specs.Logs.{Log, log_length, appended, followed, based, restores, restored_log, joined_log, adopted, adopted_if, trimmed_log}
+use Rattle.ring_log.specs.Logs.{committed_upto, committed_calls, same_call, begins, is_log_length, is_adoptable, IsKeptLog, IsLog, KeepsCommitted}
 
 -- ---- one call
 
@@ -67,7 +68,24 @@ drop-min n xs =
           (drop_all n xs (omega (arith, past))))
     ]
 
+pub drop_least : {X : Type 0} (n long start : ℕ) (xs rest : List X) → long ≡ length xs → start ≡ min long n → rest ≡ drop start xs → rest ≡ drop n xs
+drop_least n long start xs rest is_long is_start is =
+    is ∙ ap (λ k. drop k xs) (is_start ∙ ap (λ k. min k n) is_long) ∙ drop-min n xs
+
 -- ---- what the code asks
+
+-- only what the log doesn't keep is compared, and only with what it takes
+pub begins_based : {A : Type 0} (n m gone same dropped : ℕ) (own front calls brought : List (OneCall A)) (r : Bool)
+    → front ≡ take n own → same ≡ min (length front) m → brought ≡ calls → dropped ≡ min (length brought) gone
+    → r ≡ begins (take (length front - same) (drop same front)) (take (length brought - dropped) (drop dropped brought))
+    → r ≡ begins (take n own) (take m own ++ drop gone calls)
+begins_based n m gone same dropped own front calls brought r is_front is_same is_brought is_dropped is =
+    let rest : take (length front - same) (drop same front) ≡ drop m (take n own) =
+    take_rest front same ∙ ap (λ k. drop k front) is_same ∙ drop-min m front ∙ ap (drop m) is_front in
+    let taken : take (length brought - dropped) (drop dropped brought) ≡ drop gone calls =
+    take_rest brought dropped ∙ ap (λ k. drop k brought) is_dropped ∙ drop-min gone brought ∙ ap (drop gone) is_brought in
+    is ∙ ap (λ w. begins w (take (length brought - dropped) (drop dropped brought))) rest ∙ ap (begins (drop m (take n own))) taken
+    ∙ sym (begins-kept n m own (drop gone calls))
 
 decided : (r : Bool) (P : Type 0) → (IsTrue r ↔ P) → Decides r P
 decided r P tells = (tells.0, tells.1)
@@ -87,59 +105,118 @@ begins-short front calls short =
     let same = (begins-Decides front calls).0 is in
     omega (arith, ap length same, length-take (length front) calls))
 
--- only what the log doesn't keep is compared
-pub adoptable : {A : Type 0} (committed from same kept : ℕ) (own front calls brought : List (OneCall A)) (begun fits : Bool)
-    → front ≡ take committed own → same ≡ min (length front) from → kept ≡ min (length own) from → brought ≡ calls
-    → begun ≡ begins (take (length front - same) (drop same front)) brought → fits ≡ is_log_length (kept + length brought)
-    → begun && fits ≡ begins (take committed own) (take from own ++ calls) && is_log_length (length (take from own ++ calls))
-adoptable committed from same kept own front calls brought begun fits is_front is_same is_kept is_brought is_begun is_fitting =
-    let rest : take (length front - same) (drop same front) ≡ drop from (take committed own) =
-    take_rest front same ∙ ap (λ k. drop k front) is_same ∙ drop-min from front ∙ ap (drop from) is_front in
-    let first : begun ≡ begins (take committed own) (take from own ++ calls) =
-    is_begun ∙ ap (λ w. begins w brought) rest ∙ ap (begins (drop from (take committed own))) is_brought ∙ sym (begins-kept committed from own calls) in
-    let long : kept + length brought ≡ length (take from own ++ calls) = omega
-    (arith, is_kept, ap length is_brought, length-append (take from own) calls, length-take from own) in
-    let second : fits ≡ is_log_length (length (take from own ++ calls)) = is_fitting ∙ ap is_log_length long in
-    ap (λ b. b && fits) first ∙ ap (λ b. begins (take committed own) (take from own ++ calls) && b) second
-
 -- ---- the committed places
+
+pub committed-first : {A : Type 0} (log : Log A) → IsLog log
+    → IsFront (committed_calls log) log.calls × (log.trimmed + length (committed_calls log) ≡ log.committed)
+committed-first log is =
+    let n = log.committed - log.trimmed in
+    let long = length-take-le n log.calls (omega (arith, is.0, is.1)) in
+    ((drop n log.calls, take-append-drop n log.calls), omega (arith, long, is.0))
 
 front-same : {X : Type 0} (xs ys : List X) → xs ≡ ys → IsFront xs ys
 front-same xs ys same = ([], append-nil xs ∙ same)
 
-pub committed-first : {A : Type 0} (log : Log A) → IsLog log → IsFront (committed_calls log) log.calls × (length (committed_calls log) ≡ log.committed)
-committed-first log is = ((drop log.committed log.calls, take-append-drop log.committed log.calls), length-take-le log.committed log.calls is)
+-- where nothing more is dropped
+stays : {A : Type 0} (old new : Log A) → old.trimmed ≡ new.trimmed → IsLog new → old.committed ≤ new.committed
+    → IsFront (committed_calls old) (committed_calls new) → KeepsCommitted old new
+stays old new same is le front =
+    let none : new.trimmed - old.trimmed ≡ 0 = omega (arith, same) in
+    record {
+      log = is;
+      trimmed = omega (arith, same);
+      committed = le;
+      front = subst (λ n. IsFront (drop n (committed_calls old)) (committed_calls new)) (sym none) front;
+    }
 
-pub committed-appended : {A : Type 0} (log : Log A) (call : OneCall A) → IsLog log → KeepsCommitted log (appended log call)
-committed-appended log call is = record {
-  log = omega (arith, length-append log.calls (call ∷ []));
-  front = front-same (committed_calls log) (committed_calls (appended log call)) (sym (take-append-le log.committed log.calls (call ∷ []) is));
-}
+committed-appended : {A : Type 0} (log : Log A) (calls : List (OneCall A)) → IsLog log → KeepsCommitted log (appended log calls)
+committed-appended log calls is =
+    let long = length-append log.calls calls in
+    stays log (appended log calls) refl (is.0, omega (arith, is.1, long)) (omega arith)
+    (front-same (committed_calls log) (committed_calls (appended log calls))
+    (sym (take-append-le (log.committed - log.trimmed) log.calls calls (omega (arith, is.1)))))
+
+committed-same : {A : Type 0} (log : Log A) → IsLog log → KeepsCommitted log log
+committed-same log is = stays log log refl is (omega arith) (front-same (committed_calls log) (committed_calls log) refl)
+
+pub committed-followed : {A : Type 0} (log : Log A) (calls : List (OneCall A)) → IsLog log → KeepsCommitted log (followed log calls)
+committed-followed log calls is =
+    cond_both (is_log_length (log_length log + length calls)) (appended log calls) log (KeepsCommitted log) (λ t. committed-appended log calls is)
+    (λ f. committed-same log is)
 
 pub committed-raised : {A : Type 0} (log : Log A) (n : ℕ) → IsLog log → KeepsCommitted log (committed_upto log n)
-committed-raised log n is = record {
-  log = omega arith;
-  front = take-longer log.committed (max log.committed (min n (length log.calls))) log.calls (omega arith);
-}
+committed-raised log n is =
+    let new = committed_upto log n in
+    stays log new refl (omega (arith, is.0), omega (arith, is.1)) (omega arith)
+    (take-longer (log.committed - log.trimmed) (new.committed - log.trimmed) log.calls (omega arith))
 
--- the base begins with the committed places, so these stay as they are
-adopted-same : {A : Type 0} (log : Log A) (base : Base A) → IsLog log → is_adoptable log base ≡ true
-    → committed_calls log ≡ take log.committed (based log.calls base)
-adopted-same log base is may =
-    let fits = (and_parts (is_none base.snapshot)
-    (begins (committed_calls log) (based log.calls base) && is_log_length (length (based log.calls base))) may).1 in
-    let begun = (begins-Decides (committed_calls log) (based log.calls base)).0
-    (and_parts (begins (committed_calls log) (based log.calls base)) (is_log_length (length (based log.calls base))) fits).0 in
-    begun ∙ ap (λ n. take n (based log.calls base)) (length-take-le log.committed log.calls is)
-
-pub committed-adopted : {A : Type 0} (log : Log A) (ring : RingId) (base : Base A) → IsLog log → is_adoptable log base ≡ true
-    → KeepsCommitted log (adopted log ring base)
-committed-adopted log ring base is may =
-    let same = adopted-same log base is may in
-    let long : length (take log.committed log.calls) ≡ log.committed = length-take-le log.committed log.calls is in
-    let short : length (take log.committed (based log.calls base)) ≡ min log.committed (length (based log.calls base)) = length-take log.committed
-    (based log.calls base) in
+-- committed places alone are dropped
+pub committed-dropped : {A : Type 0} (log : Log A) → IsLog log → KeepsCommitted log (trimmed_log log)
+committed-dropped log is =
+    let n = log.committed - log.trimmed in
+    let left = length-drop n log.calls in
+    let none : drop n (committed_calls log) ≡ [] =
+    drop_all n (committed_calls log) (let t = length-take n log.calls in omega (arith, t)) in
     record {
-      log = omega (arith, ap length same, long, short);
-      front = front-same (committed_calls log) (committed_calls (adopted log ring base)) same;
+      log = (omega arith, omega (arith, is.0, is.1, left));
+      trimmed = is.0;
+      committed = omega arith;
+      front = subst (λ l. IsFront l (committed_calls (trimmed_log log))) (sym none) (committed_calls (trimmed_log log), refl);
     }
+
+-- a snapshot is restored only where fewer places were committed than it stands for
+restored-keeps : {A : Type 0} (log : Log A) (ring : RingId) (base : Base A) → IsLog log → restores log base ≡ true
+    → KeepsCommitted log (restored_log log ring base)
+restored-keeps log ring base is may =
+    let less = ltb-true log.committed base.from (and_parts (is_some base.snapshot) (nat_lt log.committed base.from) may).1 in
+    let n = base.from - log.trimmed in
+    let none : drop n (committed_calls log) ≡ [] =
+    drop_all n (committed_calls log) (let t = length-take (log.committed - log.trimmed) log.calls in omega (arith, t, less)) in
+    record {
+      log = (omega arith, omega arith);
+      trimmed = omega (arith, is.0, less);
+      committed = omega (arith, less);
+      front = subst (λ l. IsFront l (committed_calls (restored_log log ring base))) (sym none) (committed_calls (restored_log log ring base), refl);
+    }
+
+-- else the base begins with the committed places that are kept, so these stay as they are
+joined-keeps : {A : Type 0} (log : Log A) (ring : RingId) (base : Base A) → IsLog log → begins (committed_calls log) (based log base) ≡ true
+    → KeepsCommitted log (joined_log log ring base)
+joined-keeps log ring base is may =
+    let n = log.committed - log.trimmed in
+    let long : length (take n log.calls) ≡ n = length-take-le n log.calls (omega (arith, is.0, is.1)) in
+    let same : committed_calls log ≡ take n (based log base) =
+    (begins-Decides (committed_calls log) (based log base)).0 may ∙ ap (λ k. take k (based log base)) long in
+    let short = length-take n (based log base) in
+    stays log (joined_log log ring base) refl (is.0, omega (arith, ap length same, long, short)) (omega arith)
+    (front-same (committed_calls log) (take n (based log base)) same)
+
+-- so the log keeps its bounds
+pub joined_bounds : {A : Type 0} (log : Log A) (base : Base A) → IsKeptLog log.trimmed log.committed (length log.calls) → base.from ≤ log.committed
+    → begins (committed_calls log) (based log base) ≡ true → is_log_length (base.from + length base.calls) ≡ true
+    → IsKeptLog log.trimmed log.committed (length (based log base))
+joined_bounds log base is le may short =
+    let new = (joined-keeps log (record { seq = 0; rep = 0 }) base (is.0, is.1) may).log in
+    let most = leb-true (base.from + length base.calls) max_number short in
+    let own = log.calls in
+    let parts = length-append (take (base.from - log.trimmed) own) (drop (log.trimmed - base.from) base.calls) in
+    let front = length-take (base.from - log.trimmed) own in
+    let rest = length-drop (log.trimmed - base.from) base.calls in
+    (is.0, new.1, omega (arith, is.0, is.1, is.2, le, most, parts, front, rest))
+
+committed-adoptable : {A : Type 0} (log : Log A) (ring : RingId) (base : Base A) → IsLog log → is_adoptable log base ≡ true
+    → KeepsCommitted log (adopted log ring base)
+committed-adoptable {A} log ring base is may =
+    cond_both (restores log base) (restored_log log ring base) (joined_log log ring base) (KeepsCommitted log) (restored-keeps log ring base is)
+    (λ f. joined-keeps log ring base is
+    (and_parts (nat_le base.from log.committed) (begins (committed_calls log) (based log base)) (goes_on f)).1)
+  where
+    goes_on : restores log base ≡ false → (nat_le base.from log.committed && begins (committed_calls log) (based log base)) ≡ true
+    goes_on f =
+        ap (λ c. c || (nat_le base.from log.committed && begins (committed_calls log) (based log base))) (sym f)
+        ∙ (and_parts (restores log base || (nat_le base.from log.committed && begins (committed_calls log) (based log base)))
+        (is_log_length (base.from + length base.calls)) may).0
+
+pub committed-adopted : {A : Type 0} (log : Log A) (ring : RingId) (base : Base A) → IsLog log → KeepsCommitted log (adopted_if log ring base)
+committed-adopted log ring base is =
+    cond_both (is_adoptable log base) (adopted log ring base) log (KeepsCommitted log) (committed-adoptable log ring base is) (λ f. committed-same log is)

@@ -1,6 +1,6 @@
 -- An exchange that is whole changes no more, so what a member keeps of it hands out the base at one message: that with which the exchange ends.
 use Rattle.std.proofs.Common.{◌≡◌, ℕ, ◌+◌, ◌-◌, ◌≤◌, nat_le, ◌==◌, ◌&&◌, Bool, true, false, List, [], ◌∷◌, ◌++◌, length}
-use Rattle.std.specs.Prelude.{◌||◌, nat_lt, is_none}
+use Rattle.std.specs.Prelude.{◌||◌, nat_lt, take}
 use Rattle.std.proofs.Common.{Option, Some, None, refl, ap, sym, ◌∙◌, arith, add-zero, if◌then◌else◌}
 use Rattle.std.proofs.lemmas.Bool.{and_parts, cond-true, cond-false, eqb-true, leb-true, ltb-true, ne_eqb}
 use Rattle.std.proofs.lemmas.List.{append-nil}
@@ -17,9 +17,8 @@ use Rattle.ring_wire.specs.declared.message.Message.{Message}
 use Rattle.ring_log.specs.declared.base.Base.{Base}
 use Rattle.ring_log.specs.declared.wanted.Wanted.{Wanted}
 use Rattle.ring_log.specs.Exchanges.{Exchange, opened, wanted_by, wanted, hear_head, is_snapped, is_piece_of, is_next_piece, hear_snap, is_next}
-use Rattle.ring_log.specs.Exchanges.{is_wanted, hear_part, heard, is_brought, is_whole, snapshot_by, base_from, handed_out, base_at, relieved, based}
+use Rattle.ring_log.specs.Exchanges.{is_wanted, hear_part, heard, is_brought, is_whole, snapshot_by, base_from, handed_out, base_at, relieved}
 use Rattle.ring_log.specs.Lives.{Whole, heard_by, whole_from, after_all, heard_on, exchanged, base_ending, places_below, base_on, own_base}
-use Rattle.ring_log.specs.Lives.{is_unsnapped}
 
 -- ---- a whole exchange
 
@@ -296,35 +295,33 @@ snapped (Some at) bytes told some = (at, refl, cc some)
 
 based-by : {A : Type 0} (b : Bool) (o : Option Wanted) (bytes : List ℕ) (calls : List (OneCall A)) (base : Base A) (own front : List (OneCall A))
     → (if b then base_from o bytes calls else None) ≡ Some base → base.snapshot ≡ None
-    → based own base ≡ base_on own front o calls
+    → take base.from own ++ base.calls ≡ base_on own front o calls
 based-by true None bytes calls base own front some none = absurd (cc some)
 based-by {A} true (Some w) bytes calls base own front some none =
     let first : Base A = record { from = w.from; snapshot = snapshot_by w.snapshot bytes; calls = calls } in
     let same : first ≡ base = cc some in
     let plain : w.snapshot ≡ None = unsnapped w.snapshot bytes (ap (λ (b : Base A). b.snapshot) same ∙ none) in
-    ap (based own) (sym same) ∙ ap (λ o. places_below own front w.from o ++ calls) (sym plain)
+    ap (λ (b : Base A). take b.from own ++ b.calls) (sym same) ∙ ap (λ o. places_below own front w.from o ++ calls) (sym plain)
 based-by false o bytes calls base own front some none = absurd (cc some)
 
 pub handed-based : {A : Type 0} (e : Exchange A) (base : Base A) (own front : List (OneCall A)) → handed_out e ≡ Some base → base.snapshot ≡ None
-    → based own base ≡ own_base own front e
+    → take base.from own ++ base.calls ≡ own_base own front e
 handed-based e base own front some none = based-by (is_whole e) (wanted e) e.bytes e.brought base own front some none
 
-plain-by : {A : Type 0} (b : Bool) (o : Option Wanted) (bytes : List ℕ) (calls : List (OneCall A)) (base : Base A)
-    → (if b then base_from o bytes calls else None) ≡ Some base → is_none base.snapshot ≡ is_unsnapped o
-plain-by true None bytes calls base some = absurd (cc some)
-plain-by {A} true (Some w) bytes calls base some =
+wanted-base : {A : Type 0} (b : Bool) (o : Option Wanted) (bytes : List ℕ) (calls : List (OneCall A)) (base : Base A)
+    → (if b then base_from o bytes calls else None) ≡ Some base
+    → (w : Wanted) × (o ≡ Some w) × (base ≡ record { from = w.from; snapshot = snapshot_by w.snapshot bytes; calls = calls })
+wanted-base true None bytes calls base some = absurd (cc some)
+wanted-base {A} true (Some w) bytes calls base some =
     let first : Base A = record { from = w.from; snapshot = snapshot_by w.snapshot bytes; calls = calls } in
     let same : first ≡ base = cc some in
-    ap (λ (b : Base A). is_none b.snapshot) (sym same) ∙ both w.snapshot
-  where
-    both : (o : Option ℕ) → is_none (snapshot_by o bytes) ≡ is_none o
-    both None = refl
-    both (Some at) = refl
-plain-by false o bytes calls base some = absurd (cc some)
+    (w, refl, sym same)
+wanted-base false o bytes calls base some = absurd (cc some)
 
--- a base comes without a snapshot exactly where none is wanted
-pub handed-plain : {A : Type 0} (e : Exchange A) (base : Base A) → handed_out e ≡ Some base → is_none base.snapshot ≡ is_unsnapped (wanted e)
-handed-plain e base some = plain-by (is_whole e) (wanted e) e.bytes e.brought base some
+-- a base is what was wanted, with the bytes and the calls that came
+pub handed-wanted : {A : Type 0} (e : Exchange A) (base : Base A) → handed_out e ≡ Some base
+    → (w : Wanted) × (wanted e ≡ Some w) × (base ≡ record { from = w.from; snapshot = snapshot_by w.snapshot e.bytes; calls = e.brought })
+handed-wanted e base some = wanted-base (is_whole e) (wanted e) e.bytes e.brought base some
 
 snapped-by : {A : Type 0} (b : Bool) (o : Option Wanted) (bytes told : List ℕ) (calls : List (OneCall A)) (base : Base A) (own front : List (OneCall A))
     → (if b then base_from o bytes calls else None) ≡ Some base → base.snapshot ≡ Some told

@@ -1,7 +1,7 @@
 -- The exchange of a primary ring, by what is heard there in order: every member's Head, and then the chosen owner's
 -- places from the least committed length on, or, where it has dropped some of these, its snapshot in pieces and the places
 -- behind it. The replicated log, rules 3, 4 and 6 of docs/PROTOCOL.md.
-use Rattle.std.specs.Prelude.{ℕ, ◌+◌, Bool, true, false, ◌&&◌, ◌||◌, ◌==◌, nat_le, nat_lt, if◌then◌else◌, List, [], ◌∷◌, ◌++◌, length, take, Option, Some, None}
+use Rattle.std.specs.Prelude.{ℕ, ◌+◌, Bool, true, false, ◌&&◌, ◌||◌, ◌==◌, nat_le, nat_lt, if◌then◌else◌, List, [], ◌∷◌, ◌++◌, length, Option, Some, None}
 use Rattle.ring_base.specs.Processors.{has, nobody, only, less}
 use Rattle.ring_payload.specs.declared.call.Call.{Call as OneCall}
 use Rattle.ring_payload.specs.declared.calls.Part.{Part as OnePart}
@@ -144,7 +144,3 @@ base_at e sender payload = if is_whole e then None else handed_out (heard e send
 -- an exchange without the bytes and the calls that it handed out
 abbrev pub relieved : {A : Type 0} → Exchange A → Exchange A
 relieved e = if is_whole e then record e { bytes = []; brought = [] } else e
-
--- the log that a base without a snapshot makes of a node's own: its first places, and what was brought
-abbrev pub based : {A : Type 0} → List (OneCall A) → Base A → List (OneCall A)
-based own base = take base.from own ++ base.calls

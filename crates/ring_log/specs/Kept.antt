@@ -1,7 +1,7 @@
 -- What a node knows of its log by its own life alone: the places behind the snapshot that it restored last, if it restored one, and how many places are
--- committed and how many dropped. What all lives together say of the same log is in Lives; that both say the same of a life that restored nothing:
--- kept_law of ring_log_proof. The replicated log, rules 6, 8, 9, 11 and 12 of docs/PROTOCOL.md.
-use Rattle.std.specs.Prelude.{ℕ, ◌+◌, ◌-◌, max, Bool, true, ◌&&◌, nat_lt, is_some, is_none, if◌then◌else◌, List, [], ◌∷◌, ◌++◌, length, take, drop}
+-- committed and how many dropped. What all lives together say of the same log is in Lives; that both say the same: kept_law of ring_log_proof.
+-- The replicated log, rules 6, 8, 9, 11, 12 and 20 of docs/PROTOCOL.md.
+use Rattle.std.specs.Prelude.{ℕ, ◌+◌, ◌-◌, ◌≤◌, max, Bool, true, ◌&&◌, ◌||◌, nat_le, nat_lt, is_some, if◌then◌else◌, List, [], ◌∷◌, ◌++◌, length, take, drop}
 use Rattle.std.specs.Prelude.{Option, Some, None}
 use Rattle.ring_base.specs.Group.{Group}
 use Rattle.ring_base.specs.declared.ring_id.RingId.{RingId}
@@ -9,9 +9,9 @@ use Rattle.ring_payload.specs.declared.call.Call.{Call as OneCall}
 use Rattle.ring_payload.specs.declared.head.Head.{Head as OneHead}
 use Rattle.ring_log.specs.declared.wanted.Wanted.{Wanted}
 use Rattle.ring_log.specs.Exchanges.{wanted}
-use Rattle.ring_log.specs.Logs.{begins, is_log_length}
+use Rattle.ring_log.specs.Logs.{Log, begins, is_log_length}
 use Rattle.ring_log.specs.Stays.{Stay}
-use Rattle.ring_log.specs.Lives.{Whole, exchanged, calls_in, upto, log_of, committed_of, last_of}
+use Rattle.ring_log.specs.Lives.{Whole, exchanged, calls_in, upto}
 
 -- the places from one on; how many places are committed, dropped ones and those below `from` included, and how many dropped; the last primary; and the
 -- bytes that stand for the places below `from`
@@ -37,9 +37,11 @@ kept_committed k = take (k.committed - k.from) k.calls
 abbrev pub kept_undropped : {A : Type 0} → Kept A → List (OneCall A)
 kept_undropped k = drop (k.trimmed - k.from) (kept_committed k)
 
--- what a node states of it
-abbrev pub head_kept : {A : Type 0} → Kept A → OneHead
-head_kept k = record { last = k.last; length = kept_length k; committed = k.committed; trimmed = k.trimmed }
+-- no place below the first that is known is kept, none is dropped that isn't committed, none committed that isn't there
+pub record IsKnown {A : Type 0} (k : Kept A) : Type 0 where
+  pub low : k.from ≤ k.trimmed
+  pub high : k.trimmed ≤ k.committed
+  pub within : k.committed ≤ kept_length k
 
 -- What a life makes of it
 
@@ -47,12 +49,21 @@ head_kept k = record { last = k.last; length = kept_length k; committed = k.comm
 abbrev pub restores : {A : Type 0} → Kept A → Wanted → Bool
 restores k w = is_some w.snapshot && nat_lt k.committed w.from
 
--- what a whole exchange makes of it, with the bytes and the calls brought: of these it takes what doesn't lie below its own first place
+-- what a whole exchange makes of it, with the bytes and the calls brought
+
+abbrev pub restored_kept : {A : Type 0} → RingId → Wanted → List ℕ → List (OneCall A) → Kept A
+restored_kept ring w bytes calls = record { from = w.from; calls = calls; committed = w.from; trimmed = w.from; last = Some ring; snapshot = bytes }
+
+-- the first of the places brought that are taken: none that is dropped
+abbrev pub first_joined : {A : Type 0} → Kept A → Wanted → ℕ
+first_joined k w = max w.from k.trimmed
+
+abbrev pub joined_kept : {A : Type 0} → Kept A → RingId → Wanted → List (OneCall A) → Kept A
+joined_kept k ring w calls =
+    record k { calls = take (first_joined k w - k.from) k.calls ++ drop (first_joined k w - w.from) calls; last = Some ring }
+
 abbrev pub adopted_kept : {A : Type 0} → Kept A → RingId → Wanted → List ℕ → List (OneCall A) → Kept A
-adopted_kept k ring w bytes calls =
-    if restores k w
-    then record { from = w.from; calls = calls; committed = w.from; trimmed = w.from; last = Some ring; snapshot = bytes }
-    else record k { calls = take (w.from - k.from) k.calls ++ drop (k.from - w.from) calls; last = Some ring }
+adopted_kept k ring w bytes calls = if restores k w then restored_kept ring w bytes calls else joined_kept k ring w calls
 
 abbrev pub adopts_wanted : {A : Type 0} → Kept A → RingId → Option Wanted → Whole A → Kept A
 adopts_wanted k ring None whole = k
@@ -81,10 +92,21 @@ abbrev pub kept_by : {A : Type 0} → RingId → Kept A → Option (Whole A) →
 kept_by ring k None safe = k
 kept_by ring k (Some whole) safe = based_on (adopts k ring whole) whole safe
 
+-- places are dropped at the end of a step, committed ones alone
+abbrev pub dropped_by : {A : Type 0} → ℕ → Kept A → Kept A
+dropped_by places k = record k { trimmed = max places k.trimmed }
+
 abbrev pub kept_of : {A : Type 0} → Group → List (Stay A) → Kept A
 kept_of group [] = nothing_kept
 kept_of group (s ∷ older) =
-    kept_by s.ring (kept_of group older) (exchanged group s.members s.heard) (exchanged group s.members (upto s.mark s.heard))
+    dropped_by s.trimmed (kept_by s.ring (kept_of group older) (exchanged group s.members s.heard) (exchanged group s.members (upto s.mark s.heard)))
+
+-- as it is kept, and what a node states of it
+abbrev pub log_kept : {A : Type 0} → Kept A → Log A
+log_kept k = record { trimmed = k.trimmed; calls = drop (k.trimmed - k.from) k.calls; committed = k.committed; last = k.last }
+
+abbrev pub head_kept : {A : Type 0} → Kept A → OneHead
+head_kept k = record { last = k.last; length = kept_length k; committed = k.committed; trimmed = k.trimmed }
 
 -- What stops a node
 
@@ -92,10 +114,10 @@ kept_of group (s ∷ older) =
 abbrev pub begins_kept : {A : Type 0} → Kept A → Kept A → Bool
 begins_kept old new = begins (kept_undropped old) (drop (old.trimmed - new.from) new.calls)
 
--- where a snapshot is wanted, the node stops, since no node restores one yet
+-- a snapshot that is restored is not compared; else the places below those brought are committed
 abbrev pub keeps_wanted : {A : Type 0} → Kept A → RingId → Option Wanted → Whole A → Bool
 keeps_wanted k ring None whole = true
-keeps_wanted k ring (Some w) whole = is_none w.snapshot && begins_kept k (adopts k ring whole)
+keeps_wanted k ring (Some w) whole = restores k w || (nat_le w.from k.committed && begins_kept k (adopts k ring whole))
 
 abbrev pub keeps_kept : {A : Type 0} → Kept A → RingId → Option (Whole A) → Bool
 keeps_kept k ring None = true
@@ -108,17 +130,3 @@ is_kept_sound group (s ∷ older) =
     is_kept_sound group older
     && keeps_kept (kept_of group older) s.ring (exchanged group s.members s.heard)
     && is_log_length (kept_length (kept_of group (s ∷ older)))
-
--- What all lives together say
-
--- a whole log that nothing was dropped of, as a node knows it
-abbrev pub whole_kept : {A : Type 0} → Group → List (Stay A) → Kept A
-whole_kept group life =
-    record {
-      from = 0;
-      calls = log_of group life;
-      committed = length (committed_of group life);
-      trimmed = 0;
-      last = last_of group life;
-      snapshot = [];
-    }

@@ -1,7 +1,7 @@
 -- The log of a node, its last primary and its committed places, as functions of its life: The replicated log, rules 6, 8, 9, 11 and 12 of docs/PROTOCOL.md.
 -- A base is here the node's own places up to the exchange's first, or what a snapshot stands for that was sent instead, and the places that the exchange
 -- brought; that these are the chosen sender's places, as rule 16 says, holds in runs: adoption_law of ring_log_proof.
-use Rattle.std.specs.Prelude.{ℕ, Bool, true, false, ◌&&◌, ◌||◌, ◌==◌, nat_lt, nat_le, is_some, is_none, if◌then◌else◌, List, [], ◌∷◌, ◌++◌, length, take}
+use Rattle.std.specs.Prelude.{ℕ, zero, suc, max, Bool, true, false, ◌&&◌, ◌||◌, ◌==◌, nat_lt, nat_le, is_some, if◌then◌else◌, List, [], ◌∷◌, ◌++◌, length, take, map}
 use Rattle.std.specs.Prelude.{Option, Some, None}
 use Rattle.ring_base.specs.Group.{Group, is_primary}
 use Rattle.ring_base.specs.Rings.{same_ring}
@@ -13,7 +13,7 @@ use Rattle.ring_wire.specs.declared.message.Message.{Message}
 use Rattle.ring_log.specs.declared.base.Base.{Base}
 use Rattle.ring_log.specs.declared.wanted.Wanted.{Wanted}
 use Rattle.ring_log.specs.Exchanges.{Exchange, opened, heard, is_whole, wanted, handed_out, relieved}
-use Rattle.ring_log.specs.Logs.{Log, head_of, begins, is_log_length}
+use Rattle.ring_log.specs.Logs.{begins, is_log_length}
 use Rattle.ring_log.specs.Stays.{Stay}
 
 -- The exchange in what was heard of a ring
@@ -119,17 +119,39 @@ abbrev pub committed_by : {A : Type 0} → List (OneCall A) → List (OneCall A)
 committed_by own front old None = old
 committed_by own front old (Some w) = longer old (own_base own front w.exchange ++ calls_in w.rest)
 
+-- what a snapshot stands for counts as committed once its ring is adopted
+abbrev pub front_on : {A : Type 0} → List (OneCall A) → Option Wanted → List (OneCall A)
+front_on front None = []
+front_on front (Some w) = places_below [] front 0 w.snapshot
+
+abbrev pub restored_by : {A : Type 0} → List (OneCall A) → List (OneCall A) → Option (Whole A) → List (OneCall A)
+restored_by front old None = old
+restored_by front old (Some w) = longer old (front_on front (wanted w.exchange))
+
 abbrev pub committed_of : {A : Type 0} → Group → List (Stay A) → List (OneCall A)
 committed_of group [] = []
 committed_of group (s ∷ older) =
-    committed_by (log_of group older) s.front (committed_of group older) (exchanged group s.members (upto s.mark s.heard))
+    committed_by (log_of group older) s.front (restored_by s.front (committed_of group older) (exchanged group s.members s.heard))
+    (exchanged group s.members (upto s.mark s.heard))
 
--- a life as a log, and what a node states of it
-abbrev pub kept_of : {A : Type 0} → Group → List (Stay A) → Log A
-kept_of group life = record { calls = log_of group life; committed = length (committed_of group life); last = last_of group life }
+-- How many places are dropped: as many as a step did, or as the snapshot stands for that was restored
 
+abbrev pub trimmed_on : ℕ → ℕ → Option Wanted → ℕ
+trimmed_on trimmed committed None = trimmed
+trimmed_on trimmed committed (Some w) = if is_some w.snapshot && nat_lt committed w.from then w.from else trimmed
+
+abbrev pub trimmed_by : {A : Type 0} → ℕ → ℕ → Option (Whole A) → ℕ
+trimmed_by trimmed committed None = trimmed
+trimmed_by trimmed committed (Some w) = trimmed_on trimmed committed (wanted w.exchange)
+
+abbrev pub trimmed_of : {A : Type 0} → Group → List (Stay A) → ℕ
+trimmed_of group [] = 0
+trimmed_of group (s ∷ older) = max s.trimmed (trimmed_by (trimmed_of group older) (length (committed_of group older)) (exchanged group s.members s.heard))
+
+-- what a node states of its log
 abbrev pub head_of_life : {A : Type 0} → Group → List (Stay A) → OneHead
-head_of_life group life = head_of (kept_of group life)
+head_of_life group life =
+    record { last = last_of group life; length = length (log_of group life); committed = length (committed_of group life); trimmed = trimmed_of group life }
 
 -- The base of a ring, for all nodes at once: the chosen sender's places when it sent its Head
 
@@ -155,15 +177,19 @@ ring_log group lives ring members text = ring_log_by group lives ring (exchanged
 
 -- What stops a node
 
--- no snapshot is wanted. Where one is, the node stops, since no node restores one yet; in no run is one wanted, since no node states a trimmed length
-abbrev pub is_unsnapped : Option Wanted → Bool
-is_unsnapped None = true
-is_unsnapped (Some w) = is_none w.snapshot
+-- the places below those brought are known: they are committed; or a snapshot was sent, and what it stands for is as many places
+abbrev pub is_known_below : {A : Type 0} → List (OneCall A) → List (OneCall A) → ℕ → Option ℕ → Bool
+is_known_below front committed from None = nat_le from (length committed)
+is_known_below front committed from (Some at) = length front == from
 
--- the base that a ring's exchange makes begins with what was committed before
+abbrev pub is_known_on : {A : Type 0} → List (OneCall A) → List (OneCall A) → Option Wanted → Bool
+is_known_on front committed None = true
+is_known_on front committed (Some w) = is_known_below front committed w.from w.snapshot
+
+-- so of a ring's exchange, and the base that it makes begins with what was committed before
 abbrev pub keeps_committed : {A : Type 0} → List (OneCall A) → List (OneCall A) → List (OneCall A) → Option (Whole A) → Bool
 keeps_committed own front committed None = true
-keeps_committed own front committed (Some w) = is_unsnapped (wanted w.exchange) && begins committed (own_base own front w.exchange)
+keeps_committed own front committed (Some w) = is_known_on front committed (wanted w.exchange) && begins committed (own_base own front w.exchange)
 
 -- each base of a life began with the places committed before it, and no log had more than the greatest number of places
 abbrev pub is_sound : {A : Type 0} → Group → List (Stay A) → Bool
@@ -172,3 +198,36 @@ is_sound group (s ∷ older) =
     is_sound group older
     && keeps_committed (log_of group older) s.front (committed_of group older) (exchanged group s.members s.heard)
     && is_log_length (length (log_of group (s ∷ older)))
+
+-- What the snapshots of lives stand for: of the log that the chosen sender had when it sent its Head, the first places. By the numbers of rings
+
+-- lives with what the snapshots stand for that were sent in their rings, by processor and the ring's number
+abbrev pub filled : {A : Type 0} → (ℕ → ℕ → List (OneCall A)) → ℕ → List (Stay A) → List (Stay A)
+filled fronts p life = map (λ (s : Stay _). record s { front = fronts p s.ring.seq }) life
+
+abbrev pub front_wanted : {A : Type 0} → Group → (ℕ → List (Stay A)) → (ℕ → ℕ → List (OneCall A)) → ℕ → Wanted → Option ℕ → List (OneCall A)
+front_wanted group lives fronts number w None = []
+front_wanted group lives fronts number w (Some at) = take at (log_of group (filled fronts w.owner (older_at number (lives w.owner))))
+
+abbrev pub front_by : {A : Type 0} → Group → (ℕ → List (Stay A)) → (ℕ → ℕ → List (OneCall A)) → ℕ → Option Wanted → List (OneCall A)
+front_by group lives fronts number None = []
+front_by group lives fronts number (Some w) = front_wanted group lives fronts number w w.snapshot
+
+abbrev pub front_after : {A : Type 0} → Group → (ℕ → List (Stay A)) → (ℕ → ℕ → List (OneCall A)) → ℕ → Option (Whole A) → List (OneCall A)
+front_after group lives fronts number None = []
+front_after group lives fronts number (Some w) = front_by group lives fronts number (wanted w.exchange)
+
+-- in the ring of that number, of this life
+abbrev pub front_in : {A : Type 0} → Group → (ℕ → List (Stay A)) → (ℕ → ℕ → List (OneCall A)) → ℕ → List (Stay A) → List (OneCall A)
+front_in group lives fronts number [] = []
+front_in group lives fronts number (s ∷ older) =
+    if s.ring.seq == number then front_after group lives fronts number (exchanged group s.members s.heard) else front_in group lives fronts number older
+
+-- in all rings below a number
+abbrev pub fronts_below : {A : Type 0} → Group → (ℕ → List (Stay A)) → ℕ → ℕ → ℕ → List (OneCall A)
+fronts_below group lives zero p number = []
+fronts_below group lives (suc bound) p number =
+    if number == bound then front_in group lives (fronts_below group lives bound) number (lives p) else fronts_below group lives bound p number
+
+abbrev pub whole_life : {A : Type 0} → Group → (ℕ → List (Stay A)) → ℕ → ℕ → List (Stay A)
+whole_life group lives bound p = filled (fronts_below group lives bound) p (lives p)

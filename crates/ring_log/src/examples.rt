@@ -51,7 +51,7 @@ pub fn wanted_snapshot()
 
 /// That exchange, whole, as each of the three nodes would adopt it with ring 9.1, by what it knows of its own log: those that
 /// have committed 290 places keep them, and take the places behind the first 256; the one without places restores the snapshot,
-/// and 256 places are then committed and dropped. (As long as no node restores, all three stop instead.)
+/// and 256 places are then committed and dropped.
 pub fn adopted_snapshot()
     ensures owner { adopts (known 4 300) (ring_of 9 1) trimmed_whole ≡ known 9 300 }
     ensures second { adopts (known 4 298) (ring_of 9 1) trimmed_whole ≡ known 9 300 }

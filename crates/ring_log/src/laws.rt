@@ -1,6 +1,6 @@
 //! Laws of logs and of their exchange.
 
-ghost use Rattle.std.specs.Prelude.{◌≡◌, ℕ, ◌≤◌, true, List, [], ◌∷◌, ◌++◌, length, Some, None};
+ghost use Rattle.std.specs.Prelude.{◌≡◌, ℕ, ◌+◌, ◌≤◌, true, List, [], ◌∷◌, ◌++◌, length, take, Some, None};
 ghost use Rattle.ring_base.specs.Fronts.{IsFront};
 ghost use Rattle.ring_base.specs.Group.{Group, is_primary};
 ghost use Rattle.ring_base.specs.declared.ring_id.RingId.{RingId};
@@ -8,23 +8,23 @@ ghost use Rattle.ring_payload.specs.declared.call.Call.{Call as OneCall};
 ghost use Rattle.ring_wire.specs.declared.message.Message.{Message};
 ghost use Rattle.ring_log.specs.declared.base.Base.{Base};
 ghost use Rattle.ring_log.specs.declared.wanted.Wanted.{Wanted};
-ghost use Rattle.ring_log.specs.Exchanges.{Exchange, opened, wanted, heard_pieces, base_at, handed_out, based};
+ghost use Rattle.ring_log.specs.Exchanges.{Exchange, opened, wanted, heard_pieces, base_at, handed_out};
 ghost use Rattle.ring_log.specs.Parts.{pieces_of};
-ghost use Rattle.ring_log.specs.Logs.{Log, empty, appended, adopted, committed_upto, committed_calls, is_adoptable, IsLog, KeepsCommitted};
+ghost use Rattle.ring_log.specs.Logs.{Log, empty, followed, adopted_if, trimmed_log, committed_upto, committed_calls, IsLog, KeepsCommitted};
 ghost use Rattle.ring_log.specs.Lives.{Whole, exchanged, heard_on, base_ending, own_base};
 
 use std::alloc::Allocator;
 
-/// What is committed stays: no call of a log lowers its committed length or changes a committed place, `adopt` of a base
-/// that may be adopted included. The committed places are always the first of the log.
+/// What is committed stays: no call of a log lowers its committed length or changes a committed place that it keeps, `adopt`
+/// of whatever base included; and committed places alone are dropped. The committed places are always the first of the log.
 pub fn committed_law<A: Allocator + Copy>()
     ensures opening { IsLog (empty {A = A}) }
     ensures first { (log : Log A) → IsLog log →
-        IsFront (committed_calls log) log.calls × (length (committed_calls log) ≡ log.committed) }
-    ensures appended { (log : Log A) (call : OneCall A) → IsLog log → KeepsCommitted log (appended log call) }
-    ensures adopted { (log : Log A) (ring : RingId) (base : Base A) → IsLog log → is_adoptable log base ≡ true →
-        KeepsCommitted log (adopted log ring base) }
+        IsFront (committed_calls log) log.calls × (log.trimmed + length (committed_calls log) ≡ log.committed) }
+    ensures followed { (log : Log A) (calls : List (OneCall A)) → IsLog log → KeepsCommitted log (followed log calls) }
+    ensures adopted { (log : Log A) (ring : RingId) (base : Base A) → IsLog log → KeepsCommitted log (adopted_if log ring base) }
     ensures committed { (log : Log A) (n : ℕ) → IsLog log → KeepsCommitted log (committed_upto log n) }
+    ensures dropped { (log : Log A) → IsLog log → KeepsCommitted log (trimmed_log log) }
 {}
 
 /// The text of a primary ring, heard message by message, hands out the base exactly at the message with which its
@@ -40,7 +40,7 @@ pub fn exchange_law<A: Allocator + Copy>()
     ensures later { (group : Group) (members : ℕ) (text : List (Message A)) (x : Message A) (w : Whole A) →
         exchanged group members text ≡ Some w → exchanged group members (text ++ x ∷ []) ≡ Some (record w { rest = w.rest ++ x ∷ [] }) }
     ensures base { (e : Exchange A) (base : Base A) (own front : List (OneCall A)) →
-        handed_out e ≡ Some base → base.snapshot ≡ None → based own base ≡ own_base own front e }
+        handed_out e ≡ Some base → base.snapshot ≡ None → take base.from own ++ base.calls ≡ own_base own front e }
     ensures snapshot { (e : Exchange A) (base : Base A) (bytes : List ℕ) (own front : List (OneCall A)) →
         handed_out e ≡ Some base → base.snapshot ≡ Some bytes → (bytes ≡ e.bytes) × (own_base own front e ≡ front ++ base.calls) }
     ensures pieces { (e : Exchange A) (w : Wanted) (at : ℕ) (bytes : List ℕ) → wanted e ≡ Some w → w.snapshot ≡ Some at →

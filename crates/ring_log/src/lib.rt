@@ -1,6 +1,7 @@
 //! The replicated log: how the members of a primary ring come to one log, and what a node keeps of it.
 #![tactic(auto)]
 
+mod adoption;
 mod base;
 mod begins;
 mod examples;
@@ -14,6 +15,7 @@ mod snapshot;
 mod stated;
 mod wanted;
 
+pub use adoption::Adoption;
 pub use base::Base;
 pub use examples::{adopted_snapshot, chosen_logs, lived_logs, wanted_parts, wanted_snapshot};
 pub use exchange::Exchange;

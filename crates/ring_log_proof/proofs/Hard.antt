@@ -2,8 +2,7 @@
 
 -- By the numbers of rings: the two rings share a processor; its Head in the later ring is of a life in which it had
 -- adopted the earlier one, and the chosen Head is no less.
-use Rattle.std.specs.Prelude.{is_none}
-use Rattle.std.proofs.Common.{◌≡◌, ℕ, zero, suc, ◌<◌, ◌≤◌, true, List, ◌++◌, length, Option, Some, None, ◌⊎◌, inl, inr, refl, ap, sym, ◌∙◌, subst, arith}
+use Rattle.std.proofs.Common.{◌≡◌, ℕ, zero, suc, ◌<◌, ◌≤◌, List, ◌++◌, length, Option, Some, None, ◌⊎◌, inl, inr, refl, ap, sym, ◌∙◌, subst, arith}
 use Rattle.ring_base.specs.Fronts.{IsFront, front_trans}
 use Rattle.ring_base.specs.Group.{Group}
 use Rattle.ring_base.specs.Primaries.{primaries_share}
@@ -15,33 +14,39 @@ use Rattle.ring_payload.specs.declared.call.Call.{Call as OneCall}
 use Rattle.ring_payload.specs.declared.head.Head.{Head as OneHead}
 use Rattle.ring_wire.specs.declared.message.Message.{Message}
 use Rattle.ring_log.specs.declared.stated.Stated.{Stated}
-use Rattle.ring_log.specs.Exchanges.{wanted}
 use Rattle.ring_log.specs.Stays.{Stay}
-use Rattle.ring_log.specs.Lives.{Whole, exchanged, calls_in, log_of, last_of, own_base, head_of_life, base_of, is_unsnapped}
+use Rattle.ring_log.specs.Lives.{Whole, exchanged, calls_in, log_of, last_of, own_base, head_of_life, base_of}
 use Rattle.ring_log_proof.specs.RingFacts.{IsStay, StayIn, AllHeard, RingFacts}
-use Rattle.ring_log_proof.specs.Discipline.{KeepsDiscipline}
+use Rattle.ring_log_proof.specs.Discipline.{KeepsRules}
 use Rattle.ring_log_proof.proofs.ChosenHead.{LastsOf, no_less-tells}
 use Rattle.ring_log_proof.proofs.Wholes.{grown, exchanged-primary, exchanged-front, log_on, base-front, log-front, logs-shorter}
-use Rattle.ring_log_proof.proofs.Stays.{stay-below, stay-same, stay-trans, rises-older, older-below}
-use Rattle.ring_log_proof.proofs.Heads.{outcome, base-owner}
+use Rattle.ring_log_proof.proofs.Stays.{stay-below, stay-same, stay-trans, rises-older, older-below, life-lower}
+use Rattle.ring_log_proof.proofs.Heads.{ViewsAt, outcome, base-owner}
 use Rattle.ring_log_proof.proofs.Newest.{Newest, newest-or_none, NewestFrom, newest-from}
 
--- in rings below a number, what a node makes of an exchange and its own log is the ring's base
-abbrev pub AgreedBelow : {A : Type 0} → Group → (ℕ → List (Stay A)) → ℕ → Type 0
-AgreedBelow {A} group lives bound = (p : ℕ) (s : Stay A) (older : List (Stay A)) (w : Whole A) → IsStay (lives p) s older → s.ring.seq < bound
-    → exchanged group s.members s.heard ≡ Some w
-    → own_base (log_of group older) s.front w.exchange ≡ base_of group lives s.ring w.exchange
+-- in rings below a number, what a node makes of an exchange and its own log is the ring's base; and what is known of a log of such rings is the rest of it
+pub record AgreedBelow {A : Type 0} (group : Group) (lives : ℕ → List (Stay A)) (bound : ℕ) : Type 0 where
+  pub bases : (p : ℕ) (s : Stay A) (older : List (Stay A)) (w : Whole A) → IsStay (lives p) s older → s.ring.seq < bound
+      → exchanged group s.members s.heard ≡ Some w
+      → own_base (log_of group older) s.front w.exchange ≡ base_of group lives s.ring w.exchange
+  pub views : ViewsAt group lives bound
 
 -- so below each smaller number
+pub views-lower : {A : Type 0} (group : Group) (lives : ℕ → List (Stay A)) (low high : ℕ) → low ≤ high → ViewsAt group lives high → ViewsAt group lives low
+views-lower group lives low high le views p life below = views p life (life-lower (lives p) life low high le below)
+
 pub agreed-lower : {A : Type 0} (group : Group) (lives : ℕ → List (Stay A)) (low high : ℕ) → low ≤ high → AgreedBelow group lives high
     → AgreedBelow group lives low
-agreed-lower group lives low high le agreed p s older w there below exch = agreed p s older w there (omega (arith, le, below)) exch
+agreed-lower group lives low high le agreed = record {
+  bases = λ p s older w there below exch. agreed.bases p s older w there (omega (arith, le, below)) exch;
+  views = views-lower group lives low high le agreed.views;
+}
 
 none-below : (r : RingId) → IsPrimaryBelow (Some r) None → ⊥
 none-below r h = cc h
 
 module _ {A : Type 0} (group : Group) (lives : ℕ → List (Stay A)) (members : RingId → ℕ) (text : RingId → List (Message A))
-    (facts : RingFacts lives members text) (disc : KeepsDiscipline group lives) where
+    (facts : RingFacts lives members text) (disc : KeepsRules group lives) where
   -- a log of a ring, with the ring's base
   abbrev pub ring_log_on : RingId → Whole A → List (OneCall A)
   ring_log_on r w = log_on (base_of group lives r) w
@@ -65,13 +70,6 @@ module _ {A : Type 0} (group : Group) (lives : ℕ → List (Stay A)) (members :
   pub heard-in : (p : ℕ) (r : RingId) (at : StayIn (lives p) r) → IsFront at.stay.heard (text r)
   heard-in p r at = subst (λ q. IsFront at.stay.heard (text q)) at.ring (facts.heard p at.stay at.older at.there)
 
-  -- no snapshot is wanted
-  pub unsnapped-in : (p : ℕ) (r : RingId) (at : StayIn (lives p) r) (w : Whole A) → exchanged group at.stay.members at.stay.heard ≡ Some w
-      → is_unsnapped (wanted w.exchange) ≡ true
-  unsnapped-in p r at w exch =
-      let o = outcome group lives members text facts disc r at.stay.heard w (heard-in p r at) (by-ring p r at w exch) in
-      ap is_unsnapped o.is ∙ ap is_none o.plain
-
   pub seq-in : (p : ℕ) (r : RingId) (at : StayIn (lives p) r) → at.stay.ring.seq ≡ r.seq
   seq-in p r at = ap (λ (q : RingId). q.seq) at.ring
 
@@ -86,15 +84,15 @@ module _ {A : Type 0} (group : Group) (lives : ℕ → List (Stay A)) (members :
   pub newest-log : (bound : ℕ) → AgreedBelow group lives bound → (p : ℕ) (life : List (Stay A)) (m : Newest group life) → IsStay (lives p) m.stay m.older
       → m.stay.ring.seq < bound
       → log_of group life ≡ ring_log_on m.stay.ring m.whole
-  newest-log bound agreed p life m there low = m.log ∙ ap (λ l. l ++ calls_in m.whole.rest) (agreed p m.stay m.older m.whole there low m.exch)
+  newest-log bound agreed p life m there low = m.log ∙ ap (λ l. l ++ calls_in m.whole.rest) (agreed.bases p m.stay m.older m.whole there low m.exch)
 
   -- two primary rings of one number are one, where each member of the one heard something there and the other has a whole exchange
-  pub same-number : (c d : RingId) (xs ys : List (Message A)) (v w : Whole A) → exchanged group (members c) xs ≡ Some v → exchanged group (members d) ys
+  pub same-number : (c d : RingId) → ViewsAt group lives d.seq → (xs ys : List (Message A)) (v w : Whole A) → exchanged group (members c) xs ≡ Some v → exchanged group (members d) ys
       ≡ Some w
       → AllHeard lives c (members c) xs → IsFront ys (text d) → c.seq ≡ d.seq → c ≡ d
-  same-number c d xs ys v w hv hw safe front e =
+  same-number c d views xs ys v w hv hw safe front e =
       let s = shared c d xs ys v w hv hw in
-      let o = outcome group lives members text facts disc d ys w front hw in
+      let o = outcome group lives members text facts disc d views ys w front hw in
       let in_c = (safe s.0 s.1).0 in
       let in_d = (o.each s.0 s.2).says.0 in
       let same = stay-same (lives s.0) in_c.stay in_d.stay in_c.older in_d.older (facts.rises s.0) in_c.there in_d.there
@@ -168,7 +166,8 @@ module _ {A : Type 0} (group : Group) (lives : ℕ → List (Stay A)) (members :
         | inl less ↦ hard-later bound c e v q at_q mq lb agreed between (omega (arith, less, ap num rp))
         | inr tie ↦
             let at = newest-in q e at_q mq in
-            let same : c ≡ mq.stay.ring = same-number c mq.stay.ring xs mq.stay.heard v mq.whole hv (by-ring q mq.stay.ring at mq.whole mq.exch) safe
+            let same : c ≡ mq.stay.ring = same-number c mq.stay.ring
+            (views-lower group lives mq.stay.ring.seq e.seq (omega (arith, newest-low q e at_q mq)) agreed.views) xs mq.stay.heard v mq.whole hv (by-ring q mq.stay.ring at mq.whole mq.exch) safe
             (heard-in q mq.stay.ring at) (omega (arith, tie.0, ap num rp)) in
             absurd (omega (arith, tie.1, ap (λ (r : RingId). r.rep) (rp ∙ same)))
       ]
@@ -218,7 +217,7 @@ module _ {A : Type 0} (group : Group) (lives : ℕ → List (Stay A)) (members :
   hard (suc bound) c e xs ys v w lb lt agreed hv safe front hw =
       let s = shared c e xs ys v w hv hw in
       let p = s.0 in
-      let o = outcome group lives members text facts disc e ys w front hw in
+      let o = outcome group lives members text facts disc e agreed.views ys w front hw in
       let stands = o.each p s.2 in
       let at_p = stands.says.0 in
       let at_q = o.says.0 in

@@ -3,11 +3,11 @@ use Rattle.std.proofs.Common.{if◌then◌else◌, length-append, ◌≡◌, ℕ
 use Rattle.std.proofs.Common.{Option, Some, None, ◌⊎◌, inl, inr, refl, ap, sym, ◌∙◌, subst, arith}
 use Rattle.std.specs.List.{AllByRecursion as Each}
 use Rattle.std.specs.Prelude.{nat_lt}
-use Rattle.std.proofs.lemmas.Bool.{cond_both, cond-false, and_parts, eqb-true, le-ltb, leb-true, cases_eq}
+use Rattle.std.proofs.lemmas.Bool.{cond_both, and_parts, eqb-true, leb-true, cases_eq}
 use Rattle.ring_base.specs.Fronts.{IsFront}
 use Rattle.ring_base.specs.Processors.{IsMember, has, nobody, only, less}
 use Rattle.ring_base.specs.Members.{member_had, nobody_member, only_members, less_members}
-use Rattle.ring_base.proofs.Each.{each-push, each-both}
+use Rattle.ring_base.proofs.Each.{each-push, each-both, each-weaker}
 use Rattle.ring_base.proofs.ListFronts.{front-on, drop-more}
 use Rattle.ring_payload.specs.declared.call.Call.{Call as OneCall}
 use Rattle.ring_payload.specs.declared.calls.Part.{Part as OnePart}
@@ -167,27 +167,27 @@ module _ {A : Type 0} (Says : ℕ → OneHead → Type 0) (logs : ℕ → List (
     pub sender : stated.sender ≡ p
     pub says : Says p stated.head
     pub no_greater : IsNoLess chosen stated
-    pub committed : w.from ≤ stated.head.committed
+    pub committed : w.snapshot ≡ None → w.from ≤ stated.head.committed
 
   -- what is wanted by it, the Heads behind that, and what was brought
   pub record Outcome (e : Exchange A) : Type 0 where
     pub w : Wanted
     pub is : wanted e ≡ Some w
-    pub plain : w.snapshot ≡ None
     pub brought : IsFront e.brought (drop w.from (logs w.owner))
     pub full : w.to ≤ w.from + length e.brought
     pub chosen : Stated
     pub owner : w.owner ≡ chosen.sender
     pub to : w.to ≡ chosen.head.length
+    pub snapped : (at : ℕ) → w.snapshot ≡ Some at → (at ≡ w.from) × (chosen.head.trimmed ≡ w.from)
     pub says : Says w.owner chosen.head
-    pub committed : w.from ≤ chosen.head.committed
+    pub committed : w.snapshot ≡ None → w.from ≤ chosen.head.committed
     pub each : (p : ℕ) → IsMember members p → Stands chosen w p
 
   IsGood : Stated → Wanted → Stated → Type 0
-  IsGood chosen w s = (Says s.sender s.head × IsNoLess chosen s) × (w.from ≤ s.head.committed)
+  IsGood chosen w s = (Says s.sender s.head × IsNoLess chosen s) × (w.snapshot ≡ None → w.from ≤ s.head.committed)
 
   stands : (chosen : Stated) (w : Wanted) (p : ℕ) → (s : Stated) × (s.sender ≡ p)
-      × ((Says s.sender s.head × IsNoLess chosen s) × (w.from ≤ s.head.committed)) → Stands chosen w p
+      × ((Says s.sender s.head × IsNoLess chosen s) × (w.snapshot ≡ None → w.from ≤ s.head.committed)) → Stands chosen w p
   stands chosen w p f = record {
     stated = f.0;
     sender = f.1;
@@ -196,42 +196,46 @@ module _ {A : Type 0} (Says : ℕ → OneHead → Type 0) (logs : ℕ → List (
     committed = f.2.1;
   }
 
-  -- a log that is whole is wanted without a snapshot
-  wanted-plain : (owner least : ℕ) (h : OneHead) → h.trimmed ≡ 0 → wanted_of owner h least
-      ≡ record { owner = owner; snapshot = None; from = least; to = h.length }
-  wanted-plain owner least h none =
-      cond-false (nat_lt least h.trimmed) (record { owner = owner; snapshot = Some h.trimmed; from = h.trimmed; to = h.length })
-      (record { owner = owner; snapshot = None; from = least; to = h.length })
-      (ap (nat_lt least) none ∙ le-ltb least 0 (omega arith))
+  -- what is wanted of a Head: the places from the least committed length on, or those behind what was dropped
+  record Asks (owner least : ℕ) (h : OneHead) (w : Wanted) : Type 0 where
+    owner_is : w.owner ≡ owner
+    to_is : w.to ≡ h.length
+    plain : w.snapshot ≡ None → w.from ≡ least
+    snapped : (at : ℕ) → w.snapshot ≡ Some at → (at ≡ w.from) × (h.trimmed ≡ w.from)
 
-  outcome-by : ((p : ℕ) (h : OneHead) → Says p h → h.trimmed ≡ 0) → (e : Exchange A) (heads : List Stated) (w : Wanted) → e.heads ≡ heads
+  asks : (owner least : ℕ) (h : OneHead) → Asks owner least h (wanted_of owner h least)
+  asks owner least h =
+      cond_both (nat_lt least h.trimmed) (record { owner = owner; snapshot = Some h.trimmed; from = h.trimmed; to = h.length })
+      (record { owner = owner; snapshot = None; from = least; to = h.length }) (Asks owner least h)
+      (λ t. record { owner_is = refl; to_is = refl; plain = λ e. absurd (cc e); snapped = λ at e. (cc e, refl) })
+      (λ f. record { owner_is = refl; to_is = refl; plain = λ e. refl; snapped = λ at e. absurd (cc e) })
+
+  outcome-by : (e : Exchange A) (heads : List Stated) (w : Wanted) → e.heads ≡ heads
       → Hears e → e.unheard ≡ nobody → wanted e ≡ Some w → wanted_by heads ≡ Some w → w.to ≤ w.from + e.places → Outcome e
-  outcome-by untrimmed e [] w is k none wants by full = absurd (cc by)
-  outcome-by untrimmed e (s ∷ rest) w is k none wants by full =
+  outcome-by e [] w is k none wants by full = absurd (cc by)
+  outcome-by e (s ∷ rest) w is k none wants by full =
       let chosen = chosen_head s rest in
       let least = least_committed s.head.committed rest in
       let brings : Brings Says logs (Some w) e.places e.brought = subst (λ o. Brings Says logs o e.places e.brought) wants k.brings in
       let says : Each (λ (x : Stated). Says x.sender x.head) (s ∷ rest) = subst (Each (λ (x : Stated). Says x.sender x.head)) is k.heads in
       let stated = chosen-is (λ (x : Stated). Says x.sender x.head) s rest says.0 says.1 in
       let told : wanted_of chosen.sender chosen.head least ≡ w = cc by in
-      let made : record { owner = chosen.sender; snapshot = None; from = least; to = chosen.head.length } ≡ w =
-      sym (wanted-plain chosen.sender least chosen.head (untrimmed chosen.sender chosen.head stated)) ∙ told in
-      let from : least ≡ w.from = ap (λ (v : Wanted). v.from) made in
-      let owner : chosen.sender ≡ w.owner = ap (λ (v : Wanted). v.owner) made in
-      let low : Each (λ (x : Stated). w.from ≤ x.head.committed) (s ∷ rest) =
-      subst (λ n. Each (λ (x : Stated). n ≤ x.head.committed) (s ∷ rest)) from (least-first s.head.committed rest, least-each s.head.committed rest) in
+      let asked : Asks chosen.sender least chosen.head w = subst (Asks chosen.sender least chosen.head) told (asks chosen.sender least chosen.head) in
+      let Low : Stated → Type 0 = λ x. w.snapshot ≡ None → w.from ≤ x.head.committed in
+      let low : Each Low (s ∷ rest) = each-weaker (λ (x : Stated). least ≤ x.head.committed) Low (λ x h plain. omega (arith, h, asked.plain plain)) (s ∷ rest)
+      (least-first s.head.committed rest, least-each s.head.committed rest) in
       let good = each-both _ _ (s ∷ rest) (each-both _ _ (s ∷ rest) says (chosen-greatest s rest)) low in
       record {
         w = w;
         is = wants;
-        plain = sym (ap (λ (v : Wanted). v.snapshot) made);
+        snapped = asked.snapped;
         brought = brings.0;
         full = omega (arith, full, brings.1);
         chosen = chosen;
-        owner = sym owner;
-        to = sym (ap (λ (v : Wanted). v.to) made);
-        says = subst (λ q. Says q chosen.head) owner stated;
-        committed = chosen-is (λ (x : Stated). w.from ≤ x.head.committed) s rest low.0 low.1;
+        owner = asked.owner_is;
+        to = asked.to_is;
+        says = subst (λ q. Says q chosen.head) (sym asked.owner_is) stated;
+        committed = chosen-is Low s rest low.0 low.1;
         each = λ p m. stands chosen w p (stated-get _ p (s ∷ rest) good (all_stated p m));
       }
     where
@@ -248,9 +252,8 @@ module _ {A : Type 0} (Says : ℕ → OneHead → Type 0) (logs : ℕ → List (
   wanted-when : (u : ℕ) (o : Option Wanted) (w : Wanted) → (if u == nobody then o else None) ≡ Some w → (u ≡ nobody) × (o ≡ Some w)
   wanted-when u o w = cond_both (u == nobody) o None (λ v. v ≡ Some w → (u ≡ nobody) × (o ≡ Some w)) (λ t e. (eqb-true u nobody t, e)) (λ f e. absurd (cc e))
 
-  -- where all Heads are of logs that are whole
-  pub whole-outcome : ((p : ℕ) (h : OneHead) → Says p h → h.trimmed ≡ 0) → (e : Exchange A) → Hears e → is_whole e ≡ true → Outcome e
-  whole-outcome untrimmed e k t =
+  pub whole-outcome : (e : Exchange A) → Hears e → is_whole e ≡ true → Outcome e
+  whole-outcome e k t =
       let some = brought-some (wanted e) e.got e.total e.places t in
       let when = wanted-when e.unheard (wanted_by e.heads) some.0 some.1 in
-      outcome-by untrimmed e e.heads some.0 refl k when.0 some.1 when.1 some.2
+      outcome-by e e.heads some.0 refl k when.0 some.1 when.1 some.2

@@ -1,10 +1,8 @@
 -- Each call of a log was handed over by some node, as a Call and not only in a Part: what is so of all calls handed over is so of all of logs.
 
--- By the numbers of rings, since Parts have the places that a log had before their ring.
-use Rattle.std.specs.Prelude.{is_none}
-use Rattle.std.proofs.Common.{◌≡◌, ℕ, zero, suc, ◌+◌, ◌<◌, true, List, [], ◌∷◌, ◌++◌, length, drop, map, Option, Some, None}
-use Rattle.std.proofs.Common.{inl, inr, refl, ap, sym, subst, arith}
-use Rattle.std.proofs.Common.{sym, subst}
+-- By the numbers of rings, since Parts have the places that a log had before their ring, and snapshots stand for such.
+use Rattle.std.proofs.Common.{◌≡◌, ℕ, zero, suc, ◌+◌, ◌-◌, ◌<◌, ◌≤◌, List, [], ◌∷◌, ◌++◌, length, take, drop, map, Option, Some, None}
+use Rattle.std.proofs.Common.{inl, inr, refl, ap, sym, ◌∙◌, subst, arith}
 use Rattle.std.specs.List.{AllByRecursion as Each}
 use Rattle.std.proofs.lemmas.Bool.{cond_both}
 use Rattle.ring_base.specs.Group.{Group}
@@ -22,14 +20,16 @@ use Rattle.ring_wire.specs.declared.message.Message.{Message}
 use Rattle.ring_log.specs.declared.wanted.Wanted.{Wanted}
 use Rattle.ring_log.specs.Exchanges.{Exchange, opened, wanted, hear_head, is_next_piece, hear_snap, is_wanted, hear_part, heard}
 use Rattle.ring_log.specs.Stays.{Stay}
-use Rattle.ring_log.specs.Lives.{Whole, heard_by, after_all, exchanged, calls_in, places_below, base_on, own_base, log_by, log_of, head_of_life, is_unsnapped}
-use Rattle.ring_log_proof.specs.RingFacts.{IsStay, said_by, RingFacts}
+use Rattle.ring_log.specs.Lives.{Whole, heard_by, after_all, exchanged, calls_in, places_below, base_on, own_base, log_by, log_of}
+use Rattle.ring_log.specs.Kept.{Kept, kept_of, head_kept}
+use Rattle.ring_log_proof.specs.RingFacts.{IsStay, StayIn, said_by, RingFacts}
 use Rattle.ring_log_proof.specs.Time.{IsKnownCall, OnlyHandsOver}
-use Rattle.ring_log_proof.specs.Discipline.{FollowsHead, KeepsDiscipline}
+use Rattle.ring_log_proof.specs.Discipline.{FollowsHead, KeepsRules}
 use Rattle.ring_log_proof.proofs.Wholes.{exchanged-whole}
-use Rattle.ring_log_proof.proofs.Stays.{above, below-above, stay-trans, older-below}
-use Rattle.ring_log_proof.proofs.Heads.{said-each}
-use Rattle.ring_log_proof.proofs.Hard.{unsnapped-in}
+use Rattle.ring_log_proof.proofs.Stays.{IsLifeBelow, life-behind, above, below-above}
+use Rattle.ring_log_proof.proofs.Heads.{said-each, log_before, before-is, outcome}
+use Rattle.ring_log_proof.proofs.Hard.{by-ring, heard-in}
+use Rattle.ring_log_proof.proofs.Moment.{views-all}
 
 -- the calls that a payload holds
 abbrev pub calls_held : {A : Type 0} → Payload A → List (OneCall A)
@@ -106,33 +106,37 @@ module _ {A : Type 0} (Known : OneCall A → Type 0) where
 
   -- Logs
 
-  below-known : (own front : List (OneCall A)) (from : ℕ) (o : Option ℕ) → is_none o ≡ true → Each Known own → Each Known (places_below own front from o)
-  below-known own front from None plain h = each-take Known from own h
-  below-known own front from (Some at) plain h = absurd (cc plain)
+  below-known : (own front : List (OneCall A)) (from : ℕ) (o : Option ℕ) → ((at : ℕ) → o ≡ Some at → Each Known front) → Each Known own
+      → Each Known (places_below own front from o)
+  below-known own front from None k h = each-take Known from own h
+  below-known own front from (Some at) k h = k at refl
 
-  base-known : (own front : List (OneCall A)) (o : Option Wanted) (brought : List (OneCall A)) → is_unsnapped o ≡ true → Each Known own → Each Known brought
+  base-known : (own front : List (OneCall A)) (o : Option Wanted) (brought : List (OneCall A))
+      → ((v : Wanted) (at : ℕ) → o ≡ Some v → v.snapshot ≡ Some at → Each Known front) → Each Known own → Each Known brought
       → Each Known (base_on own front o brought)
-  base-known own front None brought plain h k = h
-  base-known own front (Some w) brought plain h k =
-      each-append Known (places_below own front w.from w.snapshot) brought (below-known own front w.from w.snapshot plain h) k
+  base-known own front None brought f h k = h
+  base-known own front (Some w) brought f h k =
+      each-append Known (places_below own front w.from w.snapshot) brought (below-known own front w.from w.snapshot (λ at e. f w at refl e) h) k
 
-  -- no snapshot is wanted where an exchange is whole
-  abbrev pub IsPlain : Group → Stay A → Type 0
-  IsPlain group s = (w : Whole A) → exchanged group s.members s.heard ≡ Some w → is_unsnapped (wanted w.exchange) ≡ true
+  -- what a snapshot stands for, where one is wanted
+  abbrev pub IsFrontKnown : Group → Stay A → Type 0
+  IsFrontKnown group s = (w : Whole A) (v : Wanted) (at : ℕ) → exchanged group s.members s.heard ≡ Some w → wanted w.exchange ≡ Some v → v.snapshot ≡ Some at
+      → Each Known s.front
 
   log-known : (group : Group) (m : ℕ) (xs : List (Message A)) (own front : List (OneCall A)) (o : Option (Whole A)) → exchanged group m xs ≡ o
-      → ((w : Whole A) → o ≡ Some w → is_unsnapped (wanted w.exchange) ≡ true) → Each IsKnown xs → Each Known own → Each Known (log_by own front o)
-  log-known group m xs own front None e plain k h = h
-  log-known group m xs own front (Some w) e plain k h =
+      → ((w : Whole A) (v : Wanted) (at : ℕ) → o ≡ Some w → wanted w.exchange ≡ Some v → v.snapshot ≡ Some at → Each Known front)
+      → Each IsKnown xs → Each Known own → Each Known (log_by own front o)
+  log-known group m xs own front None e f k h = h
+  log-known group m xs own front (Some w) e f k h =
       let by = exchanged-whole group m xs w e in
       let parts : Each IsKnown (by.front ++ w.rest) = subst (Each IsKnown) (sym by.parts) k in
       let brought : Each Known w.exchange.brought = subst (λ (x : Exchange A). Each Known x.brought) (sym by.after)
       (all-known (opened m) by.front (each-left IsKnown by.front w.rest parts) tt) in
       each-append Known (own_base own front w.exchange) (calls_in w.rest)
-      (base-known own front (wanted w.exchange) w.exchange.brought (plain w refl) h brought)
+      (base-known own front (wanted w.exchange) w.exchange.brought (λ v at. f w v at refl) h brought)
       (calls-known w.rest (each-right IsKnown by.front w.rest parts))
 
-  life-known : (group : Group) (life : List (Stay A)) → ((s : Stay A) (older : List (Stay A)) → IsStay life s older → IsPlain group s × Each IsKnown s.heard)
+  life-known : (group : Group) (life : List (Stay A)) → ((s : Stay A) (older : List (Stay A)) → IsStay life s older → IsFrontKnown group s × Each IsKnown s.heard)
       → Each Known (log_of group life)
   life-known group [] k = tt
   life-known group (s ∷ older) k =
@@ -164,48 +168,96 @@ module _ {A : Type 0} (Known : OneCall A → Type 0) where
         each-weaker _ _ (λ (x : Message A) h. unit-known x.payload h) (text r)
         (said-each (λ q payload. Each Known (calls_held payload)) (text r) (said-known bound hands r low))
 
+    -- all logs of rings below a number
+    abbrev pub LogsAt : ℕ → Type 0
+    LogsAt bound = (q : ℕ) (life : List (Stay A)) → IsLifeBelow (lives q) life bound → Each Known (log_of group life)
+
+    -- so of the snapshots that were sent in such rings
+    front-known : (disc : KeepsRules group lives) → (p : ℕ) (s : Stay A) (older : List (Stay A)) → IsStay (lives p) s older → LogsAt s.ring.seq → IsFrontKnown group s
+    front-known disc p s older there logs w v at exch wants snap =
+        let r = s.ring in
+        let in_r : StayIn (lives p) r = record { stay = s; older = older; there = there; ring = refl } in
+        let o = outcome group lives members text facts disc r (views-all group lives members text facts disc r.seq) s.heard w (heard-in group lives members text facts disc p r in_r)
+        (by-ring group lives members text facts disc p r in_r w exch) in
+        let same : o.w ≡ v = let e : Some o.w ≡ Some v = sym o.is ∙ wants in cc e in
+        let at_q = o.says.0 in
+        let is : s.front ≡ take at (log_of group at_q.older) =
+        disc.fronts p s older w v at there exch wants snap ∙ ap (λ (u : Wanted). take at (log_before group lives r u.owner)) (sym same)
+        ∙ ap (take at) (before-is group lives members text facts disc r o.w.owner at_q) in
+        subst (Each Known) (sym is)
+        (each-take Known at (log_of group at_q.older) (logs o.w.owner at_q.older (life-behind (lives o.w.owner) r (facts.rises o.w.owner) at_q)))
+
     -- a log of such rings
-    rings-known : KeepsDiscipline group lives → (bound p : ℕ) (life : List (Stay A)) → HandsBelow bound →
-        ((s : Stay A) (older : List (Stay A)) → IsStay life s older → IsStay (lives p) s older × (s.ring.seq < bound))
-        → Each Known (log_of group life)
-    rings-known disc bound p life hands within =
+    rings-known : (disc : KeepsRules group lives) → (bound : ℕ) → HandsBelow bound → ((low : ℕ) → low < bound → LogsAt low) → LogsAt bound
+    rings-known disc bound hands logs p life below =
         life-known group life (λ s older i.
-        let there = within s older i in (
-          unsnapped-in group lives members text facts disc p s.ring (record { stay = s; older = older; there = there.0; ring = refl }),
-          each-front IsKnown s.heard (text s.ring) (facts.heard p s older there.0) (text-known bound hands s.ring there.1),
+        let there = below.there s older i in
+        let low = below.low s older i in (
+          front-known disc p s older there (logs s.ring.seq low),
+          each-front IsKnown s.heard (text s.ring) (facts.heard p s older there) (text-known bound hands s.ring low),
         ))
 
-    follows-known : (log : List (OneCall A)) (payloads : List (Payload A)) → Each Known log → Each (FollowsHead log) payloads →
+    follows-known : (k : Kept A) (payloads : List (Payload A)) → Each Known k.calls → Each (FollowsHead k) payloads →
         Each (IsKnownCall Known) payloads
         → Each (λ (payload : Payload A). Each Known (calls_held payload)) payloads
-    follows-known log [] k f h = tt
-    follows-known log (payload ∷ payloads) k f h = (one payload f.0 h.0, follows-known log payloads k f.1 h.1)
+    follows-known k [] h f calls = tt
+    follows-known k (payload ∷ payloads) h f calls = (one payload f.0 calls.0, follows-known k payloads h f.1 calls.1)
       where
-        one : (x : Payload A) → FollowsHead log x → IsKnownCall Known x → Each Known (calls_held x)
-        one (Part part) f h = each-front Known part.calls (drop part.first log) f (each-drop Known part.first log k)
-        one (Call call) f h = (h, tt)
-        one (Head head) f h = tt
-        one (Pack pack) f h = absurd f
-        one (Snap snap) f h = tt
-        one (Wrapped old) f h = tt
-        one End f h = tt
+        one : (x : Payload A) → FollowsHead k x → IsKnownCall Known x → Each Known (calls_held x)
+        one (Part part) f c = each-front Known part.calls (drop (part.first - k.from) k.calls) f.1 (each-drop Known (part.first - k.from) k.calls h)
+        one (Call call) f c = (c, tt)
+        one (Head head) f c = tt
+        one (Pack pack) f c = absurd f
+        one (Snap snap) f c = tt
+        one (Wrapped old) f c = tt
+        one End f c = tt
 
-    hands-below : KeepsDiscipline group lives → OnlyHandsOver Known lives → (bound : ℕ) → HandsBelow bound
-    hands-below disc calls zero p s older there low = absurd (omega (arith, low))
-    hands-below disc calls (suc bound) p s older there low =
-        let P : Payload A → Type 0 = λ payload. Each Known (calls_held payload) in
-        elim (disc p s older there) as (λ _. Each P s.sent) [
-          | inl silent ↦ subst (Each P) (sym silent) tt
-          | inr opens ↦
-              let known : Each (IsKnownCall Known) (Head (head_of_life group older) ∷ opens.rest) =
-              subst (Each (IsKnownCall Known)) opens.opens (calls p s older there) in
-              let log = rings-known disc bound p older (hands-below disc calls bound) (λ t before i.
-              (stay-trans (lives p) s t older before there i, omega (arith, low, older-below (lives p) s t older before (facts.rises p) there i))) in
-              subst (Each P) (sym opens.opens) (tt, follows-known (log_of group older) opens.rest log opens.follows known.1)
-        ]
+    -- both by the numbers of rings
+    record Below (bound : ℕ) : Type 0 where
+      hands : HandsBelow bound
+      logs : (low : ℕ) → low ≤ bound → LogsAt low
 
-    pub logs-known : KeepsDiscipline group lives → OnlyHandsOver Known lives → (p : ℕ) → Each Known (log_of group (lives p))
+    hands-lower : (low high : ℕ) → low ≤ high → HandsBelow high → HandsBelow low
+    hands-lower low high le hands p s older there less = hands p s older there (omega (arith, le, less))
+
+    all-below : (disc : KeepsRules group lives) → OnlyHandsOver Known lives → (bound : ℕ) → Below bound
+    all-below disc calls zero =
+        let none : HandsBelow zero = λ p s older there low. absurd (omega (arith, low)) in
+        record {
+          hands = none;
+          logs = λ low le. rings-known disc low (hands-lower low zero le none) (λ least less. absurd (omega (arith, le, less)));
+        }
+    all-below disc calls (suc bound) =
+        let before = all-below disc calls bound in
+        let hands : HandsBelow (suc bound) = λ p s older there low. handed calls p s older there
+        (before.logs s.ring.seq (omega (arith, low)) p older (life-behind (lives p) s.ring (facts.rises p)
+        (record { stay = s; older = older; there = there; ring = refl }))) in
+        record {
+          hands = hands;
+          logs = λ low le. rings-known disc low (hands-lower low (suc bound) le hands) (λ least less. before.logs least (omega (arith, le, less)));
+        }
+      where
+        handed : OnlyHandsOver Known lives → (p : ℕ) (s : Stay A) (older : List (Stay A)) → IsStay (lives p) s older → Each Known (log_of group older)
+            → Each (λ (payload : Payload A). Each Known (calls_held payload)) s.sent
+        handed calls p s older there log =
+            let P : Payload A → Type 0 = λ payload. Each Known (calls_held payload) in
+            elim (disc.hands p s older there) as (λ _. Each P s.sent) [
+              | inl silent ↦ subst (Each P) (sym silent) tt
+              | inr opens ↦
+                  let k = kept_of group older in
+                  let known : Each (IsKnownCall Known) (Head (head_kept k) ∷ opens.rest) = subst (Each (IsKnownCall Known)) opens.opens (calls p s older there) in
+                  let at : StayIn (lives p) s.ring = record { stay = s; older = older; there = there; ring = refl } in
+                  let view = views-all group lives members text facts disc s.ring.seq p older (life-behind (lives p) s.ring (facts.rises p) at) in
+                  let rest : Each Known k.calls = subst (Each Known) (sym view.calls) (each-drop Known k.from (log_of group older) log) in
+                  subst (Each P) (sym opens.opens) (tt, follows-known k opens.rest rest opens.follows known.1)
+            ]
+
+    pub logs-before : KeepsRules group lives → OnlyHandsOver Known lives → (bound p : ℕ) (life : List (Stay A)) → IsLifeBelow (lives p) life bound
+        → Each Known (log_of group life)
+    logs-before disc calls bound p life below = (all-below disc calls bound).logs bound (omega arith) p life below
+
+    pub logs-known : KeepsRules group lives → OnlyHandsOver Known lives → (p : ℕ) → Each Known (log_of group (lives p))
     logs-known disc calls p =
         let bound = above (lives p) in
-        rings-known disc bound p (lives p) (hands-below disc calls bound)
-        (λ s older i. (i, below-above (lives p) bound (facts.rises p) (omega arith) s older i))
+        (all-below disc calls bound).logs bound (omega arith) p (lives p)
+        (record { rises = facts.rises p; there = λ s older i. i; low = below-above (lives p) bound (facts.rises p) (omega arith) })

@@ -1,5 +1,5 @@
--- Each event of a life lets it go on, and keeps the discipline.
-use Rattle.std.proofs.Common.{◌≡◌, ℕ, List, [], ◌∷◌, ◌++◌, ◌⊎◌, inl, inr, refl, ap, sym, ◌∙◌, subst, arith, append_assoc}
+-- Each event of a life lets it go on, and keeps the discipline; and committed places alone are dropped.
+use Rattle.std.proofs.Common.{◌≡◌, ℕ, ◌≤◌, List, [], ◌∷◌, ◌++◌, Some, ◌⊎◌, inl, inr, refl, ap, sym, ◌∙◌, subst, arith, append_assoc}
 use Rattle.std.specs.List.{AllByRecursion as Each}
 use Rattle.ring_base.specs.Fronts.{front_self, front_trans, front_append}
 use Rattle.ring_base.specs.Group.{Group, IsPrimary}
@@ -7,13 +7,17 @@ use Rattle.ring_base.proofs.Each.{each-append}
 use Rattle.ring_payload.specs.declared.call.Call.{Call as OneCall}
 use Rattle.ring_payload.specs.declared.content.Payload.{Payload}
 use Rattle.ring_payload.specs.declared.content.Payload.TheVariants.{Head}
+use Rattle.ring_log.specs.Exchanges.{opened}
 use Rattle.ring_log.specs.Stays.{Stay, stay_in}
-use Rattle.ring_log.specs.Lives.{log_of, head_of_life}
+use Rattle.ring_log.specs.Lives.{whole_from}
+use Rattle.ring_log.specs.Kept.{kept_of, head_kept}
 use Rattle.ring_log_proof.specs.RingFacts.{IsStay}
-use Rattle.ring_log_proof.specs.Discipline.{FollowsHead, OpensWithHead, KeepsDiscipline}
-use Rattle.ring_log_proof.specs.Time.{Grows, LivesOn, LifeEvent, Agreed, Safe, Regular, Handed, lived, all_lived, MayHandFirst, MayHandAfter}
+use Rattle.ring_log_proof.specs.Discipline.{FollowsHead, OpensWithHead, KeepsDiscipline, IsDropping, DropsCommitted}
+use Rattle.ring_log_proof.specs.Time.{Grows, LivesOn, LifeEvent, Agreed, Safe, Regular, Handed, Dropped, lived, all_lived, MayHandFirst, MayHandAfter}
 use Rattle.ring_log_proof.specs.Time.{MayHappen, AllMayHappen, IsKnownCall, OnlyHandsOver, HandsKnown}
+use Rattle.ring_log_proof.proofs.Wholes.{grown, whole-front}
 use Rattle.ring_log_proof.proofs.Onward.{grows-self}
+use Rattle.ring_log_proof.proofs.KnownGrows.{known-longer}
 
 -- Going on
 
@@ -28,7 +32,11 @@ grows-trans a b c f g = record {
   heard = front_trans a.heard b.heard c.heard f.heard g.heard;
   mark = omega (arith, f.mark, g.mark);
   sent = front_trans a.sent b.sent c.sent f.sent g.sent;
-  front = f.front ∙ g.front;
+  trimmed = omega (arith, f.trimmed, g.trimmed);
+  front = λ w e.
+      let on : whole_from (opened b.members) b.heard ≡ Some (grown w f.heard.0) =
+      ap (λ m. whole_from (opened m) b.heard) (sym f.members) ∙ whole-front (opened a.members) a.heard b.heard w e f.heard in
+      f.front w e ∙ g.front (grown w f.heard.0) on;
 }
 
 -- a life behind newer stays goes on as the newest of these does
@@ -56,7 +64,8 @@ event-on group (s ∷ older) (Agreed x) may = (
     mark =
         omega arith;
     sent = front_self s.sent;
-    front = refl;
+    trimmed = omega arith;
+    front = λ w e. refl;
   },
 )
 event-on group (s ∷ older) (Safe mark) may = (
@@ -70,7 +79,8 @@ event-on group (s ∷ older) (Safe mark) may = (
     mark =
         may;
     sent = front_self s.sent;
-    front = refl;
+    trimmed = omega arith;
+    front = λ w e. refl;
   },
 )
 event-on group (s ∷ older) (Regular ring members) may = (stay_in ring members ∷ [], s, refl, grows-self s)
@@ -84,7 +94,22 @@ event-on group (s ∷ older) (Handed payloads) may = (
     heard = front_self s.heard;
     mark = omega arith;
     sent = front_append s.sent payloads;
-    front = refl;
+    trimmed = omega arith;
+    front = λ w e. refl;
+  },
+)
+event-on group (s ∷ older) (Dropped places) may = (
+  [],
+  record s { trimmed = places },
+  refl,
+  record {
+    ring = refl;
+    members = refl;
+    heard = front_self s.heard;
+    mark = omega arith;
+    sent = front_self s.sent;
+    trimmed = may.0;
+    front = λ w e. refl;
   },
 )
 
@@ -120,8 +145,8 @@ same-sent group s t older m e (inr h) = inr (record {
 })
 
 handed-first : {A : Type 0} (group : Group) (s : Stay A) (older : List (Stay A)) (payloads : List (Payload A)) → MayHandFirst group s older payloads
-    → (payloads ≡ []) ⊎ ((rest : List (Payload A)) × (payloads ≡ Head (head_of_life group older) ∷ rest) × IsPrimary group s.members
-    × Each (FollowsHead (log_of group older)) rest)
+    → (payloads ≡ []) ⊎ ((rest : List (Payload A)) × (payloads ≡ Head (head_kept (kept_of group older)) ∷ rest) × IsPrimary group s.members
+    × Each (FollowsHead (kept_of group older)) rest)
 handed-first group s older [] may = inl refl
 handed-first group s older (payload ∷ rest) may = inr (rest, ap (λ p. p ∷ rest) may.1, may.0, may.2)
 
@@ -138,7 +163,7 @@ handed-orderly group s older (x ∷ sent) payloads is may (inr h) = inr (record 
   primary = h.primary;
   rest = h.rest ++ payloads;
   opens = ap (λ l. l ++ payloads) (sym is ∙ h.opens);
-  follows = each-append (FollowsHead (log_of group older)) h.rest payloads h.follows may;
+  follows = each-append (FollowsHead (kept_of group older)) h.rest payloads h.follows may;
 })
 
 pub event-orderly : {A : Type 0} (group : Group) (life : List (Stay A)) (e : LifeEvent A) → MayHappen group life e → IsOrderly group life
@@ -146,6 +171,7 @@ pub event-orderly : {A : Type 0} (group : Group) (life : List (Stay A)) (e : Lif
 event-orderly group [] (Agreed x) may k = k
 event-orderly group [] (Safe mark) may k = k
 event-orderly group [] (Handed payloads) may k = k
+event-orderly group [] (Dropped places) may k = k
 event-orderly group life (Regular ring members) may k = newest-orderly group (stay_in ring members) life (inl refl) k
 event-orderly group (s ∷ older) (Agreed x) may k =
     newest-orderly group (record s { heard = s.heard ++ x ∷ [] }) older
@@ -156,6 +182,9 @@ event-orderly group (s ∷ older) (Safe mark) may k =
 event-orderly group (s ∷ older) (Handed payloads) may k =
     newest-orderly group (record s { sent = s.sent ++ payloads }) older
     (handed-orderly group s older s.sent payloads refl may (k s older (inl (refl, refl)))) (λ t before i. k t before (inr i))
+event-orderly group (s ∷ older) (Dropped places) may k =
+    newest-orderly group (record s { trimmed = places }) older
+    (same-sent group s (record s { trimmed = places }) older refl refl (k s older (inl (refl, refl)))) (λ t before i. k t before (inr i))
 
 pub events-orderly : {A : Type 0} (group : Group) (life : List (Stay A)) (events : List (LifeEvent A)) → AllMayHappen group life events
     → IsOrderly group life → IsOrderly group (all_lived life events)
@@ -167,6 +196,51 @@ pub lives-orderly : {A : Type 0} (group : Group) (lives after : ℕ → List (St
     → ((p : ℕ) → AllMayHappen group (lives p) (events p)) → ((p : ℕ) → after p ≡ all_lived (lives p) (events p))
     → KeepsDiscipline group lives → KeepsDiscipline group after
 lives-orderly group lives after events may is keeps p = subst (IsOrderly group) (sym (is p)) (events-orderly group (lives p) (events p) (may p) (keeps p))
+
+-- What is dropped
+
+pub newest-dropping : {A : Type 0} (group : Group) (t : Stay A) (before : List (Stay A)) → t.trimmed ≤ (kept_of group (t ∷ before)).committed
+    → IsDropping group before → IsDropping group (t ∷ before)
+newest-dropping group t before h k s older (inl e) =
+    subst (λ (u : Stay _). u.trimmed ≤ (kept_of group (u ∷ older)).committed) e.0
+    (subst (λ l. t.trimmed ≤ (kept_of group (t ∷ l)).committed) e.1 h)
+newest-dropping group t before h k s older (inr i) = k s older i
+
+-- what lets the newest stay grow lets it have committed no less
+grown-dropping : {A : Type 0} (group : Group) (s t : Stay A) (older : List (Stay A)) → s.trimmed ≡ t.trimmed → Grows s t → IsDropping group (s ∷ older)
+    → IsDropping group (t ∷ older)
+grown-dropping group s t older same grows k =
+    let least = k s older (inl (refl, refl)) in
+    let more = known-longer group s t older grows in
+    newest-dropping group t older (omega (arith, same, least, more)) (λ u before i. k u before (inr i))
+
+pub event-dropping : {A : Type 0} (group : Group) (life : List (Stay A)) (e : LifeEvent A) → MayHappen group life e → IsDropping group life
+    → IsDropping group (lived life e)
+unfolding event-on
+event-dropping group life (Regular ring members) may k = newest-dropping group (stay_in ring members) life (omega arith) k
+event-dropping group [] (Agreed x) may k = k
+event-dropping group [] (Safe mark) may k = k
+event-dropping group [] (Handed payloads) may k = k
+event-dropping group [] (Dropped places) may k = k
+event-dropping group (s ∷ older) (Agreed x) may k =
+    grown-dropping group s (record s { heard = s.heard ++ x ∷ [] }) older refl (event-on group (s ∷ older) (Agreed x) may).3 k
+event-dropping group (s ∷ older) (Safe mark) may k =
+    grown-dropping group s (record s { mark = mark }) older refl (event-on group (s ∷ older) (Safe mark) may).3 k
+event-dropping group (s ∷ older) (Handed payloads) may k =
+    grown-dropping group s (record s { sent = s.sent ++ payloads }) older refl (event-on group (s ∷ older) (Handed payloads) may).3 k
+event-dropping group (s ∷ older) (Dropped places) may k =
+    newest-dropping group (record s { trimmed = places }) older may.1 (λ t before i. k t before (inr i))
+
+pub events-dropping : {A : Type 0} (group : Group) (life : List (Stay A)) (events : List (LifeEvent A)) → AllMayHappen group life events
+    → IsDropping group life → IsDropping group (all_lived life events)
+events-dropping group life [] may k = k
+events-dropping group life (e ∷ events) may k = events-dropping group (lived life e) events may.1 (event-dropping group life e may.0 k)
+
+pub lives-dropping : {A : Type 0} (group : Group) (lives after : ℕ → List (Stay A)) (events : ℕ → List (LifeEvent A))
+    → ((p : ℕ) → AllMayHappen group (lives p) (events p)) → ((p : ℕ) → after p ≡ all_lived (lives p) (events p))
+    → DropsCommitted group lives → DropsCommitted group after
+lives-dropping group lives after events may is keeps p =
+    subst (IsDropping group) (sym (is p)) (events-dropping group (lives p) (events p) (may p) (keeps p))
 
 -- What is so of all calls handed over
 
@@ -183,6 +257,7 @@ module _ {A : Type 0} (Known : OneCall A → Type 0) where
   event-known [] (Agreed x) f k = k
   event-known [] (Safe mark) f k = k
   event-known [] (Handed payloads) f k = k
+  event-known [] (Dropped places) f k = k
   event-known (s ∷ older) (Agreed x) f k =
       newest-known (record s { heard = s.heard ++ x ∷ [] }) older (k s older (inl (refl, refl))) (λ t before i. k t before (inr i))
   event-known (s ∷ older) (Safe mark) f k =
@@ -190,6 +265,8 @@ module _ {A : Type 0} (Known : OneCall A → Type 0) where
   event-known (s ∷ older) (Handed payloads) f k =
       newest-known (record s { sent = s.sent ++ payloads }) older
       (each-append (IsKnownCall Known) s.sent payloads (k s older (inl (refl, refl))) f) (λ t before i. k t before (inr i))
+  event-known (s ∷ older) (Dropped places) f k =
+      newest-known (record s { trimmed = places }) older (k s older (inl (refl, refl))) (λ t before i. k t before (inr i))
 
   events-known : (life : List (Stay A)) (events : List (LifeEvent A)) → Each (HandsKnown Known) events → LifeHands life → LifeHands (all_lived life events)
   events-known life [] f k = k

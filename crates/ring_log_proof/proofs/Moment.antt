@@ -1,5 +1,5 @@
 -- One moment: what holds of all lives, whatever the numbers of their rings.
-use Rattle.std.proofs.Common.{◌≡◌, ℕ, suc, ◌+◌, ◌≤◌, List, [], ◌∷◌, take, map, Option, Some, None, ◌⊎◌, inl, inr}
+use Rattle.std.proofs.Common.{◌≡◌, ℕ, suc, ◌+◌, ◌≤◌, true, List, [], ◌∷◌, length, take, map, Option, Some, None, ◌⊎◌, inl, inr}
 use Rattle.std.proofs.Common.{refl, ap, sym, ◌∙◌, subst, arith}
 use Rattle.std.specs.Prelude.{All}
 use Rattle.std.proofs.lemmas.List.Elements.{All-nil, All-cons, All-weaker}
@@ -13,17 +13,22 @@ use Rattle.ring_wire.specs.declared.message.Message.{Message}
 use Rattle.ring_log.specs.declared.wanted.Wanted.{Wanted}
 use Rattle.ring_log.specs.Exchanges.{wanted}
 use Rattle.ring_log.specs.Stays.{Stay}
-use Rattle.ring_log.specs.Lives.{Whole, exchanged, log_of, own_base, committed_of, base_of, ring_log_by, ring_log}
-use Rattle.ring_log_proof.specs.RingFacts.{StayIn, Rises, AllHeard, RingFacts}
-use Rattle.ring_log_proof.specs.Discipline.{KeepsDiscipline, OrderlyLives}
+use Rattle.ring_log.specs.Lives.{Whole, exchanged, log_of, own_base, committed_of, base_of, ring_log_by, ring_log, keeps_committed, is_sound}
+use Rattle.ring_log.specs.Kept.{kept_of, keeps_kept, is_kept_sound}
+use Rattle.ring_log_proof.specs.RingFacts.{IsStay, StayIn, Rises, AllHeard, RingFacts}
+use Rattle.ring_log_proof.specs.Discipline.{KeepsRules, OrderlyLives}
 use Rattle.ring_log_proof.specs.Settled.{IsSettled}
 use Rattle.ring_log_proof.specs.Time.{LivesOn}
 use Rattle.ring_log_proof.proofs.Wholes.{log_on}
-use Rattle.ring_log_proof.proofs.Stays.{above, below-above}
-use Rattle.ring_log_proof.proofs.Hard.{by-ring, heard-in, same-number, hard}
-use Rattle.ring_log_proof.proofs.Settled.{ground_log, SettledBelow, IsLifeBelow, base-settled, settled-either}
-use Rattle.ring_log_proof.proofs.Committed.{Kept, committed-kept}
-use Rattle.ring_log_proof.proofs.Adopted.{life-before, adopts, agreed-all}
+use Rattle.ring_log_proof.proofs.Stays.{IsLifeBelow, above, below-above, life-behind}
+use Rattle.ring_log_proof.proofs.Views.{keeps-more}
+use Rattle.ring_log_proof.proofs.Hard.{same-number, hard}
+use Rattle.ring_log_proof.proofs.Settled.{ground_log, SettledBelow, settled-either}
+use Rattle.ring_log_proof.proofs.Committed.{Kept}
+use Rattle.ring_log_proof.proofs.Adopted.{adopts, keeps-at, agreed-all, kept-all}
+use Rattle.ring_log_proof.proofs.Heads.{ViewsAt}
+use Rattle.ring_log_proof.proofs.KeptLogs.{sound-same}
+use Rattle.ring_log_proof.specs.Views.{IsView}
 use Rattle.ring_log_proof.proofs.Onward.{settled-onward, committed-longer}
 
 life-below : {A : Type 0} (life : List (Stay A)) (bound : ℕ) → Rises life → above life ≤ bound → IsLifeBelow life life bound
@@ -91,7 +96,7 @@ module _ {A : Type 0} (group : Group) (lives : ℕ → List (Stay A)) (members :
       )
 
 module _ {A : Type 0} (group : Group) (lives : ℕ → List (Stay A)) (members : RingId → ℕ) (text : RingId → List (Message A))
-    (facts : RingFacts lives members text) (disc : KeepsDiscipline group lives) where
+    (facts : RingFacts lives members text) (disc : KeepsRules group lives) where
   -- what is safe in a primary ring is a front of the base of every later one
   pub safe-stays : (c e : RingId) (xs ys : List (Message A)) (log : List (OneCall A)) (w : Whole A) → IsBelow c e → AllHeard lives c (members c) xs
       → ring_log group lives c (members c) xs ≡ Some log
@@ -103,7 +108,9 @@ module _ {A : Type 0} (group : Group) (lives : ℕ → List (Stay A)) (members :
         | inl less ↦ hard group lives members text facts disc (suc e.seq) c e xs ys v.0 w (omega arith) less
             (agreed-all group lives members text facts disc e.seq) v.1 safe front exch
         | inr tie ↦
-            let same : c ≡ e = same-number group lives members text facts disc c e xs ys v.0 w v.1 exch safe front tie.0 in
+            let same : c ≡ e =
+            same-number group lives members text facts disc c e (agreed-all group lives members text facts disc e.seq).views xs ys v.0 w v.1 exch safe front
+            tie.0 in
             absurd (below_irrefl e (subst (λ r. IsBelow r e) same below))
       ])
 
@@ -117,8 +124,7 @@ module _ {A : Type 0} (group : Group) (lives : ℕ → List (Stay A)) (members :
       (by.1 bound (omega arith))
 
   kept-at : (p bound : ℕ) → above (lives p) ≤ bound → Kept group lives members text facts disc bound (lives p)
-  kept-at p bound le = committed-kept group lives members text facts disc bound p (lives p) (agreed-all group lives members text facts disc bound)
-      (life-below (lives p) bound (facts.rises p) le)
+  kept-at p bound le = kept-all group lives members text facts disc bound p (lives p) (life-below (lives p) bound (facts.rises p) le)
 
   -- what a node committed is nothing or settled, and is a front of its log
   pub committed-settled : (p : ℕ) → (committed_of group (lives p) ≡ []) ⊎ IsSettled group lives members (committed_of group (lives p))
@@ -154,38 +160,45 @@ module _ {A : Type 0} (group : Group) (lives : ℕ → List (Stay A)) (members :
   -- what a member makes of an exchange and its own log is the base
   pub adopted-base : (p : ℕ) (r : RingId) (at : StayIn (lives p) r) (w : Whole A) → exchanged group at.stay.members at.stay.heard ≡ Some w
       → own_base (log_of group at.older) at.stay.front w.exchange ≡ base_of group lives r w.exchange
-  adopted-base p r at w exch = (adopts group lives members text facts disc p r at w (agreed-all group lives members text facts disc r.seq) exch).base
+  adopted-base p r at w exch = (adopts group lives members text facts disc p r at w (agreed-all group lives members text facts disc r.seq)
+      (kept-all group lives members text facts disc r.seq) exch).base
 
-  -- of which its own first places are the first
+  -- of which its own first places are the first, but for a node that restored them
   pub adopted-first : (p : ℕ) (r : RingId) (at : StayIn (lives p) r) (w : Whole A) (v : Wanted) → exchanged group at.stay.members at.stay.heard ≡ Some w
-      → wanted w.exchange ≡ Some v
+      → wanted w.exchange ≡ Some v → (v.snapshot ≡ None) ⊎ (v.from ≤ length (committed_of group at.older))
       → take v.from (log_of group at.older) ≡ take v.from (base_of group lives r w.exchange)
   adopted-first p r at w v exch wants =
-      let a = adopts group lives members text facts disc p r at w (agreed-all group lives members text facts disc r.seq) exch in
+      let a = adopts group lives members text facts disc p r at w (agreed-all group lives members text facts disc r.seq)
+      (kept-all group lives members text facts disc r.seq) exch in
       let same : a.outcome.w ≡ v = let e : Some a.outcome.w ≡ Some v = sym a.outcome.is ∙ wants in cc e in
-      subst (λ (u : Wanted). take u.from (log_of group at.older) ≡ take u.from (base_of group lives r w.exchange)) same a.first
-
-  -- no snapshot is wanted for it
-  pub adopted-plain : (p : ℕ) (r : RingId) (at : StayIn (lives p) r) (w : Whole A) (v : Wanted) → exchanged group at.stay.members at.stay.heard ≡ Some w
-      → wanted w.exchange ≡ Some v → v.snapshot ≡ None
-  adopted-plain p r at w v exch wants =
-      let a = adopts group lives members text facts disc p r at w (agreed-all group lives members text facts disc r.seq) exch in
-      let same : a.outcome.w ≡ v = let e : Some a.outcome.w ≡ Some v = sym a.outcome.is ∙ wants in cc e in
-      subst (λ (u : Wanted). u.snapshot ≡ None) same a.outcome.plain
+      subst (λ (u : Wanted). (u.snapshot ≡ None) ⊎ (u.from ≤ length (committed_of group at.older))
+      → take u.from (log_of group at.older) ≡ take u.from (base_of group lives r w.exchange)) same a.first
 
   -- and the base begins with what it had committed
-  pub adopted-committed : (p : ℕ) (r : RingId) (at : StayIn (lives p) r) (w : Whole A) → exchanged group at.stay.members at.stay.heard ≡ Some w
-      → IsFront (committed_of group at.older) (own_base (log_of group at.older) at.stay.front w.exchange)
-  adopted-committed p r at w exch =
-      let agreed = agreed-all group lives members text facts disc r.seq in
-      let kept = committed-kept group lives members text facts disc r.seq p at.older agreed (life-before group lives members text facts disc p r at) in
-      let calls = committed_of group at.older in
-      let base = base_of group lives r w.exchange in
-      subst (IsFront calls) (sym (adopted-base p r at w exch)) (elim kept.settled as (λ _. IsFront calls base) [
-        | inl none ↦ subst (λ l. IsFront l base) (sym none) (base, refl)
-        | inr settled ↦ base-settled group lives members text facts disc r calls at.stay.heard w agreed settled
-            (heard-in group lives members text facts disc p r at) (by-ring group lives members text facts disc p r at w exch)
-      ])
+  pub keeps-all : (p : ℕ) (s : Stay A) (older : List (Stay A)) → IsStay (lives p) s older
+      → keeps_committed (log_of group older) s.front (committed_of group older) (exchanged group s.members s.heard) ≡ true
+  keeps-all p s older there =
+      keeps-at group lives members text facts disc p s older there (agreed-all group lives members text facts disc s.ring.seq)
+      (kept-all group lives members text facts disc s.ring.seq)
+
+  -- What a node knows of its log by its own life, and whether that is as sound
+
+  pub views-all : (bound : ℕ) → ViewsAt group lives bound
+  views-all bound = (agreed-all group lives members text facts disc bound).views
+
+  pub view-at : (p : ℕ) → IsView group (lives p)
+  view-at p = views-all (above (lives p)) p (lives p) (life-below (lives p) (above (lives p)) (facts.rises p) (omega arith))
+
+  -- nor does a node find by what it knows that a base lacks committed places
+  pub keeps-known : (p : ℕ) (s : Stay A) (older : List (Stay A)) → IsStay (lives p) s older
+      → keeps_kept (kept_of group older) s.ring (exchanged group s.members s.heard) ≡ true
+  keeps-known p s older there =
+      let n = s.ring.seq in
+      let below = life-behind (lives p) s.ring (facts.rises p) (record { stay = s; older = older; there = there; ring = refl }) in
+      keeps-more group s older (kept-all group lives members text facts disc n p older below).front (views-all n p older below) (keeps-all p s older there)
+
+  pub sound-at : (p : ℕ) → is_kept_sound group (lives p) ≡ is_sound group (lives p)
+  sound-at p = sound-same group (lives p) (keeps-all p) (disc.drops p)
 
 -- A later moment
 
@@ -197,7 +210,7 @@ module _ {A : Type 0} (group : Group) (before after : OrderlyLives A group) (on 
       settled-made group after.lives after.members b.0 calls
       (settled-onward group before.lives after.lives before.members after.members before.text after.text before.facts after.facts before.discipline
       after.discipline on
-      b.0 calls (b.1 b.0 (omega arith)))
+      (views-all group before.lives before.members before.text before.facts before.discipline) b.0 calls (b.1 b.0 (omega arith)))
 
   -- what a node committed grows
   pub committed-grows : (p : ℕ) → IsFront (committed_of group (before.lives p)) (committed_of group (after.lives p))

@@ -2,29 +2,40 @@
 use Rattle.std.proofs.Common.{◌≡◌, ℕ, ◌≤◌, true, false, List, [], ◌∷◌, ◌++◌, length, Option, Some, None, inl, inr}
 use Rattle.std.proofs.Common.{refl, ap, sym, ◌∙◌, subst, arith}
 use Rattle.std.specs.Prelude.{nat_le, nat_lt}
-use Rattle.std.proofs.lemmas.Bool.{cond_both, leb-true, le-leb, ltb-true, lt-ltb, cases_lt}
+use Rattle.std.proofs.lemmas.Bool.{cond_both, leb-true, le-leb}
 use Rattle.ring_base.specs.Fronts.{IsFront, front_self, front_trans, front_length}
 use Rattle.ring_base.specs.Group.{Group}
 use Rattle.ring_base.specs.Processors.{IsMember}
 use Rattle.ring_base.specs.declared.ring_id.RingId.{RingId}
 use Rattle.ring_payload.specs.declared.call.Call.{Call as OneCall}
 use Rattle.ring_wire.specs.declared.message.Message.{Message}
+use Rattle.ring_log.specs.Exchanges.{wanted}
 use Rattle.ring_log.specs.Stays.{Stay}
-use Rattle.ring_log.specs.Lives.{Whole, exchanged, calls_in, own_base, log_of, upto, longer, committed_by, committed_of, older_at, owner_log, base_of}
+use Rattle.ring_log.specs.Lives.{Whole, exchanged, calls_in, own_base, log_of, upto, longer, committed_by, front_on, restored_by, committed_of}
+use Rattle.ring_log.specs.Lives.{older_at, owner_log, base_of}
 use Rattle.ring_log_proof.specs.RingFacts.{IsStay, StayIn, safe_part, RingFacts}
-use Rattle.ring_log_proof.specs.Discipline.{KeepsDiscipline}
+use Rattle.ring_log_proof.specs.Discipline.{KeepsRules}
 use Rattle.ring_log_proof.specs.Time.{Grows, LivesOn}
-use Rattle.ring_log_proof.proofs.Wholes.{grown, exchanged-front, log_on, grown-front}
+use Rattle.ring_log_proof.proofs.Wholes.{grown, exchanged-front, exchanged-from, upto-front, log_on, grown-front}
 use Rattle.ring_log_proof.proofs.Stays.{older-in}
 use Rattle.ring_log_proof.proofs.HonestExchanges.{Outcome}
-use Rattle.ring_log_proof.proofs.Heads.{Says, log_before, outcome, base-owner}
+use Rattle.ring_log_proof.proofs.Heads.{ViewsAt, Says, log_before, outcome, base-owner}
 use Rattle.ring_log_proof.proofs.Hard.{shared}
 use Rattle.ring_log_proof.proofs.Settled.{SettledBelow, ground-text}
+use Rattle.ring_log_proof.proofs.Committed.{longer-most}
 
 pub grows-self : {A : Type 0} (s : Stay A) → Grows s s
-grows-self s = record { ring = refl; members = refl; heard = front_self s.heard; mark = omega arith; sent = front_self s.sent; front = refl }
+grows-self s = record {
+  ring = refl;
+  members = refl;
+  heard = front_self s.heard;
+  mark = omega arith;
+  sent = front_self s.sent;
+  trimmed = omega arith;
+  front = λ w e. refl;
+}
 
-stay-behind : {A : Type 0} (newer life : List (Stay A)) (s : Stay A) (older : List (Stay A)) → IsStay life s older → IsStay (newer ++ life) s older
+pub stay-behind : {A : Type 0} (newer life : List (Stay A)) (s : Stay A) (older : List (Stay A)) → IsStay life s older → IsStay (newer ++ life) s older
 stay-behind [] life s older h = h
 stay-behind (t ∷ newer) life s older h = inr (stay-behind newer life s older h)
 
@@ -50,7 +61,7 @@ still-there (t ∷ before) after s older on (inr x) = record {
 
 -- Committed lengths never fall
 
-upto-grows : {A : Type 0} (low high : ℕ) (xs ys : List (Message A)) → low ≤ high → IsFront xs ys → IsFront (upto low xs) (upto high ys)
+pub upto-grows : {A : Type 0} (low high : ℕ) (xs ys : List (Message A)) → low ≤ high → IsFront xs ys → IsFront (upto low xs) (upto high ys)
 upto-grows low high [] ys le f = (upto high ys, refl)
 upto-grows low high (x ∷ xs) [] le f = absurd (cc (f.1))
 upto-grows {A} low high (x ∷ xs) (y ∷ ys) le f =
@@ -64,39 +75,68 @@ upto-grows {A} low high (x ∷ xs) (y ∷ ys) le f =
     (λ u. absurd (let k : true ≡ false = sym (le-leb x.number high (omega (arith, le, leb-true x.number low t))) ∙ u in cc k)))
     (λ t. (upto high (x ∷ ys), refl)))
 
-longer-most : {A : Type 0} (old new : List (OneCall A)) → (length old ≤ length (longer old new)) × (length new ≤ length (longer old new))
-longer-most old new =
-    cond_both (nat_lt (length old) (length new)) new old (λ l. (length old ≤ length l) × (length new ≤ length l))
-    (λ t. (omega (arith, ltb-true (length old) (length new) t), omega arith)) (λ f. (omega arith, not_less (length old) (length new) f))
-  where
-    not_less : (m n : ℕ) → nat_lt m n ≡ false → n ≤ m
-    not_less m n f = elim (cases_lt m n) as (λ _. n ≤ m) [ inl l ↦ absurd (let k : true ≡ false = sym (lt-ltb m n l) ∙ f in cc k) | inr le ↦ le ]
-
 module _ {A : Type 0} (group : Group) where
   committed-least : (log front old : List (OneCall A)) (o : Option (Whole A)) → length old ≤ length (committed_by log front old o)
   committed-least log front old None = omega arith
   committed-least log front old (Some w) = (longer-most old (log_on (own_base log front) w)).0
+
+  restored-least : (front old : List (OneCall A)) (o : Option (Whole A)) → length old ≤ length (restored_by front old o)
+  restored-least front old None = omega arith
+  restored-least front old (Some w) = (longer-most old (front_on front (wanted w.exchange))).0
 
   -- rings that come leave what was committed
   committed-newer : (newer life : List (Stay A)) → length (committed_of group life) ≤ length (committed_of group (newer ++ life))
   committed-newer [] life = omega arith
   committed-newer (s ∷ newer) life =
       let rest = committed-newer newer life in
-      let here = committed-least (log_of group (newer ++ life)) s.front (committed_of group (newer ++ life)) (exchanged group s.members (safe_part s)) in
-      omega arith
+      let old = committed_of group (newer ++ life) in
+      let heard = exchanged group s.members s.heard in
+      let restored = restored-least s.front old heard in
+      let here = committed-least (log_of group (newer ++ life)) s.front (restored_by s.front old heard) (exchanged group s.members (safe_part s)) in
+      omega (arith, rest, restored, here)
 
-  committed-grown : (log base old : List (OneCall A)) (m : ℕ) (xs ys : List (Message A)) (o : Option (Whole A)) → exchanged group m xs ≡ o → IsFront xs ys
-      → length (committed_by log base old o) ≤ length (committed_by log base old (exchanged group m ys))
-  committed-grown log base old m xs ys None e f = committed-least log base old (exchanged group m ys)
-  committed-grown log base old m xs ys (Some w) e f =
+  -- what was restored stays so as more is heard
+  restored-grown : (front old : List (OneCall A)) (m : ℕ) (xs ys : List (Message A)) (o : Option (Whole A)) → exchanged group m xs ≡ o → IsFront xs ys
+      → length (restored_by front old o) ≤ length (restored_by front old (exchanged group m ys))
+  restored-grown front old m xs ys None e f = restored-least front old (exchanged group m ys)
+  restored-grown front old m xs ys (Some w) e f =
+      let now : restored_by front old (exchanged group m ys) ≡ longer old (front_on front (wanted w.exchange)) =
+      ap (restored_by front old) (exchanged-front group m xs ys w e f) in
+      omega (arith, ap length now)
+
+  committed-grown : (log base old later : List (OneCall A)) (m : ℕ) (xs ys : List (Message A)) (o : Option (Whole A)) → length old ≤ length later
+      → exchanged group m xs ≡ o → IsFront xs ys
+      → length (committed_by log base old o) ≤ length (committed_by log base later (exchanged group m ys))
+  committed-grown log base old later m xs ys None le e f = omega (arith, le, committed-least log base later (exchanged group m ys))
+  committed-grown log base old later m xs ys (Some w) le e f =
       let there = exchanged-front group m xs ys w e f in
-      let longest = longer-most old (log_on (own_base log base) (grown w f.0)) in
+      let longest = longer-most later (log_on (own_base log base) (grown w f.0)) in
       let front = front_length (log_on (own_base log base) w) (log_on (own_base log base) (grown w f.0)) (grown-front (own_base log base) w f.0) in
-      let now : committed_by log base old (exchanged group m ys) ≡ longer old (log_on (own_base log base) (grown w f.0)) =
-      ap (committed_by log base old) there in
+      let now : committed_by log base later (exchanged group m ys) ≡ longer later (log_on (own_base log base) (grown w f.0)) =
+      ap (committed_by log base later) there in
       cond_both (nat_lt (length old) (length (log_on (own_base log base) w))) (log_on (own_base log base) w) old
-      (λ l. length l ≤ length (committed_by log base old (exchanged group m ys)))
-      (λ t. omega (arith, longest.1, front, ap length now)) (λ f. omega (arith, longest.0, ap length now))
+      (λ l. length l ≤ length (committed_by log base later (exchanged group m ys)))
+      (λ t. omega (arith, longest.1, front, ap length now)) (λ f. omega (arith, le, longest.0, ap length now))
+
+  -- a stay with what a snapshot stands for by what it became: that is read only once its exchange is whole
+  abbrev pub refronted : Stay A → Stay A → Stay A
+  refronted s t = record s { front = t.front }
+
+  pub committed-refronted : (s t : Stay A) (older : List (Stay A)) → Grows s t → committed_of group (s ∷ older) ≡ committed_of group (refronted s t ∷ older)
+  committed-refronted s t older g = by (exchanged group s.members s.heard) refl (exchanged group s.members (safe_part s)) refl
+    where
+      by : (o : Option (Whole A)) → exchanged group s.members s.heard ≡ o → (p : Option (Whole A)) → exchanged group s.members (safe_part s) ≡ p
+          → committed_of group (s ∷ older) ≡ committed_of group (refronted s t ∷ older)
+      by None none (Some w) safe =
+          absurd (let e : Some (grown w (upto-front s.mark s.heard).0) ≡ None = sym (exchanged-front group s.members (safe_part s) s.heard w safe
+          (upto-front s.mark s.heard)) ∙ none in cc e)
+      by None none None safe =
+          let log = log_of group older in
+          let old = committed_of group older in
+          let told : List (OneCall A) → Option (Whole A) → Option (Whole A) → List (OneCall A) = λ f o p. committed_by log f (restored_by f old o) p in
+          ap (λ o. told s.front o (exchanged group s.members (safe_part s))) none ∙ ap (told s.front None) safe
+          ∙ sym (ap (λ o. told t.front o (exchanged group s.members (safe_part s))) none ∙ ap (told t.front None) safe)
+      by (Some w) some p safe = ap (λ f. committed_of group (record s { front = f } ∷ older)) (g.front w (exchanged-from group s.members s.heard w some))
 
   pub committed-longer : (life after : List (Stay A)) → LivesOn life after → length (committed_of group life) ≤ length (committed_of group after)
   committed-longer [] after on = omega arith
@@ -105,20 +145,25 @@ module _ {A : Type 0} (group : Group) where
       let log = log_of group older in
       let old = committed_of group older in
       let safe = upto-grows s.mark t.mark s.heard t.heard on.3.mark on.3.heard in
-      let here : length (committed_of group (s ∷ older)) ≤ length (committed_by log s.front old (exchanged group s.members (safe_part t))) =
-      committed-grown log s.front old s.members (safe_part s) (safe_part t) (exchanged group s.members (safe_part s)) refl safe in
-      let set : committed_by log s.front old (exchanged group s.members (safe_part t)) ≡ committed_of group (t ∷ older) =
-      ap (λ m. committed_by log s.front old (exchanged group m (safe_part t))) on.3.members
-      ∙ ap (λ f. committed_by log f old (exchanged group t.members (safe_part t))) on.3.front in
+      let restored : ℕ → List (OneCall A) → List (OneCall A) = λ m front. restored_by front old (exchanged group m t.heard) in
+      let front = t.front in
+      let same = ap length (committed-refronted s t older on.3) in
+      let more = restored-grown front old s.members s.heard t.heard (exchanged group s.members s.heard) refl on.3.heard in
+      let here : length (committed_of group (refronted s t ∷ older))
+      ≤ length (committed_by log front (restored s.members front) (exchanged group s.members (safe_part t))) =
+      committed-grown log front (restored_by front old (exchanged group s.members s.heard)) (restored s.members front) s.members (safe_part s)
+      (safe_part t) (exchanged group s.members (safe_part s)) more refl safe in
+      let set : committed_by log front (restored s.members front) (exchanged group s.members (safe_part t)) ≡ committed_of group (t ∷ older) =
+      ap (λ m. committed_by log front (restored m front) (exchanged group m (safe_part t))) on.3.members in
       let newer = committed-newer on.0 (t ∷ older) in
       let is : length (committed_of group after) ≡ length (committed_of group (on.0 ++ t ∷ older)) = ap (λ l. length (committed_of group l)) on.2 in
-      omega (arith, here, ap length set, newer, is)
+      omega (arith, same, here, ap length set, newer, is)
 
 -- A later moment
 
 module _ {A : Type 0} (group : Group) (lives after : ℕ → List (Stay A)) (members members' : RingId → ℕ) (text text' : RingId → List (Message A))
     (facts : RingFacts lives members text) (facts' : RingFacts after members' text')
-    (disc : KeepsDiscipline group lives) (disc' : KeepsDiscipline group after) (on : (p : ℕ) → LivesOn (lives p) (after p)) where
+    (disc : KeepsRules group lives) (disc' : KeepsRules group after) (on : (p : ℕ) → LivesOn (lives p) (after p)) where
   later-in : (p : ℕ) (r : RingId) → (at : StayIn (lives p) r) → (now : StayIn (after p) r) × (at.older ≡ now.older) × Grows at.stay now.stay
   later-in p r at =
       let s = still-there (lives p) (after p) at.stay at.older (on p) at.there in
@@ -141,13 +186,14 @@ module _ {A : Type 0} (group : Group) (lives after : ℕ → List (Stay A)) (mem
       let there : older_at r.seq (after q) ≡ at.older = older-in (after q) r (facts'.rises q) now.0 ∙ sym now.1 in
       base-owner group lives members text facts disc r w o ∙ sym (ap (log_of group) there) ∙ sym (ap (owner_log group after r) o.is)
 
-  pub settled-onward : (bound : ℕ) (calls : List (OneCall A)) → SettledBelow group lives members bound calls → SettledBelow group after members' bound calls
-  settled-onward bound calls settled =
+  pub settled-onward : ((bound : ℕ) → ViewsAt group lives bound) → (bound : ℕ) (calls : List (OneCall A)) → SettledBelow group lives members bound calls
+      → SettledBelow group after members' bound calls
+  settled-onward views bound calls settled =
       let g = settled.0 in
       let r = g.ring in
       let s = shared group lives members text facts disc r r g.front g.front g.whole g.whole g.exch g.exch in
       let same : members r ≡ members' r = members-later s.0 r (g.safe s.0 s.1).0 in
-      let o = outcome group lives members text facts disc r g.front g.whole (ground-text group lives members text facts disc bound g) g.exch in (
+      let o = outcome group lives members text facts disc r (views r.seq) g.front g.whole (ground-text group lives members text facts disc bound g) g.exch in (
         record {
           ring = r;
           low = g.low;

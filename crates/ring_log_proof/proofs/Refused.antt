@@ -11,7 +11,7 @@ use Rattle.ring_payload.specs.declared.content.Payload.{Payload}
 use Rattle.ring_payload.specs.declared.content.Payload.TheVariants.{Call, Wrapped, End, Head, Part, Pack, Snap}
 use Rattle.ring_wire.specs.declared.message.Message.{Message}
 use Rattle.ring_log.specs.Stays.{Stay, born}
-use Rattle.ring_log.specs.Lives.{log_of, head_of_life}
+use Rattle.ring_log.specs.Kept.{kept_of, head_kept}
 use Rattle.ring_log_proof.specs.RingFacts.{RingFacts}
 use Rattle.ring_log_proof.specs.Discipline.{FollowsHead, KeepsDiscipline}
 use Rattle.ring_log_proof.specs.Examples.{three, first_ring, call_by, part_at, text, members, first_text, message_of, first_head, head_at, in_second}
@@ -32,7 +32,7 @@ refuses-unheard facts =
           let at = all 2 (omega arith, refl) in
           stay-each Bad unheard at.0.stay at.0.older (
             (λ is f. absurd (let l = front_length first_text (message_of first_ring 4 1 first_head ∷ []) f in omega (arith, l))),
-            ((λ is f. not-first (record { ring = record { seq = 0; rep = 2 }; members = 2; heard = []; mark = 0; sent = []; front = [] }) refl is), tt),
+            ((λ is f. not-first (record { ring = record { seq = 0; rep = 2 }; members = 2; heard = []; mark = 0; sent = []; trimmed = 0; front = [] }) refl is), tt),
           ) at.0.there at.0.ring at.1
     ]
 
@@ -44,13 +44,13 @@ pub refuses-misheard : RingFacts (lives_with misheard) members text → ⊥
 unfolding sender-first
 refuses-misheard facts =
     let heard : List (Message Global) = message_of first_ring 4 2 first_head ∷ [] in
-    let f = facts.heard 2 (record { ring = first_ring; members = 7; heard = heard; mark = 0; sent = first_head ∷ []; front = [] }) (born 2) (inl (refl, refl)) in
+    let f = facts.heard 2 (record { ring = first_ring; members = 7; heard = heard; mark = 0; sent = first_head ∷ []; trimmed = 0; front = [] }) (born 2) (inl (refl, refl)) in
     let e : 2 ≡ 1 = ap sender-first f.1 in
     absurd (omega (arith, e))
 
 pub refuses-smaller : RingFacts (lives_with smaller) members text → ⊥
 refuses-smaller facts =
-    let e : 3 ≡ 7 = facts.one_set 2 (record { ring = first_ring; members = 3; heard = first_text; mark = 6; sent = first_head ∷ []; front = [] }) (born 2)
+    let e : 3 ≡ 7 = facts.one_set 2 (record { ring = first_ring; members = 3; heard = first_text; mark = 6; sent = first_head ∷ []; trimmed = 0; front = [] }) (born 2)
     (inl (refl, refl)) in
     absurd (omega (arith, e))
 
@@ -95,7 +95,7 @@ unfolding head-first
 refuses-late_head keeps =
     elim (keeps 2 (in_second [] 0 (Call (call_by 9) ∷ head_at (Some first_ring) 1 0 ∷ [])) (two_first ∷ born 2) (inl (refl, refl))) as (λ _. ⊥) [
       | inl none ↦ absurd (cc none)
-      | inr opens ↦ absurd (let e : None ≡ Some (head_of_life three (two_first ∷ born 2)) = ap head-first opens.opens in cc e)
+      | inr opens ↦ absurd (let e : None ≡ Some (head_kept (kept_of three (two_first ∷ born 2))) = ap head-first opens.opens in cc e)
     ]
 
 rest-of : List (Payload Global) → List (Payload Global)
@@ -113,8 +113,8 @@ refuses-wrong_part keeps =
       | inl none ↦ absurd (cc none)
       | inr opens ↦
           let is : part_at 0 (call_by 9 ∷ []) ∷ [] ≡ opens.rest = ap rest-of opens.opens in
-          let f : Each (FollowsHead (log_of three (two_first ∷ born 2))) (part_at 0 (call_by 9 ∷ []) ∷ []) =
-          subst (Each (FollowsHead (log_of three (two_first ∷ born 2)))) (sym is) opens.follows in
-          let e : 9 ≡ 7 = ap client-first f.0.1 in
+          let f : Each (FollowsHead (kept_of three (two_first ∷ born 2))) (part_at 0 (call_by 9 ∷ []) ∷ []) =
+          subst (Each (FollowsHead (kept_of three (two_first ∷ born 2)))) (sym is) opens.follows in
+          let e : 9 ≡ 7 = ap client-first f.0.1.1 in
           absurd (omega (arith, e))
     ]

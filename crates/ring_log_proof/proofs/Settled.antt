@@ -1,5 +1,5 @@
--- Of two settled lists one is a front of the other; a base, and a log of a life that adopted it, begins with all that was settled in earlier rings.
-use Rattle.std.proofs.Common.{◌≡◌, ℕ, suc, ◌<◌, List, Some, ◌⊎◌, inl, inr, refl, ap, sym, subst, arith}
+-- Of two settled lists one is a front of the other; a base begins with all that was settled in earlier rings.
+use Rattle.std.proofs.Common.{◌≡◌, ℕ, suc, ◌<◌, ◌≤◌, List, Some, ◌⊎◌, inl, inr, sym, subst, arith}
 use Rattle.std.proofs.lemmas.Bool.{cases_order}
 use Rattle.ring_base.specs.Fronts.{IsFront, front_trans}
 use Rattle.ring_base.specs.Group.{Group}
@@ -8,12 +8,11 @@ use Rattle.ring_base.proofs.ListFronts.{front-either}
 use Rattle.ring_payload.specs.declared.call.Call.{Call as OneCall}
 use Rattle.ring_wire.specs.declared.message.Message.{Message}
 use Rattle.ring_log.specs.Stays.{Stay}
-use Rattle.ring_log.specs.Lives.{Whole, exchanged, log_of, base_of}
-use Rattle.ring_log_proof.specs.RingFacts.{IsStay, StayIn, Rises, AllHeard, RingFacts}
-use Rattle.ring_log_proof.specs.Discipline.{KeepsDiscipline}
-use Rattle.ring_log_proof.proofs.Wholes.{grown, exchanged-front, log_on, base-front, log-front, logs-either}
-use Rattle.ring_log_proof.proofs.Newest.{newest-from}
-use Rattle.ring_log_proof.proofs.Hard.{AgreedBelow, agreed-lower, ring_log_on, shared, by-ring, by-stay, heard-in, newest-log, same-number, hard}
+use Rattle.ring_log.specs.Lives.{Whole, exchanged, base_of}
+use Rattle.ring_log_proof.specs.RingFacts.{AllHeard, RingFacts}
+use Rattle.ring_log_proof.specs.Discipline.{KeepsRules}
+use Rattle.ring_log_proof.proofs.Wholes.{log_on, base-front, logs-either}
+use Rattle.ring_log_proof.proofs.Hard.{AgreedBelow, views-lower, agreed-lower, shared, heard-in, same-number, hard}
 
 -- the log of a primary ring below a number, by a front of its text that every member heard
 pub record Ground {A : Type 0} (group : Group) (lives : ℕ → List (Stay A)) (members : RingId → ℕ) (bound : ℕ) : Type 0 where
@@ -31,14 +30,15 @@ ground_log group lives members bound g = log_on (base_of group lives g.ring) g.w
 abbrev pub SettledBelow : {A : Type 0} → Group → (ℕ → List (Stay A)) → (RingId → ℕ) → ℕ → List (OneCall A) → Type 0
 SettledBelow group lives members bound calls = (g : Ground group lives members bound) × IsFront calls (ground_log group lives members bound g)
 
--- a life that is a front of a processor's, of rings below a number
-pub record IsLifeBelow {A : Type 0} (whole life : List (Stay A)) (bound : ℕ) : Type 0 where
-  pub rises : Rises life
-  pub there : (s : Stay A) (older : List (Stay A)) → IsStay life s older → IsStay whole s older
-  pub low : (s : Stay A) (older : List (Stay A)) → IsStay life s older → s.ring.seq < bound
+-- settled below a number, it is so below a greater one
+pub settled-lower : {A : Type 0} (group : Group) (lives : ℕ → List (Stay A)) (members : RingId → ℕ) (low high : ℕ) (calls : List (OneCall A)) → low ≤ high
+    → SettledBelow group lives members low calls → SettledBelow group lives members high calls
+settled-lower group lives members low high calls le s =
+    let g = s.0 in
+    (record { ring = g.ring; low = omega (arith, le, g.low); front = g.front; whole = g.whole; exch = g.exch; safe = g.safe }, s.1)
 
 module _ {A : Type 0} (group : Group) (lives : ℕ → List (Stay A)) (members : RingId → ℕ) (text : RingId → List (Message A))
-    (facts : RingFacts lives members text) (disc : KeepsDiscipline group lives) where
+    (facts : RingFacts lives members text) (disc : KeepsRules group lives) where
   -- what every member of a primary ring heard is of its text
   pub ground-text : (bound : ℕ) (g : Ground group lives members bound) → IsFront g.front (text g.ring)
   ground-text bound g =
@@ -65,12 +65,14 @@ module _ {A : Type 0} (group : Group) (lives : ℕ → List (Stay A)) (members :
       g.exch g.safe (ground-text bound h) h.exch)
       (base-front base h.whole)
 
-  ground-same : (bound : ℕ) (g h : Ground group lives members bound) → g.ring.seq ≡ h.ring.seq
+  ground-same : (bound : ℕ) (g h : Ground group lives members bound) → AgreedBelow group lives bound → g.ring.seq ≡ h.ring.seq
       → IsFront (ground_log group lives members bound g) (ground_log group lives members bound h)
       ⊎ IsFront (ground_log group lives members bound h) (ground_log group lives members bound g)
-  ground-same bound g h e =
+  ground-same bound g h agreed e =
       let r = h.ring in
-      let same : g.ring ≡ r = same-number group lives members text facts disc g.ring r g.front h.front g.whole h.whole g.exch h.exch g.safe
+      let same : g.ring ≡ r = same-number group lives members text facts disc g.ring r
+      (views-lower group lives r.seq bound (omega (arith, h.low)) agreed.views) g.front h.front g.whole
+      h.whole g.exch h.exch g.safe
       (ground-text bound h) e in
       let logs = logs-either (base_of group lives r) group (members r) g.front h.front (text r) g.whole h.whole
       (subst (λ q. exchanged group (members q) g.front ≡ Some g.whole) same g.exch) h.exch
@@ -84,7 +86,7 @@ module _ {A : Type 0} (group : Group) (lives : ℕ → List (Stay A)) (members :
   grounds-either bound g h agreed =
       elim (cases_order g.ring.seq h.ring.seq) as (λ _. IsFront (ground_log group lives members bound g) (ground_log group lives members bound h)
       ⊎ IsFront (ground_log group lives members bound h) (ground_log group lives members bound g)) [
-        | inl same ↦ ground-same bound g h same
+        | inl same ↦ ground-same bound g h agreed same
         | inr rest ↦ elim rest as (λ _. IsFront (ground_log group lives members bound g) (ground_log group lives members bound h)
             ⊎ IsFront (ground_log group lives members bound h) (ground_log group lives members bound g)) [
               | inl less ↦ inl (ground-later bound g h agreed less)
@@ -102,35 +104,3 @@ module _ {A : Type 0} (group : Group) (lives : ℕ → List (Stay A)) (members :
         | inl f ↦ front-either xs ys log_y (front_trans xs log_x log_y x.1 f) y.1
         | inr f ↦ front-either xs ys log_x x.1 (front_trans ys log_y log_x y.1 f)
       ]
-
-  -- what is settled in a ring that a life adopted is a front of its log
-  pub in-log : (bound p : ℕ) (life : List (Stay A)) → AgreedBelow group lives bound → IsLifeBelow (lives p) life bound
-      → (s : Stay A) (older : List (Stay A)) → IsStay life s older
-      → (xs : List (Message A)) (v : Whole A) → exchanged group (members s.ring) xs ≡ Some v → IsFront xs s.heard → AllHeard lives s.ring (members s.ring) xs
-      → IsFront (ring_log_on group lives members text facts disc s.ring v) (log_of group life)
-  in-log bound p life agreed below s older there xs v hv front safe =
-      let c = s.ring in
-      let at : StayIn (lives p) c = record { stay = s; older = older; there = below.there s older there; ring = refl } in
-      let here = by-stay group lives members text facts disc p c at (grown v front.0) (exchanged-front group (members c) xs s.heard v hv front) in
-      let np = newest-from group life s older (grown v front.0) below.rises there here in
-      let m = np.newest in
-      let d = m.stay.ring in
-      let at_m : StayIn (lives p) d = record { stay = m.stay; older = m.older; there = below.there m.stay m.older m.there; ring = refl } in
-      let hm = by-ring group lives members text facts disc p d at_m m.whole m.exch in
-      let low = below.low m.stay m.older m.there in
-      let log = log_on (base_of group lives c) v in
-      let is = newest-log group lives members text facts disc bound agreed p life m at_m.there low in
-      let heard_m = heard-in group lives members text facts disc p d at_m in
-      subst (IsFront log) (sym is) (elim np.from as (λ _. IsFront log (log_on (base_of group lives d) m.whole)) [
-        | inl same ↦
-            let rings : d ≡ c = ap (λ (t : Stay A). t.ring) same in
-            let fm : IsFront xs m.stay.heard = subst (λ (t : Stay A). IsFront xs t.heard) (sym same) front in
-            let hv' : exchanged group (members d) xs ≡ Some v = subst (λ q. exchanged group (members q) xs ≡ Some v) (sym rings) hv in
-            subst (λ q. IsFront (log_on (base_of group lives q) v) (log_on (base_of group lives d) m.whole)) rings
-            (log-front (base_of group lives d) group (members d) xs m.stay.heard v m.whole hv' hm fm)
-        | inr later ↦
-            front_trans log (base_of group lives d m.whole.exchange) (log_on (base_of group lives d) m.whole)
-            (hard group lives members text facts disc (suc d.seq) c d xs m.stay.heard v m.whole (omega arith) later
-            (agreed-lower group lives d.seq bound (omega (arith, low)) agreed) hv safe heard_m hm)
-            (base-front (base_of group lives d) m.whole)
-      ])

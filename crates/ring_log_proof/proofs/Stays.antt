@@ -72,6 +72,28 @@ older-is (t ∷ before) s older r (inr x) =
 pub older-in : {A : Type 0} (life : List (Stay A)) (r : RingId) → Rises life → (at : StayIn life r) → older_at r.seq life ≡ at.older
 older-in life r rises at = subst (λ (q : RingId). older_at q.seq life ≡ at.older) at.ring (older-is life at.stay at.older rises at.there)
 
+-- a life that is a front of a processor's, of rings below a number
+pub record IsLifeBelow {A : Type 0} (whole life : List (Stay A)) (bound : ℕ) : Type 0 where
+  pub rises : Rises life
+  pub there : (s : Stay A) (older : List (Stay A)) → IsStay life s older → IsStay whole s older
+  pub low : (s : Stay A) (older : List (Stay A)) → IsStay life s older → s.ring.seq < bound
+
+-- it is so below each greater number
+pub life-lower : {A : Type 0} (whole life : List (Stay A)) (low high : ℕ) → low ≤ high → IsLifeBelow whole life low → IsLifeBelow whole life high
+life-lower whole life low high le below = record {
+  rises = below.rises;
+  there = below.there;
+  low = λ s older i. omega (arith, le, below.low s older i);
+}
+
+-- the life before a stay is of smaller rings
+pub life-behind : {A : Type 0} (life : List (Stay A)) (r : RingId) → Rises life → (at : StayIn life r) → IsLifeBelow life at.older r.seq
+life-behind life r rises at = record {
+  rises = rises-older life at.stay at.older rises at.there;
+  there = λ s older i. stay-trans life at.stay s at.older older at.there i;
+  low = λ s older i. omega (arith, older-below life at.stay s at.older older rises at.there i, ap (λ (q : RingId). q.seq) at.ring);
+}
+
 -- A number above a life's rings
 
 pub above : {A : Type 0} → List (Stay A) → ℕ

@@ -1,6 +1,7 @@
 -- An exchange that was heard whole stays the same as more is heard, and so a ring's log only grows; of two fronts of one text the logs are fronts of one list.
 use Rattle.std.proofs.Common.{if◌then◌else◌, ◌≡◌, ℕ, ◌≤◌, Bool, true, false, List, [], ◌∷◌, ◌++◌, length, Option, Some, None, ◌⊎◌, refl, ap, sym}
 use Rattle.std.proofs.Common.{◌∙◌, subst, append_assoc}
+use Rattle.std.specs.Prelude.{nat_le}
 use Rattle.std.proofs.lemmas.Bool.{cond_both}
 use Rattle.ring_base.specs.Fronts.{IsFront, front_shorter}
 use Rattle.ring_base.specs.Group.{Group, IsPrimary, is_primary}
@@ -10,7 +11,7 @@ use Rattle.ring_payload.specs.declared.call.Call.{Call as OneCall}
 use Rattle.ring_payload.specs.Kinds.{calls_of}
 use Rattle.ring_wire.specs.declared.message.Message.{Message}
 use Rattle.ring_log.specs.Exchanges.{Exchange, opened, is_whole}
-use Rattle.ring_log.specs.Lives.{Whole, heard_by, whole_from, after_all, exchanged, calls_in}
+use Rattle.ring_log.specs.Lives.{Whole, heard_by, whole_from, after_all, exchanged, calls_in, upto}
 
 -- the same exchange, with more heard after it
 abbrev pub grown : {A : Type 0} → Whole A → List (Message A) → Whole A
@@ -54,6 +55,11 @@ whole-append : {A : Type 0} (e : Exchange A) (xs more : List (Message A)) (w : W
 whole-append e [] more w h = absurd (cc h)
 whole-append e (x ∷ xs) more w h = whole-append-step (heard_by e x) x xs more w (is_whole (heard_by e x)) h (whole-append (heard_by e x) xs more w)
 
+-- the same, where what was heard is a front of what is heard
+pub whole-front : {A : Type 0} (e : Exchange A) (xs ys : List (Message A)) (w : Whole A) → whole_from e xs ≡ Some w → (f : IsFront xs ys)
+    → whole_from e ys ≡ Some (grown w f.0)
+whole-front e xs ys w h f = subst (λ l. whole_from e l ≡ Some (grown w f.0)) f.1 (whole-append e xs f.0 w h)
+
 -- Of a ring
 
 by-primary : {A : Type 0} (b : Bool) (o : Option (Whole A)) (w : Whole A) → (if b then o else None) ≡ Some w → (b ≡ true) × (o ≡ Some w)
@@ -63,6 +69,10 @@ by-primary false o w h = absurd (cc h)
 -- only a primary ring has one
 pub exchanged-primary : {A : Type 0} (group : Group) (m : ℕ) (xs : List (Message A)) (w : Whole A) → exchanged group m xs ≡ Some w → IsPrimary group m
 exchanged-primary group m xs w h = (primary_tested group m).0 (by-primary (is_primary group m) (whole_from (opened m) xs) w h).0
+
+pub exchanged-from : {A : Type 0} (group : Group) (m : ℕ) (xs : List (Message A)) (w : Whole A) → exchanged group m xs ≡ Some w
+    → whole_from (opened m) xs ≡ Some w
+exchanged-from group m xs w h = (by-primary (is_primary group m) (whole_from (opened m) xs) w h).1
 
 pub exchanged-whole : {A : Type 0} (group : Group) (m : ℕ) (xs : List (Message A)) (w : Whole A) → exchanged group m xs ≡ Some w → WholeBy (opened m) xs w
 exchanged-whole group m xs w h = whole_by (opened m) xs w (by-primary (is_primary group m) (whole_from (opened m) xs) w h).1
@@ -124,3 +134,10 @@ logs-either base group m xs ys text v w hv hw fx fy =
     let there = exchanged-front group m xs text v hv fx in
     front-either (log_on base v) (log_on base w) (log_on base (grown v fx.0))
     (log-front base group m xs text v (grown v fx.0) hv there fx) (log-front base group m ys text w (grown v fx.0) hw there fy)
+
+-- what was heard up to a number is a front of all that was heard
+pub upto-front : {A : Type 0} (mark : ℕ) (xs : List (Message A)) → IsFront (upto mark xs) xs
+upto-front mark [] = ([], refl)
+upto-front mark (x ∷ xs) =
+    cond_both (nat_le x.number mark) (x ∷ upto mark xs) [] (λ l. IsFront l (x ∷ xs))
+    (λ t. (let f = upto-front mark xs in (f.0, ap (λ l. x ∷ l) f.1))) (λ f. (x ∷ xs, refl))

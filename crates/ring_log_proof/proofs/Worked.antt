@@ -1,5 +1,5 @@
 -- The facts of the worked lives, processor by processor.
-use Rattle.std.proofs.Common.{◌≡◌, ℕ, ◌==◌, true, false, List, [], ◌∷◌, ◌++◌, ◌⊎◌, inl, inr, if◌then◌else◌, refl, ap, sym, ◌∙◌, subst, arith}
+use Rattle.std.proofs.Common.{◌≡◌, ℕ, ◌≤◌, ◌==◌, true, false, List, [], ◌∷◌, ◌++◌, ◌⊎◌, inl, inr, if◌then◌else◌, refl, ap, sym, ◌∙◌, subst, arith}
 use Rattle.std.specs.declared.alloc.Global.{Global}
 use Rattle.std.specs.List.{AllByRecursion as Each}
 use Rattle.std.proofs.lemmas.Bool.{cond_both, cond-false, eqb-true, ne_eqb, cases_eq, and_parts}
@@ -169,7 +169,7 @@ unfolding EachOver elements
 three-discipline p =
     let P : Stay Global → List (Stay Global) → Type 0 = λ s older. (s.sent ≡ []) ⊎ OpensWithHead three s older in
     over-each P (lives p) (by-processor (λ q l. EachOver P l) (
-      inr (record { primary = majority 3 refl; rest = part_at 0 (call_by 7 ∷ []) ∷ []; opens = refl; follows = (([], refl), tt) }),
+      inr (record { primary = majority 3 refl; rest = part_at 0 (call_by 7 ∷ []) ∷ []; opens = refl; follows = ((let none : 0 ≤ 0 = omega arith in none, ([], refl)), tt) }),
       (inr (record { primary = majority 7 refl; rest = Call (call_by 7) ∷ []; opens = refl; follows = (tt, tt) }), (inl refl, tt)),
     ) (
       inr (record { primary = majority 3 refl; rest = Call (call_by 9) ∷ []; opens = refl; follows = (tt, tt) }),

@@ -68,10 +68,10 @@ abbrev pub members : RingId → ℕ
 members r = if same_ring r first_ring then 7 else if same_ring r second_ring then 3 else only r.rep
 
 abbrev pub in_first : ℕ → List (Payload Global) → Stay Global
-in_first mark sent = record { ring = first_ring; members = 7; heard = first_text; mark = mark; sent = sent; front = [] }
+in_first mark sent = record { ring = first_ring; members = 7; heard = first_text; mark = mark; sent = sent; trimmed = 0; front = [] }
 
 abbrev pub in_second : List (Message Global) → ℕ → List (Payload Global) → Stay Global
-in_second heard mark sent = record { ring = second_ring; members = 3; heard = heard; mark = mark; sent = sent; front = [] }
+in_second heard mark sent = record { ring = second_ring; members = 3; heard = heard; mark = mark; sent = sent; trimmed = 0; front = [] }
 
 abbrev pub one_first : Stay Global
 one_first = in_first 7 (first_head ∷ Call (call_by 7) ∷ [])
@@ -108,19 +108,19 @@ lives = lives_with life_of_two
 
 -- it has not heard in ring 4.1 what processor 1 knows as safe there
 abbrev pub unheard : List (Stay Global)
-unheard = record { ring = first_ring; members = 7; heard = message_of first_ring 4 1 first_head ∷ []; mark = 4; sent = first_head ∷ []; front = [] } ∷ born 2
+unheard = record { ring = first_ring; members = 7; heard = message_of first_ring 4 1 first_head ∷ []; mark = 4; sent = first_head ∷ []; trimmed = 0; front = [] } ∷ born 2
 
 -- it heard a Head that isn't of the ring's text
 abbrev pub misheard : List (Stay Global)
-misheard = record { ring = first_ring; members = 7; heard = message_of first_ring 4 2 first_head ∷ []; mark = 0; sent = first_head ∷ []; front = [] } ∷ born 2
+misheard = record { ring = first_ring; members = 7; heard = message_of first_ring 4 2 first_head ∷ []; mark = 0; sent = first_head ∷ []; trimmed = 0; front = [] } ∷ born 2
 
 -- it was in ring 4.1 with fewer members
 abbrev pub smaller : List (Stay Global)
-smaller = record { ring = first_ring; members = 3; heard = first_text; mark = 6; sent = first_head ∷ []; front = [] } ∷ born 2
+smaller = record { ring = first_ring; members = 3; heard = first_text; mark = 6; sent = first_head ∷ []; trimmed = 0; front = [] } ∷ born 2
 
 -- it was given nothing to send in ring 4.1, where its Head was heard
 abbrev pub silent : List (Stay Global)
-silent = record { ring = first_ring; members = 7; heard = first_text; mark = 6; sent = []; front = [] } ∷ born 2
+silent = record { ring = first_ring; members = 7; heard = first_text; mark = 6; sent = []; trimmed = 0; front = [] } ∷ born 2
 
 -- it came from ring 8.1 to ring 4.1
 abbrev pub falling : List (Stay Global)

@@ -3,3 +3,4 @@ pub mod Discipline
 pub mod Settled
 pub mod Time
 pub mod Examples
+pub mod Views

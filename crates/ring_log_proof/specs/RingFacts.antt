@@ -30,6 +30,10 @@ abbrev pub Rises : {A : Type 0} → List (Stay A) → Type 0
 Rises [] = Unit {0}
 Rises (s ∷ older) = Each (λ (t : Stay _). t.ring.seq < s.ring.seq) older × Rises older
 
+-- numbers above those of the rings of lives
+abbrev pub AreAbove : {A : Type 0} → (ℕ → List (Stay A)) → (ℕ → ℕ) → Type 0
+AreAbove {A} lives bounds = (p : ℕ) (s : Stay A) (older : List (Stay A)) → IsStay (lives p) s older → s.ring.seq < bounds p
+
 -- Texts
 
 -- what a processor said among these messages, as it was handed over: a Pack as its calls

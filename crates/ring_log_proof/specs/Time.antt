@@ -1,6 +1,6 @@
 -- How lives go on as cores put out and nodes hand over, and which calls stand in them: Outputs, rule 9, and The replicated log, rules 1, 2 and 10, of
 -- docs/PROTOCOL.md.
-use Rattle.std.specs.Prelude.{◌≡◌, ℕ, ◌≤◌, List, [], ◌∷◌, ◌++◌, Contains}
+use Rattle.std.specs.Prelude.{◌≡◌, ℕ, ◌≤◌, List, [], ◌∷◌, ◌++◌, Contains, Some}
 use Rattle.std.specs.List.{AllByRecursion as Each}
 use Rattle.ring_base.specs.Fronts.{IsFront}
 use Rattle.ring_base.specs.Group.{Group, IsPrimary}
@@ -9,8 +9,10 @@ use Rattle.ring_payload.specs.declared.call.Call.{Call as OneCall}
 use Rattle.ring_payload.specs.declared.content.Payload.{Payload}
 use Rattle.ring_payload.specs.declared.content.Payload.TheVariants.{Call, Wrapped, End, Head, Part, Pack, Snap}
 use Rattle.ring_wire.specs.declared.message.Message.{Message}
-use Rattle.ring_log.specs.Stays.{Stay, stay_in, hears, marks, hands}
-use Rattle.ring_log.specs.Lives.{log_of, committed_of, head_of_life}
+use Rattle.ring_log.specs.Stays.{Stay, stay_in, hears, marks, hands, trims}
+use Rattle.ring_log.specs.Kept.{kept_of, head_kept}
+use Rattle.ring_log.specs.Exchanges.{opened}
+use Rattle.ring_log.specs.Lives.{Whole, whole_from, committed_of}
 use Rattle.ring_log_proof.specs.RingFacts.{IsStay}
 use Rattle.ring_log_proof.specs.Discipline.{FollowsHead, OrderlyLives}
 
@@ -21,8 +23,9 @@ pub record Grows {A : Type 0} (before after : Stay A) : Type 0 where
   pub heard : IsFront before.heard after.heard
   pub mark : before.mark ≤ after.mark
   pub sent : IsFront before.sent after.sent
-  -- what a snapshot that was sent there stands for
-  pub front : before.front ≡ after.front
+  pub trimmed : before.trimmed ≤ after.trimmed
+  -- once all was heard of an exchange, what a snapshot stands for that was sent in it is settled
+  pub front : (w : Whole A) → whole_from (opened before.members) before.heard ≡ Some w → before.front ≡ after.front
 
 -- One life and what it became: its newest stay grew, and newer ones may stand before it; what it heard and knew as safe of the rings that it had left is as
 -- it was.
@@ -32,18 +35,20 @@ LivesOn {A} (s ∷ older) after = (newer : List (Stay A)) × (t : Stay A) × (af
 
 -- What happens to a life
 
--- a message is agreed, a mark rises, a ring is installed; or payloads are handed to the core
+-- a message is agreed, a mark rises, a ring is installed; payloads are handed to the core; or places are dropped, so many of the log in all
 pub data LifeEvent (A : Type 0) : Type 0 where
   Agreed : (message : Message A) → LifeEvent A
   Safe : (mark : ℕ) → LifeEvent A
   Regular : (ring : RingId) → (members : ℕ) → LifeEvent A
   Handed : (payloads : List (Payload A)) → LifeEvent A
+  Dropped : (places : ℕ) → LifeEvent A
 
 abbrev pub lived : {A : Type 0} → List (Stay A) → LifeEvent A → List (Stay A)
 lived life (Agreed message) = hears message life
 lived life (Safe mark) = marks mark life
 lived life (Regular ring members) = stay_in ring members ∷ life
 lived life (Handed payloads) = hands payloads life
+lived life (Dropped places) = trims places life
 
 abbrev pub all_lived : {A : Type 0} → List (Stay A) → List (LifeEvent A) → List (Stay A)
 all_lived life [] = life
@@ -54,15 +59,20 @@ abbrev pub IsRaised : {A : Type 0} → List (Stay A) → ℕ → Type 0
 IsRaised [] mark = Unit {0}
 IsRaised (s ∷ older) mark = s.mark ≤ mark
 
+-- committed places are dropped, no fewer than before
+abbrev pub MayDrop : {A : Type 0} → Group → List (Stay A) → ℕ → Type 0
+MayDrop group [] places = Unit {0}
+MayDrop group (s ∷ older) places = (s.trimmed ≤ places) × (places ≤ (kept_of group (s ∷ older)).committed)
+
 -- What a node may hand over: in a primary ring, as the first thing there, its Head, which states its life before the ring, and after that what follows a Head.
 abbrev pub MayHandFirst : {A : Type 0} → Group → Stay A → List (Stay A) → List (Payload A) → Type 0
 MayHandFirst group s older [] = Unit {0}
-MayHandFirst group s older (payload ∷ rest) = IsPrimary group s.members × (payload ≡ Head (head_of_life group older))
-    × Each (FollowsHead (log_of group older)) rest
+MayHandFirst group s older (payload ∷ rest) = IsPrimary group s.members × (payload ≡ Head (head_kept (kept_of group older)))
+    × Each (FollowsHead (kept_of group older)) rest
 
 abbrev pub MayHandAfter : {A : Type 0} → Group → Stay A → List (Stay A) → List (Payload A) → List (Payload A) → Type 0
 MayHandAfter group s older [] payloads = MayHandFirst group s older payloads
-MayHandAfter group s older (x ∷ sent) payloads = Each (FollowsHead (log_of group older)) payloads
+MayHandAfter group s older (x ∷ sent) payloads = Each (FollowsHead (kept_of group older)) payloads
 
 -- so in its newest ring
 abbrev pub MayHand : {A : Type 0} → Group → List (Stay A) → List (Payload A) → Type 0
@@ -74,6 +84,7 @@ MayHappen group life (Agreed message) = Unit {0}
 MayHappen group life (Safe mark) = IsRaised life mark
 MayHappen group life (Regular ring members) = Unit {0}
 MayHappen group life (Handed payloads) = MayHand group life payloads
+MayHappen group life (Dropped places) = MayDrop group life places
 
 abbrev pub AllMayHappen : {A : Type 0} → Group → List (Stay A) → List (LifeEvent A) → Type 0
 AllMayHappen group life [] = Unit {0}
@@ -96,6 +107,7 @@ HandsKnown Known (Handed payloads) = Each (IsKnownCall Known) payloads
 HandsKnown Known (Agreed message) = Unit {0}
 HandsKnown Known (Safe mark) = Unit {0}
 HandsKnown Known (Regular ring members) = Unit {0}
+HandsKnown Known (Dropped places) = Unit {0}
 
 -- so of all that was ever handed over
 abbrev pub OnlyHandsOver : {A : Type 0} → (OneCall A → Type 0) → (ℕ → List (Stay A)) → Type 0

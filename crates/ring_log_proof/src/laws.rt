@@ -1,6 +1,6 @@
 //! The laws of the one order, of the lives of all nodes at one moment and at two.
 
-ghost use Rattle.std.specs.Prelude.{◌≡◌, ℕ, ◌⊎◌, List, [], map, take, drop, All, Contains, Some, None, true, slice_get};
+ghost use Rattle.std.specs.Prelude.{◌≡◌, ℕ, ◌<◌, ◌≤◌, ◌⊎◌, List, [], length, map, take, drop, All, Contains, Some, None, true, slice_get};
 ghost use Rattle.std.specs.List.{AllByRecursion as Each};
 ghost use Rattle.std.specs.declared.alloc.Global.{Global as Heap};
 ghost use Rattle.ring_base.specs.Fronts.{IsFront};
@@ -15,11 +15,13 @@ ghost use Rattle.ring_wire.specs.declared.message.Message.{Message};
 ghost use Rattle.ring_log.specs.declared.wanted.Wanted.{Wanted};
 ghost use Rattle.ring_log.specs.Exchanges.{wanted};
 ghost use Rattle.ring_log.specs.Stays.{Stay};
-ghost use Rattle.ring_log.specs.Lives.{Whole, exchanged, own_base, log_of, committed_of, head_of_life, base_of, ring_log, keeps_committed, is_sound};
-ghost use Rattle.ring_log.specs.Kept.{kept_of, head_kept, is_kept_sound, whole_kept};
-ghost use Rattle.ring_log_proof.specs.RingFacts.{IsStay, StayIn, AllHeard};
-ghost use Rattle.ring_log_proof.specs.Discipline.{OrderlyLives, KeepsDiscipline};
+ghost use Rattle.ring_log.specs.Lives.{Whole, exchanged, own_base, log_of, committed_of, head_of_life, base_of, ring_log, keeps_committed};
+ghost use Rattle.ring_log.specs.Lives.{is_sound, whole_life};
+ghost use Rattle.ring_log.specs.Kept.{kept_of, head_kept, keeps_kept, is_kept_sound};
+ghost use Rattle.ring_log_proof.specs.RingFacts.{IsStay, StayIn, Rises, AreAbove, AllHeard, RingFacts};
+ghost use Rattle.ring_log_proof.specs.Discipline.{OrderlyLives, KeepsDiscipline, IsDropping, DropsCommitted, FrontsStand, KeepsRules};
 ghost use Rattle.ring_log_proof.specs.Settled.{IsSettled};
+ghost use Rattle.ring_log_proof.specs.Views.{IsView};
 ghost use Rattle.ring_log_proof.specs.Time.{LivesOn, LifeEvent, all_lived, AllMayHappen, OnlyHandsOver, HandsKnown};
 ghost use Rattle.ring_log_proof.specs.Time.{OrderlyMoment, IsOrderlyRun, last_of_run, committed_at};
 
@@ -68,29 +70,55 @@ pub fn committed_law<A: Allocator + Copy>()
         IsFront (committed_of group (before.lives p)) (committed_of group (after.lives p)) }
 {}
 
-/// Where a node heard a ring's exchange whole, what it makes of that and of its own log is the ring's base, its own first
-/// places are those of the base, and the base begins with the places that it had committed: no node ever stops for a
-/// base that doesn't. No snapshot is wanted there, since no log is trimmed.
+/// Where a node heard a ring's exchange whole, what it makes of that and of its own log is the ring's base; its own first
+/// places are those of the base, unless a snapshot brings them and it had committed less; and the base begins with the places
+/// that it had committed: no node ever stops for a base that doesn't.
 pub fn adoption_law<A: Allocator + Copy>()
     ensures base { (group : Group) (m : OrderlyLives A group) (p : ℕ) (s : Stay A) (older : List (Stay A)) (whole : Whole A) →
         IsStay (m.lives p) s older → exchanged group s.members s.heard ≡ Some whole →
         own_base (log_of group older) s.front whole.exchange ≡ base_of group m.lives s.ring whole.exchange }
     ensures first { (group : Group) (m : OrderlyLives A group) (p : ℕ) (s : Stay A) (older : List (Stay A)) (whole : Whole A) (w : Wanted) →
         IsStay (m.lives p) s older → exchanged group s.members s.heard ≡ Some whole → wanted whole.exchange ≡ Some w →
+        (w.snapshot ≡ None) ⊎ (w.from ≤ length (committed_of group older)) →
         take w.from (log_of group older) ≡ take w.from (base_of group m.lives s.ring whole.exchange) }
     ensures committed { (group : Group) (m : OrderlyLives A group) (p : ℕ) (s : Stay A) (older : List (Stay A)) →
         IsStay (m.lives p) s older →
         keeps_committed (log_of group older) s.front (committed_of group older) (exchanged group s.members s.heard) ≡ true }
-    ensures whole_logs { (group : Group) (m : OrderlyLives A group) (p : ℕ) (s : Stay A) (older : List (Stay A)) (whole : Whole A) (w : Wanted) →
-        IsStay (m.lives p) s older → exchanged group s.members s.heard ≡ Some whole → wanted whole.exchange ≡ Some w → w.snapshot ≡ None }
 {}
 
-/// What a node knows of its log by its own life alone, without what snapshots stand for, is the whole log as long as the life
-/// is sound, since then it restored none; its Head states that; and by its own life alone the life is as sound.
+/// What a node knows of its log by its own life alone, without what snapshots stand for, is the rest of the whole log behind
+/// the snapshot that it restored last, where the whole life is sound and committed places alone were dropped; its Head states
+/// the whole log. In a life whose bases all begin with what was committed, its own life is as sound as the whole one. Both are
+/// so of all orderly lives; in these no node finds, by what it knows, that a base lacks committed places.
 pub fn kept_law<A: Allocator + Copy>()
-    ensures sound { (group : Group) (life : List (Stay A)) → is_kept_sound group life ≡ is_sound group life }
-    ensures kept { (group : Group) (life : List (Stay A)) → is_sound group life ≡ true → kept_of group life ≡ whole_kept group life }
-    ensures head { (group : Group) (life : List (Stay A)) → is_sound group life ≡ true → head_kept (kept_of group life) ≡ head_of_life group life }
+    ensures rests { (group : Group) (life : List (Stay A)) → is_sound group life ≡ true → IsDropping group life → IsView group life }
+    ensures head { (group : Group) (life : List (Stay A)) → is_sound group life ≡ true → IsDropping group life →
+        head_kept (kept_of group life) ≡ head_of_life group life }
+    ensures sound { (group : Group) (life : List (Stay A)) →
+        ((s : Stay A) (older : List (Stay A)) → IsStay life s older →
+        keeps_committed (log_of group older) s.front (committed_of group older) (exchanged group s.members s.heard) ≡ true) →
+        IsDropping group life → is_kept_sound group life ≡ is_sound group life }
+    ensures orderly { (group : Group) (m : OrderlyLives A group) (p : ℕ) →
+        IsView group (m.lives p) × (is_kept_sound group (m.lives p) ≡ is_sound group (m.lives p)) }
+    ensures keeps { (group : Group) (m : OrderlyLives A group) (p : ℕ) (s : Stay A) (older : List (Stay A)) →
+        IsStay (m.lives p) s older → keeps_kept (kept_of group older) s.ring (exchanged group s.members s.heard) ≡ true }
+{}
+
+/// Lives that are filled with what snapshots stand for, by the numbers of rings, up to a number above all of a life's rings:
+/// each snapshot then stands for the first places of the log that its sender had before its ring. They have the facts of the
+/// lives that aren't filled, and keep the same rules; and as those go on, filled ones do: what a snapshot stands for is settled
+/// once its ring's exchange is whole.
+pub fn fronts_law<A: Allocator + Copy>()
+    ensures stand { (group : Group) (lives : ℕ → List (Stay A)) → ((p : ℕ) → Rises (lives p)) → (bounds : ℕ → ℕ) → AreAbove lives bounds →
+        FrontsStand group (λ p. whole_life group lives (bounds p) p) }
+    ensures facts { (group : Group) (lives : ℕ → List (Stay A)) (members : RingId → ℕ) (text : RingId → List (Message A)) → RingFacts lives members text →
+        (bounds : ℕ → ℕ) → RingFacts (λ p. whole_life group lives (bounds p) p) members text }
+    ensures rules { (group : Group) (lives : ℕ → List (Stay A)) → ((p : ℕ) → Rises (lives p)) → KeepsDiscipline group lives → DropsCommitted group lives →
+        (bounds : ℕ → ℕ) → AreAbove lives bounds → KeepsRules group (λ p. whole_life group lives (bounds p) p) }
+    ensures goes_on { (group : Group) (lives after : ℕ → List (Stay A)) (members : RingId → ℕ) (text : RingId → List (Message A)) →
+        RingFacts lives members text → KeepsDiscipline group lives → DropsCommitted group lives → ((p : ℕ) → Rises (after p)) →
+        ((p : ℕ) → LivesOn (lives p) (after p)) → (bounds more : ℕ → ℕ) → AreAbove lives bounds → AreAbove after more →
+        (p : ℕ) → LivesOn (whole_life group lives (bounds p) p) (whole_life group after (more p) p) }
 {}
 
 /// Each call of a log was handed to some core by a Call, wherever Parts brought it since: if all calls handed over are
@@ -104,7 +132,7 @@ pub fn issued_law<A: Allocator + Copy>()
 
 /// What a core puts out and a node hands over lets a life go on, and keeps the discipline, if marks don't fall and if the
 /// node hands over its Head first and then what follows a Head; and if it hands over only issued calls, then only such
-/// were handed over.
+/// were handed over. If places that are dropped are committed, then all that were dropped are.
 pub fn life_law<A: Allocator + Copy>()
     ensures goes_on { (group : Group) (life : List (Stay A)) (events : List (LifeEvent A)) →
         AllMayHappen group life events → LivesOn life (all_lived life events) }
@@ -114,6 +142,9 @@ pub fn life_law<A: Allocator + Copy>()
     ensures issued { (issued : List (Call A)) (lives after : ℕ → List (Stay A)) (events : ℕ → List (LifeEvent A)) →
         ((p : ℕ) → Each (HandsKnown (Contains issued)) (events p)) → ((p : ℕ) → after p ≡ all_lived (lives p) (events p)) →
         OnlyHandsOver (Contains issued) lives → OnlyHandsOver (Contains issued) after }
+    ensures drops { (group : Group) (lives after : ℕ → List (Stay A)) (events : ℕ → List (LifeEvent A)) →
+        ((p : ℕ) → AllMayHappen group (lives p) (events p)) → ((p : ℕ) → after p ≡ all_lived (lives p) (events p)) →
+        DropsCommitted group lives → DropsCommitted group after }
 {}
 
 /// Along a run in which at each moment lives are orderly, and all calls handed over were issued, and in which lives go on

@@ -2,7 +2,7 @@
 
 use refusing_alloc::{Refusing, refuse_in_turn};
 use ring_base::{Fault, Proc, ProcSet, RingId};
-use ring_log::{Base, Exchange, Log, Wanted, pieces_of};
+use ring_log::{Adoption, Base, Exchange, Log, Snapshot, Wanted, pieces_of};
 use ring_payload::{Call, Calls, Head, Part, Payload, Snap};
 use std::alloc::{AllocError, Allocator};
 use std::test::Fail;
@@ -157,26 +157,27 @@ fn brought<A: Allocator + Copy>(heap: A, refused: &mut u64) -> Result<Option<Bas
 
 /// Appends client 7's calls of the numbers before this one.
 fn append_before<A: Allocator + Copy>(heap: A, log: &mut Log<A>, end: u64) -> Result<(), Fault> {
+    let mut calls = Vec::new(heap);
     for number in 1..end {
-        log.append(Call::new(heap, 7, number, &[1, 1])?)?;
+        calls.push(Call::new(heap, 7, number, &[1, 1])?)?;
     }
+    log.append_all(calls)?;
     Ok(())
 }
 
-/// Adopts the base with ring 12.1 as last primary. Whether there is one, and the log may adopt it.
+/// Adopts the base with ring 12.1 as last primary. Whether there is one, and the log keeps its own places below it.
 fn adopts<A: Allocator + Copy>(log: &mut Log<A>, base: Option<Base<A>>) -> Result<bool, Fault> {
     let Some(base) = base else {
         return Ok(false);
     };
-    if !log.may_adopt(&base) {
-        return Ok(false);
-    }
     let rep = Proc::new(1);
-    log.adopt(RingId { seq: 12, rep }, base)?;
-    Ok(true)
+    match log.adopt(RingId { seq: 12, rep }, base)? {
+        Adoption::Joined => Ok(true),
+        Adoption::Refused | Adoption::Restored(_, _) => Ok(false),
+    }
 }
 
-/// The log of processor 3, of nine places, adopts what the exchange brings. Whether it may.
+/// The log of processor 3, of nine places, all committed, adopts what the exchange brings. Whether it may.
 fn catches_up<A: Allocator + Copy>(
     heap: A,
     log: &mut Log<A>,
@@ -184,6 +185,7 @@ fn catches_up<A: Allocator + Copy>(
 ) -> Result<bool, Fault> {
     let base = brought(heap, refused)?;
     append_before(heap, log, 10)?;
+    log.commit_upto(9);
     adopts(log, base)
 }
 
@@ -263,7 +265,12 @@ fn base_that_drops_committed_places_is_told(rt: HostRuntime) -> Result<(), Fail>
     let mut log = Log::new(rt.alloc());
     append_before(rt.alloc(), &mut log, 4)?;
     log.commit_upto(2);
-    for (from, numbers, may) in [(1, (2, 3), true), (1, (3, 5), false), (0, (1, 2), false)] {
+    for (from, numbers, may) in [
+        (1, (2, 3), true),
+        (1, (3, 5), false),
+        (0, (1, 2), false),
+        (3, (4, 5), false),
+    ] {
         assert!(rt;
             may_adopt(rt.alloc(), &log, from, numbers)? == may,
             "{from}"
@@ -462,7 +469,29 @@ fn is_behind<A: Allocator + Copy>(heap: A, base: &Base<A>, count: usize) -> Resu
     Ok(base.from == 256 && number == 300 && snapshot.as_slice() == wanted.as_slice())
 }
 
-/// Whether the exchange brings that base, which no log adopts, since none is restored from a snapshot yet.
+/// Whether a new log is restored by the base, from the snapshot of so many bytes: 256 places are dropped and committed, of 300.
+fn restores<A: Allocator + Copy>(heap: A, base: Base<A>, count: usize) -> Result<bool, Fault> {
+    let wanted = bytes(heap, count)?;
+    let mut log = Log::new(heap);
+    let rep = Proc::new(1);
+    let Adoption::Restored(snapshot, before) = log.adopt(RingId { seq: 9, rep }, base)? else {
+        return Ok(false);
+    };
+    Ok(
+        snapshot.as_slice() == wanted.as_slice()
+            && lengths(&log) == (256, 256, 300)
+            && log.calls().len() == 44
+            && lengths(&before) == (0, 0, 0),
+    )
+}
+
+/// How many places a log has dropped, how many are committed, and how many there are, by its Head.
+fn lengths<A: Allocator + Copy>(log: &Log<A>) -> (u64, u64, u64) {
+    let head = log.head();
+    (head.trimmed, head.committed, head.length)
+}
+
+/// Whether the exchange brings that base, and a new log is restored by it.
 fn brings_behind<A: Allocator + Copy>(
     heap: A,
     count: usize,
@@ -471,7 +500,7 @@ fn brings_behind<A: Allocator + Copy>(
     let Some(base) = brought_behind(heap, count, refused)? else {
         return Ok(false);
     };
-    Ok(is_behind(heap, &base, count)? && !Log::new(heap).may_adopt(&base))
+    Ok(is_behind(heap, &base, count)? && restores(heap, base, count)?)
 }
 
 #[test]
@@ -502,4 +531,55 @@ fn behind_or_refused(heap: &Refusing) -> Result<(), AllocError> {
 fn each_request_of_a_snapshot_is_refused_in_turn(rt: HostRuntime) {
     let requests = refuse_in_turn(rt.alloc(), &|heap: &Refusing| behind_or_refused(heap));
     assert!(rt; requests > Some(20));
+}
+
+/// How many calls leave a log of 300 places, of which so many are committed, and what it is then; nothing where it isn't ripe.
+fn left<A: Allocator + Copy>(
+    heap: A,
+    committed: u64,
+) -> Result<Option<(usize, (u64, u64, u64))>, Fault> {
+    let mut log = Log::new(heap);
+    append_before(heap, &mut log, 301)?;
+    log.commit_upto(committed);
+    if !log.is_ripe() {
+        return Ok(None);
+    }
+    let dropped = log.trim()?;
+    Ok(Some((dropped.into_calls().len(), lengths(&log))))
+}
+
+/// 256 committed places are dropped, and no fewer.
+#[test]
+fn committed_places_leave(rt: HostRuntime) -> Result<(), Fail> {
+    assert!(rt; left(rt.alloc(), 255)? == None);
+    assert!(rt; left(rt.alloc(), 256)? == Some((256, (256, 256, 300))));
+    assert!(rt; left(rt.alloc(), 299)? == Some((299, (299, 299, 300))));
+    Ok(())
+}
+
+/// A log that dropped 256 of its 300 places, and has committed 4 more, adopts a base that begins below them, with a snapshot that
+/// it doesn't need: of the base it takes the places from 256 on. Whether it does, with 310 places then.
+fn keeps_dropped<A: Allocator + Copy>(heap: A) -> Result<bool, Fault> {
+    let mut log = Log::new(heap);
+    append_before(heap, &mut log, 301)?;
+    log.commit_upto(256);
+    let dropped = log.trim()?;
+    log.commit_upto(260);
+    let base = Base {
+        from: 250,
+        snapshot: Some(Snapshot::from_vec(bytes(heap, 45)?)),
+        calls: calls(heap, 251, 311)?,
+    };
+    Ok(
+        adopts(&mut log, Some(base))?
+            && lengths(&log) == (256, 260, 310)
+            && log.calls().len() == 54
+            && dropped.calls().len() == 256,
+    )
+}
+
+#[test]
+fn dropped_places_are_left_out(rt: HostRuntime) -> Result<(), Fail> {
+    assert!(rt; keeps_dropped(rt.alloc())?);
+    Ok(())
 }

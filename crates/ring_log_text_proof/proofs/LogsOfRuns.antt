@@ -1,5 +1,5 @@
 -- In every run of nodes: a node's log and what it committed, by what its core tells of the texts of its rings.
-use Rattle.std.proofs.Common.{◌≡◌, ℕ, ◌≤◌, true, List, [], length, Option, Some, ◌⊎◌, inl, inr, refl, ap, sym, ◌∙◌, subst, arith}
+use Rattle.std.proofs.Common.{◌≡◌, ℕ, ◌≤◌, true, List, [], length, take, Option, Some, ◌⊎◌, inl, inr, refl, ap, sym, ◌∙◌, subst, arith}
 use Rattle.std.proofs.lemmas.Bool.{cond-true}
 use Rattle.ring_base.specs.Group.{Group}
 use Rattle.ring_base.specs.declared.ring_id.RingId.{RingId}
@@ -11,11 +11,12 @@ use Rattle.ring_core.specs.Giving.{users}
 use Rattle.ring_core.specs.Views.{front, mark}
 use Rattle.ring_core_proof.proofs.WithinWindow.{mark_below}
 use Rattle.ring_log.specs.Stays.{Stay}
-use Rattle.ring_log.specs.Lives.{upto, log_of, committed_of, ring_log}
-use Rattle.ring_log_proof.specs.Discipline.{KeepsDiscipline}
+use Rattle.ring_log.specs.Lives.{Whole, upto, exchanged, log_of, committed_of, older_at, ring_log, fronts_below}
+use Rattle.ring_log_proof.specs.Discipline.{KeepsRules}
 use Rattle.ring_log_proof.specs.RingFacts.{IsStay, Rises, safe_part}
-use Rattle.ring_log_text_proof.specs.LogTexts.{HasRingLog, HasFrontLog, HasSafeLog, IsNewestLog, IsLogText, AreCommittedTexts}
-use Rattle.ring_log_text_proof.proofs.ToldLogs.{Part, all_heard, known_safe, Tells, IsLog, AreLongest, log-told, committed-told}
+use Rattle.ring_log_proof.proofs.Fronts.{fill, filled-stay}
+use Rattle.ring_log_text_proof.specs.LogTexts.{HasRestored, HasRingLog, HasFrontLog, HasSafeLog, IsNewestLog, IsLogText, AreCommittedTexts}
+use Rattle.ring_log_text_proof.proofs.ToldLogs.{Part, all_heard, known_safe, Tells, Restores, IsLog, AreLongest, log-told, committed-told}
 use Rattle.ring_order_proof.specs.Living.{lives_of}
 use Rattle.ring_order_proof.specs.Projection.{ring_part}
 use Rattle.ring_order_proof.specs.RunFacts.{HasFacts}
@@ -24,9 +25,8 @@ use Rattle.ring_order_proof.proofs.LivesOfCores.{IsToldOf, told_of, life_told}
 use Rattle.ring_order_proof.proofs.RingsOfRuns.{safe_is}
 use Rattle.ring_order_proof.proofs.RunFacts.{AreNodes, facts_of, all_nodes, node_is}
 use Rattle.ring_order_proof.proofs.RunTexts.{heard_is}
-use Rattle.ring_rules.specs.Nodes.{node_log, node_committed}
 use Rattle.ring_rules.specs.declared.event.Event.{Event}
-use Rattle.ring_rules.specs.Worlds.{World, world_opening, is_node, run}
+use Rattle.ring_rules.specs.Worlds.{World, world_opening, is_node, run, lives_in, above}
 
 module _ {O A : Type 0} (object : Sequential O) (group : Group) (events : List (Event A)) (i : ℕ) (few : group.count ≤ 16)
     (low : 1 ≤ i) (high : i ≤ group.count) where
@@ -39,16 +39,14 @@ module _ {O A : Type 0} (object : Sequential O) (group : Group) (events : List (
   abbrev core : Core A
   core = (w.nodes i).core
 
+  -- with what snapshots stand for
   abbrev life : List (Stay A)
-  life = (w.nodes i).life
-
-  life-is : lives_of w i ≡ life
-  life-is = cond-true (is_node w i) life [] (node_is object group events i low high)
+  life = lives_of w i
 
   facts : HasFacts w
   facts = facts_of group w nodes
 
-  discipline : KeepsDiscipline group (lives_of w)
+  discipline : KeepsRules group (lives_of w)
   discipline = lives_keep object group events
 
   -- the logs that the life tells by this much of what was heard
@@ -57,26 +55,49 @@ module _ {O A : Type 0} (object : Sequential O) (group : Group) (events : List (
 
   -- What a stay tells
 
-  told : (s : Stay A) (older : List (Stay A)) → IsStay life s older → IsToldOf core s
-  told s older there = told_of core life core.installs (λ x h. h) (life_told group w nodes.ring i (nodes.ordered i)) s older there
+  -- a stay of the life is one as the node knows it, but for what its snapshot stands for
+  record IsOwn (s : Stay A) : Type 0 where
+    stay : Stay A
+    told : IsToldOf core stay
+    ring : s.ring ≡ stay.ring
+    heard : s.heard ≡ stay.heard
+    mark : s.mark ≡ stay.mark
+
+  own-stay : (s : Stay A) (older : List (Stay A)) → IsStay life s older → IsOwn s
+  own-stay s older there =
+      let fronts = fronts_below w.group (lives_in w) (above (lives_in w i)) in
+      let f = filled-stay fronts i (lives_in w i) s older there in
+      let here : lives_in w i ≡ (w.nodes i).life = cond-true (is_node w i) (w.nodes i).life [] (node_is object group events i low high) in
+      let own = subst (λ (l : List (Stay A)). IsStay l f.stay f.older) here f.there in
+      record {
+        stay = f.stay;
+        told = told_of core (w.nodes i).life core.installs (λ x h. h) (life_told group w nodes.ring i (nodes.ordered i)) f.stay f.older own;
+        ring = ap (λ (t : Stay A). t.ring) (sym f.stay_is);
+        heard = ap (λ (t : Stay A). t.heard) (sym f.stay_is);
+        mark = ap (λ (t : Stay A). t.mark) (sym f.stay_is);
+      }
 
   -- all that the node has of the ring's text, up to its front
   heard-to-front : (s : Stay A) (older : List (Stay A)) → IsStay life s older → s.heard ≡ users core s.ring 0 (front core s.ring)
   heard-to-front s older there =
-      let t = told s older there in
-      ap (λ (u : Stay A). u.heard) t.is ∙ ap (λ (r : RingId). users core r 0 (front core r)) (sym (ap (λ (u : Stay A). u.ring) t.is))
+      let o = own-stay s older there in
+      let t = o.told in
+      o.heard ∙ ap (λ (u : Stay A). u.heard) t.is
+      ∙ ap (λ (r : RingId). users core r 0 (front core r)) (sym (o.ring ∙ ap (λ (u : Stay A). u.ring) t.is))
 
   -- and of that what lies up to its safe mark
   safe-to-mark : (s : Stay A) (older : List (Stay A)) → IsStay life s older → safe_part s ≡ users core s.ring 0 (mark core s.ring)
   safe-to-mark s older there =
-      let t = told s older there in
+      let o = own-stay s older there in
+      let t = o.told in
       let ring = (t.at).ring in
       let part = ring_part w nodes.ring.outs in
       let within : mark core ring ≤ front core ring = mark_below core ring (nodes.cores.recovered.local i).fit in
-      ap (λ (u : Stay A). upto u.mark u.heard) t.is
+      ap (λ m. upto m s.heard) o.mark ∙ ap (upto o.stay.mark) o.heard
+      ∙ ap (λ (u : Stay A). upto u.mark u.heard) t.is
       ∙ safe_is part nodes.cores i ring
       ∙ sym (heard_is part nodes.cores.recovered i ring (mark core ring) within)
-      ∙ ap (λ (r : RingId). users core r 0 (mark core r)) (sym (ap (λ (u : Stay A). u.ring) t.is))
+      ∙ ap (λ (r : RingId). users core r 0 (mark core r)) (sym (o.ring ∙ ap (λ (u : Stay A). u.ring) t.is))
 
   -- The logs that the life tells are those of the rings
 
@@ -106,14 +127,50 @@ module _ {O A : Type 0} (object : Sequential O) (group : Group) (events : List (
 
   -- The log, and what is committed
 
-  own : (s : Stay A) (older : List (Stay A)) → IsStay life s older → IsStay (lives_of w i) s older
-  own s older there = subst (λ (l : List (Stay A)). IsStay l s older) (sym life-is) there
-
   rises : Rises life
-  rises = subst (λ (l : List (Stay A)). Rises l) life-is (facts.facts.rises i)
+  rises = facts.facts.rises i
 
-  group-is : (w.nodes i).group ≡ group
-  group-is = ((opened_on object group events).nodes i).kept.group_is
+  -- what snapshots stand for
+  to-restored : (ring : RingId) (calls : List (Call A)) → Restores group (lives_of w) facts.members facts.text facts.facts discipline i life ring calls
+      → HasRestored group w i ring calls
+  to-restored ring calls r =
+      let s = r.stay in
+      let here : exchanged group s.members (users core s.ring 0 (front core s.ring)) ≡ Some r.whole =
+      subst (λ (xs : List (Message A)). exchanged group s.members xs ≡ Some r.whole) (heard-to-front s r.older r.there) r.exch in
+      record {
+        at = record { stay = s; older = r.older; there = r.there; ring = r.ring_is };
+        whole = r.whole;
+        exch = subst (λ (q : RingId). exchanged group s.members (users core q 0 (front core q)) ≡ Some r.whole) r.ring_is here;
+        v = r.v;
+        wants = r.wants;
+        places = r.places;
+        snapshot = r.snapshot;
+        is = r.is ∙ discipline.fronts i s r.older r.whole r.v r.places r.there r.exch r.wants r.snapshot
+            ∙ ap (λ (q : RingId). take r.places (log_of group (older_at q.seq (lives_of w r.v.owner)))) r.ring_is;
+      }
+
+  from-restored : (ring : RingId) (calls : List (Call A)) → HasRestored group w i ring calls
+      → Restores group (lives_of w) facts.members facts.text facts.facts discipline i life ring calls
+  from-restored ring calls h =
+      let at = h.at in
+      let s = at.stay in
+      let there : exchanged group s.members s.heard ≡ Some h.whole =
+      subst (λ (xs : List (Message A)). exchanged group s.members xs ≡ Some h.whole) (sym (heard-to-front s at.older at.there))
+      (subst (λ (q : RingId). exchanged group s.members (users core q 0 (front core q)) ≡ Some h.whole) (sym at.ring) h.exch) in
+      record {
+        stay = s;
+        older = at.older;
+        there = at.there;
+        ring_is = at.ring;
+        whole = h.whole;
+        exch = there;
+        v = h.v;
+        wants = h.wants;
+        places = h.places;
+        snapshot = h.snapshot;
+        is = h.is ∙ ap (λ (q : RingId). take h.places (log_of group (older_at q.seq (lives_of w h.v.owner)))) (sym at.ring)
+            ∙ sym (discipline.fronts i s at.older h.whole h.v h.places at.there there h.wants h.snapshot);
+      }
 
   front-log : (ring : RingId) (its : List (Call A)) → HasFrontLog group w i ring its → TellsHere all_heard ring its
   front-log = from-ring all_heard (λ r. front core r) heard-to-front
@@ -121,30 +178,30 @@ module _ {O A : Type 0} (object : Sequential O) (group : Group) (events : List (
   safe-log : (ring : RingId) (its : List (Call A)) → HasSafeLog group w i ring its → TellsHere known_safe ring its
   safe-log = from-ring known_safe (λ r. mark core r) safe-to-mark
 
-  log-of : IsLogText group w i (log_of group life)
-  log-of = elim (log-told group (lives_of w) facts.members facts.text facts.facts discipline i life own rises) as (λ _. IsLogText group w i (log_of group life)) [
-    | inl n ↦ inl (record {
-      ring = n.ring;
-      is = to-ring all_heard (λ r. front core r) heard-to-front n.ring (log_of group life) n.is;
-      newest = λ other its h. n.newest other its (front-log other its h);
-    })
-    | inr none ↦ inr (λ other its h. none.0 other its (front-log other its h), none.1)
-  ]
+  pub log-text : IsLogText group w i (log_of group life)
+  log-text = elim (log-told group (lives_of w) facts.members facts.text facts.facts discipline i life (λ s older there. there) rises)
+      as (λ _. IsLogText group w i (log_of group life)) [
+        | inl n ↦ inl (record {
+          ring = n.ring;
+          is = to-ring all_heard (λ r. front core r) heard-to-front n.ring (log_of group life) n.is;
+          newest = λ other its h. n.newest other its (front-log other its h);
+        })
+        | inr none ↦ inr (λ other its h. none.0 other its (front-log other its h), none.1)
+      ]
 
-  committed-of : AreCommittedTexts group w i (committed_of group life)
-  committed-of =
-      let all = committed-told group (lives_of w) facts.members facts.text facts.facts discipline i life own in
+  pub committed-text : AreCommittedTexts group w i (committed_of group life)
+  committed-text =
+      let all = committed-told group (lives_of w) facts.members facts.text facts.facts discipline i life (λ s older there. there) in
       let calls = committed_of group life in
       record {
-        is = elim all.is as (λ _. (calls ≡ []) ⊎ ((ring : RingId) × HasSafeLog group w i ring calls)) [
-          | inl none ↦ inl none
-          | inr safe ↦ inr (safe.0, to-ring known_safe (λ r. mark core r) safe-to-mark safe.0 calls safe.1)
-        ];
+        is = elim all.is
+            as (λ _. (calls ≡ []) ⊎ (((ring : RingId) × HasSafeLog group w i ring calls) ⊎ ((ring : RingId) × HasRestored group w i ring calls))) [
+              | inl none ↦ inl none
+              | inr some ↦ inr (elim some as (λ _. ((ring : RingId) × HasSafeLog group w i ring calls) ⊎ ((ring : RingId) × HasRestored group w i ring calls)) [
+                | inl safe ↦ inl (safe.0, to-ring known_safe (λ r. mark core r) safe-to-mark safe.0 calls safe.1)
+                | inr snap ↦ inr (snap.0, to-restored snap.0 calls snap.1)
+              ])
+            ];
         longest = λ ring its h. all.longest ring its (safe-log ring its h);
+        restored = λ ring its h. all.restored ring its (from-restored ring its h);
       }
-
-  pub log-text : IsLogText group w i (node_log (w.nodes i))
-  log-text = subst (λ (g : Group). IsLogText group w i (log_of g life)) (sym group-is) log-of
-
-  pub committed-text : AreCommittedTexts group w i (node_committed (w.nodes i))
-  committed-text = subst (λ (g : Group). AreCommittedTexts group w i (committed_of g life)) (sym group-is) committed-of

@@ -9,12 +9,13 @@ use Rattle.ring_base.specs.Group.{Group}
 use Rattle.ring_base.specs.declared.ring_id.RingId.{RingId}
 use Rattle.ring_payload.specs.declared.call.Call.{Call}
 use Rattle.ring_wire.specs.declared.message.Message.{Message}
+use Rattle.ring_log.specs.declared.wanted.Wanted.{Wanted}
+use Rattle.ring_log.specs.Exchanges.{wanted}
 use Rattle.ring_log.specs.Stays.{Stay}
-use Rattle.ring_log.specs.Lives.{Whole, exchanged, calls_in, own_base, log_by, log_of, longer, committed_by, committed_of, base_of, ring_log_by, ring_log}
+use Rattle.ring_log.specs.Lives.{Whole, exchanged, calls_in, own_base, log_by, log_of, longer, committed_by, restored_by, places_below, front_on, committed_of, base_of, ring_log_by, ring_log}
 use Rattle.ring_log_proof.specs.RingFacts.{IsStay, StayIn, Rises, safe_part, RingFacts}
-use Rattle.ring_log_proof.specs.Discipline.{KeepsDiscipline}
-use Rattle.ring_log_proof.proofs.Wholes.{grown, exchanged-front, log_on}
-use Rattle.ring_log_proof.proofs.Committed.{upto-front}
+use Rattle.ring_log_proof.specs.Discipline.{KeepsRules}
+use Rattle.ring_log_proof.proofs.Wholes.{grown, exchanged-front, log_on, upto-front}
 use Rattle.ring_log_proof.proofs.Moment.{adopted-base}
 
 -- what holds of each stay of a life holds of one
@@ -35,7 +36,7 @@ abbrev pub known_safe : {A : Type 0} → Part A
 known_safe = record { of = safe_part; front = λ s. upto-front s.mark s.heard }
 
 module _ {A : Type 0} (group : Group) (lives : ℕ → List (Stay A)) (members : RingId → ℕ) (text : RingId → List (Message A))
-    (facts : RingFacts lives members text) (disc : KeepsDiscipline group lives) (p : ℕ) where
+    (facts : RingFacts lives members text) (disc : KeepsRules group lives) (p : ℕ) where
   -- The logs of one stay
 
   -- what the node makes of what it heard there is the ring's log
@@ -171,51 +172,219 @@ module _ {A : Type 0} (group : Group) (lives : ℕ → List (Stay A)) (members :
 
   -- What a life committed
 
-  pub record AreLongest (life : List (Stay A)) (calls : List (Call A)) : Type 0 where
-    pub is : (calls ≡ []) ⊎ ((ring : RingId) × Tells known_safe life ring calls)
-    pub longest : (ring : RingId) (its : List (Call A)) → Tells known_safe life ring its → length its ≤ length calls
+  -- what a snapshot stands for that was sent in a ring of the life
+  pub record Restores (life : List (Stay A)) (ring : RingId) (calls : List (Call A)) : Type 0 where
+    pub stay : Stay A
+    pub older : List (Stay A)
+    pub there : IsStay life stay older
+    pub ring_is : stay.ring ≡ ring
+    pub whole : Whole A
+    pub exch : exchanged group stay.members stay.heard ≡ Some whole
+    pub v : Wanted
+    pub wants : wanted whole.exchange ≡ Some v
+    pub places : ℕ
+    pub snapshot : v.snapshot ≡ Some places
+    pub is : calls ≡ stay.front
 
-  -- what was the longest before still is
-  same-longest : (s : Stay A) (older : List (Stay A)) (calls : List (Call A)) → AreLongest older calls
-      → ((ring : RingId) (its : List (Call A)) → Tells known_safe (s ∷ older) ring its → length its ≤ length calls)
-      → AreLongest (s ∷ older) calls
-  same-longest s older calls before longest = record {
-    is = elim before.is as (λ _. (calls ≡ []) ⊎ ((ring : RingId) × Tells known_safe (s ∷ older) ring calls)) [
-      | inl none ↦ inl none
-      | inr told ↦ inr (told.0, more known_safe s older told.0 calls told.1)
-    ];
-    longest = longest;
+  -- a life's older stays are its own
+  restores-more : (s : Stay A) (older : List (Stay A)) (ring : RingId) (calls : List (Call A)) → Restores older ring calls → Restores (s ∷ older) ring calls
+  restores-more s older ring calls r = record {
+    stay = r.stay;
+    older = r.older;
+    there = inr r.there;
+    ring_is = r.ring_is;
+    whole = r.whole;
+    exch = r.exch;
+    v = r.v;
+    wants = r.wants;
+    places = r.places;
+    snapshot = r.snapshot;
+    is = r.is;
   }
 
-  committed-step : (s : Stay A) (older : List (Stay A)) → IsStay (lives p) s older → AreLongest older (committed_of group older)
-      → (o : Option (Whole A)) → exchanged group s.members (safe_part s) ≡ o → AreLongest (s ∷ older) (committed_of group (s ∷ older))
-  committed-step s older there before None e =
-      let old = committed_of group older in
-      let same : committed_of group (s ∷ older) ≡ old = ap (committed_by (log_of group older) s.front old) e in
-      subst (λ (l : List (Call A)). AreLongest (s ∷ older) l) (sym same)
-      (same-longest s older old before (λ ring its t. before.longest ring its (older-tells known_safe s older e ring its t)))
-  committed-step s older there before (Some w) e =
-      let old = committed_of group older in
-      let new = log_on (own_base (log_of group older) s.front) w in
-      let same : committed_of group (s ∷ older) ≡ longer old new = ap (committed_by (log_of group older) s.front old) e in
-      let its-length : (ring : RingId) (its : List (Call A)) → IsFirst known_safe s older ring its → length its ≡ length new =
-      λ ring its first. ap (λ (l : List (Call A)). length l) (first-is known_safe s older there w e ring its first) in
-      subst (λ (l : List (Call A)). AreLongest (s ∷ older) l) (sym same)
-      (cond_both (nat_lt (length old) (length new)) new old (λ (l : List (Call A)). AreLongest (s ∷ older) l)
-      (λ t. record {
-        is = inr (s.ring, newest-tells known_safe s older there w e);
-        longest = λ ring its told. elim (first-or-older known_safe s older ring its told) [
-          | inl first ↦ omega (arith, its-length ring its first)
-          | inr before_it ↦ omega (arith, before.longest ring its before_it, ltb-true (length old) (length new) t)
-        ];
+  -- what the newest stay has of it, where its exchange asks for this
+  record IsSent (s : Stay A) (calls : List (Call A)) : Type 0 where
+    pub whole : Whole A
+    pub exch : exchanged group s.members s.heard ≡ Some whole
+    pub v : Wanted
+    pub wants : wanted whole.exchange ≡ Some v
+    pub places : ℕ
+    pub snapshot : v.snapshot ≡ Some places
+    pub is : calls ≡ s.front
+
+  sent-or-older : (s : Stay A) (older : List (Stay A)) (ring : RingId) (calls : List (Call A)) → Restores (s ∷ older) ring calls
+      → IsSent s calls ⊎ Restores older ring calls
+  sent-or-older s older ring calls r = by r.there
+    where
+      by : IsStay (s ∷ older) r.stay r.older → IsSent s calls ⊎ Restores older ring calls
+      by (inl same) =
+          let back = sym same.0 in
+          inl (record {
+            whole = r.whole;
+            exch = subst (λ (t : Stay A). exchanged group t.members t.heard ≡ Some r.whole) back r.exch;
+            v = r.v;
+            wants = r.wants;
+            places = r.places;
+            snapshot = r.snapshot;
+            is = subst (λ (t : Stay A). calls ≡ t.front) back r.is;
+          })
+      by (inr there) = inr (record {
+        stay = r.stay;
+        older = r.older;
+        there = there;
+        ring_is = r.ring_is;
+        whole = r.whole;
+        exch = r.exch;
+        v = r.v;
+        wants = r.wants;
+        places = r.places;
+        snapshot = r.snapshot;
+        is = r.is;
       })
-      (λ f. same-longest s older old before (λ ring its told. elim (first-or-older known_safe s older ring its told) [
-        | inl first ↦ omega (arith, its-length ring its first, ltb-false (length old) (length new) f)
-        | inr before_it ↦ before.longest ring its before_it
-      ])))
+
+  -- these calls are the longest of two kinds of lists, or nothing
+  pub record AreMost (Safe Snap : RingId → List (Call A) → Type 0) (calls : List (Call A)) : Type 0 where
+    pub is : (calls ≡ []) ⊎ (((ring : RingId) × Safe ring calls) ⊎ ((ring : RingId) × Snap ring calls))
+    pub longest : (ring : RingId) (its : List (Call A)) → Safe ring its → length its ≤ length calls
+    pub restored : (ring : RingId) (its : List (Call A)) → Snap ring its → length its ≤ length calls
+
+  abbrev pub AreLongest : List (Stay A) → List (Call A) → Type 0
+  AreLongest life calls = AreMost (Tells known_safe life) (Restores life) calls
+
+  module _ (Safe Snap Safer Snaps : RingId → List (Call A) → Type 0) (old : List (Call A)) (before : AreMost Safe Snap old)
+      (safe-on : (ring : RingId) (its : List (Call A)) → Safe ring its → Safer ring its)
+      (snap-on : (ring : RingId) (its : List (Call A)) → Snap ring its → Snaps ring its) where
+    still : (old ≡ []) ⊎ (((ring : RingId) × Safer ring old) ⊎ ((ring : RingId) × Snaps ring old))
+    still = elim before.is as (λ _. (old ≡ []) ⊎ (((ring : RingId) × Safer ring old) ⊎ ((ring : RingId) × Snaps ring old))) [
+      | inl none ↦ inl none
+      | inr some ↦ inr (elim some as (λ _. ((ring : RingId) × Safer ring old) ⊎ ((ring : RingId) × Snaps ring old)) [
+        | inl safe ↦ inl (safe.0, safe-on safe.0 old safe.1)
+        | inr snap ↦ inr (snap.0, snap-on snap.0 old snap.1)
+      ])
+    ]
+
+    -- where no list is new
+    most-same : ((ring : RingId) (its : List (Call A)) → Safer ring its → Safe ring its) → ((ring : RingId) (its : List (Call A)) → Snaps ring its → Snap ring its)
+        → AreMost Safer Snaps old
+    most-same safe-back snap-back = record {
+      is = still;
+      longest = λ ring its t. before.longest ring its (safe-back ring its t);
+      restored = λ ring its t. before.restored ring its (snap-back ring its t);
+    }
+
+    -- where each new one is as long as this one
+    most-longer : (new : List (Call A)) → ((ring : RingId) × Safer ring new) ⊎ ((ring : RingId) × Snaps ring new)
+        → ((ring : RingId) (its : List (Call A)) → Safer ring its → (length its ≡ length new) ⊎ Safe ring its)
+        → ((ring : RingId) (its : List (Call A)) → Snaps ring its → (length its ≡ length new) ⊎ Snap ring its) → AreMost Safer Snaps (longer old new)
+    most-longer new is-new safe-back snap-back =
+        cond_both (nat_lt (length old) (length new)) new old (AreMost Safer Snaps)
+        (λ t.
+        let lt = ltb-true (length old) (length new) t in
+        record {
+          is = inr is-new;
+          longest = λ ring its s. elim (safe-back ring its s) as (λ _. length its ≤ length new)
+              [ inl e ↦ omega (arith, e) | inr b ↦ omega (arith, lt, before.longest ring its b) ];
+          restored = λ ring its s. elim (snap-back ring its s) as (λ _. length its ≤ length new)
+              [ inl e ↦ omega (arith, e) | inr b ↦ omega (arith, lt, before.restored ring its b) ];
+        })
+        (λ f.
+        let le = ltb-false (length old) (length new) f in
+        record {
+          is = still;
+          longest = λ ring its s. elim (safe-back ring its s) as (λ _. length its ≤ length old)
+              [ inl e ↦ omega (arith, e, le) | inr b ↦ before.longest ring its b ];
+          restored = λ ring its s. elim (snap-back ring its s) as (λ _. length its ≤ length old)
+              [ inl e ↦ omega (arith, e, le) | inr b ↦ before.restored ring its b ];
+        })
+
+  longer-none : (old : List (Call A)) → longer old [] ≡ old
+  longer-none old = cond_both (nat_lt (length old) 0) [] old (λ (l : List (Call A)). l ≡ old)
+      (λ t. let lt = ltb-true (length old) 0 t in absurd (omega (arith, lt))) (λ f. refl)
+
+  -- with what the snapshot stands for that was sent in the newest ring
+  restored-step : (s : Stay A) (older : List (Stay A)) → AreLongest older (committed_of group older) → (o : Option (Whole A))
+      → exchanged group s.members s.heard ≡ o
+      → AreMost (Tells known_safe older) (Restores (s ∷ older)) (restored_by s.front (committed_of group older) o)
+  restored-step s older before None e =
+      most-same (Tells known_safe older) (Restores older) (Tells known_safe older) (Restores (s ∷ older)) (committed_of group older) before
+      (λ ring its t. t) (restores-more s older) (λ ring its t. t)
+      (λ ring its r. elim (sent-or-older s older ring its r) as (λ _. Restores older ring its) [
+        | inl sent ↦ let none : None ≡ Some sent.whole = sym e ∙ sent.exch in absurd (cc none)
+        | inr old ↦ old
+      ])
+  restored-step s older before (Some w) e = by (wanted w.exchange) refl
+    where
+      old : List (Call A)
+      old = committed_of group older
+
+      same-whole : (sent : Whole A) → exchanged group s.members s.heard ≡ Some sent → w ≡ sent
+      same-whole sent f = let same : Some w ≡ Some sent = sym e ∙ f in cc same
+
+      plain : ((its : List (Call A)) → IsSent s its → ⊥) → AreMost (Tells known_safe older) (Restores (s ∷ older)) (longer old [])
+      plain never =
+          subst (AreMost (Tells known_safe older) (Restores (s ∷ older))) (sym (longer-none old))
+          (most-same (Tells known_safe older) (Restores older) (Tells known_safe older) (Restores (s ∷ older)) old before (λ ring its t. t)
+          (restores-more s older) (λ ring its t. t)
+          (λ ring its r. elim (sent-or-older s older ring its r) as (λ _. Restores older ring its)
+          [ inl sent ↦ absurd (never its sent) | inr is ↦ is ]))
+
+      by-snapshot : (v : Wanted) → wanted w.exchange ≡ Some v → (o : Option ℕ) → v.snapshot ≡ o
+          → AreMost (Tells known_safe older) (Restores (s ∷ older)) (longer old (places_below [] s.front 0 o))
+      by-snapshot v wants None snap = plain (λ its sent.
+          let same = same-whole sent.whole sent.exch in
+          let is : Some v ≡ Some sent.v = sym wants ∙ ap (λ (x : Whole A). wanted x.exchange) same ∙ sent.wants in
+          let both : v ≡ sent.v = cc is in
+          let none : None ≡ Some sent.places = sym snap ∙ ap (λ (x : Wanted). x.snapshot) both ∙ sent.snapshot in
+          absurd (cc none))
+      by-snapshot v wants (Some at) snap =
+          most-longer (Tells known_safe older) (Restores older) (Tells known_safe older) (Restores (s ∷ older)) old before (λ ring its t. t)
+          (restores-more s older) s.front
+          (inr (
+            s.ring,
+            record {
+              stay = s;
+              older = older;
+              there = inl (refl, refl);
+              ring_is = refl;
+              whole = w;
+              exch = e;
+              v = v;
+              wants = wants;
+              places = at;
+              snapshot = snap;
+              is = refl;
+            },
+          ))
+          (λ ring its t. inr t)
+          (λ ring its r. elim (sent-or-older s older ring its r) as (λ _. (length its ≡ length s.front) ⊎ Restores older ring its)
+          [ inl sent ↦ inl (ap length sent.is) | inr is ↦ inr is ])
+
+      by : (o : Option Wanted) → wanted w.exchange ≡ o → AreMost (Tells known_safe older) (Restores (s ∷ older)) (longer old (front_on s.front o))
+      by None wants = plain (λ its sent.
+          let same = same-whole sent.whole sent.exch in
+          let none : None ≡ Some sent.v = sym wants ∙ ap (λ (x : Whole A). wanted x.exchange) same ∙ sent.wants in
+          absurd (cc none))
+      by (Some v) wants = by-snapshot v wants v.snapshot refl
+
+  committed-step : (s : Stay A) (older : List (Stay A)) → IsStay (lives p) s older → (old : List (Call A))
+      → AreMost (Tells known_safe older) (Restores (s ∷ older)) old
+      → (o : Option (Whole A)) → exchanged group s.members (safe_part s) ≡ o → AreLongest (s ∷ older) (committed_by (log_of group older) s.front old o)
+  committed-step s older there old before None e =
+      most-same (Tells known_safe older) (Restores (s ∷ older)) (Tells known_safe (s ∷ older)) (Restores (s ∷ older)) old before (more known_safe s older)
+      (λ ring its t. t) (older-tells known_safe s older e) (λ ring its t. t)
+  committed-step s older there old before (Some w) e =
+      let new = log_on (own_base (log_of group older) s.front) w in
+      most-longer (Tells known_safe older) (Restores (s ∷ older)) (Tells known_safe (s ∷ older)) (Restores (s ∷ older)) old before (more known_safe s older)
+      (λ ring its t. t) new (inl (s.ring, newest-tells known_safe s older there w e))
+      (λ ring its told. elim (first-or-older known_safe s older ring its told) as (λ _. (length its ≡ length new) ⊎ Tells known_safe older ring its) [
+        | inl first ↦ inl (ap (λ (l : List (Call A)). length l) (first-is known_safe s older there w e ring its first))
+        | inr before_it ↦ inr before_it
+      ])
+      (λ ring its t. inr t)
 
   pub committed-told : (life : List (Stay A)) → IsOfNode life → AreLongest life (committed_of group life)
-  committed-told [] own = record { is = inl refl; longest = λ ring its t. absurd t.there }
+  committed-told [] own = record { is = inl refl; longest = λ ring its t. absurd t.there; restored = λ ring its t. absurd t.there }
   committed-told (s ∷ older) own =
       let before = committed-told older (λ t o there. own t o (inr there)) in
-      committed-step s older (own s older (inl (refl, refl))) before (exchanged group s.members (safe_part s)) refl
+      committed-step s older (own s older (inl (refl, refl))) (restored_by s.front (committed_of group older) (exchanged group s.members s.heard))
+      (restored-step s older before (exchanged group s.members s.heard) refl) (exchanged group s.members (safe_part s)) refl

@@ -1,9 +1,11 @@
 -- A node's step and submit, by its core and its replica.
-use Rattle.std.proofs.Common.{◌≡◌, ℕ, inl, inr, nat_le, Result, Ok, Err, IfErr, if◌then◌else◌, Bool, true, false}
-use Rattle.std.proofs.Common.{List, [], ◌∷◌, ◌++◌, length, drop, Option, Some, None, refl, ap, sym, ◌∙◌, subst, append-nil}
-use Rattle.std.proofs.lemmas.Bool.{cases_Bool, cond-true}
+use Rattle.std.proofs.Common.{◌≡◌, ℕ, inl, inr, nat_le, Result, Ok, Err, IfErr, if◌then◌else◌, Bool, true, false, ◌&&◌}
+use Rattle.std.proofs.Common.{List, [], ◌∷◌, ◌++◌, length, Option, Some, None, refl, ap, sym, ◌∙◌, subst, append-nil}
+use Rattle.std.specs.Prelude.{nat_lt}
+use Rattle.std.proofs.lemmas.Bool.{cases_Bool, cond-true, cond-false}
 use Rattle.ring_base.specs.Numbers.{max_number}
 use Rattle.ring_base.specs.declared.fault.Fault.TheVariants.{PendingFull, Stopped as StoppedFault}
+use Rattle.ring_base.specs.Group.{Group}
 use Rattle.ring_base.specs.declared.ring_id.RingId.{RingId}
 use Rattle.ring_commit.specs.declared.configuration.Configuration.{Configuration}
 use Rattle.ring_object.specs.Operations.{Sequential}
@@ -14,22 +16,24 @@ use Rattle.ring_core.specs.declared.input.Input.TheVariants.{Send as SendInput}
 use Rattle.ring_core.specs.declared.out.Out.{Out}
 use Rattle.ring_core.specs.State.{Core, halted}
 use Rattle.ring_core.specs.Stepping.{ring_step}
-use Rattle.ring_log.specs.Stays.{Stay}
-use Rattle.ring_log.specs.Lives.{is_sound}
+use Rattle.ring_log.specs.Stays.{Stay, hands, trims}
+use Rattle.ring_log.specs.Kept.{Kept, kept_of, is_kept_sound}
+use Rattle.ring_log.proofs.CommittedOf.{hands-kept}
 use Rattle.ring_session.specs.declared.answered.Answered.{Answered}
 use Rattle.ring_session.specs.Tickets.{unanswered}
 use Rattle.ring_rules.specs.Lives.{lived_through}
-use Rattle.ring_rules.specs.Nodes.{Node, node_pending, node_stopped, is_stopped}
-use Rattle.ring_rules.specs.Stepping.{NodeStepped, handed_over, after_core, submit_fault}
-use Rattle.ring_replica.specs.Courses.{handed_if, dues_by}
-use Rattle.ring_replica.specs.Replicas.{Replica, ReplicaStepped, replica_committed, replica_more, replica_stopped, replica_done, replica_ended}
+use Rattle.ring_rules.specs.Nodes.{Node, node_kept, node_pending, node_stopped, is_stopped, is_closed, is_restored}
+use Rattle.ring_rules.specs.Stepping.{NodeStepped, handed_over, drops, after_core, submit_fault}
+use Rattle.ring_replica.specs.Courses.{handed_if, dues_by, rises, IsSteady}
+use Rattle.ring_replica.specs.Replicas.{Replica, ReplicaStepped, replica_stopped, replica_done, replica_ended, node_by}
 use Rattle.ring_replica.specs.Replicas.{replica_settled, replica_step, replica_of, running_of, moment_of, node_unless}
-use Rattle.ring_replica.specs.Replicas.{submit_refusal, has_adopted_running, replica_given}
+use Rattle.ring_replica.specs.Replicas.{submit_refusal, has_adopted_running, replica_given, restored_since}
 use Rattle.ring_replica.proofs.Nodes.{step-is, refused-is}
+use Rattle.ring_replica.proofs.Messages.{never-less}
 use Rattle.ring_replica.specs.Marks.{IsMarked}
-use Rattle.ring_replica.proofs.StayMarks.{marked_step, marked_handed, me_step, me_handed, going_step, going_handed}
-use Rattle.ring_log.proofs.CommittedOf.{hands-committed}
+use Rattle.ring_replica.proofs.StayMarks.{rises_step, marked_step, marked_handed, me_step, me_handed, going_step, going_handed}
 use Rattle.ring_node.specs.Kept.{followed_by, core_told, told_node, Runs, IsNode, stepped_by}
+use Rattle.ring_node.specs.Restores.{node_restored}
 
 -- Handing over one payload more
 
@@ -40,21 +44,18 @@ handed-next c (q ∷ ps) p = handed-next (ring_step c (SendInput q)).core ps p
 
 -- What the replica's step is, whether it stopped or not
 
-module _ {O A : Type 0} (object : Sequential O) (r : Replica A) (outs : List (Out A)) (life : List (Stay A)) (due : List (Payload A)) where
+module _ {O A : Type 0} (object : Sequential O) (r : Replica A) (outs : List (Out A)) (life : List (Stay A)) (due : List (Payload A)) (kept : Kept A) where
   abbrev made : Bool → ReplicaStepped A
-  made b = replica_settled object b r outs life due
+  made b = replica_settled object b r outs life due kept
 
-  -- what it did is what it committed
-  ends-by : (b : Bool) → (made b).replica.stopped ≡ false → replica_more (made b).replica (made b).replica.ahead ≡ (made b).committed
-  ends-by false s = absurd (cc s)
-  ends-by true s = ap (drop (length (replica_committed r))) (hands-committed r.group due life)
-
-  -- where it stopped, that it ends the step changes nothing
-  stopped-by : (b : Bool) → r.stopped ≡ false → (made b).replica.stopped ≡ true → (made b).replica ≡ replica_ended (made b)
-  stopped-by false s t =
-      let of : List (OneCall A) → List (Answered A) → Replica A = λ x y. record r { ahead = r.life; done = x; answers = y; stopped = true } in
+  -- ended, unless it stopped, it is what ends the step
+  ended-by : (b : Bool) → r.stopped ≡ false
+      → (if (made b).replica.stopped then (made b).replica else replica_done (made b).replica (made b).answers) ≡ replica_ended (made b)
+  ended-by false s =
+      let of : List (OneCall A) → List (Answered A)
+      → Replica A = λ x y. record r { ahead = r.life; done = x; answers = y; doing = []; leaving = []; stopped = true } in
       ap (λ x. of x r.answers) (sym (append-nil r.done)) ∙ ap (of (r.done ++ [])) (sym (append-nil r.answers))
-  stopped-by true s t = absurd (let x = sym s ∙ t in cc x)
+  ended-by true s = cond-false r.stopped (made true).replica (replica_done (made true).replica (made true).answers) s
 
   -- and stopped, it is what it was
   left-by : (b : Bool) → replica_stopped (made b).replica ≡ replica_stopped r
@@ -65,27 +66,25 @@ module _ {O A : Type 0} (object : Sequential O) (running : Option RingId) (r : R
   abbrev step : ReplicaStepped A
   step = replica_step object running r outs
 
+  abbrev kept_now : Kept A
+  kept_now = kept_of r.group (lived_through r.life outs)
+
   abbrev is : Bool
-  is = is_sound r.group (lived_through r.life outs)
+  is = is_kept_sound r.group (lived_through r.life outs) && is_restored object kept_now
 
   abbrev due_now : List (Payload A)
-  due_now = dues_by (moment_of running r) r.life outs
+  due_now = dues_by (moment_of object running r) r.life outs
 
   -- it ends the step with the answers that it gave
-  pub ends-as : (new : Replica A) (answers : List (Answered A)) → new ≡ step.replica → answers ≡ step.answers → new.stopped ≡ false →
-      replica_done new (replica_more new new.ahead) answers ≡ replica_ended step
-  ends-as new answers e a h =
-      ap (λ (x : Replica A). replica_done x (replica_more x x.ahead) answers) e
-      ∙ ap (replica_done step.replica (replica_more step.replica step.replica.ahead)) a
-      ∙ ap (λ l. replica_done step.replica l step.answers)
-      (ends-by object r outs (lived_through r.life outs) due_now is (ap (λ (x : Replica A). x.stopped) (sym e) ∙ h))
-
-  -- ended or stopped, it is what ends the step
-  pub stopped-as : (new : Replica A) → r.stopped ≡ false → new ≡ step.replica → new.stopped ≡ true → new ≡ replica_ended step
-  stopped-as new s e h = e ∙ stopped-by object r outs (lived_through r.life outs) due_now is s (ap (λ (x : Replica A). x.stopped) (sym e) ∙ h)
+  pub ended-as : (new : Replica A) (answers : List (Answered A)) → r.stopped ≡ false → new ≡ step.replica → answers ≡ step.answers →
+      (if new.stopped then new else replica_done new answers) ≡ replica_ended step
+  ended-as new answers s e a =
+      ap (λ (x : Replica A). if x.stopped then x else replica_done x answers) e
+      ∙ ap (λ l. if step.replica.stopped then step.replica else replica_done step.replica l) a
+      ∙ ended-by object r outs (lived_through r.life outs) due_now kept_now is s
 
   pub left-as : (new : Replica A) → new ≡ step.replica → replica_stopped new ≡ replica_stopped r
-  left-as new e = ap replica_stopped e ∙ left-by object r outs (lived_through r.life outs) due_now is
+  left-as new e = ap replica_stopped e ∙ left-by object r outs (lived_through r.life outs) due_now kept_now is
 
 -- What follows a step's outputs is what the step makes
 module _ {O A : Type 0} (object : Sequential O) (core new : Core A) (r : Replica A) (input : Input A) (outs : List (Out A)) where
@@ -105,9 +104,12 @@ pub same-replica : {A : Type 0} → (core : Core A) (r : Replica A) (ended : Cor
 same-replica {A} core r ended s k =
     let of_me : ℕ → Replica A = λ x. record r { me = x } in
     let of_ahead : List (Stay A) → Replica A = λ x. record r { me = core.me; ahead = x } in
-    let of_stopped : Bool → Replica A = λ x. record r { me = core.me; ahead = r.life; stopped = x } in
-    let of_core : Core A → Replica A = λ x. record r { me = x.me; ahead = r.life; stopped = false } in
-    ap of_me k.me ∙ ap of_ahead k.done ∙ ap of_stopped s ∙ ap of_core (sym (ap (λ b. core_told b core ended) s))
+    let of_doing : List (OneCall A) → Replica A = λ x. record r { me = core.me; ahead = r.life; doing = x } in
+    let of_leaving : List (OneCall A) → Replica A = λ x. record r { me = core.me; ahead = r.life; doing = []; leaving = x } in
+    let of_stopped : Bool → Replica A = λ x. record r { me = core.me; ahead = r.life; doing = []; leaving = []; stopped = x } in
+    let of_core : Core A → Replica A = λ x. record r { me = x.me; ahead = r.life; doing = []; leaving = []; stopped = false } in
+    ap of_me k.me ∙ ap of_ahead k.done.life ∙ ap of_doing k.done.doing ∙ ap of_leaving k.done.leaving ∙ ap of_stopped s
+    ∙ ap of_core (sym (ap (λ b. core_told b core ended) s))
 
 pub told-core : {A : Type 0} → (core : Core A) (r : Replica A) (ended : Core A) → r.stopped ≡ false → (told_node core r ended).core ≡ core
 told-core core r ended s = ap (λ b. core_told b core ended) s
@@ -125,9 +127,32 @@ stops-told core r ended s = ap (λ b. is_stopped (core_told b core ended).state)
 
 -- A step
 
-module _ {O A : Type 0} (object : Sequential O) (n : Node A) (core : Core A) (outs : List (Out A)) (life : List (Stay A)) (due : List (Payload A)) where
+-- what is dropped at the end of a step leaves its mark
+marked-ended : {A : Type 0} → (core : Core A) (b : Bool) (places : ℕ) (life : List (Stay A)) → IsMarked core life
+    → IsMarked core (if b then trims places life else life)
+marked-ended {A} core true places life m =
+    let trimmed : Stay A = record m.stay { trimmed = places } in
+    record { stay = trimmed; older = m.older; parts = ap (trims places) m.parts; ring = m.ring; marked = m.marked; ready = m.ready }
+marked-ended core false places life m = m
+
+-- what was restored doesn't hang on what is handed over and dropped
+from-trims : {A : Type 0} (group : Group) (places : ℕ) (life : List (Stay A)) → (kept_of group (trims places life)).from ≡ (kept_of group life).from
+from-trims group places [] = refl
+from-trims group places (s ∷ older) = refl
+
+from-ended : {A : Type 0} (group : Group) (b : Bool) (places : ℕ) (life : List (Stay A)) (due : List (Payload A))
+    → (kept_of group (if b then trims places (hands due life) else hands due life)).from ≡ (kept_of group life).from
+from-ended group true places life due =
+    from-trims group places (hands due life) ∙ ap (λ (k : Kept _). k.from) (hands-kept group due life)
+from-ended group false places life due = ap (λ (k : Kept _). k.from) (hands-kept group due life)
+
+pub none-restored : {A : Type 0} → (k : Kept A) → None ≡ restored_since k k
+none-restored k = sym (cond-false (nat_lt k.from k.from) (Some k.from) None (never-less k.from))
+
+module _ {O A : Type 0} (object : Sequential O) (n : Node A) (core : Core A) (outs : List (Out A)) (life : List (Stay A)) (due : List (Payload A))
+    (kept : Kept A) where
   abbrev made_of : Bool → ReplicaStepped A
-  made_of b = replica_settled object b (replica_of n) outs life due
+  made_of b = replica_settled object b (replica_of n) outs life due kept
 
   abbrev gives : Bool → NodeStepped A
   gives b = node_unless (made_of b).replica.stopped n core (made_of b)
@@ -146,15 +171,31 @@ module _ {O A : Type 0} (object : Sequential O) (n : Node A) (core : Core A) (ou
   answers-by false = refl
   answers-by true = refl
 
-  committed-by : (b : Bool) → (made_of b).committed ≡ (gives b).committed
+  committed-by : (b : Bool) → (made_of b).replica.doing ≡ (gives b).committed
   committed-by false = refl
   committed-by true = refl
+
+  dropped-by : (b : Bool) → (made_of b).replica.leaving ≡ (gives b).dropped
+  dropped-by false = refl
+  dropped-by true = refl
+
+  restored-by : (b : Bool) → kept ≡ kept_of n.group life → (made_of b).restored ≡ node_restored n (gives b).node
+  restored-by false is = none-restored (node_kept n)
+  restored-by true is =
+      ap (λ x. if nat_lt (node_kept n).from x then Some x else None) (ap (λ (k : Kept A). k.from) is
+      ∙ sym (from-ended n.group (drops object (is_closed n.group (hands due life)) kept) kept.committed life due))
 
   runs-by : (b : Bool) → IsMarked core life → is_stopped core.state ≡ false → n.core.me ≡ core.me → (replica_ended (made_of b)).stopped ≡ false →
       Runs (handed_over core (made_of b).due) (replica_ended (made_of b))
   runs-by false m g e s = absurd (cc s)
   runs-by true m g e s =
-      record { done = refl; me = e ∙ sym (me_handed core due); going = going_handed core due g; marked = marked_handed core life due m }
+      record {
+        done = record { life = refl; doing = refl; leaving = refl };
+        me = e ∙ sym (me_handed core due);
+        going = going_handed core due g;
+        marked = marked-ended (handed_over core due) (drops object (is_closed n.group (hands due life)) kept) kept.committed (hands due life)
+            (marked_handed core life due m);
+      }
 
 module _ {O A : Type 0} (object : Sequential O) (core : Core A) (r : Replica A) (ended : Core A) (input : Input A)
     (halts : r.stopped ≡ false) (k : Runs core r) where
@@ -176,51 +217,70 @@ module _ {O A : Type 0} (object : Sequential O) (core : Core A) (r : Replica A) 
   lives = lived_through n.life out
 
   abbrev dues : List (Payload A)
-  dues = dues_by (moment_of (running_of (ring_step n.core input).core) (replica_of n)) n.life out
+  dues = dues_by (moment_of object (running_of (ring_step n.core input).core) (replica_of n)) n.life out
+
+  abbrev known : Kept A
+  known = kept_of n.group lives
 
   abbrev sound : Bool
-  sound = is_sound n.group lives
+  sound = is_kept_sound n.group lives && is_restored object known
 
-  pub sends-are : (stepped_by object core r input).sends ≡ after.sends
-  sends-are =
-      by-replica (λ x c. (stepped_by object c x input).sends ≡ after.sends)
-      (sends-by object n (ring_step n.core input).core out lives dues sound ∙ ap (λ (x : NodeStepped A). x.sends)
-      (sym (step-is object n (ring_step n.core input))))
-
-  pub answers-are : (stepped_by object core r input).answers ≡ after.answers
-  answers-are =
-      by-replica (λ x c. (stepped_by object c x input).answers ≡ after.answers)
-      (answers-by object n (ring_step n.core input).core out lives dues sound ∙ ap (λ (x : NodeStepped A). x.answers)
-      (sym (step-is object n (ring_step n.core input))))
-
-  pub committed-are : (stepped_by object core r input).committed ≡ after.committed
-  committed-are =
-      by-replica (λ x c. (stepped_by object c x input).committed ≡ after.committed)
-      (committed-by object n (ring_step n.core input).core out lives dues sound
-      ∙ ap (λ (x : NodeStepped A). x.committed) (sym (step-is object n (ring_step n.core input))))
-
-  pub node-is : told_node (handed_over (ring_step core input).core (stepped_by object core r input).due)
-      (replica_ended (stepped_by object core r input)) core ≡ after.node
-  node-is =
-      by-replica (λ x c. told_node (handed_over (ring_step c input).core (stepped_by object c x input).due)
-      (replica_ended (stepped_by object c x input)) c ≡ after.node)
-      (node-by object n (ring_step n.core input).core out lives dues sound ∙ ap (λ (x : NodeStepped A). x.node)
-      (sym (step-is object n (ring_step n.core input))))
+  rises-here : rises n.life out ≡ true
+  rises-here =
+      subst (λ (c : Core A). rises r.life (ring_step c input).outs ≡ true) (sym (told-core core r ended halts)) (rises_step core r.life input k.marked)
 
   pub runs-on : (replica_ended (stepped_by object core r input)).stopped ≡ false →
       Runs (handed_over (ring_step core input).core (stepped_by object core r input).due) (replica_ended (stepped_by object core r input))
   runs-on =
       by-replica (λ x c. (replica_ended (stepped_by object c x input)).stopped ≡ false →
       Runs (handed_over (ring_step c input).core (stepped_by object c x input).due) (replica_ended (stepped_by object c x input)))
-      (runs-by object n (ring_step n.core input).core out lives dues sound
+      (runs-by object n (ring_step n.core input).core out lives dues known sound
       (marked_step n.core n.life input (subst (λ (c : Core A). IsMarked c n.life) (sym (told-core core r ended halts)) k.marked))
       (going_step n.core input (subst (λ (c : Core A). is_stopped c.state ≡ false) (sym (told-core core r ended halts)) k.going))
       (sym (me_step n.core input)))
 
+  module _ (steady : IsSteady r.group r.life) where
+    step-here : after ≡ node_by n (ring_step n.core input).core (replica_step object (running_of (ring_step n.core input).core) (replica_of n) out)
+    step-here = step-is object n (ring_step n.core input) steady rises-here
+
+    pub sends-are : (stepped_by object core r input).sends ≡ after.sends
+    sends-are =
+        by-replica (λ x c. (stepped_by object c x input).sends ≡ after.sends)
+        (sends-by object n (ring_step n.core input).core out lives dues known sound ∙ ap (λ (x : NodeStepped A). x.sends) (sym step-here))
+
+    pub answers-are : (stepped_by object core r input).answers ≡ after.answers
+    answers-are =
+        by-replica (λ x c. (stepped_by object c x input).answers ≡ after.answers)
+        (answers-by object n (ring_step n.core input).core out lives dues known sound ∙ ap (λ (x : NodeStepped A). x.answers) (sym step-here))
+
+    pub committed-are : (stepped_by object core r input).replica.doing ≡ after.committed
+    committed-are =
+        by-replica (λ x c. (stepped_by object c x input).replica.doing ≡ after.committed)
+        (committed-by object n (ring_step n.core input).core out lives dues known sound ∙ ap (λ (x : NodeStepped A). x.committed) (sym step-here))
+
+    pub dropped-are : (stepped_by object core r input).replica.leaving ≡ after.dropped
+    dropped-are =
+        by-replica (λ x c. (stepped_by object c x input).replica.leaving ≡ after.dropped)
+        (dropped-by object n (ring_step n.core input).core out lives dues known sound ∙ ap (λ (x : NodeStepped A). x.dropped) (sym step-here))
+
+    pub restored-are : (stepped_by object core r input).restored ≡ node_restored n after.node
+    restored-are =
+        by-replica (λ x c. (stepped_by object c x input).restored ≡ node_restored n after.node)
+        (restored-by object n (ring_step n.core input).core out lives dues known sound refl
+        ∙ ap (λ (x : NodeStepped A). node_restored n x.node) (sym step-here))
+
+    pub node-is : told_node (handed_over (ring_step core input).core (stepped_by object core r input).due)
+        (replica_ended (stepped_by object core r input)) core ≡ after.node
+    node-is =
+        by-replica (λ x c. told_node (handed_over (ring_step c input).core (stepped_by object c x input).due)
+        (replica_ended (stepped_by object c x input)) c ≡ after.node)
+        (node-by object n (ring_step n.core input).core out lives dues known sound ∙ ap (λ (x : NodeStepped A). x.node) (sym step-here))
+
 -- and what the code keeps then
 pub stepped-node : {O A : Type 0} → (object : Sequential O) (core : Core A) (r : Replica A) (ended : Core A)
     (input : Input A) (halts : r.stopped ≡ false) (k : Runs core r)
-    (new : Core A) (given : Replica A) (last : Configuration) (ended' : Core A) → new ≡ handed_over (ring_step core input).core (stepped_by object core r input).due →
+    (new : Core A) (given : Replica A) (last : Configuration) (ended' : Core A)
+    → new ≡ handed_over (ring_step core input).core (stepped_by object core r input).due →
     given ≡ replica_ended (stepped_by object core r input) → last ≡ ended'.installed → IsNode new given last ended'
 stepped-node {O} {A} object core r ended input halts k new given last ended' en eg el =
     record {
@@ -231,15 +291,15 @@ stepped-node {O} {A} object core r ended input halts k new given last ended' en 
     }
 
 pub told-as : {O A : Type 0} → (object : Sequential O) (core : Core A) (r : Replica A) (ended : Core A)
-    (input : Input A) (halts : r.stopped ≡ false) (k : Runs core r)
+    (input : Input A) (halts : r.stopped ≡ false) (k : Runs core r) (steady : IsSteady r.group r.life)
     (new : Core A) (given : Replica A) (ended' : Core A) → new ≡ handed_over (ring_step core input).core (stepped_by object core r input).due →
     given ≡ replica_ended (stepped_by object core r input) → ended' ≡ core →
     told_node new given ended' ≡ (after_core object (told_node core r ended) (ring_step (told_node core r ended).core input)).node
-told-as {O} {A} object core r ended input halts k new given ended' en eg ee =
+told-as {O} {A} object core r ended input halts k steady new given ended' en eg ee =
     let made = handed_over (ring_step core input).core (stepped_by object core r input).due in
     let done = replica_ended (stepped_by object core r input) in
     ap (λ (x : Core A). told_node x given ended') en ∙ ap (λ (x : Replica A). told_node made x ended') eg ∙ ap (λ (x : Core A). told_node made done x) ee
-    ∙ node-is object core r ended input halts k
+    ∙ node-is object core r ended input halts k steady
 
 -- A submit
 
@@ -276,7 +336,7 @@ given-node {A} core new r old given last last' ended ended' running c b k eo el 
     let is_given : given ≡ replica_given running r c = eg ∙ ap (λ (x : Replica A). replica_given running x c) eo in
     let made : IsNode (handed_over core due) (replica_given running r c) last ended = record {
       runs = λ s. (let h = k.runs s in record {
-        done = refl;
+        done = record { life = refl; doing = h.done.doing; leaving = h.done.leaving };
         me = h.me ∙ sym (me_handed core due);
         going = going_handed core due h.going;
         marked = marked_handed core r.life due h.marked;

@@ -8,7 +8,7 @@ ghost use Rattle.ring_core.specs.declared.input.Input.TheVariants.{Frame as Fram
 ghost use Rattle.ring_srp_acts.specs.Allowing.{InputFits};
 ghost use Rattle.ring_rules.specs.Nodes.{is_stopped};
 ghost use Rattle.ring_rules.specs.Stepping.{handed_over};
-ghost use Rattle.ring_replica.specs.Courses.{rises};
+ghost use Rattle.ring_replica.specs.Courses.{rises, IsSteady};
 ghost use Rattle.ring_replica.specs.Replicas.{IsDone, replica_stopped, replica_ended, running_of};
 ghost use Rattle.ring_node.specs.Kept.{Runs, followed_by, stepped_by};
 
@@ -58,9 +58,12 @@ pub(crate) fn advance<O: Object>(
     requires going { replica.old.stopped ≡ false }
     ensures sends { IfOk result (λ outs. outs.sends.items ≡ (stepped_by O.sequential core.old replica.old input).sends) }
     ensures answers { IfOk result (λ outs. outs.answers.items ≡ (stepped_by O.sequential core.old replica.old input).answers) }
-    ensures committed { IfOk result (λ outs. outs.committed.items ≡ (stepped_by O.sequential core.old replica.old input).committed) }
+    ensures committed { IfOk result (λ outs. outs.committed.items ≡ (stepped_by O.sequential core.old replica.old input).replica.doing) }
+    ensures dropped { IfOk result (λ outs. outs.dropped.items ≡ (stepped_by O.sequential core.old replica.old input).replica.leaving) }
+    ensures restored { IfOk result (λ outs. outs.restored ≡ (stepped_by O.sequential core.old replica.old input).restored) }
     ensures core { OnOk result (core.new ≡ handed_over (ring_step core.old input).core (stepped_by O.sequential core.old replica.old input).due) }
     ensures replica { OnOk result (replica.new ≡ replica_ended (stepped_by O.sequential core.old replica.old input)) }
+    ensures steady { OnOk result (IsSteady replica.old.group replica.old.life) }
     ensures err { OnErr result (replica_stopped replica.new ≡ replica_stopped replica.old) }
     ensures refused { IfErr result (λ fault. fault ≡ Memory) }
 {
@@ -79,10 +82,13 @@ pub(crate) fn advance_on<O: Object>(
     requires going { replica.old.stopped ≡ false }
     ensures sends { IfOk result (λ outs. outs.sends.items ≡ (stepped_by O.sequential core.old replica.old (FrameInput frame.now)).sends) }
     ensures answers { IfOk result (λ outs. outs.answers.items ≡ (stepped_by O.sequential core.old replica.old (FrameInput frame.now)).answers) }
-    ensures committed { IfOk result (λ outs. outs.committed.items ≡ (stepped_by O.sequential core.old replica.old (FrameInput frame.now)).committed) }
+    ensures committed { IfOk result (λ outs. outs.committed.items ≡ (stepped_by O.sequential core.old replica.old (FrameInput frame.now)).replica.doing) }
+    ensures dropped { IfOk result (λ outs. outs.dropped.items ≡ (stepped_by O.sequential core.old replica.old (FrameInput frame.now)).replica.leaving) }
+    ensures restored { IfOk result (λ outs. outs.restored ≡ (stepped_by O.sequential core.old replica.old (FrameInput frame.now)).restored) }
     ensures core { OnOk result (core.new ≡ handed_over (ring_step core.old (FrameInput frame.now)).core
         (stepped_by O.sequential core.old replica.old (FrameInput frame.now)).due) }
     ensures replica { OnOk result (replica.new ≡ replica_ended (stepped_by O.sequential core.old replica.old (FrameInput frame.now))) }
+    ensures steady { OnOk result (IsSteady replica.old.group replica.old.life) }
     ensures err { OnErr result (replica_stopped replica.new ≡ replica_stopped replica.old) }
     ensures refused { IfErr result (λ fault. fault ≡ Memory) }
 {
@@ -103,21 +109,24 @@ fn follow<O: Object>(
     requires going { replica.old.stopped ≡ false }
     ensures sends { IfOk result (λ given. given.sends.items ≡ (followed_by O.sequential core.old replica.old outs.items).sends) }
     ensures answers { IfOk result (λ given. given.answers.items ≡ (followed_by O.sequential core.old replica.old outs.items).answers) }
-    ensures committed { IfOk result (λ given. given.committed.items ≡ (followed_by O.sequential core.old replica.old outs.items).committed) }
+    ensures committed { IfOk result (λ given. given.committed.items ≡ (followed_by O.sequential core.old replica.old outs.items).replica.doing) }
+    ensures dropped { IfOk result (λ given. given.dropped.items ≡ (followed_by O.sequential core.old replica.old outs.items).replica.leaving) }
+    ensures restored { IfOk result (λ given. given.restored ≡ (followed_by O.sequential core.old replica.old outs.items).restored) }
     ensures core { OnOk result (core.new ≡ handed_over core.old (followed_by O.sequential core.old replica.old outs.items).due) }
     ensures replica { OnOk result (replica.new ≡ replica_ended (followed_by O.sequential core.old replica.old outs.items)) }
+    ensures steady { OnOk result (IsSteady replica.old.group replica.old.life) }
     ensures err { OnErr result (replica_stopped replica.new ≡ replica_stopped replica.old) }
     ensures refused { IfErr result (λ fault. fault ≡ Memory) }
 {
     let running = running(core);
     let given = replica.step(&running, outs)?;
     hand_over(core, given.due)?;
-    if !replica.is_stopped() {
-        replica.finish(given.answers.as_slice());
-    }
+    let dropped = replica.finish(given.answers.as_slice());
     Ok(Outs {
         sends: given.sends,
         answers: given.answers,
         committed: given.committed,
+        dropped,
+        restored: given.restored,
     })
 }

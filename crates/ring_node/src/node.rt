@@ -7,10 +7,10 @@ ghost use Rattle.ring_wire.specs.Frames.{FrameFits};
 ghost use Rattle.ring_core.specs.Stepping.{ring_step};
 ghost use Rattle.ring_core.specs.declared.input.Input.TheVariants.{Frame as FrameInput, Timeout as TimeoutInput};
 ghost use Rattle.ring_srp_acts.specs.Allowing.{InputFits as CoreInputFits};
-ghost use Rattle.ring_session.specs.Deduplicated.{deduplicated};
 ghost use Rattle.ring_session.specs.Pendings.{pending_from};
-ghost use Rattle.ring_rules.specs.Nodes.{node_opening, node_committed, node_log, node_reply, node_stopped, is_stopped};
+ghost use Rattle.ring_rules.specs.Nodes.{node_opening, node_kept, node_length, node_trimmed, node_committed, node_reply, node_stopped, is_stopped, effects_at};
 ghost use Rattle.ring_rules.specs.Stepping.{after_core, node_step, submit_fault, submitted};
+ghost use Rattle.ring_node.specs.Restores.{node_restored};
 ghost use Rattle.ring_rules.specs.NodeLimits.{InputFits};
 ghost use Rattle.ring_rules.specs.declared.input.Input.TheVariants.{Stop as StopInput};
 
@@ -100,15 +100,17 @@ impl<O: Object> Node<O> {
         self.take(copy_of(call)?)
     }
 
-    /// Does a step on an input: gives the frames sent, the answers that come, and the calls newly committed. Refused with
-    /// `Stopped` in a stopped node, which stays as it was, else with `Memory`: then the node has stopped for good, its log
-    /// as before the step. A stop takes no memory.
+    /// Does a step on an input: gives the frames sent, the answers that come, the calls newly committed, those of places dropped, and how
+    /// many places were restored. Refused with `Stopped` in a stopped node, which stays as it was, else with `Memory`, also where that was
+    /// wanted to drop places: then the node has stopped for good, its log as before the step, and nothing is given. A stop takes no memory.
     pub fn step(&mut self, input: Input<O::Alloc>) -> Result<Outs<O::Alloc>, Fault>
         requires fits { InputFits input }
         ensures runs { OnOk result (is_stopped self.old.core.state ≡ false) }
         ensures sends { IfOk result (λ outs. outs.sends.items ≡ (node_step O.sequential self.old input).sends) }
         ensures answers { IfOk result (λ outs. outs.answers.items ≡ (node_step O.sequential self.old input).answers) }
         ensures committed { IfOk result (λ outs. outs.committed.items ≡ (node_step O.sequential self.old input).committed) }
+        ensures dropped { IfOk result (λ outs. outs.dropped.items ≡ (node_step O.sequential self.old input).dropped) }
+        ensures restored { IfOk result (λ outs. outs.restored ≡ node_restored self.old (node_step O.sequential self.old input).node) }
         ensures ok { OnOk result (self.new ≡ (node_step O.sequential self.old input).node) }
         ensures err { OnErr result (self.new ≡ node_stopped self.old) }
         ensures refused { IfErr result (λ fault. fault ≡ (if is_stopped self.old.core.state then StoppedFault else Memory)) }
@@ -135,6 +137,8 @@ impl<O: Object> Node<O> {
         ensures sends { IfOk result (λ outs. outs.sends.items ≡ (node_step O.sequential self.old input.now).sends) }
         ensures answers { IfOk result (λ outs. outs.answers.items ≡ (node_step O.sequential self.old input.now).answers) }
         ensures committed { IfOk result (λ outs. outs.committed.items ≡ (node_step O.sequential self.old input.now).committed) }
+        ensures dropped { IfOk result (λ outs. outs.dropped.items ≡ (node_step O.sequential self.old input.now).dropped) }
+        ensures restored { IfOk result (λ outs. outs.restored ≡ node_restored self.old (node_step O.sequential self.old input.now).node) }
         ensures ok { OnOk result (self.new ≡ (node_step O.sequential self.old input.now).node) }
         ensures err { OnErr result (self.new ≡ node_stopped self.old) }
         ensures refused { IfErr result (λ fault. fault ≡ (if is_stopped self.old.core.state then StoppedFault else Memory)) }
@@ -161,7 +165,7 @@ impl<O: Object> Node<O> {
         self.replica.reply(ticket)
     }
 
-    /// The committed places of the log, in order.
+    /// The committed places of the log that aren't dropped, in order.
     pub fn committed(&self) -> &[Call<O::Alloc>]
         ensures { result.now ≡ node_committed self.now }
     {
@@ -193,16 +197,31 @@ impl<O: Object> Node<O> {
         self.installed().members
     }
 
-    /// How many places the log has, committed or not.
+    /// How many places of the log are committed, dropped ones included.
+    pub fn committed_len(&self) -> u64
+        ensures { result ≡ (node_kept self.now).committed }
+    {
+        self.replica.committed_len()
+    }
+
+    /// How many of the log's first places are dropped.
+    pub fn trimmed(&self) -> u64
+        ensures { result ≡ node_trimmed self.now }
+    {
+        self.replica.trimmed()
+    }
+
+    /// How many places the log has, committed or not, dropped ones included.
     pub fn log_len(&self) -> u64
-        ensures { result ≡ length (node_log self.now) }
+        ensures { result ≡ node_length self.now }
     {
         self.replica.log_len()
     }
 
-    /// How many calls of the committed places took effect: how long the committed log is, repeats removed.
+    /// How many calls of all committed places took effect. Of the places that a restored snapshot stands for, that is the sum of its
+    /// clients' last numbers, or the greatest number of 64 bits where that is more.
     pub fn order_len(&self) -> u64
-        ensures { result ≡ length (deduplicated (node_committed self.now)) }
+        ensures { result ≡ effects_at O.sequential (node_kept self.now) (node_kept self.now).committed }
     {
         self.replica.order_len()
     }
@@ -257,6 +276,9 @@ impl<O: Object> Node<O> {
         ensures sends { IfOk result (λ outs. outs.sends.items ≡ (after_core O.sequential self.old (ring_step self.old.core input)).sends) }
         ensures answers { IfOk result (λ outs. outs.answers.items ≡ (after_core O.sequential self.old (ring_step self.old.core input)).answers) }
         ensures committed { IfOk result (λ outs. outs.committed.items ≡ (after_core O.sequential self.old (ring_step self.old.core input)).committed) }
+        ensures dropped { IfOk result (λ outs. outs.dropped.items ≡ (after_core O.sequential self.old (ring_step self.old.core input)).dropped) }
+        ensures restored { IfOk result (λ outs. outs.restored
+            ≡ node_restored self.old (after_core O.sequential self.old (ring_step self.old.core input)).node) }
         ensures ok { OnOk result (self.new ≡ (after_core O.sequential self.old (ring_step self.old.core input)).node) }
         ensures err { OnErr result (self.new ≡ node_stopped self.old) }
         ensures refused { IfErr result (λ fault. fault ≡ Memory) }
@@ -282,6 +304,10 @@ impl<O: Object> Node<O> {
             ≡ (after_core O.sequential self.old (ring_step self.old.core (FrameInput frame.now))).answers) }
         ensures committed { IfOk result (λ outs. outs.committed.items
             ≡ (after_core O.sequential self.old (ring_step self.old.core (FrameInput frame.now))).committed) }
+        ensures dropped { IfOk result (λ outs. outs.dropped.items
+            ≡ (after_core O.sequential self.old (ring_step self.old.core (FrameInput frame.now))).dropped) }
+        ensures restored { IfOk result (λ outs. outs.restored
+            ≡ node_restored self.old (after_core O.sequential self.old (ring_step self.old.core (FrameInput frame.now))).node) }
         ensures ok { OnOk result (self.new ≡ (after_core O.sequential self.old (ring_step self.old.core (FrameInput frame.now))).node) }
         ensures err { OnErr result (self.new ≡ node_stopped self.old) }
         ensures refused { IfErr result (λ fault. fault ≡ Memory) }
@@ -307,6 +333,10 @@ impl<O: Object> Node<O> {
             ≡ (after_core O.sequential self.old (ring_step self.old.core (TimeoutInput kind))).answers) }
         ensures committed { IfOk result (λ outs. outs.committed.items
             ≡ (after_core O.sequential self.old (ring_step self.old.core (TimeoutInput kind))).committed) }
+        ensures dropped { IfOk result (λ outs. outs.dropped.items
+            ≡ (after_core O.sequential self.old (ring_step self.old.core (TimeoutInput kind))).dropped) }
+        ensures restored { IfOk result (λ outs. outs.restored
+            ≡ node_restored self.old (after_core O.sequential self.old (ring_step self.old.core (TimeoutInput kind))).node) }
         ensures ok { OnOk result (self.new ≡ (after_core O.sequential self.old (ring_step self.old.core (TimeoutInput kind))).node) }
         ensures err { OnErr result (self.new ≡ node_stopped self.old) }
         ensures refused { IfErr result (λ fault. fault ≡ Memory) }

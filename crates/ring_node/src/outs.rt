@@ -1,6 +1,6 @@
 //! What a step of a node gives.
 
-ghost use Rattle.std.specs.Prelude.{◌≡◌, []};
+ghost use Rattle.std.specs.Prelude.{◌≡◌, [], None};
 
 use ring_payload::Call;
 use ring_replica::Sent;
@@ -8,13 +8,19 @@ use ring_session::Answered;
 use std::alloc::{Allocator, Global};
 
 /// What a step of a node gives: the frames sent, with their receivers, the answers, by the order of their places, then of
-/// their tickets, and the calls newly committed.
+/// their tickets, the calls newly committed, the calls of the committed places that the node dropped, and how many places it
+/// restored.
 #[derive(Drop)]
 pub struct Outs<A: Allocator + Copy + Drop = Global> {
     pub sends: Vec<Sent<A>, A>,
     pub answers: Vec<Answered<A>, A>,
     /// The calls newly committed, in order.
     pub committed: Vec<Call<A>, A>,
+    /// The calls of the places that the node dropped at the step's end, in order: after it `Node::committed` begins behind them.
+    pub dropped: Vec<Call<A>, A>,
+    /// How many of the log's first places the snapshot stands for that the step restored, if it restored one. The calls of those
+    /// that weren't committed before are told by no step of this node: `committed` begins behind them.
+    pub restored: Option<u64>,
 }
 
 impl<A: Allocator + Copy + Drop> Outs<A> {
@@ -23,11 +29,15 @@ impl<A: Allocator + Copy + Drop> Outs<A> {
         ensures sends { result.sends.items ≡ [] }
         ensures answers { result.answers.items ≡ [] }
         ensures committed { result.committed.items ≡ [] }
+        ensures dropped { result.dropped.items ≡ [] }
+        ensures restored { result.restored ≡ None }
     {
         Outs {
             sends: Vec::new(alloc),
             answers: Vec::new(alloc),
             committed: Vec::new(alloc),
+            dropped: Vec::new(alloc),
+            restored: None,
         }
     }
 }

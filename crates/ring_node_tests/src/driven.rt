@@ -48,8 +48,8 @@ fn frame_of<A: Allocator + Copy>(alloc: A, bytes: &[u8]) -> Result<Frame<A>, Fau
 /// log has, and how many calls took effect.
 pub type Seen = (State, u64, usize, u64, u64);
 
-/// A node, and how many frames, answers and committed calls its steps gave. What the node has no hand in lies in memory
-/// of its own, which is ample.
+/// A node, how many frames, answers, committed calls and dropped calls its steps gave, and the token that it sent last. What the node
+/// has no hand in lies in memory of its own, which is ample.
 #[derive(Drop)]
 pub struct Driven<O: Object> {
     ample: O::Alloc,
@@ -57,6 +57,9 @@ pub struct Driven<O: Object> {
     pub sends: usize,
     answers: usize,
     committed: usize,
+    pub dropped: usize,
+    /// Its number, and how many messages were sent by then.
+    last: Option<(u8, u8)>,
 }
 
 impl<O: Object> Driven<O> {
@@ -69,6 +72,8 @@ impl<O: Object> Driven<O> {
             sends: 0,
             answers: 0,
             committed: 0,
+            dropped: 0,
+            last: None,
         })
     }
 
@@ -77,6 +82,14 @@ impl<O: Object> Driven<O> {
         self.sends = self.sends.saturating_add(outs.sends.len());
         self.answers = self.answers.saturating_add(outs.answers.len());
         self.committed = self.committed.saturating_add(outs.committed.len());
+        self.dropped = self.dropped.saturating_add(outs.dropped.len());
+        for sent in &outs.sends {
+            if let Frame::Token(sent) = &sent.frame {
+                let number = sent.number.to_be_bytes()[7];
+                let messages = sent.seq.to_be_bytes()[7];
+                self.last = Some((number, messages));
+            }
+        }
     }
 
     /// The join timeout comes.
@@ -118,6 +131,21 @@ impl<O: Object> Driven<O> {
         } else {
             self.node.submit_on(&call)
         }
+    }
+
+    /// The token that the node sent last comes.
+    pub fn turn(&mut self) -> Result<(), Fault> {
+        match self.last {
+            Some((number, messages)) => self.deliver(&token(number, messages)),
+            None => Ok(()),
+        }
+    }
+
+    /// Client 7's call of this number, `add 0 1`, is submitted.
+    pub fn add(&mut self, number: u64) -> Result<Ticket, Fault> {
+        let add = Counters::add(0, 1);
+        let call = Call::new(self.ample, 7, number, add.as_slice())?;
+        self.node.submit(call)
     }
 
     /// The step of this place in the run, in which the ring is formed, and its token goes round. Each message was sent

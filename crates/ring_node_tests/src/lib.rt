@@ -10,3 +10,5 @@ mod memory;
 mod sending;
 #[cfg(test)]
 mod tests;
+#[cfg(test)]
+mod trimming;

@@ -13,7 +13,7 @@ pub fn object_law<O: Object>()
         O.is_content (content_after O.sequential O.sequential.initial ops) }
     ensures comes_back { (ops : List (List ℕ)) → All AreBytes ops →
         let content = content_after O.sequential O.sequential.initial ops in
-        length (O.snapshot_of content) < 2 ^ 64 → O.restored (O.snapshot_of content) ≡ Some content }
+        length (O.sequential.snapshot_of content) < 2 ^ 64 → O.sequential.restored (O.sequential.snapshot_of content) ≡ Some content }
     ensures grows { (ops more : List (List ℕ)) →
         content_after O.sequential O.sequential.initial (ops ++ more)
         ≡ content_after O.sequential (content_after O.sequential O.sequential.initial ops) more }

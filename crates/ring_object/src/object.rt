@@ -1,6 +1,6 @@
 //! What an object is.
 
-ghost use Rattle.std.specs.Prelude.{◌≡◌, ℕ, Bool, false, ◌^◌, ◌<◌, List, ◌++◌, length, Option, Some, IfOk, IfErr, OnOk, OnErr};
+ghost use Rattle.std.specs.Prelude.{◌≡◌, ℕ, Bool, false, ◌^◌, ◌<◌, List, ◌++◌, length, Some, IfOk, IfErr, OnOk, OnErr};
 ghost use Rattle.ring_base.specs.declared.fault.Fault.TheVariants.{Memory};
 ghost use Rattle.ring_object.specs.Bytes.{AreBytes};
 ghost use Rattle.ring_object.specs.Operations.{IsReply, Sequential, unreadable};
@@ -24,14 +24,9 @@ pub trait Object: Sized + Drop {
     /// The operations that can be read.
     ghost is_readable: { List ℕ → Bool };
 
-    /// The content at the start, and what an operation is replied and makes of the content before it.
+    /// The content at the start; what an operation is replied and makes of the content before it; a content as bytes, its
+    /// snapshot, and the content that bytes are the snapshot of.
     ghost sequential: { Sequential Self };
-
-    /// The content as bytes.
-    ghost snapshot_of: { Self → List ℕ };
-
-    /// The content that these bytes are the snapshot of.
-    ghost restored: { List ℕ → Option Self };
 
     /// An object at the start, or `Memory`.
     fn start(alloc: Self::Alloc) -> Result<Self, Fault>
@@ -48,14 +43,14 @@ pub trait Object: Sized + Drop {
     /// Appends the snapshot to `out`. `Memory` leaves `out` as it was.
     fn snapshot(&self, out: &mut Vec<u8, Self::Alloc>) -> Result<(), Fault>
         ensures content { OnOk result (is_content self.now) }
-        ensures ok { OnOk result (out.new.items ≡ out.old.items ++ snapshot_of self.now) }
+        ensures ok { OnOk result (out.new.items ≡ out.old.items ++ sequential.snapshot_of self.now) }
         ensures err { OnErr result (out.new.items ≡ out.old.items) }
         ensures refused { IfErr result (λ fault. fault ≡ Memory) };
 
     /// The object whose snapshot the bytes are. `BadSnapshot` exactly where they are none, else the object or `Memory`.
     fn restore(alloc: Self::Alloc, bytes: &[u8]) -> Result<Self, Fault>
-        ensures ok { IfOk result (λ object. restored bytes.now ≡ Some object) }
-        ensures refused { IfErr result (Refuses (restored bytes.now)) };
+        ensures ok { IfOk result (λ object. sequential.restored bytes.now ≡ Some object) }
+        ensures refused { IfErr result (Refuses (sequential.restored bytes.now)) };
 
     ghost starts: { is_content sequential.initial };
 
@@ -66,5 +61,5 @@ pub trait Object: Sized + Drop {
     ghost ignores: { (content : Self) (op : List ℕ) → is_readable op ≡ false →
         (sequential.reply content op ≡ unreadable) × (sequential.next content op ≡ content) };
 
-    ghost restores: { Restores is_content snapshot_of restored };
+    ghost restores: { Restores is_content sequential.snapshot_of sequential.restored };
 }

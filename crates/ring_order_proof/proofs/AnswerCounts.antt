@@ -3,26 +3,28 @@ use Rattle.std.proofs.Common.{◌≡◌, ℕ, suc, ◌+◌, ◌≤◌, ◌<◌, 
 use Rattle.std.proofs.Common.{Option, Some, None, is_none, refl, ap, sym, subst, arith, append_assoc, append-nil}
 use Rattle.std.proofs.Common.{if◌then◌else◌}
 use Rattle.std.specs.Prelude.{nat_le, ◌&&◌}
-use Rattle.std.proofs.lemmas.Bool.{ne_eqb}
+use Rattle.std.proofs.lemmas.Bool.{cond_both, ne_eqb}
 use Rattle.std.proofs.lemmas.List.{length-append}
 use Rattle.ring_object.specs.Operations.{Sequential}
 use Rattle.ring_payload.specs.declared.call.Call.{Call}
 use Rattle.ring_session.specs.declared.answer.Answer.{Answer}
 use Rattle.ring_session.specs.SessionAnswer.{is_same}
-use Rattle.ring_session.specs.Table.{Table, table_answer, table_next, table_after}
+use Rattle.ring_session.specs.Table.{Table, table_answer, table_next}
+use Rattle.ring_core.specs.declared.input.Input.{Input}
 use Rattle.ring_core.specs.declared.input.Input.TheVariants.{Frame as FrameInput, Timeout as TimeInput}
 use Rattle.ring_core.specs.declared.out.Out.{Out}
 use Rattle.ring_core.specs.Stepping.{ring_step}
-use Rattle.ring_log.specs.Stays.{Stay}
 use Rattle.ring_session.specs.declared.answered.Answered.{Answered}
 use Rattle.ring_session.specs.Tickets.{Asked, place_of, unanswered, is_place, answers_at, answers_after}
 use Rattle.ring_session.proofs.TicketPlaces.{first_place-below, or_else, last_place, first_place-push}
 use Rattle.ring_rules.specs.declared.input.Input.{Input as NodeInput}
 use Rattle.ring_rules.specs.declared.input.Input.TheVariants.{Frame as NodeFrame, Noise as NodeNoise, Timeout as NodeTime, Stop as NodeStop}
 use Rattle.ring_rules.specs.Lives.{lived_through}
-use Rattle.ring_rules.specs.Nodes.{Node, node_kept, node_pending}
-use Rattle.ring_rules.specs.Stepping.{newly, settled, node_step}
-use Rattle.ring_log.specs.Kept.{kept_of, kept_committed, is_kept_sound}
+use Rattle.ring_rules.specs.Nodes.{Node, node_kept, node_pending, is_closed, is_restored}
+use Rattle.ring_rules.specs.Dues.{due_by}
+use Rattle.ring_rules.specs.Stepping.{NodeStepped, with_dropped, newly, drops, table_since, did, settled, walked, after_core, node_step}
+use Rattle.ring_log.specs.Kept.{Kept, kept_of, log_kept, is_kept_sound}
+use Rattle.ring_log.specs.Logs.{committed_calls}
 
 -- One call more, one ticket
 
@@ -95,18 +97,25 @@ module _ {O A : Type 0} (object : Sequential O) where
 
   -- A step of a node
 
-  few_if : (b : Bool) (old new : Node A) (outs : List (Out A)) (life : List (Stay A)) →
-      length (settled object b old new outs life).answers ≤ length (node_pending old)
-  few_if false old new outs life = omega arith
-  few_if true old new outs life =
-      omega (arith, few_more (table_after object (kept_committed (node_kept old))) old.tickets old.done (newly (node_kept old) (kept_of old.group life)))
+  few_if : (b : Bool) (old new : Node A) (outs : List (Out A)) (k : Kept A) → length (settled object b old new outs k).answers ≤ length (node_pending old)
+  few_if false old new outs k = omega arith
+  few_if true old new outs k =
+      let more = newly (node_kept old) k in
+      let s = did object old new outs k more in
+      let few : length s.answers ≤ length (node_pending old) = omega (arith, few_more (table_since object (node_kept old) k) old.tickets old.done more) in
+      cond_both (drops object (is_closed old.group new.life) k)
+      (record s { node = with_dropped k.committed s.node; dropped = committed_calls (log_kept k) }) s
+      (λ (x : NodeStepped A). length x.answers ≤ length (node_pending old)) (λ t. few) (λ e. few)
+
+  few_after : (n : Node A) (input : Input A) → length (after_core object n (ring_step n.core input)).answers ≤ length (node_pending n)
+  few_after n input =
+      let s = ring_step n.core input in
+      let life = lived_through n.life s.outs in
+      few_if (is_kept_sound n.group life && is_restored object (kept_of n.group life)) n (walked n s.core life (due_by object n s.core n.life s.outs)) s.outs
+      (kept_of n.group life)
 
   pub few_answers : (n : Node A) (input : NodeInput A) → length (node_step object n input).answers ≤ length (node_pending n)
-  few_answers n (NodeFrame frame) =
-      let s = ring_step n.core (FrameInput frame) in
-      few_if (is_kept_sound n.group (lived_through n.life s.outs)) n _ s.outs (lived_through n.life s.outs)
-  few_answers n (NodeTime kind) =
-      let s = ring_step n.core (TimeInput kind) in
-      few_if (is_kept_sound n.group (lived_through n.life s.outs)) n _ s.outs (lived_through n.life s.outs)
+  few_answers n (NodeFrame frame) = few_after n (FrameInput frame)
+  few_answers n (NodeTime kind) = few_after n (TimeInput kind)
   few_answers n NodeNoise = omega arith
   few_answers n NodeStop = omega arith

@@ -1,6 +1,7 @@
--- The facts hold as well between a step of a node's core and what the node then hands over: the cores are still those of a run of ring cores.
-use Rattle.std.proofs.Common.{◌≡◌, ℕ, ◌≤◌, ◌==◌, true, List, [], ◌∷◌, ◌++◌, refl, ap, ◌∙◌, subst}
-use Rattle.std.proofs.lemmas.Bool.{cond_both}
+-- The facts hold as well between a step of a node's core and what the node then hands over: the cores are still those of a run of ring cores; and so does the
+-- discipline, and lives go on to there.
+use Rattle.std.proofs.Common.{◌≡◌, ℕ, ◌≤◌, ◌==◌, Bool, true, false, cond, if◌then◌else◌, List, [], ◌∷◌, ◌++◌, refl, ap, sym, ◌∙◌, subst}
+use Rattle.std.proofs.lemmas.Bool.{cond_both, eqb-true}
 use Rattle.ring_base.specs.Group.{Group}
 use Rattle.ring_object.specs.Operations.{Sequential}
 use Rattle.ring_payload.specs.declared.content.Payload.{Payload}
@@ -15,21 +16,29 @@ use Rattle.ring_core_proof.specs.Worlds.{World as RingWorld, after_step, stepped
 use Rattle.ring_core_proof.specs.Worlds.{happens, unformed}
 use Rattle.ring_core_proof.proofs.KeptByMoves.{kept_step}
 use Rattle.ring_synchrony_proof.proofs.Ordered.{Ordered, ordering}
+use Rattle.ring_log.specs.Lives.{whole_life}
+use Rattle.ring_log.specs.Stays.{Stay}
+use Rattle.ring_log_proof.specs.RingFacts.{Rises, AreAbove}
+use Rattle.ring_log_proof.specs.Discipline.{KeepsDiscipline, IsDropping, DropsCommitted, KeepsRules}
+use Rattle.ring_log_proof.specs.Time.{LivesOn, AllMayHappen}
+use Rattle.ring_log_proof.proofs.Living.{IsOrderly, on-self, events-on, events-orderly, events-dropping}
+use Rattle.ring_log_proof.proofs.FilledLives.{rules-whole, filled-on}
 use Rattle.ring_rules.specs.Nodes.{Node}
 use Rattle.ring_rules.specs.declared.event.Event.{Event}
-use Rattle.ring_rules.specs.Worlds.{World, world_opening, put, is_node, run}
+use Rattle.ring_rules.specs.Worlds.{World, world_opening, put, is_node, run, lives_in, lives_of}
 use Rattle.ring_order_proof.specs.Projection.{ring_part, by, IsRingRun}
 use Rattle.ring_order_proof.proofs.ProjectedEvents.{ring_run}
 use Rattle.ring_core.proofs.Quiet.{stepped_is}
 use Rattle.ring_order_proof.proofs.ProjectedSends.{run-append}
 use Rattle.ring_order_proof.proofs.ProjectedSteps.{IsOver, becomes_part, becomes_over}
-use Rattle.ring_order_proof.proofs.DisciplinedWorlds.{opened_on}
+use Rattle.ring_order_proof.proofs.DisciplinedNodes.{LivesBy, steps_by}
+use Rattle.ring_order_proof.proofs.DisciplinedWorlds.{IsNodeKept, opened_on, run_group, own_keep, own_drop, below_above, tops}
 use Rattle.ring_order_proof.proofs.SpeakingNodes.{NodeSays, AllSay, core_says, all_say, in_order}
 use Rattle.ring_order_proof.specs.RunFacts.{HasFacts}
 use Rattle.ring_order_proof.specs.Between.{MayCome, stepped_node, between}
 use Rattle.ring_order_proof.proofs.RingsOfRuns.{IsWhole, all_whole}
 use Rattle.ring_order_proof.proofs.LivesOfCores.{rings_told}
-use Rattle.ring_order_proof.proofs.RunFacts.{AreNodes, all_nodes, facts_of}
+use Rattle.ring_order_proof.proofs.RunFacts.{AreNodes, all_nodes, facts_of, all_facts}
 
 -- the event of ring cores by which the input comes
 record ComesBy {A : Type 0} (r : RingWorld A) (i : ℕ) (input : Input A) : Type 0 where
@@ -108,3 +117,63 @@ module _ {O A : Type 0} (object : Sequential O) (group : Group) (events : List (
 
   pub between_facts : group.count ≤ 16 → is_node w i ≡ true → MayCome w i input → HasFacts after
   between_facts few node may = facts_of group after (between_nodes few node may)
+
+  -- The lives there: the nodes keep their discipline, and lives go on
+
+  kept : (j : ℕ) → IsNodeKept group (w.nodes j)
+  kept j = ((opened_on object group events).nodes j).kept
+
+  steps : LivesBy (w.nodes i) (stepped_node (w.nodes i) input).life
+  steps = steps_by object (w.nodes i) input (kept i).orderly
+
+  may : AllMayHappen group (w.nodes i).life steps.events
+  may = subst (λ g. AllMayHappen g (w.nodes i).life steps.events) (kept i).group_is steps.may
+
+  -- what is so of each life before the step, and of this one, is so of all
+  in_between : (P : List (Stay A) → List (Stay A) → Type 0) → ((j : ℕ) → P (w.nodes j).life (w.nodes j).life) → P [] []
+      → P (w.nodes i).life (stepped_node (w.nodes i) input).life → (p : ℕ) → P (lives_in w p) (lives_in after p)
+  in_between P all none new p = by (is_node w p)
+    where
+      here : P (w.nodes p).life (after.nodes p).life
+      here = by_node (p == i) refl
+        where
+          by_node : (b : Bool) → (p == i) ≡ b → P (w.nodes p).life (cond b (stepped_node (w.nodes i) input) (w.nodes p)).life
+          by_node true e = subst (λ q. P (w.nodes q).life (stepped_node (w.nodes i) input).life) (sym (eqb-true p i e)) new
+          by_node false e = all p
+
+      by : (b : Bool) → P (if b then (w.nodes p).life else []) (if b then (after.nodes p).life else [])
+      by true = here
+      by false = none
+
+  between_keep : KeepsDiscipline group (lives_in after)
+  between_keep = in_between (λ old new. IsOrderly group new) (λ j. (kept j).keeps) (λ s older h. absurd h)
+      (subst (λ (l : List (Stay A)). IsOrderly group l) (sym steps.lives) (events-orderly group (w.nodes i).life steps.events may (kept i).keeps))
+
+  between_drop : DropsCommitted group (lives_in after)
+  between_drop =
+      let drops : (j : ℕ) → IsDropping group (w.nodes j).life = λ j. subst (λ g. IsDropping g (w.nodes j).life) (kept j).group_is (kept j).orderly.drops in
+      in_between (λ old new. IsDropping group new) drops (λ s older h. absurd h)
+      (subst (λ (l : List (Stay A)). IsDropping group l) (sym steps.lives) (events-dropping group (w.nodes i).life steps.events may (drops i)))
+
+  own_between : (p : ℕ) → LivesOn (lives_in w p) (lives_in after p)
+  own_between = in_between (λ old new. LivesOn old new) (λ j. on-self (w.nodes j).life) tt
+      (subst (λ (l : List (Stay A)). LivesOn (w.nodes i).life l) (sym steps.lives) (events-on group (w.nodes i).life steps.events may))
+
+  module _ (few : group.count ≤ 16) (node : is_node w i ≡ true) (comes : MayCome w i input) where
+    rises-between : (p : ℕ) → Rises (lives_in after p)
+    rises-between = (between_facts few node comes).own.rises
+
+    above-between : AreAbove (lives_in after) (tops after)
+    above-between p = below_above (lives_in after p) (rises-between p)
+
+    pub between_rules : KeepsRules group (lives_of after)
+    between_rules =
+        subst (λ g. KeepsRules group (λ p. whole_life g (lives_in after) (tops after p) p)) (sym (run_group object group events))
+        (rules-whole group (lives_in after) (tops after) above-between rises-between between_keep between_drop)
+
+    pub between_on : (p : ℕ) → LivesOn (lives_of w p) (lives_of after p)
+    between_on p =
+        let f = all_facts object group events few in
+        let on = filled-on group (lives_in w) (tops w) (λ q. below_above (lives_in w q) (f.own.rises q)) f.members f.text f.own
+        (own_keep object group events) (own_drop object group events) (lives_in after) own_between rises-between (tops after) above-between p in
+        subst (λ g. LivesOn (whole_life g (lives_in w) (tops w p) p) (whole_life g (lives_in after) (tops after p) p)) (sym (run_group object group events)) on

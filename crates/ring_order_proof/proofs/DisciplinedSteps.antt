@@ -9,6 +9,7 @@ use Rattle.ring_base.specs.declared.ring_id.RingId.{RingId}
 use Rattle.ring_base.specs.declared.state.State.{State}
 use Rattle.ring_base.specs.declared.state.State.TheVariants.{Gather, Commit, Recovery, Operational, Stopped}
 use Rattle.ring_base.proofs.SameRing.{ring_same}
+use Rattle.ring_object.specs.Operations.{Sequential}
 use Rattle.ring_payload.specs.declared.content.Payload.{Payload}
 use Rattle.ring_payload.specs.declared.content.Payload.TheVariants.{Head}
 use Rattle.ring_wire.specs.declared.message.Message.{Message}
@@ -24,14 +25,14 @@ use Rattle.ring_core.specs.Deciding.{RegatherAndAgree, RegatherAndWiden, Take, V
 use Rattle.ring_core.specs.Acting.{act, may_follow, proposed_after, done}
 use Rattle.ring_core.specs.Giving.{install, addressed, sent, given, delivered_from, configured}
 use Rattle.ring_log.specs.Stays.{Stay, stay_in}
-use Rattle.ring_log.specs.Lives.{log_of, head_of_life}
+use Rattle.ring_log.specs.Kept.{kept_of, head_kept}
 use Rattle.ring_rules.specs.Lives.{lived, lived_through}
 use Rattle.ring_rules.specs.Nodes.{Node, runs}
 use Rattle.ring_log_proof.specs.Time.{LifeEvent, Regular, MayHandFirst, MayHandAfter, AllMayHappen, all_lived}
 use Rattle.ring_order_proof.proofs.DisciplinedDues.{IsDue, RunsPrimary, none_due}
 use Rattle.ring_order_proof.proofs.DisciplinedTelling.{IsTold, through-append, due-append, events-append, may-append, silent_through, silent_due}
 use Rattle.ring_order_proof.proofs.DisciplinedTelling.{delivered_told, told_then}
-use Rattle.ring_rules.specs.WholeSteps.{due_at_regular, due_at, due_by}
+use Rattle.ring_rules.specs.Dues.{due_at_regular, due_at, due_by}
 
 -- What goes out tells a life nothing
 
@@ -41,7 +42,7 @@ send_out s = SendOut s.to s.frame
 -- A node may hand over what is due
 
 module _ {A : Type 0} (group : Group) (s : Stay A) (older : List (Stay A)) where
-  pub may_after : (P : Type 0) (said due : List (Payload A)) → IsDue P (log_of group older) due → (P → said ≡ [] → ⊥) → MayHandAfter group s older said due
+  pub may_after : (P : Type 0) (said due : List (Payload A)) → IsDue P (kept_of group older) due → (P → said ≡ [] → ⊥) → MayHandAfter group s older said due
   may_after P [] due d never = elim (d.needs) [
     | inl e ↦ subst (MayHandFirst group s older) (sym e) tt
     | inr p ↦ absurd (never p refl)
@@ -49,10 +50,10 @@ module _ {A : Type 0} (group : Group) (s : Stay A) (older : List (Stay A)) where
   may_after P (x ∷ said) due d never = d.follows
 
   -- a Head of the life before, and what follows it; nothing in a ring that isn't primary
-  pub may_first : (P : Type 0) (due : List (Payload A)) → IsDue P (log_of group older) due → (P → is_primary group s.members ≡ true) →
+  pub may_first : (P : Type 0) (due : List (Payload A)) → IsDue P (kept_of group older) due → (P → is_primary group s.members ≡ true) →
       MayHandFirst group s older (due_at_regular group s.members older ++ due)
   may_first P due d p =
-      cond_both (is_primary group s.members) (Head (head_of_life group older) ∷ []) [] (λ first. MayHandFirst group s older (first ++ due))
+      cond_both (is_primary group s.members) (Head (head_kept (kept_of group older)) ∷ []) [] (λ first. MayHandFirst group s older (first ++ due))
       (λ e. ((primary_tested group s.members).0 e, refl, d.follows))
       (λ e. elim (d.needs) [
         | inl none ↦ subst (MayHandFirst group s older) (sym none) tt
@@ -94,10 +95,10 @@ done_operates c a e = act_operates c a (proposed_operates (may_follow a && propo
 
 -- What goes out first, and what was given of the ring before
 
-silent_told : {X A : Type 0} → (n : Node A) (core : Core A) (ring : RingId) (s : Stay A) (older : List (Stay A)) (f : X → Out A) →
-    ((x : X) (life : List (Stay A)) → lived life (f x) ≡ life) → ((x : X) (life : List (Stay A)) → due_at n core life (f x) ≡ []) → (xs : List X) →
-    (t : IsTold n core ring s older (map f xs)) × (t.stay ≡ s)
-silent_told n core ring s older f h k xs = (
+silent_told : {O X A : Type 0} → (object : Sequential O) (n : Node A) (core : Core A) (ring : RingId) (s : Stay A) (older : List (Stay A)) (f : X → Out A) →
+    ((x : X) (life : List (Stay A)) → lived life (f x) ≡ life) → ((x : X) (life : List (Stay A)) → due_at object n core life (f x) ≡ []) → (xs : List X) →
+    (t : IsTold object n core ring s older (map f xs)) × (t.stay ≡ s)
+silent_told object n core ring s older f h k xs = (
   record {
     stay = s;
     life = silent_through f h xs (s ∷ older);
@@ -107,21 +108,22 @@ silent_told n core ring s older f h k xs = (
     ring_is = refl;
     members_is = refl;
     sent_is = refl;
-    due = subst (λ due. IsDue (RunsPrimary n.group core ring s.members) (log_of n.group older) due) (sym (silent_due n core f h k xs (s ∷ older)))
-        (none_due (RunsPrimary n.group core ring s.members) (log_of n.group older));
+    due = subst (λ due. IsDue (RunsPrimary n.group core ring s.members) (kept_of n.group older) due) (sym (silent_due object n core f h k xs (s ∷ older)))
+        (none_due (RunsPrimary n.group core ring s.members) (kept_of n.group older));
   },
   refl,
 )
 
 -- the ring that was installed as the step began
-pub given_told : {A : Type 0} → (n : Node A) (core c d : Core A) (sends : List (Sent A)) (s : Stay A) (older : List (Stay A)) →
+pub given_told : {O A : Type 0} → (object : Sequential O) (n : Node A) (core c d : Core A) (sends : List (Sent A)) (s : Stay A) (older : List (Stay A)) →
     s.mark ≤ mark c c.installed.ring → mark c c.installed.ring ≤ mark d c.installed.ring →
-    (t : IsTold n core c.installed.ring s older (sent sends ++ given c d)) × (t.stay.mark ≤ mark d c.installed.ring)
-given_told {A} n core c d sends s older below rises =
+    (t : IsTold object n core c.installed.ring s older (sent sends ++ given c d)) × (t.stay.mark ≤ mark d c.installed.ring)
+given_told {O} {A} object n core c d sends s older below rises =
     let ring = c.installed.ring in
-    let a = silent_told n core ring s older (λ (x : Sent A). send_out x) (λ x life. refl) (λ x life. refl) (addressed sends) in
-    let g = delivered_told n core d ring a.0.stay older (front c ring) (mark c ring) (subst (λ (t : Stay A). t.mark ≤ mark c ring) (sym a.1) below) rises in
-    let v = told_then n core ring s older (sent sends) (given c d) a.0 g.0 in
+    let a = silent_told object n core ring s older (λ (x : Sent A). send_out x) (λ x life. refl) (λ x life. refl) (addressed sends) in
+    let low = subst (λ (t : Stay A). t.mark ≤ mark c ring) (sym a.1) below in
+    let g = delivered_told object n core d ring a.0.stay older (front c ring) (mark c ring) low rises in
+    let v = told_then object n core ring s older (sent sends) (given c d) a.0 g.0 in
     (v.0, subst (λ (t : Stay A). t.mark ≤ mark d ring) (sym v.1) g.1)
 
 -- What a node's life and core have to do with each other
@@ -141,29 +143,29 @@ abbrev pub installed_rings : List Configuration → List RingId
 installed_rings installs = map (λ (x : Configuration). x.ring) installs
 
 -- a step of the core: what it tells, and what is due by it
-pub record IsStep {A : Type 0} (n : Node A) (core : Core A) (life : List (Stay A)) (outs : List (Out A)) : Type 0 where
+pub record IsStep {O A : Type 0} (object : Sequential O) (n : Node A) (core : Core A) (life : List (Stay A)) (outs : List (Out A)) : Type 0 where
   pub stay : Stay A
   pub older : List (Stay A)
   pub lives : lived_through life outs ≡ stay ∷ older
   pub events : List (LifeEvent A)
   pub may : AllMayHappen n.group life events
   pub lived_on : all_lived life events ≡ stay ∷ older
-  pub hand : MayHandAfter n.group stay older stay.sent (due_by n core life outs)
-  pub stands : Stands n.group core stay (stay.sent ++ due_by n core life outs)
+  pub hand : MayHandAfter n.group stay older stay.sent (due_by object n core life outs)
+  pub stands : Stands n.group core stay (stay.sent ++ due_by object n core life outs)
   pub rings : rings_of (stay ∷ older) ≡ installed_rings core.installs
 
 pub left_nil : {X : Type 0} (xs ys : List X) → xs ++ ys ≡ [] → xs ≡ []
 left_nil [] ys e = refl
 left_nil (x ∷ xs) ys e = absurd (cc e)
 
-module _ {A : Type 0} (n : Node A) (s : Stay A) (older : List (Stay A)) (d : Core A) (sends : List (Sent A))
+module _ {O A : Type 0} (object : Sequential O) (n : Node A) (s : Stay A) (older : List (Stay A)) (d : Core A) (sends : List (Sent A))
     (h : Stands n.group n.core s s.sent) (rises : mark n.core n.core.installed.ring ≤ mark d n.core.installed.ring)
     (same : d.installed ≡ n.core.installed) (kept : d.installs ≡ n.core.installs) (rings : rings_of (s ∷ older) ≡ installed_rings n.core.installs)
     (operated : d.state ≡ Operational → n.core.state ≡ Operational) where
-  pub stays_step : IsStep n d (s ∷ older) (sent sends ++ given n.core d)
+  pub stays_step : IsStep object n d (s ∷ older) (sent sends ++ given n.core d)
   stays_step =
       let c = n.core in
-      let v = given_told n d c d sends s older h.marked rises in
+      let v = given_told object n d c d sends s older h.marked rises in
       let t = v.0 in
       let never : RunsPrimary n.group d c.installed.ring s.members → s.sent ≡ [] → ⊥ =
       λ p e. h.opened (operated (operates d.state (and_parts (is_operational d.state) _ p.runs_here).0)) p.primary e in
@@ -205,16 +207,16 @@ none_left xs (inl e) never = e
 none_left xs (inr p) never = absurd (never p)
 
 -- what the configurations tell, of a life with this newest stay
-configured_told : {A : Type 0} → (n : Node A) (d : Core A) (s : Stay A) (older : List (Stay A)) →
-    (t : IsTold n (install d) d.running.ring (stay_in d.running.ring d.running.members) (s ∷ older) (delivered_from d d.running.ring 0 0))
+configured_told : {O A : Type 0} → (object : Sequential O) (n : Node A) (d : Core A) (s : Stay A) (older : List (Stay A)) →
+    (t : IsTold object n (install d) d.running.ring (stay_in d.running.ring d.running.members) (s ∷ older) (delivered_from d d.running.ring 0 0))
     × (t.stay.mark ≤ mark d d.running.ring)
     × (lived_through (s ∷ older) (configured d) ≡ t.stay ∷ s ∷ older)
-    × (due_by n (install d) (s ∷ older) (configured d)
+    × (due_by object n (install d) (s ∷ older) (configured d)
     ≡ due_at_regular n.group d.running.members (s ∷ older)
-    ++ due_by n (install d) (stay_in d.running.ring d.running.members ∷ s ∷ older) (delivered_from d d.running.ring 0 0))
-configured_told {A} n d s older =
+    ++ due_by object n (install d) (stay_in d.running.ring d.running.members ∷ s ∷ older) (delivered_from d d.running.ring 0 0))
+configured_told {O} {A} object n d s older =
     let new = stay_in d.running.ring d.running.members in
-    let told = delivered_told n (install d) d d.running.ring new (s ∷ older) 0 0 (le_refl 0) zero-le in
+    let told = delivered_told object n (install d) d d.running.ring new (s ∷ older) 0 0 (le_refl 0) zero-le in
     let rest : Message A → Out A = λ x. Rest x.ring x.number x in
     let xs = rests (plan d) d.held in
     let more = RegularOut d.running.ring d.running.members ∷ delivered_from d d.running.ring 0 0 in
@@ -222,33 +224,33 @@ configured_told {A} n d s older =
       told.0,
       told.1,
       through-append (s ∷ older) (map rest xs) more ∙ ap (λ l. lived_through l more) silent ∙ told.0.life,
-      due-append n (install d) (s ∷ older) (map rest xs) more
-          ∙ ap (λ due. due ++ due_by n (install d) (lived_through (s ∷ older) (map rest xs)) more)
-          (silent_due n (install d) rest (λ x life. refl) (λ x life. refl) xs (s ∷ older))
-          ∙ ap (λ l. due_by n (install d) l more) silent,
+      due-append object n (install d) (s ∷ older) (map rest xs) more
+          ∙ ap (λ due. due ++ due_by object n (install d) (lived_through (s ∷ older) (map rest xs)) more)
+          (silent_due object n (install d) rest (λ x life. refl) (λ x life. refl) xs (s ∷ older))
+          ∙ ap (λ l. due_by object n (install d) l more) silent,
     )
 
-module _ {A : Type 0} (n : Node A) (s : Stay A) (older : List (Stay A)) (d : Core A) (sends : List (Sent A))
+module _ {O A : Type 0} (object : Sequential O) (n : Node A) (s : Stay A) (older : List (Stay A)) (d : Core A) (sends : List (Sent A))
     (h : Stands n.group n.core s s.sent) (rises : mark n.core n.core.installed.ring ≤ mark d n.core.installed.ring)
     (same : d.installed ≡ n.core.installed) (kept : d.installs ≡ n.core.installs) (rings : rings_of (s ∷ older) ≡ installed_rings n.core.installs)
     (below : d.installed.ring.seq < d.running.ring.seq) where
-  pub installs_step : IsStep n (install d) (s ∷ older) ((sent sends ++ given n.core d) ++ configured d)
+  pub installs_step : IsStep object n (install d) (s ∷ older) ((sent sends ++ given n.core d) ++ configured d)
   installs_step =
       let c = n.core in
       let outs = sent sends ++ given c d in
-      let v = given_told n (install d) c d sends s older h.marked rises in
+      let v = given_told object n (install d) c d sends s older h.marked rises in
       let t = v.0 in
-      let k = configured_told n d t.stay older in
+      let k = configured_told object n d t.stay older in
       let u = k.0 in
       let new = stay_in d.running.ring d.running.members in
       let first = due_at_regular n.group d.running.members (t.stay ∷ older) in
-      let more = due_by n (install d) (new ∷ t.stay ∷ older) (delivered_from d d.running.ring 0 0) in
-      let silent : due_by n (install d) (s ∷ older) outs ≡ [] =
+      let more = due_by object n (install d) (new ∷ t.stay ∷ older) (delivered_from d d.running.ring 0 0) in
+      let silent : due_by object n (install d) (s ∷ older) outs ≡ [] =
       none_left _ t.due.needs (λ p. installs_other d c.installed.ring (ap (λ (x : Configuration). x.ring) same) below p.runs_here) in
-      let due : due_by n (install d) (s ∷ older) (outs ++ configured d) ≡ first ++ more =
-      due-append n (install d) (s ∷ older) outs (configured d)
-      ∙ ap (λ x. x ++ due_by n (install d) (lived_through (s ∷ older) outs) (configured d)) silent
-      ∙ ap (λ l. due_by n (install d) l (configured d)) t.life
+      let due : due_by object n (install d) (s ∷ older) (outs ++ configured d) ≡ first ++ more =
+      due-append object n (install d) (s ∷ older) outs (configured d)
+      ∙ ap (λ x. x ++ due_by object n (install d) (lived_through (s ∷ older) outs) (configured d)) silent
+      ∙ ap (λ l. due_by object n (install d) l (configured d)) t.life
       ∙ k.3 in
       let may : MayHandFirst n.group new (t.stay ∷ older) (first ++ more) = may_first n.group new (t.stay ∷ older) _ more u.due (λ p. p.primary) in
       record {
@@ -260,7 +262,8 @@ module _ {A : Type 0} (n : Node A) (s : Stay A) (older : List (Stay A)) (d : Cor
             (subst (λ (l : List (Stay A)). AllMayHappen n.group l (Regular d.running.ring d.running.members ∷ u.events)) (sym t.lived_on) (tt, u.may));
         lived_on = events-append (s ∷ older) t.events (Regular d.running.ring d.running.members ∷ u.events)
             ∙ ap (λ l. all_lived l (Regular d.running.ring d.running.members ∷ u.events)) t.lived_on ∙ u.lived_on;
-        hand = subst (λ said. MayHandAfter n.group u.stay (t.stay ∷ older) said (due_by n (install d) (s ∷ older) (outs ++ configured d))) (sym u.sent_is)
+        hand = subst (λ said. MayHandAfter n.group u.stay (t.stay ∷ older) said (due_by object n (install d) (s ∷ older) (outs ++ configured d)))
+            (sym u.sent_is)
             (subst (λ x. MayHandFirst n.group u.stay (t.stay ∷ older) x) (sym due)
             (first_same n.group new u.stay (t.stay ∷ older) (first ++ more) (sym u.members_is) may));
         stands = record {
@@ -279,6 +282,6 @@ module _ {A : Type 0} (n : Node A) (s : Stay A) (older : List (Stay A)) (d : Cor
 
       opens : (before : List (Stay A)) → is_primary n.group d.running.members ≡ true → due_at_regular n.group d.running.members before ≡ [] → ⊥
       opens before p e =
-          let f : Head (head_of_life n.group before) ∷ [] ≡ [] = sym (cond-true (is_primary n.group d.running.members)
-          (Head (head_of_life n.group before) ∷ []) [] p) ∙ e in
+          let f : Head (head_kept (kept_of n.group before)) ∷ [] ≡ [] = sym (cond-true (is_primary n.group d.running.members)
+          (Head (head_kept (kept_of n.group before)) ∷ []) [] p) ∙ e in
           let x : ⊥ = cc in x

@@ -1,5 +1,5 @@
 -- Each event of a world of nodes, and so every list of them, keeps the discipline of each node, and lets its life go on.
-use Rattle.std.proofs.Common.{◌≡◌, ℕ, Bool, true, false, ◌==◌, inl, inr, List, [], ◌∷◌, Option, Some, None, refl, ap, sym, ◌∙◌, subst, arith}
+use Rattle.std.proofs.Common.{◌≡◌, ℕ, ◌<◌, ◌≤◌, Bool, true, false, ◌==◌, inl, inr, List, [], ◌∷◌, Option, Some, None, refl, ap, sym, ◌∙◌, subst, arith}
 use Rattle.std.specs.Prelude.{nat_le, ◌&&◌, if◌then◌else◌}
 use Rattle.std.proofs.lemmas.Bool.{cond_both, eqb-true}
 use Rattle.ring_base.specs.Group.{Group}
@@ -10,6 +10,9 @@ use Rattle.ring_payload.specs.declared.call.Call.{Call as OneCall}
 use Rattle.ring_wire.specs.declared.frame.Frame.{Frame}
 use Rattle.ring_core.specs.State.{Carried, frame_at}
 use Rattle.ring_log.specs.Stays.{Stay, stay_in}
+use Rattle.ring_log.specs.Kept.{kept_of}
+use Rattle.ring_log.specs.Lives.{whole_life}
+use Rattle.ring_core_proof.specs.LawWords.{IsFalling}
 use Rattle.ring_rules.specs.declared.input.Input.{Input as NodeInput}
 use Rattle.ring_rules.specs.declared.input.Input.TheVariants.{Frame as NodeFrame, Timeout as NodeTime}
 use Rattle.ring_rules.specs.Nodes.{Node, node_opening}
@@ -17,13 +20,16 @@ use Rattle.ring_rules.specs.Stepping.{submit_fault}
 use Rattle.ring_rules.specs.declared.event.Event.{Event}
 use Rattle.ring_rules.specs.declared.event.Event.TheVariants.{Issue, Deliver, Noise, Timeout, Stop}
 use Rattle.ring_rules.specs.Worlds.{World, put, world_opening, is_node, issued_or, issued_if, stopped_if}
-use Rattle.ring_rules.specs.Worlds.{stepped_if, handed_if, handed, happens, run}
-use Rattle.ring_log_proof.specs.Discipline.{KeepsDiscipline}
+use Rattle.ring_rules.specs.Worlds.{stepped_if, handed_if, handed, happens, run, lives_in, above, lives_of}
+use Rattle.ring_log_proof.specs.RingFacts.{IsStay, Rises}
+use Rattle.ring_log_proof.specs.Discipline.{KeepsDiscipline, IsDropping, DropsCommitted, KeepsRules}
 use Rattle.ring_log_proof.specs.Time.{AllMayHappen, LivesOn}
 use Rattle.ring_log_proof.proofs.Living.{on-self, on-trans, events-on, events-orderly}
 use Rattle.ring_synchrony_proof.proofs.Ordered.{opening_ordered}
-use Rattle.ring_order_proof.specs.Living.{lives_of}
-use Rattle.ring_order_proof.proofs.DisciplinedNodes.{IsOrderlyNode, Becomes, node_becomes, node_stops, node_submits}
+use Rattle.ring_log_proof.proofs.FilledLives.{rules-whole}
+use Rattle.ring_log_proof.proofs.Stays.{seq-same, top-above}
+use Rattle.ring_order_proof.proofs.DisciplinedNodes.{IsOrderlyNode, Becomes, node_becomes, node_stops, node_submits, rises}
+use Rattle.ring_order_proof.proofs.DisciplinedSteps.{rings_of}
 use Rattle.ring_log_proof.proofs.Living.{IsOrderly}
 
 -- A node of a group, its life orderly
@@ -64,7 +70,8 @@ AllKept group w = (i : ℕ) → IsNodeKept group (w.nodes i)
 all_same : {A : Type 0} → (group : Group) (w : World A) → AllKept group w → AllGoOn group w w
 all_same group w k = record { group_is = refl; nodes = λ i. same_goes_on group (w.nodes i) (k i) }
 
-one_put : {A : Type 0} → (group : Group) (nodes : ℕ → Node A) (i : ℕ) (n : Node A) → ((j : ℕ) → IsNodeKept group (nodes j)) → GoesOn group (nodes i) n → (j : ℕ) →
+one_put : {A : Type 0} → (group : Group) (nodes : ℕ → Node A) (i : ℕ) (n : Node A) → ((j : ℕ) → IsNodeKept group (nodes j)) → GoesOn group (nodes i) n
+    → (j : ℕ) →
     GoesOn group (nodes j) (put nodes i n j)
 one_put {A} group nodes i n k g j =
     cond_both (j == i) n (nodes j) (λ (m : Node A). GoesOn group (nodes j) m)
@@ -134,6 +141,10 @@ opening_kept {A} group me =
         rings = refl;
         ordered = opening_ordered A group.count me;
         ready = refl;
+        drops = λ s older i. elim (i) [
+          | inl e ↦ subst (λ (t : Stay A). t.trimmed ≤ (kept_of group (t ∷ older)).committed) e.0 (omega arith)
+          | inr n ↦ absurd n
+        ];
       };
       keeps = λ s older i. elim (i) [ inl e ↦ inl (ap (λ (t : Stay A). t.sent) (sym e.0)) | inr n ↦ absurd n ];
     }
@@ -142,26 +153,65 @@ pub opened_on : {O A : Type 0} → (object : Sequential O) (group : Group) (even
     → AllGoOn group (world_opening group) (run object (world_opening group) events)
 opened_on object group events = run_on object group (world_opening group) (opening_kept group) events
 
--- The lives of the group's processors
+-- The lives of the group's processors, as they know them
 
-pub lives_keep : {O A : Type 0} → (object : Sequential O) (group : Group) (events : List (Event A))
-    → KeepsDiscipline group (lives_of (run object (world_opening group) events))
-lives_keep {O} {A} object group events p =
+pub in_lives : {A : Type 0} → (w : World A) (P : List (Stay A) → Type 0) (p : ℕ) → P (w.nodes p).life → P [] → P (lives_in w p)
+in_lives w P p h none = cond_both (is_node w p) (w.nodes p).life [] P (λ e. h) (λ e. none)
+
+pub own_keep : {O A : Type 0} → (object : Sequential O) (group : Group) (events : List (Event A))
+    → KeepsDiscipline group (lives_in (run object (world_opening group) events))
+own_keep {O} {A} object group events p =
     let w = run object (world_opening group) events in
-    cond_both (is_node w p) (w.nodes p).life [] (λ (l : List (Stay A)). IsOrderly group l)
-    (λ e. ((opened_on object group events).nodes p).kept.keeps) (λ e s older i. absurd i)
+    in_lives w (λ (l : List (Stay A)). IsOrderly group l) p ((opened_on object group events).nodes p).kept.keeps (λ s older i. absurd i)
 
-pub lives_on : {O A : Type 0} → (object : Sequential O) (group : Group) (before later : List (Event A)) (i : ℕ) →
-    LivesOn (lives_of (run object (world_opening group) before) i) (lives_of (run object (run object (world_opening group) before) later) i)
-lives_on {O} {A} object group before later i =
+pub own_drop : {O A : Type 0} → (object : Sequential O) (group : Group) (events : List (Event A))
+    → DropsCommitted group (lives_in (run object (world_opening group) events))
+own_drop {O} {A} object group events p =
+    let w = run object (world_opening group) events in
+    let k = ((opened_on object group events).nodes p).kept in
+    in_lives w (λ (l : List (Stay A)). IsDropping group l) p (subst (λ g. IsDropping g (w.nodes p).life) k.group_is k.orderly.drops) (λ s older i. absurd i)
+
+-- the numbers of their rings rise
+pub kept_rise : {A : Type 0} → (group : Group) (w : World A) → AllKept group w → (p : ℕ) → Rises (lives_in w p)
+kept_rise {A} group w k p =
+    let o = (k p).orderly in
+    in_lives w (λ (l : List (Stay A)). Rises l) p (rises (w.nodes p).life (w.nodes p).core.installs (ap rings_of o.life ∙ o.rings)
+    (subst IsFalling (sym o.ordered.newest) o.ordered.falls)) tt
+
+pub own_on : {O A : Type 0} → (object : Sequential O) (group : Group) (before later : List (Event A)) (i : ℕ) →
+    LivesOn (lives_in (run object (world_opening group) before) i) (lives_in (run object (run object (world_opening group) before) later) i)
+own_on {O} {A} object group before later i =
     let w = run object (world_opening group) before in
     let first = opened_on object group before in
     let more = run_on object group w (λ j. (first.nodes j).kept) later in
     let after = run object w later in
     let same : is_node after i ≡ is_node w i = ap (λ (g : Group). nat_le 1 i && nat_le i g.count) more.group_is in
-    subst (λ b. LivesOn (lives_of w i) (if b then (after.nodes i).life else [])) (sym same)
+    subst (λ b. LivesOn (lives_in w i) (if b then (after.nodes i).life else [])) (sym same)
     (cond_on (is_node w i) (w.nodes i).life (after.nodes i).life (more.nodes i).on)
   where
     cond_on : (b : Bool) (x y : List (Stay A)) → LivesOn x y → LivesOn (if b then x else []) (if b then y else [])
     cond_on true x y h = h
     cond_on false x y h = tt
+
+-- the rings below a life's bound
+pub below_above : {A : Type 0} → (life : List (Stay A)) → Rises life → (s : Stay A) (older : List (Stay A)) → IsStay life s older → s.ring.seq < above life
+below_above [] r s older i = absurd i
+below_above (t ∷ before) r s older (inl e) = omega (arith, seq-same e.0)
+below_above (t ∷ before) r s older (inr i) = omega (arith, top-above t before s older r i)
+
+-- With what snapshots stand for
+
+abbrev pub tops : {A : Type 0} → World A → ℕ → ℕ
+tops w p = above (lives_in w p)
+
+pub run_group : {O A : Type 0} → (object : Sequential O) (group : Group) (events : List (Event A)) → (run object (world_opening group) events).group ≡ group
+run_group object group events = (opened_on object group events).group_is
+
+pub lives_keep : {O A : Type 0} → (object : Sequential O) (group : Group) (events : List (Event A))
+    → KeepsRules group (lives_of (run object (world_opening group) events))
+lives_keep {O} {A} object group events =
+    let w = run object (world_opening group) events in
+    let same = run_group object group events in
+    let rises : (p : ℕ) → Rises (lives_in w p) = kept_rise group w (λ p. ((opened_on object group events).nodes p).kept) in
+    subst (λ g. KeepsRules group (λ p. whole_life g (lives_in w) (tops w p) p)) (sym same)
+    (rules-whole group (lives_in w) (tops w) (λ p. below_above (lives_in w p) (rises p)) rises (own_keep object group events) (own_drop object group events))

@@ -1,103 +1,262 @@
--- In every run a node has done just the calls that it has committed, and all answers that it gave are those of the session table, one call after the
--- other from the first.
-use Rattle.std.proofs.Common.{◌≡◌, ℕ, Bool, true, false, List, [], ◌∷◌, ◌++◌, length, drop, refl, ap, sym, ◌∙◌, subst, arith}
-use Rattle.std.proofs.Math.Seq.{drop-append_seam}
-use Rattle.ring_base.specs.Fronts.{IsFront}
+-- In every run whose issued calls keep the limits a node has done just the calls that it has committed, but for those that it has by restoring a
+-- snapshot; and all answers that it gave are those of the session table before each call that it did, after all places that stand before that in the one
+-- list.
+use Rattle.std.proofs.Common.{◌≡◌, ℕ, ◌+◌, ◌≤◌, ◌==◌, Bool, true, false, List, [], ◌∷◌, ◌++◌, length}
+use Rattle.std.proofs.Common.{fold, Option, Some, None, inl, inr, refl, ap, sym, ◌∙◌, subst}
+use Rattle.std.proofs.Common.{arith, append_assoc, append-nil, length-append}
+use Rattle.std.specs.List.{AllByRecursion as Each}
+use Rattle.std.proofs.lemmas.Bool.{cond_both, eqb-true}
+use Rattle.std.proofs.lemmas.List.Sums.{fold-append}
+use Rattle.ring_base.specs.Fronts.{front_whole}
 use Rattle.ring_base.specs.Group.{Group}
+use Rattle.ring_base.specs.Processors.{has}
+use Rattle.ring_base.specs.declared.fault.Fault.{Fault}
+use Rattle.ring_base.proofs.Each.{each-append}
 use Rattle.ring_object.specs.Operations.{Sequential}
 use Rattle.ring_payload.specs.declared.call.Call.{Call}
-use Rattle.ring_payload.specs.declared.content.Payload.{Payload}
-use Rattle.ring_core.specs.declared.input.Input.TheVariants.{Frame as FrameInput, Timeout as TimeInput}
-use Rattle.ring_core.specs.declared.out.Out.{Out}
-use Rattle.ring_core.specs.State.{Core}
-use Rattle.ring_core.specs.Stepping.{ring_step}
-use Rattle.ring_log.specs.Stays.{Stay, hands}
-use Rattle.ring_log.specs.Lives.{committed_of, is_sound}
-use Rattle.ring_log.proofs.CommittedOf.{born-committed, hands-committed}
-use Rattle.ring_log_proof.specs.Time.{LivesOn}
-use Rattle.ring_log_proof.proofs.CommittedGrows.{committed_on}
-use Rattle.ring_session.specs.declared.answered.Answered.{Answered}
-use Rattle.ring_session.specs.Table.{Table, opening, table_after}
+use Rattle.ring_core.specs.State.{Carried, frame_at}
+use Rattle.ring_log.specs.Kept.{Kept, kept_of}
+use Rattle.ring_log.specs.Lives.{committed_of}
+use Rattle.ring_log.proofs.CommittedOf.{hands-kept}
+use Rattle.ring_session.specs.Table.{Table, opening, table_next, table_after}
 use Rattle.ring_session.specs.Tickets.{Asked, answers_after}
-use Rattle.ring_session.proofs.AnswersGrow.{answers_after-push, answers_after-append}
-use Rattle.ring_rules.specs.declared.input.Input.{Input as NodeInput}
-use Rattle.ring_rules.specs.declared.input.Input.TheVariants.{Frame as NodeFrame, Noise as NodeNoise, Timeout as NodeTime, Stop as NodeStop}
-use Rattle.ring_rules.specs.Lives.{lived_through}
-use Rattle.ring_rules.specs.Nodes.{Node, node_committed}
-use Rattle.ring_rules.specs.Stepping.{NodeStepped, walked, node_step, submitted}
-use Rattle.ring_rules.proofs.NodeChanges.{submitted-committed}
+use Rattle.ring_session.specs.declared.answered.Answered.{Answered}
+use Rattle.ring_session.proofs.AnswersGrow.{answers_after-push}
+use Rattle.ring_rules.specs.Nodes.{Node, node_kept, node_stopped}
+use Rattle.ring_rules.specs.Stepping.{newly, table_since, node_step, due_by_submit, submit_fault, submitted}
+use Rattle.ring_rules.specs.declared.input.Input.{Input}
+use Rattle.ring_rules.specs.declared.input.Input.TheVariants.{Frame as FrameInput, Timeout as TimeInput}
 use Rattle.ring_rules.specs.declared.event.Event.{Event}
-use Rattle.ring_rules.specs.Worlds.{world_opening, run}
-use Rattle.ring_order_proof.proofs.KeptByNodes.{all_have}
-use Rattle.ring_rules.specs.WholeSteps.{due_by, newly, settled, node_step as whole_step}
-use Rattle.ring_rules.proofs.OneStep.{step-same}
+use Rattle.ring_rules.specs.declared.event.Event.TheVariants.{Issue, Deliver, Noise, Timeout, Stop}
+use Rattle.ring_rules.specs.Worlds.{World, world_opening, put, is_node, issued_or, issued_if, stopped_if, stepped_if, handed_if, handed, happens, run}
+use Rattle.ring_order_proof.specs.Done.{Span, places_in, done_in, answers_in, HasDone}
+use Rattle.ring_order_proof.specs.Linear.{EventKeeps}
+use Rattle.ring_order_proof.specs.Living.{lives_of}
+use Rattle.ring_order_proof.proofs.CommittingSteps.{IsSteady, Moves, StillKnows, step-moves, commits}
+use Rattle.ring_order_proof.proofs.OrderSteps.{AllKnow, whole-grows, still-know}
+use Rattle.ring_order_proof.proofs.OrderedRuns.{steady, know, opening-none}
+use Rattle.ring_order_proof.proofs.Orderly.{run-more, orderly, orderly-after, lives_on}
+use Rattle.ring_order_proof.proofs.RestoredTables.{ComesBack}
 
--- what is handed over is not read
-sound_hands : {A : Type 0} → (group : Group) (ps : List (Payload A)) (life : List (Stay A)) → is_sound group (hands ps life) ≡ is_sound group life
-sound_hands group ps [] = refl
-sound_hands group ps (s ∷ older) = refl
+-- One span more
 
--- what stands behind a front
-behind-front : {X : Type 0} (xs ys : List X) → IsFront xs ys → xs ++ drop (length xs) ys ≡ ys
-behind-front xs ys f = ap (λ l. xs ++ l) (ap (drop (length xs)) (sym f.1) ∙ drop-append_seam xs f.0) ∙ f.1
+places-more : {A : Type 0} (spans : List (Span A)) (s : Span A) → places_in (spans ++ s ∷ []) ≡ places_in spans ++ (s.restored ++ s.did)
+places-more [] s = append-nil (s.restored ++ s.did)
+places-more (r ∷ rest) s =
+    ap (λ l. (r.restored ++ r.did) ++ l) (places-more rest s) ∙ sym (append_assoc (r.restored ++ r.did) (places_in rest) (s.restored ++ s.did))
+
+done-more : {A : Type 0} (spans : List (Span A)) (s : Span A) → done_in (spans ++ s ∷ []) ≡ done_in spans ++ s.did
+done-more [] s = append-nil s.did
+done-more (r ∷ rest) s = ap (λ l. r.did ++ l) (done-more rest s) ∙ sym (append_assoc r.did (done_in rest) s.did)
 
 module _ {O A : Type 0} (object : Sequential O) where
-  pub record HasDone (n : Node A) : Type 0 where
-    pub calls : n.done ≡ node_committed n
-    pub answers : n.answers ≡ answers_after object (opening object.initial) n.tickets [] n.done
+  abbrev after : Table O → List (Call A) → Table O
+  after = fold (table_next object)
 
-  -- a step does what it commits
-  settled_done : (b : Bool) (n : Node A) (core : Core A) (life : List (Stay A)) (due : List (Payload A)) (outs : List (Out A)) → is_sound n.group life ≡ b →
-      LivesOn n.life (settled object b n (walked n core life due) outs life).node.life → HasDone n →
-      HasDone (settled object b n (walked n core life due) outs life).node
-  settled_done false n core life due outs e on h = record { calls = h.calls; answers = h.answers }
-  settled_done true n core life due outs e on h =
-      let old = node_committed n in
-      let more = newly n life in
-      let sound : is_sound n.group (hands due life) ≡ true = sound_hands n.group due life ∙ e in
-      let grows = committed_on n.group n.life (hands due life) on sound in
-      let handed = hands-committed n.group due life in
-      let all : old ++ more ≡ committed_of n.group (hands due life) =
-      ap (λ l. old ++ drop (length old) l) (sym handed) ∙ behind-front old (committed_of n.group (hands due life)) grows in
-      let given : Table O → List (Answered A) = λ t. answers_after object t n.tickets n.done more in
+  answers-more : (table : Table O) (tickets : List (Asked A)) (done : List (Call A)) (spans : List (Span A)) (s : Span A)
+      → answers_in object table tickets done (spans ++ s ∷ [])
+      ≡ answers_in object table tickets done spans
+      ++ answers_after object (after (after table (places_in spans)) s.restored) tickets (done ++ done_in spans) s.did
+  answers-more table tickets done [] s =
+      append-nil (answers_after object (after table s.restored) tickets done s.did)
+      ∙ ap (λ d. answers_after object (after table s.restored) tickets d s.did) (sym (append-nil done))
+  answers-more table tickets done (r ∷ rest) s =
+      let first = answers_after object (after table r.restored) tickets done r.did in
+      let next = after table (r.restored ++ r.did) in
+      let others = answers_in object next tickets (done ++ r.did) rest in
+      let last : Table O → List (Call A) → List (Answered A) = λ t d. answers_after object (after t s.restored) tickets d s.did in
+      ap (λ l. first ++ l) (answers-more next tickets (done ++ r.did) rest s
+      ∙ ap (λ t. others ++ last t ((done ++ r.did) ++ done_in rest)) (sym (fold-append (table_next object) table (r.restored ++ r.did) (places_in rest)))
+      ∙ ap (λ d. others ++ last (after table (places_in (r ∷ rest))) d) (append_assoc done r.did (done_in rest)))
+      ∙ sym (append_assoc first others (last (after table (places_in (r ∷ rest))) (done ++ done_in (r ∷ rest))))
+
+  -- a new ticket has no answer yet
+  answers-push : (table : Table O) (ts : List (Asked A)) (t : Asked A) (done : List (Call A)) (spans : List (Span A))
+      → length done + length (done_in spans) ≤ t.since → answers_in object table (ts ++ t ∷ []) done spans ≡ answers_in object table ts done spans
+  answers-push table ts t done [] late = refl
+  answers-push table ts t done (s ∷ rest) late =
+      let next = after table (s.restored ++ s.did) in
+      let one = length-append s.did (done_in rest) in
+      let two = length-append done s.did in
+      ap (λ l. l ++ answers_in object next (ts ++ t ∷ []) (done ++ s.did) rest)
+      (answers_after-push object (after table s.restored) ts t done s.did (omega (arith, late, one)))
+      ∙ ap (λ l. answers_after object (after table s.restored) ts done s.did ++ l)
+      (answers-push next ts t (done ++ s.did) rest (omega (arith, late, one, two)))
+
+  -- One node
+
+  -- of what a node did, and of what it knows, nothing changed
+  record IsSame (n new : Node A) : Type 0 where
+    kept : node_kept new ≡ node_kept n
+    done : new.done ≡ n.done
+    answers : new.answers ≡ n.answers
+    tickets : new.tickets ≡ n.tickets
+
+  same-whole : (n new : Node A) (whole whole' : List (Call A)) → StillKnows object n new whole whole' → node_kept new ≡ node_kept n → whole ≡ whole'
+  same-whole n new whole whole' g e =
+      front_whole whole whole' g.grows (omega (arith, g.before.committed, g.after.committed, ap (λ (k : Kept A). k.committed) e))
+
+  same-done : (n new : Node A) (whole whole' : List (Call A)) → StillKnows object n new whole whole' → IsSame n new → HasDone object n whole
+      → HasDone object new whole'
+  same-done n new whole whole' g s h =
+      let same = same-whole n new whole whole' g s.kept in
       record {
-        calls = ap (λ l. l ++ more) h.calls ∙ all;
-        answers =
-            ap (λ l. l ++ given (table_after object old)) h.answers
-            ∙ ap (λ l. answers_after object (opening object.initial) n.tickets [] n.done ++ given (table_after object l)) (sym h.calls)
-            ∙ sym (answers_after-append object (opening object.initial) n.tickets [] n.done more);
+        spans = h.spans;
+        places = h.places ∙ same;
+        done = h.done ∙ sym s.done;
+        answers = ap (λ ts. answers_in object (opening object.initial) ts [] h.spans) s.tickets ∙ h.answers ∙ sym s.answers;
+        all = λ none. s.done ∙ h.all (sym (ap (λ (k : Kept A). k.from) s.kept) ∙ none) ∙ same;
       }
 
-  whole_done : (n : Node A) (input : NodeInput A) → LivesOn n.life (whole_step object n input).node.life → HasDone n → HasDone (whole_step object n input).node
-  whole_done n (NodeFrame frame) on h =
-      let s = ring_step n.core (FrameInput frame) in
-      let life = lived_through n.life s.outs in
-      settled_done (is_sound n.group life) n s.core life (due_by n s.core n.life s.outs) s.outs refl on h
-  whole_done n (NodeTime kind) on h =
-      let s = ring_step n.core (TimeInput kind) in
-      let life = lived_through n.life s.outs in
-      settled_done (is_sound n.group life) n s.core life (due_by n s.core n.life s.outs) s.outs refl on h
-  whole_done n NodeNoise on h = h
-  whole_done n NodeStop on h = record { calls = h.calls; answers = h.answers }
+  moved-done : (n : Node A) (input : Input A) (whole whole' : List (Call A)) → StillKnows object n (node_step object n input).node whole whole'
+      → Moves object n (node_step object n input) → HasDone object n whole → HasDone object (node_step object n input).node whole'
+  moved-done n input whole whole' g m h =
+      let s = node_step object n input in
+      let old = node_kept n in
+      let c = commits object n s.node whole whole' m.known m.goes m.dropped g in
+      let more = newly old m.known in
+      let span : Span A = record { restored = c.grows.0; did = more } in
+      let start : Table O = opening object.initial in
+      let table : after (after start (places_in h.spans)) c.grows.0 ≡ table_since object old m.known =
+      ap (λ l. after (after start l) c.grows.0) h.places ∙ sym (fold-append (table_next object) start whole c.grows.0)
+      ∙ ap (table_after object) c.grows.1 ∙ sym c.since in
+      let given : answers_after object (after (after start (places_in h.spans)) c.grows.0) n.tickets (done_in h.spans) more ≡ s.answers =
+      ap (λ t. answers_after object t n.tickets (done_in h.spans) more) table
+      ∙ ap (λ d. answers_after object (table_since object old m.known) n.tickets d more) h.done ∙ sym m.answers in
+      record {
+        spans = h.spans ++ span ∷ [];
+        places = places-more h.spans span ∙ ap (λ l. l ++ (c.grows.0 ++ more)) h.places ∙ sym (append_assoc whole c.grows.0 more)
+            ∙ ap (λ l. l ++ more) c.grows.1 ∙ c.parts;
+        done = done-more h.spans span ∙ ap (λ l. l ++ more) h.done ∙ sym m.done;
+        answers = ap (λ ts. answers_in object start ts [] (h.spans ++ span ∷ [])) m.tickets
+            ∙ answers-more start n.tickets [] h.spans span
+            ∙ ap (λ l. l ++ answers_after object (after (after start (places_in h.spans)) c.grows.0) n.tickets (done_in h.spans) more) h.answers
+            ∙ ap (λ l. n.answers ++ l) given ∙ sym m.given;
+        all = λ none.
+            let p = c.plain (sym m.dropped.from ∙ none) in
+            m.done ∙ ap (λ l. l ++ more) (h.all p.1) ∙ ap (λ l. l ++ more) (sym p.0) ∙ c.parts;
+      }
 
-  stepped_done : (n : Node A) (input : NodeInput A) → LivesOn n.life (node_step object n input).node.life → HasDone n → HasDone (node_step object n input).node
-  stepped_done n input =
-      subst (λ (s : NodeStepped A). LivesOn n.life s.node.life → HasDone n → HasDone s.node) (sym (step-same object n input)) (whole_done n input)
+  step-done : (n : Node A) (input : Input A) (whole whole' : List (Call A)) → IsSteady n → StillKnows object n (node_step object n input).node whole whole'
+      → HasDone object n whole → HasDone object (node_step object n input).node whole'
+  step-done n input whole whole' k g h =
+      let new = (node_step object n input).node in
+      elim (step-moves object n input k) as (λ _. HasDone object new whole') [
+        | inl r ↦
+            let kept : node_kept new ≡ node_kept n = ap (λ group. kept_of group new.life) r.group ∙ ap (kept_of n.group) r.life in
+            same-done n new whole whole' g (record { kept = kept; done = r.done; answers = r.given; tickets = r.tickets }) h
+        | inr m ↦ moved-done n input whole whole' g m h
+      ]
 
-  -- a submit does nothing
-  submitted_done : (n : Node A) (c : Call A) → HasDone n → HasDone (submitted n c)
-  submitted_done n c h =
+  submit-done : (n : Node A) (c : Call A) (whole whole' : List (Call A)) → StillKnows object n (submitted n c) whole whole' → HasDone object n whole
+      → HasDone object (submitted n c) whole'
+  submit-done n c whole whole' g h =
       let t : Asked A = record { call = c; since = length n.done } in
+      let kept : node_kept (submitted n c) ≡ node_kept n = hands-kept n.group (due_by_submit n c) n.life in
+      let same = same-whole n (submitted n c) whole whole' g kept in
+      let long = ap length h.done in
       record {
-        calls = h.calls ∙ sym (submitted-committed n c);
-        answers = h.answers ∙ sym (answers_after-push object (opening object.initial) n.tickets t [] n.done (omega arith));
+        spans = h.spans;
+        places = h.places ∙ same;
+        done = h.done;
+        answers = answers-push (opening object.initial) n.tickets t [] h.spans (omega (arith, long)) ∙ h.answers;
+        all = λ none. h.all (sym (ap (λ (k : Kept A). k.from) kept) ∙ none) ∙ same;
       }
 
-  pub all_done : (group : Group) (events : List (Event A)) (i : ℕ) → HasDone ((run object (world_opening group) events).nodes i)
-  all_done =
-      all_have object HasDone (record {
-        opens = λ group me. record { calls = sym (born-committed group me); answers = refl };
-        steps = stepped_done;
-        submits = λ n c e h. submitted_done n c h;
-        stops = λ n h. record { calls = h.calls; answers = h.answers };
-      })
+  -- All nodes
+
+  module _ (group : Group) where
+    abbrev Whole : World A → ℕ → List (Call A)
+    Whole w i = committed_of group (lives_of w i)
+
+    abbrev AllDone : World A → Type 0
+    AllDone w = (i : ℕ) → 1 ≤ i → i ≤ group.count → HasDone object (w.nodes i) (Whole w i)
+
+    abbrev AllStill : World A → World A → Type 0
+    AllStill w w' = (i : ℕ) → 1 ≤ i → i ≤ group.count → StillKnows object (w.nodes i) (w'.nodes i) (Whole w i) (Whole w' i)
+
+    -- of one node the value is another
+    put-done : (nodes : ℕ → Node A) (whole whole' : ℕ → List (Call A)) (i : ℕ) (new : Node A)
+        → ((j : ℕ) → 1 ≤ j → j ≤ group.count → StillKnows object (nodes j) (put nodes i new j) (whole j) (whole' j))
+        → (StillKnows object (nodes i) new (whole i) (whole' i) → HasDone object (nodes i) (whole i) → HasDone object new (whole' i))
+        → ((j : ℕ) → 1 ≤ j → j ≤ group.count → HasDone object (nodes j) (whole j))
+        → (j : ℕ) → 1 ≤ j → j ≤ group.count → HasDone object (put nodes i new j) (whole' j)
+    put-done nodes whole whole' i new still step all j low high =
+        cond_both (j == i) new (nodes j) (λ (m : Node A). StillKnows object (nodes j) m (whole j) (whole' j) → HasDone object m (whole' j))
+        (λ e k. subst (λ q. StillKnows object (nodes q) new (whole q) (whole' q) → HasDone object (nodes q) (whole q) → HasDone object new (whole' q))
+        (sym (eqb-true j i e)) step k (all j low high))
+        (λ f k. same-done (nodes j) (nodes j) (whole j) (whole' j) k (record { kept = refl; done = refl; answers = refl; tickets = refl }) (all j low high))
+        (still j low high)
+
+    module _ (w : World A) (steady : (i : ℕ) → IsSteady (w.nodes i)) (all : AllDone w) where
+      steps-done : (b : Bool) (i : ℕ) (input : Input A) → AllStill w (stepped_if object b w i input) → AllDone (stepped_if object b w i input)
+      steps-done false i input still = all
+      steps-done true i input still =
+          let w' = stepped_if object true w i input in
+          put-done w.nodes (Whole w) (Whole w') i (node_step object (w.nodes i) input).node still
+          (step-done (w.nodes i) input (Whole w i) (Whole w' i) (steady i)) all
+
+      issued-done : (o : Option Fault) (i : ℕ) (c : Call A) → AllStill w (issued_or o w i c) → AllDone (issued_or o w i c)
+      issued-done (Some fault) i c still = all
+      issued-done None i c still =
+          let w' = issued_or None w i c in
+          put-done w.nodes (Whole w) (Whole w') i (submitted (w.nodes i) c) still (submit-done (w.nodes i) c (Whole w i) (Whole w' i)) all
+
+      issue-done : (b : Bool) (i : ℕ) (c : Call A) → AllStill w (issued_if b w i c) → AllDone (issued_if b w i c)
+      issue-done false i c still = all
+      issue-done true i c still = issued-done (submit_fault (w.nodes i)) i c still
+
+      stop-done : (b : Bool) (i : ℕ) → AllStill w (stopped_if b w i) → AllDone (stopped_if b w i)
+      stop-done false i still = all
+      stop-done true i still =
+          let w' = stopped_if true w i in
+          put-done w.nodes (Whole w) (Whole w') i (node_stopped (w.nodes i)) still
+          (λ k h. same-done (w.nodes i) (node_stopped (w.nodes i)) (Whole w i) (Whole w' i) k
+          (record { kept = refl; done = refl; answers = refl; tickets = refl }) h) all
+
+      frame-done : (b : Bool) (f : Carried A) (i : ℕ) → AllStill w (handed_if object b w i f.frame) → AllDone (handed_if object b w i f.frame)
+      frame-done false f i still = all
+      frame-done true f i still = steps-done (is_node w i) i (FrameInput f.frame) still
+
+      handed-done : (o : Option (Carried A)) (i : ℕ) → AllStill w (handed object w i o) → AllDone (handed object w i o)
+      handed-done None i still = all
+      handed-done (Some f) i still = frame-done (has f.to i) f i still
+
+      event-done : (e : Event A) → AllStill w (happens object w e) → AllDone (happens object w e)
+      event-done (Issue i c) still = issue-done (is_node w i) i c still
+      event-done (Deliver i n) still = handed-done (frame_at w.frames n) i still
+      event-done (Noise i bytes) still = all
+      event-done (Timeout i kind) still = steps-done (is_node w i) i (TimeInput kind) still
+      event-done (Stop i) still = stop-done (is_node w i) i still
+
+    module _ (few : group.count ≤ 16) (back : ComesBack object A) where
+      abbrev at : List (Event A) → World A
+      at events = run object (world_opening group) events
+
+      next-still : (before : List (Event A)) (e : Event A) → Each EventKeeps before → Each EventKeeps (before ++ e ∷ [])
+          → AllStill (at before) (happens object (at before) e)
+      next-still before e limits more =
+          let w = at before in
+          let w' = happens object w e in
+          let know' = subst (λ (x : World A). AllKnow object group x) (run-more object (world_opening group) before e)
+          (know object group few back (before ++ e ∷ []) more) in
+          still-know object group w w' (know object group few back before limits) know'
+          (whole-grows group w w' (orderly object group few before) (orderly-after object group few before e) (lives_on object group few before (e ∷ [])))
+
+      run-done : (before later : List (Event A)) → Each EventKeeps before → Each EventKeeps later → AllDone (at before) → AllDone (run object (at before) later)
+      run-done before [] limits more all = all
+      run-done before (e ∷ later) limits more all =
+          let w = happens object (at before) e in
+          let next = each-append EventKeeps before (e ∷ []) limits (more.0, tt) in
+          let now : AllDone w = event-done (at before) (steady object group few before) all e (next-still before e limits next) in
+          let same = run-more object (world_opening group) before e in
+          subst (λ (x : World A). AllDone (run object x later)) same
+          (run-done (before ++ e ∷ []) later next more.1 (subst (λ (x : World A). AllDone x) (sym same) now))
+
+      opens : AllDone (world_opening group)
+      opens i low high =
+          let none = sym (opening-none group i) in
+          record { spans = []; places = none; done = refl; answers = refl; all = λ e. none }
+
+      pub all_done : (events : List (Event A)) → Each EventKeeps events → AllDone (at events)
+      all_done events limits = run-done [] events tt limits opens

@@ -1,5 +1,5 @@
 -- In every run each ticket's call was issued, and so was each call handed over; and each node has the world's group.
-use Rattle.std.proofs.Common.{◌≡◌, ℕ, suc, zero, ◌==◌, Bool, true, false, List, [], ◌∷◌, ◌++◌, Option, Some, None, refl, subst, ◌∙◌, inl, inr}
+use Rattle.std.proofs.Common.{◌≡◌, ℕ, suc, zero, ◌==◌, ◌&&◌, Bool, true, false, List, [], ◌∷◌, ◌++◌, Option, Some, None, refl, subst, ◌∙◌, inl, inr}
 use Rattle.std.proofs.lemmas.Bool.{cond_both}
 use Rattle.ring_base.specs.Fronts.{front_get, front_append}
 use Rattle.ring_base.specs.Group.{Group}
@@ -11,13 +11,15 @@ use Rattle.ring_core.specs.State.{Carried, Stepped, frame_at}
 use Rattle.ring_core.specs.Stepping.{ring_step}
 use Rattle.ring_core.specs.declared.input.Input.TheVariants.{Frame as CoreFrame, Timeout as CoreTimeout}
 use Rattle.ring_core.specs.declared.out.Out.{Out}
+use Rattle.ring_log.specs.Kept.{Kept, kept_of, log_kept, is_kept_sound}
+use Rattle.ring_log.specs.Logs.{committed_calls}
 use Rattle.ring_log.specs.Stays.{Stay, born}
 use Rattle.ring_rules.specs.Lives.{lived_through}
-use Rattle.ring_rules.specs.Nodes.{Node, node_stopped}
+use Rattle.ring_rules.specs.Nodes.{Node, node_kept, node_stopped, is_closed, is_restored}
 use Rattle.ring_rules.specs.Dues.{due_by}
 use Rattle.ring_rules.specs.declared.input.Input.{Input}
 use Rattle.ring_rules.specs.declared.input.Input.TheVariants.{Frame as FrameInput, Noise as NoiseInput, Timeout as TimeInput, Stop as StopInput}
-use Rattle.ring_rules.specs.Stepping.{settled, walked, after_core, node_step, submit_fault, submitted}
+use Rattle.ring_rules.specs.Stepping.{NodeStepped, walked, with_dropped, newly, drops, did, settled, after_core, node_step, submit_fault, submitted}
 use Rattle.ring_rules.specs.declared.event.Event.{Event}
 use Rattle.ring_rules.specs.declared.event.Event.TheVariants.{Issue, Deliver, Noise, Timeout, Stop}
 use Rattle.ring_rules.specs.declared.item.Item.{Item}
@@ -29,9 +31,7 @@ use Rattle.ring_rules.specs.Worlds.{stopped_if, stepped_if, handed_if, handed, h
 use Rattle.ring_log_proof.specs.RingFacts.{IsStay}
 use Rattle.ring_log_proof.specs.Time.{IsKnownCall}
 use Rattle.std.specs.List.{AllByRecursion as Each}
-pub use Rattle.ring_order_proof.proofs.DisciplinedWorlds.{lives_on}
 use Rattle.ring_order_proof.proofs.HandedTickets.{NodeKnows, step-known, submitted-known, stopped-known, knows-more}
-use Rattle.ring_log.specs.Kept.{is_kept_sound}
 
 abbrev pub IssuedIn : {A : Type 0} → List (Item A) → Call A → Type 0
 IssuedIn history c = (k : ℕ) × IsIssuedAt history c k
@@ -49,15 +49,20 @@ pub record WorldKnows {A : Type 0} (group : Group) (w : World A) : Type 0 where
   pub knows : (i : ℕ) → NodeKnows (IssuedIn w.history) (w.nodes i)
 
 module _ {O A : Type 0} (object : Sequential O) where
-  settled-group : (b : Bool) (old new : Node A) (outs : List (Out A)) (life : List (Stay A)) → new.group ≡ old.group
-      → (settled object b old new outs life).node.group ≡ old.group
-  settled-group false old new outs life e = refl
-  settled-group true old new outs life e = e
+  settled-group : (b : Bool) (old new : Node A) (outs : List (Out A)) (k : Kept A) → new.group ≡ old.group
+      → (settled object b old new outs k).node.group ≡ old.group
+  settled-group false old new outs k e = refl
+  settled-group true old new outs k e =
+      let s = did object old new outs k (newly (node_kept old) k) in
+      cond_both (drops object (is_closed old.group new.life) k) (record s { node = with_dropped k.committed s.node; dropped = committed_calls (log_kept k) }) s
+      (λ (x : NodeStepped A). x.node.group ≡ old.group) (λ t. e) (λ f. e)
 
   core-group : (n : Node A) (s : Stepped A) → (after_core object n s).node.group ≡ n.group
   core-group n s =
-      settled-group (is_kept_sound n.group (lived_through n.life s.outs)) n (walked n s.core (lived_through n.life s.outs) (due_by n s.core n.life s.outs)) s.outs
-      (lived_through n.life s.outs) refl
+      let life = lived_through n.life s.outs in
+      settled-group (is_kept_sound n.group life && is_restored object (kept_of n.group life)) n
+      (walked n s.core life (due_by object n s.core n.life s.outs)) s.outs
+      (kept_of n.group life) refl
 
   step-group : (n : Node A) (input : Input A) → (node_step object n input).node.group ≡ n.group
   step-group n (FrameInput frame) = core-group n (ring_step n.core (CoreFrame frame))
@@ -67,10 +72,11 @@ module _ {O A : Type 0} (object : Sequential O) where
 
   -- one node changes, and the history may grow
   put-knows : (group : Group) (w : World A) (i : ℕ) (n : Node A) (frames : List (Carried A)) (history : List (Item A)) (told : List (Told A))
+      (longest : List (Call A))
       → WorldKnows group w
       → ((c : Call A) → IssuedIn w.history c → IssuedIn history c) → n.group ≡ group → NodeKnows (IssuedIn history) n
-      → WorldKnows group (record { group = w.group; nodes = put w.nodes i n; frames = frames; history = history; told = told })
-  put-knows group w i n frames history told k more e h = record {
+      → WorldKnows group (record { group = w.group; nodes = put w.nodes i n; frames = frames; history = history; told = told; longest = longest })
+  put-knows group w i n frames history told longest k more e h = record {
     here = k.here;
     groups = λ j. cond_both (j == i) n (w.nodes j) (λ (m : Node A). m.group ≡ group) (λ t. e) (λ f. k.groups j);
     knows = λ j. cond_both (j == i) n (w.nodes j) (NodeKnows (IssuedIn history)) (λ t. h)
@@ -83,7 +89,8 @@ module _ {O A : Type 0} (object : Sequential O) where
       let s = node_step object (w.nodes i) input in
       let w' = after_step w i s in
       let known = step-known (IssuedIn w.history) object (w.nodes i) input (k.knows i) in
-      put-knows group w i s.node w'.frames w'.history w'.told k (issued-more w.history (items_of s.answers)) (step-group (w.nodes i) input ∙ k.groups i)
+      put-knows group w i s.node w'.frames w'.history w'.told w'.longest k (issued-more w.history (items_of s.answers))
+      (step-group (w.nodes i) input ∙ k.groups i)
       (knows-more (IssuedIn w.history) (IssuedIn (w.history ++ items_of s.answers)) (issued-more w.history (items_of s.answers)) s.node known)
 
   issued-knows : (group : Group) (w : World A) (o : Option Fault) (i : ℕ) (c : Call A) → WorldKnows group w → WorldKnows group (issued_or o w i c)
@@ -91,7 +98,7 @@ module _ {O A : Type 0} (object : Sequential O) where
   issued-knows group w None i c k =
       let more = issued-more w.history (IssuedItem c ∷ []) in
       let now = w.history ++ IssuedItem c ∷ [] in
-      put-knows group w i (submitted (w.nodes i) c) w.frames now w.told k more (k.groups i)
+      put-knows group w i (submitted (w.nodes i) c) w.frames now w.told w.longest k more (k.groups i)
       (submitted-known (IssuedIn now) (w.nodes i) c (issued-last w.history c) (knows-more (IssuedIn w.history) (IssuedIn now) more (w.nodes i) (k.knows i)))
 
   frame-knows : (group : Group) (w : World A) (o : Option (Carried A)) (i : ℕ) → WorldKnows group w → WorldKnows group (handed object w i o)
@@ -115,7 +122,7 @@ module _ {O A : Type 0} (object : Sequential O) where
     where
       go : (b : Bool) → WorldKnows group (stopped_if b w i)
       go false = k
-      go true = put-knows group w i (node_stopped (w.nodes i)) w.frames w.history w.told k (λ c h. h) (k.groups i)
+      go true = put-knows group w i (node_stopped (w.nodes i)) w.frames w.history w.told w.longest k (λ c h. h) (k.groups i)
           (stopped-known (IssuedIn w.history) (w.nodes i) (k.knows i))
 
   pub run-knows : (group : Group) (w : World A) (events : List (Event A)) → WorldKnows group w → WorldKnows group (run object w events)

@@ -17,6 +17,7 @@ use Rattle.ring_rules.specs.declared.event.Event.TheVariants.{Issue, Deliver, No
 use Rattle.ring_rules.specs.Worlds.{World, put, world_opening, is_node, issued_or, issued_if, stopped_if}
 use Rattle.ring_rules.specs.Worlds.{stepped_if, handed_if, handed, happens, run}
 use Rattle.ring_log_proof.specs.Time.{LivesOn}
+use Rattle.ring_order_proof.proofs.DisciplinedNodes.{IsOrderlyNode}
 use Rattle.ring_order_proof.proofs.DisciplinedWorlds.{AllKept, run_on, opened_on}
 
 abbrev AllOn : {A : Type 0} → World A → World A → Type 0
@@ -29,7 +30,15 @@ pub record IsKept {O A : Type 0} (object : Sequential O) (Has : Node A → Type 
   pub submits : (n : Node A) (c : Call A) → submit_fault n ≡ None → Has n → Has (submitted n c)
   pub stops : (n : Node A) → Has n → Has (node_stopped n)
 
-module _ {O A : Type 0} (object : Sequential O) (Has : Node A → Type 0) (kept : IsKept object Has) where
+-- so where a node that steps is an orderly one
+pub record IsKeptOrderly {O A : Type 0} (object : Sequential O) (Has : Node A → Type 0) : Type 0 where
+  pub opens : (group : Group) (me : ℕ) → Has (node_opening group me)
+  pub steps : (n : Node A) (input : NodeInput A) → IsOrderlyNode n → LivesOn n.life (node_step object n input).node.life → Has n
+      → Has (node_step object n input).node
+  pub submits : (n : Node A) (c : Call A) → submit_fault n ≡ None → Has n → Has (submitted n c)
+  pub stops : (n : Node A) → Has n → Has (node_stopped n)
+
+module _ {O A : Type 0} (object : Sequential O) (Has : Node A → Type 0) (kept : IsKeptOrderly object Has) where
   abbrev AllHave : World A → Type 0
   AllHave w = (i : ℕ) → Has (w.nodes i)
 
@@ -39,10 +48,10 @@ module _ {O A : Type 0} (object : Sequential O) (Has : Node A → Type 0) (kept 
       cond_both (j == i) n (nodes j) (λ (m : Node A). LivesOn (nodes j).life m.life → Has m)
       (λ e k. h (subst (λ q. LivesOn (nodes q).life n.life) (eqb-true j i e) k)) (λ e k. f j) (on j)
 
-  module _ (w : World A) (f : AllHave w) where
+  module _ (group : Group) (w : World A) (all : AllKept group w) (f : AllHave w) where
     steps_have : (i : ℕ) (input : NodeInput A) (b : Bool) → AllOn w (stepped_if object b w i input) → AllHave (stepped_if object b w i input)
     steps_have i input false on = f
-    steps_have i input true on = put_has w.nodes i (node_step object (w.nodes i) input).node (λ k. kept.steps (w.nodes i) input k (f i)) on f
+    steps_have i input true on = put_has w.nodes i (node_step object (w.nodes i) input).node (λ k. kept.steps (w.nodes i) input (all i).orderly k (f i)) on f
 
     issues_or : (i : ℕ) (c : Call A) (fault : Option Fault) → submit_fault (w.nodes i) ≡ fault → AllOn w (issued_or fault w i c)
         → AllHave (issued_or fault w i c)
@@ -76,8 +85,13 @@ module _ {O A : Type 0} (object : Sequential O) (Has : Node A → Type 0) (kept 
   run_has group w k f [] = f
   run_has group w k f (e ∷ events) =
       let g = run_on object group w k (e ∷ []) in
-      run_has group (happens object w e) (λ i. (g.nodes i).kept) (event_has w f e (λ i. (g.nodes i).on)) events
+      run_has group (happens object w e) (λ i. (g.nodes i).kept) (event_has group w k f e (λ i. (g.nodes i).on)) events
 
-  pub all_have : (group : Group) (events : List (Event A)) (i : ℕ) → Has ((run object (world_opening group) events).nodes i)
-  all_have group events =
+  pub all_have_orderly : (group : Group) (events : List (Event A)) (i : ℕ) → Has ((run object (world_opening group) events).nodes i)
+  all_have_orderly group events =
       run_has group (world_opening group) (λ i. ((opened_on object group []).nodes i).kept) (λ i. kept.opens group i) events
+
+pub all_have : {O A : Type 0} (object : Sequential O) (Has : Node A → Type 0) → IsKept object Has → (group : Group) (events : List (Event A)) (i : ℕ)
+    → Has ((run object (world_opening group) events).nodes i)
+all_have object Has kept =
+    all_have_orderly object Has (record { opens = kept.opens; steps = λ n input o. kept.steps n input; submits = kept.submits; stops = kept.stops })

@@ -25,13 +25,21 @@ use Rattle.ring_order_proof.specs.Projection.{ring_part, unsent, heard_life, IsR
 
 -- what a core's facts tell of a ring
 abbrev pub stay_told : {A : Type 0} → Core A → Configuration → Stay A
-stay_told c at = record { ring = at.ring; members = at.members; heard = users c at.ring 0 (front c at.ring); mark = mark c at.ring; sent = []; front = [] }
+stay_told c at = record {
+  ring = at.ring;
+  members = at.members;
+  heard = users c at.ring 0 (front c at.ring);
+  mark = mark c at.ring;
+  sent = [];
+  trimmed = 0;
+  front = [];
+}
 
 -- the regular configurations of a life as stays
 abbrev pub stays_in : {A : Type 0} → List (Stage A) → List (Stay A)
 stays_in [] = []
 stays_in (InRegular at agreed safe ∷ older) =
-    record { ring = at.ring; members = at.members; heard = agreed; mark = safe; sent = []; front = [] } ∷ stays_in older
+    record { ring = at.ring; members = at.members; heard = agreed; mark = safe; sent = []; trimmed = 0; front = [] } ∷ stays_in older
 stays_in (InTransitional old new members rest ∷ older) = stays_in older
 
 abbrev pub stays_of_life : {A : Type 0} → Life A → List (Stay A)

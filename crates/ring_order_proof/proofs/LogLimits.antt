@@ -1,21 +1,22 @@
--- What was heard keeps the limits: so does each call of the log that it makes, and the Head and the Parts that state this log.
+-- What was heard keeps the limits: so does each call that a node knows of its log, the Head and the Parts that state this log, and the pieces of a snapshot.
 use Rattle.std.proofs.Common.{◌≡◌, ℕ, zero, suc, ◌+◌, ◌-◌, ◌*◌, ◌/◌, ◌<◌, ◌≤◌, true, ◌==◌, List, [], ◌∷◌, ◌++◌, length}
-use Rattle.std.specs.Prelude.{nat_lt}
-use Rattle.std.proofs.Common.{take, drop, Option, Some, None, refl, sym, subst, arith, length-take, length-drop}
+use Rattle.std.specs.Prelude.{nat_lt, ◌&&◌}
+use Rattle.std.proofs.Common.{take, drop, Option, Some, None, inl, inr, refl, ap, sym, subst, arith, length-take, length-drop}
 use Rattle.std.specs.List.{AllByRecursion as Each}
-use Rattle.std.proofs.lemmas.Bool.{cond_both, leb-true}
-use Rattle.ring_base.specs.Fronts.{front_length}
+use Rattle.std.proofs.lemmas.Bool.{cond_both, and_parts, leb-true, ltb-true}
 use Rattle.ring_base.specs.Group.{Group, is_primary}
 use Rattle.ring_base.specs.Numbers.{max_number, numbers_from}
 use Rattle.ring_base.specs.Processors.{has, nobody, only, less}
 use Rattle.ring_base.specs.declared.ring_id.RingId.{RingId}
 use Rattle.ring_base.proofs.Each.{each-weaker, each-append, each-push, each-map, each-left, each-right, each-take, each-drop}
-use Rattle.ring_layout.specs.Rings.{SomeRingFits}
+use Rattle.ring_layout.specs.Rings.{RingFits, SomeRingFits}
 use Rattle.ring_payload.specs.Calls.{CallFits}
 use Rattle.ring_payload.specs.Heads.{HeadFits}
 use Rattle.ring_payload.specs.Kinds.{calls_of}
+use Rattle.ring_payload.specs.Limits.{most_snapshot}
 use Rattle.ring_payload.specs.Parts.{PartFits}
 use Rattle.ring_payload.specs.Payloads.{PayloadFits}
+use Rattle.ring_payload.specs.Snaps.{SnapFits}
 use Rattle.ring_payload.specs.declared.call.Call.{Call as OneCall}
 use Rattle.ring_payload.specs.declared.head.Head.{Head as OneHead}
 use Rattle.ring_payload.specs.declared.content.Payload.{Payload}
@@ -25,13 +26,17 @@ use Rattle.ring_log.specs.declared.stated.Stated.{Stated}
 use Rattle.ring_log.specs.declared.wanted.Wanted.{Wanted}
 use Rattle.ring_log.specs.Exchanges.{Exchange, opened, wanted_of, wanted_by, wanted, is_next_piece, is_wanted, heard}
 use Rattle.ring_log.specs.Heads.{chosen_head, least_committed}
-use Rattle.ring_log.specs.Lives.{Whole, whole_from, after_all, exchanged, calls_in, places_below, base_on, own_base, log_by, log_of}
-use Rattle.ring_log.specs.Lives.{last_by, last_of, committed_of, head_of_life, is_sound}
-use Rattle.ring_log.specs.Parts.{nth_part, parts_between}
+use Rattle.ring_log.specs.Kept.{Kept, IsKnown, kept_length, restores, restored_kept, first_joined, joined_kept, adopted_kept, adopts_wanted, adopts}
+use Rattle.ring_log.specs.Kept.{followed_by, kept_by, dropped_by, kept_of, head_kept, keeps_kept, is_kept_sound}
+use Rattle.ring_log.specs.Lives.{Whole, whole_from, after_all, exchanged, calls_in, upto}
+use Rattle.ring_log.specs.Logs.{is_log_length}
+use Rattle.ring_log.specs.Parts.{nth_part, parts_between, nth_piece, pieces_of}
 use Rattle.ring_log.specs.Stays.{Stay}
+use Rattle.ring_log_proof.specs.Discipline.{IsDropping}
 use Rattle.ring_log_proof.proofs.ChosenHead.{chosen-is}
+use Rattle.ring_log_proof.proofs.KnownLogs.{known-stay}
+use Rattle.ring_log_proof.proofs.Views.{wants}
 use Rattle.ring_log_proof.proofs.Wholes.{exchanged-whole}
-use Rattle.ring_log_proof.proofs.CommittedGrows.{sound_stay, committed_front}
 use Rattle.ring_order_proof.specs.NodeFits.{HeardFits, StayFits}
 
 -- Stays
@@ -74,22 +79,27 @@ after_fits e (x ∷ xs) h f = after_fits (heard e x.sender x.payload) xs h.1 (he
 pub stay_exchange : {A : Type 0} → (m n : ℕ) (xs : List (Message A)) → Each (HeardFits n) xs → ExchangeFits (after_all (opened m) xs)
 stay_exchange m n xs h = after_fits (opened m) xs (heard_payloads n xs h) (record { heads = tt; brought = tt })
 
--- what is wanted of an owner ends where its Head says
+-- what is wanted of an owner ends where its Head says; and a snapshot that is wanted is of some places, as its Head says too
+abbrev pub PlacesFit : Option ℕ → Type 0
+PlacesFit None = Unit {0}
+PlacesFit (Some at) = (1 ≤ at) × (at ≤ max_number)
+
 abbrev pub WantedFits : Option Wanted → Type 0
 WantedFits None = Unit {0}
-WantedFits (Some w) = w.to ≤ max_number
+WantedFits (Some w) = (w.to ≤ max_number) × PlacesFit w.snapshot
 
-wanted_of_fits : (owner least : ℕ) (h : OneHead) → h.length ≤ max_number → WantedFits (Some (wanted_of owner h least))
+wanted_of_fits : (owner least : ℕ) (h : OneHead) → HeadFits h → WantedFits (Some (wanted_of owner h least))
 wanted_of_fits owner least h f =
     cond_both (nat_lt least h.trimmed) (record { owner = owner; snapshot = Some h.trimmed; from = h.trimmed; to = h.length })
-    (record { owner = owner; snapshot = None; from = least; to = h.length }) (λ (w : Wanted). w.to ≤ max_number)
-    (λ t. f) (λ t. f)
+    (record { owner = owner; snapshot = None; from = least; to = h.length }) (λ (w : Wanted). WantedFits (Some w))
+    (λ t. (f.length, (let some = ltb-true least h.trimmed t in omega (arith, some), omega (arith, f.trimmed, f.committed, f.length))))
+    (λ t. (f.length, tt))
 
 wanted_by_fits : (heads : List Stated) → Each (λ (s : Stated). HeadFits s.head) heads → WantedFits (wanted_by heads)
 wanted_by_fits [] h = tt
 wanted_by_fits (s ∷ rest) h =
     let chosen = chosen_head s rest in
-    wanted_of_fits chosen.sender (least_committed s.head.committed rest) chosen.head (chosen-is (λ (s : Stated). HeadFits s.head) s rest h.0 h.1).length
+    wanted_of_fits chosen.sender (least_committed s.head.committed rest) chosen.head (chosen-is (λ (s : Stated). HeadFits s.head) s rest h.0 h.1)
 
 pub wanted_fits : {A : Type 0} → (e : Exchange A) → ExchangeFits e → WantedFits (wanted e)
 wanted_fits e f = cond_both (e.unheard == nobody) (wanted_by e.heads) None WantedFits (λ t. wanted_by_fits e.heads f.heads) (λ t. tt)
@@ -109,38 +119,29 @@ calls_in_fit : {A : Type 0} → (xs : List (Message A)) → Each (λ (x : Messag
 calls_in_fit [] h = tt
 calls_in_fit (x ∷ xs) h = each-append CallFits (calls_of x.payload) (calls_in xs) (calls_of_fit x.payload h.0) (calls_in_fit xs h.1)
 
-below_fits : {A : Type 0} → (own front : List (OneCall A)) (from : ℕ) (o : Option ℕ) → Each CallFits own → Each CallFits front →
-    Each CallFits (places_below own front from o)
-below_fits own front from None h f = each-take CallFits from own h
-below_fits own front from (Some at) h f = f
+-- What a node knows of its log
 
-base_fits : {A : Type 0} → (own front : List (OneCall A)) (o : Option Wanted) (calls : List (OneCall A)) → Each CallFits own → Each CallFits front →
-    Each CallFits calls → Each CallFits (base_on own front o calls)
-base_fits own front None calls h f k = h
-base_fits own front (Some w) calls h f k =
-    each-append CallFits (places_below own front w.from w.snapshot) calls (below_fits own front w.from w.snapshot h f) k
+-- the calls that it knows, and its last primary, without which there are none
+pub record KeptFits {A : Type 0} (k : Kept A) : Type 0 where
+  pub calls : Each CallFits k.calls
+  pub last : SomeRingFits k.last
+  pub empty : k.last ≡ None → kept_length k ≡ 0
 
--- a log goes on by the exchange, if it was heard whole, and the calls heard after it
-log_by_fits : {A : Type 0} → (group : Group) (m n : ℕ) (own front : List (OneCall A)) (xs : List (Message A)) → Each CallFits own → Each CallFits front →
-    Each (HeardFits n) xs → (o : Option (Whole A)) → exchanged group m xs ≡ o → Each CallFits (log_by own front o)
-log_by_fits group m n own front xs h f k None e = h
-log_by_fits {A} group m n own front xs h f k (Some w) e =
-    let b = exchanged-whole group m xs w e in
-    let all : Each (λ (x : Message A). PayloadFits x.payload) (b.front ++ w.rest) =
-    subst (Each (λ (x : Message A). PayloadFits x.payload)) (sym b.parts) (heard_payloads n xs k) in
-    let first = each-left (λ (x : Message A). PayloadFits x.payload) b.front w.rest all in
-    let later = each-right (λ (x : Message A). PayloadFits x.payload) b.front w.rest all in
-    let x : ExchangeFits w.exchange = subst ExchangeFits (sym b.after) (after_fits (opened m) b.front first (record { heads = tt; brought = tt })) in
-    each-append CallFits (own_base own front w.exchange) (calls_in w.rest) (base_fits own front (wanted w.exchange) w.exchange.brought h f x.brought)
-    (calls_in_fit w.rest later)
-
-pub log_fits : {A : Type 0} → (group : Group) (life : List (Stay A)) → Each StayFits life → Each CallFits (log_of group life)
-log_fits group [] h = tt
-log_fits group (s ∷ older) h =
-    log_by_fits group s.members s.ring.seq (log_of group older) s.front s.heard (log_fits group older h.1) h.0.front h.0.heard
-    (exchanged group s.members s.heard) refl
-
--- The Head of a life
+-- what a whole exchange makes of it, and calls behind it
+adopted_fits : {A : Type 0} → (k : Kept A) (ring : RingId) (w : Wanted) (bytes : List ℕ) (calls more : List (OneCall A)) → RingFits ring → 1 ≤ ring.seq →
+    Each CallFits k.calls → Each CallFits calls → Each CallFits more → KeptFits (followed_by (adopted_kept k ring w bytes calls) more)
+adopted_fits {A} k ring w bytes calls more r counted h c m =
+    let mine = take (first_joined k w - k.from) k.calls in
+    let theirs = drop (first_joined k w - w.from) calls in
+    let left : Each CallFits mine = each-take CallFits (first_joined k w - k.from) k.calls h in
+    let right : Each CallFits theirs = each-drop CallFits (first_joined k w - w.from) calls c in
+    cond_both (restores k w) (restored_kept ring w bytes calls) (joined_kept k ring w calls) (λ (b : Kept A). KeptFits (followed_by b more))
+    (λ t. record { calls = each-append CallFits calls more c m; last = (r, counted); empty = λ e. absurd (let x : ⊥ = cc in x) })
+    (λ f. record {
+      calls = each-append CallFits (mine ++ theirs) more (each-append CallFits mine theirs left right) m;
+      last = (r, counted);
+      empty = λ e. absurd (let x : ⊥ = cc in x);
+    })
 
 -- where an exchange was heard whole, something was heard
 whole_counted : {A : Type 0} → (group : Group) (m n : ℕ) (xs : List (Message A)) (w : Whole A) → Each (HeardFits n) xs → exchanged group m xs ≡ Some w → 1 ≤ n
@@ -149,40 +150,56 @@ whole_counted {A} group m n [] w h e =
     cond_both (is_primary group m) (whole_from (opened m) []) None (λ (o : Option (Whole A)). o ≡ Some w → 1 ≤ n)
     (λ t k. absurd (let x : ⊥ = cc in x)) (λ t k. absurd (let x : ⊥ = cc in x)) e
 
-last_by_fits : {A : Type 0} → (group : Group) (s : Stay A) (old : Option RingId) → StayFits s → SomeRingFits old → (o : Option (Whole A)) →
-    exchanged group s.members s.heard ≡ o → SomeRingFits (last_by s.ring old o)
-last_by_fits group s old f h None e = h
-last_by_fits group s old f h (Some w) e = (f.ring, whole_counted group s.members s.ring.seq s.heard w f.heard e)
+-- what a ring makes of it, by the exchange, if it was heard whole, and the calls heard after it
+kept_by_fits : {A : Type 0} → (group : Group) (m : ℕ) (ring : RingId) (xs : List (Message A)) (k : Kept A) (places : ℕ) → RingFits ring →
+    Each (HeardFits ring.seq) xs → KeptFits k → (o safe : Option (Whole A)) → exchanged group m xs ≡ o → KeptFits (dropped_by places (kept_by ring k o safe))
+kept_by_fits group m ring xs k places r h f None safe e = record { calls = f.calls; last = f.last; empty = f.empty }
+kept_by_fits {A} group m ring xs k places r h f (Some w) safe e =
+    let b = exchanged-whole group m xs w e in
+    let all : Each (λ (x : Message A). PayloadFits x.payload) (b.front ++ w.rest) =
+    subst (Each (λ (x : Message A). PayloadFits x.payload)) (sym b.parts) (heard_payloads ring.seq xs h) in
+    let first = each-left (λ (x : Message A). PayloadFits x.payload) b.front w.rest all in
+    let later = each-right (λ (x : Message A). PayloadFits x.payload) b.front w.rest all in
+    let x : ExchangeFits w.exchange = subst ExchangeFits (sym b.after) (after_fits (opened m) b.front first (record { heads = tt; brought = tt })) in
+    let v = wants (wanted w.exchange) w.exchange.got w.exchange.total w.exchange.places b.whole in
+    let more = calls_in w.rest in
+    let base = adopted_fits k ring v.0 w.exchange.bytes w.exchange.brought more r (whole_counted group m ring.seq xs w h e) f.calls x.brought
+    (calls_in_fit w.rest later) in
+    let same : adopted_kept k ring v.0 w.exchange.bytes w.exchange.brought ≡ adopts k ring w = ap (λ o. adopts_wanted k ring o w) (sym v.1) in
+    let fits : KeptFits (followed_by (adopts k ring w) more) = subst (λ (a : Kept A). KeptFits (followed_by a more)) same base in
+    record { calls = fits.calls; last = fits.last; empty = fits.empty }
 
-last_fits : {A : Type 0} → (group : Group) (life : List (Stay A)) → Each StayFits life → SomeRingFits (last_of group life)
-last_fits group [] h = tt
-last_fits group (s ∷ older) h =
-    last_by_fits group s (last_of group older) h.0 (last_fits group older h.1) (exchanged group s.members s.heard) refl
+pub kept_fits : {A : Type 0} → (group : Group) (life : List (Stay A)) → Each StayFits life → KeptFits (kept_of group life)
+kept_fits group [] h = record { calls = tt; last = tt; empty = λ e. refl }
+kept_fits group (s ∷ older) h =
+    kept_by_fits group s.members s.ring s.heard (kept_of group older) s.trimmed h.0.ring h.0.heard (kept_fits group older h.1)
+    (exchanged group s.members s.heard) (exchanged group s.members (upto s.mark s.heard)) refl
 
--- before any ring was adopted the log is empty
-empty_by : {A : Type 0} → (ring : RingId) (own front : List (OneCall A)) (old : Option RingId) → (old ≡ None → length own ≡ 0) → (o : Option (Whole A)) →
-    last_by ring old o ≡ None → length (log_by own front o) ≡ 0
-empty_by ring own front old h None e = h e
-empty_by ring own front old h (Some w) e = absurd (let x : ⊥ = cc in x)
+-- The Head of a life
 
-empty_log : {A : Type 0} → (group : Group) (life : List (Stay A)) → last_of group life ≡ None → length (log_of group life) ≡ 0
-empty_log group [] e = refl
-empty_log group (s ∷ older) e =
-    empty_by s.ring (log_of group older) s.front (last_of group older) (empty_log group older) (exchanged group s.members s.heard) e
+-- a sound life in which committed places alone were dropped
+pub kept_known : {A : Type 0} → (group : Group) (life : List (Stay A)) → is_kept_sound group life ≡ true → IsDropping group life → IsKnown (kept_of group life)
+kept_known group [] t drops = record { low = omega arith; high = omega arith; within = omega arith }
+kept_known group (s ∷ older) t drops =
+    let k = kept_of group older in
+    let o = exchanged group s.members s.heard in
+    let outer = and_parts (is_kept_sound group older && keeps_kept k s.ring o) (is_log_length (kept_length (kept_of group (s ∷ older)))) t in
+    let inner = and_parts (is_kept_sound group older) (keeps_kept k s.ring o) outer.0 in
+    known-stay group s older (kept_known group older inner.0 (λ u before i. drops u before (inr i))) inner.1 (drops s older (inl (refl, refl)))
 
-log_most : {A : Type 0} → (group : Group) (life : List (Stay A)) → is_sound group life ≡ true → length (log_of group life) ≤ max_number
-log_most group [] h = omega arith
-log_most group (s ∷ older) h = leb-true _ _ ((sound_stay group s older h).length_is)
+kept_most : {A : Type 0} → (group : Group) (life : List (Stay A)) → is_kept_sound group life ≡ true → kept_length (kept_of group life) ≤ max_number
+kept_most group [] t = omega arith
+kept_most group (s ∷ older) t =
+    leb-true (kept_length (kept_of group (s ∷ older))) max_number
+    (and_parts (is_kept_sound group older && keeps_kept (kept_of group older) s.ring (exchanged group s.members s.heard))
+    (is_log_length (kept_length (kept_of group (s ∷ older)))) t).1
 
-pub head_fits : {A : Type 0} → (group : Group) (life : List (Stay A)) → Each StayFits life → is_sound group life ≡ true → HeadFits (head_of_life group life)
-head_fits group life h sound =
-    record {
-      last = last_fits group life h;
-      length = log_most group life sound;
-      committed = front_length (committed_of group life) (log_of group life) (committed_front group life sound);
-      trimmed = omega arith;
-      empty = empty_log group life;
-    }
+pub head_fits : {A : Type 0} → (group : Group) (life : List (Stay A)) → Each StayFits life → is_kept_sound group life ≡ true → IsDropping group life →
+    HeadFits (head_kept (kept_of group life))
+head_fits group life h sound drops =
+    let f = kept_fits group life h in
+    let known = kept_known group life sound drops in
+    record { last = f.last; length = kept_most group life sound; committed = known.within; trimmed = known.high; empty = f.empty }
 
 -- Parts of a log
 
@@ -206,13 +223,41 @@ part_fits at to places k h l m below =
       each = each-take CallFits 7 (drop (7 * k) places) (each-drop CallFits (7 * k) places h);
     }
 
-pub parts_fit : {A : Type 0} → (own : List (OneCall A)) (from to : ℕ) → Each CallFits own → to ≤ max_number → Each PartFits (parts_between own from to)
-parts_fit {A} own from to h m =
-    let places = take (to - from) (drop from own) in
-    let few = length-take (to - from) (drop from own) in
-    let fit : Each CallFits places = each-take CallFits (to - from) (drop from own) (each-drop CallFits from own h) in
+pub parts_fit : {A : Type 0} → (at : ℕ) (own : List (OneCall A)) (from to : ℕ) → Each CallFits own → to ≤ max_number →
+    Each PartFits (parts_between at own from to)
+parts_fit {A} at own from to h m =
+    let places = take (to - from) (drop (from - at) own) in
+    let few = length-take (to - from) (drop (from - at) own) in
+    let fit : Each CallFits places = each-take CallFits (to - from) (drop (from - at) own) (each-drop CallFits (from - at) own h) in
     let fits : Each (λ k. PartFits (nth_part from places k)) (numbers_from 0 ((length places + 6) / 7)) =
     each-weaker (λ k. k < 0 + (length places + 6) / 7) (λ k. PartFits (nth_part from places k))
     (λ k below. part_fits from to places k fit (omega (arith, few)) m below) (numbers_from 0 ((length places + 6) / 7))
     (numbers_below 0 ((length places + 6) / 7)) in
     each-map PartFits (nth_part from places) (numbers_from 0 ((length places + 6) / 7)) fits
+
+-- Pieces of a snapshot
+
+piece_fits : (A : Type 0) → (at : ℕ) (bytes : List ℕ) (k : ℕ) → 1 ≤ at → at ≤ max_number → length bytes ≤ most_snapshot →
+    k < 0 + (length bytes + 6999) / 7000 → SnapFits {A = A} (nth_piece at bytes k)
+piece_fits A at bytes k some most short below =
+    let begins : 7000 * k < length bytes = omega (arith, below) in
+    let left = length-drop (7000 * k) bytes in
+    let few = length-take 7000 (drop (7000 * k) bytes) in
+    record {
+      at_counted = some;
+      at = most;
+      total_counted = omega (arith, begins);
+      total = short;
+      offset = begins;
+      whole = omega arith;
+      bytes = omega (arith, left, few);
+    }
+
+pub pieces_fit : (A : Type 0) → (at : ℕ) (bytes : List ℕ) → 1 ≤ at → at ≤ max_number → length bytes ≤ most_snapshot →
+    Each (SnapFits {A = A}) (pieces_of at bytes)
+pieces_fit A at bytes some most short =
+    let count = (length bytes + 6999) / 7000 in
+    let fits : Each (λ k. SnapFits {A = A} (nth_piece at bytes k)) (numbers_from 0 count) =
+    each-weaker (λ k. k < 0 + count) (λ k. SnapFits {A = A} (nth_piece at bytes k)) (λ k below. piece_fits A at bytes k some most short below)
+    (numbers_from 0 count) (numbers_below 0 count) in
+    each-map (SnapFits {A = A}) (nth_piece at bytes) (numbers_from 0 count) fits

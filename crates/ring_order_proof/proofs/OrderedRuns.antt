@@ -1,25 +1,37 @@
--- In every run of at most 16 nodes the order explains the history, grows, and has what each node committed as a front.
-use Rattle.std.proofs.Common.{◌≡◌, ℕ, zero, suc, ◌-◌, ◌≤◌, List, [], ◌∷◌, ◌++◌, ap, sym, subst, ◌∙◌, refl}
+-- In every run of at most 16 nodes the order grows and has what each node committed as a front; and where issued calls keep the limits it explains the
+-- history, and each node's snapshot and the places that it keeps follow it.
+use Rattle.std.proofs.Common.{◌≡◌, ℕ, zero, suc, ◌-◌, ◌≤◌, List, [], ◌∷◌, ◌++◌, Option, None, ap, sym, subst, ◌∙◌, refl}
 use Rattle.std.specs.Prelude.{map}
+use Rattle.std.specs.List.{AllByRecursion as Each}
+use Rattle.std.proofs.lemmas.Bool.{cond_both}
 use Rattle.ring_base.specs.Fronts.{IsFront, front_self, front_trans}
-use Rattle.ring_base.specs.Group.{Group}
+use Rattle.ring_base.specs.Group.{Group, is_primary}
 use Rattle.ring_base.specs.Numbers.{numbers_from}
+use Rattle.ring_base.specs.Processors.{only}
+use Rattle.ring_base.proofs.Each.{each-append}
 use Rattle.ring_object.specs.Operations.{Sequential}
 use Rattle.ring_payload.specs.declared.call.Call.{Call}
+use Rattle.ring_log.specs.Stays.{Stay, born}
+use Rattle.ring_log.specs.Lives.{Whole, exchanged, committed_by, restored_by, committed_of, log_of, filled, fronts_below}
 use Rattle.ring_session.specs.Deduplicated.{deduplicated}
-use Rattle.ring_rules.specs.Nodes.{node_opening, node_committed}
 use Rattle.ring_rules.specs.declared.event.Event.{Event}
 use Rattle.ring_rules.specs.Histories.{IsLinearization}
 use Rattle.ring_rules.specs.Orders.{longer, order_of, IsOrderStep}
-use Rattle.ring_rules.specs.Worlds.{World, world_opening, happens, run, order, committed_in, moment_of}
+use Rattle.ring_rules.specs.Worlds.{World, world_opening, is_node, above, happens, run, order, committed_in, moment_of}
 use Rattle.ring_rules.proofs.Linear.{linear-nothing}
 use Rattle.ring_rules.proofs.Orders.{order_of-grows, order_of-fronts, linear-step}
-use Rattle.ring_order_proof.proofs.DisciplinedWorlds.{lives_on}
-use Rattle.ring_order_proof.specs.Linear.{OnlyIssued}
+use Rattle.ring_order_proof.specs.Linear.{EventKeeps, OnlyIssued, Follows, FollowsOrder}
+use Rattle.ring_order_proof.specs.Living.{lives_in, lives_of}
+use Rattle.ring_order_proof.proofs.CommittingSteps.{IsSteady}
+use Rattle.ring_order_proof.proofs.DisciplinedWorlds.{opened_on}
+use Rattle.ring_order_proof.proofs.Following.{follows, follows-order}
 use Rattle.ring_order_proof.proofs.IssuedInWorlds.{WorldKnows, opening-knows, run-knows}
-use Rattle.ring_order_proof.proofs.Orderly.{run-more, orderly, orderly-after}
-use Rattle.ring_order_proof.proofs.OrderSteps.{order-step, one-list, committed-at}
-use Rattle.ring_log.proofs.CommittedOf.{born-committed}
+use Rattle.ring_order_proof.proofs.IssuedLimits.{HistoryKeeps, run-keeps}
+use Rattle.ring_order_proof.proofs.KnownByNodes.{all-know}
+use Rattle.ring_order_proof.proofs.OrderSteps.{AllKnow, order-step, one-list, committed-at, lists-grow}
+use Rattle.ring_order_proof.proofs.Orderly.{run-more, orderly, orderly-after, lives_on}
+use Rattle.ring_order_proof.proofs.PiecesHanded.{all_hand_own}
+use Rattle.ring_order_proof.proofs.RestoredTables.{ComesBack}
 
 module _ {O A : Type 0} (object : Sequential O) (group : Group) (few : group.count ≤ 16) where
   abbrev at : List (Event A) → World A
@@ -28,40 +40,34 @@ module _ {O A : Type 0} (object : Sequential O) (group : Group) (few : group.cou
   known : (events : List (Event A)) → WorldKnows group (at events)
   known events = run-knows object group (world_opening group) events (opening-knows group)
 
-  -- each event of a run is a step by the rules
-  next-step : (before : List (Event A)) (e : Event A) → IsOrderStep object (moment_of (at before)) (moment_of (happens object (at before) e))
-  next-step before e =
-      order-step object group (at before) e (known before) (orderly object group few before) (orderly-after object group few before e)
-      (lives_on object group before (e ∷ []))
+  known-after : (events : List (Event A)) (e : Event A) → WorldKnows group (happens object (at events) e)
+  known-after events e = run-knows object group (at events) (e ∷ []) (known events)
+
+  pub steady : (events : List (Event A)) (i : ℕ) → IsSteady ((at events).nodes i)
+  steady events i = record {
+    orderly = ((opened_on object group events).nodes i).kept.orderly;
+    frozen = (all_hand_own object group events i).frozen;
+  }
 
   pub run-grows : (before later : List (Event A)) → IsFront (order (at before)) (order (run object (at before) later))
   run-grows before [] = front_self (order (at before))
   run-grows before (e ∷ later) =
       let w = happens object (at before) e in
-      let step = next-step before e in
+      let o' = orderly-after object group few before e in
       let rest = subst (λ (x : World A). IsFront (order x) (order (run object x later))) (run-more object (world_opening group) before e)
       (run-grows (before ++ e ∷ []) later) in
       front_trans (order (at before)) (order w) (order (run object w later))
-      (order_of-grows (committed_in (at before)) (committed_in w) step.grows step.agrees) rest
-
-  abbrev Explains : World A → Type 0
-  Explains w = IsLinearization object (order w) w.history
-
-  run-linear : (before later : List (Event A)) → Explains (at before) → Explains (run object (at before) later)
-  run-linear before [] linear = linear
-  run-linear before (e ∷ later) linear =
-      let w = happens object (at before) e in
-      let now : Explains w = linear-step object (moment_of (at before)) (moment_of w) (next-step before e) linear in
-      let same = run-more object (world_opening group) before e in
-      subst (λ (x : World A). Explains (run object x later)) same (run-linear (before ++ e ∷ []) later (subst Explains (sym same) now))
+      (order_of-grows (committed_in (at before)) (committed_in w)
+      (lists-grow group (at before) w (orderly object group few before) o' (lives_on object group few before (e ∷ [])) (known before) (known-after before e))
+      (one-list group w (known-after before e) o')) rest
 
   -- what a node committed, repeats removed, is a front of the order
   pub node-front : (events : List (Event A)) (node : ℕ) → 1 ≤ node → node ≤ group.count
-      → IsFront (deduplicated (node_committed ((at events).nodes node))) (order (at events))
+      → IsFront (deduplicated (committed_of group (lives_of (at events) node))) (order (at events))
   node-front events node low high =
       let w = at events in
       let k = known events in
-      order_of-fronts (committed_in w) (node - 1) (node_committed (w.nodes node)) (one-list group w k (orderly object group few events))
+      order_of-fronts (committed_in w) (node - 1) (committed_of group (lives_of w node)) (one-list group w k (orderly object group few events))
       (committed-at group w k node low high)
 
   -- each ticket's call was issued, and so was each call that a node handed over
@@ -69,6 +75,49 @@ module _ {O A : Type 0} (object : Sequential O) (group : Group) (few : group.cou
   only-issued events =
       let k = known events in
       record { tickets = λ i. (k.knows i).tickets; handed = λ i s older there. (k.knows i).sent s older there }
+
+  -- Where issued calls keep the limits
+
+  module _ (back : ComesBack object A) where
+    keeps : (events : List (Event A)) → Each EventKeeps events → HistoryKeeps (at events)
+    keeps events limits = run-keeps object (world_opening group) events limits tt
+
+    pub know : (events : List (Event A)) → Each EventKeeps events → AllKnow object group (at events)
+    know events limits =
+        all-know object back group (at events) (known events) (orderly object group few events) (keeps events limits) (all_hand_own object group events)
+
+    -- each event of a run is a step by the rules
+    next-step : (before : List (Event A)) (e : Event A) → Each EventKeeps (before ++ e ∷ [])
+        → Each EventKeeps before → IsOrderStep object (moment_of (at before)) (moment_of (happens object (at before) e))
+    next-step before e more limits =
+        order-step object group (at before) e (known before) (orderly object group few before) (orderly-after object group few before e)
+        (lives_on object group few before (e ∷ [])) (steady before) (know before limits)
+        (subst (AllKnow object group) (run-more object (world_opening group) before e) (know (before ++ e ∷ []) more))
+
+    abbrev Explains : World A → Type 0
+    Explains w = IsLinearization object (order w) w.history
+
+    run-linear : (before later : List (Event A)) → Each EventKeeps before → Each EventKeeps later → Explains (at before)
+        → Explains (run object (at before) later)
+    run-linear before [] limits more linear = linear
+    run-linear before (e ∷ later) limits more linear =
+        let w = happens object (at before) e in
+        let next = each-append EventKeeps before (e ∷ []) limits (more.0, tt) in
+        let now : Explains w = linear-step object (moment_of (at before)) (moment_of w) (next-step before e next limits) linear in
+        let same = run-more object (world_opening group) before e in
+        subst (λ (x : World A). Explains (run object x later)) same (run-linear (before ++ e ∷ []) later next more.1 (subst Explains (sym same) now))
+
+    -- each node follows what it committed, and the order
+    pub node-follows : (events : List (Event A)) (node : ℕ) → Each EventKeeps events → 1 ≤ node → node ≤ group.count
+        → Follows object ((at events).nodes node) (committed_of group (lives_of (at events) node))
+        × FollowsOrder object ((at events).nodes node) (order (at events))
+    node-follows events node limits low high =
+        let w = at events in
+        let n = w.nodes node in
+        let log = log_of group (lives_of w node) in
+        let whole = committed_of group (lives_of w node) in
+        let knows = know events limits node low high in
+        (follows object n log whole knows, follows-order object n log whole knows (order w) (node-front events node low high))
 
 -- At the opening nothing is committed
 
@@ -79,14 +128,24 @@ empty-order {A} f none first (suc n) =
     ap (λ (calls : List (Call A)). longer (deduplicated calls) (order_of (map f (numbers_from (suc first) n)))) (none first)
     ∙ ap (λ (calls : List (Call A)). longer [] calls) rest
 
+pub opening-none : {A : Type 0} (group : Group) (i : ℕ) → committed_of group (lives_of {A = A} (world_opening group) i) ≡ []
+opening-none {A} group i =
+    let w : World A = world_opening group in
+    let fronts = fronts_below group (lives_in w) (above (lives_in w i)) in
+    let none : exchanged group (only i) [] ≡ None = cond_both (is_primary group (only i)) None None (λ (o : Option (Whole A)). o ≡ None) (λ t. refl)
+    (λ f. refl) in
+    cond_both (is_node w i) (born i) [] (λ (l : List (Stay A)). committed_of group (filled fronts i l) ≡ [])
+    (λ t. ap (λ (o : Option (Whole A)). committed_by [] (fronts i 0) (restored_by (fronts i 0) [] o) o) none) (λ f. refl)
+
 pub opening-order : {A : Type 0} (group : Group) → order {A = A} (world_opening group) ≡ []
-opening-order {A} group = empty-order (λ i. node_committed (node_opening {A = A} group i)) (born-committed group) 1 group.count
+opening-order {A} group = empty-order (λ i. committed_of group (lives_of {A = A} (world_opening group) i)) (opening-none group) 1 group.count
 
 pub opening-linear : {O A : Type 0} (object : Sequential O) (group : Group) → IsLinearization object (order {A = A} (world_opening group)) []
 opening-linear {O} {A} object group = subst (λ (calls : List (Call A)). IsLinearization object calls []) (sym (opening-order group)) (linear-nothing object)
 
 -- From there on
 
-pub explains : {O A : Type 0} (object : Sequential O) (group : Group) → group.count ≤ 16 → (events : List (Event A))
+pub explains : {O A : Type 0} (object : Sequential O) (group : Group) → group.count ≤ 16 → ComesBack object A → (events : List (Event A))
+    → Each EventKeeps events
     → IsLinearization object (order (run object (world_opening group) events)) (run object (world_opening group) events).history
-explains object group few events = run-linear object group few [] events (opening-linear object group)
+explains object group few back events limits = run-linear object group few back [] events tt limits (opening-linear object group)

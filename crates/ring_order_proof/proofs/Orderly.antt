@@ -1,5 +1,5 @@
--- The lives of every run of at most 16 nodes are orderly: they have what ring cores give, and the nodes keep their discipline.
-use Rattle.std.proofs.Common.{◌≡◌, ℕ, ◌≤◌, List, [], ◌∷◌, ◌++◌, refl, subst}
+-- The lives of every run of at most 16 nodes are orderly: they have what ring cores give, and the nodes keep their discipline; and they go on.
+use Rattle.std.proofs.Common.{◌≡◌, ℕ, ◌≤◌, List, [], ◌∷◌, ◌++◌, refl, sym, ◌∙◌, subst}
 use Rattle.ring_base.specs.Group.{Group}
 use Rattle.ring_base.specs.declared.ring_id.RingId.{RingId}
 use Rattle.ring_object.specs.Operations.{Sequential}
@@ -7,16 +7,19 @@ use Rattle.ring_wire.specs.declared.message.Message.{Message}
 use Rattle.ring_rules.specs.declared.event.Event.{Event}
 use Rattle.ring_rules.specs.Worlds.{World, world_opening, happens, run}
 use Rattle.ring_log_proof.specs.RingFacts.{RingFacts}
-use Rattle.ring_log_proof.specs.Discipline.{KeepsDiscipline}
-use Rattle.ring_order_proof.specs.Living.{lives_of}
-use Rattle.ring_order_proof.proofs.DisciplinedWorlds.{lives_keep}
+use Rattle.ring_log_proof.specs.Discipline.{KeepsRules}
+use Rattle.ring_log.specs.Lives.{whole_life}
+use Rattle.ring_log_proof.specs.Time.{LivesOn}
+use Rattle.ring_log_proof.proofs.FilledLives.{filled-on}
+use Rattle.ring_order_proof.specs.Living.{lives_in, lives_of}
+use Rattle.ring_order_proof.proofs.DisciplinedWorlds.{lives_keep, opened_on, run_on, own_keep, own_drop, own_on, kept_rise, below_above, tops}
 use Rattle.ring_order_proof.proofs.RunFacts.{all_facts}
 
 pub record IsOrderlyWorld {A : Type 0} (group : Group) (w : World A) : Type 0 where
   pub members : RingId → ℕ
   pub text : RingId → List (Message A)
   pub facts : RingFacts (lives_of w) members text
-  pub discipline : KeepsDiscipline group (lives_of w)
+  pub discipline : KeepsRules group (lives_of w)
 
 -- one event more
 pub run-more : {O A : Type 0} → (object : Sequential O) (w : World A) (before : List (Event A)) (e : Event A)
@@ -33,3 +36,21 @@ module _ {O A : Type 0} (object : Sequential O) (group : Group) (few : group.cou
   -- and after one event more
   pub orderly-after : (events : List (Event A)) (e : Event A) → IsOrderlyWorld group (happens object (run object (world_opening group) events) e)
   orderly-after events e = subst (λ (w : World A). IsOrderlyWorld group w) (run-more object (world_opening group) events e) (orderly (events ++ e ∷ []))
+
+  -- as events go on, lives do, with what snapshots stand for
+  pub lives_on : (before later : List (Event A)) (i : ℕ)
+      → LivesOn (lives_of (run object (world_opening group) before) i) (lives_of (run object (run object (world_opening group) before) later) i)
+  lives_on before later i =
+      let w : World A = run object (world_opening group) before in
+      let first = opened_on object group before in
+      let more = run_on object group w (λ j. (first.nodes j).kept) later in
+      let after : World A = run object w later in
+      let f = all_facts object group before few in
+      let rises = kept_rise group w (λ j. (first.nodes j).kept) in
+      let rises' = kept_rise group after (λ j. (more.nodes j).kept) in
+      let on = filled-on group (lives_in w) (tops w) (λ p. below_above (lives_in w p) (rises p)) f.members f.text f.own (own_keep object group before)
+      (own_drop object group before) (lives_in after) (own_on object group before later) rises' (tops after)
+      (λ p. below_above (lives_in after p) (rises' p)) i in
+      let now : after.group ≡ group = more.group_is ∙ first.group_is in
+      subst (λ g. LivesOn (lives_of w i) (whole_life g (lives_in after) (tops after i) i)) (sym now)
+      (subst (λ g. LivesOn (whole_life g (lives_in w) (tops w i) i) (whole_life group (lives_in after) (tops after i) i)) (sym first.group_is) on)

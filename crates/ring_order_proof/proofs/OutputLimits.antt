@@ -1,8 +1,9 @@
--- What a step of a core tells keeps the limits: each message that is agreed does, in a ring that is counted, and each ring that is installed.
-use Rattle.std.proofs.Common.{◌≡◌, ℕ, ◌+◌, ◌-◌, ◌≤◌, Bool, true, false, List, [], ◌∷◌, ◌++◌, Some, refl, sym, subst}
-use Rattle.std.specs.Prelude.{map, filter_map, nat_lt}
+-- What a step of a core tells keeps the limits: each message that is agreed does, in a ring that is counted, and each ring that is installed; and what is
+-- safe in a ring never falls.
+use Rattle.std.proofs.Common.{◌≡◌, ℕ, ◌+◌, ◌-◌, ◌≤◌, Bool, true, false, List, [], ◌∷◌, ◌++◌, Some, refl, sym, subst, arith}
+use Rattle.std.specs.Prelude.{map, filter_map, nat_lt, ◌&&◌}
 use Rattle.std.specs.List.{AllByRecursion as Each}
-use Rattle.std.proofs.lemmas.Bool.{cond_both}
+use Rattle.std.proofs.lemmas.Bool.{cond_both, ltb-false}
 use Rattle.ring_base.specs.Numbers.{numbers_from}
 use Rattle.ring_base.specs.declared.ring_id.RingId.{RingId}
 use Rattle.ring_base.proofs.Each.{each-filter, each-filter_map}
@@ -12,14 +13,17 @@ use Rattle.ring_wire.specs.Messages.{MessageFits}
 use Rattle.ring_wire.specs.declared.message.Message.{Message}
 use Rattle.ring_window.specs.Held.{found}
 use Rattle.ring_recover.specs.Deliveries.{rests}
+use Rattle.ring_token.proofs.SafeMark.{safe_mark-turn, safe_mark-raise}
 use Rattle.ring_commit.specs.declared.configuration.Configuration.{Configuration}
 use Rattle.ring_core.specs.declared.input.Input.{Input}
 use Rattle.ring_core.specs.declared.out.Out.{Out}
 use Rattle.ring_core.specs.declared.out.Out.TheVariants.{Send, Agreed, Safe, Trans, Rest, Regular}
-use Rattle.ring_core.specs.State.{Core, Sent}
+use Rattle.ring_core.specs.State.{Core, Sent, Did}
+use Rattle.ring_core.specs.Joining.{proposes}
 use Rattle.ring_core.specs.Views.{front, mark, plan}
-use Rattle.ring_core.specs.Deciding.{decide}
-use Rattle.ring_core.specs.Acting.{done}
+use Rattle.ring_core.specs.Deciding.{Act, Ignore, Enqueue, Repeat, Announce, Invite, GiveUp, Regather, Agree, Widen}
+use Rattle.ring_core.specs.Deciding.{RegatherAndAgree, RegatherAndWiden, Take, Visit, Fill, Learn, decide}
+use Rattle.ring_core.specs.Acting.{act, may_follow, proposed_after, done}
 use Rattle.ring_core.specs.Giving.{may_install, addressed, sent, users, agreed_from, safe_from, delivered_from, given, configured, settle}
 use Rattle.ring_core.specs.Stepping.{ring_step}
 use Rattle.ring_core_proof.proofs.InLists.{in-each, each-in}
@@ -29,37 +33,38 @@ use Rattle.ring_core_proof.proofs.ActLimits.{done_fits}
 use Rattle.ring_core.proofs.InstalledKept.{done_installed}
 use Rattle.ring_order_proof.specs.NodeFits.{HeardFits}
 
--- Outputs that come in a ring of one number and lead to a ring of another
-abbrev pub Tells : {A : Type 0} → ℕ → ℕ → List (Out A) → Type 0
-Tells n m [] = n ≡ m
-Tells n m (Agreed ring k x ∷ outs) = HeardFits n x × Tells n m outs
-Tells n m (Regular ring set ∷ outs) = RingFits ring × Tells ring.seq m outs
-Tells n m (Send to frame ∷ outs) = Tells n m outs
-Tells n m (Safe ring upto ∷ outs) = Tells n m outs
-Tells n m (Trans old new set ∷ outs) = Tells n m outs
-Tells n m (Rest ring k x ∷ outs) = Tells n m outs
+-- Outputs that come in a ring of one number, where so much is safe, and lead to a ring of another, where so much is
+abbrev pub Tells : {A : Type 0} → ℕ → ℕ → ℕ → ℕ → List (Out A) → Type 0
+Tells n low m high [] = (n ≡ m) × (low ≡ high)
+Tells n low m high (Agreed ring k x ∷ outs) = HeardFits n x × Tells n low m high outs
+Tells n low m high (Regular ring set ∷ outs) = RingFits ring × Tells ring.seq 0 m high outs
+Tells n low m high (Safe ring upto ∷ outs) = (low ≤ upto) × Tells n upto m high outs
+Tells n low m high (Send to frame ∷ outs) = Tells n low m high outs
+Tells n low m high (Trans old new set ∷ outs) = Tells n low m high outs
+Tells n low m high (Rest ring k x ∷ outs) = Tells n low m high outs
 
-tells-append : {A : Type 0} → (n m k : ℕ) (xs ys : List (Out A)) → Tells n m xs → Tells m k ys → Tells n k (xs ++ ys)
-tells-append n m k [] ys h t = subst (λ q. Tells q k ys) (sym h) t
-tells-append n m k (Agreed ring q x ∷ xs) ys h t = (h.0, tells-append n m k xs ys h.1 t)
-tells-append n m k (Regular ring set ∷ xs) ys h t = (h.0, tells-append ring.seq m k xs ys h.1 t)
-tells-append n m k (Send to frame ∷ xs) ys h t = tells-append n m k xs ys h t
-tells-append n m k (Safe ring upto ∷ xs) ys h t = tells-append n m k xs ys h t
-tells-append n m k (Trans old new set ∷ xs) ys h t = tells-append n m k xs ys h t
-tells-append n m k (Rest ring q x ∷ xs) ys h t = tells-append n m k xs ys h t
+tells-append : {A : Type 0} → (n low m mid k high : ℕ) (xs ys : List (Out A)) → Tells n low m mid xs → Tells m mid k high ys → Tells n low k high (xs ++ ys)
+tells-append n low m mid k high [] ys h t =
+    subst (λ q. Tells q low k high ys) (sym h.0) (subst (λ q. Tells m q k high ys) (sym h.1) t)
+tells-append n low m mid k high (Agreed ring q x ∷ xs) ys h t = (h.0, tells-append n low m mid k high xs ys h.1 t)
+tells-append n low m mid k high (Regular ring set ∷ xs) ys h t = (h.0, tells-append ring.seq 0 m mid k high xs ys h.1 t)
+tells-append n low m mid k high (Safe ring upto ∷ xs) ys h t = (h.0, tells-append n upto m mid k high xs ys h.1 t)
+tells-append n low m mid k high (Send to frame ∷ xs) ys h t = tells-append n low m mid k high xs ys h t
+tells-append n low m mid k high (Trans old new set ∷ xs) ys h t = tells-append n low m mid k high xs ys h t
+tells-append n low m mid k high (Rest ring q x ∷ xs) ys h t = tells-append n low m mid k high xs ys h t
 
-tells_sent : {A : Type 0} → (n : ℕ) (sends : List (Sent A)) → Tells {A = A} n n (map (λ (s : Sent A). Send s.to s.frame) sends)
-tells_sent n [] = refl
-tells_sent n (s ∷ sends) = tells_sent n sends
+tells_sent : {A : Type 0} → (n low : ℕ) (sends : List (Sent A)) → Tells {A = A} n low n low (map (λ (s : Sent A). Send s.to s.frame) sends)
+tells_sent n low [] = (refl, refl)
+tells_sent n low (s ∷ sends) = tells_sent n low sends
 
-tells_agreed : {A : Type 0} → (n : ℕ) (ring : RingId) (xs : List (Message A)) → Each (HeardFits n) xs →
-    Tells n n (map (λ (x : Message A). Agreed ring x.number x) xs)
-tells_agreed n ring [] h = refl
-tells_agreed n ring (x ∷ xs) h = (h.0, tells_agreed n ring xs h.1)
+tells_agreed : {A : Type 0} → (n low : ℕ) (ring : RingId) (xs : List (Message A)) → Each (HeardFits n) xs →
+    Tells n low n low (map (λ (x : Message A). Agreed ring x.number x) xs)
+tells_agreed n low ring [] h = (refl, refl)
+tells_agreed n low ring (x ∷ xs) h = (h.0, tells_agreed n low ring xs h.1)
 
-tells_rest : {A : Type 0} → (n : ℕ) (xs : List (Message A)) → Tells n n (map (λ (x : Message A). Rest x.ring x.number x) xs)
-tells_rest n [] = refl
-tells_rest n (x ∷ xs) = tells_rest n xs
+tells_rest : {A : Type 0} → (n low : ℕ) (xs : List (Message A)) → Tells n low n low (map (λ (x : Message A). Rest x.ring x.number x) xs)
+tells_rest n low [] = (refl, refl)
+tells_rest n low (x ∷ xs) = tells_rest n low xs
 
 -- What a core gives of a ring
 
@@ -77,43 +82,81 @@ module _ {A : Type 0} (c : Core A) (f : CoreFits c) where
       (each-filter_map (λ n. Unit {0}) (HeardFits ring.seq) (found c.held ring) (λ n x u e. found_fits ring n x e) numbers
       (each-in (λ n. Unit {0}) numbers (λ n i. tt)))
 
-  tells_safe : (n : ℕ) (ring : RingId) (m : ℕ) → Tells n n (safe_from c ring m)
-  tells_safe n ring m = cond_both (nat_lt m (mark c ring)) (Safe ring (mark c ring) ∷ []) [] (λ (outs : List (Out A)). Tells n n outs) (λ e. refl) (λ e. refl)
+  tells_safe : (n : ℕ) (ring : RingId) (m : ℕ) → m ≤ mark c ring → Tells n m n (mark c ring) (safe_from c ring m)
+  tells_safe n ring m le =
+      cond_both (nat_lt m (mark c ring)) (Safe ring (mark c ring) ∷ []) [] (λ (outs : List (Out A)). Tells n m n (mark c ring) outs)
+      (λ t. (le, (refl, refl))) (λ e. (refl, (let l = ltb-false m (mark c ring) e in omega (arith, l, le))))
 
-  tells_from : (ring : RingId) (before m : ℕ) → Tells ring.seq ring.seq (delivered_from c ring before m)
-  tells_from ring before m =
-      tells-append ring.seq ring.seq ring.seq (agreed_from c ring before) (safe_from c ring m)
-      (tells_agreed ring.seq ring (users c ring before (front c ring)) (users_fit ring before (front c ring)))
-      (tells_safe ring.seq ring m)
+  tells_from : (ring : RingId) (before m : ℕ) → m ≤ mark c ring → Tells ring.seq m ring.seq (mark c ring) (delivered_from c ring before m)
+  tells_from ring before m le =
+      tells-append ring.seq m ring.seq m ring.seq (mark c ring) (agreed_from c ring before) (safe_from c ring m)
+      (tells_agreed ring.seq m ring (users c ring before (front c ring)) (users_fit ring before (front c ring)))
+      (tells_safe ring.seq ring m le)
 
-  tells_configured : (n : ℕ) → Tells n c.running.ring.seq (configured c)
-  tells_configured n =
-      tells-append n n c.running.ring.seq (map (λ (x : Message A). Rest x.ring x.number x) (rests (plan c) c.held))
+  tells_configured : (n low : ℕ) → Tells n low c.running.ring.seq (mark c c.running.ring) (configured c)
+  tells_configured n low =
+      tells-append n low n low c.running.ring.seq (mark c c.running.ring) (map (λ (x : Message A). Rest x.ring x.number x) (rests (plan c) c.held))
       (Regular c.running.ring c.running.members ∷ delivered_from c c.running.ring 0 0)
-      (tells_rest n (rests (plan c) c.held))
-      ((f.running).ring, tells_from c.running.ring 0 0)
+      (tells_rest n low (rests (plan c) c.held))
+      ((f.running).ring, tells_from c.running.ring 0 0 (omega arith))
 
--- What is done changes no installed ring
+-- No act lowers a safe mark
+
+act_marks : {A : Type 0} → (c : Core A) (a : Act A) (ring : RingId) → mark c ring ≤ mark (act c a).core ring
+act_marks c Ignore ring = omega arith
+act_marks c (Enqueue payload) ring = omega arith
+act_marks c Repeat ring = omega arith
+act_marks c Announce ring = omega arith
+act_marks c Invite ring = omega arith
+act_marks c GiveUp ring = omega arith
+act_marks c Regather ring = omega arith
+act_marks c (Agree j) ring = omega arith
+act_marks c (Widen j) ring = omega arith
+act_marks c (RegatherAndAgree j) ring = omega arith
+act_marks c (RegatherAndWiden j) ring = omega arith
+act_marks c (Take x) ring = omega arith
+act_marks c (Visit t) ring = safe_mark-turn _ c.turns c.raises ring
+act_marks c (Fill k) ring = omega arith
+act_marks c (Learn k) ring = safe_mark-raise _ c.turns c.raises ring
+
+proposed_marks : {A : Type 0} → (b : Bool) (did : Did A) (ring : RingId) → mark (proposed_after b did).core ring ≡ mark did.core ring
+proposed_marks true did ring = refl
+proposed_marks false did ring = refl
+
+done_marks : {A : Type 0} → (c : Core A) (a : Act A) (ring : RingId) → mark c ring ≤ mark (done c a).core ring
+done_marks c a ring =
+    let same = proposed_marks (may_follow a && proposes (act c a).core) (act c a) ring in
+    let rises = act_marks c a ring in
+    omega (arith, same, rises)
 
 -- A step
 
 module _ {A : Type 0} (old c : Core A) (sends : List (Sent A)) (f : CoreFits c) where
-  told_before : Tells old.installed.ring.seq old.installed.ring.seq (sent sends ++ given old c)
-  told_before =
+  told_before : mark old old.installed.ring ≤ mark c old.installed.ring →
+      Tells old.installed.ring.seq (mark old old.installed.ring) old.installed.ring.seq (mark c old.installed.ring) (sent sends ++ given old c)
+  told_before le =
       let n = old.installed.ring.seq in
-      tells-append n n n (sent sends) (given old c) (tells_sent n (addressed sends)) (tells_from c f old.installed.ring _ _)
+      let low = mark old old.installed.ring in
+      tells-append n low n low n (mark c old.installed.ring) (sent sends) (given old c) (tells_sent n low (addressed sends))
+      (tells_from c f old.installed.ring (front old old.installed.ring) low le)
 
-  tells_settled : (b : Bool) → c.installed ≡ old.installed →
-      Tells old.installed.ring.seq (settle b c (sent sends ++ given old c)).core.installed.ring.seq (settle b c (sent sends ++ given old c)).outs
-  tells_settled false e =
-      subst (λ (x : Configuration). Tells old.installed.ring.seq x.ring.seq (sent sends ++ given old c)) (sym e) told_before
-  tells_settled true e =
+  tells_settled : (b : Bool) → c.installed ≡ old.installed → mark old old.installed.ring ≤ mark c old.installed.ring →
+      let after = settle b c (sent sends ++ given old c) in
+      Tells old.installed.ring.seq (mark old old.installed.ring) after.core.installed.ring.seq (mark after.core after.core.installed.ring) after.outs
+  tells_settled false e le =
+      subst (λ (x : Configuration). Tells old.installed.ring.seq (mark old old.installed.ring) x.ring.seq (mark c x.ring) (sent sends ++ given old c))
+      (sym e) (told_before le)
+  tells_settled true e le =
       let n = old.installed.ring.seq in
-      tells-append n n c.running.ring.seq (sent sends ++ given old c) (configured c) told_before (tells_configured c f n)
+      let mid = mark c old.installed.ring in
+      tells-append n (mark old old.installed.ring) n mid c.running.ring.seq (mark c c.running.ring) (sent sends ++ given old c) (configured c)
+      (told_before le) (tells_configured c f n mid)
 
 pub step_tells : {A : Type 0} → (c : Core A) (input : Input A) → CoreFits c → InputFits input →
-    Tells c.installed.ring.seq (ring_step c input).core.installed.ring.seq (ring_step c input).outs
+    let after = ring_step c input in
+    Tells c.installed.ring.seq (mark c c.installed.ring) after.core.installed.ring.seq (mark after.core after.core.installed.ring) after.outs
 unfolding ring_step
 step_tells c input f w =
     let d = done c (decide c input) in
     tells_settled c d.core d.sends ((done_fits c input f w).core) (may_install d.core) (done_installed c (decide c input))
+    (done_marks c (decide c input) c.installed.ring)

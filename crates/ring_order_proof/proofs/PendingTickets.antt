@@ -1,32 +1,31 @@
 -- In every run a node has at most 64 tickets without an answer: a submit is refused at 64, and the calls done only grow.
 use Rattle.std.proofs.Common.{◌≡◌, ℕ, suc, ◌<◌, ◌≤◌, Bool, true, false, List, [], ◌∷◌, ◌++◌, length, Some}
-use Rattle.std.proofs.Common.{None, is_none, refl, arith}
-use Rattle.std.specs.Prelude.{nat_le, if◌then◌else◌}
+use Rattle.std.proofs.Common.{None, is_none, refl, ap, arith}
+use Rattle.std.specs.Prelude.{nat_le, if◌then◌else◌, ◌&&◌}
 use Rattle.std.proofs.lemmas.Bool.{cond_both, leb-false}
 use Rattle.ring_base.specs.Group.{Group}
 use Rattle.ring_base.specs.Numbers.{max_number}
 use Rattle.ring_base.specs.declared.fault.Fault.TheVariants.{PendingFull, Stopped as StoppedFault}
 use Rattle.ring_object.specs.Operations.{Sequential}
 use Rattle.ring_payload.specs.declared.call.Call.{Call}
-use Rattle.ring_payload.specs.declared.content.Payload.{Payload}
 use Rattle.ring_core.specs.declared.input.Input.TheVariants.{Frame as FrameInput, Timeout as TimeInput}
 use Rattle.ring_core.specs.declared.out.Out.{Out}
-use Rattle.ring_core.specs.State.{Core}
+use Rattle.ring_core.specs.State.{Stepped}
 use Rattle.ring_core.specs.Stepping.{ring_step}
-use Rattle.ring_log.specs.Stays.{Stay}
-use Rattle.ring_session.specs.Table.{table_after}
 use Rattle.ring_session.specs.Tickets.{Asked, place_of, unanswered}
 use Rattle.ring_rules.specs.declared.input.Input.{Input as NodeInput}
 use Rattle.ring_rules.specs.declared.input.Input.TheVariants.{Frame as NodeFrame, Noise as NodeNoise, Timeout as NodeTime, Stop as NodeStop}
 use Rattle.ring_rules.specs.Lives.{lived_through}
-use Rattle.ring_rules.specs.Nodes.{Node, node_kept, node_pending, is_stopped}
+use Rattle.ring_rules.specs.Nodes.{Node, node_kept, node_pending, is_stopped, is_closed, is_restored}
 use Rattle.ring_rules.specs.Dues.{due_by}
-use Rattle.ring_rules.specs.Stepping.{newly, walked, settled, node_step, submit_fault, submitted}
+use Rattle.ring_rules.specs.Stepping.{NodeStepped, with_dropped, newly, drops, table_since, did, settled, walked, after_core, node_step}
+use Rattle.ring_rules.specs.Stepping.{submit_fault, submitted}
 use Rattle.ring_rules.specs.declared.event.Event.{Event}
 use Rattle.ring_rules.specs.Worlds.{world_opening, run}
 use Rattle.ring_order_proof.proofs.KeptByNodes.{all_have}
 use Rattle.ring_order_proof.proofs.AnswerCounts.{few_more}
-use Rattle.ring_log.specs.Kept.{kept_of, kept_committed, is_kept_sound}
+use Rattle.ring_log.specs.Kept.{Kept, kept_of, log_kept, is_kept_sound}
+use Rattle.ring_log.specs.Logs.{committed_calls}
 
 -- Tickets that wait
 
@@ -72,22 +71,27 @@ submitted_few {A} n c e =
     omega (arith, l, a)
 
 module _ {O A : Type 0} (object : Sequential O) where
-  settled_few : (b : Bool) (n : Node A) (core : Core A) (life : List (Stay A)) (due : List (Payload A)) (outs : List (Out A)) → HasFew n →
-      HasFew (settled object b n (walked n core life due) outs life).node
-  settled_few false n core life due outs f = f
-  settled_few true n core life due outs f =
-      let less = few_more object (table_after object (kept_committed (node_kept n))) n.tickets n.done (newly (node_kept n) (kept_of n.group life)) in
-      omega (arith, less, f)
+  settled_few : (b : Bool) (n new : Node A) (outs : List (Out A)) (k : Kept A) → new.tickets ≡ n.tickets → HasFew n →
+      HasFew (settled object b n new outs k).node
+  settled_few false n new outs k same f = f
+  settled_few true n new outs k same f =
+      let more = newly (node_kept n) k in
+      let s = did object n new outs k more in
+      let less = few_more object (table_since object (node_kept n) k) n.tickets n.done more in
+      let few : HasFew s.node = omega (arith, less, f, ap (λ ts. length (unanswered (n.done ++ more) ts)) same) in
+      cond_both (drops object (is_closed n.group new.life) k)
+      (record s { node = with_dropped k.committed s.node; dropped = committed_calls (log_kept k) }) s
+      (λ (x : NodeStepped A). HasFew x.node) (λ t. few) (λ e. few)
+
+  after_few : (n : Node A) (s : Stepped A) → HasFew n → HasFew (after_core object n s).node
+  after_few n s f =
+      let life = lived_through n.life s.outs in
+      settled_few (is_kept_sound n.group life && is_restored object (kept_of n.group life)) n
+      (walked n s.core life (due_by object n s.core n.life s.outs)) s.outs (kept_of n.group life) refl f
 
   stepped_few : (n : Node A) (input : NodeInput A) → HasFew n → HasFew (node_step object n input).node
-  stepped_few n (NodeFrame frame) f =
-      let s = ring_step n.core (FrameInput frame) in
-      let life = lived_through n.life s.outs in
-      settled_few (is_kept_sound n.group life) n s.core life (due_by n s.core n.life s.outs) s.outs f
-  stepped_few n (NodeTime kind) f =
-      let s = ring_step n.core (TimeInput kind) in
-      let life = lived_through n.life s.outs in
-      settled_few (is_kept_sound n.group life) n s.core life (due_by n s.core n.life s.outs) s.outs f
+  stepped_few n (NodeFrame frame) f = after_few n (ring_step n.core (FrameInput frame)) f
+  stepped_few n (NodeTime kind) f = after_few n (ring_step n.core (TimeInput kind)) f
   stepped_few n NodeNoise f = f
   stepped_few n NodeStop f = f
 

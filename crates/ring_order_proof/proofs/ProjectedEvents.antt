@@ -56,14 +56,14 @@ module _ {O A : Type 0} (object : Sequential O) (w : World A) (outs : List (ℕ 
   stops i true m = halts object w outs over i m (node_stopped_if true w i) (refl, refl, sym (append-nil w.frames))
 
   times : (i : ℕ) (kind : _) (t : Bool) → is_world_node w i ≡ t →
-      Leads w outs (share_if t w i (RingTimeout i kind) (TimeInput kind)) (node_stepped_if object t w i (NodeTime kind))
+      Leads w outs (share_if object t w i (RingTimeout i kind) (TimeInput kind)) (node_stepped_if object t w i (NodeTime kind))
   times i kind false m = stays w outs over
   times i kind true m =
       steps object w outs over i m (TimeInput kind) (RingTimeout i kind) (NodeTime kind) (ap (λ t. stepped_if t (ring_part w outs) i (TimeInput kind)) m) refl
 
   -- a frame that was sent to the node
   comes : (i k : ℕ) (f : Carried A) (t : Bool) → frame_at w.frames k ≡ Some f → has f.to i ≡ true → is_world_node w i ≡ t →
-      Leads w outs (share_if t w i (RingDeliver i k) (FrameInput f.frame)) (node_stepped_if object t w i (NodeFrame f.frame))
+      Leads w outs (share_if object t w i (RingDeliver i k) (FrameInput f.frame)) (node_stepped_if object t w i (NodeFrame f.frame))
   comes i k f false e h m = stays w outs over
   comes i k f true e h m =
       steps object w outs over i m (FrameInput f.frame) (RingDeliver i k) (NodeFrame f.frame)
@@ -73,15 +73,15 @@ module _ {O A : Type 0} (object : Sequential O) (w : World A) (outs : List (ℕ 
       refl
 
   comes_if : (i k : ℕ) (f : Carried A) (t : Bool) → frame_at w.frames k ≡ Some f → has f.to i ≡ t →
-      Leads w outs (share_handed_if t w i k f.frame) (node_handed_if object t w i f.frame)
+      Leads w outs (share_handed_if object t w i k f.frame) (node_handed_if object t w i f.frame)
   comes_if i k f false e h = stays w outs over
   comes_if i k f true e h = comes i k f (is_world_node w i) e h refl
 
-  comes_some : (i k : ℕ) (f : Option (Carried A)) → frame_at w.frames k ≡ f → Leads w outs (share_handed w i k f) (node_handed object w i f)
+  comes_some : (i k : ℕ) (f : Option (Carried A)) → frame_at w.frames k ≡ f → Leads w outs (share_handed object w i k f) (node_handed object w i f)
   comes_some i k None e = stays w outs over
   comes_some i k (Some f) e = comes_if i k f (has f.to i) e refl
 
-  pub event_leads : (e : Event A) → Leads w outs (share w e) (node_happens object w e)
+  pub event_leads : (e : Event A) → Leads w outs (share object w e) (node_happens object w e)
   event_leads (Issue i c) = issues i c (is_world_node w i) refl
   event_leads (Deliver i k) = comes_some i k (frame_at w.frames k) refl
   event_leads (Noise i bytes) = stays w outs over
@@ -107,8 +107,8 @@ events_lead : {O A : Type 0} → (object : Sequential O) (w : World A) (outs : L
 events_lead object w outs over [] = stays w outs over
 events_lead object w outs over (e ∷ events) =
     let a = event_leads object w outs over e in
-    leads_on w outs (share w e) (node_happens object w e) a (share_of object (node_happens object w e) events) _
-    (events_lead object (node_happens object w e) (outs ++ (share w e).outs) a.over events)
+    leads_on w outs (share object w e) (node_happens object w e) a (share_of object (node_happens object w e) events) _
+    (events_lead object (node_happens object w e) (outs ++ (share object w e).outs) a.over events)
 
 pub ring_run : {O A : Type 0} → (object : Sequential O) (group : Group) (events : List (Event A))
     → IsRingRun group (node_run object (world_opening group) events)
@@ -129,7 +129,7 @@ share-append : {O A : Type 0} → (object : Sequential O) (w : World A) (es fs :
     share_of object w (es ++ fs) ≡ both_shares (share_of object w es) (share_of object (node_run object w es) fs)
 share-append object w [] fs = refl
 share-append {O} {A} object w (e ∷ es) fs =
-    let x = share w e in
+    let x = share object w e in
     let v = node_happens object w e in
     let y = share_of object v es in
     let z = share_of object (node_run object v es) fs in

@@ -1,6 +1,6 @@
 -- An event of a world of nodes, as events of a world of ring cores: the core's own, and what is handed over after it, or the core's stop.
 use Rattle.std.proofs.Common.{◌≡◌, ℕ, Bool, true, false, ◌==◌, cond, List, [], ◌∷◌, ◌++◌, Some, None, inl, inr, ◌≢◌, refl, ap, sym, ◌∙◌, subst, append-nil}
-use Rattle.std.specs.Prelude.{filter_map}
+use Rattle.std.specs.Prelude.{filter_map, ◌&&◌}
 use Rattle.std.specs.List.{cons_option}
 use Rattle.std.proofs.Math.Path.{fun_ext}
 use Rattle.std.proofs.lemmas.Bool.{cond_both, eq-eqb}
@@ -16,14 +16,14 @@ use Rattle.ring_core.specs.declared.out.Out.TheVariants.{Send as SendOut, Agreed
 use Rattle.ring_core.specs.State.{Core, Stepped, halted}
 use Rattle.ring_core.specs.Giving.{may_install}
 use Rattle.ring_core.specs.Stepping.{ring_step}
-use Rattle.ring_log.specs.Stays.{Stay, born, hands}
+use Rattle.ring_log.specs.Stays.{Stay, born, hands, trims}
 use Rattle.ring_rules.specs.declared.input.Input.{Input as NodeInput}
 use Rattle.ring_rules.specs.Lives.{lived, lived_through}
-use Rattle.ring_rules.specs.Nodes.{Node, node_kept, node_stopped}
+use Rattle.ring_rules.specs.Nodes.{Node, node_kept, node_stopped, is_closed, is_restored}
 use Rattle.ring_rules.specs.Dues.{due_by}
 use Rattle.ring_payload.specs.declared.call.Call.{Call as OneCall}
 use Rattle.ring_session.specs.declared.answered.Answered.{Answered}
-use Rattle.ring_rules.specs.Stepping.{handed_over, walked, send_of, newly, answers_by, settled, after_core, node_step}
+use Rattle.ring_rules.specs.Stepping.{handed_over, walked, send_of, with_dropped, newly, drops, did, settled, after_core, node_step}
 use Rattle.ring_rules.specs.Worlds.{World, put as put_node, is_node as is_world_node, carried, after_step as after_node}
 use Rattle.ring_core_proof.specs.declared.event.RingEvent.{RingEvent}
 use Rattle.ring_core_proof.specs.Worlds.{put, carried_by, after_step, stopped_if, happens, run}
@@ -33,7 +33,8 @@ use Rattle.ring_order_proof.specs.Projection.{ring_part, heard_life, sends_to, b
 use Rattle.ring_core.proofs.Quiet.{stepped_is}
 use Rattle.ring_order_proof.proofs.ProjectedSends.{with_cores, run_sends, handed_is}
 use Rattle.ring_order_proof.proofs.DisciplinedTelling.{through-append}
-use Rattle.ring_log.specs.Kept.{kept_of, is_kept_sound}
+use Rattle.ring_log.specs.Kept.{Kept, kept_of, log_kept, is_kept_sound}
+use Rattle.ring_log.specs.Logs.{committed_calls}
 
 -- Nodes and their cores
 
@@ -77,6 +78,10 @@ through_unsent life (o ∷ outs) = through_unsent (lived life o) outs ∙ ap (λ
 pub hands_unsent : {A : Type 0} → (ps : List (Payload A)) (life : List (Stay A)) → heard_life (hands ps life) ≡ heard_life life
 hands_unsent ps [] = refl
 hands_unsent ps (s ∷ older) = refl
+
+pub trims_unsent : {A : Type 0} → (places : ℕ) (life : List (Stay A)) → heard_life (trims places life) ≡ heard_life life
+trims_unsent places [] = refl
+trims_unsent places (s ∷ older) = refl
 
 -- what processor i gave in a step, as processor j's
 
@@ -218,42 +223,54 @@ module _ {O A : Type 0} (object : Sequential O) (w : World A) (outs : List (ℕ 
         over = becomes_over w outs i (node_stopped (w.nodes i)) [] after b over refl refl;
       }
 
-  -- the core's step, and what is due after it, whatever the node did and answered
+  -- the core's step, and what is due after it, whatever the node did, answered and dropped
   goes_on : (did : List (OneCall A)) (answers : List (Answered A)) (input : Input A) (event : RingEvent A) →
       happens (ring_part w outs) event ≡ after_step (ring_part w outs) i (ring_step (w.nodes i).core input) →
       (life : List (Stay A)) (due : List (Payload A)) → heard_life life ≡ heard_life (lived_through (w.nodes i).life (ring_step (w.nodes i).core input).outs) →
       (after : World A) →
-      Becomes w outs i (record (walked (w.nodes i) (ring_step (w.nodes i).core input).core life due) { done = did; answers = answers })
+      Becomes w outs i (record (walked (w.nodes i) (ring_step (w.nodes i).core input).core [] due) { life = life; done = did; answers = answers })
       (ring_step (w.nodes i).core input).outs after →
       Leads w outs (share_settled true i event due (ring_step (w.nodes i).core input).outs) after
   goes_on did answers input event e life due l after b =
       let s = ring_step (w.nodes i).core input in
-      let n = record (walked (w.nodes i) s.core life due) { done = did; answers = answers } in
+      let n = record (walked (w.nodes i) s.core [] due) { life = life; done = did; answers = answers } in
       let quiet = stepped_is (w.nodes i).core input in
       record {
         part = ap (λ r. run r (sends_to i due)) e ∙ step_then_sends w outs i s due member quiet ∙ becomes_part w outs i n s.outs after b;
-        over = becomes_over w outs i n s.outs after b over (hands_unsent due life ∙ l) (handed_is s.core due quiet);
+        over = becomes_over w outs i n s.outs after b over l (handed_is s.core due quiet);
       }
 
   settles : (input : Input A) (event : RingEvent A) → happens (ring_part w outs) event ≡ after_step (ring_part w outs) i (ring_step (w.nodes i).core input) →
-      (t : Bool) → (life : List (Stay A)) (due : List (Payload A)) → life ≡ lived_through (w.nodes i).life (ring_step (w.nodes i).core input).outs →
+      (t : Bool) (k : Kept A) → (life : List (Stay A)) (due : List (Payload A))
+      → life ≡ lived_through (w.nodes i).life (ring_step (w.nodes i).core input).outs →
       Leads w outs (share_settled t i event due (ring_step (w.nodes i).core input).outs) (after_node w i (settled object t (w.nodes i)
       (walked (w.nodes i) (ring_step (w.nodes i).core input).core life due)
-      (ring_step (w.nodes i).core input).outs life))
-  settles input event e false life due l = halts _ (refl, refl, refl)
-  settles input event e true life due l =
+      (ring_step (w.nodes i).core input).outs k))
+  settles input event e false k life due l = halts _ (refl, refl, refl)
+  settles input event e true k life due l =
       let n = w.nodes i in
-      goes_on (n.done ++ newly (node_kept n) (kept_of n.group life))
-      (n.answers ++ answers_by object n (newly (node_kept n) (kept_of n.group life))) input event e life due (ap heard_life l) _
-      (refl, refl, ap (λ frames. w.frames ++ frames) (sym (sends_carried i (ring_step (w.nodes i).core input).outs)))
+      let s = ring_step n.core input in
+      let new = walked n s.core life due in
+      let more = newly (node_kept n) k in
+      let d = did object n new s.outs k more in
+      let sent = ap (λ frames. w.frames ++ frames) (sym (sends_carried i s.outs)) in
+      let heard : heard_life (hands due life) ≡ heard_life (lived_through n.life s.outs) = hands_unsent due life ∙ ap heard_life l in
+      cond_both (drops object (is_closed n.group new.life) k)
+      (record d { node = with_dropped k.committed d.node; dropped = committed_calls (log_kept k) }) d
+      (λ x. Leads w outs (share_settled true i event due s.outs) (after_node w i x))
+      (λ t. goes_on d.node.done d.node.answers input event e (trims k.committed (hands due life)) due (trims_unsent k.committed (hands due life) ∙ heard) _
+      (refl, refl, sent))
+      (λ f. goes_on d.node.done d.node.answers input event e (hands due life) due heard _ (refl, refl, sent))
 
   -- a frame or a timeout
   pub steps : (input : Input A) (event : RingEvent A) (given : NodeInput A) → happens (ring_part w outs) event
       ≡ after_step (ring_part w outs) i (ring_step (w.nodes i).core input) →
       node_step object (w.nodes i) given ≡ after_core object (w.nodes i) (ring_step (w.nodes i).core input) →
-      Leads w outs (share_of_step (w.nodes i) i event (ring_step (w.nodes i).core input)) (after_node w i (node_step object (w.nodes i) given))
+      Leads w outs (share_of_step object (w.nodes i) i event (ring_step (w.nodes i).core input)) (after_node w i (node_step object (w.nodes i) given))
   steps input event given e g =
       let n = w.nodes i in
       let s = ring_step n.core input in
       let life = lived_through n.life s.outs in
-      subst (λ x. Leads w outs (share_of_step n i event s) (after_node w i x)) (sym g) (settles input event e (is_kept_sound n.group life) life (due_by n s.core n.life s.outs) refl)
+      let k = kept_of n.group life in
+      subst (λ x. Leads w outs (share_of_step object n i event s) (after_node w i x)) (sym g)
+      (settles input event e (is_kept_sound n.group life && is_restored object k) k life (due_by object n s.core n.life s.outs) refl)

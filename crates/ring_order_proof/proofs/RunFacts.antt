@@ -1,7 +1,6 @@
 -- The facts of every run of nodes, one by one: each node's life is what its core tells of the rings that it installed, and what a core said was handed to it.
 use Rattle.std.proofs.Common.{◌≡◌, ℕ, zero, suc, ◌^◌, ◌<◌, ◌≤◌, true, false, ◌&&◌, ◌⊎◌, inl, inr, List, [], ◌∷◌, take, refl, ap, sym, ◌∙◌, subst, arith}
 use Rattle.std.specs.Prelude.{nat_le}
-use Rattle.std.specs.List.{AllByRecursion as Each}
 use Rattle.std.proofs.lemmas.Bool.{cond_both, cond-true, and_parts, and_from, leb-true, le-leb}
 use Rattle.ring_base.specs.Fronts.{IsFront}
 use Rattle.ring_base.specs.Group.{Group}
@@ -22,16 +21,16 @@ use Rattle.ring_core_proof.proofs.InLists.{in-each}
 use Rattle.ring_chain_proof.specs.ChainWords.{IsRingOf}
 use Rattle.ring_synchrony_proof.proofs.Ordered.{Ordered}
 use Rattle.ring_log.specs.Stays.{Stay}
-use Rattle.ring_log.specs.Lives.{upto}
-use Rattle.ring_log_proof.specs.RingFacts.{IsStay, StayIn, Rises, said_by, safe_part, AllHeard}
+use Rattle.ring_log.specs.Lives.{upto, fronts_below}
+use Rattle.ring_payload.specs.declared.call.Call.{Call as OneCall}
+use Rattle.ring_log_proof.specs.RingFacts.{IsStay, StayIn, Rises, said_by, safe_part, AllHeard, RingFacts}
+use Rattle.ring_log_proof.proofs.FilledLives.{filled-heard, facts-filled}
 use Rattle.ring_token.specs.Turns.{Turn, turns_of}
 use Rattle.ring_token.specs.Rounds.{IsSafeIn}
 use Rattle.ring_rules.specs.declared.event.Event.{Event}
-use Rattle.ring_rules.specs.Worlds.{World, world_opening, is_node, run}
+use Rattle.ring_rules.specs.Worlds.{World, world_opening, is_node, run, lives_in, above, lives_of}
 use Rattle.ring_order_proof.specs.Projection.{ring_part, IsRingRun}
 use Rattle.ring_order_proof.proofs.ProjectedEvents.{ring_run}
-use Rattle.ring_order_proof.specs.Living.{lives_of}
-use Rattle.ring_order_proof.proofs.DisciplinedSteps.{rings_of, installed_rings}
 use Rattle.ring_order_proof.proofs.DisciplinedWorlds.{opened_on}
 use Rattle.ring_order_proof.specs.Spoken.{spoken, spoken_in}
 use Rattle.ring_order_proof.specs.Said.{SpeaksInOrder}
@@ -43,23 +42,7 @@ use Rattle.ring_order_proof.proofs.LivesOfCores.{IsToldOf, told_of, stay_for, li
 use Rattle.ring_core_proof.proofs.MembersOfRings.{StandsAs, IsWithin, member_below}
 use Rattle.ring_order_proof.proofs.RingsOfRuns.{HasInstalled, IsWhole, all_whole, members_of, members_are, numbered_upto, safe_is}
 use Rattle.ring_order_proof.proofs.RingsOfRuns.{AllReached, reached_installed, members_within, safe_reached}
-use Rattle.ring_order_proof.proofs.DisciplinedNodes.{falls_from, stays_below}
-
--- A life whose rings fall
-
-falls_on : (x : Configuration) (xs : List Configuration) → IsFalling (x ∷ xs) → IsFalling xs
-falls_on x [] f = tt
-falls_on x (y ∷ ys) f = f.1
-
-rises : {A : Type 0} → (life : List (Stay A)) (xs : List Configuration) → rings_of life ≡ installed_rings xs → IsFalling xs → Rises life
-rises [] xs e f = tt
-rises (s ∷ life) [] e f = absurd (cc e)
-rises (s ∷ life) (x ∷ xs) e f =
-    let same : s.ring ≡ x.ring = cc e in
-    let rest : rings_of life ≡ installed_rings xs = cc e in (
-      stays_below s.ring.seq life xs rest (subst (λ (r : RingId). Each (λ (y : Configuration). y.ring.seq < r.seq) xs) (sym same) (falls_from x xs f)),
-      rises life xs rest (falls_on x xs f),
-    )
+use Rattle.ring_order_proof.proofs.DisciplinedNodes.{rises}
 
 -- nothing is there, or some of it
 some_taken : {A : Type 0} → (n : ℕ) (xs : List (Message A)) → (users_in (take n xs) ≡ []) ⊎ ((x : Message A) × IsIn x xs)
@@ -153,12 +136,12 @@ module _ {A : Type 0} (group : Group) (w : World A) (k : AreNodes group w) where
         heard_is = all ∙ heard_is part k.cores.recovered q ring (front c ring) (omega arith);
       }
 
-  abbrev lives_at : (q : ℕ) → is_node w q ≡ true → lives_of w q ≡ (w.nodes q).life
+  abbrev lives_at : (q : ℕ) → is_node w q ≡ true → lives_in w q ≡ (w.nodes q).life
   lives_at q node = cond-true (is_node w q) (w.nodes q).life [] node
 
   -- what is numbered up to where all of these members' fronts are, each of them heard
   all_heard : (ring : RingId) (set : ℕ) → ((q : ℕ) → IsMember set q → is_node w q ≡ true) → (n : ℕ) → AllReached part k.cores ring set n →
-      AllHeard (lives_of w) ring set (numbered_upto part k.cores ring n)
+      AllHeard (lives_in w) ring set (numbered_upto part k.cores ring n)
   all_heard ring set nodes n all q m =
       let other = nodes q m in
       let high = leb-true q w.group.count (and_parts (nat_le 1 q) (nat_le q w.group.count) other).1 in
@@ -178,7 +161,7 @@ module _ {A : Type 0} (group : Group) (w : World A) (k : AreNodes group w) where
       )
 
   safe_of : (i : ℕ) → is_node w i ≡ true → (s : Stay A) (older : List (Stay A)) → IsStay (w.nodes i).life s older →
-      (safe_part s ≡ []) ⊎ AllHeard (lives_of w) s.ring s.members (safe_part s)
+      (safe_part s ≡ []) ⊎ AllHeard (lives_in w) s.ring s.members (safe_part s)
   safe_of i node s older j =
       let t = told i s older j in
       let ring = (t.at).ring in
@@ -188,13 +171,13 @@ module _ {A : Type 0} (group : Group) (w : World A) (k : AreNodes group w) where
         | inl none ↦ inl (is ∙ none)
         | inr all ↦
             let heard = all_heard ring (t.at).members (member_node i node t.at t.there) (mark (part.cores i) ring) all in
-            inr (subst (λ (xs : List (Message A)). AllHeard (lives_of w) s.ring s.members xs) (sym is)
-            (subst (λ (x : Stay A). AllHeard (lives_of w) x.ring x.members (numbered_upto part k.cores ring (mark (part.cores i) ring))) (sym t.is) heard))
+            inr (subst (λ (xs : List (Message A)). AllHeard (lives_in w) s.ring s.members xs) (sym is)
+            (subst (λ (x : Stay A). AllHeard (lives_in w) x.ring x.members (numbered_upto part k.cores ring (mark (part.cores i) ring))) (sym t.is) heard))
       ]
 
   -- and where every member's front has reached a number, what of the text lies up to it
   reached_of : (ring : RingId) (n : ℕ) → IsSafeIn (members_of part.cores ring) (λ q. front (part.cores q) ring) n →
-      (upto n (text ring) ≡ []) ⊎ AllHeard (lives_of w) ring (members_of part.cores ring) (upto n (text ring))
+      (upto n (text ring) ≡ []) ⊎ AllHeard (lives_in w) ring (members_of part.cores ring) (upto n (text ring))
   reached_of ring n safe =
       let set = members_of part.cores ring in
       let numbered = whole part k.cores.recovered ring in
@@ -206,7 +189,7 @@ module _ {A : Type 0} (group : Group) (w : World A) (k : AreNodes group w) where
           | inl none ↦ inl (is ∙ none)
           | inr all ↦
               let nodes = within_node set (members_within part k.cores ring x.0 x.1) in
-              inr (subst (λ (xs : List (Message A)). AllHeard (lives_of w) ring set xs) (sym is) (all_heard ring set nodes n all))
+              inr (subst (λ (xs : List (Message A)). AllHeard (lives_in w) ring set xs) (sym is) (all_heard ring set nodes n all))
         ]
       ]
 
@@ -235,8 +218,28 @@ module _ {A : Type 0} (group : Group) (w : World A) (k : AreNodes group w) where
   abbrev OfStays : (ℕ → Stay A → List (Stay A) → Type 0) → ℕ → List (Stay A) → Type 0
   OfStays P i life = (s : Stay A) (older : List (Stay A)) → IsStay life s older → P i s older
 
-  of_lives : (P : ℕ → Stay A → List (Stay A) → Type 0) → ((i : ℕ) → is_node w i ≡ true → OfStays P i (w.nodes i).life) → (i : ℕ) → OfStays P i (lives_of w i)
+  of_lives : (P : ℕ → Stay A → List (Stay A) → Type 0) → ((i : ℕ) → is_node w i ≡ true → OfStays P i (w.nodes i).life) → (i : ℕ) → OfStays P i (lives_in w i)
   of_lives P f i = cond_both (is_node w i) (w.nodes i).life [] (OfStays P i) (λ e. f i e) (λ e s older j. absurd j)
+
+  abbrev fronts : ℕ → ℕ → ℕ → List (OneCall A)
+  fronts p = fronts_below w.group (lives_in w) (above (lives_in w p))
+
+  own_facts : RingFacts (lives_in w) (members_of part.cores) text
+  own_facts = record {
+    rises = λ i. cond_both (is_node w i) (w.nodes i).life [] (λ (life : List (Stay A)). Rises life)
+        (λ e. rises (w.nodes i).life (w.nodes i).core.installs (rings_told group w k.ring i (k.ordered i))
+        (subst IsFalling (sym (k.ordered i).newest) (k.ordered i).falls))
+        (λ e. tt);
+    one_set = of_lives (λ i s older. s.members ≡ members_of part.cores s.ring) (λ i e. one_set_of i);
+    own = of_lives (λ i s older. IsMember s.members i) (λ i e. own_of i (node_low i e));
+    heard = of_lives (λ i s older. IsFront s.heard (text s.ring)) (λ i e. heard_of i);
+    named = (texts part k.cores.recovered).named;
+    said = λ i ring.
+        cond_both (is_node w i) (w.nodes i).life []
+        (λ (life : List (Stay A)). (said_by i (text ring) ≡ []) ⊎ ((at : StayIn life ring) × IsFront (said_by i (text ring)) at.stay.sent))
+        (λ e. said_of i ring) (λ e. inl (stranger_silent i e ring));
+    safe = of_lives (λ i s older. (safe_part s ≡ []) ⊎ AllHeard (lives_in w) s.ring s.members (safe_part s)) safe_of;
+  }
 
   pub facts_of : HasFacts w
   facts_of =
@@ -244,23 +247,14 @@ module _ {A : Type 0} (group : Group) (w : World A) (k : AreNodes group w) where
         members = members_of part.cores;
         text = text;
         is = (texts part k.cores.recovered).is;
-        facts = record {
-          rises = λ i. cond_both (is_node w i) (w.nodes i).life [] (λ (life : List (Stay A)). Rises life)
-              (λ e. rises (w.nodes i).life (w.nodes i).core.installs (rings_told group w k.ring i (k.ordered i))
-              (subst IsFalling (sym (k.ordered i).newest) (k.ordered i).falls))
-              (λ e. tt);
-          one_set = of_lives (λ i s older. s.members ≡ members_of part.cores s.ring) (λ i e. one_set_of i);
-          own = of_lives (λ i s older. IsMember s.members i) (λ i e. own_of i (node_low i e));
-          heard = of_lives (λ i s older. IsFront s.heard (text s.ring)) (λ i e. heard_of i);
-          named = (texts part k.cores.recovered).named;
-          said = λ i ring.
-              cond_both (is_node w i) (w.nodes i).life []
-              (λ (life : List (Stay A)). (said_by i (text ring) ≡ []) ⊎ ((at : StayIn life ring) × IsFront (said_by i (text ring)) at.stay.sent))
-              (λ e. said_of i ring) (λ e. inl (stranger_silent i e ring));
-          safe = of_lives (λ i s older. (safe_part s ≡ []) ⊎ AllHeard (lives_of w) s.ring s.members (safe_part s)) safe_of;
-        };
+        own = own_facts;
+        facts = facts-filled (lives_in w) fronts (members_of part.cores) text own_facts;
         speech = (texts part k.cores.recovered).said;
-        reached = reached_of;
+        reached = λ ring n safe. elim (reached_of ring n safe) as (λ _. (upto n (text ring) ≡ [])
+            ⊎ AllHeard (lives_of w) ring (members_of part.cores ring) (upto n (text ring))) [
+              | inl none ↦ inl none
+              | inr all ↦ inr (filled-heard (lives_in w) fronts ring (members_of part.cores ring) (upto n (text ring)) all)
+            ];
       }
 
 -- Every run

@@ -29,20 +29,21 @@ use Rattle.ring_core.specs.Joining.{proposes}
 use Rattle.ring_core.specs.Handing.{proposed}
 use Rattle.ring_core.specs.Giving.{may_install, addressed, sent, given, configured, settle}
 use Rattle.ring_core.specs.Stepping.{ring_step}
-use Rattle.ring_log.specs.Stays.{Stay}
 use Rattle.ring_rules.specs.declared.input.Input.{Input as NodeInput}
 use Rattle.ring_rules.specs.declared.input.Input.TheVariants.{Frame as NodeFrame, Noise as NodeNoise, Timeout as NodeTime, Stop as NodeStop}
 use Rattle.ring_rules.specs.NodeLimits.{InputFits as NodeInputFits}
 use Rattle.ring_rules.specs.Lives.{lived_through}
-use Rattle.ring_rules.specs.Nodes.{Node}
-use Rattle.ring_rules.specs.Stepping.{send_of, settled, after_core, node_step}
+use Rattle.ring_rules.specs.Nodes.{Node, node_kept, is_closed, is_restored}
+use Rattle.ring_rules.specs.Dues.{due_by}
+use Rattle.ring_rules.specs.Stepping.{NodeStepped, send_of, with_dropped, newly, drops, did, settled, walked, after_core, node_step}
 use Rattle.ring_token.proofs.Numbered.{length-numbered}
 use Rattle.ring_core_proof.specs.LawWords.{CameWith}
 use Rattle.ring_core_proof.proofs.Causes.{caused}
 use Rattle.ring_core_proof.proofs.Lifting.{IsTold, told_from, told_configured}
 use Rattle.ring_core_proof.proofs.StepsAreMoves.{fresh_few}
 use Rattle.ring_core_proof.specs.Limits.{InputFits}
-use Rattle.ring_log.specs.Kept.{is_kept_sound}
+use Rattle.ring_log.specs.Kept.{Kept, kept_of, log_kept, is_kept_sound}
+use Rattle.ring_log.specs.Logs.{committed_calls}
 
 -- Lists
 
@@ -164,15 +165,21 @@ few_frames c input w =
 -- A step of a node
 
 module _ {O A : Type 0} (object : Sequential O) where
-  few_if : (b : Bool) (old new : Node A) (outs : List (Out A)) (life : List (Stay A)) → length (filter_map send_of outs) ≤ 64 →
-      length (settled object b old new outs life).sends ≤ 64
-  few_if false old new outs life l = omega arith
-  few_if true old new outs life l = l
+  few_if : (b : Bool) (old new : Node A) (outs : List (Out A)) (k : Kept A) → length (filter_map send_of outs) ≤ 64 →
+      length (settled object b old new outs k).sends ≤ 64
+  few_if false old new outs k l = omega arith
+  few_if true old new outs k l =
+      let s = did object old new outs k (newly (node_kept old) k) in
+      cond_both (drops object (is_closed old.group new.life) k)
+      (record s { node = with_dropped k.committed s.node; dropped = committed_calls (log_kept k) }) s
+      (λ (x : NodeStepped A). length x.sends ≤ 64) (λ t. l) (λ e. l)
 
   few_after : (n : Node A) (input : Input A) → InputFits input → length (after_core object n (ring_step n.core input)).sends ≤ 64
   few_after n input w =
       let s = ring_step n.core input in
-      few_if (is_kept_sound n.group (lived_through n.life s.outs)) n _ s.outs (lived_through n.life s.outs) (few_frames n.core input w)
+      let life = lived_through n.life s.outs in
+      few_if (is_kept_sound n.group life && is_restored object (kept_of n.group life)) n (walked n s.core life (due_by object n s.core n.life s.outs)) s.outs
+      (kept_of n.group life) (few_frames n.core input w)
 
   pub few_sends : (n : Node A) (input : NodeInput A) → NodeInputFits input → length (node_step object n input).sends ≤ 64
   few_sends n (NodeFrame frame) w = few_after n (FrameInput frame) w

@@ -1,6 +1,7 @@
 -- Each node of every world: what its core said in a ring is a front of what the node handed to it while it stayed there.
 use Rattle.std.proofs.Common.{◌≡◌, ℕ, ◌<◌, Bool, true, false, ◌==◌, ◌⊎◌, inl, inr, List, [], ◌∷◌, ◌++◌, map, Option}
 use Rattle.std.proofs.Common.{Some, None, refl, ap, sym, ◌∙◌, subst, arith, append_assoc, append-nil}
+use Rattle.std.specs.Prelude.{◌&&◌}
 use Rattle.std.specs.List.{AllByRecursion as Each}
 use Rattle.std.proofs.lemmas.Bool.{cond_both, cond-true, eq-eqb}
 use Rattle.ring_base.specs.Fronts.{IsFront}
@@ -39,14 +40,15 @@ use Rattle.ring_core_proof.proofs.Causes.{caused}
 use Rattle.ring_core_proof.proofs.InLists.{each-in}
 use Rattle.ring_synchrony_proof.proofs.Ordered.{Ordered}
 use Rattle.ring_synchrony_proof.proofs.LivesTold.{keeps_done}
-use Rattle.ring_log.specs.Stays.{Stay, hands}
-use Rattle.ring_log.specs.Lives.{log_of}
+use Rattle.ring_log.specs.Stays.{Stay, hands, trims}
+use Rattle.ring_log.specs.Logs.{committed_calls}
 use Rattle.ring_rules.specs.declared.input.Input.{Input as NodeInput}
 use Rattle.ring_rules.specs.declared.input.Input.TheVariants.{Frame as NodeFrame, Noise as NodeNoise, Timeout as NodeTime, Stop as NodeStop}
 use Rattle.ring_rules.specs.Lives.{lived, lived_through}
-use Rattle.ring_rules.specs.Nodes.{Node, node_opening, node_stopped}
+use Rattle.ring_rules.specs.Nodes.{Node, node_opening, node_kept, node_stopped, is_closed, is_restored}
 use Rattle.ring_rules.specs.Dues.{due_by}
-use Rattle.ring_rules.specs.Stepping.{handed_over, walked, settled, after_core, node_step, due_by_submit, submit_fault, submitted}
+use Rattle.ring_rules.specs.Stepping.{NodeStepped, handed_over, walked, with_dropped, newly, drops, did, settled, after_core, node_step, due_by_submit}
+use Rattle.ring_rules.specs.Stepping.{submit_fault, submitted}
 use Rattle.ring_log_proof.specs.RingFacts.{IsStay, StayIn}
 use Rattle.ring_log_proof.specs.Discipline.{FollowsHead, OpensWithHead}
 use Rattle.ring_log_proof.proofs.Living.{IsOrderly}
@@ -66,7 +68,7 @@ use Rattle.ring_order_proof.specs.Said.{SpeaksInOrder}
 use Rattle.ring_order_proof.proofs.Speaking.{IsSpeaker, IsSaid, IsNoSend, done_said, done_speaks, install_said, install_new}
 use Rattle.ring_order_proof.proofs.Speaking.{install_speaks, halt_said, halt_speaks, opening_speaks, queue_with, with_queue}
 use Rattle.ring_order_proof.proofs.Speaking.{hand_said, hand_other, hand_speaks}
-use Rattle.ring_log.specs.Kept.{is_kept_sound}
+use Rattle.ring_log.specs.Kept.{Kept, kept_of, log_kept, is_kept_sound}
 
 -- A life as the rings with what was handed over there
 
@@ -234,12 +236,12 @@ pub record NodeSays {A : Type 0} (n : Node A) : Type 0 where
 abbrev HasQueued : {A : Type 0} → List (Stay A) → Type 0
 HasQueued {A} life = Each (λ (s : Stay A). AreQueued s.sent) life
 
-follows_queued : {A : Type 0} → (log : List (OneCall A)) (p : Payload A) → FollowsHead log p → is_queued p ≡ true
+follows_queued : {A : Type 0} → (log : Kept A) (p : Payload A) → FollowsHead log p → is_queued p ≡ true
 follows_queued log (Part part) h = refl
 follows_queued log (Call call) h = refl
 follows_queued log (Head head) h = absurd h
 follows_queued log (Pack pack) h = absurd h
-follows_queued log (Snap snap) h = absurd h
+follows_queued log (Snap snap) h = refl
 follows_queued log (Wrapped old) h = absurd h
 follows_queued log End h = absurd h
 
@@ -247,50 +249,73 @@ opened_queued : {A : Type 0} → (group : Group) (s : Stay A) (older : List (Sta
 opened_queued group s older (inl e) = subst AreQueued (sym e) tt
 opened_queued {A} group s older (inr h) =
     subst AreQueued (sym h.opens)
-    (refl, each-weaker (FollowsHead (log_of group older)) (λ (p : Payload A). is_queued p ≡ true) (follows_queued (log_of group older)) h.rest h.follows)
+    (refl, each-weaker (FollowsHead (kept_of group older)) (λ (p : Payload A). is_queued p ≡ true) (follows_queued (kept_of group older)) h.rest h.follows)
 
 orderly_queued : {A : Type 0} → (group : Group) (life : List (Stay A)) → IsOrderly group life → HasQueued life
 orderly_queued group [] k = tt
 orderly_queued group (s ∷ life) k = (opened_queued group s life (k s life (inl (refl, refl))), orderly_queued group life (λ t older i. k t older (inr i)))
 
+-- rings below a number, and what was handed over there
+abbrev AreBelow : {A : Type 0} → ℕ → List (RingId × List (Payload A)) → Type 0
+AreBelow {A} n hs = Each (λ (h : RingId × List (Payload A)). h.0.seq < n) hs
+
 -- where a node's core and life went on and what is due is handed over
 hands_says : {A : Type 0} → (core : Core A) (s : Stay A) (older : List (Stay A)) (due : List (Payload A)) → AreQueued due → may_install core ≡ false →
-    Each (λ (t : Stay A). t.ring.seq < core.installed.ring.seq) older → IsSpeaker core → AllSaid core (handed_in (s ∷ older)) →
+    AreBelow core.installed.ring.seq (handed_in older) → IsSpeaker core → AllSaid core (handed_in (s ∷ older)) →
     AllSaid (handed_over core due) (handed_in (hands due (s ∷ older))) × IsSpeaker (handed_over core due)
 hands_says {A} core s older due q ready below m h =
     let new = with_queue core (queue_with core.state core.queue due) in
     let is : handed_over core due ≡ new = handed_queue core due ready q in
-    let all : AllSaid new (handed_in (hands due (s ∷ older))) = (hand_said core s.ring s.sent due h.0, others older below h.1) in
+    let all : AllSaid new (handed_in (hands due (s ∷ older))) = (hand_said core s.ring s.sent due h.0, others (handed_in older) below h.1) in
     (subst (λ (c : Core A). AllSaid c (handed_in (hands due (s ∷ older)))) (sym is) all, subst IsSpeaker (sym is) (hand_speaks core due q m))
   where
-    others : (older : List (Stay A)) → Each (λ (t : Stay A). t.ring.seq < core.installed.ring.seq) older → AllSaid core (handed_in older) →
-        AllSaid (with_queue core (queue_with core.state core.queue due)) (handed_in older)
+    others : (hs : List (RingId × List (Payload A))) → AreBelow core.installed.ring.seq hs → AllSaid core hs →
+        AllSaid (with_queue core (queue_with core.state core.queue due)) hs
     others [] b k = tt
-    others (t ∷ older) b k = (
-      hand_other core t.ring t.sent due (λ e. (let x : t.ring.seq ≡ core.installed.ring.seq = ap
-          (λ (r : RingId). r.seq) e in let l : t.ring.seq < core.installed.ring.seq = b.0 in omega (arith, x, l))) k.0,
-      others older b.1 k.1,
+    others (t ∷ hs) b k = (
+      hand_other core t.0 t.1 due (λ e. (let x : t.0.seq ≡ core.installed.ring.seq = ap
+          (λ (r : RingId). r.seq) e in let l : t.0.seq < core.installed.ring.seq = b.0 in omega (arith, x, l))) k.0,
+      others hs b.1 k.1,
     )
 
--- the node after that: its life shows that what was due may stand in a queue
+-- the first of them, and the others
+sent_first : {A : Type 0} → List (RingId × List (Payload A)) → List (Payload A)
+sent_first [] = []
+sent_first (h ∷ hs) = h.1
+
+but_first : {A : Type 0} → List (RingId × List (Payload A)) → List (RingId × List (Payload A))
+but_first [] = []
+but_first (h ∷ hs) = hs
+
+-- the node after that, whatever it dropped: its life shows that what was due may stand in a queue
 handed_says : {A : Type 0} → (new : Node A) (core : Core A) (life : List (Stay A)) (due : List (Payload A))
-    → new.core ≡ handed_over core due → new.life ≡ hands due life →
+    → new.core ≡ handed_over core due → handed_in new.life ≡ handed_in (hands due life) →
     IsOrderlyNode new → HasQueued new.life → may_install core ≡ false → (new.core).installed ≡ core.installed
     → IsSpeaker core → AllSaid core (handed_in life) → NodeSays new
-handed_says {A} new core [] due c l o q ready i m h = absurd (let x : o.stay ∷ o.older ≡ [] = sym o.life ∙ l in let y : ⊥ = cc x in y)
+unfolding sent_first but_first
+handed_says {A} new core [] due c l o q ready i m h =
+    absurd (let x : handed_in (o.stay ∷ o.older) ≡ [] = sym (ap handed_in o.life) ∙ l in let y : ⊥ = cc x in y)
 handed_says {A} new core (s ∷ older) due c l o q ready i m h =
-    let e : o.stay ∷ o.older ≡ hands due (s ∷ older) = sym o.life ∙ l in
-    let rest : o.older ≡ older = cc e in
-    let queued : HasQueued (hands due (s ∷ older)) = subst HasQueued l q in
-    let below : Each (λ (t : Stay A). t.ring.seq < core.installed.ring.seq) older =
-    subst (λ (x : Configuration). Each (λ (t : Stay A). t.ring.seq < x.ring.seq) older) i
-    (subst (λ (xs : List (Stay A)). Each (λ (t : Stay A). t.ring.seq < (new.core).installed.ring.seq) xs) rest (older_below new o)) in
-    let both = hands_says core s older due (each-right (λ (p : Payload A). is_queued p ≡ true) s.sent due queued.0) ready below m h in
+    let e : handed_in (o.stay ∷ o.older) ≡ handed_in (hands due (s ∷ older)) = sym (ap handed_in o.life) ∙ l in
+    let rest : handed_in o.older ≡ handed_in older = ap but_first e in
+    let sent : o.stay.sent ≡ s.sent ++ due = ap sent_first e in
+    let queued : HasQueued (o.stay ∷ o.older) = subst HasQueued o.life q in
+    let all : AreQueued (s.sent ++ due) = subst AreQueued sent queued.0 in
+    let low : AreBelow new.core.installed.ring.seq (handed_in o.older) =
+    each-map (λ (x : RingId × List (Payload A)). x.0.seq < new.core.installed.ring.seq) (λ (t : Stay A). (t.ring, t.sent)) o.older (older_below new o) in
+    let below : AreBelow core.installed.ring.seq (handed_in older) =
+    subst (λ (x : Configuration). AreBelow x.ring.seq (handed_in older)) i
+    (subst (λ (hs : List (RingId × List (Payload A))). AreBelow new.core.installed.ring.seq hs) rest low) in
+    let both = hands_says core s older due (each-right (λ (p : Payload A). is_queued p ≡ true) s.sent due all) ready below m h in
     record {
       speaks = subst IsSpeaker (sym c) both.1;
       said = subst (λ (x : Core A). AllSaid x (handed_in new.life)) (sym c)
-          (subst (λ (xs : List (Stay A)). AllSaid (handed_over core due) (handed_in xs)) (sym l) both.0);
+          (subst (λ (hs : List (RingId × List (Payload A))). AllSaid (handed_over core due) hs) (sym l) both.0);
     }
+
+trims_handed : {A : Type 0} → (places : ℕ) (life : List (Stay A)) → handed_in (trims places life) ≡ handed_in life
+trims_handed places [] = refl
+trims_handed places (s ∷ older) = refl
 
 -- A stop
 
@@ -305,12 +330,22 @@ stops_says n h = record { speaks = halt_speaks n.core h.speaks; said = stopped_s
 
 after_says : {O A : Type 0} → (object : Sequential O) (n : Node A) (t : Bool) (core : Core A) (outs : List (Out A)) → NodeSays n → may_install core ≡ false →
     IsSpeaker core → AllSaid core (handed_in (lived_through n.life outs)) →
-    let new = (settled object t n (walked n core (lived_through n.life outs) (due_by n core n.life outs)) outs (lived_through n.life outs)).node in
-    IsOrderlyNode new → HasQueued new.life → ((handed_over core (due_by n core n.life outs)).installed ≡ core.installed) → NodeSays new
+    let life = lived_through n.life outs in
+    let due = due_by object n core n.life outs in
+    let new = (settled object t n (walked n core life due) outs (kept_of n.group life)).node in
+    IsOrderlyNode new → HasQueued new.life → ((handed_over core due).installed ≡ core.installed) → NodeSays new
 after_says object n false core outs s ready m h o q i = stops_says n s
-after_says object n true core outs s ready m h o q i =
-    handed_says (settled object true n (walked n core (lived_through n.life outs) (due_by n core n.life outs)) outs (lived_through n.life outs)).node core
-    (lived_through n.life outs) (due_by n core n.life outs) refl refl o q ready i m h
+after_says {O} {A} object n true core outs s ready m h o q i =
+    let life = lived_through n.life outs in
+    let due = due_by object n core n.life outs in
+    let k = kept_of n.group life in
+    let new = walked n core life due in
+    let d = did object n new outs k (newly (node_kept n) k) in
+    let cut = with_dropped k.committed d.node in
+    cond_both (drops object (is_closed n.group new.life) k) (record d { node = cut; dropped = committed_calls (log_kept k) }) d
+    (λ (x : NodeStepped A). IsOrderlyNode x.node → HasQueued x.node.life → NodeSays x.node)
+    (λ e orderly queued. handed_says cut core life due refl (trims_handed k.committed (hands due life)) orderly queued ready i m h)
+    (λ e orderly queued. handed_says d.node core life due refl refl orderly queued ready i m h) o q
 
 input_says : {O A : Type 0} → (object : Sequential O) (n : Node A) (input : Input A)
     → ((p : Payload A) → input ≡ SendInput p → ⊥) → IsOrderlyNode n → NodeSays n →
@@ -321,8 +356,9 @@ input_says {O} {A} object n input other o s new q =
     let rings : rings_of n.life ≡ installed_rings n.core.installs = ap rings_of o.life ∙ o.rings in
     let k = core_says n.core input n.life other o.ordered s.speaks rings s.said in
     let ready : may_install c.core ≡ false = stepped_is n.core input in
-    let due = due_by n c.core n.life c.outs in
-    after_says object n (is_kept_sound n.group (lived_through n.life c.outs)) c.core c.outs s ready k.1 k.0 new q
+    let due = due_by object n c.core n.life c.outs in
+    let life = lived_through n.life c.outs in
+    after_says object n (is_kept_sound n.group life && is_restored object (kept_of n.group life)) c.core c.outs s ready k.1 k.0 new q
     (ap (λ (x : Core A). x.installed) (queued_all c.core due ready).is)
 
 node_says : {O A : Type 0} → (object : Sequential O) (n : Node A) (input : NodeInput A) → IsOrderlyNode n → NodeSays n

@@ -6,4 +6,6 @@ pub mod Texts
 pub mod RunFacts
 pub mod Between
 pub mod Linear
+pub mod Done
 pub mod NodeFits
+pub mod Counts

@@ -1,6 +1,6 @@
 -- A world of nodes, seen as a world of ring cores: what the nodes keep beside their cores is left out. Rings and
 -- states, rule 14, and The replicated log, rule 1, of docs/PROTOCOL.md.
-use Rattle.std.specs.Prelude.{◌≡◌, ℕ, Bool, true, false, List, [], ◌∷◌, ◌++◌, map, Option, Some, None}
+use Rattle.std.specs.Prelude.{◌≡◌, ℕ, Bool, true, false, ◌&&◌, List, [], ◌∷◌, ◌++◌, map, Option, Some, None}
 use Rattle.ring_base.specs.Group.{Group}
 use Rattle.ring_base.specs.Processors.{has}
 use Rattle.ring_base.specs.declared.fault.Fault.{Fault}
@@ -16,7 +16,7 @@ use Rattle.ring_core.specs.Stepping.{ring_step}
 use Rattle.ring_log.specs.Stays.{Stay, born}
 use Rattle.ring_rules.specs.Dues.{due_by}
 use Rattle.ring_rules.specs.Lives.{lived_through}
-use Rattle.ring_rules.specs.Nodes.{Node}
+use Rattle.ring_rules.specs.Nodes.{Node, is_restored}
 use Rattle.ring_rules.specs.Stepping.{due_by_submit, submit_fault}
 use Rattle.ring_rules.specs.declared.event.Event.{Event}
 use Rattle.ring_rules.specs.declared.event.Event.TheVariants.{Issue, Deliver, Noise, Timeout, Stop}
@@ -25,15 +25,15 @@ use Rattle.ring_core_proof.specs.declared.event.RingEvent.{RingEvent}
 use Rattle.ring_core_proof.specs.declared.event.RingEvent.TheVariants.{Send, Deliver as RingDeliver, Timeout as RingTimeout, Stop as RingStop}
 use Rattle.ring_core_proof.specs.Worlds.{World as RingWorld, run, unformed}
 use Rattle.ring_core_proof.specs.Lives.{outs_of}
-use Rattle.ring_log.specs.Kept.{is_kept_sound}
+use Rattle.ring_log.specs.Kept.{kept_of, is_kept_sound}
 
 -- the cores of the nodes and the frames that these sent, with what the cores gave
 abbrev pub ring_part : {A : Type 0} → World A → List (ℕ × Out A) → RingWorld A
 ring_part w outs = record { total = w.group.count; cores = λ i. (w.nodes i).core; frames = w.frames; outs = outs }
 
--- a life without what its node handed to its core
+-- a life without what its node handed to its core and what it dropped
 abbrev pub unsent : {A : Type 0} → Stay A → Stay A
-unsent s = record s { sent = [] }
+unsent s = record s { sent = []; trimmed = 0 }
 
 abbrev pub heard_life : {A : Type 0} → List (Stay A) → List (Stay A)
 heard_life {A} life = map (λ (s : Stay A). unsent s) life
@@ -68,21 +68,23 @@ abbrev pub share_settled : {A : Type 0} → Bool → ℕ → RingEvent A → Lis
 share_settled false i event due outs = record { events = RingStop i ∷ []; outs = [] }
 share_settled true i event due outs = record { events = event ∷ sends_to i due; outs = by i outs }
 
-abbrev pub share_of_step : {A : Type 0} → Node A → ℕ → RingEvent A → Stepped A → Share A
-share_of_step n i event s =
-    share_settled (is_kept_sound n.group (lived_through n.life s.outs)) i event (due_by n s.core n.life s.outs) s.outs
+module _ {O : Type 0} (object : Sequential O) where
+  abbrev pub share_of_step : {A : Type 0} → Node A → ℕ → RingEvent A → Stepped A → Share A
+  share_of_step n i event s =
+      let k = kept_of n.group (lived_through n.life s.outs) in
+      share_settled (is_kept_sound n.group (lived_through n.life s.outs) && is_restored object k) i event (due_by object n s.core n.life s.outs) s.outs
 
-abbrev pub share_if : {A : Type 0} → Bool → World A → ℕ → RingEvent A → Input A → Share A
-share_if false w i event input = no_share
-share_if true w i event input = share_of_step (w.nodes i) i event (ring_step (w.nodes i).core input)
+  abbrev pub share_if : {A : Type 0} → Bool → World A → ℕ → RingEvent A → Input A → Share A
+  share_if false w i event input = no_share
+  share_if true w i event input = share_of_step (w.nodes i) i event (ring_step (w.nodes i).core input)
 
-abbrev pub share_handed_if : {A : Type 0} → Bool → World A → ℕ → ℕ → Frame A → Share A
-share_handed_if false w i k frame = no_share
-share_handed_if true w i k frame = share_if (is_node w i) w i (RingDeliver i k) (FrameInput frame)
+  abbrev pub share_handed_if : {A : Type 0} → Bool → World A → ℕ → ℕ → Frame A → Share A
+  share_handed_if false w i k frame = no_share
+  share_handed_if true w i k frame = share_if (is_node w i) w i (RingDeliver i k) (FrameInput frame)
 
-abbrev pub share_handed : {A : Type 0} → World A → ℕ → ℕ → Option (Carried A) → Share A
-share_handed w i k None = no_share
-share_handed w i k (Some f) = share_handed_if (has f.to i) w i k f.frame
+  abbrev pub share_handed : {A : Type 0} → World A → ℕ → ℕ → Option (Carried A) → Share A
+  share_handed w i k None = no_share
+  share_handed w i k (Some f) = share_handed_if (has f.to i) w i k f.frame
 
 -- a submit: what is due by it is handed over
 abbrev pub share_issued_or : {A : Type 0} → Option Fault → World A → ℕ → Call A → Share A
@@ -97,18 +99,18 @@ abbrev pub share_stopped_if : {A : Type 0} → Bool → ℕ → Share A
 share_stopped_if false i = no_share
 share_stopped_if true i = record { events = RingStop i ∷ []; outs = [] }
 
-abbrev pub share : {A : Type 0} → World A → Event A → Share A
-share w (Issue i c) = share_issued_if (is_node w i) w i c
-share w (Deliver i k) = share_handed w i k (frame_at w.frames k)
-share w (Noise i bytes) = no_share
-share w (Timeout i kind) = share_if (is_node w i) w i (RingTimeout i kind) (TimeInput kind)
-share w (Stop i) = share_stopped_if (is_node w i) i
-
 -- one behind another
 abbrev pub both_shares : {A : Type 0} → Share A → Share A → Share A
 both_shares a b = record { events = a.events ++ b.events; outs = a.outs ++ b.outs }
 
 module _ {O : Type 0} (object : Sequential O) where
+  abbrev pub share : {A : Type 0} → World A → Event A → Share A
+  share w (Issue i c) = share_issued_if (is_node w i) w i c
+  share w (Deliver i k) = share_handed object w i k (frame_at w.frames k)
+  share w (Noise i bytes) = no_share
+  share w (Timeout i kind) = share_if object (is_node w i) w i (RingTimeout i kind) (TimeInput kind)
+  share w (Stop i) = share_stopped_if (is_node w i) i
+
   -- what a run of nodes is to their cores
   abbrev pub share_of : {A : Type 0} → World A → List (Event A) → Share A
   share_of w [] = no_share

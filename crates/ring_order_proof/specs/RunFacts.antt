@@ -8,7 +8,7 @@ use Rattle.ring_core.specs.Views.{front}
 use Rattle.ring_log.specs.Lives.{upto}
 use Rattle.ring_rules.specs.Worlds.{World}
 use Rattle.ring_log_proof.specs.RingFacts.{said_by, AllHeard, RingFacts}
-use Rattle.ring_order_proof.specs.Living.{lives_of}
+use Rattle.ring_order_proof.specs.Living.{lives_in, lives_of}
 use Rattle.ring_order_proof.specs.Spoken.{spoken}
 use Rattle.ring_order_proof.specs.Texts.{IsText}
 
@@ -18,6 +18,8 @@ pub record HasFacts {A : Type 0} (w : World A) : Type 0 where
   pub text : RingId → List (Message A)
   -- the users' messages that were numbered in the ring, in the order of their numbers
   pub is : (ring : RingId) → IsText (λ q. (w.nodes q).core) ring (text ring)
+  -- so they are as the nodes know their lives, and with what snapshots stand for
+  pub own : RingFacts (lives_in w) members text
   pub facts : RingFacts (lives_of w) members text
   -- what a processor said in a text is what its core sent in its own visits of the ring's token
   pub speech : (p : ℕ) (ring : RingId) → said_by p (text ring) ≡ spoken (w.nodes p).core ring

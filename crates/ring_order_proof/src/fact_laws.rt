@@ -15,8 +15,9 @@ use ring_object::Object;
 /// what a node heard in a ring is a front of the ring's text, which is the users' messages numbered there, in the order of
 /// their numbers; what a processor said there is what its core sent in its own visits of the ring's token, and a front of
 /// what the node handed to it while it stayed there; and what is safe in a ring, by a node's safe mark or since every
-/// member's front has reached it, each of its members heard there, first of all. So it is too whenever a core has taken a
-/// step of which nothing is handed over yet.
+/// member's front has reached it, each of its members heard there, first of all. It is so of the lives as nodes know them, and
+/// with what the snapshots stand for that were sent; and so it is too whenever a core has taken a step of which nothing is
+/// handed over yet.
 pub fn facts_law<O: Object>()
     ensures runs { (group : Group) (events : List (Event O.Alloc)) → group.count ≤ 16 → HasFacts (run O.sequential (world_opening group) events) }
     ensures steps { (group : Group) (events : List (Event O.Alloc)) (node : ℕ) (input : Input O.Alloc) → group.count ≤ 16 → 1 ≤ node → node ≤ group.count →

@@ -1,6 +1,6 @@
 //! Laws of one step of a node, and of every run of nodes.
 
-ghost use Rattle.std.specs.Prelude.{◌≡◌, ℕ, ◌+◌, ◌≤◌, List, [], Some, filter_map, length};
+ghost use Rattle.std.specs.Prelude.{◌≡◌, ℕ, ◌+◌, ◌≤◌, List, Some, filter_map, length};
 ghost use Rattle.std.specs.List.{AllByRecursion};
 ghost use Rattle.ring_base.specs.Group.{Group};
 ghost use Rattle.ring_payload.specs.Calls.{CallFits};
@@ -10,18 +10,19 @@ ghost use Rattle.ring_wire.specs.declared.frame.Frame.{Frame};
 ghost use Rattle.ring_core.specs.declared.input.Input.{Input};
 ghost use Rattle.ring_core.specs.State.{Core, Sent, Carried, frame_at};
 ghost use Rattle.ring_core.specs.Stepping.{ring_step};
+ghost use Rattle.ring_log.specs.Lives.{committed_of};
 ghost use Rattle.ring_log.specs.Stays.{Stay};
 ghost use Rattle.ring_log_proof.specs.RingFacts.{IsStay};
 ghost use Rattle.ring_core_proof.specs.Limits.{InputFits, OutFits, CoreFits};
 ghost use Rattle.ring_rules.specs.declared.input.Input.{Input as NodeInput};
 ghost use Rattle.ring_rules.specs.NodeLimits.{InputFits as NodeInputFits};
-ghost use Rattle.ring_session.specs.Table.{opening};
-ghost use Rattle.ring_session.specs.Tickets.{answers_after};
-ghost use Rattle.ring_rules.specs.Nodes.{Node, node_committed, node_log, node_pending};
+ghost use Rattle.ring_rules.specs.Nodes.{Node, node_kept, node_pending};
 ghost use Rattle.ring_rules.specs.Stepping.{node_step, send_of};
 ghost use Rattle.ring_rules.specs.declared.event.Event.{Event};
 ghost use Rattle.ring_rules.specs.WorldLimits.{EventFits};
-ghost use Rattle.ring_rules.specs.Worlds.{world_opening, happens, run};
+ghost use Rattle.ring_rules.specs.Worlds.{world_opening, happens, run, lives_of};
+ghost use Rattle.ring_order_proof.specs.Done.{HasDone};
+ghost use Rattle.ring_order_proof.specs.Linear.{EventKeeps};
 
 use ring_object::Object;
 
@@ -43,21 +44,21 @@ pub fn pending_law<O: Object>()
         length (node_step O.sequential (w.nodes node) input).answers ≤ 64 }
 {}
 
-/// In every run a node has done just the calls that it has committed, so that its tickets count its committed places; and
-/// all answers that it ever gave are those of the session table, one call after the other from the first.
+/// In every run whose issued calls keep the limits a node has done just the calls that it has committed, but for those that it
+/// has by restoring a snapshot: its tickets count the calls done. All answers that it ever gave are those of the session table,
+/// before each call that it did the table after all places that stand before it in the log, those restored among them.
 pub fn done_law<O: Object>()
-    ensures calls { (group : Group) (events : List (Event O.Alloc)) (node : ℕ) →
+    ensures { (group : Group) (events : List (Event O.Alloc)) (node : ℕ) → group.count ≤ 16 → AllByRecursion EventKeeps events → 1 ≤ node →
+        node ≤ group.count →
         let w = run O.sequential (world_opening group) events in
-        (w.nodes node).done ≡ node_committed (w.nodes node) }
-    ensures answers { (group : Group) (events : List (Event O.Alloc)) (node : ℕ) →
-        let n = (run O.sequential (world_opening group) events).nodes node in
-        n.answers ≡ answers_after O.sequential (opening O.sequential.initial) n.tickets [] (node_committed n) }
+        HasDone O.sequential (w.nodes node) (committed_of group (lives_of w node)) }
 {}
 
 /// Each frame ever sent keeps the limits of frames, and so does each node's core: in every run of at most 16 nodes whose
 /// issued calls keep them, whatever is delivered, lost, repeated, reordered or delayed, whatever times out or stops. So do
 /// the outputs of the next step of a node's core, and the frames that the next step of a node sends; each payload that a
-/// node ever handed to its core, its Heads, its Parts and its calls; and each call of its log.
+/// node ever handed to its core, its Heads, the pieces of its snapshots, its Parts and its calls; and each call that it knows of
+/// its log.
 pub fn frames_law<O: Object>()
     ensures frames { (group : Group) (events : List (Event O.Alloc)) → group.count ≤ 16 → AllByRecursion EventFits events →
         let w = run O.sequential (world_opening group) events in
@@ -85,7 +86,7 @@ pub fn frames_law<O: Object>()
     ensures logs { (group : Group) (events : List (Event O.Alloc)) (node : ℕ) → group.count ≤ 16 → AllByRecursion EventFits events →
         1 ≤ node → node ≤ group.count →
         let w = run O.sequential (world_opening group) events in
-        AllByRecursion CallFits (node_log (w.nodes node)) }
+        AllByRecursion CallFits (node_kept (w.nodes node)).calls }
 {}
 
 /// One event more adds at most 64 frames to a world, at most 64 items to its history, and at most 64 answers and refused

@@ -4,9 +4,12 @@
 #![tactic(auto)]
 
 pub mod discipline_laws;
+pub mod effect_laws;
 pub mod fact_laws;
 pub mod fit_laws;
 pub mod frame_laws;
 pub mod laws;
+pub mod limit_laws;
+pub mod longest_laws;
 pub mod projection_laws;
 pub mod text_laws;

@@ -10,7 +10,8 @@ use Rattle.ring_rules.specs.Nodes.{Node}
 use Rattle.ring_rules.specs.Stepping.{node_step}
 use Rattle.ring_rules.specs.declared.input.Input.{Input}
 use Rattle.ring_rules.specs.declared.input.Input.TheVariants as input
-use Rattle.ring_records.specs.Told.{answers_text, all_committed_text, ticket_record, refusal_record}
+use Rattle.ring_node.specs.Restores.{node_restored}
+use Rattle.ring_records.specs.Told.{answers_text, restored_text, all_committed_text, ticket_record, refusal_record}
 use Rattle.ring_records.specs.declared.fate.TokenFate.{TokenFate}
 use Rattle.ring_records.specs.declared.fate.TokenFate.TheVariants.{NoToken}
 use Rattle.ring_pipe.specs.Telling.{sends_text, token_fate, end_text}
@@ -19,19 +20,20 @@ use Rattle.ring_pipe.proofs.Writing.{writes}
 
 module _ {O A T E : Type 0} (object : Sequential O) (r : Result T E) (out out' : Option (List ℕ)) (old new : Node A) where
   -- all outputs of a step
-  pub step_told : (i : Input A) (records : List ℕ) (answers : List (Answered A)) (committed : List (Call A)) (token : TokenFate)
+  pub step_told : (i : Input A) (records : List ℕ) (answers : List (Answered A)) (restored : Option ℕ) (committed : List (Call A)) (token : TokenFate)
       → Acts object old i None new → records ≡ sends_text (node_step object old i).sends → answers ≡ (node_step object old i).answers
-      → committed ≡ (node_step object old i).committed → token ≡ token_fate i (node_step object old i).sends
-      → OnOk r (Appends out out' ((records ++ answers_text answers ++ all_committed_text committed) ++ end_text new token))
+      → restored ≡ node_restored old (node_step object old i).node → committed ≡ (node_step object old i).committed → token ≡ token_fate i (node_step object old i).sends
+      → OnOk r (Appends out out' ((records ++ answers_text answers ++ restored_text restored ++ all_committed_text committed) ++ end_text new token))
       → OnOk r (Writes out out' (λ text. Steps object old i new text))
-  step_told i records answers committed fate acts sent answered done came told =
-      let F : List ℕ → List (Answered A) → List (Call A) → TokenFate → Type 0 =
-      λ x y z t. OnOk r (Appends out out' ((x ++ answers_text y ++ all_committed_text z) ++ end_text new t)) in
+  step_told i records answers restored committed fate acts sent answered given done came told =
+      let F : List ℕ → List (Answered A) → Option ℕ → List (Call A) → TokenFate → Type 0 =
+      λ x y o z t. OnOk r (Appends out out' ((x ++ answers_text y ++ restored_text o ++ all_committed_text z) ++ end_text new t)) in
       let s = node_step object old i in
-      let all = subst (λ (t : TokenFate). F (sends_text s.sends) s.answers s.committed t) came
-      (subst (λ (z : List (Call A)). F (sends_text s.sends) s.answers z fate) done
-      (subst (λ (y : List (Answered A)). F (sends_text s.sends) y committed fate) answered
-      (subst (λ (x : List ℕ). F x answers committed fate) sent told))) in
+      let all = subst (λ (t : TokenFate). F (sends_text s.sends) s.answers (node_restored old s.node) s.committed t) came
+      (subst (λ (z : List (Call A)). F (sends_text s.sends) s.answers (node_restored old s.node) z fate) done
+      (subst (λ (o : Option ℕ). F (sends_text s.sends) s.answers o committed fate) given
+      (subst (λ (y : List (Answered A)). F (sends_text s.sends) y restored committed fate) answered
+      (subst (λ (x : List ℕ). F x answers restored committed fate) sent told)))) in
       writes r out out' _ (λ text. Steps object old i new text) all (None, acts, refl)
 
   -- that a step was refused

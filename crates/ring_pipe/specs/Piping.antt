@@ -36,7 +36,7 @@ module _ {O A : Type 0} (object : Sequential O) where
 
   -- what it tells of that: all outputs of the step, or none
   abbrev pub acted_text : Node A → Input A → Option Fault → Node A → List ℕ
-  acted_text old i None new = outs_text (node_step object old i) ++ end_text new (token_fate i (node_step object old i).sends)
+  acted_text old i None new = outs_text old (node_step object old i) ++ end_text new (token_fate i (node_step object old i).sends)
   acted_text old i (Some fault) new = refusal_record fault ++ end_text new (token_fate i [])
 
   -- both

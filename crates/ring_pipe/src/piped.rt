@@ -8,7 +8,8 @@ ghost use Rattle.ring_rules.specs.NodeLimits.{InputFits};
 ghost use Rattle.ring_order_proof.specs.NodeFits.{SendsFit};
 ghost use Rattle.ring_rules.specs.Nodes.{node_opening, node_stopped, is_stopped};
 ghost use Rattle.ring_rules.specs.Stepping.{node_step};
-ghost use Rattle.ring_records.specs.Told.{answers_text, all_committed_text, ticket_record, refusal_record};
+ghost use Rattle.ring_node.specs.Restores.{node_restored};
+ghost use Rattle.ring_records.specs.Told.{answers_text, restored_text, all_committed_text, ticket_record, refusal_record};
 ghost use Rattle.ring_records.specs.declared.fate.TokenFate.TheVariants.{NoToken};
 ghost use Rattle.ring_pipe.specs.Telling.{sends_text, end_text, standing_text};
 ghost use Rattle.ring_records.specs.Asking.{Asks};
@@ -131,6 +132,7 @@ impl<O: Object> Piped<O> {
         ensures refused { IfErr result (λ fault. Acts O.sequential self.old input (Some fault) self.new) }
         ensures sends { IfOk result (λ spelled. spelled.outs.sends.items ≡ (node_step O.sequential self.old input).sends) }
         ensures answers { IfOk result (λ spelled. spelled.outs.answers.items ≡ (node_step O.sequential self.old input).answers) }
+        ensures restored { IfOk result (λ spelled. spelled.outs.restored ≡ node_restored self.old (node_step O.sequential self.old input).node) }
         ensures committed { IfOk result (λ spelled. spelled.outs.committed.items ≡ (node_step O.sequential self.old input).committed) }
         ensures records { IfOk result (λ spelled. spelled.records.items ≡ sends_text (node_step O.sequential self.old input).sends) }
     {
@@ -152,6 +154,7 @@ impl<O: Object> Piped<O> {
         ensures sends { IfOk result (λ outs. outs.sends.items ≡ (node_step O.sequential self.old input).sends) }
         ensures fit { IfOk result (λ outs. SendsFit outs.sends.items) }
         ensures answers { IfOk result (λ outs. outs.answers.items ≡ (node_step O.sequential self.old input).answers) }
+        ensures restored { IfOk result (λ outs. outs.restored ≡ node_restored self.old (node_step O.sequential self.old input).node) }
         ensures committed { IfOk result (λ outs. outs.committed.items ≡ (node_step O.sequential self.old input).committed) }
         ensures ok { OnOk result (self.new ≡ (node_step O.sequential self.old input).node) }
         ensures err { OnErr result (self.new ≡ node_stopped self.old) }
@@ -222,8 +225,14 @@ impl<O: Object> Piped<O> {
         ensures { OnOk result (Appends (W.contents out.old) (W.contents out.new) (standing_text self.now ++ end_text self.now NoToken)) }
     {
         let node = &self.node;
-        let committed = node.committed().len() as u64;
-        write_standing(node.state(), node.ring(), committed, node.log_len(), out)?;
+        write_standing(
+            node.state(),
+            node.ring(),
+            node.committed_len(),
+            node.log_len(),
+            node.trimmed(),
+            out,
+        )?;
         write_end(node.state(), TokenFate::NoToken, out)
     }
 
@@ -243,8 +252,8 @@ impl<O: Object> Piped<O> {
         out: &mut W,
     ) -> io::Result<()>
         ensures { OnOk result (Appends (W.contents out.old) (W.contents out.new)
-            ((spelled.now.records.items ++ answers_text spelled.now.outs.answers.items ++ all_committed_text spelled.now.outs.committed.items)
-            ++ end_text self.now token)) }
+            ((spelled.now.records.items ++ answers_text spelled.now.outs.answers.items ++ restored_text spelled.now.outs.restored
+            ++ all_committed_text spelled.now.outs.committed.items) ++ end_text self.now token)) }
     {
         write_spelled(spelled, out)?;
         write_end(self.node.state(), token, out)

@@ -4,14 +4,14 @@ ghost use Rattle.std.specs.Prelude.{◌≡◌, [], ◌++◌, OnOk, IfErr};
 ghost use Rattle.std.specs.Io.KnownBytes.{Appends};
 ghost use Rattle.ring_base.specs.declared.fault.Fault.TheVariants.{Memory};
 ghost use Rattle.ring_order_proof.specs.NodeFits.{SendsFit};
-ghost use Rattle.ring_records.specs.Told.{answers_text, all_committed_text};
+ghost use Rattle.ring_records.specs.Told.{answers_text, restored_text, all_committed_text};
 ghost use Rattle.ring_pipe.specs.Telling.{sends_text};
 
 use bytes::BytesMut;
 use ring_base::Fault;
 use ring_core::Sent;
 use ring_node::Outs;
-use ring_records::{spell_frame, write_all_committed, write_answers};
+use ring_records::{spell_frame, write_all_committed, write_answers, write_restored};
 use std::alloc::Allocator;
 use std::io::{self, Write};
 
@@ -40,15 +40,17 @@ pub(crate) fn spell_sends<A: Allocator + Copy + Drop>(
     Ok(())
 }
 
-/// Writes what a step gave: its frames, its answers, and the calls that are newly committed.
+/// Writes what a step gave: its frames, its answers, how many places it restored, and the calls that are newly committed.
 pub(crate) fn write_spelled<A: Allocator + Copy + Drop, W: Write>(
     spelled: &Spelled<A>,
     out: &mut W,
 ) -> io::Result<()>
     ensures { OnOk result (Appends (W.contents out.old) (W.contents out.new)
-        (spelled.now.records.items ++ answers_text spelled.now.outs.answers.items ++ all_committed_text spelled.now.outs.committed.items)) }
+        (spelled.now.records.items ++ answers_text spelled.now.outs.answers.items ++ restored_text spelled.now.outs.restored
+        ++ all_committed_text spelled.now.outs.committed.items)) }
 {
     out.write_all(spelled.records.as_slice())?;
     write_answers(spelled.outs.answers.as_slice(), out)?;
+    write_restored(spelled.outs.restored, out)?;
     write_all_committed(spelled.outs.committed.as_slice(), out)
 }

@@ -255,12 +255,17 @@ impl<O: Object> Driven<O> {
         let (seq, behind) = first_number(behind, 8);
         let (rep, behind) = first_number(behind, 1);
         let (committed, behind) = first_number(behind, 8);
-        let (log, _) = first_number(behind, 8);
+        let (log, behind) = first_number(behind, 8);
+        let (trimmed, _) = first_number(behind, 8);
         let word = word_of(state);
-        writeln!(
+        write!(
             self.printed,
             "node {node} {word} {seq}.{rep} committed {committed} log {log}"
         )?;
+        if trimmed > 0 {
+            write!(self.printed, " trimmed {trimmed}")?;
+        }
+        writeln!(self.printed)?;
         Ok(())
     }
 }

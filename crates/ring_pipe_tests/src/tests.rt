@@ -12,9 +12,9 @@ const CALL: [u8; 25] = [
 const CALL_TOLD: [u8; 16] = [0x54, 0, 8, 0, 0, 0, 0, 0, 0, 0, 0, 0x45, 0, 2, 0, 0];
 
 /// Where a node at its opening stands.
-const STANDING_TOLD: [u8; 34] = [
-    0x51, 0, 26, 0, 0, 0, 0, 0, 0, 0, 0, 0, 1, 0, 0, 0, 0, 0, 0, 0, 0, 0, 0, 0, 0, 0, 0, 0, 0,
-    0x45, 0, 2, 0, 0,
+const STANDING_TOLD: [u8; 42] = [
+    0x51, 0, 34, 0, 0, 0, 0, 0, 0, 0, 0, 0, 1, 0, 0, 0, 0, 0, 0, 0, 0, 0, 0, 0, 0, 0, 0, 0, 0, 0,
+    0, 0, 0, 0, 0, 0, 0, 0x45, 0, 2, 0, 0,
 ];
 
 /// The join timeout, and the commit token of a ring of one, which goes to the node itself.

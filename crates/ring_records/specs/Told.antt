@@ -1,5 +1,5 @@
 -- What a node tells in records: Records, of docs/FORMATS.md.
-use Rattle.std.specs.Prelude.{ℕ, Bool, true, false, List, [], ◌∷◌, ◌++◌, flat_map}
+use Rattle.std.specs.Prelude.{ℕ, Bool, true, false, List, [], ◌∷◌, ◌++◌, flat_map, Option, Some, None}
 use Rattle.byteorder.specs.Endian.{big_bytes}
 use Rattle.ring_base.specs.Fault.{fault_number}
 use Rattle.ring_base.specs.declared.fault.Fault.{Fault}
@@ -30,6 +30,11 @@ answer_record ticket (Refused number) = record_of 82 (big_bytes 8 ticket ++ numb
 abbrev pub committed_record : {A : Type 0} → Call A → List ℕ
 committed_record c = record_of 67 (big_bytes 4 c.client ++ big_bytes 8 c.number ++ c.op)
 
+-- the node restored a snapshot that stands for so many of the log's first places, if it restored one
+abbrev pub restored_text : Option ℕ → List ℕ
+restored_text None = []
+restored_text (Some places) = record_of 71 (big_bytes 8 places)
+
 -- lists of these, one after the other
 abbrev pub answers_text : {A : Type 0} → List (Answered A) → List ℕ
 answers_text {A} answers = flat_map (λ (a : Answered A). answer_record a.ticket a.answer) answers
@@ -52,10 +57,10 @@ state_number Recovery = 2
 state_number Operational = 3
 state_number Stopped = 4
 
--- where a node stands: its state, its last installed ring, how many places are committed, and how many its log has
-abbrev pub standing_record : State → RingId → ℕ → ℕ → List ℕ
-standing_record state ring committed log =
-    record_of 81 (state_number state ∷ [] ++ big_bytes 8 ring.seq ++ ring.rep ∷ [] ++ big_bytes 8 committed ++ big_bytes 8 log)
+-- where a node stands: its state, its last installed ring, and how many places are committed, how many its log has, and how many it has dropped
+abbrev pub standing_record : State → RingId → ℕ → ℕ → ℕ → List ℕ
+standing_record state ring committed log trimmed =
+    record_of 81 (state_number state ∷ [] ++ big_bytes 8 ring.seq ++ ring.rep ∷ [] ++ big_bytes 8 committed ++ big_bytes 8 log ++ big_bytes 8 trimmed)
 
 -- what came of a token or a commit token, where the input was one or was none, and one that came was taken or was not
 abbrev pub fate_of : Bool → Bool → TokenFate

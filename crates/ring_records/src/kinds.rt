@@ -30,5 +30,8 @@ pub(crate) const KEPT: u8 = b'K';
 /// Out: a ticket's call takes no effect.
 pub(crate) const NO_EFFECT: u8 = b'R';
 
+/// Out: the node restored a snapshot that it was given.
+pub(crate) const RESTORED: u8 = b'G';
+
 /// Out: all of an input is told.
 pub(crate) const END: u8 = b'E';

@@ -15,5 +15,6 @@ pub use fate::TokenFate;
 pub use reading::{MOST_BYTES, read_record};
 pub use spelling::spell_frame;
 pub use told::{
-    write_all_committed, write_answers, write_end, write_refusal, write_standing, write_ticket,
+    write_all_committed, write_answers, write_end, write_refusal, write_restored, write_standing,
+    write_ticket,
 };

@@ -3,7 +3,7 @@
 ghost use Rattle.std.specs.Prelude.{◌≡◌, ◌++◌, OnOk};
 ghost use Rattle.std.specs.Io.KnownBytes.{Appends};
 ghost use Rattle.ring_records.specs.Told.{answer_record, answers_text, committed_record, all_committed_text, ticket_record, refusal_record};
-ghost use Rattle.ring_records.specs.Told.{state_number, standing_record, end_record};
+ghost use Rattle.ring_records.specs.Told.{restored_text, state_number, standing_record, end_record};
 
 use crate::fate::TokenFate;
 use crate::kinds;
@@ -67,6 +67,18 @@ fn write_committed<A: Allocator + Copy + Drop, W: Write>(
     write_record(out, kinds::CALL, &words, call.op.as_slice())
 }
 
+/// Writes how many of the log's first places the snapshot stands for that the node restored, if it restored one.
+pub fn write_restored<W: Write>(restored: Option<u64>, out: &mut W) -> io::Result<()>
+    ensures { OnOk result (Appends (W.contents out.old) (W.contents out.new) (restored_text restored)) }
+{
+    let Some(places) = restored else {
+        return Ok(());
+    };
+    let mut word = [0; 8];
+    BigEndian::write_u64(&mut word, places);
+    write_record(out, kinds::RESTORED, &word, &[])
+}
+
 /// Writes the ticket of a call.
 pub fn write_ticket<W: Write>(ticket: Ticket, out: &mut W) -> io::Result<()>
     ensures { OnOk result (Appends (W.contents out.old) (W.contents out.new) (ticket_record ticket)) }
@@ -83,22 +95,25 @@ pub fn write_refusal<W: Write>(fault: Fault, out: &mut W) -> io::Result<()>
     write_record(out, kinds::REFUSED, &[fault.number()], &[])
 }
 
-/// Writes where a node stands: its state, its last installed ring, how many places are committed, and how many its log has.
+/// Writes where a node stands: its state, its last installed ring, how many places are committed, how many its log has, and how
+/// many of these it has dropped.
 pub fn write_standing<W: Write>(
     state: State,
     ring: RingId,
     committed: u64,
     log: u64,
+    trimmed: u64,
     out: &mut W,
 ) -> io::Result<()>
-    ensures { OnOk result (Appends (W.contents out.old) (W.contents out.new) (standing_record state ring committed log)) }
+    ensures { OnOk result (Appends (W.contents out.old) (W.contents out.new) (standing_record state ring committed log trimmed)) }
 {
-    let mut bytes = [0; 26];
+    let mut bytes = [0; 34];
     bytes[0] = number_of(state);
     BigEndian::write_u64(&mut bytes[1..9], ring.seq);
     bytes[9] = ring.rep.number();
     BigEndian::write_u64(&mut bytes[10..18], committed);
     BigEndian::write_u64(&mut bytes[18..26], log);
+    BigEndian::write_u64(&mut bytes[26..34], trimmed);
     write_record(out, kinds::STANDING, &bytes, &[])
 }
 

@@ -1,5 +1,7 @@
 -- A replica: all of a node but its core; what a step of the core, a submit and a stop make of it. The replicated log, rules 8 to 15 and 18 of docs/PROTOCOL.md.
-use Rattle.std.specs.Prelude.{◌≡◌, ℕ, Bool, true, false, nat_le, if◌then◌else◌, List, [], ◌∷◌, ◌++◌, length, drop, filter_map, Option, Some, None}
+use Rattle.std.specs.Prelude.{◌≡◌, ℕ, ◌-◌, ◌<◌, ◌≤◌, ◌⊎◌, max, Bool, true, false, nat_le, nat_lt, ◌&&◌, if◌then◌else◌, List, [], ◌∷◌}
+use Rattle.std.specs.Prelude.{◌++◌, length, drop, filter_map, unwrap_or, is_some, is_none, ◌||◌}
+use Rattle.std.specs.Prelude.{Option, Some, None}
 use Rattle.ring_base.specs.Fronts.{IsFront}
 use Rattle.ring_base.specs.Group.{Group}
 use Rattle.ring_base.specs.Numbers.{max_number}
@@ -9,22 +11,23 @@ use Rattle.ring_base.specs.declared.ring_id.RingId.{RingId}
 use Rattle.ring_object.specs.Operations.{Sequential}
 use Rattle.ring_payload.specs.declared.call.Call.{Call as OneCall}
 use Rattle.ring_payload.specs.declared.content.Payload.{Payload}
-use Rattle.ring_session.specs.Deduplicated.{deduplicated}
-use Rattle.ring_session.specs.Table.{Table, table_after}
+use Rattle.ring_session.specs.Table.{Table}
 use Rattle.ring_session.specs.declared.answer.Answer.{Answer}
 use Rattle.ring_core.specs.Joining.{is_operational}
 use Rattle.ring_core.specs.State.{Core, Sent}
 use Rattle.ring_core.specs.declared.out.Out.{Out}
-use Rattle.ring_log.specs.Logs.{committed_calls}
-use Rattle.ring_log.specs.Stays.{Stay, born, hands}
-use Rattle.ring_log.specs.Lives.{log_of, last_of, committed_of, is_sound}
+use Rattle.ring_payload.specs.Limits.{most_snapshot}
+use Rattle.ring_session.specs.Snapshots.{table_snapshot, restored_table}
+use Rattle.ring_log.specs.Logs.{Log, committed_calls, is_ripe}
+use Rattle.ring_log.specs.Stays.{Stay, born, hands, trims}
+use Rattle.ring_log.specs.Kept.{Kept, IsKnown, kept_of, kept_length, log_kept, is_kept_sound}
 use Rattle.ring_session.specs.declared.answered.Answered.{Answered}
 use Rattle.ring_session.specs.Pendings.{Tickets, AreTickets, pending_from}
 use Rattle.ring_session.specs.Tickets.{Asked, unanswered, answers_after, kept_answers, answer_to}
-use Rattle.ring_replica.specs.Courses.{Course, Moment, is_running, handed_if, dues_by}
+use Rattle.ring_replica.specs.Courses.{Holding, Course, Moment, is_running, handed_if, dues_by}
 use Rattle.ring_rules.specs.Lives.{lived_through}
-use Rattle.ring_rules.specs.Nodes.{Node, node_stopped}
-use Rattle.ring_rules.specs.Stepping.{send_of, handed_over, NodeStepped, quiet}
+use Rattle.ring_rules.specs.Nodes.{Node, node_stopped, is_closed, table_or, table_at, effects_at, snapshot_kept, is_restored}
+use Rattle.ring_rules.specs.Stepping.{send_of, handed_over, NodeStepped, quiet, drops, newly, table_since}
 
 pub record Replica (A : Type 0) : Type 0 where
   pub group : Group
@@ -37,6 +40,9 @@ pub record Replica (A : Type 0) : Type 0 where
   -- the committed calls that it did on its sessions, and all answers that it gave, in order, up to the last step that is done
   pub done : List (OneCall A)
   pub answers : List (Answered A)
+  -- the calls that the step that is being done commits, and those of the places that it drops
+  pub doing : List (OneCall A)
+  pub leaving : List (OneCall A)
   pub stopped : Bool
 
 -- what of it only contracts see
@@ -60,22 +66,30 @@ tale_given tale c runs =
 
 abbrev pub replica_opening : {A : Type 0} → Group → ℕ → Replica A
 replica_opening group me =
-    record { group = group; me = me; life = born me; ahead = born me; tickets = []; done = []; answers = []; stopped = false }
+    record { group = group; me = me; life = born me; ahead = born me; tickets = []; done = []; answers = []; doing = []; leaving = []; stopped = false }
 
 -- all steps are done
-abbrev pub IsDone : {A : Type 0} → Replica A → Type 0
-IsDone r = r.ahead ≡ r.life
+pub record IsDone {A : Type 0} (r : Replica A) : Type 0 where
+  pub life : r.ahead ≡ r.life
+  pub doing : r.doing ≡ []
+  pub leaving : r.leaving ≡ []
 
--- its committed places, and its log
+-- what it knows of its log; how many places that has, and how many of them are dropped; and the committed places that aren't
+abbrev pub replica_kept : {A : Type 0} → Replica A → Kept A
+replica_kept r = kept_of r.group r.life
+
+abbrev pub replica_length : {A : Type 0} → Replica A → ℕ
+replica_length r = kept_length (replica_kept r)
+
+abbrev pub replica_trimmed : {A : Type 0} → Replica A → ℕ
+replica_trimmed r = (replica_kept r).trimmed
+
 abbrev pub replica_committed : {A : Type 0} → Replica A → List (OneCall A)
-replica_committed r = committed_of r.group r.life
-
-abbrev pub replica_log : {A : Type 0} → Replica A → List (OneCall A)
-replica_log r = log_of r.group r.life
+replica_committed r = committed_calls (log_kept (replica_kept r))
 
 -- it stopped for good, and is what it was before the step that was being done
 abbrev pub replica_stopped : {A : Type 0} → Replica A → Replica A
-replica_stopped r = record r { ahead = r.life; stopped = true }
+replica_stopped r = record r { ahead = r.life; doing = []; leaving = []; stopped = true }
 
 -- the answer to a ticket, if it is among the last 64
 abbrev pub replica_reply : {A : Type 0} → Replica A → ℕ → Option Answer
@@ -96,7 +110,7 @@ is_running_some running (Some ring) = is_running running ring
 
 -- the running ring is the newest that was adopted
 abbrev pub has_adopted_running : {A : Type 0} → Option RingId → Replica A → Bool
-has_adopted_running running r = is_running_some running (last_of r.group r.life)
+has_adopted_running running r = is_running_some running (replica_kept r).last
 
 abbrev pub due_by_call : {A : Type 0} → Option RingId → Replica A → OneCall A → List (Payload A)
 due_by_call running r c = handed_if (has_adopted_running running r) c
@@ -109,56 +123,72 @@ replica_given running r c =
 
 -- A step
 
-abbrev pub moment_of : {A : Type 0} → Option RingId → Replica A → Moment A
-moment_of running r =
-    record {
-      group = r.group;
-      me = r.me;
-      running = running;
-      pending = pending_from r.done 0 r.tickets;
-      committed = length (replica_committed r);
-    }
+-- how many places the snapshot stands for that a node restored, by what it knew before and what it knows now: none where it restored none
+abbrev pub restored_since : {A : Type 0} → Kept A → Kept A → Option ℕ
+restored_since old now = if nat_lt old.from now.from then Some now.from else None
 
--- what a step of the core makes of it, with the frames sent, what is to be handed to the core, the answers given, and the calls newly committed
+-- what a step of the core makes of it, with the frames sent, what is to be handed to the core, the answers given, and how many places were restored
 pub record ReplicaStepped (A : Type 0) : Type 0 where
   pub replica : Replica A
   pub sends : List (Sent A)
   pub due : List (Payload A)
   pub answers : List (Answered A)
-  pub committed : List (OneCall A)
-
--- what a step commits: the places behind those that were committed before
-abbrev pub replica_more : {A : Type 0} → Replica A → List (Stay A) → List (OneCall A)
-replica_more r life = drop (length (replica_committed r)) (committed_of r.group life)
+  pub restored : Option ℕ
 
 module _ {O : Type 0} (object : Sequential O) where
-  abbrev pub replica_moved : {A : Type 0} → Replica A → List (Out A) → List (Stay A) → List (Payload A) → ReplicaStepped A
-  replica_moved r outs life due =
+  abbrev pub moment_of : {A : Type 0} → Option RingId → Replica A → Moment A
+  moment_of running r =
       record {
-        replica = record r { ahead = hands due life };
-        sends = filter_map send_of outs;
-        due = due;
-        answers = answers_after object (table_after object (replica_committed r)) r.tickets r.done (replica_more r life);
-        committed = replica_more r life;
+        group = r.group;
+        me = r.me;
+        running = running;
+        pending = pending_from r.done 0 r.tickets;
+        committed = (replica_kept r).committed;
+        trimmed = (replica_kept r).trimmed;
+        snapshot = snapshot_kept object (replica_kept r);
       }
 
-  abbrev pub replica_settled : {A : Type 0} → Bool → Replica A → List (Out A) → List (Stay A) → List (Payload A) → ReplicaStepped A
-  replica_settled false r outs life due = record { replica = replica_stopped r; sends = []; due = []; answers = []; committed = [] }
-  replica_settled true r outs life due = replica_moved r outs life due
+  -- a life at the end of a step, and the calls of the places that it drops
+  abbrev pub life_ended : {A : Type 0} → Bool → Kept A → List (Stay A) → List (Stay A)
+  life_ended closed k life = if drops object closed k then trims k.committed life else life
+
+  abbrev pub leaving_at : {A : Type 0} → Bool → Kept A → List (OneCall A)
+  leaving_at closed k = if drops object closed k then committed_calls (log_kept k) else []
+
+  -- with these calls done
+  abbrev pub replica_doing : {A : Type 0} → Replica A → List (Stay A) → Kept A → List (Payload A) → List (OneCall A) → Replica A
+  replica_doing r life k due more =
+      let closed = is_closed r.group (hands due life) in
+      record r { ahead = life_ended closed k (hands due life); doing = more; leaving = leaving_at closed k }
+
+  abbrev pub replica_moved : {A : Type 0} → Replica A → List (Out A) → List (Stay A) → List (Payload A) → Kept A → ReplicaStepped A
+  replica_moved r outs life due k =
+      record {
+        replica = replica_doing r life k due (newly (replica_kept r) k);
+        sends = filter_map send_of outs;
+        due = due;
+        answers = answers_after object (table_since object (replica_kept r) k) r.tickets r.done (newly (replica_kept r) k);
+        restored = restored_since (replica_kept r) k;
+      }
+
+  abbrev pub replica_settled : {A : Type 0} → Bool → Replica A → List (Out A) → List (Stay A) → List (Payload A) → Kept A → ReplicaStepped A
+  replica_settled false r outs life due k = record { replica = replica_stopped r; sends = []; due = []; answers = []; restored = None }
+  replica_settled true r outs life due k = replica_moved r outs life due k
 
   -- the core, of which this ring runs then, took a step with these outputs
   abbrev pub replica_step : {A : Type 0} → Option RingId → Replica A → List (Out A) → ReplicaStepped A
   replica_step running r outs =
       let life = lived_through r.life outs in
-      replica_settled (is_sound r.group life) r outs life (dues_by (moment_of running r) r.life outs)
+      let k = kept_of r.group life in
+      replica_settled (is_kept_sound r.group life && is_restored object k) r outs life (dues_by (moment_of running r) r.life outs) k
 
--- the step is done, by which these calls were done and these answers given
-abbrev pub replica_done : {A : Type 0} → Replica A → List (OneCall A) → List (Answered A) → Replica A
-replica_done r more answers = record r { life = r.ahead; done = r.done ++ more; answers = r.answers ++ answers }
+-- the step is done, by which these answers were given
+abbrev pub replica_done : {A : Type 0} → Replica A → List (Answered A) → Replica A
+replica_done r answers = record r { life = r.ahead; done = r.done ++ r.doing; answers = r.answers ++ answers; doing = []; leaving = [] }
 
 -- a step from its beginning to its end
 abbrev pub replica_ended : {A : Type 0} → ReplicaStepped A → Replica A
-replica_ended s = replica_done s.replica s.committed s.answers
+replica_ended s = replica_done s.replica s.answers
 
 -- Of a node
 
@@ -176,6 +206,8 @@ replica_of n =
       tickets = n.tickets;
       done = n.done;
       answers = n.answers;
+      doing = [];
+      leaving = [];
       stopped = false;
     }
 
@@ -184,10 +216,11 @@ abbrev pub node_unless : {A : Type 0} → Bool → Node A → Core A → Replica
 node_unless true n core r = quiet (node_stopped n)
 node_unless false n core r =
     record {
-      node = record n { core = handed_over core r.due; life = r.replica.ahead; done = n.done ++ r.committed; answers = n.answers ++ r.answers };
+      node = record n { core = handed_over core r.due; life = r.replica.ahead; done = n.done ++ r.replica.doing; answers = n.answers ++ r.answers };
       sends = r.sends;
       answers = r.answers;
-      committed = r.committed;
+      committed = r.replica.doing;
+      dropped = r.replica.leaving;
     }
 
 abbrev pub node_by : {A : Type 0} → Node A → Core A → ReplicaStepped A → NodeStepped A
@@ -199,13 +232,49 @@ node_given n c r = record n { core = handed_over n.core (due_by_call (running_of
 
 -- What the code keeps
 
--- what it is by its course, whether it stopped, and its story
+-- what it is by its course, the log of the places that leave, how many places were committed at the end of its last step, whether it stopped, and its story
 abbrev pub ahead_of : {A : Type 0} → Course A → Bool → Tale A → List (Stay A)
 ahead_of course true tale = tale.life
 ahead_of course false tale = course.life
 
-abbrev pub told_replica : {A : Type 0} → Course A → Bool → Tale A → Replica A
-told_replica course stopped tale =
+-- the log in which the places stand that are committed now, dropped ones of this step included; and the one in which those of the last step do
+abbrev pub ahead_log : {A : Type 0} → Holding A → Option (Log A) → Log A
+ahead_log held leaving = unwrap_or leaving held.log
+
+abbrev pub behind_log : {A : Type 0} → Holding A → Option (Log A) → Log A
+behind_log held leaving = unwrap_or held.before (ahead_log held leaving)
+
+-- the calls of a log's committed places past so many, and past those that are dropped
+abbrev pub more_in : {A : Type 0} → ℕ → Log A → List (OneCall A)
+more_in first log = drop (max first log.trimmed - log.trimmed) (committed_calls log)
+
+-- where a snapshot was restored, its bytes are one; and the sessions then
+abbrev pub is_table_held : {O A : Type 0} → Sequential O → Holding A → Bool
+is_table_held object held = is_none held.before || is_some (restored_table object.restored held.snapshot)
+
+abbrev pub table_held : {O A : Type 0} → Sequential O → Holding A → Table O → Table O
+table_held object held table = if is_some held.before then table_or object (restored_table object.restored held.snapshot) else table
+
+-- the bytes that stand for the committed places of a log with these sessions, if they are to be dropped
+abbrev pub snapshot_if_ripe : {O A : Type 0} → Sequential O → Bool → Log A → Table O → Option (List ℕ)
+snapshot_if_ripe object closed log table =
+    let bytes = table_snapshot object.snapshot_of table in
+    if closed && is_ripe log && nat_le (length bytes) most_snapshot then Some bytes else None
+
+abbrev pub doing_of : {A : Type 0} → Course A → Option (Log A) → ℕ → Bool → List (OneCall A)
+doing_of course leaving first true = []
+doing_of course leaving first false = more_in first (ahead_log course.held leaving)
+
+abbrev pub calls_leaving : {A : Type 0} → Option (Log A) → List (OneCall A)
+calls_leaving None = []
+calls_leaving (Some log) = log.calls
+
+abbrev pub leaving_of : {A : Type 0} → Option (Log A) → Bool → List (OneCall A)
+leaving_of leaving true = []
+leaving_of leaving false = calls_leaving leaving
+
+abbrev pub told_replica : {A : Type 0} → Course A → Option (Log A) → ℕ → Bool → Tale A → Replica A
+told_replica course leaving first stopped tale =
     record {
       group = course.group;
       me = course.me;
@@ -214,27 +283,38 @@ told_replica course stopped tale =
       tickets = tale.tickets;
       done = tale.done;
       answers = tale.answers;
+      doing = doing_of course leaving first stopped;
+      leaving = leaving_of leaving stopped;
       stopped = stopped;
     }
 
--- while it runs: its course is sound, the sessions are those after all that is committed by it, and that only grew
-pub record Runs {O A : Type 0} (object : Sequential O) (course : Course A) (table : Table O) (tale : Tale A) : Type 0 where
+-- while it runs: its course is sound, the sessions are those after all that is committed by it, the snapshot that is held is that of the places dropped, and
+-- what was restored is one
+pub record Runs {O A : Type 0} (object : Sequential O) (course : Course A) (table : Table O) : Type 0 where
   pub fine : course.fine ≡ true
-  pub applied : table ≡ table_after object (committed_of course.group course.life)
-  pub grows : IsFront (committed_of course.group tale.life) (committed_of course.group course.life)
+  pub applied : table ≡ table_at object (kept_of course.group course.life) (kept_of course.group course.life).committed
+  pub snapshot : 1 ≤ (kept_of course.group course.life).trimmed → course.held.snapshot ≡ snapshot_kept object (kept_of course.group course.life)
+  pub restored : is_restored object (kept_of course.group course.life) ≡ true
 
--- what it tells, stopped or not, is that of its life: how many places its log has, and how many of them are committed
+abbrev pub IsIdle : {A : Type 0} → Kept A → Kept A → Holding A → Option (Log A) → Type 0
+IsIdle k now held leaving = ((held.before ≡ None) × (leaving ≡ None)) ⊎ (k.trimmed < now.trimmed)
+
+-- what it tells, stopped or not, is that of its life: how many places its log has, how many of them are committed and how many dropped
 pub record IsReplica {O A : Type 0} (object : Sequential O) (course : Course A) (table : Table O)
-    (tickets : Tickets A) (places first : ℕ) (stopped : Bool) (tale : Tale A) : Type 0 where
-  pub logged : places ≡ length (log_of course.group tale.life)
-  pub committed : first ≡ length (committed_of course.group tale.life)
-  pub front : IsFront (committed_of course.group tale.life) (committed_calls course.log)
+    (tickets : Tickets A) (leaving : Option (Log A)) (places first gone : ℕ) (stopped : Bool) (tale : Tale A) : Type 0 where
+  pub logged : places ≡ kept_length (kept_of course.group tale.life)
+  pub committed : first ≡ (kept_of course.group tale.life).committed
+  pub trimmed : gone ≡ (kept_of course.group tale.life).trimmed
+  pub known : IsKnown (kept_of course.group tale.life)
+  pub front : IsFront (committed_calls (log_kept (kept_of course.group tale.life))) (committed_calls (behind_log course.held leaving))
   pub answers : AreTickets tale.tickets tale.done tale.answers tickets
-  pub runs : stopped ≡ false → Runs object course table tale
+  -- between steps nothing is restored or dropped that isn't told
+  pub idle : stopped ≡ false → IsIdle (kept_of course.group tale.life) (kept_of course.group course.life) course.held leaving
+  pub runs : stopped ≡ false → Runs object course table
 
 -- beside it, how many of the committed places took effect, by the story and by the course
 pub record IsCounted {O A : Type 0} (object : Sequential O) (course : Course A) (table : Table O)
-    (tickets : Tickets A) (places first effects reached : ℕ) (stopped : Bool) (tale : Tale A) : Type 0 where
-  pub kept : IsReplica object course table tickets places first stopped tale
-  pub order : effects ≡ length (deduplicated (committed_of course.group tale.life))
-  pub ahead : stopped ≡ false → reached ≡ length (deduplicated (committed_of course.group course.life))
+    (tickets : Tickets A) (leaving : Option (Log A)) (places first gone effects reached : ℕ) (stopped : Bool) (tale : Tale A) : Type 0 where
+  pub kept : IsReplica object course table tickets leaving places first gone stopped tale
+  pub order : effects ≡ effects_at object (kept_of course.group tale.life) (kept_of course.group tale.life).committed
+  pub ahead : stopped ≡ false → reached ≡ effects_at object (kept_of course.group course.life) (kept_of course.group course.life).committed

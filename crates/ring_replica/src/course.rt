@@ -1,25 +1,27 @@
 //! How a node's log goes on by the outputs of its core.
 
-ghost use Rattle.std.specs.Prelude.{◌≡◌, ◌++◌, ◌&&◌, [], ◌∷◌, true, filter_map, length, IfErr, OnOk};
+ghost use Rattle.std.specs.Prelude.{◌≡◌, ◌++◌, ◌&&◌, [], ◌∷◌, true, filter_map, length, is_some, option_map, None, IfOk, IfErr, OnOk, OnErr};
 ghost use Rattle.ring_base.specs.Fronts.{IsFront};
 ghost use Rattle.ring_base.specs.declared.fault.Fault.TheVariants.{Memory};
-ghost use Rattle.ring_log.specs.Logs.{committed_calls, committed_upto};
+ghost use Rattle.ring_log.specs.Logs.{committed_calls, committed_upto, committed_log, is_ripe};
 ghost use Rattle.ring_log.specs.Stays.{hears, marks, hands, stay_in};
-ghost use Rattle.ring_log.specs.Lives.{is_sound, kept_of};
-ghost use Rattle.ring_replica.specs.Courses.{course_opening, Moment as OneMoment, dues_heard, dues_at, dues_by};
-ghost use Rattle.ring_replica.specs.Courses.{is_running, is_risen, rises_at, rises, handed_if, covered, left};
-ghost use Rattle.ring_rules.specs.WholeSteps.{due_at_regular};
+ghost use Rattle.ring_log.specs.Kept.{is_kept_sound, kept_of, log_kept};
+ghost use Rattle.ring_replica.specs.Courses.{course_opening, course_trimmed, Moment as OneMoment, dues_heard, dues_at, dues_by};
+ghost use Rattle.ring_replica.specs.Courses.{is_running, is_risen, rises_at, rises, handed_if, covered, left, told_log, HoldsRestored, GoesOn, IsSteady};
+ghost use Rattle.ring_rules.specs.Nodes.{is_closed};
+ghost use Rattle.ring_rules.specs.Dues.{due_at_regular};
 ghost use Rattle.ring_rules.specs.Lives.{lived, lived_through};
 ghost use Rattle.ring_rules.specs.Stepping.{send_of};
 
 use crate::hearing::{hear, reach_at};
-use crate::history::{Life, born, entered, handed, handed_call, heard, marked};
+use crate::history::{Life, born, dropped, entered, handed, handed_call, heard, marked};
+use crate::holding::Holding;
 use crate::reach::{Reach, cover};
 use crate::setting::Setting;
 use crate::stage::{Stage, begun};
 use ring_base::{Fault, Fixed, Past, Proc, ProcSet, RingId};
 use ring_core::{Out, Sent};
-use ring_log::Log;
+use ring_log::{Log, Snapshot};
 use ring_payload::{Call, Payload};
 use ring_session::Pending;
 use ring_wire::{Frame, Message};
@@ -29,15 +31,15 @@ use std::marker::Model;
 use std::mem;
 
 /// A node's log as the outputs of its core come: where the exchange of its newest ring stands, how far that ring is
-/// safe, and how far the log reaches by each message that isn't safe yet. Contracts see the life that made it, the log,
-/// and whether all is well: after a base that drops committed places, after a log that is too long, and after a refusal
-/// of memory only the committed places of the log are told.
+/// safe, and how far the log reaches by each message that isn't safe yet. Contracts see the life that made it, what is
+/// held of the log, and whether all is well: after a base that drops committed places, after a log that is too long, and
+/// after a refusal of memory only the places committed before the step are told.
 #[derive(Drop)]
 pub struct Course<A: Allocator + Copy + Drop = Global> {
     alloc: A,
     fixed: Fixed,
     me: Proc,
-    log: Log<A>,
+    held: Holding<A>,
     ring: RingId,
     stage: Stage<A>,
     mark: u64,
@@ -51,9 +53,9 @@ impl<A: Allocator + Copy + Drop> Model for Course<A> {
 
     ghost Value = { ToldCourse A };
 
-    ghost view = { λ c. record { group = c.fixed; me = c.me; life = c.life.value; log = c.log; fine = c.fine } };
+    ghost view = { λ c. record { group = c.fixed; me = c.me; life = c.life.value; held = c.held; fine = c.fine } };
 
-    ghost invariant = { λ c. IsCourse c.fixed c.life.value c.fine c.log c.ring c.stage c.mark c.reaches.items };
+    ghost invariant = { λ c. IsCourse c.fixed c.life.value c.fine c.held c.ring c.stage c.mark c.reaches.items };
 }
 
 impl<A: Allocator + Copy + Drop> Course<A> {
@@ -65,7 +67,7 @@ impl<A: Allocator + Copy + Drop> Course<A> {
             alloc,
             fixed,
             me,
-            log: Log::new(alloc),
+            held: Holding::new(alloc),
             ring: RingId { seq: 0, rep: me },
             stage: begun(alloc, fixed, ProcSet::only(me)),
             mark: 0,
@@ -78,18 +80,32 @@ impl<A: Allocator + Copy + Drop> Course<A> {
     /// Whether all is well.
     pub fn is_fine(&self) -> bool
         ensures value { result ≡ self.now.fine }
-        ensures sound { self.now.fine ≡ true → is_sound self.now.group self.now.life ≡ true }
+        ensures sound { self.now.fine ≡ true → is_kept_sound self.now.group self.now.life ≡ true }
+        ensures steady { self.now.fine ≡ true → IsSteady self.now.group self.now.life }
+        ensures log { self.now.fine ≡ true → self.now.held.log ≡ log_kept (kept_of self.now.group self.now.life) }
     {
         self.fine
     }
 
-    /// The log.
-    pub fn log(&self) -> &Log<A>
-        ensures log { result.now ≡ self.now.log }
-        ensures kept { self.now.fine ≡ true → self.now.log ≡ kept_of self.now.group self.now.life }
-        ensures sound { self.now.fine ≡ true → is_sound self.now.group self.now.life ≡ true }
+    /// What is held of the log.
+    pub fn held(&self) -> &Holding<A>
+        ensures held { result.now ≡ self.now.held }
+        ensures log { self.now.fine ≡ true → self.now.held.log ≡ log_kept (kept_of self.now.group self.now.life) }
+        ensures restored { self.now.fine ≡ true → HoldsRestored (kept_of self.now.group self.now.life) self.now.held.snapshot }
+        ensures steady { self.now.fine ≡ true → IsSteady self.now.group self.now.life }
+        ensures sound { self.now.fine ≡ true → is_kept_sound self.now.group self.now.life ≡ true }
     {
-        &self.log
+        &self.held
+    }
+
+    /// Whether no exchange is open: that of the newest ring is whole, or it has none.
+    pub fn is_closed(&self) -> bool
+        ensures { self.now.fine ≡ true → result ≡ is_closed self.now.group self.now.life }
+    {
+        match &self.stage {
+            Stage::Apart | Stage::Adopted => true,
+            Stage::Exchanging(_) => false,
+        }
     }
 
     /// The life that made it, for contracts.
@@ -111,9 +127,10 @@ impl<A: Allocator + Copy + Drop> Course<A> {
         due: &mut Vec<Payload<A>, A>,
     ) -> Result<(), Fault>
         requires fine { self.old.fine ≡ true }
-        requires sound { is_sound self.old.group self.old.life ≡ true }
+        requires sound { is_kept_sound self.old.group self.old.life ≡ true }
+        requires log { self.old.held.log ≡ log_kept (kept_of self.old.group self.old.life) }
         requires rises { rises self.old.life outs.items ≡ true }
-        ensures sound { OnOk result (self.new.fine ≡ is_sound self.old.group (lived_through self.old.life outs.items)) }
+        ensures sound { OnOk result (self.new.fine ≡ is_kept_sound self.old.group (lived_through self.old.life outs.items)) }
         ensures life { OnOk result (self.new.fine ≡ true → self.new.life ≡ lived_through self.old.life outs.items) }
         ensures sends { OnOk result (self.new.fine ≡ true → sends.new.items ≡ sends.old.items ++ filter_map send_of outs.items) }
         ensures due { let moment : OneMoment A = record {
@@ -122,9 +139,13 @@ impl<A: Allocator + Copy + Drop> Course<A> {
           running = running.now;
           pending = pending.now;
           committed = committed;
+          trimmed = self.old.held.log.trimmed;
+          snapshot = self.old.held.snapshot;
         } in
             OnOk result (self.new.fine ≡ true → due.new.items ≡ due.old.items ++ dues_by moment self.old.life outs.items) }
-        ensures front { IsFront (committed_calls self.old.log) (committed_calls self.new.log) }
+        ensures onward { OnOk result (self.new.fine ≡ true
+            → GoesOn self.old.held self.new.held (kept_of self.old.group self.old.life) (kept_of self.new.group self.new.life)) }
+        ensures front { IsFront (committed_calls (told_log self.old.held)) (committed_calls (told_log self.new.held)) }
         ensures group { self.new.group ≡ self.old.group }
         ensures me { self.new.me ≡ self.old.me }
         ensures refused { IfErr result (λ fault. fault ≡ Memory) }
@@ -146,7 +167,7 @@ impl<A: Allocator + Copy + Drop> Course<A> {
         due: &mut Vec<Payload<A>, A>,
     ) -> Result<(), Fault>
         requires rises { self.old.fine ≡ true → rises_at self.old.life out ≡ true }
-        ensures sound { OnOk result (self.new.fine ≡ self.old.fine && is_sound self.old.group (lived self.old.life out)) }
+        ensures sound { OnOk result (self.new.fine ≡ self.old.fine && is_kept_sound self.old.group (lived self.old.life out)) }
         ensures life { OnOk result (self.new.fine ≡ true → self.new.life ≡ lived self.old.life out) }
         ensures sends { OnOk result (self.new.fine ≡ true → sends.new.items ≡ sends.old.items ++ filter_map send_of (out ∷ [])) }
         ensures due { let moment : OneMoment A = record {
@@ -155,9 +176,13 @@ impl<A: Allocator + Copy + Drop> Course<A> {
           running = running.now;
           pending = pending.now;
           committed = committed;
+          trimmed = self.old.held.log.trimmed;
+          snapshot = self.old.held.snapshot;
         } in
             OnOk result (self.new.fine ≡ true → due.new.items ≡ due.old.items ++ dues_at moment self.old.life out) }
-        ensures front { IsFront (committed_calls self.old.log) (committed_calls self.new.log) }
+        ensures onward { OnOk result (self.new.fine ≡ true
+            → GoesOn self.old.held self.new.held (kept_of self.old.group self.old.life) (kept_of self.new.group self.new.life)) }
+        ensures front { IsFront (committed_calls (told_log self.old.held)) (committed_calls (told_log self.new.held)) }
         ensures group { self.new.group ≡ self.old.group }
         ensures me { self.new.me ≡ self.old.me }
         ensures refused { IfErr result (λ fault. fault ≡ Memory) }
@@ -171,6 +196,7 @@ impl<A: Allocator + Copy + Drop> Course<A> {
     }
 
     /// Goes on by one output.
+    #[tactic(auto, using(crate::proofs::CourseGoesOn::goes_none))]
     fn take(
         &mut self,
         running: &Option<RingId>,
@@ -181,9 +207,10 @@ impl<A: Allocator + Copy + Drop> Course<A> {
         due: &mut Vec<Payload<A>, A>,
     ) -> Result<(), Fault>
         requires fine { self.old.fine ≡ true }
-        requires sound { is_sound self.old.group self.old.life ≡ true }
+        requires sound { is_kept_sound self.old.group self.old.life ≡ true }
+        requires log { self.old.held.log ≡ log_kept (kept_of self.old.group self.old.life) }
         requires rises { rises_at self.old.life out ≡ true }
-        ensures sound { OnOk result (self.new.fine ≡ is_sound self.old.group (lived self.old.life out)) }
+        ensures sound { OnOk result (self.new.fine ≡ is_kept_sound self.old.group (lived self.old.life out)) }
         ensures life { OnOk result (self.new.life ≡ lived self.old.life out) }
         ensures sends { OnOk result (sends.new.items ≡ sends.old.items ++ filter_map send_of (out ∷ [])) }
         ensures due { let moment : OneMoment A = record {
@@ -192,9 +219,13 @@ impl<A: Allocator + Copy + Drop> Course<A> {
           running = running.now;
           pending = pending.now;
           committed = committed;
+          trimmed = self.old.held.log.trimmed;
+          snapshot = self.old.held.snapshot;
         } in
             OnOk result (self.new.fine ≡ true → due.new.items ≡ due.old.items ++ dues_at moment self.old.life out) }
-        ensures front { IsFront (committed_calls self.old.log) (committed_calls self.new.log) }
+        ensures onward { OnOk result (self.new.fine ≡ true
+            → GoesOn self.old.held self.new.held (kept_of self.old.group self.old.life) (kept_of self.new.group self.new.life)) }
+        ensures front { IsFront (committed_calls (told_log self.old.held)) (committed_calls (told_log self.new.held)) }
         ensures group { self.new.group ≡ self.old.group }
         ensures me { self.new.me ≡ self.old.me }
         ensures refused { IfErr result (λ fault. fault ≡ Memory) }
@@ -229,7 +260,7 @@ impl<A: Allocator + Copy + Drop> Course<A> {
         due: &mut Vec<Payload<A>, A>,
     ) -> Result<(), Fault>
         requires fine { self.old.fine ≡ true }
-        ensures sound { OnOk result (self.new.fine ≡ is_sound self.old.group (hears message self.old.life)) }
+        ensures sound { OnOk result (self.new.fine ≡ is_kept_sound self.old.group (hears message self.old.life)) }
         ensures life { OnOk result (self.new.life ≡ hears message self.old.life) }
         ensures due { let moment : OneMoment A = record {
           group = self.old.group;
@@ -237,9 +268,13 @@ impl<A: Allocator + Copy + Drop> Course<A> {
           running = None;
           pending = pending.now;
           committed = committed;
+          trimmed = self.old.held.log.trimmed;
+          snapshot = self.old.held.snapshot;
         } in
             OnOk result (self.new.fine ≡ true → due.new.items ≡ due.old.items ++ dues_heard moment runs self.old.life message (hears message self.old.life)) }
-        ensures front { IsFront (committed_calls self.old.log) (committed_calls self.new.log) }
+        ensures onward { OnOk result (self.new.fine ≡ true
+            → GoesOn self.old.held self.new.held (kept_of self.old.group self.old.life) (kept_of self.new.group self.new.life)) }
+        ensures front { IsFront (committed_calls (told_log self.old.held)) (committed_calls (told_log self.new.held)) }
         ensures group { self.new.group ≡ self.old.group }
         ensures me { self.new.me ≡ self.old.me }
         ensures refused { IfErr result (λ fault. fault ≡ Memory) }
@@ -260,13 +295,13 @@ impl<A: Allocator + Copy + Drop> Course<A> {
             pending,
             stage,
             message,
-            &mut self.log,
+            &mut self.held,
             due,
         )?;
-        let places = reach_at(&stage, &self.log);
+        let places = reach_at(&stage, self.held.log());
         self.reaches.push_back(Reach { number, places })?;
         self.stage = stage;
-        settle(&mut self.reaches, self.mark, &mut self.log);
+        settle(&mut self.reaches, self.mark, &mut self.held);
         self.life = life;
         self.fine = fits;
         Ok(())
@@ -277,15 +312,16 @@ impl<A: Allocator + Copy + Drop> Course<A> {
         requires fine { self.old.fine ≡ true }
         requires risen { is_risen self.old.life upto ≡ true }
         ensures life { self.new.life ≡ marks upto self.old.life }
-        ensures sound { is_sound self.old.group (marks upto self.old.life) ≡ true }
-        ensures front { IsFront (committed_calls self.old.log) (committed_calls self.new.log) }
+        ensures sound { is_kept_sound self.old.group (marks upto self.old.life) ≡ true }
+        ensures onward { GoesOn self.old.held self.new.held (kept_of self.old.group self.old.life) (kept_of self.new.group self.new.life) }
+        ensures front { IsFront (committed_calls (told_log self.old.held)) (committed_calls (told_log self.new.held)) }
         ensures fine { self.new.fine ≡ true }
         ensures group { self.new.group ≡ self.old.group }
         ensures me { self.new.me ≡ self.old.me }
     {
         let life = marked(&self.life, upto);
         self.mark = upto;
-        settle(&mut self.reaches, upto, &mut self.log);
+        settle(&mut self.reaches, upto, &mut self.held);
         self.life = life;
     }
 
@@ -301,15 +337,16 @@ impl<A: Allocator + Copy + Drop> Course<A> {
         requires fine { self.old.fine ≡ true }
         ensures life { OnOk result (self.new.life ≡ stay_in ring members ∷ self.old.life) }
         ensures due { OnOk result (due.new.items ≡ due.old.items ++ due_at_regular self.old.group members self.old.life) }
-        ensures sound { OnOk result (is_sound self.old.group (stay_in ring members ∷ self.old.life) ≡ true) }
-        ensures front { IsFront (committed_calls self.old.log) (committed_calls self.new.log) }
+        ensures sound { OnOk result (is_kept_sound self.old.group (stay_in ring members ∷ self.old.life) ≡ true) }
+        ensures onward { OnOk result (GoesOn self.old.held self.new.held (kept_of self.old.group self.old.life) (kept_of self.new.group self.new.life)) }
+        ensures front { IsFront (committed_calls (told_log self.old.held)) (committed_calls (told_log self.new.held)) }
         ensures fine { OnOk result (self.new.fine ≡ true) }
         ensures group { self.new.group ≡ self.old.group }
         ensures me { self.new.me ≡ self.old.me }
         ensures refused { IfErr result (λ fault. fault ≡ Memory) }
     {
         if self.fixed.is_primary(members) {
-            due.push(Payload::Head(self.log.head()))?;
+            due.push(Payload::Head(self.held.log().head()))?;
         }
         self.ring = ring;
         self.stage = begun(self.alloc, self.fixed, members);
@@ -331,6 +368,32 @@ impl<A: Allocator + Copy + Drop> Course<A> {
         ensures { self.new ≡ record self.old { life = hands (handed_if runs call.now) self.old.life } }
     {
         self.life = handed_call(&self.life, call, runs);
+    }
+
+    /// Drops the committed places, where bytes are given that stand for them from then on, and hands out the log of these alone.
+    /// `Memory` leaves all as it was.
+    pub(crate) fn trim(&mut self, snapshot: Option<Snapshot<A>>) -> Result<Option<Log<A>>, Fault>
+        requires fine { self.old.fine ≡ true }
+        requires closed { is_some snapshot ≡ true → is_closed self.old.group self.old.life ≡ true }
+        requires ripe { is_some snapshot ≡ true → is_ripe self.old.held.log ≡ true }
+        ensures dropped { IfOk result (λ log. log ≡ option_map (λ bytes. committed_log self.old.held.log) snapshot) }
+        ensures ok { OnOk result (self.new ≡ course_trimmed self.old snapshot) }
+        ensures err { OnErr result (self.new ≡ self.old) }
+        ensures refused { IfErr result (λ fault. fault ≡ Memory) }
+    {
+        let Some(snapshot) = snapshot else {
+            return Ok(None);
+        };
+        let log = self.held.trim(snapshot)?;
+        self.life = dropped(&self.life, log.committed_length());
+        Ok(Some(log))
+    }
+
+    /// A step is done.
+    pub(crate) fn end_step(&mut self)
+        ensures { self.new ≡ record self.old { held = record self.old.held { before = None } } }
+    {
+        self.held.end_step();
     }
 }
 
@@ -355,13 +418,17 @@ fn add_send<A: Allocator + Copy>(
 }
 
 /// Commits what the mark covers.
-fn settle<A: Allocator + Copy>(reaches: &mut VecDeque<Reach, A>, mark: u64, log: &mut Log<A>)
+fn settle<A: Allocator + Copy + Drop>(
+    reaches: &mut VecDeque<Reach, A>,
+    mark: u64,
+    held: &mut Holding<A>,
+)
     ensures reaches { reaches.new.items ≡ left mark reaches.old.items }
-    ensures log { log.new ≡ committed_upto log.old (covered mark 0 reaches.old.items) }
-    ensures front { IsFront (committed_calls log.old) (committed_calls log.new) }
+    ensures held { held.new ≡ record held.old { log = committed_upto held.old.log (covered mark 0 reaches.old.items) } }
+    ensures front { IsFront (committed_calls (told_log held.old)) (committed_calls (told_log held.new)) }
 {
     let places = cover(reaches, mark);
-    log.commit_upto(places);
+    held.commit_upto(places);
 }
 
 /// Whether it is the ring that runs.

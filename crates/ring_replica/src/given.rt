@@ -1,6 +1,6 @@
 //! What a step gives.
 
-ghost use Rattle.std.specs.Prelude.{◌≡◌, []};
+ghost use Rattle.std.specs.Prelude.{◌≡◌, [], None};
 
 use ring_core::Sent;
 use ring_payload::{Call, Payload};
@@ -8,7 +8,7 @@ use ring_session::Answered;
 use std::alloc::{Allocator, Global};
 
 /// What a step of the core gives by a node's replica: the frames sent, what is to be handed to the core, in its order, the
-/// answers, by the order of their places, then of their tickets, and the calls newly committed.
+/// answers, by the order of their places, then of their tickets, the calls newly committed, and how many places were restored.
 #[derive(Drop)]
 pub struct Given<A: Allocator + Copy + Drop = Global> {
     pub sends: Vec<Sent<A>, A>,
@@ -16,6 +16,8 @@ pub struct Given<A: Allocator + Copy + Drop = Global> {
     pub answers: Vec<Answered<A>, A>,
     /// The calls newly committed, in order.
     pub committed: Vec<Call<A>, A>,
+    /// How many places the snapshot stands for that the step restored, if it restored one.
+    pub restored: Option<u64>,
 }
 
 impl<A: Allocator + Copy + Drop> Given<A> {
@@ -25,12 +27,14 @@ impl<A: Allocator + Copy + Drop> Given<A> {
         ensures due { result.due.items ≡ [] }
         ensures answers { result.answers.items ≡ [] }
         ensures committed { result.committed.items ≡ [] }
+        ensures restored { result.restored ≡ None }
     {
         Given {
             sends: Vec::new(alloc),
             due: Vec::new(alloc),
             answers: Vec::new(alloc),
             committed: Vec::new(alloc),
+            restored: None,
         }
     }
 }

@@ -1,7 +1,7 @@
 //! The life of a node and its tickets, as contracts see them.
 
 ghost use Rattle.std.specs.Prelude.{◌≡◌, List, [], ◌∷◌, ◌++◌};
-ghost use Rattle.ring_log.specs.Stays.{born, hears, marks, hands, stay_in};
+ghost use Rattle.ring_log.specs.Stays.{born, hears, marks, hands, trims, stay_in};
 ghost use Rattle.ring_replica.specs.Replicas.{tale_opening, tale_done, tale_given};
 ghost use Rattle.ring_replica.specs.Courses.{handed_if};
 
@@ -94,6 +94,13 @@ pub(crate) fn handed_call<A: Allocator + Copy>(
     ensures { result.value ≡ hands (handed_if runs call.now) life.now.value }
 {
     told(life, &(call, runs))
+}
+
+/// So many places of the log are dropped.
+pub(crate) fn dropped<A: Allocator + Copy>(life: &Past<Life<A>>, places: u64) -> Past<Life<A>>
+    ensures { result.value ≡ trims places life.now.value }
+{
+    told(life, &places)
 }
 
 /// The story of a processor at the opening.

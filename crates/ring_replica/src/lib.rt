@@ -7,6 +7,7 @@ mod dues;
 mod given;
 mod hearing;
 mod history;
+mod holding;
 mod laws;
 mod mark_laws;
 mod reach;
@@ -16,6 +17,7 @@ mod stage;
 
 pub use course::Course;
 pub use given::Given;
+pub use holding::Holding;
 pub use laws::replica_law;
 pub use mark_laws::marks_law;
 pub use replica::Replica;

@@ -1,43 +1,51 @@
 //! All of a node but its core.
 
-ghost use Rattle.std.specs.Prelude.{◌≡◌, ◌≤◌, ◌+◌, [], true, false, fold, length, drop, IfOk, IfErr, OnOk, OnErr, Some, None};
+ghost use Rattle.std.specs.Prelude.{◌≡◌, ◌+◌, ◌-◌, ◌^◌, [], true, false, fold, min, is_some, option_map, if◌then◌else◌};
+ghost use Rattle.std.specs.Prelude.{length, IfOk, IfErr, IfSome, OnOk, OnErr};
+ghost use Rattle.std.specs.Prelude.{Some, None};
 ghost use Rattle.ring_base.specs.declared.fault.Fault.TheVariants.{Memory};
-ghost use Rattle.ring_log.specs.Logs.{committed_calls};
-ghost use Rattle.ring_session.specs.Deduplicated.{deduplicated};
 ghost use Rattle.ring_session.specs.Table.{table_next};
 ghost use Rattle.ring_session.specs.Pendings.{answers_behind, pending_from};
-ghost use Rattle.ring_session.specs.TicketEffects.{done_after};
-ghost use Rattle.ring_replica.specs.Courses.{rises};
-ghost use Rattle.ring_replica.specs.Replicas.{IsDone, replica_opening, replica_committed, replica_log, replica_stopped};
-ghost use Rattle.ring_replica.specs.Replicas.{replica_reply, submit_refusal, has_adopted_running, replica_given};
-ghost use Rattle.ring_replica.specs.Replicas.{replica_more, replica_step, replica_done};
+ghost use Rattle.ring_session.specs.TicketEffects.{done_after, table_effects};
+ghost use Rattle.ring_log.specs.Logs.{committed_log};
+ghost use Rattle.ring_rules.specs.Nodes.{effects_at, is_closed};
+ghost use Rattle.ring_replica.specs.Courses.{rises, course_trimmed, IsSteady};
+ghost use Rattle.ring_replica.specs.Replicas.{IsDone, replica_opening, replica_kept, replica_length, replica_trimmed, replica_committed, replica_stopped};
+ghost use Rattle.ring_replica.specs.Replicas.{replica_reply, submit_refusal, is_running_some, has_adopted_running, replica_given, calls_leaving};
+ghost use Rattle.ring_replica.specs.Replicas.{more_in, ahead_log, behind_log, is_table_held, table_held, snapshot_if_ripe, replica_step, replica_done};
 
 use crate::course::Course;
 use crate::given::Given;
 use crate::history::{ReplicaStory, done, given, opened};
+use crate::holding::Holding;
 use ring_base::{Fault, Fixed, Past, Proc, RingId};
 use ring_core::Out;
-use ring_log::Log;
+use ring_log::{Log, Snapshot};
 use ring_object::Object;
-use ring_payload::Call;
+use ring_payload::{Call, MOST_SNAPSHOT};
 use ring_session::{Answer, Answered, Pending, Sessions, Ticket, Tickets, answers_of};
 use std::alloc::Allocator;
 use std::marker::Model;
+use std::mem;
 
 /// All of a node but its core: its log, with where the exchange of its newest ring stands, its tickets, and the
 /// sessions. Contracts see its life, its tickets, the calls that it did and the answers that it gave.
 ///
 /// A step has two parts. `step` takes the outputs of the core, and gives what is to be handed to it; once that is handed
-/// over, `finish` makes the step a part of the node's life. Until then the node tells what it was before.
+/// over, `finish` makes the step a part of the node's life. Until then the node tells what it was before. All memory is
+/// asked for in the first part, that for dropping committed places included.
 #[derive(Drop)]
 pub struct Replica<O: Object> {
     alloc: O::Alloc,
     course: Course<O::Alloc>,
     sessions: Sessions<O>,
     tickets: Tickets<O::Alloc>,
-    /// How many places the log had, and how many of them were committed, as the last step was done.
+    /// The log of the places that the step that is being done drops, if it drops some.
+    leaving: Option<Log<O::Alloc>>,
+    /// How many places the log had, and how many of them were committed and dropped, as the last step was done.
     places: u64,
     committed: u64,
+    trimmed: u64,
     /// How many of the committed places took effect, as the last step was done, and by the step that is being done.
     effects: u64,
     reached: u64,
@@ -50,9 +58,10 @@ impl<O: Object> Model for Replica<O> {
 
     ghost Value = { ToldReplica O.Alloc };
 
-    ghost view = { λ r. told_replica r.course r.stopped r.story.value };
+    ghost view = { λ r. told_replica r.course r.leaving r.committed r.stopped r.story.value };
 
-    ghost invariant = { λ r. IsCounted O.sequential r.course r.sessions r.tickets r.places r.committed r.effects r.reached r.stopped r.story.value };
+    ghost invariant = { λ r. IsCounted O.sequential r.course r.sessions r.tickets r.leaving r.places r.committed r.trimmed
+        r.effects r.reached r.stopped r.story.value };
 }
 
 impl<O: Object> Replica<O> {
@@ -66,8 +75,10 @@ impl<O: Object> Replica<O> {
             course: Course::new(alloc, fixed, me),
             sessions: Sessions::new(alloc)?,
             tickets: Tickets::new(alloc)?,
+            leaving: None,
             places: 0,
             committed: 0,
+            trimmed: 0,
             effects: 0,
             reached: 0,
             stopped: false,
@@ -93,10 +104,7 @@ impl<O: Object> Replica<O> {
         requires runs { self.now.stopped ≡ false }
         ensures { result ≡ has_adopted_running running.now self.now }
     {
-        match (running, self.course.log().last_primary()) {
-            (Some(running), Some(last)) => *running == last,
-            _ => false,
-        }
+        is_running(running, self.course.held().log().last_primary())
     }
 
     /// Gives a submitted call the next ticket. It is handed to the core at once where the ring that runs is adopted. It
@@ -113,8 +121,8 @@ impl<O: Object> Replica<O> {
         self.tickets.give(call)
     }
 
-    /// Takes the outputs of a step of the core, in which then this ring runs. Where a base drops committed places, or the
-    /// log is too long, it has stopped, and nothing is given. Refused with `Memory` alone, and then it has stopped.
+    /// Takes the outputs of a step of the core, in which then this ring runs. Where a base drops committed places or brings no
+    /// snapshot, or the log is too long, it has stopped, and nothing is given. Refused with `Memory` alone, and then it has stopped.
     pub fn step(
         &mut self,
         running: &Option<RingId>,
@@ -127,7 +135,9 @@ impl<O: Object> Replica<O> {
         ensures sends { IfOk result (λ given. given.sends.items ≡ (replica_step O.sequential running.now self.old outs.items).sends) }
         ensures due { IfOk result (λ given. given.due.items ≡ (replica_step O.sequential running.now self.old outs.items).due) }
         ensures answers { IfOk result (λ given. given.answers.items ≡ (replica_step O.sequential running.now self.old outs.items).answers) }
-        ensures committed { IfOk result (λ given. given.committed.items ≡ (replica_step O.sequential running.now self.old outs.items).committed) }
+        ensures committed { IfOk result (λ given. given.committed.items ≡ (replica_step O.sequential running.now self.old outs.items).replica.doing) }
+        ensures restored { IfOk result (λ given. given.restored ≡ (replica_step O.sequential running.now self.old outs.items).restored) }
+        ensures steady { OnOk result (IsSteady self.old.group self.old.life) }
         ensures err { OnErr result (self.new ≡ replica_stopped self.old) }
         ensures refused { IfErr result (λ fault. fault ≡ Memory) }
     {
@@ -146,35 +156,46 @@ impl<O: Object> Replica<O> {
         if !self.course.is_fine() {
             return Ok(Given::new(self.alloc));
         }
-        given.committed = new_calls(self.alloc, self.course.log(), self.committed)?;
-        let (answers, reached) = new_answers(
+        let carried = carry_out(
             self.alloc,
+            self.course.held(),
             &mut self.sessions,
             self.tickets.pending(),
-            self.course.log(),
             self.committed,
             self.effects,
         )?;
-        given.answers = answers;
-        self.reached = reached;
+        let Some(carried) = carried else {
+            return Ok(Given::new(self.alloc));
+        };
+        given.answers = carried.answers;
+        given.committed = carried.committed;
+        given.restored = self.course.held().restored_places();
         self.course.hand(&given.due);
+        self.leaving = drop_if_ripe(self.alloc, &mut self.course, &self.sessions)?;
+        self.reached = carried.reached;
         self.stopped = false;
         Ok(given)
     }
 
-    /// Ends a step, of which these were the answers. It takes no memory.
-    pub fn finish(&mut self, answers: &[Answered<O::Alloc>])
-        requires runs { self.old.stopped ≡ false }
-        ensures { self.new ≡ replica_done self.old (replica_more self.old self.old.ahead) answers.now }
+    /// Ends a step, of which these were the answers, unless it has stopped, and hands out the calls of the places that the step
+    /// dropped, in order. It takes no memory.
+    pub fn finish(&mut self, answers: &[Answered<O::Alloc>]) -> Vec<Call<O::Alloc>, O::Alloc>
+        ensures replica { self.new ≡ (if self.old.stopped then self.old else replica_done self.old answers.now) }
+        ensures dropped { result.items ≡ self.old.leaving }
     {
-        let log = self.course.log();
-        let calls = log.committed_calls();
-        let more = &calls[self.committed as usize..];
+        if self.stopped {
+            return Vec::new(self.alloc);
+        }
+        let more = more_in(ahead_log(self.course.held(), &self.leaving), self.committed);
         self.story = done(&self.story, self.course.life(), more, answers);
         self.tickets.keep(more, answers);
+        let log = self.course.held().log();
         self.places = log.length();
-        self.committed = calls.len() as u64;
+        self.committed = log.committed_length();
+        self.trimmed = log.trimmed();
         self.effects = self.reached;
+        self.course.end_step();
+        calls_leaving(self.alloc, mem::replace(&mut self.leaving, None))
     }
 
     /// Stops for good. It takes no memory.
@@ -198,16 +219,31 @@ impl<O: Object> Replica<O> {
         self.tickets.reply(ticket)
     }
 
-    /// The committed places of the log, in order.
+    /// The committed places of the log that aren't dropped, in order.
     pub fn committed(&self) -> &[Call<O::Alloc>]
         ensures { result.now ≡ replica_committed self.now }
     {
-        &self.course.log().committed_calls()[..self.committed as usize]
+        let log = behind_log(self.course.held(), &self.leaving);
+        &log.committed_calls()[..(self.committed - self.trimmed) as usize]
     }
 
-    /// How many places the log has, committed or not.
+    /// How many places of the log are committed, dropped ones included.
+    pub fn committed_len(&self) -> u64
+        ensures { result ≡ (replica_kept self.now).committed }
+    {
+        self.committed
+    }
+
+    /// How many of its first places the log has dropped.
+    pub fn trimmed(&self) -> u64
+        ensures { result ≡ replica_trimmed self.now }
+    {
+        self.trimmed
+    }
+
+    /// How many places the log has, committed or not, dropped ones included.
     pub fn log_len(&self) -> u64
-        ensures { result ≡ length (replica_log self.now) }
+        ensures { result ≡ replica_length self.now }
     {
         self.places
     }
@@ -219,26 +255,158 @@ impl<O: Object> Replica<O> {
         self.tickets.pending().len()
     }
 
-    /// How many calls of the committed places took effect: how long the committed log is, repeats removed.
+    /// How many calls of all committed places took effect. Of the places that a restored snapshot stands for, that is the sum of its
+    /// clients' last numbers, or the greatest number of 64 bits where that is more.
     pub fn order_len(&self) -> u64
-        ensures { result ≡ length (deduplicated (replica_committed self.now)) }
+        ensures { result ≡ effects_at O.sequential (replica_kept self.now) (replica_kept self.now).committed }
     {
         self.effects
     }
 }
 
-/// Copies of the calls committed behind so many. Refused with `Memory` alone.
+/// Whether this is the ring that runs, if there is one.
+fn is_running(running: &Option<RingId>, last: Option<RingId>) -> bool
+    ensures { result ≡ is_running_some running.now last }
+{
+    match (running, last) {
+        (Some(running), Some(last)) => *running == last,
+        _ => false,
+    }
+}
+
+/// The calls of the places that a step drops, if it drops some.
+fn calls_leaving<A: Allocator + Copy + Drop>(alloc: A, leaving: Option<Log<A>>) -> Vec<Call<A>, A>
+    ensures { result.items ≡ calls_leaving leaving }
+{
+    match leaving {
+        Some(log) => log.into_calls(),
+        None => Vec::new(alloc),
+    }
+}
+
+/// The calls of a log's committed places past the first so many, and past those that are dropped.
+fn more_in<A: Allocator + Copy>(log: &Log<A>, first: u64) -> &[Call<A>]
+    ensures { result.now ≡ more_in first log.now }
+{
+    let calls = log.committed_calls();
+    let start = first.max(log.trimmed()) - log.trimmed();
+    &calls[calls.len().min(start as usize)..]
+}
+
+/// The log in which the places stand that are committed now, those that the step that is being done drops included.
+fn ahead_log<'a, A: Allocator + Copy + Drop>(
+    held: &'a Holding<A>,
+    leaving: &'a Option<Log<A>>,
+) -> &'a Log<A>
+    ensures { result.now ≡ ahead_log held.now leaving.now }
+{
+    match leaving {
+        Some(log) => log,
+        None => held.log(),
+    }
+}
+
+/// The log in which the places stand that were committed as the last step was done.
+fn behind_log<'a, A: Allocator + Copy + Drop>(
+    held: &'a Holding<A>,
+    leaving: &'a Option<Log<A>>,
+) -> &'a Log<A>
+    ensures { result.now ≡ behind_log held.now leaving.now }
+{
+    match held.before() {
+        Some(log) => log,
+        None => ahead_log(held, leaving),
+    }
+}
+
+/// What came of the places that a step commits: the answers, their calls, and how many calls took effect by then.
+#[derive(Drop)]
+struct Carried<A: Allocator + Copy + Drop> {
+    answers: Vec<Answered<A>, A>,
+    committed: Vec<Call<A>, A>,
+    reached: u64,
+}
+
+/// Restores the sessions, where the step restored the log, and has them do the calls of the places committed behind so many. Nothing
+/// comes of it where the bytes are no snapshot. Refused with `Memory` alone.
+fn carry_out<O: Object>(
+    alloc: O::Alloc,
+    held: &Holding<O::Alloc>,
+    sessions: &mut Sessions<O>,
+    pending: &[Pending<O::Alloc>],
+    committed: u64,
+    effects: u64,
+) -> Result<Option<Carried<O::Alloc>>, Fault>
+    ensures fits { IfOk result (λ carried. is_some carried ≡ is_table_held O.sequential held.now) }
+    ensures table { OnOk result (is_table_held O.sequential held.now ≡ true
+        → sessions.new ≡ fold (table_next O.sequential) (table_held O.sequential held.now sessions.old) (more_in committed held.now.log)) }
+    ensures answers { IfOk result (λ carried. IfSome carried (λ c. c.answers.items
+        ≡ answers_behind O.sequential (table_held O.sequential held.now sessions.old) pending.now [] (more_in committed held.now.log))) }
+    ensures committed { IfOk result (λ carried. IfSome carried (λ c. c.committed.items ≡ more_in committed held.now.log)) }
+    ensures reached { IfOk result (λ carried. IfSome carried (λ c. c.reached
+        ≡ min (2 ^ 64 - 1) ((if is_some held.now.before then table_effects (table_held O.sequential held.now sessions.old) else effects)
+        + done_after O.sequential (table_held O.sequential held.now sessions.old) (more_in committed held.now.log)))) }
+    ensures refused { IfErr result (λ fault. fault ≡ Memory) }
+{
+    let fits = restore(alloc, held, sessions)?;
+    if !fits {
+        return Ok(None);
+    }
+    let calls = new_calls(alloc, held.log(), committed)?;
+    let effects = effects_in(held, sessions, effects);
+    let (answers, reached) = new_answers(alloc, sessions, pending, held.log(), committed, effects)?;
+    Ok(Some(Carried {
+        answers,
+        committed: calls,
+        reached,
+    }))
+}
+
+/// Copies of the calls of a log's committed places past the first so many, and past those that are dropped. Refused with `Memory` alone.
 fn new_calls<A: Allocator + Copy + Drop>(
     alloc: A,
     log: &Log<A>,
     committed: u64,
 ) -> Result<Vec<Call<A>, A>, Fault>
-    requires { committed ≤ length (committed_calls log.now) }
-    ensures calls { IfOk result (λ calls. calls.items ≡ drop committed (committed_calls log.now)) }
+    ensures calls { IfOk result (λ calls. calls.items ≡ more_in committed log.now) }
     ensures refused { IfErr result (λ fault. fault ≡ Memory) }
 {
-    let calls = log.committed_calls();
-    Ok(calls[committed as usize..].to_vec(alloc)?)
+    Ok(more_in(log, committed).to_vec(alloc)?)
+}
+
+/// Restores the sessions, where the step restored the log, and tells whether all is well: not where the bytes are no snapshot.
+/// Refused with `Memory` alone.
+fn restore<O: Object>(
+    alloc: O::Alloc,
+    held: &Holding<O::Alloc>,
+    sessions: &mut Sessions<O>,
+) -> Result<bool, Fault>
+    ensures fits { IfOk result (λ fits. fits ≡ is_table_held O.sequential held.now) }
+    ensures table { OnOk result (is_table_held O.sequential held.now ≡ true → sessions.new ≡ table_held O.sequential held.now sessions.old) }
+    ensures refused { IfErr result (λ fault. fault ≡ Memory) }
+{
+    if !held.is_restored() {
+        return Ok(true);
+    }
+    match Sessions::restore(alloc, held.snapshot()) {
+        Ok(restored) => {
+            *sessions = restored;
+            Ok(true)
+        }
+        Err(Fault::BadSnapshot) => Ok(false),
+        Err(fault) => Err(fault),
+    }
+}
+
+/// How many calls took effect by these sessions, which did so many if nothing was restored.
+fn effects_in<O: Object>(held: &Holding<O::Alloc>, sessions: &Sessions<O>, effects: u64) -> u64
+    ensures { result ≡ (if is_some held.now.before then table_effects sessions.now else effects) }
+{
+    if held.is_restored() {
+        sessions.effects()
+    } else {
+        effects
+    }
 }
 
 /// The answers that the places committed behind these give to the tickets, once the sessions did their calls, and how many
@@ -251,17 +419,53 @@ fn new_answers<O: Object>(
     committed: u64,
     effects: u64,
 ) -> Result<(Vec<Answered<O::Alloc>, O::Alloc>, u64), Fault>
-    requires within { committed ≤ length (committed_calls log.now) }
-    requires few { effects ≤ committed }
-    ensures table { OnOk result (sessions.new ≡ fold (table_next O.sequential) sessions.old (drop committed (committed_calls log.now))) }
-    ensures answers { IfOk result (λ given. given.0.items ≡ answers_behind O.sequential sessions.old pending.now []
-        (drop committed (committed_calls log.now))) }
-    ensures effects { IfOk result (λ given. given.1 ≡ effects + done_after O.sequential sessions.old (drop committed (committed_calls log.now))) }
+    ensures table { OnOk result (sessions.new ≡ fold (table_next O.sequential) sessions.old (more_in committed log.now)) }
+    ensures answers { IfOk result (λ given. given.0.items ≡ answers_behind O.sequential sessions.old pending.now [] (more_in committed log.now)) }
+    ensures effects { IfOk result (λ given. given.1 ≡ min (2 ^ 64 - 1) (effects + done_after O.sequential sessions.old (more_in committed log.now))) }
     ensures refused { IfErr result (λ fault. fault ≡ Memory) }
 {
-    let calls = log.committed_calls();
-    let is_within = committed <= log.length();
-    prove!(is_within);
-    let (answers, more) = answers_of(alloc, sessions, pending, &calls[committed as usize..])?;
-    Ok((answers, effects + more))
+    let calls = more_in(log, committed);
+    let (answers, more) = answers_of(alloc, sessions, pending, calls)?;
+    Ok((answers, effects.saturating_add(more)))
+}
+
+/// Drops the committed places, if they are to be dropped, and hands out their log. Refused with `Memory` alone, and then none is dropped.
+fn drop_if_ripe<O: Object>(
+    alloc: O::Alloc,
+    course: &mut Course<O::Alloc>,
+    sessions: &Sessions<O>,
+) -> Result<Option<Log<O::Alloc>>, Fault>
+    requires fine { course.old.fine ≡ true }
+    ensures dropped { IfOk result (λ log. log ≡ option_map (λ bytes. committed_log course.old.held.log)
+        (snapshot_if_ripe O.sequential (is_closed course.old.group course.old.life) course.old.held.log sessions.now)) }
+    ensures ok { OnOk result (course.new
+        ≡ course_trimmed course.old (snapshot_if_ripe O.sequential (is_closed course.old.group course.old.life) course.old.held.log sessions.now)) }
+    ensures err { OnErr result (course.new ≡ course.old) }
+    ensures refused { IfErr result (λ fault. fault ≡ Memory) }
+{
+    let closed = course.is_closed();
+    let snapshot = snapshot_if_ripe(alloc, closed, course.held().log(), sessions)?;
+    course.trim(snapshot)
+}
+
+/// The snapshot of the sessions, if no exchange is open, so many committed places are kept that they are to be dropped, and it isn't too
+/// long. Refused with `Memory` alone.
+fn snapshot_if_ripe<O: Object>(
+    alloc: O::Alloc,
+    closed: bool,
+    log: &Log<O::Alloc>,
+    sessions: &Sessions<O>,
+) -> Result<Option<Snapshot<O::Alloc>>, Fault>
+    ensures snapshot { IfOk result (λ snapshot. snapshot ≡ snapshot_if_ripe O.sequential closed log.now sessions.now) }
+    ensures refused { IfErr result (λ fault. fault ≡ Memory) }
+{
+    if !closed || !log.is_ripe() {
+        return Ok(None);
+    }
+    let mut bytes = Vec::new(alloc);
+    sessions.snapshot(&mut bytes)?;
+    if bytes.len() > MOST_SNAPSHOT as usize {
+        return Ok(None);
+    }
+    Ok(Some(Snapshot::from_vec(bytes)))
 }

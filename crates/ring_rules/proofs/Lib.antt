@@ -3,10 +3,8 @@
 -- Orders: A run whose steps keep to the rules has one order, which only grows and explains the run's history at each moment.
 -- FirstPassing: Where the first element that passes a test stands, and what of a list its front keeps.
 -- NodeChanges: A submit commits nothing, and a node that has stopped stays as it is when it stops again.
--- OneStep: A node's step by its own view is its step by the view of all lives.
 pub mod QuietHanding
 pub mod Linear
 pub mod Orders
 pub mod FirstPassing
 pub mod NodeChanges
-pub mod OneStep

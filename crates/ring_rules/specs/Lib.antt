@@ -2,7 +2,6 @@ pub mod Lives
 pub mod Nodes
 pub mod Dues
 pub mod Stepping
-pub mod WholeSteps
 pub mod NodeLimits
 pub mod Histories
 pub mod WorldLimits

@@ -1,5 +1,6 @@
 -- One step of a node, and a submit: The replicated log, rules 1, 8, 9, 13, 14 and 18, of docs/PROTOCOL.md.
-use Rattle.std.specs.Prelude.{◌-◌, max, Bool, true, false, nat_le, if◌then◌else◌, List, [], ◌∷◌, ◌++◌, map, filter_map, length, drop, Option, Some, None}
+use Rattle.std.specs.Prelude.{ℕ, ◌-◌, max, Bool, true, false, nat_le, nat_lt, ◌&&◌, if◌then◌else◌}
+use Rattle.std.specs.Prelude.{List, [], ◌∷◌, ◌++◌, map, filter_map, length, drop, Option, Some, None}
 use Rattle.ring_base.specs.Numbers.{max_number}
 use Rattle.ring_base.specs.declared.fault.Fault.{Fault}
 use Rattle.ring_base.specs.declared.fault.Fault.TheVariants.{PendingFull, Stopped as StoppedFault}
@@ -12,15 +13,18 @@ use Rattle.ring_core.specs.declared.out.Out.{Out}
 use Rattle.ring_core.specs.declared.out.Out.TheVariants.{Send, Agreed, Safe, Trans, Rest, Regular}
 use Rattle.ring_core.specs.State.{Core, Sent, Stepped}
 use Rattle.ring_core.specs.Stepping.{ring_step, after_inputs}
-use Rattle.ring_log.specs.Stays.{Stay, hands}
-use Rattle.ring_log.specs.Kept.{Kept, kept_of, kept_committed, is_kept_sound}
+use Rattle.ring_payload.specs.Limits.{most_snapshot}
+use Rattle.ring_log.specs.Kept.{Kept, kept_of, log_kept, is_kept_sound}
+use Rattle.ring_log.specs.Logs.{committed_calls, is_ripe}
+use Rattle.ring_log.specs.Stays.{Stay, hands, trims}
+use Rattle.ring_session.specs.Table.{Table}
 pub use Rattle.ring_session.specs.declared.answered.Answered.{Answered}
-use Rattle.ring_session.specs.Table.{table_after}
 use Rattle.ring_session.specs.Tickets.{answers_after}
 use Rattle.ring_rules.specs.declared.input.Input.{Input}
 use Rattle.ring_rules.specs.declared.input.Input.TheVariants.{Frame, Noise, Timeout, Stop}
 use Rattle.ring_rules.specs.Lives.{lived_through}
-use Rattle.ring_rules.specs.Nodes.{Node, node_kept, node_pending, node_stopped, is_stopped, runs_adopted}
+use Rattle.ring_rules.specs.Nodes.{Node, node_kept, node_pending, node_stopped, is_stopped, runs_adopted, is_closed}
+use Rattle.ring_rules.specs.Nodes.{table_before, table_at, snapshot_at, is_restored}
 use Rattle.ring_rules.specs.Dues.{due_by}
 
 -- Handing over
@@ -35,15 +39,16 @@ walked n core life due = record n { core = handed_over core due; life = hands du
 
 -- A step
 
--- a node after a step, with the frames sent, the answers given, and the calls newly committed
+-- a node after a step, with the frames sent, the answers given, the calls newly committed, and the places dropped
 pub record NodeStepped (A : Type 0) : Type 0 where
   pub node : Node A
   pub sends : List (Sent A)
   pub answers : List (Answered A)
   pub committed : List (OneCall A)
+  pub dropped : List (OneCall A)
 
 abbrev pub quiet : {A : Type 0} → Node A → NodeStepped A
-quiet n = record { node = n; sends = []; answers = []; committed = [] }
+quiet n = record { node = n; sends = []; answers = []; committed = []; dropped = [] }
 
 -- the frame among outputs
 abbrev pub send_of : {A : Type 0} → Out A → Option (Sent A)
@@ -54,35 +59,54 @@ send_of (Trans old new set) = None
 send_of (Rest ring k x) = None
 send_of (Regular ring set) = None
 
--- what a step commits: the places behind those that were committed before, or those that it restored
-abbrev pub newly : {A : Type 0} → Kept A → Kept A → List (OneCall A)
-newly old new = drop (max old.committed new.from - new.from) (kept_committed new)
+-- a node that has dropped so many places
+abbrev pub with_dropped : {A : Type 0} → ℕ → Node A → Node A
+with_dropped places n = record n { life = trims places n.life }
 
--- a step that does these calls, and gives these answers
-abbrev pub answered_by : {A : Type 0} → Node A → Node A → List (Out A) → List (Answered A) → List (OneCall A) → NodeStepped A
-answered_by old new outs answers more =
-    record {
-      node = record new { done = old.done ++ more; answers = old.answers ++ answers };
-      sends = filter_map send_of outs;
-      answers = answers;
-      committed = more;
-    }
+-- the calls that a step commits are those past the old places, or past those that it restored
+abbrev pub newly : {A : Type 0} → Kept A → Kept A → List (OneCall A)
+newly old new = drop (max old.committed new.trimmed - new.trimmed) (committed_calls (log_kept new))
 
 module _ {O : Type 0} (object : Sequential O) where
-  -- what these calls answer, done one after the other on the session table after the places that were committed before
-  abbrev pub answers_by : {A : Type 0} → Node A → List (OneCall A) → List (Answered A)
-  answers_by old more = answers_after object (table_after object (kept_committed (node_kept old))) old.tickets old.done more
+  -- the places that a step drops at its end: all that are committed, once they are many, their snapshot isn't too long, and no exchange is open; in every
+  -- run none is open then, since what is committed rises only where a ring is adopted
+  abbrev pub drops : {A : Type 0} → Bool → Kept A → Bool
+  drops closed k = closed && is_ripe (log_kept k) && nat_le (length (snapshot_at object k k.committed)) most_snapshot
 
-  -- a base that drops committed places, and a log that is too long, stop the node in the step's place: nothing of the step is given
-  abbrev pub settled : {A : Type 0} → Bool → Node A → Node A → List (Out A) → List (Stay A) → NodeStepped A
-  settled false old new outs life = quiet (node_stopped old)
-  settled true old new outs life =
-      let more = newly (node_kept old) (kept_of old.group life) in
-      answered_by old new outs (answers_by old more) more
+  abbrev pub ended : {A : Type 0} → Bool → Kept A → NodeStepped A → NodeStepped A
+  ended closed k s =
+      if drops closed k
+      then record s { node = with_dropped k.committed s.node; dropped = committed_calls (log_kept k) }
+      else s
+
+  -- the session table before them: the old one, or the one restored
+  abbrev pub table_since : {A : Type 0} → Kept A → Kept A → Table O
+  table_since old new = if nat_lt old.trimmed new.trimmed then table_before object new else table_at object old old.committed
+
+  abbrev pub answered_by : {A : Type 0} → Node A → Node A → List (Out A) → List (Answered A) → List (OneCall A) → NodeStepped A
+  answered_by old new outs answers more =
+      record {
+        node = record new { done = old.done ++ more; answers = old.answers ++ answers };
+        sends = filter_map send_of outs;
+        answers = answers;
+        committed = more;
+        dropped = [];
+      }
+
+  -- a step, with the calls that the node did by it
+  abbrev pub did : {A : Type 0} → Node A → Node A → List (Out A) → Kept A → List (OneCall A) → NodeStepped A
+  did old new outs k more = answered_by old new outs (answers_after object (table_since (node_kept old) k) old.tickets old.done more) more
+
+  -- a base that drops committed places or brings no snapshot, and a log that is too long, stop the node in the step's place: nothing of the step is given
+  abbrev pub settled : {A : Type 0} → Bool → Node A → Node A → List (Out A) → Kept A → NodeStepped A
+  settled false old new outs k = quiet (node_stopped old)
+  settled true old new outs k = ended (is_closed old.group new.life) k (did old new outs k (newly (node_kept old) k))
 
   -- the core took a step: the life goes on by its outputs, and what is due by them is handed over
   abbrev pub moved : {A : Type 0} → Node A → Core A → List (Out A) → List (Stay A) → NodeStepped A
-  moved n core outs life = settled (is_kept_sound n.group life) n (walked n core life (due_by n core n.life outs)) outs life
+  moved n core outs life =
+      settled (is_kept_sound n.group life && is_restored object (kept_of n.group life)) n
+      (walked n core life (due_by object n core n.life outs)) outs (kept_of n.group life)
 
   abbrev pub after_core : {A : Type 0} → Node A → Stepped A → NodeStepped A
   after_core n s = moved n s.core s.outs (lived_through n.life s.outs)

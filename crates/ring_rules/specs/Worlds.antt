@@ -1,6 +1,6 @@
 -- Worlds of nodes: the nodes, all frames ever sent, the history and what was told; how an event changes a world; and
 -- the order that it shows. Rings and states, rules 14 and 15, of docs/PROTOCOL.md.
-use Rattle.std.specs.Prelude.{ℕ, Bool, true, false, ◌&&◌, ◌==◌, nat_le, if◌then◌else◌, List, [], ◌∷◌, ◌++◌, map, Option, Some, None}
+use Rattle.std.specs.Prelude.{ℕ, suc, ◌-◌, Bool, true, false, ◌&&◌, ◌==◌, nat_le, if◌then◌else◌, List, [], ◌∷◌, ◌++◌, length, map, drop, Option, Some, None}
 use Rattle.ring_base.specs.Fault.{fault_number}
 use Rattle.ring_base.specs.Group.{Group}
 use Rattle.ring_base.specs.Numbers.{numbers_from}
@@ -14,7 +14,9 @@ use Rattle.ring_core.specs.State.{Sent, Carried, frame_at}
 use Rattle.ring_rules.specs.Stepping.{Answered}
 use Rattle.ring_rules.specs.declared.input.Input.{Input}
 use Rattle.ring_rules.specs.declared.input.Input.TheVariants.{Frame as FrameInput, Timeout as TimeInput}
-use Rattle.ring_rules.specs.Nodes.{Node, node_opening, node_committed, node_stopped}
+use Rattle.ring_log.specs.Stays.{Stay}
+use Rattle.ring_log.specs.Lives.{committed_of, whole_life}
+use Rattle.ring_rules.specs.Nodes.{Node, node_opening, node_stopped, node_kept}
 use Rattle.ring_rules.specs.Stepping.{NodeStepped, node_step, submit_fault, submitted}
 use Rattle.ring_rules.specs.declared.event.Event.{Event}
 use Rattle.ring_rules.specs.declared.event.Event.TheVariants.{Issue, Deliver, Noise, Timeout, Stop}
@@ -31,9 +33,11 @@ pub record World (A : Type 0) : Type 0 where
   pub frames : List (Carried A)
   pub history : List (Item A)
   pub told : List (Told A)
+  -- the longest of what nodes committed, from the log's beginning, as their steps gave it
+  pub longest : List (Call A)
 
 abbrev pub world_opening : {A : Type 0} → Group → World A
-world_opening group = record { group = group; nodes = node_opening group; frames = []; history = []; told = [] }
+world_opening group = record { group = group; nodes = node_opening group; frames = []; history = []; told = []; longest = [] }
 
 -- of one processor the node is another
 abbrev pub put : {A : Type 0} → (ℕ → Node A) → ℕ → Node A → ℕ → Node A
@@ -60,6 +64,10 @@ items_of (a ∷ rest) = replied a.call (reply_in a.answer) ++ items_of rest
 abbrev pub told_by : {A : Type 0} → ℕ → List (Answered A) → List (Told A)
 told_by i answers = map (λ (a : Answered _). ToldAnswer i a.call a.answer) answers
 
+-- of calls that come to a log's end, which then has `all` places, those behind its first so many
+abbrev pub calls_past : {A : Type 0} → ℕ → ℕ → List (Call A) → List (Call A)
+calls_past many all calls = drop (length calls - (all - many)) calls
+
 -- a node stepped
 abbrev pub after_step : {A : Type 0} → World A → ℕ → NodeStepped A → World A
 after_step w i s =
@@ -68,6 +76,7 @@ after_step w i s =
       frames = w.frames ++ carried i s.sends;
       history = w.history ++ items_of s.answers;
       told = w.told ++ told_by i s.answers;
+      longest = w.longest ++ calls_past (length w.longest) (node_kept s.node).committed s.committed;
     }
 
 -- a submit: refused, or a ticket is given
@@ -116,9 +125,22 @@ module _ {O : Type 0} (object : Sequential O) where
 
 -- What is seen of a world
 
--- each node's committed places, stopped ones included, in the order of nodes
+-- the lives, of which a processor that isn't one of the group has the empty one
+abbrev pub lives_in : {A : Type 0} → World A → ℕ → List (Stay A)
+lives_in w i = if is_node w i then (w.nodes i).life else []
+
+-- a number above those of a life's rings
+abbrev pub above : {A : Type 0} → List (Stay A) → ℕ
+above [] = 0
+above (s ∷ older) = suc s.ring.seq
+
+-- the same with what their snapshots stand for
+abbrev pub lives_of : {A : Type 0} → World A → ℕ → List (Stay A)
+lives_of w i = whole_life w.group (lives_in w) (above (lives_in w i)) i
+
+-- each node's committed places, from the log's beginning, stopped ones included, in the order of nodes
 abbrev pub committed_in : {A : Type 0} → World A → List (List (Call A))
-committed_in w = map (λ i. node_committed (w.nodes i)) (numbers_from 1 w.group.count)
+committed_in w = map (λ i. committed_of w.group (lives_of w i)) (numbers_from 1 w.group.count)
 
 abbrev pub moment_of : {A : Type 0} → World A → Moment A
 moment_of w = record { committed = committed_in w; history = w.history }

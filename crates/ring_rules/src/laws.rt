@@ -5,10 +5,6 @@ ghost use Rattle.ring_base.specs.Fronts.{IsFront};
 ghost use Rattle.ring_payload.specs.declared.call.Call.{Call};
 ghost use Rattle.ring_session.specs.Deduplicated.{deduplicated, StandsAt, IsNumbered};
 ghost use Rattle.ring_session.specs.SessionAnswer.{IsReplyIn};
-ghost use Rattle.ring_rules.specs.Nodes.{Node};
-ghost use Rattle.ring_rules.specs.Stepping.{node_step};
-ghost use Rattle.ring_rules.specs.WholeSteps.{node_step as whole_step};
-ghost use Rattle.ring_rules.specs.declared.input.Input.{Input};
 ghost use Rattle.ring_rules.specs.declared.item.Item.{Item};
 ghost use Rattle.ring_rules.specs.declared.item.Item.TheVariants.{Issue, Reply as Replied};
 ghost use Rattle.ring_rules.specs.Histories.{AreIssued, IsLinearization};
@@ -57,11 +53,4 @@ pub fn order_law<O: Object>()
         IsOrderRun O.sequential (opening n) moments →
         let last = last_moment (opening n) moments in
         slice_get last.committed node ≡ Some calls → IsFront (deduplicated calls) (order_of last.committed) }
-{}
-
-/// Law, for every object. A step of a node is a function of what the node knows by its own life alone, which may begin behind
-/// a snapshot. Whatever came to it, that is its step by the view of all lives, as long as nodes restore no snapshot: where one
-/// is wanted, the node stops.
-pub fn view_law<O: Object>()
-    ensures { (n : Node O.Alloc) (input : Input O.Alloc) → node_step O.sequential n input ≡ whole_step O.sequential n input }
 {}

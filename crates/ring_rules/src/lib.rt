@@ -12,5 +12,5 @@ mod told;
 pub use event::Event;
 pub use input::Input;
 pub use item::Item;
-pub use laws::{linearization_law, order_law, view_law};
+pub use laws::{linearization_law, order_law};
 pub use told::Told;

@@ -1,15 +1,16 @@
--- Worked runs of worlds of nodes: a call in a ring of one, nine calls that are packed, and a call in a ring of three
--- that forms by itself. The replicated log, rules 2 to 14, of docs/PROTOCOL.md.
-use Rattle.std.specs.Prelude.{ℕ, zero, suc, ◌-◌, List, [], ◌∷◌, ◌++◌, length, map, drop, replicate}
+-- Worked runs of worlds of nodes: a call in a ring of one, nine calls that are packed, a call in a ring of three that
+-- forms by itself, calls so many that their places are dropped, and a node that restores a snapshot. The replicated log,
+-- rules 2 to 14 and 20, of docs/PROTOCOL.md.
+use Rattle.std.specs.Prelude.{ℕ, zero, suc, ◌+◌, ◌*◌, ◌-◌, nat_lt, Bool, if◌then◌else◌, List, [], ◌∷◌, ◌++◌, length, map, drop, replicate, Option, Some}
 use Rattle.std.specs.declared.alloc.Global.{Global}
 use Rattle.ring_base.specs.Numbers.{numbers_from}
 use Rattle.ring_base.specs.Processors.{elements}
-use Rattle.ring_base.specs.declared.kind.Kind.TheVariants.{Join}
+use Rattle.ring_base.specs.declared.kind.Kind.TheVariants.{Join, Consensus}
 use Rattle.ring_object.specs.Operations.{Sequential}
 use Rattle.ring_payload.specs.declared.call.Call.{Call}
 use Rattle.ring_session.specs.declared.answer.Answer.{Answer}
 use Rattle.ring_session.specs.declared.answer.Answer.TheVariants.{Done, Kept}
-use Rattle.ring_rules.specs.Nodes.{node_committed, node_log}
+use Rattle.ring_rules.specs.Nodes.{Node, node_kept, node_length, node_trimmed}
 use Rattle.ring_rules.specs.declared.event.Event.{Event}
 use Rattle.ring_rules.specs.declared.event.Event.TheVariants.{Issue, Deliver, Timeout, Stop}
 use Rattle.ring_rules.specs.declared.told.Told.{Told}
@@ -17,9 +18,13 @@ use Rattle.ring_rules.specs.declared.told.Told.TheVariants.{Answer as ToldAnswer
 use Rattle.ring_core.specs.State.{Carried}
 use Rattle.ring_rules.specs.Worlds.{World, world_opening, happens, run}
 
+-- a count as a list of so many ones, and back
+abbrev pub counted : List ℕ → Option ℕ
+counted bytes = Some (length bytes)
+
 -- an object that counts its operations, and replies how many there were before
 abbrev pub counter : Sequential ℕ
-counter = record { initial = 0; reply = λ count op. count ∷ []; next = λ count op. suc count }
+counter = record { initial = 0; reply = λ count op. count ∷ []; next = λ count op. suc count; snapshot_of = λ count. replicate count 1; restored = counted }
 
 -- client 7's call of this number
 abbrev pub call_of_seven : ℕ → Call Global
@@ -31,7 +36,7 @@ world_of n = world_opening (record { count = n; votes = replicate n 1 })
 
 -- what is shown of nodes 1 to n: the committed length and the length of each one's log
 abbrev pub lengths_of : World Global → ℕ → ℕ × ℕ
-lengths_of w i = (length (node_committed (w.nodes i)), length (node_log (w.nodes i)))
+lengths_of w i = ((node_kept (w.nodes i)).committed, node_length (w.nodes i))
 
 abbrev pub shown : World Global → ℕ → List (ℕ × ℕ)
 shown w n = map (lengths_of w) (numbers_from 1 n)
@@ -109,6 +114,70 @@ settled = pump 100 (on (on (on (record { world = world_of 3; pairs = [] }) (Time
 
 abbrev pub answered_three : World Global
 answered_three = (pump 100 (on settled (Issue 2 (call_of_seven 1)))).world
+
+-- Places are dropped: four times 64 calls in a ring of one, each time sent at one visit and safe at the next
+
+-- client 7's next 64 calls, and two frames
+abbrev pub calls_of_lot : ℕ → ℕ → List (Event Global)
+calls_of_lot i k = map (λ n. Issue i (call_of_seven n)) (numbers_from (64 * k + 1) 64)
+
+abbrev pub lot_of : ℕ → List (Event Global)
+lot_of k = calls_of_lot 1 k ++ Deliver 1 (2 * k + 5) ∷ Deliver 1 (2 * k + 6) ∷ []
+
+abbrev pub after_lots : ℕ → World Global
+after_lots zero = run counter (world_of 1) formed_one
+after_lots (suc k) = run counter (after_lots k) (lot_of k)
+
+-- the snapshot of the sessions then: of client 7 its last call, the 256th, and what it was replied; and the object's
+abbrev pub snapshot_of_seven : List ℕ
+snapshot_of_seven =
+    0 ∷ 1 ∷
+    (0 ∷ 0 ∷ 0 ∷ 7 ∷ []) ++ (0 ∷ 0 ∷ 0 ∷ 0 ∷ 0 ∷ 0 ∷ 1 ∷ 0 ∷ []) ++ (0 ∷ 2 ∷ 1 ∷ 1 ∷ []) ++ (1 ∷ 255 ∷ [])
+    ++ (0 ∷ 0 ∷ 0 ∷ 0 ∷ 0 ∷ 0 ∷ 1 ∷ 0 ∷ []) ++ replicate 256 1
+
+-- A snapshot is restored: nodes 1 and 2 form a ring without node 3, and commit 256 calls; then node 3 joins
+
+-- nothing reaches node 3
+abbrev pub is_near : ℕ × ℕ → Bool
+is_near p = nat_lt p.1 3
+
+abbrev pub turn_near : World Global → List (ℕ × ℕ) → Pumped
+turn_near w [] = record { world = w; pairs = [] }
+turn_near w (p ∷ pairs) = if is_near p then on (record { world = w; pairs = pairs }) (Deliver p.1 p.0) else record { world = w; pairs = pairs }
+
+abbrev pub pump_near : ℕ → Pumped → Pumped
+pump_near zero p = p
+pump_near (suc k) p = pump_near k (turn_near p.world p.pairs)
+
+-- events, one after the other
+abbrev pub all_on : Pumped → List (Event Global) → Pumped
+all_on p [] = p
+all_on p (e ∷ events) = all_on (on p e) events
+
+-- both say a join, and then give up node 3
+abbrev pub two_formed : Pumped
+two_formed =
+    let joined = pump_near 20 (on (on (record { world = world_of 3; pairs = [] }) (Timeout 1 Join)) (Timeout 2 Join)) in
+    pump_near 60 (on (on joined (Timeout 1 Consensus)) (Timeout 2 Consensus))
+
+abbrev pub two_after : ℕ → Pumped
+two_after zero = two_formed
+two_after (suc k) = pump_near 60 (all_on (two_after k) (calls_of_lot 1 k))
+
+-- node 3 says a join, and so many frames are handed over
+abbrev pub joined_after : ℕ → Pumped
+joined_after k = pump k (on (two_after 4) (Timeout 3 Join))
+
+-- a call is submitted there then
+abbrev pub asked_after : ℕ → Pumped
+asked_after k = pump k (on (joined_after 60) (Issue 3 (call_of_seven 257)))
+
+-- of node 3: the committed length and the length of its log, from which place on it knows this, how many places it has dropped, and how many calls it did
+abbrev pub known_of : Node Global → List ℕ
+known_of n = (node_kept n).committed ∷ node_length n ∷ (node_kept n).from ∷ node_trimmed n ∷ length n.done ∷ []
+
+abbrev pub known_there : Pumped → List ℕ
+known_there p = known_of (p.world.nodes 3)
 
 -- What a submit is refused, and what changes nothing
 

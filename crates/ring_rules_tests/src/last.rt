@@ -30,11 +30,7 @@ impl<A: Allocator + Copy + Drop> Object for Last<A> {
 
     ghost is_readable = { is_readable };
 
-    ghost sequential = { record { initial = 0; reply = reply; next = next } };
-
-    ghost snapshot_of = { snapshot_of };
-
-    ghost restored = { restored };
+    ghost sequential = { record { initial = 0; reply = reply; next = next; snapshot_of = snapshot_of; restored = restored } };
 
     ghost starts = { starts };
 

@@ -368,7 +368,7 @@ done_where false room reply other e = e
 
 module _ {O A : Type 0} (object : Sequential O) where
   -- a table tells a call that it is done exactly where the call is taken
-  done-taken : (table : Table O) (c : Call A) → is_done (table_answer object table c) ≡ is_taken table c
+  pub done-taken : (table : Table O) (c : Call A) → is_done (table_answer object table c) ≡ is_taken table c
   done-taken table c =
       let last = session_of table c.client in
       let apart : is_done (other_answer last c) ≡ false = other_not-done (c.number == last_number last)

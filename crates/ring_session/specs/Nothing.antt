@@ -21,16 +21,16 @@ reply content op = unreadable
 abbrev pub next : Content → List ℕ → Content
 next content op = content
 
--- the object: it has one content
-abbrev pub nothing : Sequential Content
-nothing = record { initial = tt; reply = reply; next = next }
-
 abbrev pub snapshot_of : Content → List ℕ
 snapshot_of content = []
 
 abbrev pub restored : List ℕ → Option Content
 restored [] = Some tt
 restored (byte ∷ bytes) = None
+
+-- the object: it has one content
+abbrev pub nothing : Sequential Content
+nothing = record { initial = tt; reply = reply; next = next; snapshot_of = snapshot_of; restored = restored }
 
 -- ---- the laws
 

@@ -1,11 +1,19 @@
 -- How many of the calls that are committed take effect. The replicated log, rules 13 to 15 of docs/PROTOCOL.md.
-use Rattle.std.specs.Prelude.{ℕ, ◌+◌, List, [], ◌∷◌, if◌then◌else◌}
+use Rattle.std.specs.Prelude.{ℕ, ◌+◌, ◌-◌, ◌^◌, min, List, [], ◌∷◌, if◌then◌else◌}
 use Rattle.ring_object.specs.Operations.{Sequential}
 use Rattle.ring_payload.specs.declared.call.Call.{Call}
 use Rattle.ring_session.specs.SessionAnswer.{is_done}
-use Rattle.ring_session.specs.Table.{Table, table_answer, table_next}
+use Rattle.ring_session.specs.Table.{LastCall, Table, table_answer, table_next}
 
 -- how many of these calls, one after the other, take effect by the session table
 abbrev pub done_after : {O A : Type 0} → Sequential O → Table O → List (Call A) → ℕ
 done_after object table [] = 0
 done_after object table (c ∷ more) = (if is_done (table_answer object table c) then 1 else 0) + done_after object (table_next object table c) more
+
+-- how many calls took effect, by a session table: the sum of its clients' last numbers, as far as numbers of 64 bits go
+abbrev pub numbers_in : List (ℕ × LastCall) → ℕ
+numbers_in [] = 0
+numbers_in (s ∷ rest) = s.1.number + numbers_in rest
+
+abbrev pub table_effects : {O : Type 0} → Table O → ℕ
+table_effects table = min (2 ^ 64 - 1) (numbers_in table.sessions)

@@ -48,11 +48,11 @@ pub fn table_law<O: Object>()
 /// Law, for every object: exactly the snapshots of tables that keep the limits are restored, each to the table that it is of.
 /// After every list of calls that keep theirs the table does, so its snapshot is restored to it.
 pub fn snapshot_law<O: Object>()
-    ensures restores { Restores (HasSnapshot O.is_content) (table_snapshot O.snapshot_of) (restored_table O.restored) }
+    ensures restores { Restores (HasSnapshot O.is_content) (table_snapshot O.sequential.snapshot_of) (restored_table O.sequential.restored) }
     ensures reached { (calls : List (Call O.Alloc)) → All KeepsLimits calls
         → HasSnapshot O.is_content (table_after O.sequential calls) }
     ensures comes_back { (calls : List (Call O.Alloc)) → All KeepsLimits calls →
         let table = table_after O.sequential calls in
-        length (table_snapshot O.snapshot_of table) < 2 ^ 64
-        → restored_table O.restored (table_snapshot O.snapshot_of table) ≡ Some table }
+        length (table_snapshot O.sequential.snapshot_of table) < 2 ^ 64
+        → restored_table O.sequential.restored (table_snapshot O.sequential.snapshot_of table) ≡ Some table }
 {}

@@ -21,7 +21,7 @@ impl<A: Allocator + Copy> Model for Nothing<A> {
 }
 
 impl<A: Allocator + Copy + Drop> Object for Nothing<A> {
-    ghost use Rattle.ring_session.specs.Nothing.{is_content, is_readable, nothing, snapshot_of, restored, ignores, replies, restores};
+    ghost use Rattle.ring_session.specs.Nothing.{is_content, is_readable, nothing, ignores, replies, restores};
 
     type Alloc = A;
 
@@ -30,10 +30,6 @@ impl<A: Allocator + Copy + Drop> Object for Nothing<A> {
     ghost is_readable = { is_readable };
 
     ghost sequential = { nothing };
-
-    ghost snapshot_of = { snapshot_of };
-
-    ghost restored = { restored };
 
     ghost starts = { tt };
 

@@ -55,6 +55,13 @@ impl<A: Allocator + Copy> Session<A> {
         })
     }
 
+    /// The number of its last call, 0 before the first.
+    pub fn number(&self) -> u64
+        ensures { result ≡ self.now.number }
+    {
+        self.number
+    }
+
     /// Appends the last call as a snapshot has it; or a front of that, for want of memory.
     pub fn append(&self, out: &mut Vec<u8, A>) -> Result<(), Fault>
         ensures ok { OnOk result (out.new.items ≡ out.old.items ++ last_spelling self.now) }

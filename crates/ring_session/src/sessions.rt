@@ -1,12 +1,13 @@
 //! The session table.
 
-ghost use Rattle.std.specs.Prelude.{◌≡◌, ◌<◌, ◌≤◌, ◌∷◌, [], ◌++◌, List, length, take, vec_len, IfOk, IfErr, OnOk, OnErr, Some, None, IsSome};
+ghost use Rattle.std.specs.Prelude.{◌≡◌, ◌-◌, ◌^◌, min, ◌<◌, ◌≤◌, ◌∷◌, [], ◌++◌, List, length, take, vec_len, IfOk, IfErr, OnOk, OnErr, Some, None, IsSome};
 ghost use Rattle.ring_base.specs.declared.fault.Fault.TheVariants.{Memory, SessionsFull};
 ghost use Rattle.ring_payload.specs.declared.call.Call.{Call};
 ghost use Rattle.ring_object.specs.Snapshots.{Refuses};
 ghost use Rattle.ring_session.specs.Deduplicated.{most_clients};
 ghost use Rattle.ring_session.specs.SessionAnswer.{refusal, reply_in, session_answer};
 ghost use Rattle.ring_session.specs.Snapshots.{table_snapshot, restored_table};
+ghost use Rattle.ring_session.specs.TicketEffects.{numbers_in, table_effects};
 ghost use Rattle.ring_session.specs.Table.{opening, session_of, table_answer, table_next, table_after};
 
 use crate::MAX_CLIENTS;
@@ -16,6 +17,7 @@ use crate::snapshots::{append_clients, append_object, parts_of, read_clients};
 use ring_base::Fault;
 use ring_object::Object;
 use ring_payload::Call;
+use std::alloc::Allocator;
 use std::collections::BTreeMap;
 use std::marker::Model;
 
@@ -90,7 +92,7 @@ impl<O: Object> Sessions<O> {
     /// kept has at most 1,024 bytes, as a call's has (`snapshot_law`).
     pub fn snapshot(&self, out: &mut Vec<u8, O::Alloc>) -> Result<(), Fault>
         ensures content { OnOk result (O.is_content self.now.content) }
-        ensures ok { OnOk result (out.new.items ≡ out.old.items ++ table_snapshot O.snapshot_of self.now) }
+        ensures ok { OnOk result (out.new.items ≡ out.old.items ++ table_snapshot O.sequential.snapshot_of self.now) }
         ensures err { OnErr result (out.new.items ≡ out.old.items) }
         ensures refused { IfErr result (λ fault. fault ≡ Memory) }
     {
@@ -106,7 +108,7 @@ impl<O: Object> Sessions<O> {
     #[tactic(auto, unfolding(crate::specs::Snapshots::sized))]
     fn append(&self, out: &mut Vec<u8, O::Alloc>) -> Result<(), Fault>
         ensures content { OnOk result (O.is_content self.now.content) }
-        ensures ok { OnOk result (out.new.items ≡ out.old.items ++ table_snapshot O.snapshot_of self.now) }
+        ensures ok { OnOk result (out.new.items ≡ out.old.items ++ table_snapshot O.sequential.snapshot_of self.now) }
         ensures front { take (vec_len out.old) out.new.items ≡ out.old.items }
         ensures refused { IfErr result (λ fault. fault ≡ Memory) }
     {
@@ -116,8 +118,8 @@ impl<O: Object> Sessions<O> {
 
     /// The table whose snapshot the bytes are. `BadSnapshot` exactly where they are none, else the table or `Memory`.
     pub fn restore(alloc: O::Alloc, bytes: &[u8]) -> Result<Sessions<O>, Fault>
-        ensures ok { IfOk result (λ sessions. restored_table O.restored bytes.now ≡ Some sessions) }
-        ensures refused { IfErr result (Refuses (restored_table O.restored bytes.now)) }
+        ensures ok { IfOk result (λ sessions. restored_table O.sequential.restored bytes.now ≡ Some sessions) }
+        ensures refused { IfErr result (Refuses (restored_table O.sequential.restored bytes.now)) }
     {
         let Some((count, clients, object)) = parts_of(bytes) else {
             return Err(Fault::BadSnapshot);
@@ -129,6 +131,13 @@ impl<O: Object> Sessions<O> {
             sessions,
             object,
         })
+    }
+
+    /// How many calls took effect: the sum of the clients' last numbers, or the greatest number of 64 bits where that is more.
+    pub fn effects(&self) -> u64
+        ensures { result ≡ table_effects self.now }
+    {
+        sum_of_numbers(&self.sessions)
     }
 
     /// The answer to a client's first call. Its session is put in before the object does the call, so that nothing is
@@ -157,4 +166,15 @@ impl<O: Object> Sessions<O> {
             }
         }
     }
+}
+
+/// The sum of the clients' last numbers, or the greatest number of 64 bits where that is more.
+fn sum_of_numbers<A: Allocator + Copy>(sessions: &BTreeMap<u32, Session<A>, A>) -> u64
+    ensures { result ≡ min (2 ^ 64 - 1) (numbers_in sessions.now.entries) }
+{
+    let mut sum = 0u64;
+    for (_, session) in sessions.iter() {
+        sum = sum.saturating_add(session.number());
+    }
+    sum
 }

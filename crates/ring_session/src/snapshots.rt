@@ -63,7 +63,7 @@ pub fn append_clients<A: Allocator + Copy>(
 /// Appends the object's snapshot behind its length; or nothing, for want of memory.
 pub fn append_object<O: Object>(out: &mut Vec<u8, O::Alloc>, object: &O) -> Result<(), Fault>
     ensures content { OnOk result (O.is_content object.now) }
-    ensures ok { OnOk result (out.new.items ≡ out.old.items ++ sized 8 (O.snapshot_of object.now)) }
+    ensures ok { OnOk result (out.new.items ≡ out.old.items ++ sized 8 (O.sequential.snapshot_of object.now)) }
     ensures err { OnErr result (out.new.items ≡ out.old.items) }
     ensures refused { IfErr result (λ fault. fault ≡ Memory) }
 {

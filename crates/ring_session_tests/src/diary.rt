@@ -29,11 +29,7 @@ impl<A: Allocator + Copy + Drop> Object for Diary<A> {
 
     ghost is_readable = { λ _. true };
 
-    ghost sequential = { record { initial = []; reply = λ content op. length content % 256 ∷ []; next = λ content op. content ++ op } };
-
-    ghost snapshot_of = { λ content. content };
-
-    ghost restored = { λ bytes. Some bytes };
+    ghost sequential = { record { initial = []; reply = λ content op. length content % 256 ∷ []; next = λ content op. content ++ op; snapshot_of = λ content. content; restored = λ bytes. Some bytes } };
 
     ghost starts = { tt };
 

@@ -39,8 +39,8 @@ fn are_fronts<O: Object>(
 {
     for before in 0..world.fixed().count() {
         let proc = Proc::new(before + 1);
-        let node = world.node(proc);
-        let front = is_front(alloc, node.committed(), order)?;
+        let committed = world.committed(proc)?;
+        let front = is_front(alloc, committed.as_slice(), order)?;
         if !front {
             return Ok(false);
         }

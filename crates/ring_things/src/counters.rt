@@ -45,11 +45,7 @@ impl<A: Allocator + Copy + Drop> Object for Counters<A> {
 
     ghost is_readable = { is_readable };
 
-    ghost sequential = { record { initial = zeros; reply = reply; next = next } };
-
-    ghost snapshot_of = { λ counts. spelled 8 counts };
-
-    ghost restored = { values_of };
+    ghost sequential = { record { initial = zeros; reply = reply; next = next; snapshot_of = λ counts. spelled 8 counts; restored = values_of } };
 
     ghost starts = { zeros_IsValues };
 

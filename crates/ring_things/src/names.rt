@@ -61,11 +61,7 @@ impl<A: Allocator + Copy + Drop> Object for Names<A> {
 
     ghost is_readable = { is_readable };
 
-    ghost sequential = { record { initial = []; reply = reply; next = next } };
-
-    ghost snapshot_of = { snapshot_of };
-
-    ghost restored = { set_of };
+    ghost sequential = { record { initial = []; reply = reply; next = next; snapshot_of = snapshot_of; restored = set_of } };
 
     ghost starts = { empty_IsSet };
 

@@ -52,11 +52,7 @@ impl<A: Allocator + Copy + Drop> Object for Queue<A> {
 
     ghost is_readable = { is_readable };
 
-    ghost sequential = { record { initial = []; reply = reply; next = next } };
-
-    ghost snapshot_of = { snapshot_of };
-
-    ghost restored = { queue_of };
+    ghost sequential = { record { initial = []; reply = reply; next = next; snapshot_of = snapshot_of; restored = queue_of } };
 
     ghost starts = { empty_IsQueue };
 

@@ -46,11 +46,7 @@ impl<A: Allocator + Copy + Drop> Object for Registers<A> {
 
     ghost is_readable = { is_readable };
 
-    ghost sequential = { record { initial = zeros; reply = reply; next = next } };
-
-    ghost snapshot_of = { λ values. spelled 8 values };
-
-    ghost restored = { values_of };
+    ghost sequential = { record { initial = zeros; reply = reply; next = next; snapshot_of = λ values. spelled 8 values; restored = values_of } };
 
     ghost starts = { zeros_IsValues };
 

@@ -58,11 +58,11 @@ impl<
           S.sequential.reply;
       next = shelf_next P.sequential.next Q.sequential.next R.sequential.next
           S.sequential.next;
+      snapshot_of = shelf_snapshot P.sequential.snapshot_of Q.sequential.snapshot_of R.sequential.snapshot_of
+          S.sequential.snapshot_of;
+      restored = shelf_of P.sequential.restored Q.sequential.restored R.sequential.restored
+          S.sequential.restored;
     } };
-
-    ghost snapshot_of = { shelf_snapshot P.snapshot_of Q.snapshot_of R.snapshot_of S.snapshot_of };
-
-    ghost restored = { shelf_of P.restored Q.restored R.restored S.restored };
 
     ghost starts = { (P.starts, Q.starts, R.starts, S.starts) };
 
@@ -84,8 +84,8 @@ impl<
 
     ghost restores = { shelves_restore
         P.is_content Q.is_content R.is_content S.is_content
-        P.snapshot_of Q.snapshot_of R.snapshot_of S.snapshot_of
-        P.restored Q.restored R.restored S.restored
+        P.sequential.snapshot_of Q.sequential.snapshot_of R.sequential.snapshot_of S.sequential.snapshot_of
+        P.sequential.restored Q.sequential.restored R.sequential.restored S.sequential.restored
         P.restores Q.restores R.restores S.restores };
 
     fn start(alloc: P::Alloc) -> Result<Self, Fault> {
@@ -153,7 +153,7 @@ impl Place {
 /// Appends the object's snapshot behind its length; or nothing, for want of memory.
 fn append_sized<O: Object>(object: &O, out: &mut Vec<u8, O::Alloc>) -> Result<(), Fault>
     ensures content { OnOk result (O.is_content object.now) }
-    ensures ok { OnOk result (out.new.items ≡ out.old.items ++ sized 8 (O.snapshot_of object.now)) }
+    ensures ok { OnOk result (out.new.items ≡ out.old.items ++ sized 8 (O.sequential.snapshot_of object.now)) }
     ensures err { OnErr result (out.new.items ≡ out.old.items) }
     ensures refused { IfErr result (λ fault. fault ≡ Fault.Memory) }
 {
@@ -179,7 +179,7 @@ fn append_all<
         (AreContents P.is_content Q.is_content R.is_content S.is_content
         (first.now, second.now, third.now, fourth.now)) }
     ensures ok { OnOk result (out.new.items ≡ out.old.items
-        ++ shelf_snapshot P.snapshot_of Q.snapshot_of R.snapshot_of S.snapshot_of
+        ++ shelf_snapshot P.sequential.snapshot_of Q.sequential.snapshot_of R.sequential.snapshot_of S.sequential.snapshot_of
         (first.now, second.now, third.now, fourth.now)) }
     ensures front { take (vec_len out.old) out.new.items ≡ out.old.items }
     ensures refused { IfErr result (λ fault. fault ≡ Fault.Memory) }

@@ -9,7 +9,7 @@ pub(crate) struct Standing {
     pub state: State,
     pub ring: RingId,
     pub members: ProcSet,
-    pub committed: usize,
+    pub committed: u64,
 }
 
 impl Standing {

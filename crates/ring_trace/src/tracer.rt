@@ -293,7 +293,7 @@ impl<O: Object> Tracer<O> {
         };
         let world = self.run.world();
         let node = world.node(world.fixed().proc(sight.node.number())?);
-        let (state, ring, committed) = (node.state(), node.ring(), node.committed().len());
+        let (state, ring, committed) = (node.state(), node.ring(), node.committed_len());
         if ring != standing.ring {
             standing.members = node.members();
             self.changes.push(Change::Ring {
@@ -397,7 +397,7 @@ impl<O: Object> Tracer<O> {
     fn is_logged(&self, node: Proc, before: &[Waiting]) -> Result<bool, Fault> {
         let world = self.run.world();
         let of = world.node(world.fixed().proc(node.number())?);
-        let open = of.log_len().saturating_sub(of.committed().len() as u64);
+        let open = of.log_len().saturating_sub(of.committed_len());
         let mut many = 0u64;
         for waiting in before {
             if waiting.node == node {

@@ -101,7 +101,7 @@ impl<A: Allocator + Copy> Drawing<A> {
             }
             Change::Committed(length) => self.picture.add(Mark::Committed {
                 node,
-                length: *length as u64,
+                length: *length,
             }),
         }
     }

@@ -161,7 +161,7 @@ fn change_value(alloc: Global, change: &Change) -> Result<ChangeValue, Fault>
                 is_primary: share.is_primary,
             }))
         }
-        Change::Committed(length) => Ok(ChangeValue::Committed(*length as u64)),
+        Change::Committed(length) => Ok(ChangeValue::Committed(*length)),
     }
 }
 

@@ -18,7 +18,7 @@ pub enum Change {
         share: Share,
     },
     /// So much of the node's log is committed now.
-    Committed(usize),
+    Committed(u64),
 }
 
 /// The change, in words that follow the node.

@@ -36,12 +36,14 @@ after_read after content None = content
 abbrev pub is_read : {T : Type 0} → (List ℕ → Option T) → List ℕ → Bool
 is_read reading bytes = is_some (reading bytes)
 
--- the object with this content at the start, whose operations are read, replied to and done like this
-abbrev pub typed : {C T : Type 0} → C → (List ℕ → Option T) → (C → T → Replied) → (C → T → C) → Sequential C
-typed initial reading reply_to after = record {
+-- the object with this content at the start, whose operations are read, replied to and done like this, and whose contents are so written and restored
+abbrev pub typed : {C T : Type 0} → C → (List ℕ → Option T) → (C → T → Replied) → (C → T → C) → (C → List ℕ) → (List ℕ → Option C) → Sequential C
+typed initial reading reply_to after snapshot_of restored = record {
   initial = initial;
   reply = λ content bytes. replied (option_map (reply_to content) (reading bytes));
   next = λ content bytes. after_read after content (reading bytes);
+  snapshot_of = snapshot_of;
+  restored = restored;
 }
 
 code_of-lt : (outcome : Outcome) → code_of outcome < 256

@@ -8,6 +8,7 @@ use Rattle.std.proofs.lemmas.Option.{get_or_from_slice_get}
 use Rattle.ring_base.specs.Group.{Group}
 use Rattle.ring_base.specs.Processors.{IsProc}
 use Rattle.ring_object.specs.Operations.{Sequential}
+use Rattle.ring_payload.specs.declared.call.Call.{Call}
 use Rattle.ring_core.specs.State.{Carried}
 use Rattle.ring_rules.specs.Nodes.{Node}
 use Rattle.ring_rules.specs.declared.event.Event.{Event}
@@ -21,9 +22,9 @@ use Rattle.ring_world.proofs.Spared.{get-set_same, get-set_other, set-length}
 
 -- the lists are those of a world, and its processor i stands at place m of the nodes
 pub record Stands {O A : Type 0} (object : Sequential O) (p old : Played A) (nodes : List (Node A)) (spares : List (Spares A))
-    (frames : List (Carried A)) (history : List (Item A)) (i m : ℕ) : Type 0 where
+    (frames : List (Carried A)) (history : List (Item A)) (longest : List (Call A)) (i m : ℕ) : Type 0 where
   pub was : p ≡ old
-  pub world : IsWorld object p.group p.events nodes spares frames history p.told
+  pub world : IsWorld object p.group p.events nodes spares frames history p.told longest
   pub low : 1 ≤ i
   pub at : m ≡ i - 1
   pub inside : m < length nodes
@@ -31,10 +32,10 @@ pub record Stands {O A : Type 0} (object : Sequential O) (p old : Played A) (nod
 -- The place as the code finds it
 
 module _ {O A : Type 0} {object : Sequential O} {p old : Played A} {nodes : List (Node A)} {spares : List (Spares A)}
-    {frames : List (Carried A)} {history : List (Item A)} {i number place many len : ℕ} (was : p ≡ old)
-    (world : IsWorld object p.group p.events nodes spares frames history p.told)
+    {frames : List (Carried A)} {history : List (Item A)} {longest : List (Call A)} {i number place many len : ℕ} (was : p ≡ old)
+    (world : IsWorld object p.group p.events nodes spares frames history p.told longest)
     (number_is : number ≡ i) (proc : IsProc number) (place_is : place ≡ number) (many_is : many ≡ length nodes) (len_is : len ≡ many) where
-  pub stands : place - 1 < len → Stands object p old nodes spares frames history i (place - 1)
+  pub stands : place - 1 < len → Stands object p old nodes spares frames history longest i (place - 1)
   stands inside = record {
     was = was;
     world = world;
@@ -54,15 +55,16 @@ module _ {O A : Type 0} {object : Sequential O} {p old : Played A} {nodes : List
 
 -- lists that are the same, as those in which room was made
 pub roomy : {O A : Type 0} {object : Sequential O} {p old : Played A} {nodes : List (Node A)} {spares : List (Spares A)}
-    {frames frames' : List (Carried A)} {history history' : List (Item A)} {i m : ℕ} {events : List (Event A)} {told : List (Told A)} →
-    Stands object p old nodes spares frames history i m → events ≡ p.events → told ≡ p.told → history' ≡ history → frames' ≡ frames →
-    Stands object (record { group = p.group; events = events; told = told; done = p.done }) old nodes spares frames' history' i m
-roomy {A = A} {p = p} {events = events} {told = told} here e t hs fs =
+    {frames frames' : List (Carried A)} {history history' : List (Item A)} {longest longest' : List (Call A)} {i m : ℕ} {events : List (Event A)}
+    {told : List (Told A)} → Stands object p old nodes spares frames history longest i m → events ≡ p.events → told ≡ p.told → history' ≡ history
+    → frames' ≡ frames → longest' ≡ longest
+    → Stands object (record { group = p.group; events = events; told = told; done = p.done }) old nodes spares frames' history' longest' i m
+roomy {A = A} {p = p} {events = events} {told = told} here e t hs fs ls =
     let of_events : List (Event A) → Played A = λ es. record { group = p.group; events = es; told = told; done = p.done } in
     let of_told : List (Told A) → Played A = λ ts. record { group = p.group; events = p.events; told = ts; done = p.done } in
     record {
       was = ap of_events e ∙ ap of_told t ∙ here.was;
-      world = rw (e, t, hs, fs) here.world;
+      world = rw (e, t, hs, fs, ls) here.world;
       low = here.low;
       at = here.at;
       inside = here.inside;
@@ -88,11 +90,12 @@ not_test : (i j : ℕ) → (i ≡ j → ⊥) → (i == j) ≡ false
 not_test i j f = elim (cases_Bool (i == j)) [ inl t ↦ absurd (f (eqb-true i j t)) | inr e ↦ e ]
 
 module _ {O A : Type 0} {object : Sequential O} {p old : Played A} {nodes : List (Node A)} {spares : List (Spares A)}
-    {frames : List (Carried A)} {history : List (Item A)} {i m : ℕ} (here : Stands object p old nodes spares frames history i m) where
+    {frames : List (Carried A)} {history : List (Item A)} {longest : List (Call A)} {i m : ℕ}
+    (here : Stands object p old nodes spares frames history longest i m) where
   abbrev w : World A
   w = world_of object p
 
-  abbrev kept : IsWorldKept w nodes spares frames history p.told
+  abbrev kept : IsWorldKept w nodes spares frames history p.told longest
   kept = here.world.kept
 
   count : w.group.count ≡ p.group.count
@@ -124,6 +127,10 @@ module _ {O A : Type 0} {object : Sequential O} {p old : Played A} {nodes : List
   -- copies that were put there
   pub spare_put : {s : Spares A} (t : Spares A) → s ≡ get_or (slice_set spares m t) m s → s ≡ t
   spare_put {s} t is = at-set spares m t s spare_there is
+
+  -- a node that was put there
+  pub node_put : {n : Node A} (t : Node A) → n ≡ get_or (slice_set nodes m t) m n → n ≡ t
+  node_put {n} t is = at-set nodes m t n here.inside is
 
   -- Another node
 
@@ -171,19 +178,20 @@ module _ {O A : Type 0} {object : Sequential O} {p old : Played A} {nodes : List
         (c.0, c.1, subst (λ (x : Node A). KeepsCopies x c.0) (sym (put_other n j e)) c.2)
   ]
 
-  pub put_kept : {ss : List (Spares A)} {fs : List (Carried A)} {is : List (Item A)} {ts : List (Told A)} {v : World A} (n : Node A) →
-      v.group ≡ w.group → v.nodes ≡ put w.nodes i n → v.frames ≡ fs → v.history ≡ is → v.told ≡ told_of_events ts →
-      Copied n ss → length ss ≡ length spares → IsWorldKept v (slice_set nodes m n) ss fs is ts
-  put_kept {v = v} n g ns f hs t copied many =
+  pub put_kept : {ss : List (Spares A)} {fs : List (Carried A)} {is : List (Item A)} {ts : List (Told A)} {ls : List (Call A)} {v : World A} (n : Node A) →
+      v.group ≡ w.group → v.nodes ≡ put w.nodes i n → v.frames ≡ fs → v.history ≡ is → v.told ≡ told_of_events ts → v.longest ≡ ls →
+      Copied n ss → length ss ≡ length spares → IsWorldKept v (slice_set nodes m n) ss fs is ts ls
+  put_kept {v = v} n g ns f hs t l copied many =
       let cs : v.group.count ≡ w.group.count = ap (λ (x : Group). x.count) g in
       record {
-        nodes_are = λ j l. nodes_put n j (omega (arith, l, cs)) ∙ ap (λ (x : ℕ → Node A). Some (x (suc j))) (sym ns);
+        nodes_are = λ j below. nodes_put n j (omega (arith, below, cs)) ∙ ap (λ (x : ℕ → Node A). Some (x (suc j))) (sym ns);
         many = set-length nodes m n ∙ kept.many ∙ sym cs;
-        copies = λ j l. (let c = copied j (omega (arith, l, cs)) in (c.0, c.1, subst (λ (x : ℕ → Node A). KeepsCopies (x (suc j)) c.0) (sym ns) c.2));
+        copies = λ j below. (let c = copied j (omega (arith, below, cs)) in (c.0, c.1, subst (λ (x : ℕ → Node A). KeepsCopies (x (suc j)) c.0) (sym ns) c.2));
         copies_many = many ∙ kept.copies_many ∙ sym cs;
         frames_are = sym f;
         history_is = sym hs;
         told_is = sym t;
+        longest_is = sym l;
       }
 
   pub same_nodes : {n : Node A} → n ≡ w.nodes i → slice_set nodes m n ≡ nodes
@@ -208,7 +216,7 @@ module _ {O A : Type 0} {object : Sequential O} {p old : Played A} {nodes : List
   ]
 
   pub spared : {s : Spares A} (t : Spares A) → s ≡ get_or spares m s → t.calls ≡ s.calls →
-      Stands object p old nodes (slice_set spares m t) frames history i m
+      Stands object p old nodes (slice_set spares m t) frames history longest i m
   spared t is same =
       let n = w.nodes i in
       let k : KeepsCopies n t = subst (λ cs. Holds cs n.tickets n.done) (sym same) (copies_are is) in
@@ -223,6 +231,7 @@ module _ {O A : Type 0} {object : Sequential O} {p old : Played A} {nodes : List
             frames_are = kept.frames_are;
             history_is = kept.history_is;
             told_is = kept.told_is;
+            longest_is = kept.longest_is;
           };
           same = here.world.same;
           fit = here.world.fit;

@@ -27,7 +27,7 @@ copies_at group f (s ∷ xs) (suc i) l none = copies_at group (λ j. f (suc j)) 
 
 opens_at : {O A : Type 0} (object : Sequential O) (group : Group) (spares : List (Spares A)) → length spares ≡ group.count →
     AllByRecursion (λ (s : Spares A). s.calls ≡ []) spares → group.count ≤ 16 →
-    IsWorld object group [] (map (node_opening group) (numbers_from 1 group.count)) spares [] [] []
+    IsWorld object group [] (map (node_opening group) (numbers_from 1 group.count)) spares [] [] [] []
 opens_at {A} object group spares many none few =
     let f : ℕ → Node A = node_opening group in
     record {
@@ -39,6 +39,7 @@ opens_at {A} object group spares many none few =
         frames_are = refl;
         history_is = refl;
         told_is = refl;
+        longest_is = refl;
       };
       same = refl;
       fit = tt;
@@ -46,9 +47,10 @@ opens_at {A} object group spares many none few =
     }
 
 pub opens : {O A : Type 0} (object : Sequential O) (group : Group) (events : List (Event A)) (nodes : List (Node A)) (spares : List (Spares A))
-    (frames : List (Carried A)) (history : List (Item A)) (told : List (Told A)) (count : ℕ) → count ≡ group.count → count ≤ 16 → events ≡ []
-    → nodes ≡ map (node_opening group) (numbers_from 1 count) → length spares ≡ count → AllByRecursion (λ (s : Spares A). s.calls ≡ []) spares → frames ≡ []
-    → history ≡ [] → told ≡ [] → IsWorld object group events nodes spares frames history told
-opens object group events nodes spares frames history told count is few a b c d e f t =
+    (frames : List (Carried A)) (history : List (Item A)) (told : List (Told A)) (longest : List (Call A)) (count : ℕ) → count ≡ group.count
+    → count ≤ 16 → events ≡ [] → nodes ≡ map (node_opening group) (numbers_from 1 count) → length spares ≡ count
+    → AllByRecursion (λ (s : Spares A). s.calls ≡ []) spares → frames ≡ []
+    → history ≡ [] → told ≡ [] → longest ≡ [] → IsWorld object group events nodes spares frames history told longest
+opens object group events nodes spares frames history told longest count is few a b c d e f t l =
     let all = b ∙ ap (λ n. map (node_opening group) (numbers_from 1 n)) is in
-    rw (a, all, e, f, t) (opens_at object group spares (c ∙ is) d (omega (arith, is, few)))
+    rw (a, all, e, f, t, l) (opens_at object group spares (c ∙ is) d (omega (arith, is, few)))

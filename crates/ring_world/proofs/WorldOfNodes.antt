@@ -1,10 +1,11 @@
 -- What the code keeps goes on telling the world, event by event.
-use Rattle.std.proofs.Common.{◌≡◌, ℕ, ◌≤◌, true, List, [], ◌∷◌, ◌++◌, length, drop}
+use Rattle.std.proofs.Common.{◌≡◌, ℕ, ◌-◌, ◌≤◌, ◌==◌, true, List, [], ◌∷◌, ◌++◌, length, drop, arith}
 use Rattle.std.proofs.Common.{Option, Some, None, get_or, refl, ap, ◌∙◌, sym, subst, inl, inr, append-nil}
 use Rattle.std.specs.Prelude.{not, slice_set, MatchOption, if◌then◌else◌}
 use Rattle.std.specs.List.{AllByRecursion}
 use Rattle.std.proofs.Math.Seq.{drop-append_seam}
-use Rattle.std.proofs.lemmas.Bool.{and_from}
+use Rattle.std.proofs.lemmas.List.{drop_all}
+use Rattle.std.proofs.lemmas.Bool.{and_from, cond-true, eq-eqb}
 use Rattle.ring_base.specs.Group.{Group}
 use Rattle.ring_base.proofs.Each.{each-push}
 use Rattle.ring_base.proofs.Faults.{was_stopped, was_running}
@@ -12,7 +13,7 @@ use Rattle.ring_wire.specs.Frames.{FrameFits}
 use Rattle.ring_object.specs.Operations.{Sequential}
 use Rattle.ring_core.specs.State.{Sent, Carried}
 use Rattle.ring_rules.specs.declared.input.Input.{Input}
-use Rattle.ring_rules.specs.Nodes.{Node, node_stopped, is_stopped}
+use Rattle.ring_rules.specs.Nodes.{Node, node_kept, node_stopped, is_stopped}
 use Rattle.ring_rules.specs.Stepping.{Answered, node_step, submit_fault, submitted}
 use Rattle.ring_session.specs.Tickets.{Asked}
 use Rattle.ring_base.specs.declared.fault.Fault.{Fault}
@@ -26,35 +27,24 @@ use Rattle.ring_rules.specs.declared.item.Item.{Item}
 use Rattle.ring_rules.specs.declared.item.Item.TheVariants.{Issue as IssuedItem}
 use Rattle.ring_rules.specs.declared.told.Told.{Told}
 use Rattle.ring_rules.specs.declared.told.Told.TheVariants.{Refused as ToldRefused}
-use Rattle.ring_rules.specs.WorldLimits.{EventFits}
 use Rattle.ring_rules.specs.Worlds.{World, world_opening, run, happens, put, after_step, stepped, stepped_if}
-use Rattle.ring_rules.specs.Worlds.{stopped_if, issued_or, issued_if, carried, items_of, told_by}
+use Rattle.ring_rules.specs.Worlds.{stopped_if, issued_or, issued_if, carried, items_of, told_by, calls_past}
 use Rattle.ring_rules.proofs.NodeChanges.{stopped_same}
+use Rattle.ring_order_proof.specs.Counts.{CountsPlaces}
+use Rattle.ring_order_proof.specs.Linear.{EventKeeps}
 use Rattle.ring_order_proof.proofs.Orderly.{run-more}
+use Rattle.ring_order_proof.proofs.Undropped.{all-undropping}
 use Rattle.ring_world.specs.Played.{Played, told_of_events, IsCopy, world_of, told_behind, step_in, runs_in, Goes}
 use Rattle.ring_world.specs.Spares.{Spares, AllLeft, Holds, after_answers}
 use Rattle.ring_world.specs.Keeping.{KeepsCopies, IsWorldKept, IsWorld}
 use Rattle.ring_world.proofs.Spared.{set-length, holds-more}
+use Rattle.ring_world.proofs.EventLimits.{copy_keeps, step_keeps}
 use Rattle.ring_world.proofs.Events.{tells_answers, tells_refusal, tells_memory}
 use Rattle.ring_world.proofs.StoppedNode.{silent}
 use Rattle.ring_world.proofs.AnsweredCopies.{step-goes}
-use Rattle.ring_world.proofs.NodePlaces.{Stands, high, known, node_is, copies_are, copies_set, copies_same, put_kept, same_nodes}
+use Rattle.ring_world.proofs.NodePlaces.{Stands, known, node_is, copies_are, copies_set, copies_same, put_kept, same_nodes}
 
 -- Copies of events
-
-copy_fits : {A : Type 0} (e d : Event A) → IsCopy e d → EventFits e → EventFits d
-copy_fits (Issue i c) d copy fits = subst EventFits (sym copy) fits
-copy_fits (Deliver i k) d copy fits = subst EventFits (sym copy) tt
-copy_fits (Noise i bytes) d copy fits = subst EventFits (sym copy.1) tt
-copy_fits (Timeout i kind) d copy fits = subst EventFits (sym copy) tt
-copy_fits (Stop i) d copy fits = subst EventFits (sym copy) tt
-
-steps_fits : {A : Type 0} (w : World A) (e : Event A) (i : ℕ) → step_in w e ≡ Some i → EventFits e
-steps_fits w (Issue j c) i e = absurd (let q : ⊥ = cc e in q)
-steps_fits w (Deliver j k) i e = tt
-steps_fits w (Noise j bytes) i e = tt
-steps_fits w (Timeout j kind) i e = tt
-steps_fits w (Stop j) i e = tt
 
 copy_happens : {O A : Type 0} (object : Sequential O) (w : World A) (e d : Event A) → IsCopy e d → happens object w d ≡ happens object w e
 copy_happens object w (Issue i c) d copy = ap (happens object w) copy
@@ -75,19 +65,19 @@ idle_is {A = A} object e was same = subst (λ (r : Played A). happens object (wo
 module _ {O A : Type 0} {object : Sequential O} where
   -- an event more
   tells : {group : Group} {events es : List (Event A)} {nodes nodes' : List (Node A)} {spares spares' : List (Spares A)}
-      {frames frames' : List (Carried A)} {history history' : List (Item A)} {told told' : List (Told A)} {v : World A} (e d : Event A) →
-      IsWorld object group events nodes spares frames history told → IsCopy e d → EventFits e →
+      {frames frames' : List (Carried A)} {history history' : List (Item A)} {told told' : List (Told A)} {longest longest' : List (Call A)}
+      {v : World A} (e d : Event A) → IsWorld object group events nodes spares frames history told longest → IsCopy e d → EventKeeps e →
       happens object (run object (world_opening group) events) e ≡ v → v.group ≡ (run object (world_opening group) events).group →
-      IsWorldKept v nodes' spares' frames' history' told' → es ≡ events ++ d ∷ [] →
-      IsWorld object group es nodes' spares' frames' history' told'
-  tells {group} {events} {nodes'} {spares'} {frames'} {history'} {told'} {v} e d h copy fits is same kept es_is =
+      IsWorldKept v nodes' spares' frames' history' told' longest' → es ≡ events ++ d ∷ [] →
+      IsWorld object group es nodes' spares' frames' history' told' longest'
+  tells {group} {events} {nodes'} {spares'} {frames'} {history'} {told'} {longest'} {v} e d h copy fits is same kept es_is =
       let opening = world_opening group in
       let next : run object opening (events ++ d ∷ []) ≡ v =
       run-more object opening events d ∙ copy_happens object (run object opening events) e d copy ∙ is in
       rw es_is record {
-        kept = subst (λ (x : World A). IsWorldKept x nodes' spares' frames' history' told') (sym next) kept;
+        kept = subst (λ (x : World A). IsWorldKept x nodes' spares' frames' history' told' longest') (sym next) kept;
         same = ap (λ (x : World A). x.group) next ∙ same ∙ h.same;
-        fit = each-push EventFits events d h.fit (copy_fits e d copy fits);
+        fit = each-push EventKeeps events d h.fit (copy_keeps e d copy fits);
         few = h.few;
       }
 
@@ -108,34 +98,42 @@ module _ {O A : Type 0} {object : Sequential O} where
 
   module _ {p old : Played A} {es : List (Event A)} (e d : Event A) (was : p ≡ old)
       (same : happens object (world_of object old) e ≡ world_of object old) (copy : IsCopy e d) (es_is : es ≡ p.events ++ d ∷ []) where
-    pub idle_world : {nodes : List (Node A)} {spares : List (Spares A)} {frames : List (Carried A)} {history : List (Item A)} → EventFits e
-        → IsWorld object p.group p.events nodes spares frames history p.told → IsWorld object p.group es nodes spares frames history p.told
+    pub idle_world : {nodes : List (Node A)} {spares : List (Spares A)} {frames : List (Carried A)} {history : List (Item A)} {longest : List (Call A)}
+        → EventKeeps e → IsWorld object p.group p.events nodes spares frames history p.told longest
+        → IsWorld object p.group es nodes spares frames history p.told longest
     idle_world fits h = tells e d h copy fits (idle_is object e was same) refl h.kept es_is
 
     pub idle_goes : {done : ℕ} → Goes object e old (record { group = p.group; events = es; told = p.told; done = done })
     idle_goes = is_done e d [] was copy (idle_is object e was same) (sym (append-nil (world_of object p).told)) es_is (sym (append-nil p.told))
 
+-- nothing is newly committed
+none_past : {A : Type 0} (longest : List (Call A)) (all : ℕ) (calls : List (Call A)) → calls ≡ [] → longest ++ calls_past (length longest) all calls ≡ longest
+none_past longest all calls none =
+    ap (λ xs. longest ++ xs) (ap (calls_past (length longest) all) none ∙ drop_all (0 - (all - length longest)) [] (omega arith)) ∙ append-nil longest
+
 -- what the step of a node gives, and the node after it
 pub record IsStep {O A : Type 0} (object : Sequential O) (n : Node A) (input : Input A) (after : Node A)
-    (sent : List (Sent A)) (answered : List (Answered A)) : Type 0 where
+    (sent : List (Sent A)) (answered : List (Answered A)) (committed : List (Call A)) : Type 0 where
   pub node : after ≡ (node_step object n input).node
   pub sends : sent ≡ (node_step object n input).sends
   pub answers : answered ≡ (node_step object n input).answers
+  pub committed_is : committed ≡ (node_step object n input).committed
 
 module _ {O A : Type 0} {object : Sequential O} {p old : Played A} {nodes : List (Node A)} {spares : List (Spares A)}
-    {frames : List (Carried A)} {history : List (Item A)} {i m : ℕ} (here : Stands object p old nodes spares frames history i m) where
+    {frames : List (Carried A)} {history : List (Item A)} {longest : List (Call A)} {i m : ℕ}
+    (here : Stands object p old nodes spares frames history longest i m) where
   abbrev w : World A
   w = world_of object p
 
-  abbrev kept : IsWorldKept w nodes spares frames history p.told
+  abbrev kept : IsWorldKept w nodes spares frames history p.told longest
   kept = here.world.kept
 
   -- It stepped
 
-  module _ {n after : Node A} {input : Input A} {sent : List (Sent A)} {answered : List (Answered A)} (found : n ≡ get_or nodes m n)
-      (gave : IsStep object n input after sent answered) where
-    gives : IsStep object (w.nodes i) input after sent answered
-    gives = subst (λ (x : Node A). IsStep object x input after sent answered) (node_is here found) gave
+  module _ {n after : Node A} {input : Input A} {sent : List (Sent A)} {answered : List (Answered A)} {committed : List (Call A)}
+      (found : n ≡ get_or nodes m n) (gave : IsStep object n input after sent answered committed) where
+    gives : IsStep object (w.nodes i) input after sent answered committed
+    gives = subst (λ (x : Node A). IsStep object x input after sent answered committed) (node_is here found) gave
 
     pub sends_fit : AllByRecursion (λ (s : Sent A). FrameFits s.frame) (node_step object (w.nodes i) input).sends
         → AllByRecursion (λ (s : Sent A). FrameFits s.frame) sent
@@ -150,28 +148,42 @@ module _ {O A : Type 0} {object : Sequential O} {p old : Played A} {nodes : List
       step_is = subst (λ (r : Played A). happens object (world_of object r) e ≡ stepped object (world_of object r) i input) (sym here.was) same
           ∙ ap (λ b. stepped_if object b w i input) (known here)
 
-      step_keeps : AllLeft s.calls (node_step object (w.nodes i) input).answers
+      step_left : AllLeft s.calls (node_step object (w.nodes i) input).answers
           × Holds (after_answers s.calls (node_step object (w.nodes i) input).answers) (node_step object (w.nodes i) input).node.tickets
           (node_step object (w.nodes i) input).node.done
-      step_keeps = step-goes object (w.nodes i) input s.calls (copies_are here spare)
+      step_left = step-goes object (w.nodes i) input s.calls (copies_are here spare)
 
       -- what a step answers has its copies
       pub answers_left : AllLeft s.calls answered
-      answers_left = subst (AllLeft s.calls) (sym gives.answers) step_keeps.0
+      answers_left = subst (AllLeft s.calls) (sym gives.answers) step_left.0
 
-      pub step_world : {es : List (Event A)} {fs : List (Carried A)} {is : List (Item A)} {ts : List (Told A)} (d : Event A) (s' : Spares A) → IsCopy e d
+      -- the node after it is that of the run in which the event stands
+      pub step_counts : ((events : List (Event A)) → CountsPlaces ((run object (world_opening p.group) events).nodes i)) → CountsPlaces after
+      step_counts counts =
+          let st = node_step object (w.nodes i) input in
+          let one : (run object (world_opening p.group) (p.events ++ e ∷ [])).nodes i ≡ after =
+          ap (λ (x : World A). x.nodes i) (run-more object (world_opening p.group) p.events e ∙ step_is)
+          ∙ cond-true (i == i) st.node (w.nodes i) (eq-eqb i i refl) ∙ sym gives.node in
+          subst (λ (x : Node A). CountsPlaces x) one (counts (p.events ++ e ∷ []))
+
+      pub step_world : {es : List (Event A)} {fs : List (Carried A)} {is : List (Item A)} {ts : List (Told A)} {ls : List (Call A)} (d : Event A)
+          (s' : Spares A) → IsCopy e d
           → step_in (world_of object old) e ≡ Some i → es ≡ p.events ++ d ∷ [] → s'.calls ≡ after_answers s.calls answered
           → fs ≡ frames ++ carried i sent → is ≡ history ++ items_of answered → ts ≡ p.told ++ told_by i answered
-          → IsWorld object p.group es (slice_set nodes m after) (slice_set spares m s') fs is ts
-      step_world d s' copy steps es_is s_is fs_is is_is ts_is =
+          → ls ≡ longest ++ calls_past (length longest) (node_kept after).committed committed
+          → IsWorld object p.group es (slice_set nodes m after) (slice_set spares m s') fs is ts ls
+      step_world d s' copy steps es_is s_is fs_is is_is ts_is ls_is =
           let st = node_step object (w.nodes i) input in
           let keeps : KeepsCopies after s' = subst (λ cs. Holds cs after.tickets after.done) (sym (s_is ∙ ap (after_answers s.calls) gives.answers))
-          (subst (λ (x : Node A). Holds (after_answers s.calls st.answers) x.tickets x.done) (sym gives.node) step_keeps.1) in
-          tells e d here.world copy (steps_fits (world_of object old) e i steps) step_is refl
+          (subst (λ (x : Node A). Holds (after_answers s.calls st.answers) x.tickets x.done) (sym gives.node) step_left.1) in
+          tells e d here.world copy (step_keeps (world_of object old) e i steps) step_is refl
           (put_kept here after refl (ap (λ (x : Node A). put w.nodes i x) (sym gives.node))
           (ap (λ xs. xs ++ carried i st.sends) (sym kept.frames_are) ∙ sym (fs_is ∙ ap (λ xs. frames ++ carried i xs) gives.sends))
           (ap (λ xs. xs ++ items_of st.answers) (sym kept.history_is) ∙ sym (is_is ∙ ap (λ xs. history ++ items_of xs) gives.answers))
           (sym (ap told_of_events (ts_is ∙ ap (λ xs. p.told ++ told_by i xs) gives.answers) ∙ tells_answers p.told w.told kept.told_is i st.answers))
+          (ap (λ (xs : List (Call A)). xs ++ calls_past (length xs) (node_kept st.node).committed st.committed) (sym kept.longest_is)
+          ∙ sym (ls_is ∙ ap (λ (x : Node A). longest ++ calls_past (length longest) (node_kept x).committed committed) gives.node
+          ∙ ap (λ xs. longest ++ calls_past (length longest) (node_kept st.node).committed xs) gives.committed_is))
           (copies_set here after s' keeps) (set-length spares m s')) es_is
 
       pub step_goes : {es : List (Event A)} {ts : List (Told A)} {done : ℕ} (d : Event A) → IsCopy e d → es ≡ p.events ++ d ∷ []
@@ -188,14 +200,14 @@ module _ {O A : Type 0} {object : Sequential O} {p old : Played A} {nodes : List
   stop_is = ap (λ b. stopped_if b w i) (known here)
 
   halted_kept : {n after : Node A} → n ≡ get_or nodes m n → after ≡ node_stopped n
-      → IsWorldKept (stopped_if true w i) (slice_set nodes m after) spares frames history p.told
+      → IsWorldKept (stopped_if true w i) (slice_set nodes m after) spares frames history p.told longest
   halted_kept found halted =
       let now = node_stopped (w.nodes i) in
       rw (halted ∙ ap node_stopped (node_is here found)) (put_kept here now refl refl (sym kept.frames_are)
-      (sym kept.history_is) (sym kept.told_is) (copies_same here now halted_keeps) refl)
+      (sym kept.history_is) (sym kept.told_is) (sym kept.longest_is) (copies_same here now halted_keeps) refl)
 
   pub stop_world : {n after : Node A} {es : List (Event A)} → n ≡ get_or nodes m n → after ≡ node_stopped n → es ≡ p.events ++ Stop i ∷ []
-      → IsWorld object p.group es (slice_set nodes m after) spares frames history p.told
+      → IsWorld object p.group es (slice_set nodes m after) spares frames history p.told longest
   stop_world found halted es_is = tells (Stop i) (Stop i) here.world refl tt stop_is refl (halted_kept found halted) es_is
 
   pub stop_goes : {e : Event A} {es : List (Event A)} {done : ℕ} → e ≡ Stop i → es ≡ p.events ++ Stop i ∷ []
@@ -218,36 +230,26 @@ module _ {O A : Type 0} {object : Sequential O} {p old : Played A} {nodes : List
           let node = w.nodes i in
           let t : is_stopped node.core.state ≡ true = ap (λ (x : Node A). is_stopped x.core.state) (sym (node_is here found))
           ∙ was_stopped (is_stopped n.core.state) fault refused stopped in
-          let g = silent object node input t in
-          let one : (ℕ → Node A) → World A = λ ns. record w {
-            nodes = ns;
-            frames = w.frames ++ carried i
-                (node_step object node input).sends;
-            history = w.history ++ items_of (node_step object node input).answers;
-            told = w.told ++ told_by i (node_step object node input).answers;
-          } in
-          let two : List (Carried A) → World A = λ fs. record w {
-            nodes = put w.nodes i (node_stopped node);
-            frames = fs;
-            history = w.history ++ items_of (node_step object node input).answers;
-            told = w.told ++ told_by i
-                (node_step object node input).answers;
-          } in
-          let three : List (Item A) → World A = λ is. record w {
-            nodes = put w.nodes i (node_stopped node);
-            history = is;
-            told = w.told ++ told_by i (node_step object node input).answers;
-          } in
-          let four : List (Told A) → World A = λ ts. record w { nodes = put w.nodes i (node_stopped node); told = ts } in
-          was ∙ ap (λ b. stepped_if object b w i input) (known here) ∙ ap one (ap (put w.nodes i) (g.node ∙ sym (stopped_same node t)))
-          ∙ ap two (ap (λ xs. w.frames ++ carried i xs) g.sends ∙ append-nil w.frames)
-          ∙ ap three (ap (λ xs. w.history ++ items_of xs) g.answers ∙ append-nil w.history)
-          ∙ ap four (ap (λ xs. w.told ++ told_by i xs) g.answers ∙ append-nil w.told)
+          let g = silent object node input t (all-undropping object p.group p.events i) in
+          let st = node_step object node input in
+          let calls = w.longest ++ calls_past (length w.longest) (node_kept st.node).committed st.committed in
+          let made : (ℕ → Node A) → List (Carried A) → List (Item A) → List (Told A) → List (Call A) → World A = λ ns fs is ts ls.
+          record w { nodes = ns; frames = fs; history = is; told = ts; longest = ls } in
+          let stopped_now = put w.nodes i (node_stopped node) in
+          was ∙ ap (λ b. stepped_if object b w i input) (known here)
+          ∙ ap (λ ns. made ns (w.frames ++ carried i st.sends) (w.history ++ items_of st.answers) (w.told ++ told_by i st.answers) calls)
+          (ap (put w.nodes i) (g.node ∙ sym (stopped_same node t)))
+          ∙ ap (λ fs. made stopped_now fs (w.history ++ items_of st.answers) (w.told ++ told_by i st.answers) calls)
+          (ap (λ xs. w.frames ++ carried i xs) g.sends ∙ append-nil w.frames)
+          ∙ ap (λ is. made stopped_now w.frames is (w.told ++ told_by i st.answers) calls)
+          (ap (λ xs. w.history ++ items_of xs) g.answers ∙ append-nil w.history)
+          ∙ ap (λ ts. made stopped_now w.frames w.history ts calls) (ap (λ xs. w.told ++ told_by i xs) g.answers ∙ append-nil w.told)
+          ∙ ap (made stopped_now w.frames w.history w.told) (none_past w.longest (node_kept st.node).committed st.committed g.committed)
 
       pub silent_world : {after : Node A} {es : List (Event A)} → after ≡ node_stopped n → step_in (world_of object old) e ≡ Some i
-          → es ≡ p.events ++ d ∷ [] → IsWorld object p.group es (slice_set nodes m after) spares frames history p.told
+          → es ≡ p.events ++ d ∷ [] → IsWorld object p.group es (slice_set nodes m after) spares frames history p.told longest
       silent_world halted steps es_is =
-          tells e d here.world copy (steps_fits (world_of object old) e i steps) silent_is refl (halted_kept found halted) es_is
+          tells e d here.world copy (step_keeps (world_of object old) e i steps) silent_is refl (halted_kept found halted) es_is
 
       pub silent_goes : {es : List (Event A)} {done : ℕ} → es ≡ p.events ++ d ∷ []
           → Goes object e old (record { group = p.group; events = es; told = p.told; done = done })
@@ -281,10 +283,10 @@ module _ {O A : Type 0} {object : Sequential O} {p old : Played A} {nodes : List
     issue_is : (o : Option Fault) → submit_fault n ≡ o → happens object w (Issue i c) ≡ issued_or o w i c
     issue_is o is = ap (λ b. issued_if b w i c) (known here) ∙ ap (λ x. issued_or x w i c) (ap submit_fault (sym (node_is here found)) ∙ is)
 
-    pub issue_world : {s : Spares A} {after : Node A} {es : List (Event A)} {is : List (Item A)} {a b : Call A} (s' : Spares A) → EventFits e
+    pub issue_world : {s : Spares A} {after : Node A} {es : List (Event A)} {is : List (Item A)} {a b : Call A} (s' : Spares A) → EventKeeps e
         → submit_fault n ≡ None → after ≡ submitted n c → s ≡ get_or spares m s → a ≡ c → s'.calls ≡ s.calls ++ Some a ∷ []
         → b ≡ c → is ≡ history ++ IssuedItem b ∷ [] → es ≡ p.events ++ d ∷ []
-        → IsWorld object p.group es (slice_set nodes m after) (slice_set spares m s') frames is p.told
+        → IsWorld object p.group es (slice_set nodes m after) (slice_set spares m s') frames is p.told longest
     issue_world {s} {after} s' fits free after_is spare a_is s_is b_is is_is es_is =
         let node = w.nodes i in
         let t : Asked A = record { call = c; since = length node.done } in
@@ -294,10 +296,10 @@ module _ {O A : Type 0} {object : Sequential O} {p old : Played A} {nodes : List
         holds-more s.calls node.tickets node.done t (copies_are here spare) in
         let keeps : KeepsCopies after s' = subst (λ cs. Holds cs after.tickets after.done) (sym calls)
         (subst (λ (x : Node A). Holds (s.calls ++ Some c ∷ []) x.tickets x.done) (sym now) holds) in
-        tells (Issue i c) d here.world copy (subst EventFits event fits) (issue_is None free) refl
+        tells (Issue i c) d here.world copy (subst EventKeeps event fits) (issue_is None free) refl
         (put_kept here after refl (ap (λ (x : Node A). put w.nodes i x) (sym now)) (sym kept.frames_are)
         (ap (λ xs. xs ++ IssuedItem c ∷ []) (sym kept.history_is) ∙ sym (is_is ∙ ap (λ x. history ++ IssuedItem x ∷ []) b_is))
-        (sym kept.told_is) (copies_set here after s' keeps) (set-length spares m s')) es_is
+        (sym kept.told_is) (sym kept.longest_is) (copies_set here after s' keeps) (set-length spares m s')) es_is
 
     pub issue_goes : {es : List (Event A)} {done : ℕ} → submit_fault n ≡ None → es ≡ p.events ++ d ∷ []
         → Goes object e old (record { group = p.group; events = es; told = p.told; done = done })
@@ -315,8 +317,8 @@ module _ {O A : Type 0} {object : Sequential O} {p old : Played A} {nodes : List
       events_are : (f : Fault) → submit_fault n ≡ Some f → fault ≡ f → es ≡ p.events ++ d ∷ []
       events_are f is same = stays (λ q. not_memory n f is (sym same ∙ q))
 
-      refused_world : (o : Option Fault) → submit_fault n ≡ o → MatchOption o (fault ≡ Memory) (λ first. fault ≡ first) → EventFits e
-          → IsWorld object p.group es nodes spares frames history ts
+      refused_world : (o : Option Fault) → submit_fault n ≡ o → MatchOption o (fault ≡ Memory) (λ first. fault ≡ first) → EventKeeps e
+          → IsWorld object p.group es nodes spares frames history ts longest
       refused_world None is first fits = rw (out first) record {
         kept = record {
           nodes_are = kept.nodes_are;
@@ -326,6 +328,7 @@ module _ {O A : Type 0} {object : Sequential O} {p old : Played A} {nodes : List
           frames_are = kept.frames_are;
           history_is = kept.history_is;
           told_is = ap told_of_events (told_is first) ∙ tells_memory p.told w.told kept.told_is i c;
+          longest_is = kept.longest_is;
         };
         same = here.world.same;
         fit = here.world.fit;
@@ -334,7 +337,7 @@ module _ {O A : Type 0} {object : Sequential O} {p old : Played A} {nodes : List
       refused_world (Some f) is first fits =
           let node = node_is here found in
           let told = ap told_of_events (told_is first) ∙ tells_refusal p.told w.told kept.told_is n f i c is in
-          let now : IsWorldKept (issued_or (Some f) w i c) nodes spares frames history ts = record {
+          let now : IsWorldKept (issued_or (Some f) w i c) nodes spares frames history ts longest = record {
             nodes_are = kept.nodes_are;
             many = kept.many;
             copies = kept.copies;
@@ -342,12 +345,13 @@ module _ {O A : Type 0} {object : Sequential O} {p old : Played A} {nodes : List
             frames_are = kept.frames_are;
             history_is = kept.history_is;
             told_is = told;
+            longest_is = kept.longest_is;
           } in
-          tells (Issue i c) d here.world copy (subst EventFits event fits) (issue_is (Some f) is) refl now (events_are f is first)
+          tells (Issue i c) d here.world copy (subst EventKeeps event fits) (issue_is (Some f) is) refl now (events_are f is first)
 
-      pub refusal_world : {after : Node A} → after ≡ n → EventFits e → IsWorld object p.group es (slice_set nodes m after) spares frames history ts
+      pub refusal_world : {after : Node A} → after ≡ n → EventKeeps e → IsWorld object p.group es (slice_set nodes m after) spares frames history ts longest
       refusal_world same fits =
-          subst (λ ns. IsWorld object p.group es ns spares frames history ts) (sym (same_nodes here (same ∙ node_is here found)))
+          subst (λ ns. IsWorld object p.group es ns spares frames history ts longest) (sym (same_nodes here (same ∙ node_is here found)))
           (refused_world (submit_fault n) refl why fits)
 
       refused_to : {done : ℕ} (o : Option Fault) → submit_fault n ≡ o → MatchOption o (fault ≡ Memory) (λ first. fault ≡ first)

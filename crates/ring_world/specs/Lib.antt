@@ -1,6 +1,7 @@
 pub mod Stored
 pub mod Spares
 pub mod Played
+pub mod Longest
 pub mod Ordering
 pub mod Keeping
 pub mod Synchronous

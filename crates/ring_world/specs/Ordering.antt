@@ -1,15 +1,12 @@
--- Which log gives the order of all that nodes committed. Sessions, of docs/PROTOCOL.md.
-use Rattle.std.specs.Prelude.{◌≡◌, ℕ, List, [], map, Option, Some, None, slice_get}
-use Rattle.ring_payload.specs.declared.call.Call.{Call}
-use Rattle.ring_session.specs.Deduplicated.{deduplicated}
-use Rattle.ring_rules.specs.Nodes.{Node, node_committed}
-use Rattle.ring_rules.specs.Orders.{order_of}
+-- How long the order is, by what each node tells of its own committed places. Sessions, of docs/PROTOCOL.md.
+use Rattle.std.specs.Prelude.{ℕ, List, map}
+use Rattle.ring_object.specs.Operations.{Sequential}
+use Rattle.ring_rules.specs.Nodes.{Node, node_kept, effects_at}
 
--- what nodes committed
-abbrev pub logs_of : {A : Type 0} → List (Node A) → List (List (Call A))
-logs_of nodes = map node_committed nodes
+-- how many calls took effect of all that a node has committed, as its sessions tell
+abbrev pub effects_of : {O A : Type 0} → Sequential O → Node A → ℕ
+effects_of object n = effects_at object (node_kept n) (node_kept n).committed
 
--- the log at this place gives the order of all; without a place the order is empty
-abbrev pub IsLongest : {A : Type 0} → List (Node A) → Option ℕ → Type 0
-IsLongest nodes None = order_of (logs_of nodes) ≡ []
-IsLongest {A} nodes (Some place) = (n : Node A) × (slice_get nodes place ≡ Some n) × (order_of (logs_of nodes) ≡ deduplicated (node_committed n))
+-- of each of the nodes
+abbrev pub effects_in : {O A : Type 0} → Sequential O → List (Node A) → List ℕ
+effects_in object nodes = map (λ (n : Node _). effects_of object n) nodes

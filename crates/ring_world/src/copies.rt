@@ -2,9 +2,12 @@
 
 ghost use Rattle.std.specs.Prelude.{◌≡◌, IfOk, IfErr};
 ghost use Rattle.ring_base.specs.declared.fault.Fault.TheVariants.{Memory};
+ghost use Rattle.ring_rules.specs.WorldLimits.{EventFits};
+ghost use Rattle.ring_order_proof.specs.Linear.{EventKeeps};
 ghost use Rattle.ring_world.specs.Played.{IsCopy};
 
 use ring_base::Fault;
+use ring_order_proof::limit_laws::limits_law;
 use ring_payload::Call;
 use ring_rules::Event;
 use std::alloc::Allocator;
@@ -27,13 +30,15 @@ fn copied_bytes<A: Allocator + Copy>(bytes: &Vec<u8, A>) -> Result<Vec<u8, A>, F
     Ok(copy)
 }
 
-/// A copy of the event, or `Memory`.
+/// A copy of the event, or `Memory`. A call in it that keeps the limits of frames keeps those of snapshots.
 pub(crate) fn copied_event<A: Allocator + Copy>(event: &Event<A>) -> Result<Event<A>, Fault>
     ensures ok { IfOk result (λ copy. IsCopy event.now copy) }
+    ensures keeps { IfOk result (λ _. EventFits event.now → EventKeeps event.now) }
     ensures refused { IfErr result (λ fault. fault ≡ Memory) }
 {
     match event {
         Event::Issue(node, call) => {
+            limits_law(call);
             let call = copied_call(call)?;
             Ok(Event::Issue(*node, call))
         }

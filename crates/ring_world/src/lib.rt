@@ -3,6 +3,7 @@
 
 mod copies;
 mod frames;
+mod longest;
 mod order;
 mod pairs;
 mod pump;

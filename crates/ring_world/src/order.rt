@@ -1,26 +1,32 @@
-//! Which node's log gives the longest order.
+//! How long the order is, and how many places a node has committed.
 
-ghost use Rattle.std.specs.Prelude.{◌≡◌, ◌<◌, length, MatchOption, Some};
-ghost use Rattle.ring_rules.specs.Orders.{order_of};
-ghost use Rattle.ring_rules.specs.Nodes.{Node as ToldNode, node_committed};
-ghost use Rattle.ring_world.specs.Ordering.{IsLongest, logs_of};
+ghost use Rattle.std.specs.Prelude.{◌≡◌};
+ghost use Rattle.ring_base.specs.Numbers.{greatest};
+ghost use Rattle.ring_rules.specs.Nodes.{node_kept};
+ghost use Rattle.ring_order_proof.specs.Counts.{CountsPlaces};
+ghost use Rattle.ring_world.specs.Ordering.{effects_in};
 
 use ring_node::Node;
 use ring_object::Object;
 
-/// The first of the nodes whose log gives the longest order, if one gives any, and how long that is.
-pub(crate) fn longest<O: Object>(nodes: &[Node<O>]) -> (Option<usize>, u64)
-    ensures len { result.1 ≡ length (order_of (logs_of nodes.now)) }
-    ensures place { IsLongest nodes.now result.0 }
+/// The most calls that took effect at one of the nodes.
+pub(crate) fn most_effects<O: Object>(nodes: &[Node<O>]) -> u64
+    ensures { result ≡ greatest (effects_in O.sequential nodes.now) }
 {
-    let mut longest = None;
     let mut most = 0;
-    for (place, node) in nodes.iter().enumerate() {
+    for node in nodes {
         let len = node.order_len();
         if len > most {
-            longest = Some(place);
             most = len;
         }
     }
-    (longest, most)
+    most
+}
+
+/// How many places the node has committed, dropped ones included.
+pub(crate) fn committed_len<O: Object>(node: &Node<O>) -> u64
+    requires { CountsPlaces node.now }
+    ensures { result ≡ (node_kept node.now).committed }
+{
+    node.trimmed() + node.committed().len() as u64
 }

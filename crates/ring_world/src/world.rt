@@ -9,15 +9,17 @@ ghost use Rattle.ring_base.specs.Fault.{fault_number};
 ghost use Rattle.ring_base.specs.declared.fault.Fault.TheVariants.{Memory, Stopped as StoppedFault};
 ghost use Rattle.ring_wire.specs.Frames.{FrameFits};
 ghost use Rattle.ring_core.specs.State.{Sent as OneSent, Carried, frame_at};
+ghost use Rattle.ring_log.specs.Lives.{committed_of};
 ghost use Rattle.ring_session.specs.Deduplicated.{deduplicated};
 ghost use Rattle.ring_rules.specs.NodeLimits.{InputFits};
-ghost use Rattle.ring_rules.specs.Nodes.{node_opening, node_committed, node_stopped, is_stopped};
+ghost use Rattle.ring_rules.specs.Nodes.{node_opening, node_stopped, is_stopped};
 ghost use Rattle.ring_rules.specs.Stepping.{node_step};
 ghost use Rattle.ring_rules.specs.declared.event.Event.TheVariants.{Issue, Deliver, Stop};
 ghost use Rattle.ring_rules.specs.declared.told.Told.TheVariants.{Refused as ToldRefused};
 ghost use Rattle.ring_rules.specs.Histories.{IsLinearization};
 ghost use Rattle.ring_rules.specs.WorldLimits.{EventFits};
-ghost use Rattle.ring_rules.specs.Worlds.{carried, happens, stepped, order, world_opening};
+ghost use Rattle.ring_rules.specs.Worlds.{carried, happens, stepped, order, lives_of, world_opening};
+ghost use Rattle.ring_order_proof.specs.Linear.{EventKeeps, Follows, FollowsOrder};
 ghost use Rattle.ring_order_proof.specs.Projection.{share_of};
 ghost use Rattle.ring_world.specs.Played.{Played, played_opening, told_of_events, world_of, step_in, Goes, Plays};
 ghost use Rattle.ring_world.specs.Stored.{HasRoom, text_of};
@@ -26,17 +28,19 @@ ghost use Rattle.ring_world.specs.Synchronous.{IsSynchronous};
 
 use crate::copies::{copied_call, copied_event};
 use crate::frames::Frames;
-use crate::order::longest;
+use crate::longest::Longest;
+use crate::order::{committed_len, most_effects};
 use crate::spares::Spares;
 use crate::telling::tell;
 use ring_base::{Fault, Fixed, Proc, ProcSet};
 use ring_node::{Input, Node, Outs, Sent};
 use ring_object::Object;
+use ring_order_proof::effect_laws::effects_law;
 use ring_order_proof::frame_laws::{few_law, frames_law, pending_law};
 use ring_order_proof::laws::linear_law;
+use ring_order_proof::longest_laws::longest_law;
 use ring_payload::Call;
 use ring_rules::{Event, Item, Told};
-use ring_session::effects_of;
 use ring_wire::Frame;
 use std::alloc::Allocator;
 use std::marker::Model;
@@ -54,6 +58,7 @@ pub struct World<O: Object> {
     frames: Frames<O::Alloc>,
     history: Vec<Item<O::Alloc>, O::Alloc>,
     told: Vec<Told<O::Alloc>, O::Alloc>,
+    longest: Longest<O::Alloc>,
     events: Vec<Event<O::Alloc>, O::Alloc>,
     done: u64,
 }
@@ -66,7 +71,8 @@ impl<O: Object> Model for World<O> {
 
     ghost view = { λ w. record { group = w.fixed; events = w.events.items; told = w.told.items; done = w.done } };
 
-    ghost invariant = { λ w. IsWorld O.sequential w.fixed w.events.items w.nodes.items w.spares.items w.frames.frames w.history.items w.told.items };
+    ghost invariant = { λ w. IsWorld O.sequential w.fixed w.events.items w.nodes.items w.spares.items w.frames.frames w.history.items w.told.items
+        w.longest.calls };
 }
 
 impl<O: Object> World<O> {
@@ -86,6 +92,7 @@ impl<O: Object> World<O> {
             frames: Frames::new(alloc),
             history: Vec::new(alloc),
             told: Vec::new(alloc),
+            longest: Longest::new(alloc),
             events: Vec::new(alloc),
             done: 0,
         })
@@ -106,7 +113,10 @@ impl<O: Object> World<O> {
         ensures explains { let w = world_of O.sequential self.new in IsLinearization O.sequential (order w) w.history }
         ensures grows { IsFront (order (world_of O.sequential self.old)) (order (world_of O.sequential self.new)) }
         ensures fronts { (node : ℕ) → 1 ≤ node → node ≤ self.new.group.count →
-            let w = world_of O.sequential self.new in IsFront (deduplicated (node_committed (w.nodes node))) (order w) }
+            let w = world_of O.sequential self.new in IsFront (deduplicated (committed_of self.new.group (lives_of w node))) (order w) }
+        ensures follows { (node : ℕ) → 1 ≤ node → node ≤ self.new.group.count →
+            let w = world_of O.sequential self.new in
+            Follows O.sequential (w.nodes node) (committed_of self.new.group (lives_of w node)) × FollowsOrder O.sequential (w.nodes node) (order w) }
         ensures synchronous { IsSynchronous O.sequential self.new.group self.new.events }
         ensures outs_grow { IsFront (share_of O.sequential (world_opening self.old.group) self.old.events).outs
             (share_of O.sequential (world_opening self.new.group) self.new.events).outs }
@@ -114,7 +124,17 @@ impl<O: Object> World<O> {
     {
         linear_law::<O>();
         self.done = 0;
-        self.run_all(events)
+        let ran = self.run_all(events);
+        self.keeps();
+        ran
+    }
+
+    /// Each call that was issued keeps the limits.
+    fn keeps(&self)
+        ensures few { self.now.group.count ≤ 16 }
+        ensures keep { AllByRecursion EventKeeps self.now.events }
+    {
+        let _ = &self.alloc;
     }
 
     /// Runs the events, of which none is done.
@@ -176,28 +196,30 @@ impl<O: Object> World<O> {
         ensures ok { IfOk result (λ calls. calls.items ≡ order (world_of O.sequential self.now)) }
         ensures refused { IfErr result (λ fault. fault ≡ Memory) }
     {
-        let (place, _) = longest(&self.nodes);
-        match place {
-            Some(place) => effects_of(self.alloc, self.nodes[place].committed()),
-            None => Ok(Vec::new(self.alloc)),
-        }
+        longest_law::<O>();
+        self.longest.order(self.alloc)
     }
 
     /// How long the order is.
     pub fn order_len(&self) -> u64
         ensures { result ≡ length (order (world_of O.sequential self.now)) }
     {
-        let (_, len) = longest(&self.nodes);
-        len
+        effects_law::<O>();
+        most_effects(&self.nodes)
     }
 
-    /// The committed places of a node. Or `Memory`.
+    /// The committed places of a node from the log's beginning, also those that it has dropped, and those that a snapshot stands
+    /// for that it restored. Or `Memory`.
     pub fn committed(&self, node: Proc) -> Result<Vec<Call<O::Alloc>, O::Alloc>, Fault>
         requires { node ≤ self.now.group.count }
-        ensures ok { IfOk result (λ calls. calls.items ≡ node_committed ((world_of O.sequential self.now).nodes node)) }
+        ensures ok { IfOk result (λ calls. calls.items ≡ committed_of self.now.group (lives_of (world_of O.sequential self.now) node)) }
         ensures refused { IfErr result (λ fault. fault ≡ Memory) }
     {
-        copied_calls(self.alloc, self.node(node).committed())
+        longest_law::<O>();
+        effects_law::<O>();
+        let place = usize::from(node.number()) - 1;
+        let many = committed_len(&self.nodes[place]);
+        self.longest.first(self.alloc, many)
     }
 
     /// A node.
@@ -298,6 +320,7 @@ impl<O: Object> World<O> {
         few_law::<O>();
         pending_law::<O>();
         frames_law::<O>();
+        effects_law::<O>();
         let place = usize::from(node.number()) - 1;
         if place >= self.nodes.len() {
             return self.idle(event);
@@ -308,13 +331,16 @@ impl<O: Object> World<O> {
             &mut self.told,
             &mut self.history,
             &mut self.frames,
+            &mut self.longest,
         )?;
         match hand(&mut self.nodes[place], input) {
             Ok(outs) => {
                 let Outs {
                     sends,
                     answers,
-                    committed: _,
+                    committed,
+                    dropped: _,
+                    restored: _,
                 } = outs;
                 keep_all(&mut self.frames, node, &sends);
                 tell(
@@ -324,6 +350,8 @@ impl<O: Object> World<O> {
                     node,
                     answers,
                 );
+                let many = committed_len(&self.nodes[place]);
+                self.longest.add(many, committed);
                 self.events.push_reserved(kept);
             }
             Err(fault) => match fault {
@@ -381,6 +409,7 @@ impl<O: Object> World<O> {
             &mut self.told,
             &mut self.history,
             &mut self.frames,
+            &mut self.longest,
         )?;
         self.spares[place].make_room()?;
         match self.nodes[place].submit_on(call) {
@@ -494,6 +523,7 @@ fn make_room<A: Allocator + Copy>(
     told: &mut Vec<Told<A>, A>,
     history: &mut Vec<Item<A>, A>,
     frames: &mut Frames<A>,
+    longest: &mut Longest<A>,
 ) -> Result<(), Fault>
     ensures events { events.new.items ≡ events.old.items }
     ensures events_room { OnOk result (vec_len events.new + 1 ≤ vec_capacity events.new) }
@@ -503,12 +533,15 @@ fn make_room<A: Allocator + Copy>(
     ensures history_room { OnOk result (vec_len history.new + 64 ≤ vec_capacity history.new) }
     ensures frames { frames.new.frames ≡ frames.old.frames }
     ensures frames_room { OnOk result (HasRoom 64 frames.new) }
+    ensures longest { longest.new.calls ≡ longest.old.calls }
+    ensures longest_room { OnOk result (0 < longest.new.places) }
     ensures refused { IfErr result (λ fault. fault ≡ Memory) }
 {
     events.reserve(1)?;
     told.reserve(ANSWERS)?;
     history.reserve(ANSWERS)?;
-    frames.make_room()
+    frames.make_room()?;
+    longest.make_room()
 }
 
 /// Keeps the frames that a node sent. They keep their limits, and there is room.
@@ -520,18 +553,6 @@ fn keep_all<A: Allocator + Copy>(frames: &mut Frames<A>, from: Proc, sends: &[Se
     for sent in sends {
         frames.keep(from, sent.to, &sent.frame);
     }
-}
-
-/// A copy of the calls, or `Memory`.
-fn copied_calls<A: Allocator + Copy>(alloc: A, calls: &[Call<A>]) -> Result<Vec<Call<A>, A>, Fault>
-    ensures ok { IfOk result (λ copies. copies.items ≡ calls.now) }
-    ensures refused { IfErr result (λ fault. fault ≡ Memory) }
-{
-    let mut copies = Vec::with_capacity(alloc, calls.len())?;
-    for call in calls {
-        copies.push(copied_call(call)?)?;
-    }
-    Ok(copies)
 }
 
 /// A step gives at most so many answers.

@@ -44,10 +44,10 @@ impl<O: Object> Driven<O> {
         run_lines(&mut self.world, self.alloc, &[line])
     }
 
-    /// So many calls of client 7 are submitted at node 1, from number 1 on.
-    fn issue_all(&mut self, many: u8) -> Result<(), Fault> {
+    /// From this number on, so many calls of client 7 are submitted at node 1.
+    fn issue_all(&mut self, first: u16, many: u16) -> Result<(), Fault> {
         for before in 0..many {
-            self.happen(Line::Issue(1, before.saturating_add(1)))?;
+            self.happen(Line::Issue(1, first.saturating_add(before)))?;
         }
         Ok(())
     }
@@ -94,7 +94,7 @@ impl<O: Object> Driven<O> {
     fn play(&mut self, line: Line, shown: &mut String<O::Alloc>) -> Result<(), Fault> {
         match line {
             Line::Pump(turns) => self.pump(turns),
-            Line::Issues(many) => self.issue_all(many),
+            Line::Issues(first, many) => self.issue_all(first, many),
             Line::Show => write_world(shown, &self.world),
             _ => self.happen(line),
         }
@@ -118,4 +118,16 @@ pub fn played<O: Object>(
 ) -> Result<String<O::Alloc>, Fault> {
     let mut driven = Driven::<O>::new(alloc, count)?;
     driven.play_all(lines)
+}
+
+/// The world of so many nodes after the lines.
+pub fn world_after<O: Object>(
+    alloc: O::Alloc,
+    count: u8,
+    lines: &[Line],
+) -> Result<World<O>, Fault> {
+    let mut driven = Driven::<O>::new(alloc, count)?;
+    driven.play_all(lines)?;
+    let Driven { world, .. } = driven;
+    Ok(world)
 }

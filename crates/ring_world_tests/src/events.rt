@@ -15,7 +15,7 @@ use std::alloc::Allocator;
 #[derive(Clone, Copy)]
 pub enum Line {
     /// Client 7's call of this number, `add 0 5` on an object of counters, is submitted there.
-    Issue(u8, u8),
+    Issue(u8, u16),
     /// The frame of this number is handed to it.
     Hand(u8, u64),
     /// Two bytes come to it that are no frame.
@@ -24,8 +24,8 @@ pub enum Line {
     Join(u8),
     /// It stops.
     Stop(u8),
-    /// So many calls of client 7 are submitted at node 1, from number 1 on.
-    Issues(u8),
+    /// From this number on, so many calls of client 7 are submitted at node 1.
+    Issues(u16, u16),
     /// So many copies of frames are handed over.
     Pump(u8),
     /// The world is shown.
@@ -39,7 +39,7 @@ fn processor(number: u8) -> Result<Proc, Fault> {
 }
 
 /// Client 7's call of this number, `add 0 5`.
-fn call_of<A: Allocator + Copy>(alloc: A, number: u8) -> Result<Call<A>, Fault>
+fn call_of<A: Allocator + Copy>(alloc: A, number: u16) -> Result<Call<A>, Fault>
     ensures { IfOk result (λ call. CallFits call) }
 {
     let add = Counters::add(0, 5);
@@ -47,7 +47,7 @@ fn call_of<A: Allocator + Copy>(alloc: A, number: u8) -> Result<Call<A>, Fault>
 }
 
 /// The event that this call is submitted there.
-fn issue<A: Allocator + Copy>(alloc: A, node: Proc, number: u8) -> Result<Event<A>, Fault>
+fn issue<A: Allocator + Copy>(alloc: A, node: Proc, number: u16) -> Result<Event<A>, Fault>
     ensures { IfOk result (λ event. EventFits event) }
 {
     let call = call_of(alloc, number)?;
@@ -71,7 +71,7 @@ fn event_of<A: Allocator + Copy>(alloc: A, line: Line) -> Result<Event<A>, Fault
         Line::Noise(node) => noise(alloc, processor(node)?),
         Line::Join(node) => Ok(Event::Timeout(processor(node)?, Kind::Join)),
         Line::Stop(node) => Ok(Event::Stop(processor(node)?)),
-        Line::Issues(_) | Line::Pump(_) | Line::Show => Err(Fault::BadScript),
+        Line::Issues(_, _) | Line::Pump(_) | Line::Show => Err(Fault::BadScript),
     }
 }
 

@@ -14,3 +14,5 @@ mod memory;
 mod seen;
 #[cfg(test)]
 mod tests;
+#[cfg(test)]
+mod trimmed;

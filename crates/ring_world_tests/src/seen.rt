@@ -54,10 +54,15 @@ fn name_of(state: State) -> &'static str {
     }
 }
 
-/// How many places of a node's log are committed, and how many it has.
+/// How many places of a node's log are committed and how many it has, and how many of them it has dropped, if any.
 fn write_log<O: Object>(text: &mut String<O::Alloc>, node: &Node<O>) -> Result<(), AllocError> {
-    let (committed, log) = (node.committed().len(), node.log_len());
-    writeln!(text, "committed {committed} log {log}")
+    let (trimmed, log) = (node.trimmed(), node.log_len());
+    let committed = trimmed.saturating_add(node.committed().len() as u64);
+    write!(text, "committed {committed} log {log}")?;
+    if trimmed > 0 {
+        write!(text, " trimmed {trimmed}")?;
+    }
+    writeln!(text)
 }
 
 /// An answer, or the reason of a refusal.

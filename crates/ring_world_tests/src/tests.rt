@@ -100,7 +100,7 @@ events 212 history 2 order 1 7.1
 
 /// 64 tickets may wait for their answers. A stopped node takes no call, and nothing else changes it.
 const REFUSED: [Line; 5] = [
-    Line::Issues(65),
+    Line::Issues(1, 65),
     Line::Stop(1),
     Line::Issue(1, 66),
     Line::Join(1),

@@ -124,7 +124,7 @@ fn vain_polls<P: Port>(client: &Client<P>) -> u64 {
 
 /// All nodes hear each other again: this one calls for the others, and the network takes its turns. How many calls the node
 /// has committed then, and how many the order has.
-fn heal<O: Object>(shared: &Shared<O>, node: Proc) -> Result<(usize, u64), Fault> {
+fn heal<O: Object>(shared: &Shared<O>, node: Proc) -> Result<(u64, u64), Fault> {
     let mut network = shared.try_borrow_mut().map_err(|_| Fault::NoAnswer)?;
     let everybody = network.world().fixed().everybody();
     network.cut(everybody);
@@ -134,7 +134,7 @@ fn heal<O: Object>(shared: &Shared<O>, node: Proc) -> Result<(usize, u64), Fault
     }
     let world = network.world();
     let node = world.fixed().proc(node.number())?;
-    Ok((world.node(node).committed().len(), world.order_len()))
+    Ok((world.node(node).committed_len(), world.order_len()))
 }
 
 /// The count that a counter's reply tells, 0 where it tells none.

@@ -39,11 +39,7 @@ impl<A: Allocator + Copy + Drop> Object for Locks<A> {
 
     ghost is_readable = { is_read reading };
 
-    ghost sequential = { typed (zeros 256) reading reply_to after };
-
-    ghost snapshot_of = { snapshot_of };
-
-    ghost restored = { table_of 256 };
+    ghost sequential = { typed (zeros 256) reading reply_to after snapshot_of (table_of 256) };
 
     ghost starts = { zeros_IsTable 256 };
 

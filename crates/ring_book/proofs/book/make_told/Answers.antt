@@ -1,4 +1,4 @@
-use Rattle.std.proofs.Common.{◌+◌, ◌<◌, ◌∙◌, arith, length, length-set, refl}
+use Rattle.std.proofs.Common.{◌<◌, ◌∙◌, arith, length, length-set, refl}
 use Rattle.std.proofs.lemmas.Option.{slice_get_read}
 use Rattle.ring_book.proofs.Entering.{roomier-refl, roomier-set, room-set, room-all}
 use Rattle.ring_book.proofs.book.make_told.Goals as goal

@@ -1,4 +1,4 @@
-use Rattle.std.proofs.Common.{◌≤◌, length, ◌≡◌}
+use Rattle.std.proofs.Common.{length, ◌≡◌}
 use Rattle.ring_book.specs.Told.{AreRoomier}
 use Rattle.ring_book.proofs.Entering.{HaveRoom}
 use Rattle.ring_book.proofs.book.make_told.Given as goal

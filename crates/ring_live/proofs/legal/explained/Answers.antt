@@ -10,6 +10,6 @@ returns-clause-ok g c =
     let events = events_of c.args.book.now.lines in
     let w = run g.O.Object.sequential (world_opening group) events in
     let by_run = subst (λ history. IsLinearization g.O.Object.sequential (order w) history)
-    c.run_law.ensures.run.history (c.linear_law.ensures.explains group events c.run_law.ensures.few) in
+    c.run_law.ensures.run.history (c.linear_law.ensures.explains group events c.run_law.ensures.few c.run_law.ensures.run.keep) in
     let by_order = subst (λ calls. IsLinearization g.O.Object.sequential calls (history_of c.args.book.now.lines)) (sym c.in_ok-order.ensures.ok) by_run in
     subst (λ history. IsLinearization g.O.Object.sequential c.in_ok-order.order.items history) (sym c.in_ok-history.ensures.ok) by_order

@@ -1,6 +1,5 @@
 use Rattle.std.proofs.Common.{refl}
-use Rattle.ring_log_proof.proofs.Moment.{adopted-base, adopted-first, adopted-plain}
-use Rattle.ring_log_proof.proofs.Sound.{keeps-all}
+use Rattle.ring_log_proof.proofs.Moment.{adopted-base, adopted-first, keeps-all}
 use Rattle.ring_log_proof.proofs.laws.adoption_law.Goals as goal
 
 pub returns-clause-base : goal.returns-clause-base
@@ -14,8 +13,3 @@ returns-clause-first g c = λ group m p s older whole w there exch wants.
 
 pub returns-clause-committed : goal.returns-clause-committed
 returns-clause-committed g c = λ group m. keeps-all group m.lives m.members m.text m.facts m.discipline
-
-pub returns-clause-whole_logs : goal.returns-clause-whole_logs
-returns-clause-whole_logs g c = λ group m p s older whole w there exch wants.
-    adopted-plain group m.lives m.members m.text m.facts m.discipline p s.ring (record { stay = s; older = older; there = there; ring = refl }) whole w
-    exch wants

@@ -1,5 +1,5 @@
 use Rattle.std.specs.Prelude.{Contains}
-use Rattle.ring_log_proof.proofs.Living.{events-on, lives-orderly, lives-known}
+use Rattle.ring_log_proof.proofs.Living.{events-on, lives-orderly, lives-dropping, lives-known}
 use Rattle.ring_log_proof.proofs.laws.life_law.Goals as goal
 
 pub returns-clause-goes_on : goal.returns-clause-goes_on
@@ -10,3 +10,6 @@ returns-clause-discipline g c = lives-orderly
 
 pub returns-clause-issued : goal.returns-clause-issued
 returns-clause-issued g c = λ issued. lives-known (Contains issued)
+
+pub returns-clause-drops : goal.returns-clause-drops
+returns-clause-drops g c = lives-dropping

@@ -33,9 +33,21 @@ returns-clause-answers g c =
 
 pub returns-clause-committed : goal.returns-clause-committed
 returns-clause-committed g c =
-    subst (λ (s : ReplicaStepped _). IfOk c.follow.result (λ given. given.committed.items ≡ s.committed))
+    subst (λ (s : ReplicaStepped _). IfOk c.follow.result (λ given. given.committed.items ≡ s.replica.doing))
     (followed-as g.O.Object.sequential c.args.core.now c.hear.new.self c.args.replica.now (FrameInput c.args.frame.now) c.in_ok-outs.outs.items
     c.in_ok-outs.ensures.ok c.in_ok-outs.ensures.outs) c.follow.ensures.committed
+
+pub returns-clause-dropped : goal.returns-clause-dropped
+returns-clause-dropped g c =
+    subst (λ (s : ReplicaStepped _). IfOk c.follow.result (λ given. given.dropped.items ≡ s.replica.leaving))
+    (followed-as g.O.Object.sequential c.args.core.now c.hear.new.self c.args.replica.now (FrameInput c.args.frame.now) c.in_ok-outs.outs.items
+    c.in_ok-outs.ensures.ok c.in_ok-outs.ensures.outs) c.follow.ensures.dropped
+
+pub returns-clause-restored : goal.returns-clause-restored
+returns-clause-restored g c =
+    subst (λ (s : ReplicaStepped _). IfOk c.follow.result (λ given. given.restored ≡ s.restored))
+    (followed-as g.O.Object.sequential c.args.core.now c.hear.new.self c.args.replica.now (FrameInput c.args.frame.now) c.in_ok-outs.outs.items
+    c.in_ok-outs.ensures.ok c.in_ok-outs.ensures.outs) c.follow.ensures.restored
 
 pub returns-clause-core : goal.returns-clause-core
 returns-clause-core g c =

@@ -1,16 +1,13 @@
-use Rattle.std.proofs.Common.{[], ap, ◌∙◌}
-use Rattle.ring_session.specs.Table.{opening}
-use Rattle.ring_session.specs.Tickets.{answers_after}
-use Rattle.ring_rules.specs.Worlds.{world_opening, run}
+use Rattle.ring_session.specs.SnapshotsLaws.{tables_restore}
+use Rattle.ring_session.specs.Table.{table_after}
+use Rattle.ring_session.proofs.SnapshotTables.{HasSnapshot-after}
 use Rattle.ring_order_proof.proofs.DoneCalls.{all_done}
 use Rattle.ring_order_proof.proofs.frame_laws.done_law.Goals as goal
 
-pub returns-clause-calls : goal.returns-clause-calls
-returns-clause-calls g c = λ group events i. (all_done g.O.Object.sequential group events i).calls
-
-pub returns-clause-answers : goal.returns-clause-answers
-returns-clause-answers g c = λ group events i.
-    let object = g.O.Object.sequential in
-    let n = (run object (world_opening group) events).nodes i in
-    let h = all_done object group events i in
-    h.answers ∙ ap (answers_after object (opening object.initial) n.tickets []) h.calls
+pub returns : goal.returns
+returns g c = λ group events node few limits low high.
+    let O = g.O.Object in
+    let laws = g.met.O.Object in
+    let restored = tables_restore O.is_content O.sequential.snapshot_of O.sequential.restored laws.restores in
+    all_done O.sequential group few (λ calls keep short. restored.same (table_after O.sequential calls)
+    (HasSnapshot-after O.sequential O.is_content laws.keeps laws.replies calls keep laws.starts) short) events limits node low high

@@ -14,8 +14,11 @@ returns-clause-refused g c = refused-is
 pub returns-clause-given : goal.returns-clause-given
 returns-clause-given g c = given-is
 
-pub returns-clause-log : goal.returns-clause-log
-returns-clause-log g c = λ n. refl
+pub returns-clause-length : goal.returns-clause-length
+returns-clause-length g c = λ n. refl
+
+pub returns-clause-trimmed : goal.returns-clause-trimmed
+returns-clause-trimmed g c = λ n. refl
 
 pub returns-clause-committed : goal.returns-clause-committed
 returns-clause-committed g c = λ n. refl

@@ -7,7 +7,7 @@ pub returns : goal.returns
 returns g c =
     let O = g.O.Object in
     let laws = g.met.O.Object in
-    let restores = tables_restore O.is_content O.snapshot_of O.restored laws.restores in
+    let restores = tables_restore O.is_content O.sequential.snapshot_of O.sequential.restored laws.restores in
     let after = HasSnapshot-after O.sequential O.is_content laws.keeps laws.replies in
     record {
       restores = restores;

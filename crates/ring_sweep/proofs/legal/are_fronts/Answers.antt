@@ -3,7 +3,8 @@ use Rattle.ring_base.specs.Fronts.{IsFront}
 use Rattle.ring_base.specs.Group.{Group}
 use Rattle.ring_payload.specs.declared.call.Call.{Call}
 use Rattle.ring_session.specs.Deduplicated.{deduplicated}
-use Rattle.ring_rules.specs.Nodes.{node_committed}
+use Rattle.ring_log.specs.Lives.{committed_of}
+use Rattle.ring_rules.specs.Worlds.{lives_of}
 use Rattle.ring_world.specs.Played.{world_of}
 use Rattle.ring_sweep.proofs.Legality.{up_next}
 use Rattle.ring_sweep.proofs.legal.are_fronts.Goals as goal
@@ -13,9 +14,10 @@ returns-then-not-front-clause-ok g c = (
   λ untrue. absurd (cc (untrue)),
   λ all.
       let w = world_of g.O.Object.sequential c.args.world.now in
+      let group = c.args.world.now.group in
       let node = c.loop-before.before + 1 in
-      let same : c.committed.result.now ≡ node_committed (w.nodes node) =
-      c.committed.ensures ∙ ap node_committed (c.node-node.ensures ∙ ap w.nodes c.new-proc.ensures) in
+      let same : c.in_ok-committed.committed.items ≡ committed_of group (lives_of w node) =
+      c.in_ok-committed.ensures.ok ∙ ap (λ (n : ℕ). committed_of group (lives_of w n)) c.new-proc.ensures in
       let count : c.fixed.result.count ≡ c.args.world.now.group.count = ap (λ (x : Group). x.count) c.fixed.ensures in
       let most : node ≤ c.args.world.now.group.count = omega (arith, c.loop-before-test.true, c.count-before-end.ensures.value, count) in
       let front = subst (λ (cs : List (Call g.row.O-Alloc.Denot)). IsFront (deduplicated cs) c.args.order.now) (sym same)
@@ -26,9 +28,10 @@ returns-then-not-front-clause-ok g c = (
 pub loop-before-preserved : goal.loop-before-preserved
 loop-before-preserved g c =
     let w = world_of g.O.Object.sequential c.args.world.now in
+    let group = c.args.world.now.group in
     let node = c.loop-before.before + 1 in
-    let same : c.committed.result.now ≡ node_committed (w.nodes node) =
-    c.committed.ensures ∙ ap node_committed (c.node-node.ensures ∙ ap w.nodes c.new-proc.ensures) in
-    up_next (λ (n : ℕ). IsFront (deduplicated (node_committed (w.nodes n))) c.args.order.now) c.loop-before.before c.loop-before.invariant
+    let same : c.in_ok-committed.committed.items ≡ committed_of group (lives_of w node) =
+    c.in_ok-committed.ensures.ok ∙ ap (λ (n : ℕ). committed_of group (lives_of w n)) c.new-proc.ensures in
+    up_next (λ (n : ℕ). IsFront (deduplicated (committed_of group (lives_of w n))) c.args.order.now) c.loop-before.before c.loop-before.invariant
     (subst (λ (cs : List (Call g.row.O-Alloc.Denot)). IsFront (deduplicated cs) c.args.order.now) same
     (c.in_ok-front.ensures.ok.0 c.if-not-front.false))

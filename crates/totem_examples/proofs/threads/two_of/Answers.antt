@@ -5,7 +5,6 @@ use Rattle.totem_examples.proofs.threads.two_of.Goals as goal
 
 pub returns-clause-two : goal.returns-clause-two
 returns-clause-two g c =
-    let P = IsAt c.args.host.now in
-    let none = none_yet P c.new-two.result.items c.new-two.ensures.items in
-    let first = pushed P c.new-two.result.items c.push.new.self.items c.in-Some-Some.one none c.in-Some-Some.ensures.seat (search rules) in
-    pushed P c.push.new.self.items c.push-2.new.self.items c.in-Some-Some.other first c.in-Some-Some.ensures'.seat (search rules)
+    let none = none_yet (IsAt c.args.host.now) c.new-two.result.items c.new-two.ensures.items in
+    let first = pushed (IsAt c.args.host.now) c.new-two.result.items c.push.new.self.items c.in-Some-Some.one none c.in-Some-Some.ensures.seat (search rules) in
+    pushed (IsAt c.args.host.now) c.push.new.self.items c.push-2.new.self.items c.in-Some-Some.other first c.in-Some-Some.ensures'.seat (search rules)

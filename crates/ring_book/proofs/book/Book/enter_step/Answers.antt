@@ -1,4 +1,4 @@
-use Rattle.std.proofs.Common.{◌≡◌, ℕ, ◌<◌, ◌-◌, ◌++◌, arith, refl, inl, inr, sym, ap, ◌∙◌, length, List, subst, suc, [], ◌∷◌}
+use Rattle.std.proofs.Common.{◌≡◌, ℕ, ◌<◌, ◌-◌, ◌++◌, arith, refl, inl, inr, sym, ap, ◌∙◌, length, List, subst, [], ◌∷◌}
 use Rattle.rtrb.specs.Ring.{known_items, known_free, sent}
 use mathlib.Core.List.{IsPrefix}
 use Rattle.ring_book.specs.Cells.{AllOf}

@@ -1,6 +1,5 @@
-use Rattle.std.proofs.Common.{◌∙◌, ap, sym}
-use Rattle.ring_session.specs.Deduplicated.{deduplicated}
-use Rattle.ring_book_lines.specs.Logs.{LogView, calls_at}
+use Rattle.std.proofs.Common.{◌∙◌, ap}
+use Rattle.ring_book_lines.specs.Logs.{LogView}
 use Rattle.ring_book.proofs.book.Book.order.Goals as goal
 
 pub returns-clause-ok : goal.returns-clause-ok

@@ -1,4 +1,4 @@
-use Rattle.std.proofs.Common.{◌+◌, arith, ap, length, refl}
+use Rattle.std.proofs.Common.{◌+◌, arith, ap, length}
 use Rattle.ring_book_lines.specs.Machines.{node_machine}
 use Rattle.ring_book.proofs.Entering.{book_grows, roomier-length, told_stays, told_roomier}
 use Rattle.ring_book.proofs.book.Book.reserve.Goals as goal

@@ -33,7 +33,7 @@ invariant_of-self g c =
     let stepped : IsStep m c.self.inside.node l c.step_on.new.self = rw c.came.ensures record {
       fits = c.requires;
       makes = (e.runs, e.ok, c.new-frames.ensures.same ∙ e.sends, e.answers, e.committed);
-      committed = ap length c.committed-places.ensures;
+      committed = c.committed_len-places.ensures;
     } in
     cell_adds m NodeFits g.K.BookName.name c.self.inside.me c.self.inside.node c.step_on.new.self
     c.self.inside.journal c.push_reserved.new.self _ _ l k (ap (λ x. x.node) c.came.ensures) stepped
@@ -49,7 +49,7 @@ returns-in-Ok g c =
     let stepped : IsStep m c.self.inside.node l c.step_on.new.self = rw c.came.ensures record {
       fits = c.requires;
       makes = (e.runs, e.ok, c.new-frames.ensures.same ∙ e.sends, e.answers, e.committed);
-      committed = ap length c.committed-places.ensures;
+      committed = c.committed_len-places.ensures;
     } in
     rw (← c.self.view_is) record {
       step = l;
@@ -73,7 +73,7 @@ invariant_of-self-in-Memory g c =
     let stepped : IsStep m c.self.inside.node l c.step_on.new.self = rw c.stop-stop.ensures record {
       fits = tt;
       makes = (memory_runs _ (sym c.in-Memory.is ∙ e.refused), e.err, refl, refl, refl);
-      committed = ap length c.committed-committed.ensures;
+      committed = c.committed_len-committed.ensures;
     } in
     cell_adds m NodeFits g.K.BookName.name c.self.inside.me c.self.inside.node c.step_on.new.self
     c.self.inside.journal c.push_reserved-in-Memory.new.self _ _ l k (ap (λ x. x.node) c.stop-stop.ensures) stepped
@@ -89,7 +89,7 @@ returns-in-Memory g c =
     let stepped : IsStep m c.self.inside.node l c.step_on.new.self = rw c.stop-stop.ensures record {
       fits = tt;
       makes = (memory_runs _ (sym c.in-Memory.is ∙ e.refused), e.err, refl, refl, refl);
-      committed = ap length c.committed-committed.ensures;
+      committed = c.committed_len-committed.ensures;
     } in
     let no_stop : c.args.input ≡ Stop → ⊥ = λ is. (let ok = e.stops is (memory_runs _ (sym c.in-Memory.is ∙ e.refused)) in absurd (cc ok)) in
     rw (← c.self.view_is) (

@@ -1,4 +1,4 @@
-use Rattle.std.proofs.Common.{◌+◌, refl, subst, ap, Bool, length, ◌∙◌}
+use Rattle.std.proofs.Common.{◌+◌, refl, subst, ap, Bool, length}
 use Rattle.std.proofs.lemmas.Result.{err_from_is_err_and}
 use Rattle.ring_order_proof.specs.NodeFits.{NodeFits}
 use Rattle.ring_book.specs.Cells.{IsCell}
@@ -21,9 +21,9 @@ invariant_of-self-2 g c =
     let e = c.in_ok-ticket.ensures in
     let l = c.called.result in
     let stepped : IsStep m c.self.inside.node l c.submit_on.new.self = rw c.called.ensures record {
-      fits = c.requires;
+      fits = c.call_keeps_law.ensures;
       makes = (e.taken, e.ok, refl, refl, refl);
-      committed = ap length c.committed-places.ensures;
+      committed = c.committed_len-places.ensures;
     } in
     cell_adds m NodeFits g.K.BookName.name c.self.inside.me c.self.inside.node c.submit_on.new.self
     c.self.inside.journal c.push_reserved.new.self _ _ l k (ap (λ x. x.node) c.called.ensures) stepped
@@ -36,9 +36,9 @@ returns-clause-given g c =
     let e = c.in_ok-ticket.ensures in
     let l = c.called.result in
     let stepped : IsStep m c.self.inside.node l c.submit_on.new.self = rw c.called.ensures record {
-      fits = c.requires;
+      fits = c.call_keeps_law.ensures;
       makes = (e.taken, e.ok, refl, refl, refl);
-      committed = ap length c.committed-places.ensures;
+      committed = c.committed_len-places.ensures;
     } in
     rw (← c.self.view_is) (
       e.ticket,

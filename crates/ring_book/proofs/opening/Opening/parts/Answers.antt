@@ -1,5 +1,5 @@
 use Rattle.ring_order_proof.specs.NodeFits.{NodeFits}
-use Rattle.std.proofs.Common.{◌≡◌, ◌≤◌, ◌<◌, ◌+◌, ℕ, subst, length-append, ◌++◌, ◌∷◌, [], length, arith, sym, ap, ◌∙◌, add-one, false, suc}
+use Rattle.std.proofs.Common.{◌≡◌, ◌≤◌, ◌+◌, ℕ, subst, ◌++◌, ◌∷◌, [], length, arith, sym, ap, ◌∙◌, add-one, false, suc}
 use Rattle.rtrb.specs.Ring.{sent}
 use Rattle.ring_base.specs.Group.{Group}
 use Rattle.ring_base.proofs.Each.{each-push}

@@ -1,5 +1,4 @@
-use Rattle.std.proofs.Common.{◌≡◌, ◌∙◌, sym, ap}
-use Rattle.ring_wire.specs.Frames.{spelling_of}
+use Rattle.std.proofs.Common.{◌∙◌}
 use Rattle.ring_book_lines.proofs.FramesInLines.{same_frame}
 use Rattle.ring_book_lines.proofs.spelled.SpelledFrame.is_frame.Goals as goal
 

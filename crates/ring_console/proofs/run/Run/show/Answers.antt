@@ -1,10 +1,10 @@
-use Rattle.std.proofs.Common.{◌≡◌, ℕ, suc, ◌∙◌, List, length, sym, ap, subst}
+use Rattle.std.proofs.Common.{◌≡◌, ℕ, suc, ◌∙◌, List, sym, ap, subst}
 use Rattle.std.specs.Io.KnownBytes.{Appends}
 use Rattle.std.proofs.KnownBytes.{Appends-trans}
 use Rattle.std.proofs.Math.Numerals.{add-one}
 use Rattle.ring_base.specs.declared.state.State.{State}
 use Rattle.ring_base.specs.declared.ring_id.RingId.{RingId}
-use Rattle.ring_rules.specs.Nodes.{Node, node_committed, node_log}
+use Rattle.ring_rules.specs.Nodes.{Node, node_kept, node_length, node_trimmed}
 use Rattle.ring_report.specs.Texts.{line_of}
 use Rattle.ring_world.specs.Played.{Played, world_of}
 use Rattle.ring_console.specs.Printed.{node_text}
@@ -12,16 +12,18 @@ use Rattle.ring_console.specs.Running.{shown_text, nodes_text}
 use Rattle.ring_console.proofs.run.Run.show.Goals as goal
 
 -- a node's line, as its parts were read
-shown : {A : Type 0} (node m : Node A) (number i : ℕ) (state : State) (ring : RingId) (committed log : ℕ)
+shown : {A : Type 0} (node m : Node A) (number i : ℕ) (state : State) (ring : RingId) (committed log trimmed : ℕ)
     → number ≡ suc i → node ≡ m → state ≡ node.core.state → ring ≡ node.core.installed.ring
-    → committed ≡ length (node_committed node) → log ≡ length (node_log node) → line_of (node_text number state ring committed log) ≡ shown_text (suc i) m
-shown node m number i state ring committed log a n b d e f =
-    ap (λ (x : ℕ). line_of (node_text x state ring committed log)) a
-    ∙ (ap (λ (x : State). line_of (node_text (suc i) x ring committed log)) b
-    ∙ (ap (λ (x : RingId). line_of (node_text (suc i) node.core.state x committed log)) d
-    ∙ (ap (λ (x : ℕ). line_of (node_text (suc i) node.core.state node.core.installed.ring x log)) e
-    ∙ (ap (λ (x : ℕ). line_of (node_text (suc i) node.core.state node.core.installed.ring (length (node_committed node)) x)) f
-    ∙ ap (λ (x : Node _). shown_text (suc i) x) n))))
+    → committed ≡ (node_kept node).committed → log ≡ node_length node → trimmed ≡ node_trimmed node
+    → line_of (node_text number state ring committed log trimmed) ≡ shown_text (suc i) m
+shown node m number i state ring committed log trimmed a n b d e f h =
+    ap (λ (x : ℕ). line_of (node_text x state ring committed log trimmed)) a
+    ∙ (ap (λ (x : State). line_of (node_text (suc i) x ring committed log trimmed)) b
+    ∙ (ap (λ (x : RingId). line_of (node_text (suc i) node.core.state x committed log trimmed)) d
+    ∙ (ap (λ (x : ℕ). line_of (node_text (suc i) node.core.state node.core.installed.ring x log trimmed)) e
+    ∙ (ap (λ (x : ℕ). line_of (node_text (suc i) node.core.state node.core.installed.ring (node_kept node).committed x trimmed)) f
+    ∙ (ap (λ (x : ℕ). line_of (node_text (suc i) node.core.state node.core.installed.ring (node_kept node).committed (node_length node) x)) h
+    ∙ ap (λ (x : Node _). shown_text (suc i) x) n)))))
 
 pub loop-before-preserved : goal.loop-before-preserved
 loop-before-preserved g c =
@@ -31,8 +33,8 @@ loop-before-preserved g c =
     let node : c.node-node.result.now ≡ w.nodes (suc i) = c.node-node.ensures
     ∙ (ap (λ (p : Played g.row.O-Alloc.Denot). (world_of g.O.Object.sequential p).nodes c.new-proc.result) c.world-world.ensures ∙ ap w.nodes number) in
     let text = shown c.node-node.result.now (w.nodes (suc i)) c.new-proc.result i c.state.result c.ring.result
-    (length c.committed-committed.result.now) c.log_len.result number node c.state.ensures c.ring.ensures
-    (ap length c.committed-committed.ensures) c.log_len.ensures in
+    c.committed_len.result c.log_len.result c.trimmed.result number node c.state.ensures c.ring.ensures c.committed_len.ensures c.log_len.ensures
+    c.trimmed.ensures in
     let Told : List ℕ → Type 0 = λ t. Appends (g.W.Write.contents c.loop-before.out) (g.W.Write.contents c.print_node.new.out) t in
     let told = subst Told text c.in_ok-print_node.ensures.line in
     let all = Appends-trans (g.W.Write.contents c.args.out.now) (g.W.Write.contents c.loop-before.out)

@@ -11,7 +11,7 @@ returns-in-Ok g c =
     let e = c.in-Ok.ensures in
     let came : c.new.result ≡ token_fate c.args.input step.sends = search rules in
     step_told g.O.Object.sequential c.tell_step.result _ _ c.args.self.now c.step.new.self c.args.input
-    _ _ _ _ e.acts e.records e.answers e.committed came c.tell_step.ensures
+    _ _ _ _ _ e.acts e.records e.answers e.restored e.committed came c.tell_step.ensures
 
 pub returns-in-Err : goal.returns-in-Err
 returns-in-Err g c =

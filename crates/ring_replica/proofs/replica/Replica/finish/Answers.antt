@@ -1,44 +1,50 @@
--- The step is a part of the life.
-use Rattle.std.proofs.Common.{◌≡◌, ◌-◌, false, take, drop, length, ap, sym, ◌∙◌}
-use Rattle.std.proofs.lemmas.List.{take_rest}
-use Rattle.ring_log.specs.Logs.{Log, committed_calls}
-use Rattle.ring_log.specs.Lives.{committed_of}
-use Rattle.ring_session.specs.Deduplicated.{deduplicated}
-use Rattle.ring_replica.specs.Replicas.{Replica, Tale, tale_done}
-use Rattle.ring_replica.proofs.Replicas.{finished-replica, done-told, more-is, committed-is}
+-- A step that is done is told; a replica that stopped tells what it told.
+use Rattle.std.proofs.Common.{Option, ap, sym, ◌∙◌, subst}
+use Rattle.std.proofs.lemmas.Bool.{cond-true, cond-false}
+use Rattle.ring_log.specs.Logs.{Log, log_length}
+use Rattle.ring_replica.specs.Courses.{Holding}
+use Rattle.ring_replica.specs.Replicas.{Replica, tale_done, replica_done, ahead_log, more_in, told_replica, IsCounted, calls_leaving}
+use Rattle.ring_replica.proofs.Replicas.{finished-counted, done-told, left-told, none-left}
+use Rattle.ring_replica.proofs.SteadyLives.{steady-known}
 use Rattle.ring_replica.proofs.replica.Replica.finish.Goals as goal
+
+pub returns-then-self : goal.returns-then-self
+returns-then-self g c =
+    let stops = ap (λ (v : Replica _). v.stopped) (sym c.self.view_is) ∙ c.if-self.true in
+    record {
+      replica = sym (cond-true c.args.self.now.stopped c.args.self.now (replica_done c.args.self.now c.args.answers.now) stops);
+      dropped = let none = none-left c.self.invariant.kept c.self.view_is c.if-self.true in cc none;
+    }
 
 pub invariant_of-self : goal.invariant_of-self
 invariant_of-self g c =
     let s = c.self.inside in
     let tale = s.story.value in
-    let runs : s.stopped ≡ false = ap (λ (v : Replica _). v.stopped) c.self.view_is ∙ c.requires.runs in
-    let fine = (c.self.invariant.kept.runs runs).fine in
-    let logged = c.log-log.ensures.kept fine in
-    let all = committed-is s.course.group s.course.life s.course.log (c.log-log.ensures.sound fine) logged in
-    let calls = c.committed_calls-calls.result.now in
-    let calls_are : calls ≡ committed_calls s.course.log = c.committed_calls-calls.ensures ∙ ap committed_calls c.log-log.ensures.log in
-    let more = take (length calls - s.committed) (drop s.committed calls) in
+    let fine = (c.self.invariant.kept.runs c.if-self.false).fine in
+    let more = c.more_in-more.result.now in
     let told = c.done.ensures ∙ ap (λ life. tale_done tale life more c.args.answers.now) c.life.ensures in
-    let ahead = c.self.invariant.ahead runs in
-    record {
-      kept = finished-replica c.self.invariant.kept more c.args.answers.now runs logged all c.keep.ensures
-          (c.length-self-inside.ensures ∙ ap (λ (l : Log _). length l.calls) c.log-log.ensures.log) (ap length calls_are) told;
-      order = ahead ∙ ap (λ (x : Tale _). length (deduplicated (committed_of s.course.group x.life))) (sym told);
-      ahead = λ _. ahead;
-    }
+    let log_is = c.log-log.ensures ∙ ap (λ (h : Holding _). h.log) c.held-2.ensures.held in
+    subst (λ (l : Option (Log _)). IsCounted g.O.Object.sequential c.end_step.new.self s.sessions c.keep.new.self l c.length-self-inside.result
+    c.committed_length-self-inside.result c.trimmed-self-inside.result s.reached s.reached s.stopped c.done.result.value) (sym c.replace.ensures.after)
+    (finished-counted c.self.invariant more c.args.answers.now c.if-self.false (c.held.ensures.log fine) (steady-known (c.held.ensures.steady fine))
+    c.end_step.ensures c.keep.ensures (c.length-self-inside.ensures ∙ ap (λ (l : Log _). log_length l) log_is)
+    (c.committed_length-self-inside.ensures ∙ ap (λ (l : Log _). l.committed) log_is) (c.trimmed-self-inside.ensures ∙ ap (λ (l : Log _). l.trimmed) log_is)
+    told)
 
 pub returns : goal.returns
 returns g c =
     let s = c.self.inside in
     let tale = s.story.value in
-    let runs : s.stopped ≡ false = ap (λ (v : Replica _). v.stopped) c.self.view_is ∙ c.requires.runs in
-    let fine = (c.self.invariant.kept.runs runs).fine in
-    let logged = c.log-log.ensures.kept fine in
-    let all = committed-is s.course.group s.course.life s.course.log (c.log-log.ensures.sound fine) logged in
-    let calls = c.committed_calls-calls.result.now in
-    let calls_are : calls ≡ committed_calls s.course.log = c.committed_calls-calls.ensures ∙ ap committed_calls c.log-log.ensures.log in
-    let rest = take_rest calls s.committed ∙ ap (drop s.committed) calls_are in
-    let more = take (length calls - s.committed) (drop s.committed calls) in
+    let more = c.more_in-more.result.now in
     let told = c.done.ensures ∙ ap (λ life. tale_done tale life more c.args.answers.now) c.life.ensures in
-    done-told c.self.invariant.kept c.args.answers.now runs c.self.view_is (rest ∙ more-is c.self.invariant.kept all) told
+    let log_is = c.log-log.ensures ∙ ap (λ (h : Holding _). h.log) c.held-2.ensures.held in
+    let behind = c.more_in-more.ensures ∙ ap (more_in s.committed) (c.ahead_log.ensures ∙ ap (λ (h : Holding _). ahead_log h s.leaving) c.held.ensures.held) in
+    let runs = ap (λ (v : Replica _). v.stopped) (sym c.self.view_is) ∙ c.if-self.false in
+    record {
+      replica = ap (λ (l : Option (Log _)). told_replica c.end_step.new.self l c.committed_length-self-inside.result s.stopped c.done.result.value)
+          c.replace.ensures.after ∙ done-told c.self.invariant.kept c.args.answers.now c.if-self.false c.self.view_is behind c.end_step.ensures
+          (c.committed_length-self-inside.ensures ∙ ap (λ (l : Log _). l.committed) log_is) told
+          ∙ sym (cond-false c.args.self.now.stopped c.args.self.now (replica_done c.args.self.now c.args.answers.now) runs);
+      dropped = c.calls_leaving.ensures ∙ ap (λ (l : Option (Log _)). calls_leaving l) c.replace.ensures.value
+          ∙ left-told c.self.invariant.kept c.self.view_is c.if-self.false;
+    }

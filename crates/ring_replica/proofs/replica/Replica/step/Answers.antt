@@ -1,8 +1,11 @@
 -- A step that stops gives nothing and leaves what is told; any other gives what the outputs make of the replica.
-use Rattle.std.proofs.Common.{sym, ◌∙◌, ap}
-use Rattle.ring_replica.specs.Replicas.{ReplicaStepped}
-use Rattle.ring_replica.proofs.ReplicaSteps.{ready, moved-by, first-within, effects-few, halted-counted, stopped-same, step-halted}
-use Rattle.ring_replica.proofs.ReplicaSteps.{stepped-counted, sends-are, due-is, answers-are, committed-are, moved-told}
+use Rattle.std.proofs.Common.{sym, ◌∙◌, ap, Some, None, if◌then◌else◌}
+use Rattle.std.specs.Prelude.{is_some}
+use Rattle.ring_replica.specs.Courses.{Holding, Course}
+use Rattle.ring_replica.specs.Replicas.{is_table_held}
+use Rattle.ring_replica.proofs.ReplicaSteps.{ready, moved-by, steady-was, halted-counted, halted-later, stopped-same, step-halted, step-lost}
+use Rattle.ring_replica.proofs.ReplicaSteps.{applied-is, effects-are, restored-now, sends-are, due-are, due-is, answers-told, committed-told, restored-told}
+use Rattle.ring_replica.proofs.ReplicaEnds.{some-fact, carries-as, ended-counted, ended-told, ended-step}
 use Rattle.ring_base.proofs.Results.{on-err}
 use Rattle.ring_replica.proofs.replica.Replica.step.Goals as goal
 
@@ -14,71 +17,133 @@ prove-unreachable-requires g c =
 pub walk-requires-clause-sound : goal.walk-requires-clause-sound
 walk-requires-clause-sound g c = c.is_fine-is_fine.ensures.sound (ready c.self.invariant c.self.view_is c.requires.done c.requires.runs).fine
 
+pub walk-requires-clause-log : goal.walk-requires-clause-log
+walk-requires-clause-log g c = c.is_fine-is_fine.ensures.log (ready c.self.invariant c.self.view_is c.requires.done c.requires.runs).fine
+
 pub invariant_of-self : goal.invariant_of-self
-invariant_of-self g c = halted-counted c.self.invariant c.walk.ensures.group c.walk.ensures.front
+invariant_of-self g c =
+    let b = ready c.self.invariant c.self.view_is c.requires.done c.requires.runs in
+    halted-counted c.self.invariant b.none c.walk.ensures.group c.walk.ensures.front
 
 pub returns-in_err-walk-clause-err : goal.returns-in_err-walk-clause-err
 returns-in_err-walk-clause-err g c = on-err c.from_residual.result _ (stopped-same c.self.view_is c.walk.ensures.group c.walk.ensures.me)
 
 pub invariant_of-self-then-not-is_fine : goal.invariant_of-self-then-not-is_fine
-invariant_of-self-then-not-is_fine g c = halted-counted c.self.invariant c.walk.ensures.group c.walk.ensures.front
+invariant_of-self-then-not-is_fine g c =
+    let b = ready c.self.invariant c.self.view_is c.requires.done c.requires.runs in
+    halted-counted c.self.invariant b.none c.walk.ensures.group c.walk.ensures.front
 
 pub returns-then-not-is_fine : goal.returns-then-not-is_fine
 returns-then-not-is_fine g c =
     let b = ready c.self.invariant c.self.view_is c.requires.done c.requires.runs in
-    let is = step-halted b c.args.running.now c.args.outs.items c.in_ok-walk.ensures.sound (sym c.is_fine.ensures.value ∙ c.if-not-is_fine.true) in
+    let nothing = step-halted b c.args.running.now c.args.outs.items c.in_ok-walk.ensures.sound (sym c.is_fine.ensures.value ∙ c.if-not-is_fine.true) in
     record {
-      ok = stopped-same c.self.view_is c.walk.ensures.group c.walk.ensures.me ∙ ap (λ (v : ReplicaStepped _). v.replica) is;
-      sends = c.new.ensures.sends ∙ ap (λ (v : ReplicaStepped _). v.sends) is;
-      due = c.new.ensures.due ∙ ap (λ (v : ReplicaStepped _). v.due) is;
-      answers = c.new.ensures.answers ∙ ap (λ (v : ReplicaStepped _). v.answers) is;
-      committed = c.new.ensures.committed ∙ ap (λ (v : ReplicaStepped _). v.committed) is;
+      ok = stopped-same c.self.view_is c.walk.ensures.group c.walk.ensures.me ∙ nothing.replica;
+      sends = c.new.ensures.sends ∙ nothing.sends;
+      due = c.new.ensures.due ∙ nothing.due;
+      answers = c.new.ensures.answers ∙ nothing.answers;
+      committed = c.new.ensures.committed ∙ nothing.doing;
+      restored = c.new.ensures.restored ∙ nothing.restored;
+      steady = steady-was b c.args.running.now c.args.outs.items (c.is_fine-is_fine.ensures.steady b.fine);
       err = tt;
       refused = tt;
     }
 
-pub new_calls-requires : goal.new_calls-requires
-new_calls-requires g c = first-within c.self.invariant.kept c.walk.ensures.front c.log.ensures.log
+pub invariant_of-self-in_err-carried : goal.invariant_of-self-in_err-carried
+invariant_of-self-in_err-carried g c =
+    let b = ready c.self.invariant c.self.view_is c.requires.done c.requires.runs in
+    halted-counted c.self.invariant b.none c.walk.ensures.group c.walk.ensures.front
 
-pub new_answers-requires : goal.new_answers-requires
-new_answers-requires g c = record {
-  within = first-within c.self.invariant.kept c.walk.ensures.front c.log-2.ensures.log;
-  few = effects-few c.self.invariant;
-}
+pub returns-in_err-carried-clause-err : goal.returns-in_err-carried-clause-err
+returns-in_err-carried-clause-err g c =
+    on-err c.from_residual-in_err-carried.result _ (stopped-same c.self.view_is c.walk.ensures.group c.walk.ensures.me)
 
-pub invariant_of-self-in_err-given : goal.invariant_of-self-in_err-given
-invariant_of-self-in_err-given g c = halted-counted c.self.invariant c.walk.ensures.group c.walk.ensures.front
+pub invariant_of-self-in_default : goal.invariant_of-self-in_default
+invariant_of-self-in_default g c =
+    let b = ready c.self.invariant c.self.view_is c.requires.done c.requires.runs in
+    halted-counted c.self.invariant b.none c.walk.ensures.group c.walk.ensures.front
 
-pub returns-in_err-given-clause-err : goal.returns-in_err-given-clause-err
-returns-in_err-given-clause-err g c =
-    on-err c.from_residual-in_err-given.result _ (stopped-same c.self.view_is c.walk.ensures.group c.walk.ensures.me)
+pub returns-in_default : goal.returns-in_default
+returns-in_default g c =
+    let b = ready c.self.invariant c.self.view_is c.requires.done c.requires.runs in
+    let m = moved-by b c.args.running.now c.args.outs.items c.walk.new.self c.walk.ensures.group c.walk.ensures.me c.walk.ensures.front
+    (sym c.is_fine.ensures.value ∙ c.if-not-is_fine.false) c.in_ok-walk.ensures.onward (c.is_fine-is_fine.ensures.log b.fine) c.is_fine.ensures.log
+    (c.is_fine-is_fine.ensures.steady b.fine) c.is_fine.ensures.steady c.in_ok-walk.ensures.sound c.in_ok-walk.ensures.life in
+    let nothing = step-lost m (ap (is_table_held g.O.Object.sequential) (sym c.held.ensures.held) ∙ sym c.in_ok-carried.ensures.fits
+    ∙ ap is_some c.in_default.is) in
+    record {
+      ok = stopped-same c.self.view_is c.walk.ensures.group c.walk.ensures.me ∙ nothing.replica;
+      sends = c.new-in_default.ensures.sends ∙ nothing.sends;
+      due = c.new-in_default.ensures.due ∙ nothing.due;
+      answers = c.new-in_default.ensures.answers ∙ nothing.answers;
+      committed = c.new-in_default.ensures.committed ∙ nothing.doing;
+      restored = c.new-in_default.ensures.restored ∙ nothing.restored;
+      steady = steady-was b c.args.running.now c.args.outs.items (c.is_fine-is_fine.ensures.steady b.fine);
+      err = tt;
+      refused = tt;
+    }
 
-pub invariant_of-self-in_err-answers : goal.invariant_of-self-in_err-answers
-invariant_of-self-in_err-answers g c = halted-counted c.self.invariant c.walk.ensures.group c.walk.ensures.front
+pub invariant_of-self-in_err-self-inside : goal.invariant_of-self-in_err-self-inside
+invariant_of-self-in_err-self-inside g c =
+    let b = ready c.self.invariant c.self.view_is c.requires.done c.requires.runs in
+    halted-later c.self.invariant c.walk.new.self c.hand.new.self c.drop_if_ripe.new.course _ b.none c.walk.ensures.group c.walk.ensures.front
+    c.hand.ensures c.in_err-self-inside.ensures.err
 
-pub returns-in_err-answers-clause-err : goal.returns-in_err-answers-clause-err
-returns-in_err-answers-clause-err g c =
-    on-err c.from_residual-in_err-answers.result _ (stopped-same c.self.view_is c.walk.ensures.group c.walk.ensures.me)
+pub returns-in_err-self-inside-clause-err : goal.returns-in_err-self-inside-clause-err
+returns-in_err-self-inside-clause-err g c =
+    let same = c.in_err-self-inside.ensures.err ∙ c.hand.ensures in
+    on-err c.from_residual-in_err-self-inside.result _
+    (stopped-same c.self.view_is (ap (λ (x : Course _). x.group) same ∙ c.walk.ensures.group) (ap (λ (x : Course _). x.me) same ∙ c.walk.ensures.me))
 
 pub invariant_of-self-2 : goal.invariant_of-self-2
 invariant_of-self-2 g c =
+    let s = c.self.inside in
+    let object = g.O.Object.sequential in
     let b = ready c.self.invariant c.self.view_is c.requires.done c.requires.runs in
     let m = moved-by b c.args.running.now c.args.outs.items c.walk.new.self c.walk.ensures.group c.walk.ensures.me c.walk.ensures.front
-    (sym c.is_fine.ensures.value ∙ c.if-not-is_fine.false) c.is_fine.ensures.sound c.log.ensures.kept c.in_ok-walk.ensures.sound c.in_ok-walk.ensures.life in
-    stepped-counted m c.walk.new.due.items c.log-2.ensures.log c.in_ok-answers.ensures.table c.in_ok-answers.ensures.effects c.hand.ensures
+    (sym c.is_fine.ensures.value ∙ c.if-not-is_fine.false) c.in_ok-walk.ensures.onward (c.is_fine-is_fine.ensures.log b.fine) c.is_fine.ensures.log
+    (c.is_fine-is_fine.ensures.steady b.fine) c.is_fine.ensures.steady c.in_ok-walk.ensures.sound c.in_ok-walk.ensures.life in
+    let x = c.in-Some.carried in
+    let fits = sym c.in_ok-carried.ensures.fits ∙ ap is_some c.in-Some.is in
+    let carried = carries-as {object = object} c.held.ensures.held (record {
+      fits = fits;
+      applied = c.in_ok-carried.ensures.table fits;
+      given = some-fact _ _ x c.in-Some.is c.in_ok-carried.ensures.answers;
+      committed = some-fact _ _ x c.in-Some.is c.in_ok-carried.ensures.committed;
+      counted = some-fact _ _ x c.in-Some.is c.in_ok-carried.ensures.reached;
+    }) in
+    ended-counted m c.walk.new.due.items c.carry_out.new.sessions (applied-is m carried.applied) (restored-now m carried.fits) (effects-are m carried.counted)
+    c.hand.ensures c.in_ok-self-inside.ensures.ok c.in_ok-self-inside.ensures.dropped
 
 pub returns : goal.returns
 returns g c =
+    let s = c.self.inside in
+    let object = g.O.Object.sequential in
     let b = ready c.self.invariant c.self.view_is c.requires.done c.requires.runs in
     let m = moved-by b c.args.running.now c.args.outs.items c.walk.new.self c.walk.ensures.group c.walk.ensures.me c.walk.ensures.front
-    (sym c.is_fine.ensures.value ∙ c.if-not-is_fine.false) c.is_fine.ensures.sound c.log.ensures.kept c.in_ok-walk.ensures.sound c.in_ok-walk.ensures.life in
-    let due = due-is m c.pending.ensures c.new-given.ensures.due (c.in_ok-walk.ensures.due m.fine) in
+    (sym c.is_fine.ensures.value ∙ c.if-not-is_fine.false) c.in_ok-walk.ensures.onward (c.is_fine-is_fine.ensures.log b.fine) c.is_fine.ensures.log
+    (c.is_fine-is_fine.ensures.steady b.fine) c.is_fine.ensures.steady c.in_ok-walk.ensures.sound c.in_ok-walk.ensures.life in
+    let x = c.in-Some.carried in
+    let fits = sym c.in_ok-carried.ensures.fits ∙ ap is_some c.in-Some.is in
+    let carried = carries-as {object = object} c.held.ensures.held (record {
+      fits = fits;
+      applied = c.in_ok-carried.ensures.table fits;
+      given = some-fact _ _ x c.in-Some.is c.in_ok-carried.ensures.answers;
+      committed = some-fact _ _ x c.in-Some.is c.in_ok-carried.ensures.committed;
+      counted = some-fact _ _ x c.in-Some.is c.in_ok-carried.ensures.reached;
+    }) in
+    let due = due-are m carried.fits c.pending.ensures c.new-given.ensures.due (c.in_ok-walk.ensures.due m.fine) in
     record {
-      ok = moved-told m due c.hand.ensures;
-      sends = sends-are m c.new-given.ensures.sends (c.in_ok-walk.ensures.sends m.fine);
-      due = due;
-      answers = answers-are m c.pending-2.ensures c.log-2.ensures.log c.in_ok-answers.ensures.answers;
-      committed = committed-are m c.log.ensures.log c.in_ok-given.ensures.calls;
+      ok = ended-step m carried.fits due (ended-told m c.walk.new.due.items c.carry_out.new.sessions (applied-is m carried.applied)
+          (restored-now m carried.fits) (effects-are m carried.counted) c.hand.ensures c.in_ok-self-inside.ensures.ok
+          c.in_ok-self-inside.ensures.dropped);
+      sends = sends-are m carried.fits c.new-given.ensures.sends (c.in_ok-walk.ensures.sends m.fine);
+      due = due-is m carried.fits due;
+      answers = answers-told m carried.fits c.pending-2.ensures carried.given;
+      committed = committed-told m carried.fits carried.committed;
+      restored = restored-told m carried.fits (c.restored_places-given.ensures
+          ∙ ap (λ (h : Holding _). if is_some h.before then Some h.log.trimmed else None) c.held-2.ensures.held);
+      steady = steady-was b c.args.running.now c.args.outs.items (c.is_fine-is_fine.ensures.steady b.fine);
       err = tt;
       refused = tt;
     }

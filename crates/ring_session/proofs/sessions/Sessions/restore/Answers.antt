@@ -16,24 +16,24 @@ returns-in_default-clause-refused g c =
 pub invariant_of-result : goal.invariant_of-result
 invariant_of-result g c =
     let s = c.in-Some in
-    table-kept g.O.Object.restored c.args.bytes.now s.count s.clients.now s.object.now s.ensures c.in_ok-sessions.sessions.entries
+    table-kept g.O.Object.sequential.restored c.args.bytes.now s.count s.clients.now s.object.now s.ensures c.in_ok-sessions.sessions.entries
     c.in_ok-object.object (AreBytes-fits c.args.bytes.now c.type_inv.bytes) c.in_ok-sessions.ensures.ok
 
 pub returns-in_err-object-clause-refused : goal.returns-in_err-object-clause-refused
 returns-in_err-object-clause-refused g c =
     let s = c.in-Some in
     let p = err_from_is_err_and c.from_residual.result c.from_residual.ensures.1 in
-    rw (p.1, p.2) (table-refused g.O.Object.restored c.args.bytes.now s.count s.clients.now s.object.now s.ensures _ c.in_err-object.ensures.refused)
+    rw (p.1, p.2) (table-refused g.O.Object.sequential.restored c.args.bytes.now s.count s.clients.now s.object.now s.ensures _ c.in_err-object.ensures.refused)
 
 pub returns-in_err-sessions-clause-refused : goal.returns-in_err-sessions-clause-refused
 returns-in_err-sessions-clause-refused g c =
     let s = c.in-Some in
     let p = err_from_is_err_and c.from_residual-in_err-sessions.result c.from_residual-in_err-sessions.ensures.1 in
-    rw (p.1, p.2, c.in_err-sessions.ensures.refused) (table-memory g.O.Object.restored c.args.bytes.now s.count s.clients.now s.object.now
+    rw (p.1, p.2, c.in_err-sessions.ensures.refused) (table-memory g.O.Object.sequential.restored c.args.bytes.now s.count s.clients.now s.object.now
     s.ensures c.in_ok-object.object c.in_ok-object.ensures.ok)
 
 pub returns-clause-ok : goal.returns-clause-ok
 returns-clause-ok g c =
     let s = c.in-Some in
-    table-there g.O.Object.restored c.args.bytes.now s.count s.clients.now s.object.now s.ensures c.in_ok-sessions.sessions.entries
+    table-there g.O.Object.sequential.restored c.args.bytes.now s.count s.clients.now s.object.now s.ensures c.in_ok-sessions.sessions.entries
     c.in_ok-object.object c.in_ok-sessions.ensures.ok c.in_ok-object.ensures.ok

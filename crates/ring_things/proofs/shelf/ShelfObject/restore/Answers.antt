@@ -6,10 +6,10 @@ use Rattle.ring_things.proofs.shelf.ShelfObject.restore.Goals as goal
 
 pub returns-in_err-first-clause-refused : goal.returns-in_err-first-clause-refused
 returns-in_err-first-clause-refused g c =
-    let first = g.P.Object.restored c.in-Some.first.now in
-    let second = g.Q.Object.restored c.in-Some.second.now in
-    let third = g.R.Object.restored c.in-Some.third.now in
-    let fourth = g.S.Object.restored c.in-Some.fourth.now in
+    let first = g.P.Object.sequential.restored c.in-Some.first.now in
+    let second = g.Q.Object.sequential.restored c.in-Some.second.now in
+    let third = g.R.Object.sequential.restored c.in-Some.third.now in
+    let fourth = g.S.Object.sequential.restored c.in-Some.fourth.now in
     let front = c.both-front.ensures first second (joined first _ c.restore.ensures.ok c.restore.ensures.refused)
     (joined second _ c.restore-2.ensures.ok c.restore-2.ensures.refused) in
     let back = c.both-back.ensures third fourth (joined third _ c.restore-3.ensures.ok c.restore-3.ensures.refused)
@@ -21,10 +21,10 @@ returns-in_err-first-clause-refused g c =
 
 pub returns-clause-ok : goal.returns-clause-ok
 returns-clause-ok g c =
-    let first = g.P.Object.restored c.in-Some.first.now in
-    let second = g.Q.Object.restored c.in-Some.second.now in
-    let third = g.R.Object.restored c.in-Some.third.now in
-    let fourth = g.S.Object.restored c.in-Some.fourth.now in
+    let first = g.P.Object.sequential.restored c.in-Some.first.now in
+    let second = g.Q.Object.sequential.restored c.in-Some.second.now in
+    let third = g.R.Object.sequential.restored c.in-Some.third.now in
+    let fourth = g.S.Object.sequential.restored c.in-Some.fourth.now in
     let front = c.both-front.ensures first second (joined first _ c.restore.ensures.ok c.restore.ensures.refused)
     (joined second _ c.restore-2.ensures.ok c.restore-2.ensures.refused) in
     let back = c.both-back.ensures third fourth (joined third _ c.restore-3.ensures.ok c.restore-3.ensures.refused)

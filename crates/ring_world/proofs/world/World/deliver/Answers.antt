@@ -4,6 +4,7 @@ use Rattle.ring_rules.specs.WorldLimits.{EventFits}
 use Rattle.ring_rules.specs.declared.input.Input.TheVariants.{Frame as FrameInput}
 use Rattle.ring_rules.specs.Worlds.{happens, stepped}
 use Rattle.ring_world.specs.Played.{Played, world_of, step_in}
+use Rattle.ring_world.proofs.EventLimits.{all_fit}
 use Rattle.ring_world.proofs.FrameHanded.{hands, handed_is, frame_fits, sent_it}
 use Rattle.ring_core.specs.State.{frame_at, frame_for}
 use Rattle.ring_world.proofs.world.World.deliver.Goals as goal
@@ -14,7 +15,8 @@ step-requires-clause-fits g c =
     let object = g.O.Object.sequential in
     let p : Played g.row.O-Alloc.Denot = record { group = k.fixed; events = k.events.items; told = k.told.items; done = k.done } in
     let w = world_of object p in
-    frame_fits w.frames c.args.node c.args.number c.in-Some.frame (c.frames_law.ensures.frames k.fixed k.events.items c.self.invariant.few c.self.invariant.fit)
+    frame_fits w.frames c.args.node c.args.number c.in-Some.frame (c.frames_law.ensures.frames k.fixed k.events.items c.self.invariant.few
+    (all_fit k.events.items c.self.invariant.fit))
     (ap (λ fs. frame_for c.args.node (frame_at fs c.args.number)) (sym c.self.invariant.kept.frames_are) ∙ sym c.in_ok-read_to.ensures.ok ∙ c.in-Some.is)
 
 pub step-requires-clause-same : goal.step-requires-clause-same

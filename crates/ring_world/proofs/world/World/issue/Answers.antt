@@ -13,12 +13,12 @@ use Rattle.ring_world.proofs.world.World.issue.Goals as goal
 place : (g : Over) (c : In_ok-make_room g) → Stands g.O.Object.sequential
     (record { group = c.self.inside.fixed; events = c.make_room.new.events.items; told = c.make_room.new.told.items; done = c.self.inside.done })
     c.args.self.now c.self.inside.nodes.items c.self.inside.spares.items c.make_room.new.frames.frames c.make_room.new.history.items
-    c.args.node (c.from-place.result - 1)
+    c.make_room.new.longest.calls c.args.node (c.from-place.result - 1)
 place g c =
     let there = stands c.self.view_is c.self.invariant c.number.ensures.value c.number.ensures.in_range c.from-place.ensures
     c.self.inside.nodes.ok.0 c.len.ensures c.if-place-len.false in
     let room = c.in_ok-make_room.ensures in
-    roomy there room.events room.told room.history room.frames
+    roomy there room.events room.told room.history room.frames room.longest
 
 pub idle-requires-clause-same : goal.idle-requires-clause-same
 idle-requires-clause-same g c =
@@ -43,7 +43,7 @@ invariant_of-self-in-Ok g c =
     let here = place g (goal.at.invariant_of-self-in-Ok g c).In_ok-make_room in
     let spare = spared here c.make_room-2.new.self c.index_mut.ensures.value c.in_ok-make_room-2.ensures.calls in
     issue_world spare c.in_ok-kept.kept c.requires.event c.in_ok-kept.ensures.ok c.index_mut-2.ensures.value c.add.new.self
-    c.requires.fits c.in-Ok.ensures.taken c.in-Ok.ensures.ok c.index_mut-in-Ok.ensures.value c.in_ok-spare.ensures.ok c.add.ensures
+    (c.in_ok-kept.ensures.keeps c.requires.fits) c.in-Ok.ensures.taken c.in-Ok.ensures.ok c.index_mut-in-Ok.ensures.value c.in_ok-spare.ensures.ok c.add.ensures
     c.in_ok-copy.ensures.ok c.push_reserved.ensures.items c.push_reserved-in-Ok.ensures.items
 
 pub returns-in-Ok-clause-ok : goal.returns-in-Ok-clause-ok
@@ -58,7 +58,8 @@ invariant_of-self-in-Err-1 g c =
     let here = place g (goal.at.invariant_of-self-in-Err-1 g c).In_ok-make_room in
     let spare = spared here c.make_room-2.new.self c.index_mut.ensures.value c.in_ok-make_room-2.ensures.calls in
     refusal_world spare c.in_ok-kept.kept c.requires.event c.in_ok-kept.ensures.ok c.index_mut-2.ensures.value c.in-Err.ensures.refused
-    c.in_ok-copy.ensures.ok c.refuse.ensures.left_out c.refuse.ensures.kept c.refuse.ensures.told c.in-Err.ensures.err c.requires.fits
+    c.in_ok-copy.ensures.ok c.refuse.ensures.left_out c.refuse.ensures.kept c.refuse.ensures.told c.in-Err.ensures.err
+    (c.in_ok-kept.ensures.keeps c.requires.fits)
 
 pub returns-in-Err : goal.returns-in-Err
 returns-in-Err g c =

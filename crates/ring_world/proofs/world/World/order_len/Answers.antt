@@ -1,10 +1,13 @@
--- The longest of what the nodes committed is the world's order.
-use Rattle.std.proofs.Common.{◌≡◌, length, ap, ◌∙◌, subst}
-use Rattle.ring_rules.specs.Orders.{order_of}
-use Rattle.ring_rules.specs.Worlds.{order}
-use Rattle.ring_world.specs.Ordering.{logs_of}
+-- The order is as long as the most calls that took effect at a node.
+use Rattle.std.proofs.Common.{◌≡◌, ◌≤◌, length, ap, ◌∙◌, sym, subst, arith}
+use Rattle.ring_base.specs.Group.{Group}
+use Rattle.ring_base.specs.Numbers.{greatest}
+use Rattle.ring_log.specs.Lives.{committed_of}
+use Rattle.ring_session.specs.Deduplicated.{deduplicated}
+use Rattle.ring_rules.specs.Worlds.{lives_of, order}
+use Rattle.ring_world.specs.Ordering.{effects_of, effects_in}
 use Rattle.ring_world.specs.Played.{Played, world_of}
-use Rattle.ring_world.proofs.Logs.{logs-order}
+use Rattle.ring_world.proofs.OrderLengths.{order-length}
 use Rattle.ring_world.proofs.world.World.order_len.Goals as goal
 
 pub returns : goal.returns
@@ -12,6 +15,12 @@ returns g c =
     let k = c.self.inside in
     let object = g.O.Object.sequential in
     let p : Played g.row.O-Alloc.Denot = record { group = k.fixed; events = k.events.items; told = k.told.items; done = k.done } in
-    subst (λ (q : Played g.row.O-Alloc.Denot). c.longest-len.result.1 ≡ length (order (world_of object q))) c.self.view_is
-    (c.longest-len.ensures.len ∙ ap (λ xs. length (order_of (logs_of xs))) c.deref.ensures.value
-    ∙ ap length (logs-order object p k.nodes.items k.spares.items k.frames.frames k.history.items c.self.invariant))
+    let w = world_of object p in
+    let is = c.self.invariant in
+    let count = ap (λ (x : Group). x.count) is.same in
+    subst (λ (q : Played g.row.O-Alloc.Denot). c.most_effects.result ≡ length (order (world_of object q))) c.self.view_is
+    (c.most_effects.ensures ∙ ap (λ xs. greatest (effects_in object xs)) c.deref.ensures.value
+    ∙ order-length object w k.nodes.items k.spares.items k.frames.frames k.history.items k.told.items k.longest.calls is.kept (λ i low high.
+    let within : i ≤ k.fixed.count = omega (arith, high, count) in
+    subst (λ (x : Group). effects_of object (w.nodes i) ≡ length (deduplicated (committed_of x (lives_of w i)))) (sym is.same)
+    (c.effects_law.ensures.effects k.fixed k.events.items i is.few is.fit low within)))

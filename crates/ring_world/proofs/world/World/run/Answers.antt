@@ -1,7 +1,6 @@
 -- What holds of every run holds of this one.
-use Rattle.std.proofs.Common.{◌≤◌, take, sym, subst}
+use Rattle.std.proofs.Common.{take, sym, subst}
 use Rattle.ring_base.specs.Fronts.{IsFront}
-use Rattle.ring_base.specs.Group.{Group}
 use Rattle.ring_rules.specs.Worlds.{World, world_opening, order}
 use Rattle.ring_order_proof.specs.Projection.{share_of}
 use Rattle.ring_world.specs.Played.{Played, world_of, Plays}
@@ -20,14 +19,8 @@ returns-clause-plays g c =
 
 pub returns-clause-explains : goal.returns-clause-explains
 returns-clause-explains g c =
-    let k = c.self.inside in
-    let object = g.O.Object.sequential in
-    let p : Played g.row.O-Alloc.Denot = record { group = k.fixed; events = k.events.items; told = k.told.items; done = k.done } in
     let q = c.run_all.new.self in
-    let es = take q.done c.args.events.now in
-    let l = plays_longer object es p q (plays_from object es 0 p q c.run_all.ensures.plays) in
-    let few = subst (λ (x : Group). x.count ≤ 16) (sym l.group) c.self.invariant.few in
-    c.linear_law.ensures.explains q.group q.events few
+    c.linear_law.ensures.explains q.group q.events c.keeps.ensures.few c.keeps.ensures.keep
 
 pub returns-clause-grows : goal.returns-clause-grows
 returns-clause-grows g c =
@@ -43,14 +36,13 @@ returns-clause-grows g c =
 
 pub returns-clause-fronts : goal.returns-clause-fronts
 returns-clause-fronts g c = λ node low high.
-    let k = c.self.inside in
-    let object = g.O.Object.sequential in
-    let p : Played g.row.O-Alloc.Denot = record { group = k.fixed; events = k.events.items; told = k.told.items; done = k.done } in
     let q = c.run_all.new.self in
-    let es = take q.done c.args.events.now in
-    let l = plays_longer object es p q (plays_from object es 0 p q c.run_all.ensures.plays) in
-    let few = subst (λ (x : Group). x.count ≤ 16) (sym l.group) c.self.invariant.few in
-    c.linear_law.ensures.fronts q.group q.events node few low high
+    c.linear_law.ensures.fronts q.group q.events node c.keeps.ensures.few low high
+
+pub returns-clause-follows : goal.returns-clause-follows
+returns-clause-follows g c = λ node low high.
+    let q = c.run_all.new.self in
+    c.linear_law.ensures.follows q.group q.events node c.keeps.ensures.few c.keeps.ensures.keep low high
 
 pub returns-clause-synchronous : goal.returns-clause-synchronous
 returns-clause-synchronous g c = synchronous_run g.O.Object.sequential c.run_all.new.self.group c.run_all.new.self.events

@@ -1,10 +1,13 @@
 -- A step of a node is a step of the world, and its answers have their copies; where memory was refused, it stands as a stop.
-use Rattle.std.proofs.Common.{◌-◌, length, ap, ◌∙◌, arith}
-use Rattle.ring_rules.specs.Worlds.{stepped_if}
+use Rattle.std.proofs.Common.{◌-◌, ◌++◌, length, ap, ◌∙◌, sym, subst, arith}
+use Rattle.ring_rules.specs.Nodes.{Node, node_kept}
+use Rattle.ring_rules.specs.Worlds.{stepped_if, calls_past}
+use Rattle.ring_order_proof.specs.Counts.{CountsPlaces}
 use Rattle.ring_world.specs.Played.{Played, world_of}
-use Rattle.ring_world.proofs.NodePlaces.{Stands, stands, unknown, roomy, spare_there, high}
-use Rattle.ring_world.proofs.WorldOfNodes.{IsStep, sends_fit, answers_few, answers_left, step_world, step_goes}
+use Rattle.ring_world.proofs.NodePlaces.{Stands, stands, unknown, roomy, spare_there, node_put, high}
+use Rattle.ring_world.proofs.WorldOfNodes.{IsStep, sends_fit, answers_few, answers_left, step_counts, step_world, step_goes}
 use Rattle.ring_world.proofs.WorldOfNodes.{silent_world, silent_goes, stop_world, refused_goes}
+use Rattle.ring_world.proofs.EventLimits.{all_fit}
 use Rattle.ring_world.proofs.SubmitRefused.{room_less}
 use Rattle.ring_world.proofs.world.World.step.Given.{Over}
 use Rattle.ring_world.proofs.world.World.step.Goals.{In_ok-make_room, In-Ok}
@@ -14,16 +17,21 @@ use Rattle.ring_world.proofs.world.World.step.Goals as goal
 place : (g : Over) (c : In_ok-make_room g) → Stands g.O.Object.sequential
     (record { group = c.self.inside.fixed; events = c.make_room.new.events.items; told = c.make_room.new.told.items; done = c.self.inside.done })
     c.args.self.now c.self.inside.nodes.items c.self.inside.spares.items c.make_room.new.frames.frames c.make_room.new.history.items
-    c.args.node (c.from-place.result - 1)
+    c.make_room.new.longest.calls c.args.node (c.from-place.result - 1)
 place g c =
     let there = stands c.self.view_is c.self.invariant c.number.ensures.value c.number.ensures.in_range c.from-place.ensures
     c.self.inside.nodes.ok.0 c.len.ensures c.if-place-len.false in
     let room = c.in_ok-make_room.ensures in
-    roomy there room.events room.told room.history room.frames
+    roomy there room.events room.told room.history room.frames room.longest
 
 gave : (g : Over) (c : In-Ok g) → IsStep g.O.Object.sequential c.index_mut.result.now c.args.input.now c.hand.new.node
-    c.in-Ok.outs.sends.items c.in-Ok.outs.answers.items
-gave g c = record { node = c.in-Ok.ensures.ok; sends = c.in-Ok.ensures.sends; answers = c.in-Ok.ensures.answers }
+    c.in-Ok.outs.sends.items c.in-Ok.outs.answers.items c.in-Ok.outs.committed.items
+gave g c = record {
+  node = c.in-Ok.ensures.ok;
+  sends = c.in-Ok.ensures.sends;
+  answers = c.in-Ok.ensures.answers;
+  committed_is = c.in-Ok.ensures.committed;
+}
 
 pub idle-requires-clause-same : goal.idle-requires-clause-same
 idle-requires-clause-same g c =
@@ -37,7 +45,7 @@ keep_all-requires-clause-fit g c =
     let here = place g at.In_ok-make_room in
     rw c.deref.ensures.value (sends_fit here c.index_mut.ensures.value (gave g at.In-Ok)
     (c.frames_law.ensures.steps c.self.inside.fixed c.make_room.new.events.items c.args.node c.args.input.now
-    here.world.few here.world.fit here.low (high here) c.requires.fits))
+    here.world.few (all_fit c.make_room.new.events.items here.world.fit) here.low (high here) c.requires.fits))
 
 pub keep_all-requires-clause-room : goal.keep_all-requires-clause-room
 keep_all-requires-clause-room g c =
@@ -63,12 +71,23 @@ tell-requires g c =
       history_room = omega (arith, few, c.in_ok-make_room.ensures.history_room);
     }
 
+pub committed_len-many-requires : goal.committed_len-many-requires
+committed_len-many-requires g c =
+    let at = goal.at.committed_len-many-requires g c in
+    let here = place g at.In_ok-make_room in
+    subst (λ (n : Node g.row.O-Alloc.Denot). CountsPlaces n) (sym (node_put here c.hand.new.node c.index.ensures))
+    (step_counts here c.index_mut.ensures.value (gave g at.In-Ok) c.args.event.now c.index_mut-in-Ok.ensures.value c.requires.same
+    (λ events. c.effects_law.ensures.places c.self.inside.fixed events c.args.node here.world.few here.low (high here)))
+
 pub invariant_of-self-in-Ok : goal.invariant_of-self-in-Ok
 invariant_of-self-in-Ok g c =
     let at = goal.at.invariant_of-self-in-Ok g c in
     step_world (place g at.In_ok-make_room) c.index_mut.ensures.value (gave g at.In-Ok) c.args.event.now c.index_mut-in-Ok.ensures.value c.requires.same
     c.in_ok-kept.kept c.tell.new.spares c.in_ok-kept.ensures.ok c.requires.steps c.push_reserved.ensures.items c.tell.ensures.spares
     (rw c.deref.ensures.value at c.keep_all.ensures) c.tell.ensures.history c.tell.ensures.told
+    (c.add.ensures ∙ ap (λ n. c.make_room.new.longest.calls ++ calls_past (length c.make_room.new.longest.calls) n c.in-Ok.outs.committed.items)
+    (c.committed_len-many.ensures ∙ ap (λ (n : Node g.row.O-Alloc.Denot). (node_kept n).committed)
+    (node_put (place g at.In_ok-make_room) c.hand.new.node c.index.ensures)))
 
 pub returns-in-Ok : goal.returns-in-Ok
 returns-in-Ok g c =

@@ -1,0 +1,113 @@
+//! A node that trims its log. Expected values are those of `docs/PROTOCOL.md`.
+
+use crate::driven::Driven;
+use refusing_alloc::Refusing;
+use ring_base::{Fault, State};
+use ring_object::Object;
+use ring_session::{Answer, Ticket};
+use ring_things::{Counters, Outcome, reply_with};
+use std::test::Fail;
+
+/// A node as it is shown: its state, the number of its last installed ring, how many places are committed, how many the log has,
+/// how many are dropped, and how many calls took effect.
+type Shown = (State, u64, u64, u64, u64, u64);
+
+/// What is shown of a node.
+fn shown<O: Object>(driven: &Driven<O>) -> Shown {
+    let node = &driven.node;
+    (
+        node.state(),
+        node.ring().seq,
+        node.committed_len(),
+        node.log_len(),
+        node.trimmed(),
+        node.order_len(),
+    )
+}
+
+/// How many calls a node's steps committed and answered, how many they dropped, and how many committed places it keeps.
+fn counts<O: Object>(driven: &Driven<O>) -> ((usize, usize), usize, usize) {
+    (driven.told(), driven.dropped, driven.node.committed().len())
+}
+
+/// The next 64 calls are submitted, from this number on.
+fn calls<O: Object>(driven: &mut Driven<O>, first: u64) -> Result<(), Fault> {
+    for more in 0..64u64 {
+        driven.add(first.saturating_add(more))?;
+    }
+    Ok(())
+}
+
+/// The next 64 calls are done.
+fn round<O: Object>(driven: &mut Driven<O>, first: u64) -> Result<(), Fault> {
+    calls(driven, first)?;
+    driven.turn()?;
+    driven.turn()
+}
+
+/// A node alone forms its ring, and does 192 calls; 64 more are in its log, and one turn of the token commits them.
+fn nearly<O: Object>(driven: &mut Driven<O>) -> Result<(), Fault> {
+    for place in 0..5u8 {
+        driven.step(place)?;
+    }
+    round(driven, 1)?;
+    round(driven, 65)?;
+    round(driven, 129)?;
+    calls(driven, 193)?;
+    driven.turn()
+}
+
+#[test]
+fn lone_node_trims(rt: HostRuntime) -> Result<(), Fail> {
+    let mut driven = Driven::<Counters>::new(rt.alloc(), rt.alloc())?;
+    nearly(&mut driven)?;
+    assert!(rt; shown(&driven) == (State::Operational, 1, 192, 256, 0, 192));
+    assert!(rt; counts(&driven) == ((192, 192), 0, 192));
+    driven.turn()?;
+    assert!(rt; shown(&driven) == (State::Operational, 1, 256, 256, 256, 256));
+    assert!(rt; counts(&driven) == ((256, 256), 256, 0));
+    let last = Answer::Done(reply_with(Outcome::Done, 256));
+    assert!(rt; driven.node.reply(Ticket::new(255)) == Some(last));
+    Ok(())
+}
+
+/// The requests for memory before the step in which a node alone trims its log, and with it, and whether that is as it should be: where
+/// one of them was refused in that step the node has stopped, and has given nothing of it.
+fn trims<O: Object>(driven: &mut Driven<O>, heap: &Refusing) -> Result<(u64, u64, bool), Fault> {
+    nearly(driven)?;
+    let before = heap.requests();
+    let is_right = match driven.turn() {
+        Ok(()) => shown(driven) == (State::Operational, 1, 256, 256, 256, 256),
+        Err(Fault::Memory) => {
+            let is_stopped = shown(driven) == (State::Stopped, 1, 192, 256, 0, 192);
+            is_stopped && counts(driven) == ((192, 192), 0, 192)
+        }
+        Err(_) => false,
+    };
+    Ok((before, heap.requests(), is_right))
+}
+
+/// The same of a node at its opening, with its memory in `heap`.
+fn trims_in<O: Object>(
+    heap: O::Alloc,
+    ample: O::Alloc,
+    refusing: &Refusing,
+) -> Result<(u64, u64, bool), Fault> {
+    let mut driven = Driven::<O>::new(heap, ample)?;
+    trims(&mut driven, refusing)
+}
+
+#[test]
+fn step_that_is_refused_memory_drops_nothing(rt: HostRuntime) -> Result<(), Fail> {
+    let ample = Refusing::new(rt.alloc(), u64::MAX);
+    let heap = Refusing::new(rt.alloc(), u64::MAX);
+    let (before, after, is_right) = trims_in::<Counters<&Refusing>>(&heap, &ample, &heap)?;
+    assert!(rt; is_right);
+    assert!(rt; after > before);
+    for passed in before..after {
+        let heap = Refusing::new(rt.alloc(), passed);
+        let (_, _, is_right) = trims_in::<Counters<&Refusing>>(&heap, &ample, &heap)?;
+        assert!(rt; is_right, "at {passed}");
+    }
+    Ok(())
+}

@@ -1,0 +1,79 @@
+-- In every run whose issued calls keep the limits each call that was issued does, and so each that a node hands over.
+use Rattle.std.proofs.Common.{ℕ, Bool, true, false, List, [], ◌∷◌, Option, Some, None}
+use Rattle.std.specs.List.{AllByRecursion as Each}
+use Rattle.ring_base.specs.Processors.{has}
+use Rattle.ring_base.specs.declared.fault.Fault.{Fault}
+use Rattle.ring_base.proofs.Each.{each-append, each-get}
+use Rattle.ring_object.specs.Operations.{Sequential}
+use Rattle.ring_payload.specs.declared.call.Call.{Call}
+use Rattle.ring_core.specs.State.{Carried, frame_at}
+use Rattle.ring_session.specs.Snapshots.{KeepsLimits}
+use Rattle.ring_session.specs.SessionAnswer.{reply_in}
+use Rattle.ring_session.specs.declared.answered.Answered.{Answered}
+use Rattle.ring_rules.specs.declared.input.Input.{Input}
+use Rattle.ring_rules.specs.declared.input.Input.TheVariants.{Frame as FrameInput, Timeout as TimeInput}
+use Rattle.ring_rules.specs.Stepping.{node_step, submit_fault}
+use Rattle.ring_rules.specs.declared.event.Event.{Event}
+use Rattle.ring_rules.specs.declared.event.Event.TheVariants.{Issue, Deliver, Noise, Timeout, Stop}
+use Rattle.ring_rules.specs.declared.item.Item.{Item}
+use Rattle.ring_rules.specs.declared.item.Item.TheVariants.{Issue as IssuedItem, Reply as ReplyItem}
+use Rattle.ring_rules.specs.Worlds.{World, is_node, replied, items_of, issued_or, issued_if, stopped_if, stepped_if, handed_if, handed, happens, run}
+use Rattle.ring_order_proof.specs.Linear.{EventKeeps}
+use Rattle.ring_order_proof.proofs.IssuedInWorlds.{IssuedIn}
+
+abbrev ItemKeeps : {A : Type 0} → Item A → Type 0
+ItemKeeps (IssuedItem c) = KeepsLimits c
+ItemKeeps (ReplyItem c r) = Unit {0}
+
+abbrev pub HistoryKeeps : {A : Type 0} → World A → Type 0
+HistoryKeeps w = Each ItemKeeps w.history
+
+replied-keeps : {A : Type 0} (c : Call A) (o : Option (List ℕ)) → Each ItemKeeps (replied c o)
+replied-keeps c None = tt
+replied-keeps c (Some r) = (tt, tt)
+
+items-keep : {A : Type 0} (answers : List (Answered A)) → Each ItemKeeps (items_of answers)
+items-keep [] = tt
+items-keep (a ∷ rest) = each-append ItemKeeps (replied a.call (reply_in a.answer)) (items_of rest) (replied-keeps a.call (reply_in a.answer)) (items-keep rest)
+
+module _ {O A : Type 0} (object : Sequential O) where
+  stepped-keeps : (w : World A) (b : Bool) (i : ℕ) (input : Input A) → HistoryKeeps w → HistoryKeeps (stepped_if object b w i input)
+  stepped-keeps w false i input h = h
+  stepped-keeps w true i input h =
+      let s = node_step object (w.nodes i) input in
+      each-append ItemKeeps w.history (items_of s.answers) h (items-keep s.answers)
+
+  issued-keeps : (w : World A) (o : Option Fault) (i : ℕ) (c : Call A) → KeepsLimits c → HistoryKeeps w → HistoryKeeps (issued_or o w i c)
+  issued-keeps w (Some fault) i c k h = h
+  issued-keeps w None i c k h = each-append ItemKeeps w.history (IssuedItem c ∷ []) h (k, tt)
+
+  issue-keeps : (w : World A) (b : Bool) (i : ℕ) (c : Call A) → KeepsLimits c → HistoryKeeps w → HistoryKeeps (issued_if b w i c)
+  issue-keeps w false i c k h = h
+  issue-keeps w true i c k h = issued-keeps w (submit_fault (w.nodes i)) i c k h
+
+  stop-keeps : (w : World A) (b : Bool) (i : ℕ) → HistoryKeeps w → HistoryKeeps (stopped_if b w i)
+  stop-keeps w false i h = h
+  stop-keeps w true i h = h
+
+  frame-keeps : (w : World A) (b : Bool) (f : Carried A) (i : ℕ) → HistoryKeeps w → HistoryKeeps (handed_if object b w i f.frame)
+  frame-keeps w false f i h = h
+  frame-keeps w true f i h = stepped-keeps w (is_node w i) i (FrameInput f.frame) h
+
+  handed-keeps : (w : World A) (o : Option (Carried A)) (i : ℕ) → HistoryKeeps w → HistoryKeeps (handed object w i o)
+  handed-keeps w None i h = h
+  handed-keeps w (Some f) i h = frame-keeps w (has f.to i) f i h
+
+  event-keeps : (w : World A) (e : Event A) → EventKeeps e → HistoryKeeps w → HistoryKeeps (happens object w e)
+  event-keeps w (Issue i c) k h = issue-keeps w (is_node w i) i c k h
+  event-keeps w (Deliver i n) k h = handed-keeps w (frame_at w.frames n) i h
+  event-keeps w (Noise i bytes) k h = h
+  event-keeps w (Timeout i kind) k h = stepped-keeps w (is_node w i) i (TimeInput kind) h
+  event-keeps w (Stop i) k h = stop-keeps w (is_node w i) i h
+
+  pub run-keeps : (w : World A) (events : List (Event A)) → Each EventKeeps events → HistoryKeeps w → HistoryKeeps (run object w events)
+  run-keeps w [] k h = h
+  run-keeps w (e ∷ events) k h = run-keeps (happens object w e) events k.1 (event-keeps w e k.0 h)
+
+-- an issued call is one of them
+pub issued-limits : {A : Type 0} (w : World A) → HistoryKeeps w → (c : Call A) → IssuedIn w.history c → KeepsLimits c
+issued-limits w h c i = each-get ItemKeeps w.history i.0 (IssuedItem c) h i.1

@@ -1,0 +1,691 @@
+-- The longest of what nodes committed, as their steps gave it: each node's committed places are a front of it, and it is some node's.
+use Rattle.std.proofs.Common.{◌≡◌, ℕ, zero, suc, ◌+◌, ◌-◌, ◌≤◌, ◌<◌, ◌==◌, max, Bool, true, false, List, [], ◌∷◌, ◌++◌, length, drop}
+use Rattle.std.proofs.Common.{Option, Some, None, ◌⊎◌, inl, inr, refl, ap, sym, ◌∙◌, subst, arith, append-nil, append_assoc}
+use Rattle.std.specs.Prelude.{take, map, nat_lt, ◌&&◌, slice_get}
+use Rattle.std.proofs.Math.Seq.{drop-append_seam}
+use Rattle.std.proofs.lemmas.Bool.{cond_both, cond-true, cond-false, cases_Bool, and_parts, and_from, leb-true, le-leb, eqb-true, eq-eqb, ltb-true, ltb-false}
+use Rattle.std.proofs.lemmas.List.{take-append-drop, length-take}
+use Rattle.ring_base.specs.Fronts.{IsFront, front_self, front_trans, front_shorter, front_length, front_whole}
+use Rattle.ring_base.specs.Group.{Group, is_primary}
+use Rattle.ring_base.specs.Numbers.{numbers_from}
+use Rattle.ring_base.specs.Processors.{only, has}
+use Rattle.ring_base.specs.declared.fault.Fault.{Fault}
+use Rattle.ring_base.specs.declared.ring_id.RingId.{RingId}
+use Rattle.ring_base.proofs.ListFronts.{drop-more, take-whole}
+use Rattle.ring_base.proofs.ListPlaces.{get-numbers}
+use Rattle.ring_object.specs.Operations.{Sequential}
+use Rattle.ring_payload.specs.declared.call.Call.{Call}
+use Rattle.ring_payload.specs.declared.content.Payload.{Payload}
+use Rattle.ring_wire.specs.declared.frame.Frame.{Frame}
+use Rattle.ring_core.specs.State.{Core, Carried, Stepped, frame_at}
+use Rattle.ring_core.specs.Stepping.{ring_step}
+use Rattle.ring_core.specs.declared.input.Input.TheVariants.{Frame as CoreFrame, Timeout as CoreTimeout}
+use Rattle.ring_core.specs.declared.out.Out.{Out}
+use Rattle.ring_log.specs.declared.wanted.Wanted.{Wanted}
+use Rattle.ring_log.specs.Exchanges.{wanted}
+use Rattle.ring_log.specs.Stays.{Stay, born, hands, trims}
+use Rattle.ring_log.specs.Lives.{Whole, exchanged, upto, log_of, committed_of, filled, fronts_below}
+use Rattle.ring_log.specs.Kept.{Kept, restores, restored_kept, joined_kept, adopts_wanted, kept_by, nothing_kept, kept_of, log_kept, is_kept_sound}
+use Rattle.ring_log.specs.Logs.{committed_calls}
+use Rattle.ring_log.proofs.CommittedOf.{hands-kept}
+use Rattle.ring_log_proof.specs.RingFacts.{IsStay, StayIn}
+use Rattle.ring_log_proof.specs.Time.{LivesOn}
+use Rattle.ring_log_proof.specs.Views.{IsView}
+use Rattle.ring_log_proof.proofs.FilledLives.{kept-filled, filled-there}
+use Rattle.ring_log_proof.proofs.Fronts.{fill}
+use Rattle.ring_log_proof.proofs.Moment.{view-at, committed-front, committed-grows, one-log}
+use Rattle.ring_rules.proofs.Linear.{all-at}
+use Rattle.ring_rules.proofs.Orders.{order_of-fronts, longer-either}
+use Rattle.ring_rules.specs.Lives.{lived_through}
+use Rattle.ring_rules.specs.Orders.{order_of}
+use Rattle.ring_session.specs.Deduplicated.{deduplicated}
+use Rattle.ring_session.specs.DeduplicatedLaws.{deduplicated-front}
+use Rattle.ring_rules.specs.Nodes.{Node, node_stopped, node_kept, is_closed, is_restored}
+use Rattle.ring_rules.specs.Stepping.{NodeStepped, walked, newly, drops, ended, did, settled, after_core, node_step, submit_fault, submitted}
+use Rattle.ring_rules.specs.Stepping.{due_by_submit, with_dropped}
+use Rattle.ring_rules.specs.Dues.{due_by}
+use Rattle.ring_rules.specs.declared.input.Input.{Input}
+use Rattle.ring_rules.specs.declared.input.Input.TheVariants.{Frame as FrameInput, Noise as NoiseInput, Timeout as TimeInput, Stop as StopInput}
+use Rattle.ring_rules.specs.declared.event.Event.{Event}
+use Rattle.ring_rules.specs.declared.event.Event.TheVariants.{Issue, Deliver, Noise, Timeout, Stop}
+use Rattle.ring_rules.specs.Worlds.{World, world_opening, put, is_node, calls_past, after_step, issued_or, issued_if, stopped_if, stepped_if, handed_if}
+use Rattle.ring_rules.specs.Worlds.{handed, happens, run, lives_in, above, lives_of, committed_in, order}
+use Rattle.ring_order_proof.proofs.DisciplinedWorlds.{AllKept, opened_on, run_group}
+use Rattle.ring_order_proof.proofs.Orderly.{IsOrderlyWorld, run-more, orderly, lives_on}
+use Rattle.ring_order_proof.proofs.RestoredPlaces.{Restored, gone, dropped-most, most-through, restored-hands, restored-trims, restored-owned}
+
+-- ---- lists
+
+-- a list that is a longer front of another and a call list behind it
+goes_on : {X : Type 0} (xs ys more : List X) → IsFront xs ys → IsFront ys (xs ++ more)
+    → ys ++ drop (length more - (length (xs ++ more) - length ys)) more ≡ xs ++ more
+goes_on {X} [] ys more p q =
+    let le = front_length ys more q in
+    let n : length more - (length more - length ys) ≡ length ys = omega (arith, le) in
+    ap (λ (k : ℕ). ys ++ drop k more) n
+    ∙ (ap (λ (zs : List X). ys ++ drop (length ys) zs) (sym q.1) ∙ (ap (λ (zs : List X). ys ++ zs) (drop-append_seam ys q.0) ∙ q.1))
+goes_on (x ∷ xs) [] more p q = absurd (cc p.1)
+goes_on {X} (x ∷ xs) (y ∷ ys) more p q =
+    let same : x ≡ y = cc p.1 in
+    let n : length more - (length ((x ∷ xs) ++ more) - length (y ∷ ys)) ≡ length more - (length (xs ++ more) - length ys) = omega arith in
+    let rest = goes_on xs ys more (p.0, cc p.1) (q.0, cc q.1) in
+    ap (λ (k : ℕ). y ∷ (ys ++ drop k more)) n ∙ (ap (λ (zs : List X). y ∷ zs) rest ∙ ap (λ (z : X). z ∷ (xs ++ more)) (sym same))
+
+-- what of a front lies behind so many places
+behind : {X : Type 0} (n : ℕ) (xs ys : List X) → IsFront xs ys → take (length xs - n) (drop n ys) ≡ drop n xs
+behind zero xs ys f = let same : length xs - 0 ≡ length xs = omega arith in rw same (take-whole xs ys f)
+behind (suc n) [] ys f = let none : 0 - suc n ≡ 0 = omega arith in rw none refl
+behind (suc n) (x ∷ xs) [] f = absurd (cc f.1)
+behind (suc n) (x ∷ xs) (y ∷ ys) f =
+    let less : length (x ∷ xs) - suc n ≡ length xs - n = omega arith in
+    rw less (behind n xs ys (f.0, cc f.1))
+
+-- the list is a node's
+pub record IsOf {A : Type 0} (committed : ℕ → List (Call A)) (count : ℕ) (log : List (Call A)) : Type 0 where
+  pub node : ℕ
+  pub low : 1 ≤ node
+  pub high : node ≤ count
+  pub log_is : log ≡ committed node
+
+-- each node's list is a front of this one, which is a node's
+pub record IsLongest {A : Type 0} (committed : ℕ → List (Call A)) (count : ℕ) (longest : List (Call A)) : Type 0 where
+  pub fronts : (i : ℕ) → 1 ≤ i → i ≤ count → IsFront (committed i) longest
+  pub some : (longest ≡ []) ⊎ IsOf committed count longest
+
+-- a node's list is one that isn't longer than the longest, and these calls behind it; the others' are as they were
+pub record IsGrown {A : Type 0} (before after : ℕ → List (Call A)) (count node all : ℕ) (calls longest : List (Call A)) : Type 0 where
+  pub low : 1 ≤ node
+  pub high : node ≤ count
+  pub start : List (Call A)
+  pub own : after node ≡ start ++ calls
+  pub within : length start ≤ length longest
+  pub grows : IsFront (before node) (after node)
+  pub others : (i : ℕ) → 1 ≤ i → i ≤ count → (i == node) ≡ false → after i ≡ before i
+  pub all_is : all ≡ length (after node)
+
+module _ {A : Type 0} (before after : ℕ → List (Call A)) (count node all : ℕ) (calls longest : List (Call A))
+    (grown : IsGrown before after count node all calls longest)
+    (log : List (Call A)) (one : (i : ℕ) → 1 ≤ i → i ≤ count → IsFront (after i) log) (is : IsLongest before count longest) where
+  front-on : (i : ℕ) → 1 ≤ i → i ≤ count → IsFront (before i) (after i)
+  front-on i low high = elim (cases_Bool (i == node)) [
+    | inl t ↦ let same : i ≡ node = eqb-true i node t in subst (λ (k : ℕ). IsFront (before k) (after k)) (sym same) grown.grows
+    | inr f ↦ subst (λ (zs : List (Call A)). IsFront (before i) zs) (sym (grown.others i low high f)) (front_self (before i))
+  ]
+
+  old-front : IsFront longest log
+  old-front = elim is.some [
+    | inl e ↦ subst (λ (zs : List (Call A)). IsFront zs log) (sym e) (log, refl)
+    | inr j ↦ subst (λ (zs : List (Call A)). IsFront zs log) (sym j.log_is)
+        (front_trans (before j.node) (after j.node) log (front-on j.node j.low j.high) (one j.node j.low j.high))
+  ]
+
+  -- another's list is a front of any that the old one is a front of
+  other-fronts : (new : List (Call A)) → IsFront longest new → IsFront (after node) new → (i : ℕ) → 1 ≤ i → i ≤ count → IsFront (after i) new
+  other-fronts new front mine i low high = elim (cases_Bool (i == node)) [
+    | inl t ↦ let same : i ≡ node = eqb-true i node t in subst (λ (k : ℕ). IsFront (after k) new) (sym same) mine
+    | inr f ↦ subst (λ (zs : List (Call A)). IsFront zs new) (sym (grown.others i low high f))
+        (front_trans (before i) longest new (is.fronts i low high) front)
+  ]
+
+  stays : length (after node) ≤ length longest → IsLongest after count longest
+  stays le =
+      let mine = front_shorter (after node) longest log (one node grown.low grown.high) old-front le in
+      record {
+        fronts = other-fronts longest (front_self longest) mine;
+        some = elim is.some [
+          | inl e ↦ inl e
+          | inr j ↦ inr (record {
+            node = j.node;
+            low = j.low;
+            high = j.high;
+            log_is = front_whole longest (after j.node) (subst (λ (zs : List (Call A)). IsFront zs (after j.node)) (sym j.log_is) (front-on j.node j.low j.high))
+                (front_length (after j.node) longest (other-fronts longest (front_self longest) mine j.node j.low j.high));
+          })
+        ];
+      }
+
+  longer_is : length longest ≤ length (after node) → IsLongest after count (after node)
+  longer_is le =
+      let front = front_shorter longest (after node) log old-front (one node grown.low grown.high) le in
+      record {
+        fronts = other-fronts (after node) front (front_self (after node));
+        some = inr (record { node = node; low = grown.low; high = grown.high; log_is = refl });
+      }
+
+  pub longest-next : IsLongest after count (longest ++ calls_past (length longest) all calls)
+  longest-next = elim (cases_Bool (nat_lt (length longest) (length (after node)))) [
+    | inl t ↦
+        let lt = ltb-true (length longest) (length (after node)) t in
+        let front = front_shorter longest (after node) log old-front (one node grown.low grown.high) (omega (arith, lt)) in
+        let short : IsFront (after node) (start ++ calls) = subst (λ (zs : List (Call A)). IsFront (after node) zs) grown.own (front_self (after node)) in
+        let begins : IsFront start longest = front_shorter start longest (start ++ calls) (calls, refl)
+        (front_trans longest (after node) (start ++ calls) front short) grown.within in
+        let n : length calls - (all - length longest) ≡ length calls - (length (start ++ calls) - length longest) =
+        omega (arith, grown.all_is, ap length grown.own) in
+        let new : longest ++ calls_past (length longest) all calls ≡ after node =
+        ap (λ (k : ℕ). longest ++ drop k calls) n
+        ∙ goes_on start longest calls begins (front_trans longest (after node) (start ++ calls) front short) ∙ sym grown.own in
+        subst (IsLongest after count) (sym new) (longer_is (omega (arith, lt)))
+    | inr f ↦
+        let le = ltb-false (length longest) (length (after node)) f in
+        let n : length calls - (all - length longest) ≡ length calls = omega (arith, le, grown.all_is) in
+        let none : longest ++ calls_past (length longest) all calls ≡ longest =
+        ap (λ (k : ℕ). longest ++ drop k calls) n ∙ ap (λ (zs : List (Call A)). longest ++ zs) (nothing calls) ∙ append-nil longest in
+        subst (IsLongest after count) (sym none) (stays le)
+  ]
+    where
+      start : List (Call A)
+      start = grown.start
+
+      nothing : (xs : List (Call A)) → drop (length xs) xs ≡ []
+      nothing [] = refl
+      nothing (x ∷ xs) = nothing xs
+
+-- where nothing changes
+longest-same : {A : Type 0} (before after : ℕ → List (Call A)) (count : ℕ) (longest : List (Call A))
+    → ((i : ℕ) → 1 ≤ i → i ≤ count → after i ≡ before i) → IsLongest before count longest → IsLongest after count longest
+longest-same {A} before after count longest same is = record {
+  fronts = λ i low high. subst (λ (zs : List (Call A)). IsFront zs longest) (sym (same i low high)) (is.fronts i low high);
+  some = elim is.some [
+    | inl e ↦ inl e
+    | inr j ↦ inr (record { node = j.node; low = j.low; high = j.high; log_is = j.log_is ∙ sym (same j.node j.low j.high) })
+  ];
+}
+
+-- ---- what a node knows
+
+-- no place that is known was dropped by restoring
+from-low : {A : Type 0} (group : Group) (life : List (Stay A)) → (kept_of group life).from ≤ (kept_of group life).trimmed
+from-low group [] = omega arith
+from-low {A} group (s ∷ older) = low (from-low group older) (exchanged group s.members s.heard)
+  where
+    k : Kept A
+    k = kept_of group older
+
+    safe : Option (Whole A)
+    safe = exchanged group s.members (upto s.mark s.heard)
+
+    adopted : k.from ≤ k.trimmed → (w : Whole A) (o : Option Wanted) → (adopts_wanted k s.ring o w).from ≤ (adopts_wanted k s.ring o w).trimmed
+    adopted le w None = le
+    adopted le w (Some v) =
+        cond_both (restores k v) (restored_kept s.ring v w.exchange.bytes w.exchange.brought) (joined_kept k s.ring v w.exchange.brought)
+        (λ (x : Kept A). x.from ≤ x.trimmed) (λ t. omega arith) (λ f. le)
+
+    low : k.from ≤ k.trimmed → (o : Option (Whole A)) → (kept_by s.ring k o safe).from ≤ max s.trimmed (kept_by s.ring k o safe).trimmed
+    low le None = omega (arith, le)
+    low le (Some w) = let l = adopted le w (wanted w.exchange) in omega (arith, l)
+
+pub born-known : (A : Type 0) (group : Group) (me : ℕ) → (kept_of group (born {A = A} me)).committed ≡ 0
+born-known A group me =
+    let none : exchanged {A = A} group (only me) [] ≡ None = cond_both (is_primary group (only me)) None None (λ (o : Option (Whole A)). o ≡ None) (λ t. refl)
+    (λ f. refl) in
+    ap (λ (o : Option (Whole A)). (kept_by (record { seq = 0; rep = me }) nothing_kept o o).committed) none
+
+-- what a step makes of it: these calls are newly committed by what was known as they were
+pub record IsNew {A : Type 0} (n : Node A) (life : List (Stay A)) (x : NodeStepped A) : Type 0 where
+  pub group_is : x.node.group ≡ n.group
+  pub committed : x.committed ≡ newly (node_kept n) (kept_of n.group life)
+  pub calls : (node_kept x.node).calls ≡ (kept_of n.group life).calls
+  pub from : (node_kept x.node).from ≡ (kept_of n.group life).from
+  pub many : (node_kept x.node).committed ≡ (kept_of n.group life).committed
+  pub restored : (places : ℕ) → Restored n.group life places → Restored n.group x.node.life places
+
+-- nothing is committed, or calls that are new
+pub record IsQuiet {A : Type 0} (n : Node A) (x : NodeStepped A) : Type 0 where
+  pub none : x.committed ≡ []
+  pub many : (node_kept x.node).committed ≡ (node_kept n).committed
+
+trims-calls : {A : Type 0} (group : Group) (places : ℕ) (life : List (Stay A)) → (kept_of group (trims places life)).calls ≡ (kept_of group life).calls
+trims-calls group places [] = refl
+trims-calls group places (s ∷ older) = refl
+
+trims-from : {A : Type 0} (group : Group) (places : ℕ) (life : List (Stay A)) → (kept_of group (trims places life)).from ≡ (kept_of group life).from
+trims-from group places [] = refl
+trims-from group places (s ∷ older) = refl
+
+trims-many : {A : Type 0} (group : Group) (places : ℕ) (life : List (Stay A)) → (kept_of group (trims places life)).committed ≡ (kept_of group life).committed
+trims-many group places [] = refl
+trims-many group places (s ∷ older) = refl
+
+module _ {O A : Type 0} (object : Sequential O) (n : Node A) where
+  -- what comes of a step that goes on
+  step-new : (core : Core A) (outs : List (Out A)) (life : List (Stay A)) (due : List (Payload A)) (closed : Bool)
+      → IsNew n life (ended object closed (kept_of n.group life)
+      (did object n (walked n core life due) outs (kept_of n.group life) (newly (node_kept n) (kept_of n.group life))))
+  step-new core outs life due closed =
+      let k = kept_of n.group life in
+      let x = did object n (walked n core life due) outs k (newly (node_kept n) k) in
+      let handed-is : kept_of n.group (hands due life) ≡ k = hands-kept n.group due life in
+      cond_both (drops object closed k) (record x { node = with_dropped k.committed x.node; dropped = committed_calls (log_kept k) }) x (IsNew n life)
+      (λ t. record {
+        group_is = refl;
+        committed = refl;
+        calls = trims-calls n.group k.committed (hands due life) ∙ ap (λ (y : Kept A). y.calls) handed-is;
+        from = trims-from n.group k.committed (hands due life) ∙ ap (λ (y : Kept A). y.from) handed-is;
+        many = trims-many n.group k.committed (hands due life) ∙ ap (λ (y : Kept A). y.committed) handed-is;
+        restored = λ places r. restored-trims n.group k.committed (hands due life) places (restored-hands n.group due life places r);
+      })
+      (λ f. record {
+        group_is = refl;
+        committed = refl;
+        calls = ap (λ (y : Kept A). y.calls) handed-is;
+        from = ap (λ (y : Kept A). y.from) handed-is;
+        many = ap (λ (y : Kept A). y.committed) handed-is;
+        restored = λ places r. restored-hands n.group due life places r;
+      })
+
+  abbrev Comes : NodeStepped A → Type 0
+  Comes x = IsQuiet n x ⊎ ((outs : List (Out A)) × IsNew n (lived_through n.life outs) x)
+
+  settled-comes : (b : Bool) (core : Core A) (outs : List (Out A)) (due : List (Payload A)) →
+      let life = lived_through n.life outs in
+      Comes (settled object b n (walked n core life due) outs (kept_of n.group life))
+  settled-comes false core outs due = inl (record { none = refl; many = refl })
+  settled-comes true core outs due =
+      let life = lived_through n.life outs in
+      inr (outs, step-new core outs life due (is_closed n.group (hands due life)))
+
+  core-comes : (s : Stepped A) → Comes (after_core object n s)
+  core-comes s =
+      let life = lived_through n.life s.outs in
+      settled-comes (is_kept_sound n.group life && is_restored object (kept_of n.group life)) s.core s.outs (due_by object n s.core n.life s.outs)
+
+  pub step-comes : (input : Input A) → Comes (node_step object n input)
+  step-comes (FrameInput frame) = core-comes (ring_step n.core (CoreFrame frame))
+  step-comes (TimeInput kind) = core-comes (ring_step n.core (CoreTimeout kind))
+  step-comes NoiseInput = inl (record { none = refl; many = refl })
+  step-comes StopInput = inl (record { none = refl; many = refl })
+
+-- ---- worlds
+
+-- what a world's nodes committed, with what snapshots stand for
+abbrev pub committed_by : {A : Type 0} → Group → World A → ℕ → List (Call A)
+committed_by group w i = committed_of group (lives_of w i)
+
+-- A world of this group whose lives are orderly
+pub record IsWorld {A : Type 0} (group : Group) (w : World A) : Type 0 where
+  pub orderly : IsOrderlyWorld group w
+  pub nodes : AllKept group w
+  pub group_is : w.group ≡ group
+
+module _ {A : Type 0} (group : Group) (w : World A) (is : IsWorld group w) where
+  a-node : (i : ℕ) → 1 ≤ i → i ≤ group.count → is_node w i ≡ true
+  a-node i low high = and_from _ _ (le-leb 1 i low) (le-leb i w.group.count (omega (arith, high, ap (λ (g : Group). g.count) is.group_is)))
+
+  -- of each node what it knows is told by its life, whatever snapshots stand for
+  kept-is : (i : ℕ) → 1 ≤ i → i ≤ group.count → kept_of group (lives_of w i) ≡ node_kept (w.nodes i)
+  kept-is i low high =
+      kept-filled (fronts_below w.group (lives_in w) (above (lives_in w i))) i group (lives_in w i)
+      ∙ ap (kept_of group) (cond-true (is_node w i) (w.nodes i).life [] (a-node i low high))
+      ∙ ap (λ g. kept_of g (w.nodes i).life) (sym (is.nodes i).group_is)
+
+  view-is : (i : ℕ) → IsView group (lives_of w i)
+  view-is = view-at group (lives_of w) is.orderly.members is.orderly.text is.orderly.facts is.orderly.discipline
+
+  size-is : (i : ℕ) → 1 ≤ i → i ≤ group.count → length (committed_by group w i) ≡ (node_kept (w.nodes i)).committed
+  size-is i low high = sym (view-is i).committed ∙ ap (λ (k : Kept A). k.committed) (kept-is i low high)
+
+  -- who has a stay is a node
+  in-group : (i : ℕ) (r : RingId) → StayIn (lives_of w i) r → (1 ≤ i) × (i ≤ group.count)
+  in-group i r at = elim (cases_Bool (is_node w i)) as (λ _. (1 ≤ i) × (i ≤ group.count)) [
+    | inl t ↦
+        let parts = and_parts _ _ t in
+        let high = leb-true i w.group.count parts.1 in (
+          leb-true 1 i parts.0,
+          omega (arith, high, ap (λ (g : Group). g.count) is.group_is),
+        )
+    | inr f ↦
+        let none : lives_in w i ≡ [] = cond-false (is_node w i) (w.nodes i).life [] f in
+        absurd (subst (λ (l : List (Stay A)). IsStay (filled (fronts_below w.group (lives_in w) (above (lives_in w i))) i l) at.stay at.older) none at.there)
+  ]
+
+  -- what was restored in a node's life stands in the life that tells what snapshots stand for
+  restored-filled : (i places : ℕ) → 1 ≤ i → i ≤ group.count → Restored (w.nodes i).group (w.nodes i).life places → Restored group (lives_of w i) places
+  restored-filled i places low high r =
+      let fronts = fronts_below w.group (lives_in w) (above (lives_in w i)) in
+      let here : lives_in w i ≡ (w.nodes i).life = cond-true (is_node w i) (w.nodes i).life [] (a-node i low high) in
+      let own : Restored group (lives_in w i) places = subst (λ l. Restored group l places) (sym here)
+      (subst (λ g. Restored g (w.nodes i).life places) (is.nodes i).group_is r) in
+      record {
+        stay = fill fronts i own.stay;
+        older = filled fronts i own.older;
+        there = filled-there fronts i (lives_in w i) own.stay own.older own.there;
+        whole = own.whole;
+        exch = own.exch;
+        w = own.w;
+        wants = own.wants;
+        at = own.at;
+        snap = own.snap;
+        from = own.from;
+        fewer = subst (λ (k : Kept A). k.committed < places) (sym (kept-filled fronts i group own.older)) own.fewer;
+      }
+
+  -- all are fronts of one list
+  one-list : (log : List (Call A)) × ((i : ℕ) → 1 ≤ i → i ≤ group.count → IsFront (committed_by group w i) log)
+  one-list =
+      let all = one-log group (lives_of w) is.orderly.members is.orderly.text is.orderly.facts is.orderly.discipline (numbers_from 1 group.count) in (
+        all.0,
+        λ i low high.
+            let at : 1 + (i - 1) ≡ i = omega (arith, low) in
+            all-at (λ (l : List (Call A)). IsFront l all.0) (map (committed_by group w) (numbers_from 1 group.count)) (i - 1) (committed_by group w i) all.1
+            (get-numbers (committed_by group w) 1 group.count (i - 1) (omega (arith, low, high)) ∙ ap (λ j. Some (committed_by group w j)) at),
+      )
+
+module _ {A : Type 0} (group : Group) (w w' : World A) (is : IsWorld group w) (is' : IsWorld group w')
+    (on : (i : ℕ) → LivesOn (lives_of w i) (lives_of w' i)) where
+  grows-on : (i : ℕ) → IsFront (committed_by group w i) (committed_by group w' i)
+  grows-on =
+      let o = is.orderly in
+      let o' = is'.orderly in
+      committed-grows group (record { lives = lives_of w; members = o.members; text = o.text; facts = o.facts; discipline = o.discipline })
+      (record { lives = lives_of w'; members = o'.members; text = o'.text; facts = o'.facts; discipline = o'.discipline }) on
+
+  -- as many are committed as before
+  same-on : (i : ℕ) → 1 ≤ i → i ≤ group.count → (node_kept (w'.nodes i)).committed ≡ (node_kept (w.nodes i)).committed
+      → committed_by group w' i ≡ committed_by group w i
+  same-on i low high same =
+      sym (front_whole (committed_by group w i) (committed_by group w' i) (grows-on i)
+      (omega (arith, same, size-is group w is i low high, size-is group w' is' i low high)))
+
+  module _ {O : Type 0} (object : Sequential O) (i : ℕ) (input : Input A) (low : 1 ≤ i) (high : i ≤ group.count)
+      (steps : w' ≡ after_step w i (node_step object (w.nodes i) input)) (longest : IsLongest (committed_by group w) group.count w.longest) where
+    abbrev n : Node A
+    n = w.nodes i
+
+    abbrev x : NodeStepped A
+    x = node_step object n input
+
+    here : w'.nodes i ≡ x.node
+    here = ap (λ (v : World A). v.nodes i) steps ∙ cond-true (i == i) x.node (w.nodes i) (eq-eqb i i refl)
+
+    there : (j : ℕ) → (j == i) ≡ false → w'.nodes j ≡ w.nodes j
+    there j other = ap (λ (v : World A). v.nodes j) steps ∙ cond-false (j == i) x.node (w.nodes j) other
+
+    others-same : (j : ℕ) → 1 ≤ j → j ≤ group.count → (j == i) ≡ false → committed_by group w' j ≡ committed_by group w j
+    others-same j l h other = same-on j l h (ap (λ (m : Node A). (node_kept m).committed) (there j other))
+
+    known-within : (j : ℕ) → 1 ≤ j → j ≤ group.count → (node_kept (w.nodes j)).committed ≤ length w.longest
+    known-within j l h =
+        let le = front_length (committed_by group w j) w.longest (longest.fronts j l h) in
+        omega (arith, le, size-is group w is j l h)
+
+    quiet-grown : IsQuiet n x → IsGrown (committed_by group w) (committed_by group w') group.count i (node_kept x.node).committed x.committed w.longest
+    quiet-grown q = record {
+      low = low;
+      high = high;
+      start = committed_by group w' i;
+      own = sym (ap (λ l. committed_by group w' i ++ l) q.none ∙ append-nil (committed_by group w' i));
+      within =
+          let le = known-within i low high in
+          omega (arith, le, size-is group w' is' i low high, ap (λ (m : Node A). (node_kept m).committed) here, q.many);
+      grows = grows-on i;
+      others = others-same;
+      all_is = sym (size-is group w' is' i low high ∙ ap (λ (m : Node A). (node_kept m).committed) here);
+    }
+
+    module _ (outs : List (Out A)) (new : IsNew n (lived_through n.life outs) x) where
+      abbrev k : Kept A
+      k = kept_of n.group (lived_through n.life outs)
+
+      abbrev old : Kept A
+      old = node_kept n
+
+      abbrev all : List (Call A)
+      all = committed_by group w' i
+
+      abbrev log : List (Call A)
+      log = log_of group (lives_of w' i)
+
+      known : kept_of group (lives_of w' i) ≡ node_kept x.node
+      known = kept-is group w' is' i low high ∙ ap (λ (m : Node A). node_kept m) here
+
+      size : k.committed ≡ length all
+      size = sym new.many ∙ sym (size-is group w' is' i low high ∙ ap (λ (m : Node A). (node_kept m).committed) here)
+
+      -- the committed places that it keeps are those behind what was dropped
+      kept-calls : committed_calls (log_kept k) ≡ drop k.trimmed all
+      kept-calls =
+          let v = view-is group w' is' i in
+          let from : (kept_of group (lives_of w' i)).from ≡ k.from = ap (λ (y : Kept A). y.from) known ∙ new.from in
+          let calls : k.calls ≡ drop k.from log = sym (ap (λ (y : Kept A). y.calls) known ∙ new.calls) ∙ v.calls ∙ ap (λ m. drop m log) from in
+          let l = from-low n.group (lived_through n.life outs) in
+          let sum : k.from + (k.trimmed - k.from) ≡ k.trimmed = omega (arith, l) in
+          let front = committed-front group (lives_of w') is'.orderly.members is'.orderly.text is'.orderly.facts is'.orderly.discipline i in
+          ap (λ y. take (k.committed - k.trimmed) (drop (k.trimmed - k.from) y)) calls
+          ∙ ap (take (k.committed - k.trimmed)) (drop-more k.from (k.trimmed - k.from) log ∙ ap (λ m. drop m log) sum)
+          ∙ ap (λ m. take (m - k.trimmed) (drop k.trimmed log)) size
+          ∙ behind k.trimmed all log front
+
+      -- what is new lies behind what was committed, or restored
+      new-calls : x.committed ≡ drop (max old.committed k.trimmed) all
+      new-calls =
+          let sum : k.trimmed + (max old.committed k.trimmed - k.trimmed) ≡ max old.committed k.trimmed = omega arith in
+          new.committed ∙ ap (drop (max old.committed k.trimmed - k.trimmed)) kept-calls
+          ∙ drop-more k.trimmed (max old.committed k.trimmed - k.trimmed) all ∙ ap (λ m. drop m all) sum
+
+      -- and some node had committed all of that
+      start-within : max old.committed k.trimmed ≤ length w.longest
+      start-within =
+          let mine = known-within i low high in
+          elim (gone n.group old.committed (lived_through n.life outs)
+          (most-through old.committed n.life outs (dropped-most n.group n.life (is.nodes i).orderly.drops)))
+          as (λ _. max old.committed k.trimmed ≤ length w.longest) [
+            | inl le ↦ omega (arith, mine, le)
+            | inr r ↦
+                let own : Restored x.node.group x.node.life k.trimmed = subst (λ g. Restored g x.node.life k.trimmed) (sym new.group_is) (new.restored k.trimmed r) in
+                let own' : Restored (w'.nodes i).group (w'.nodes i).life k.trimmed =
+                subst (λ (m : Node A). Restored m.group m.life k.trimmed) (sym here) own in
+                let o' = is'.orderly in
+                let owned = restored-owned group (lives_of w') o'.members o'.text o'.facts o'.discipline i k.trimmed
+                (restored-filled group w' is' i k.trimmed low high own') in
+                let q = owned.owner in
+                let bounds = in-group group w' is' q owned.at.0 owned.at.1 in
+                let had : k.trimmed ≤ (node_kept (w'.nodes q)).committed =
+                let le = owned.committed in
+                omega (arith, le, ap (λ (y : Kept A). y.committed) (kept-is group w' is' q bounds.0 bounds.1)) in
+                let was : (node_kept (w'.nodes q)).committed ≡ (node_kept (w.nodes q)).committed =
+                ap (λ (m : Node A). (node_kept m).committed) (there q owned.other) in
+                let theirs = known-within q bounds.0 bounds.1 in
+                omega (arith, mine, had, was, theirs)
+          ]
+
+      new-grown : IsGrown (committed_by group w) (committed_by group w') group.count i (node_kept x.node).committed x.committed w.longest
+      new-grown = record {
+        low = low;
+        high = high;
+        start = take (max old.committed k.trimmed) all;
+        own = sym (ap (λ l. take (max old.committed k.trimmed) all ++ l) new-calls ∙ take-append-drop (max old.committed k.trimmed) all);
+        within = let le = start-within in omega (arith, le, length-take (max old.committed k.trimmed) all);
+        grows = grows-on i;
+        others = others-same;
+        all_is = sym (size-is group w' is' i low high ∙ ap (λ (m : Node A). (node_kept m).committed) here);
+      }
+
+    pub step-longest : IsLongest (committed_by group w') group.count w'.longest
+    step-longest =
+        let grown : IsGrown (committed_by group w) (committed_by group w') group.count i (node_kept x.node).committed x.committed w.longest =
+        elim (step-comes object n input) [ inl q ↦ quiet-grown q | inr c ↦ new-grown c.0 c.1 ] in
+        let list = one-list group w' is' in
+        subst (IsLongest (committed_by group w') group.count) (sym (ap (λ (v : World A). v.longest) steps))
+        (longest-next (committed_by group w) (committed_by group w') group.count i (node_kept x.node).committed x.committed w.longest grown list.0 list.1 longest)
+
+-- ---- events
+
+-- no node commits anything
+pub record IsStill {A : Type 0} (group : Group) (w w' : World A) : Type 0 where
+  pub longest : w'.longest ≡ w.longest
+  pub same : (j : ℕ) → (node_kept (w'.nodes j)).committed ≡ (node_kept (w.nodes j)).committed
+
+-- or one steps
+pub record IsStepped {O A : Type 0} (object : Sequential O) (group : Group) (w w' : World A) : Type 0 where
+  pub node : ℕ
+  pub input : Input A
+  pub low : 1 ≤ node
+  pub high : node ≤ group.count
+  pub is : w' ≡ after_step w node (node_step object (w.nodes node) input)
+
+module _ {O A : Type 0} (object : Sequential O) (group : Group) (w : World A) (group_is : w.group ≡ group) where
+  abbrev Moves : World A → Type 0
+  Moves w' = IsStill group w w' ⊎ IsStepped object group w w'
+
+  still : Moves w
+  still = inl (record { longest = refl; same = λ j. refl })
+
+  put-still : (i : ℕ) (n : Node A) → (node_kept n).committed ≡ (node_kept (w.nodes i)).committed → (j : ℕ)
+      → (node_kept (put w.nodes i n j)).committed ≡ (node_kept (w.nodes j)).committed
+  put-still i n e j = cond_both (j == i) n (w.nodes j) (λ (m : Node A). (node_kept m).committed ≡ (node_kept (w.nodes j)).committed)
+      (λ t. let same : j ≡ i = eqb-true j i t in e ∙ ap (λ q. (node_kept (w.nodes q)).committed) (sym same)) (λ f. refl)
+
+  step-moves : (b : Bool) (i : ℕ) (input : Input A) → is_node w i ≡ b → Moves (stepped_if object b w i input)
+  step-moves false i input e = still
+  step-moves true i input e =
+      let parts = and_parts _ _ e in
+      let high = leb-true i w.group.count parts.1 in
+      inr (record {
+        node = i;
+        input = input;
+        low = leb-true 1 i parts.0;
+        high = omega (arith, high, ap (λ (g : Group). g.count) group_is);
+        is = refl;
+      })
+
+  submit-moves : (o : Option Fault) (i : ℕ) (c : Call A) → Moves (issued_or o w i c)
+  submit-moves (Some fault) i c = inl (record { longest = refl; same = λ j. refl })
+  submit-moves None i c = inl (record {
+    longest = refl;
+    same = put-still i (submitted (w.nodes i) c)
+        (ap (λ (k : Kept A). k.committed) (hands-kept (w.nodes i).group (due_by_submit (w.nodes i) c) (w.nodes i).life));
+  })
+
+  issue-moves : (b : Bool) (i : ℕ) (c : Call A) → Moves (issued_if b w i c)
+  issue-moves false i c = still
+  issue-moves true i c = submit-moves (submit_fault (w.nodes i)) i c
+
+  stop-moves : (b : Bool) (i : ℕ) → Moves (stopped_if b w i)
+  stop-moves false i = still
+  stop-moves true i = inl (record { longest = refl; same = put-still i (node_stopped (w.nodes i)) refl })
+
+  frame-moves : (b : Bool) (i : ℕ) (frame : Frame A) → Moves (handed_if object b w i frame)
+  frame-moves false i frame = still
+  frame-moves true i frame = step-moves (is_node w i) i (FrameInput frame) refl
+
+  handed-moves : (o : Option (Carried A)) (i : ℕ) → Moves (handed object w i o)
+  handed-moves None i = still
+  handed-moves (Some f) i = frame-moves (has f.to i) i f.frame
+
+  event-moves : (e : Event A) → Moves (happens object w e)
+  event-moves (Issue i c) = issue-moves (is_node w i) i c
+  event-moves (Deliver i n) = handed-moves (frame_at w.frames n) i
+  event-moves (Noise i bytes) = still
+  event-moves (Timeout i kind) = step-moves (is_node w i) i (TimeInput kind) refl
+  event-moves (Stop i) = stop-moves (is_node w i) i
+
+-- ---- runs
+
+module _ {O A : Type 0} (object : Sequential O) (group : Group) (few : group.count ≤ 16) where
+  abbrev At : List (Event A) → World A
+  At events = run object (world_opening group) events
+
+  world-is : (events : List (Event A)) → IsWorld group (At events)
+  world-is events = record {
+    orderly = orderly object group few events;
+    nodes = λ i. ((opened_on object group events).nodes i).kept;
+    group_is = run_group object group events;
+  }
+
+  after-is : (events : List (Event A)) (e : Event A) → IsWorld group (happens object (At events) e)
+  after-is events e = subst (IsWorld group) (run-more object (world_opening group) events e) (world-is (events ++ e ∷ []))
+
+  opening-longest : IsLongest (committed_by group (world_opening {A = A} group)) group.count []
+  opening-longest =
+      let is : IsWorld group (world_opening {A = A} group) = world-is [] in record {
+        fronts = λ i low high.
+            let size = size-is group (world_opening {A = A} group) is i low high in
+            let none = born-known A group i in
+            ([], append-nil (committed_by group (world_opening {A = A} group) i) ∙ empty (committed_by group (world_opening {A = A} group) i) (omega (arith, size, none)));
+        some = inl refl;
+      }
+    where
+      empty : (xs : List (Call A)) → length xs ≡ 0 → xs ≡ []
+      empty [] e = refl
+      empty (x ∷ xs) e = absurd (omega (arith, e))
+
+  next-longest : (events : List (Event A)) (e : Event A) → IsLongest (committed_by group (At events)) group.count (At events).longest
+      → IsLongest (committed_by group (happens object (At events) e)) group.count (happens object (At events) e).longest
+  next-longest events e is =
+      let w = At events in
+      let w' = happens object w e in
+      let known = world-is events in
+      let known' = after-is events e in
+      let on : (i : ℕ) → LivesOn (lives_of w i) (lives_of w' i) = lives_on object group few events (e ∷ []) in
+      elim (event-moves object group w known.group_is e) as (λ _. IsLongest (committed_by group w') group.count w'.longest) [
+        | inl s ↦ subst (IsLongest (committed_by group w') group.count) (sym s.longest)
+            (longest-same (committed_by group w) (committed_by group w') group.count w.longest
+            (λ i low high. same-on group w w' known known' on i low high (s.same i)) is)
+        | inr s ↦ step-longest group w w' known known' on object s.node s.input s.low s.high s.is is
+      ]
+
+  more-longest : (before later : List (Event A)) → IsLongest (committed_by group (At before)) group.count (At before).longest
+      → IsLongest (committed_by group (At (before ++ later))) group.count (At (before ++ later)).longest
+  more-longest before [] is =
+      subst (λ (es : List (Event A)). IsLongest (committed_by group (At es)) group.count (At es).longest) (sym (append-nil before)) is
+  more-longest before (e ∷ later) is =
+      let next = subst (λ (w : World A). IsLongest (committed_by group w) group.count w.longest) (sym (run-more object (world_opening group) before e))
+      (next-longest before e is) in
+      subst (λ (es : List (Event A)). IsLongest (committed_by group (At es)) group.count (At es).longest) (append_assoc before (e ∷ []) later)
+      (more-longest (before ++ e ∷ []) later next)
+
+  pub longest-is : (events : List (Event A)) → IsLongest (committed_by group (At events)) group.count (At events).longest
+  longest-is events = more-longest [] events opening-longest
+
+  -- a node's committed places are so many of them
+  pub taken-longest : (events : List (Event A)) (i : ℕ) → 1 ≤ i → i ≤ group.count
+      → committed_by group (At events) i ≡ take (node_kept ((At events).nodes i)).committed (At events).longest
+  taken-longest events i low high =
+      let w = At events in
+      sym (ap (λ n. take n w.longest) (sym (size-is group w (world-is events) i low high))
+      ∙ take-whole (committed_by group w i) w.longest ((longest-is events).fronts i low high))
+
+  -- and there are so many
+  pub within-longest : (events : List (Event A)) (i : ℕ) → 1 ≤ i → i ≤ group.count
+      → (node_kept ((At events).nodes i)).committed ≤ length (At events).longest
+  within-longest events i low high =
+      let w = At events in
+      let le = front_length (committed_by group w i) w.longest ((longest-is events).fronts i low high) in
+      omega (arith, le, size-is group w (world-is events) i low high)
+
+  -- ---- the order
+
+  order-front : (log : List (Call A)) (f : ℕ → List (Call A)) (first n : ℕ) → ((i : ℕ) → first ≤ i → i < first + n → IsFront (f i) log)
+      → IsFront (order_of (map f (numbers_from first n))) (deduplicated log)
+  order-front log f first zero fronts = (deduplicated log, refl)
+  order-front log f first (suc n) fronts =
+      longer-either (λ (w : List (Call A)). IsFront w (deduplicated log)) (deduplicated (f first)) (order_of (map f (numbers_from (suc first) n)))
+      (deduplicated-front (f first) log (fronts first (omega arith) (omega arith)))
+      (order-front log f (suc first) n (λ i low high. fronts i (omega (arith, low)) (omega (arith, high))))
+
+  -- what takes effect of it is the order
+  pub order-longest : (events : List (Event A)) → order (At events) ≡ deduplicated (At events).longest
+  order-longest events =
+      let w = At events in
+      let is = longest-is events in
+      let committed = committed_by group w in
+      let all = map committed (numbers_from 1 group.count) in
+      let known = world-is events in
+      let lists : committed_in w ≡ all = ap (λ (g : Group). map (λ i. committed_of g (lives_of w i)) (numbers_from 1 g.count)) known.group_is in
+      let list = one-log group (lives_of w) known.orderly.members known.orderly.text known.orderly.facts known.orderly.discipline (numbers_from 1 group.count) in
+      let front = order-front w.longest committed 1 group.count (λ i low high. is.fronts i low (omega (arith, high))) in
+      ap order_of lists ∙ front_whole (order_of all) (deduplicated w.longest) front (elim is.some [
+        | inl e ↦ let none : length (deduplicated w.longest) ≡ 0 = ap (λ (zs : List (Call A)). length (deduplicated zs)) e in omega (arith, none)
+        | inr j ↦
+            let same : length (deduplicated w.longest) ≡ length (deduplicated (committed j.node)) = ap
+            (λ (zs : List (Call A)). length (deduplicated zs)) j.log_is in
+            let at : 1 + (j.node - 1) ≡ j.node = let low = j.low in omega (arith, low) in
+            let stands : slice_get all (j.node - 1) ≡ Some (committed j.node) =
+            get-numbers committed 1 group.count (j.node - 1) (let low = j.low in let high = j.high in omega (arith, low, high)) ∙ ap (λ i. Some (committed i)) at in
+            omega (
+              arith,
+              same,
+              front_length (deduplicated (committed j.node)) (order_of all) (order_of-fronts all (j.node - 1) (committed j.node) list stands),
+            )
+      ])

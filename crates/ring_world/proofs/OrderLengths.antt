@@ -1,0 +1,57 @@
+-- How long the order is: as many calls as took effect at the node where the most did.
+use Rattle.std.proofs.Common.{◌≡◌, ℕ, suc, ◌+◌, ◌<◌, ◌≤◌, max, List, [], ◌∷◌, ◌++◌, map, length, Some, slice_get, refl, ap, ◌∙◌, sym, arith}
+use Rattle.std.specs.Prelude.{nat_lt}
+use Rattle.std.proofs.lemmas.Bool.{cond_both, ltb-true, ltb-false}
+use Rattle.ring_base.specs.Numbers.{greatest, numbers_from}
+use Rattle.ring_object.specs.Operations.{Sequential}
+use Rattle.ring_payload.specs.declared.call.Call.{Call}
+use Rattle.ring_core.specs.State.{Carried}
+use Rattle.ring_log.specs.Lives.{committed_of}
+use Rattle.ring_rules.specs.Nodes.{Node}
+use Rattle.ring_rules.specs.declared.item.Item.{Item}
+use Rattle.ring_rules.specs.declared.told.Told.{Told}
+use Rattle.ring_rules.specs.Orders.{longer, order_of}
+use Rattle.ring_rules.specs.Worlds.{World, lives_of, order}
+use Rattle.ring_session.specs.Deduplicated.{deduplicated}
+use Rattle.ring_world.specs.Keeping.{IsWorldKept}
+use Rattle.ring_world.specs.Ordering.{effects_of, effects_in}
+use Rattle.ring_world.specs.Spares.{Spares}
+
+-- one number more
+pub greatest-push : (xs : List ℕ) (x : ℕ) → greatest (xs ++ x ∷ []) ≡ max (greatest xs) x
+greatest-push [] x = omega arith
+greatest-push (y ∷ xs) x = (let rest = greatest-push xs x in omega (arith, rest))
+
+length-longer : {X : Type 0} (xs ys : List X) → length (longer xs ys) ≡ max (length xs) (length ys)
+length-longer {X} xs ys =
+    cond_both (nat_lt (length xs) (length ys)) ys xs (λ (zs : List X). length zs ≡ max (length xs) (length ys))
+    (λ t. (let l = ltb-true (length xs) (length ys) t in omega (arith, l))) (λ f. (let l = ltb-false (length xs) (length ys) f in omega (arith, l)))
+
+-- the longest of what takes effect of each of these lists
+length-order : {A : Type 0} (f : ℕ → List (Call A)) (numbers : List ℕ)
+    → length (order_of (map f numbers)) ≡ greatest (map (λ i. length (deduplicated (f i))) numbers)
+length-order f [] = refl
+length-order f (i ∷ numbers) =
+    length-longer (deduplicated (f i)) (order_of (map f numbers)) ∙ ap (max (length (deduplicated (f i)))) (length-order f numbers)
+
+-- what stands at each place is that of its number
+numbered : {X Y : Type 0} (g : X → Y) (h : ℕ → Y) (xs : List X) (first : ℕ)
+    → ((i j : ℕ) (x : X) → i < length xs → j ≡ first + i → slice_get xs i ≡ Some x → g x ≡ h j) → map g xs ≡ map h (numbers_from first (length xs))
+numbered g h [] first same = refl
+numbered g h (x ∷ xs) first same =
+    ap (λ y. y ∷ map g xs) (same 0 first x (omega arith) (omega arith) refl)
+    ∙ ap (λ ys. h first ∷ ys) (numbered g h xs (suc first) (λ i j y l q at. same (suc i) j y (omega (arith, l)) (omega (arith, q)) at))
+
+pub order-length : {O A : Type 0} (object : Sequential O) (w : World A) (nodes : List (Node A)) (spares : List (Spares A)) (frames : List (Carried A))
+    (history : List (Item A)) (told : List (Told A)) (longest : List (Call A)) → IsWorldKept w nodes spares frames history told longest
+    → ((i : ℕ) → 1 ≤ i → i ≤ w.group.count → effects_of object (w.nodes i) ≡ length (deduplicated (committed_of w.group (lives_of w i))))
+    → greatest (effects_in object nodes) ≡ length (order w)
+order-length {A = A} object w nodes spares frames history told longest kept effects =
+    let committed : ℕ → List (Call A) = λ i. committed_of w.group (lives_of w i) in
+    let own : map (λ (n : Node A). effects_of object n) nodes ≡ map (λ i. length (deduplicated (committed i))) (numbers_from 1 (length nodes)) =
+    numbered (λ (n : Node A). effects_of object n) (λ i. length (deduplicated (committed i))) nodes 1 (λ i j n l q at.
+    let many = kept.many in
+    let next : suc i ≡ j = omega (arith, q) in
+    let same : n ≡ w.nodes j = cc (at, kept.nodes_are i (omega (arith, l, many)), next) in
+    ap (λ (x : Node A). effects_of object x) same ∙ effects j (omega (arith, q)) (omega (arith, l, q, many))) in
+    ap greatest own ∙ sym (length-order committed (numbers_from 1 (length nodes))) ∙ ap (λ n. length (order_of (map committed (numbers_from 1 n)))) kept.many

@@ -1,0 +1,51 @@
+-- What a node has committed are the first places of the longest, as many as it counts.
+use Rattle.std.proofs.Common.{◌≡◌, ◌-◌, ◌<◌, take, refl, ap, ◌∙◌, sym, subst, arith}
+use Rattle.std.specs.Prelude.{IfOk, vec_len}
+use Rattle.ring_base.specs.Group.{Group}
+use Rattle.ring_log.specs.Lives.{committed_of}
+use Rattle.ring_rules.specs.Nodes.{Node, node_kept}
+use Rattle.ring_rules.specs.Worlds.{lives_of}
+use Rattle.ring_order_proof.specs.Counts.{CountsPlaces}
+use Rattle.ring_world.specs.Played.{Played, world_of}
+use Rattle.ring_world.proofs.NodePlaces.{Stands, stands, node_is, high}
+use Rattle.ring_world.proofs.world.World.committed.Given.{Over}
+use Rattle.ring_world.proofs.world.World.committed.Goals.{After-index}
+use Rattle.ring_world.proofs.world.World.committed.Goals as goal
+
+-- where the node stands
+here : (g : Over) (c : After-index g) → Stands g.O.Object.sequential
+    (record { group = c.self.inside.fixed; events = c.self.inside.events.items; told = c.self.inside.told.items; done = c.self.inside.done })
+    c.args.self.now c.self.inside.nodes.items c.self.inside.spares.items c.self.inside.frames.frames c.self.inside.history.items
+    c.self.inside.longest.calls c.args.node (c.from-place.result - 1)
+here g c =
+    let k = c.self.inside in
+    let within = c.requires in
+    let group = ap (λ (r : Played g.row.O-Alloc.Denot). r.group.count) c.self.view_is in
+    let same = ap (λ (x : Group). x.count) c.self.invariant.same in
+    let many = c.self.invariant.kept.many in
+    let low = c.number.ensures.in_range.0 in
+    let inside : c.from-place.result - 1 < vec_len k.nodes =
+    omega (arith, within, group, same, many, low, c.number.ensures.value, c.from-place.ensures, k.nodes.ok.0) in
+    stands c.self.view_is c.self.invariant c.number.ensures.value c.number.ensures.in_range c.from-place.ensures k.nodes.ok.0 refl inside
+
+pub committed_len-many-requires : goal.committed_len-many-requires
+committed_len-many-requires g c =
+    let k = c.self.inside in
+    let at = here g (goal.at.committed_len-many-requires g c).After-index in
+    subst (λ (n : Node g.row.O-Alloc.Denot). CountsPlaces n) (sym (node_is at c.index.ensures))
+    (c.effects_law.ensures.places k.fixed k.events.items c.args.node c.self.invariant.few at.low (high at))
+
+pub returns-clause-ok : goal.returns-clause-ok
+returns-clause-ok g c =
+    let k = c.self.inside in
+    let object = g.O.Object.sequential in
+    let node = c.args.node in
+    let at = here g (goal.at.returns-clause-ok g c).After-index in
+    let p : Played g.row.O-Alloc.Denot = record { group = k.fixed; events = k.events.items; told = k.told.items; done = k.done } in
+    let w = world_of object p in
+    let many = c.committed_len-many.ensures ∙ ap (λ (n : Node g.row.O-Alloc.Denot). (node_kept n).committed) (node_is at c.index.ensures) in
+    let same : take c.committed_len-many.result k.longest.calls ≡ committed_of k.fixed (lives_of w node) =
+    ap (λ n. take n k.longest.calls) many ∙ ap (take (node_kept (w.nodes node)).committed) c.self.invariant.kept.longest_is
+    ∙ sym (c.longest_law.ensures.takes k.fixed k.events.items node c.self.invariant.few at.low (high at)) in
+    subst (λ (q : Played g.row.O-Alloc.Denot). IfOk c.first.result (λ calls. calls.items ≡ committed_of q.group (lives_of (world_of object q) node)))
+    c.self.view_is (subst (λ xs. IfOk c.first.result (λ calls. calls.items ≡ xs)) same c.first.ensures.ok)
