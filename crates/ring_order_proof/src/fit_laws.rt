@@ -31,8 +31,7 @@ pub fn node_fits_law<O: Object>()
 
 /// A call that keeps the limits of frames keeps those of snapshots: its operation is of bytes, as each is that code holds.
 pub fn call_keeps_law<A: Allocator + Copy>(call: &OneCall<A>)
-    requires { CallFits call.now }
-    ensures { KeepsLimits call.now }
+    ensures { CallFits call.now → KeepsLimits call.now }
 {
     bytes_law(call.op.as_slice());
 }

@@ -9,7 +9,6 @@ pub mod fact_laws;
 pub mod fit_laws;
 pub mod frame_laws;
 pub mod laws;
-pub mod limit_laws;
 pub mod longest_laws;
 pub mod projection_laws;
 pub mod text_laws;

@@ -5,7 +5,7 @@ use Rattle.std.specs.Prelude.{not, slice_set, MatchOption, if◌then◌else◌}
 use Rattle.std.specs.List.{AllByRecursion}
 use Rattle.std.proofs.Math.Seq.{drop-append_seam}
 use Rattle.std.proofs.lemmas.List.{drop_all}
-use Rattle.std.proofs.lemmas.Bool.{and_from, cond-true, eq-eqb}
+use Rattle.std.proofs.lemmas.Bool.{and_from}
 use Rattle.ring_base.specs.Group.{Group}
 use Rattle.ring_base.proofs.Each.{each-push}
 use Rattle.ring_base.proofs.Faults.{was_stopped, was_running}
@@ -30,7 +30,6 @@ use Rattle.ring_rules.specs.declared.told.Told.TheVariants.{Refused as ToldRefus
 use Rattle.ring_rules.specs.Worlds.{World, world_opening, run, happens, put, after_step, stepped, stepped_if}
 use Rattle.ring_rules.specs.Worlds.{stopped_if, issued_or, issued_if, carried, items_of, told_by, calls_past}
 use Rattle.ring_rules.proofs.NodeChanges.{stopped_same}
-use Rattle.ring_order_proof.specs.Counts.{CountsPlaces}
 use Rattle.ring_order_proof.specs.Linear.{EventKeeps}
 use Rattle.ring_order_proof.proofs.Orderly.{run-more}
 use Rattle.ring_order_proof.proofs.Undropped.{all-undropping}
@@ -156,15 +155,6 @@ module _ {O A : Type 0} {object : Sequential O} {p old : Played A} {nodes : List
       -- what a step answers has its copies
       pub answers_left : AllLeft s.calls answered
       answers_left = subst (AllLeft s.calls) (sym gives.answers) step_left.0
-
-      -- the node after it is that of the run in which the event stands
-      pub step_counts : ((events : List (Event A)) → CountsPlaces ((run object (world_opening p.group) events).nodes i)) → CountsPlaces after
-      step_counts counts =
-          let st = node_step object (w.nodes i) input in
-          let one : (run object (world_opening p.group) (p.events ++ e ∷ [])).nodes i ≡ after =
-          ap (λ (x : World A). x.nodes i) (run-more object (world_opening p.group) p.events e ∙ step_is)
-          ∙ cond-true (i == i) st.node (w.nodes i) (eq-eqb i i refl) ∙ sym gives.node in
-          subst (λ (x : Node A). CountsPlaces x) one (counts (p.events ++ e ∷ []))
 
       pub step_world : {es : List (Event A)} {fs : List (Carried A)} {is : List (Item A)} {ts : List (Told A)} {ls : List (Call A)} (d : Event A)
           (s' : Spares A) → IsCopy e d

@@ -7,7 +7,7 @@ ghost use Rattle.ring_order_proof.specs.Linear.{EventKeeps};
 ghost use Rattle.ring_world.specs.Played.{IsCopy};
 
 use ring_base::Fault;
-use ring_order_proof::limit_laws::limits_law;
+use ring_order_proof::fit_laws::call_keeps_law;
 use ring_payload::Call;
 use ring_rules::Event;
 use std::alloc::Allocator;
@@ -38,7 +38,7 @@ pub(crate) fn copied_event<A: Allocator + Copy>(event: &Event<A>) -> Result<Even
 {
     match event {
         Event::Issue(node, call) => {
-            limits_law(call);
+            call_keeps_law(call);
             let call = copied_call(call)?;
             Ok(Event::Issue(*node, call))
         }

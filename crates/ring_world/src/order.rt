@@ -1,9 +1,7 @@
-//! How long the order is, and how many places a node has committed.
+//! How long the order is.
 
 ghost use Rattle.std.specs.Prelude.{◌≡◌};
 ghost use Rattle.ring_base.specs.Numbers.{greatest};
-ghost use Rattle.ring_rules.specs.Nodes.{node_kept};
-ghost use Rattle.ring_order_proof.specs.Counts.{CountsPlaces};
 ghost use Rattle.ring_world.specs.Ordering.{effects_in};
 
 use ring_node::Node;
@@ -21,12 +19,4 @@ pub(crate) fn most_effects<O: Object>(nodes: &[Node<O>]) -> u64
         }
     }
     most
-}
-
-/// How many places the node has committed, dropped ones included.
-pub(crate) fn committed_len<O: Object>(node: &Node<O>) -> u64
-    requires { CountsPlaces node.now }
-    ensures { result ≡ (node_kept node.now).committed }
-{
-    node.trimmed() + node.committed().len() as u64
 }

@@ -29,7 +29,7 @@ ghost use Rattle.ring_world.specs.Synchronous.{IsSynchronous};
 use crate::copies::{copied_call, copied_event};
 use crate::frames::Frames;
 use crate::longest::Longest;
-use crate::order::{committed_len, most_effects};
+use crate::order::most_effects;
 use crate::spares::Spares;
 use crate::telling::tell;
 use ring_base::{Fault, Fixed, Proc, ProcSet};
@@ -216,9 +216,8 @@ impl<O: Object> World<O> {
         ensures refused { IfErr result (λ fault. fault ≡ Memory) }
     {
         longest_law::<O>();
-        effects_law::<O>();
         let place = usize::from(node.number()) - 1;
-        let many = committed_len(&self.nodes[place]);
+        let many = self.nodes[place].committed_len();
         self.longest.first(self.alloc, many)
     }
 
@@ -320,7 +319,6 @@ impl<O: Object> World<O> {
         few_law::<O>();
         pending_law::<O>();
         frames_law::<O>();
-        effects_law::<O>();
         let place = usize::from(node.number()) - 1;
         if place >= self.nodes.len() {
             return self.idle(event);
@@ -350,7 +348,7 @@ impl<O: Object> World<O> {
                     node,
                     answers,
                 );
-                let many = committed_len(&self.nodes[place]);
+                let many = self.nodes[place].committed_len();
                 self.longest.add(many, committed);
                 self.events.push_reserved(kept);
             }

@@ -3,4 +3,4 @@ use Rattle.ring_object.specs.Bytes.{AreBytes}
 use Rattle.ring_order_proof.proofs.fit_laws.call_keeps_law.Goals as goal
 
 pub returns : goal.returns
-returns g c = record { fits = c.requires; bytes = subst AreBytes c.as_slice.ensures c.bytes_law.ensures }
+returns g c = λ fits. record { fits = fits; bytes = subst AreBytes c.as_slice.ensures c.bytes_law.ensures }

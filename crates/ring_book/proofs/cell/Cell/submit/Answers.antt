@@ -21,7 +21,7 @@ invariant_of-self-2 g c =
     let e = c.in_ok-ticket.ensures in
     let l = c.called.result in
     let stepped : IsStep m c.self.inside.node l c.submit_on.new.self = rw c.called.ensures record {
-      fits = c.call_keeps_law.ensures;
+      fits = c.call_keeps_law.ensures c.requires;
       makes = (e.taken, e.ok, refl, refl, refl);
       committed = c.committed_len-places.ensures;
     } in
@@ -36,7 +36,7 @@ returns-clause-given g c =
     let e = c.in_ok-ticket.ensures in
     let l = c.called.result in
     let stepped : IsStep m c.self.inside.node l c.submit_on.new.self = rw c.called.ensures record {
-      fits = c.call_keeps_law.ensures;
+      fits = c.call_keeps_law.ensures c.requires;
       makes = (e.taken, e.ok, refl, refl, refl);
       committed = c.committed_len-places.ensures;
     } in

@@ -5,7 +5,6 @@ use Rattle.ring_base.specs.Group.{Group}
 use Rattle.ring_log.specs.Lives.{committed_of}
 use Rattle.ring_rules.specs.Nodes.{Node, node_kept}
 use Rattle.ring_rules.specs.Worlds.{lives_of}
-use Rattle.ring_order_proof.specs.Counts.{CountsPlaces}
 use Rattle.ring_world.specs.Played.{Played, world_of}
 use Rattle.ring_world.proofs.NodePlaces.{Stands, stands, node_is, high}
 use Rattle.ring_world.proofs.world.World.committed.Given.{Over}
@@ -27,13 +26,6 @@ here g c =
     let inside : c.from-place.result - 1 < vec_len k.nodes =
     omega (arith, within, group, same, many, low, c.number.ensures.value, c.from-place.ensures, k.nodes.ok.0) in
     stands c.self.view_is c.self.invariant c.number.ensures.value c.number.ensures.in_range c.from-place.ensures k.nodes.ok.0 refl inside
-
-pub committed_len-many-requires : goal.committed_len-many-requires
-committed_len-many-requires g c =
-    let k = c.self.inside in
-    let at = here g (goal.at.committed_len-many-requires g c).After-index in
-    subst (λ (n : Node g.row.O-Alloc.Denot). CountsPlaces n) (sym (node_is at c.index.ensures))
-    (c.effects_law.ensures.places k.fixed k.events.items c.args.node c.self.invariant.few at.low (high at))
 
 pub returns-clause-ok : goal.returns-clause-ok
 returns-clause-ok g c =

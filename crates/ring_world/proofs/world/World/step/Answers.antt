@@ -2,10 +2,9 @@
 use Rattle.std.proofs.Common.{◌-◌, ◌++◌, length, ap, ◌∙◌, sym, subst, arith}
 use Rattle.ring_rules.specs.Nodes.{Node, node_kept}
 use Rattle.ring_rules.specs.Worlds.{stepped_if, calls_past}
-use Rattle.ring_order_proof.specs.Counts.{CountsPlaces}
 use Rattle.ring_world.specs.Played.{Played, world_of}
 use Rattle.ring_world.proofs.NodePlaces.{Stands, stands, unknown, roomy, spare_there, node_put, high}
-use Rattle.ring_world.proofs.WorldOfNodes.{IsStep, sends_fit, answers_few, answers_left, step_counts, step_world, step_goes}
+use Rattle.ring_world.proofs.WorldOfNodes.{IsStep, sends_fit, answers_few, answers_left, step_world, step_goes}
 use Rattle.ring_world.proofs.WorldOfNodes.{silent_world, silent_goes, stop_world, refused_goes}
 use Rattle.ring_world.proofs.EventLimits.{all_fit}
 use Rattle.ring_world.proofs.SubmitRefused.{room_less}
@@ -70,14 +69,6 @@ tell-requires g c =
       told_room = omega (arith, few, c.in_ok-make_room.ensures.told_room);
       history_room = omega (arith, few, c.in_ok-make_room.ensures.history_room);
     }
-
-pub committed_len-many-requires : goal.committed_len-many-requires
-committed_len-many-requires g c =
-    let at = goal.at.committed_len-many-requires g c in
-    let here = place g at.In_ok-make_room in
-    subst (λ (n : Node g.row.O-Alloc.Denot). CountsPlaces n) (sym (node_put here c.hand.new.node c.index.ensures))
-    (step_counts here c.index_mut.ensures.value (gave g at.In-Ok) c.args.event.now c.index_mut-in-Ok.ensures.value c.requires.same
-    (λ events. c.effects_law.ensures.places c.self.inside.fixed events c.args.node here.world.few here.low (high here)))
 
 pub invariant_of-self-in-Ok : goal.invariant_of-self-in-Ok
 invariant_of-self-in-Ok g c =
