@@ -125,12 +125,12 @@ impl<O: Object> World<O> {
         linear_law::<O>();
         self.done = 0;
         let ran = self.run_all(events);
-        self.keeps();
+        self.run_law();
         ran
     }
 
-    /// Each call that was issued keeps the limits.
-    fn keeps(&self)
+    /// Law: the group has at most 16 processors, and each call that was issued keeps the limits, as the laws of runs ask.
+    pub fn run_law(&self)
         ensures few { self.now.group.count ≤ 16 }
         ensures keep { AllByRecursion EventKeeps self.now.events }
     {

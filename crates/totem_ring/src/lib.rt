@@ -26,7 +26,8 @@
 //!
 //! In contracts, `Rattle.totem_ring.specs` has the definitions that a program's own clauses may cite. What is promised, call by
 //! call: `docs/PROMISES.md`; its laws, as functions that cost nothing and whose clauses a proof may use, are [`object_law`],
-//! [`linear_law`] (of every run there is one order) and [`node_fits_law`] (a node keeps the limits of frames).
+//! [`linear_law`] (of every run whose calls keep the limits there is one order), [`call_keeps_law`] (each call of code that fits a
+//! frame does) and [`node_fits_law`] (a node keeps the limits of frames).
 #![tactic(auto)]
 
 pub use ring_base::{Fault, Fixed, Kind, MOST_PROCESSORS, Proc, ProcSet, RingId, State};
@@ -36,7 +37,7 @@ pub use ring_console::script_of;
 pub use ring_driver::{Driver, Letter};
 pub use ring_node::{Input, Node, Outs, Sent};
 pub use ring_object::{Object, Reply, Short, object_law};
-pub use ring_order_proof::fit_laws::node_fits_law;
+pub use ring_order_proof::fit_laws::{call_keeps_law, node_fits_law};
 pub use ring_order_proof::laws::linear_law;
 pub use ring_payload::Call;
 pub use ring_runs::{RingEvent, Rings};
