@@ -1,5 +1,5 @@
 -- The longest of what nodes committed, from the log's beginning, as steps gave it.
--- The replicated log, rules 18 and 19, and The book and the threads, rules 1 to 8, of docs/PROTOCOL.md.
+-- The replicated log, rules 18 and 20, and The book and the threads, rules 1 to 8, of docs/PROTOCOL.md.
 use Rattle.std.specs.Prelude.{ℕ, List, [], ◌∷◌, ◌++◌}
 use Rattle.ring_payload.specs.declared.call.Call.{Call}
 

@@ -1,5 +1,5 @@
 //! A lone node that drops what it has committed: the world has it still. Expected values are those of `docs/PROTOCOL.md` (*The
-//! replicated log*, rule 19).
+//! replicated log*, rule 20).
 
 use crate::driven::{run_lines, world_after};
 use crate::events::Line;
