@@ -29,7 +29,7 @@ struct Story {
     /// The counter, as the add's reply tells it.
     added: u64,
     /// How many calls node 1 has committed once it hears the others again.
-    committed: usize,
+    committed: u64,
     /// How many calls the order has then.
     order: u64,
     /// The counter, as it is read then.
