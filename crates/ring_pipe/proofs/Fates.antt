@@ -33,11 +33,12 @@ use Rattle.ring_core.specs.Stepping.{ring_step}
 use Rattle.ring_core.specs.Views.{own_entry}
 use Rattle.ring_core.specs.Visiting.{accepts, forwarded, new_messages, repeated, to_next, to_others}
 use Rattle.ring_core_proof.proofs.Lifting.{IsTold, told_from, told_configured}
-use Rattle.ring_log.specs.Stays.{Stay}
-use Rattle.ring_log.specs.Kept.{is_kept_sound}
+use Rattle.ring_log.specs.Kept.{Kept, kept_of, log_kept, is_kept_sound}
+use Rattle.ring_log.specs.Logs.{committed_calls}
+use Rattle.ring_rules.specs.Dues.{due_by}
 use Rattle.ring_rules.specs.Lives.{lived_through}
-use Rattle.ring_rules.specs.Nodes.{Node, is_stopped}
-use Rattle.ring_rules.specs.Stepping.{send_of, settled, node_step}
+use Rattle.ring_rules.specs.Nodes.{Node, node_kept, is_stopped, is_closed, is_restored}
+use Rattle.ring_rules.specs.Stepping.{NodeStepped, with_dropped, newly, drops, ended, did, settled, walked, send_of, node_step}
 use Rattle.ring_rules.specs.declared.input.Input.TheVariants.{Frame as FrameInput}
 use Rattle.ring_pipe.specs.Telling.{has_sent, is_token}
 
@@ -171,22 +172,33 @@ taken_sends c frame e taken =
 -- A step of a node
 
 module _ {O A : Type 0} (object : Sequential O) where
-  ignored_if : (b : Bool) (old new : Node A) (outs : List (Out A)) (life : List (Stay A)) → filter_map send_of outs ≡ []
-      → has_sent (settled object b old new outs life).sends ≡ false
-  ignored_if false old new outs life e = refl
-  ignored_if true old new outs life e = ap has_sent e
+  -- dropping places sends nothing
+  ended-sends : (closed : Bool) (k : Kept A) (s : NodeStepped A) → (ended object closed k s).sends ≡ s.sends
+  ended-sends closed k s =
+      cond_both (drops object closed k) (record s { node = with_dropped k.committed s.node; dropped = committed_calls (log_kept k) }) s
+      (λ (x : NodeStepped A). x.sends ≡ s.sends) (λ t. refl) (λ f. refl)
 
-  taken_if : (b : Bool) (old new : Node A) (outs : List (Out A)) (life : List (Stay A)) → has_sent (filter_map send_of outs) ≡ true
-      → is_stopped (settled object b old new outs life).node.core.state ≡ false → has_sent (settled object b old new outs life).sends ≡ true
-  taken_if false old new outs life e runs = absurd (cc runs)
-  taken_if true old new outs life e runs = e
+  settled-sends : (old new : Node A) (outs : List (Out A)) (k : Kept A) → (settled object true old new outs k).sends ≡ filter_map send_of outs
+  settled-sends old new outs k = ended-sends (is_closed old.group new.life) k (did object old new outs k (newly (node_kept old) k))
+
+  ignored_if : (b : Bool) (old new : Node A) (outs : List (Out A)) (k : Kept A) → filter_map send_of outs ≡ []
+      → has_sent (settled object b old new outs k).sends ≡ false
+  ignored_if false old new outs k e = refl
+  ignored_if true old new outs k e = ap has_sent (settled-sends old new outs k ∙ e)
+
+  taken_if : (b : Bool) (old new : Node A) (outs : List (Out A)) (k : Kept A) → has_sent (filter_map send_of outs) ≡ true
+      → is_stopped (settled object b old new outs k).node.core.state ≡ false → has_sent (settled object b old new outs k).sends ≡ true
+  taken_if false old new outs k e runs = absurd (cc runs)
+  taken_if true old new outs k e runs = ap has_sent (settled-sends old new outs k) ∙ e
 
   -- at a token that is ignored nothing is sent
   pub nothing_sent : (n : Node A) (frame : Frame A) → decide n.core (CoreFrame frame) ≡ Ignore → has_sent (node_step object n (FrameInput frame)).sends ≡ false
   nothing_sent n frame e =
       let s = ring_step n.core (CoreFrame frame) in
       let life = lived_through n.life s.outs in
-      ignored_if (is_kept_sound n.group life) n _ s.outs life (ignored_sends n.core (CoreFrame frame) e)
+      let k = kept_of n.group life in
+      ignored_if (is_kept_sound n.group life && is_restored object k) n (walked n s.core life (due_by object n s.core n.life s.outs)) s.outs k
+      (ignored_sends n.core (CoreFrame frame) e)
 
   -- at one that is taken something is, where the node goes on
   pub something_sent : (n : Node A) (frame : Frame A) → is_token (FrameInput frame) ≡ true → ¬ (decide n.core (CoreFrame frame) ≡ Ignore)
@@ -194,4 +206,6 @@ module _ {O A : Type 0} (object : Sequential O) where
   something_sent n frame e taken runs =
       let s = ring_step n.core (CoreFrame frame) in
       let life = lived_through n.life s.outs in
-      taken_if (is_kept_sound n.group life) n _ s.outs life (taken_sends n.core frame e taken) runs
+      let k = kept_of n.group life in
+      taken_if (is_kept_sound n.group life && is_restored object k) n (walked n s.core life (due_by object n s.core n.life s.outs)) s.outs k
+      (taken_sends n.core frame e taken) runs
