@@ -1,1 +1,2 @@
 pub mod DriverLimits
+pub mod Firsts

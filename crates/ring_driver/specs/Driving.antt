@@ -1,28 +1,42 @@
--- A node with what its last step sent, and what its calls make of it.
-use Rattle.std.specs.Prelude.{◌≡◌, ℕ, ◌<◌, ◌≤◌, ◌⊎◌, List, [], ◌∷◌, length, Option, Some, None, MatchOption}
+-- A node with what its last step gave, and what its calls make of it.
+use Rattle.std.specs.Prelude.{◌≡◌, ℕ, ◌<◌, ◌⊎◌, List, [], ◌∷◌, length, Option, Some, None}
 use Rattle.ring_base.specs.Group.{Group}
 use Rattle.ring_base.specs.declared.fault.Fault.{Fault}
 use Rattle.ring_base.specs.declared.fault.Fault.TheVariants.{Memory, OpTooLong, NumberGap}
 use Rattle.ring_object.specs.Operations.{Sequential}
 use Rattle.ring_core.specs.State.{Sent}
+use Rattle.ring_payload.specs.declared.call.Call.{Call}
 use Rattle.ring_payload.specs.Calls.{call_of}
 use Rattle.ring_payload.specs.Limits.{most_operation}
 use Rattle.ring_wire.specs.declared.frame.Frame.{Frame}
 use Rattle.ring_rules.specs.Nodes.{Node, node_opening, node_stopped}
 use Rattle.ring_rules.specs.Stepping.{node_step, submitted, submit_fault}
 use Rattle.ring_rules.specs.declared.input.Input.{Input}
+use Rattle.ring_node.specs.Restores.{node_restored}
 
 pub record Driven (A : Type 0) : Type 0 where
   pub node : Node A
-  -- what the last step sent and nobody took
+  -- what the last step sent, newly committed and dropped, as far as nobody took it
   pub sends : List (Sent A)
+  pub committed : List (Call A)
+  pub dropped : List (Call A)
+  -- how many places the last step restored, if it restored any
+  pub restored : Option ℕ
 
 abbrev pub opened : {A : Type 0} → Group → ℕ → Driven A
-opened group me = record { node = node_opening group me; sends = [] }
+opened group me = record { node = node_opening group me; sends = []; committed = []; dropped = []; restored = None }
 
 -- after a step
 abbrev pub stepped : {A O : Type 0} → Sequential O → Driven A → Input A → Driven A
-stepped object d input = record { node = (node_step object d.node input).node; sends = (node_step object d.node input).sends }
+stepped object d input =
+    let s = node_step object d.node input in
+    record {
+      node = s.node;
+      sends = s.sends;
+      committed = s.committed;
+      dropped = s.dropped;
+      restored = node_restored d.node s.node;
+    }
 
 -- once a step was refused
 abbrev pub ended : {A : Type 0} → Driven A → Driven A
@@ -37,7 +51,12 @@ abbrev pub IsRefused : {A : Type 0} → Driven A → ℕ → List ℕ → Fault 
 IsRefused d number op fault =
     (fault ≡ Memory) ⊎ ((fault ≡ OpTooLong) × (most_operation < length op)) ⊎ ((fault ≡ NumberGap) × (number ≡ 0)) ⊎ (submit_fault d.node ≡ Some fault)
 
+-- the first of a list is taken, if there is any
+abbrev pub IsFirst : {T : Type 0} → List T → List T → Option T → Type 0
+IsFirst before after (Some first) = before ≡ first ∷ after
+IsFirst before after None = (before ≡ []) × (after ≡ [])
+
 -- the first of what was sent is taken, if there is any
 abbrev pub IsTaken : {A : Type 0} → Driven A → Driven A → Option (ℕ × Frame A) → Type 0
-IsTaken before after (Some letter) = (before.sends ≡ (record { to = letter.0; frame = letter.1 }) ∷ after.sends) × (after.node ≡ before.node)
+IsTaken before after (Some letter) = (before.sends ≡ (record { to = letter.0; frame = letter.1 }) ∷ after.sends) × (after ≡ record before { sends = after.sends })
 IsTaken before after None = (before.sends ≡ []) × (after ≡ before)

@@ -3,7 +3,7 @@
 ghost use Rattle.std.specs.Prelude.{◌≡◌, length, if◌then◌else◌, IfOk, IfErr, OnOk, OnErr};
 ghost use Rattle.std.specs.Option.{option_map};
 ghost use Rattle.ring_base.specs.declared.fault.Fault.TheVariants.{Memory, Stopped as StoppedFault};
-ghost use Rattle.ring_driver.specs.Driving.{opened, stepped, ended, called, IsRefused, IsTaken};
+ghost use Rattle.ring_driver.specs.Driving.{opened, stepped, ended, called, IsRefused, IsTaken, IsFirst};
 ghost use Rattle.ring_rules.specs.NodeLimits.{InputFits};
 ghost use Rattle.ring_rules.specs.Nodes.{node_reply, is_stopped};
 ghost use Rattle.ring_rules.specs.declared.input.Input.TheVariants.{Frame as FrameInput, Timeout as TimeoutInput, Stop as StopInput};
@@ -26,12 +26,17 @@ use std::marker::Model;
 /// - takes what it sends after each of these ([`next_send`](Driver::next_send)), and brings it to its receivers. Letters may be
 ///   lost, repeated and reordered; what is left as the next step begins is lost.
 ///
-/// Its calls are submitted, and their answers asked for, by ticket.
+/// Its calls are submitted, and their answers asked for, by ticket. Whoever follows its log takes, after each step too, the calls
+/// newly committed ([`next_committed`](Driver::next_committed)). They go on where those of the steps before ended, or, where the step
+/// restored places ([`restored`](Driver::restored)), behind these.
 #[derive(Drop)]
 pub struct Driver<O: Object> {
     alloc: O::Alloc,
     node: Node<O>,
     sends: VecDeque<Sent<O::Alloc>, O::Alloc>,
+    committed: VecDeque<Call<O::Alloc>, O::Alloc>,
+    dropped: VecDeque<Call<O::Alloc>, O::Alloc>,
+    restored: Option<u64>,
 }
 
 impl<O: Object> Model for Driver<O> {
@@ -40,7 +45,13 @@ impl<O: Object> Model for Driver<O> {
 
     ghost Value = { Driven O.Alloc };
 
-    ghost view = { λ d. record { node = d.node; sends = d.sends.items } };
+    ghost view = { λ d. record {
+      node = d.node;
+      sends = d.sends.items;
+      committed = d.committed.items;
+      dropped = d.dropped.items;
+      restored = d.restored;
+    } };
 
     ghost invariant = { λ d. NodeFits d.node × SendsFit d.sends.items };
 }
@@ -58,6 +69,9 @@ impl<O: Object> Driver<O> {
             alloc,
             node,
             sends: VecDeque::new(alloc),
+            committed: VecDeque::new(alloc),
+            dropped: VecDeque::new(alloc),
+            restored: None,
         })
     }
 
@@ -103,7 +117,7 @@ impl<O: Object> Driver<O> {
         self.step(Input::Stop)
     }
 
-    /// Does a step, and keeps the frames that it sends.
+    /// Does a step, and keeps what it gives.
     fn step(&mut self, input: Input<O::Alloc>) -> Result<(), Fault>
         requires { InputFits input }
         ensures ok { OnOk result (self.new ≡ stepped O.sequential self.old input) }
@@ -113,6 +127,9 @@ impl<O: Object> Driver<O> {
         node_fits_law::<O>();
         let outs = self.node.step(input)?;
         self.sends = VecDeque::from_vec(outs.sends);
+        self.committed = VecDeque::from_vec(outs.committed);
+        self.dropped = VecDeque::from_vec(outs.dropped);
+        self.restored = outs.restored;
         Ok(())
     }
 
@@ -122,6 +139,31 @@ impl<O: Object> Driver<O> {
     {
         let sent = self.sends.pop_front()?;
         Some((sent.to, Letter::of(sent.frame)))
+    }
+
+    /// The next call of those that the last step newly committed, in order.
+    pub fn next_committed(&mut self) -> Option<Call<O::Alloc>>
+        ensures first { IsFirst self.old.committed self.new.committed result }
+        ensures others { self.new ≡ record self.old { committed = self.new.committed } }
+    {
+        self.committed.pop_front()
+    }
+
+    /// The next call of those of the committed places that the node dropped at the last step's end, in order. The places that a
+    /// restored snapshot stands for are none of them.
+    pub fn next_dropped(&mut self) -> Option<Call<O::Alloc>>
+        ensures first { IsFirst self.old.dropped self.new.dropped result }
+        ensures others { self.new ≡ record self.old { dropped = self.new.dropped } }
+    {
+        self.dropped.pop_front()
+    }
+
+    /// How many of the log's first places the snapshot stands for that the last step restored, if it restored one. What that step
+    /// newly committed begins behind them.
+    pub fn restored(&self) -> Option<u64>
+        ensures { result ≡ self.now.restored }
+    {
+        self.restored
     }
 
     /// The answer to a ticket, if it is among the 64 that were answered last.

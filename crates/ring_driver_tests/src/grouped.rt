@@ -17,12 +17,23 @@ struct Mail {
     bytes: BytesMut<Global>,
 }
 
+/// What the steps of a node told of its log: how many calls they newly committed, how many they dropped, and how many places the last
+/// snapshot stands for that one of them restored.
+pub type Told = (u64, u64, Option<u64>);
+
+/// A node, and what its steps told of its log.
+#[derive(Drop)]
+struct Member {
+    driver: Driver<Counters>,
+    told: Told,
+}
+
 /// The nodes of a group, the letters on their way, and who is cut off from the others.
 #[derive(Drop)]
 pub struct Grouped {
     heap: Global,
     fixed: Fixed,
-    drivers: Vec<Driver<Counters>>,
+    members: Vec<Member>,
     mails: VecDeque<Mail>,
     apart: ProcSet,
 }
@@ -32,8 +43,44 @@ fn place_of(number: u8) -> usize {
     usize::from(number).saturating_sub(1)
 }
 
-/// No step sends more letters.
+/// No step gives more letters or calls.
 const MOST: u32 = 10_000;
+
+/// How many calls the last step newly committed.
+fn committed_by(driver: &mut Driver<Counters>) -> u64 {
+    let mut count = 0u64;
+    for _ in 0..MOST {
+        if driver.next_committed().is_none() {
+            return count;
+        }
+        count = count.saturating_add(1);
+    }
+    count
+}
+
+/// How many calls the last step dropped.
+fn dropped_by(driver: &mut Driver<Counters>) -> u64 {
+    let mut count = 0u64;
+    for _ in 0..MOST {
+        if driver.next_dropped().is_none() {
+            return count;
+        }
+        count = count.saturating_add(1);
+    }
+    count
+}
+
+impl Member {
+    /// What the last step told of the log is counted.
+    fn follow(&mut self) {
+        let (committed, dropped, restored) = self.told;
+        self.told = (
+            committed.saturating_add(committed_by(&mut self.driver)),
+            dropped.saturating_add(dropped_by(&mut self.driver)),
+            self.driver.restored().or(restored),
+        );
+    }
+}
 
 /// What a step sent is on its way to each of its receivers.
 fn post(
@@ -61,14 +108,16 @@ impl Grouped {
     /// So many nodes at their opening.
     pub fn new(heap: Global, count: u8) -> Result<Grouped, Fault> {
         let fixed = Fixed::new(count)?;
-        let mut drivers = Vec::new(heap);
+        let mut members = Vec::new(heap);
         for number in 1..=count {
-            drivers.push(Driver::new(heap, fixed, number)?)?;
+            let driver = Driver::new(heap, fixed, number)?;
+            let told = (0, 0, None);
+            members.push(Member { driver, told })?;
         }
         Ok(Grouped {
             heap,
             fixed,
-            drivers,
+            members,
             mails: VecDeque::new(heap),
             apart: ProcSet::new(),
         })
@@ -76,7 +125,12 @@ impl Grouped {
 
     /// The node of this number.
     pub fn node(&self, number: u8) -> Option<&Node<Counters>> {
-        Some(self.drivers.get(place_of(number))?.node())
+        Some(self.members.get(place_of(number))?.driver.node())
+    }
+
+    /// What the steps of the node of this number told of its log.
+    pub fn told(&self, number: u8) -> Option<Told> {
+        Some(self.members.get(place_of(number))?.told)
     }
 
     /// These are cut off from the others from now on.
@@ -87,8 +141,8 @@ impl Grouped {
     /// Client 7's call of this number, `add 0 1`, is submitted at a node.
     pub fn submit(&mut self, number: u8, call: u64) -> Result<Option<Ticket>, Fault> {
         let add = Counters::add(0, 1);
-        match self.drivers.get_mut(place_of(number)) {
-            Some(driver) => Ok(Some(driver.submit(7, call, add.as_slice())?)),
+        match self.members.get_mut(place_of(number)) {
+            Some(member) => Ok(Some(member.driver.submit(7, call, add.as_slice())?)),
             None => Ok(None),
         }
     }
@@ -96,10 +150,11 @@ impl Grouped {
     /// A timeout comes to a node.
     pub fn time(&mut self, number: u8, kind: Kind) -> Result<(), Fault> {
         let from = self.fixed.proc(number)?;
-        match self.drivers.get_mut(place_of(number)) {
-            Some(driver) => {
-                driver.timeout(kind)?;
-                post(self.heap, driver, from, &mut self.mails)
+        match self.members.get_mut(place_of(number)) {
+            Some(member) => {
+                member.driver.timeout(kind)?;
+                member.follow();
+                post(self.heap, &mut member.driver, from, &mut self.mails)
             }
             None => Ok(()),
         }
@@ -121,10 +176,11 @@ impl Grouped {
     /// A letter comes to its receiver.
     fn hear(&mut self, mail: Mail) -> Result<(), Fault> {
         let letter = Letter::read(self.heap, mail.bytes.as_slice())?;
-        match self.drivers.get_mut(place_of(mail.to.number())) {
-            Some(driver) => {
-                driver.hear(letter)?;
-                post(self.heap, driver, mail.to, &mut self.mails)
+        match self.members.get_mut(place_of(mail.to.number())) {
+            Some(member) => {
+                member.driver.hear(letter)?;
+                member.follow();
+                post(self.heap, &mut member.driver, mail.to, &mut self.mails)
             }
             None => Ok(()),
         }

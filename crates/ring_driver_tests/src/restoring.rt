@@ -94,6 +94,8 @@ fn node_that_was_away_is_restored(rt: HostRuntime) -> Result<(), Fail> {
     assert!(rt; shown(&group, 1) == Some((State::Operational, 300, 300, 266, 300, 34)));
     merged(&mut group)?;
     assert!(rt; shown(&group, 3) == Some((State::Operational, 300, 300, 266, 300, 34)));
+    assert!(rt; group.told(1) == Some((300, 266, None)));
+    assert!(rt; group.told(3) == Some((44, 0, Some(266))));
     calls(&mut group, 3, 301, 1, 200)?;
     assert!(rt; replies(&group, 3) == Some([Some(done(301)), None]));
     Ok(())

@@ -15,4 +15,15 @@ invariant_of-self-2 g c = (
 )
 
 pub returns-clause-ok : goal.returns-clause-ok
-returns-clause-ok g c = rw (← c.self.view_is, c.in_ok-outs.ensures.ok, c.from_vec.ensures.items, c.in_ok-outs.ensures.sends) refl
+returns-clause-ok g c =
+    rw (
+      ← c.self.view_is,
+      c.in_ok-outs.ensures.ok,
+      c.from_vec.ensures.items,
+      c.in_ok-outs.ensures.sends,
+      c.from_vec-2.ensures.items,
+      c.in_ok-outs.ensures.committed,
+      c.from_vec-3.ensures.items,
+      c.in_ok-outs.ensures.dropped,
+      c.in_ok-outs.ensures.restored,
+    ) refl

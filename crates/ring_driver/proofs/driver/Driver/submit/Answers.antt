@@ -1,6 +1,7 @@
 -- The call keeps the limits as it was made, so the submit does.
-use Rattle.std.proofs.Common.{◌≡◌, subst, sym, ap, arith}
+use Rattle.std.proofs.Common.{arith}
 use Rattle.ring_payload.specs.Calls.{CallFits}
+use Rattle.ring_driver.specs.Driving.{Driven}
 use Rattle.ring_driver.proofs.DriverLimits.{takes, taken_as, kept_as, not_taken}
 use Rattle.ring_driver.proofs.driver.Driver.submit.Goals as goal
 
@@ -22,14 +23,37 @@ returns-clause-ticket g c = rw (← c.self.view_is) c.submit.ensures.ticket
 
 pub returns-clause-ok : goal.returns-clause-ok
 returns-clause-ok g c =
-    rw (← c.self.view_is) (taken_as (record { node = c.self.inside.node; sends = c.self.inside.sends.items }) c.submit.new.self
+    let s = c.self.inside in
+    let driven : Driven _ = record {
+      node = s.node;
+      sends = s.sends.items;
+      committed = s.committed.items;
+      dropped = s.dropped.items;
+      restored = s.restored;
+    } in
+    rw (← c.self.view_is) (taken_as driven c.submit.new.self
     c.in_ok-call.call c.args.client c.args.number c.args.operation.now c.submit.result c.in_ok-call.ensures.2 c.submit.ensures.ok)
 
 pub returns-clause-err : goal.returns-clause-err
 returns-clause-err g c =
-    rw (← c.self.view_is) (kept_as (record { node = c.self.inside.node; sends = c.self.inside.sends.items }) c.submit.new.self c.submit.result c.submit.ensures.err)
+    let s = c.self.inside in
+    let driven : Driven _ = record {
+      node = s.node;
+      sends = s.sends.items;
+      committed = s.committed.items;
+      dropped = s.dropped.items;
+      restored = s.restored;
+    } in
+    rw (← c.self.view_is) (kept_as driven c.submit.new.self c.submit.result c.submit.ensures.err)
 
 pub returns-clause-refused : goal.returns-clause-refused
 returns-clause-refused g c =
-    rw (← c.self.view_is) (not_taken (record { node = c.self.inside.node; sends = c.self.inside.sends.items }) c.args.number c.args.operation.now
-    c.submit.result c.submit.ensures.refused)
+    let s = c.self.inside in
+    let driven : Driven _ = record {
+      node = s.node;
+      sends = s.sends.items;
+      committed = s.committed.items;
+      dropped = s.dropped.items;
+      restored = s.restored;
+    } in
+    rw (← c.self.view_is) (not_taken driven c.args.number c.args.operation.now c.submit.result c.submit.ensures.refused)
