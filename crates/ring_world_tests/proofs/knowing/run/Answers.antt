@@ -15,7 +15,7 @@ returns-clause-agreed g c = λ one other from to from' to' fewer.
 pub returns-clause-kept : goal.returns-clause-kept
 returns-clause-kept g c = λ node from to.
     let f = (c.run.ensures.follows node from to).0 in
-    let w = world_of g.O.Object.sequential c.run.new.world in
+    let w = world_of g.O.Object.sequential c.run.new.self in
     let t = node_trimmed (w.nodes node) in
-    let whole = committed_of c.run.new.world.group (lives_of w node) in
+    let whole = committed_of c.run.new.self.group (lives_of w node) in
     (take t whole, sym (ap (λ l. take t whole ++ l) f.kept ∙ take-append-drop t whole))
