@@ -20,8 +20,7 @@ TUTORIAL = os.path.join(TOP, "docs", "TUTORIAL.md")
 TEMPLATE = os.path.join(TOP, "docs", "template", "my_object")
 SHARED = ["specs/LockWords.antt", "specs/Locks.antt", "specs/LocksLaws.antt", "src/lock_operation.rt", "src/lock_story.rt",
           "src/lock_tools.rt", "src/lock_words.rt", "src/locks.rt", "src/threads.rt"]
-PROOFS = ["proofs/Pushed.antt", "proofs/threads/counted/Invariants.antt",
-          "proofs/threads/fn/run/scope+FnOnce/call_once/Answers.antt", "proofs/threads/two_of/Answers.antt"]
+PROOFS = ["proofs/Pushed.antt", "proofs/threads/counted/Invariants.antt", "proofs/threads/two_of/Answers.antt"]
 COPIED = SHARED + PROOFS
 OWN = ["proofs/Lib.antt", "specs/Lib.antt", "src/main.rt", "stdout"]
 SHOWN = SHARED + ["src/main.rt", "stdout"]

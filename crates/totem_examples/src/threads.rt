@@ -16,7 +16,7 @@ use std::sync::Wait;
 use std::sync::atomic::{AtomicU64, Ordering};
 use std::thread::Threads;
 use std::{io, thread};
-use totem_threads::{BookName, Client, Fault, Fixed, Host, HostPort, Object, Opening, Seat};
+use totem_threads::{BookName, Client, Fault, Fixed, Host, HostPort, Opening, Seat};
 
 /// How often a client polls a node at most, before it passes on to the next.
 const POLLS: u64 = 1_000_000;
@@ -46,11 +46,11 @@ const CLIENT_2: Plan = Plan {
 
 /// A client asks for ten locks, by its two nodes, to each of which it has a port from one of these seats of the host's. It ends at
 /// its first fault. The last client to end closes the host.
-fn ask_for_ten<O: Object, K: BookName<O::Alloc>, W: Wait>(
+fn ask_for_ten<K: BookName<Global>, W: Wait>(
     rt: &W,
-    alloc: O::Alloc,
-    host: &Host<O, K>,
-    seats: Vec<Seat<O::Alloc>, O::Alloc>,
+    alloc: Global,
+    host: &Host<Locks, K>,
+    seats: Vec<Seat>,
     plan: Plan,
     running: &AtomicU64,
 )
@@ -63,11 +63,11 @@ fn ask_for_ten<O: Object, K: BookName<O::Alloc>, W: Wait>(
 }
 
 /// The calls of a client.
-fn call_ten<O: Object, K: BookName<O::Alloc>, W: Wait>(
+fn call_ten<K: BookName<Global>, W: Wait>(
     rt: &W,
-    alloc: O::Alloc,
-    host: &Host<O, K>,
-    seats: Vec<Seat<O::Alloc>, O::Alloc>,
+    alloc: Global,
+    host: &Host<Locks, K>,
+    seats: Vec<Seat>,
     plan: Plan,
 ) -> Result<(), Fault>
     requires { All (IsAt host.now) seats.items }
@@ -87,11 +87,11 @@ fn call_ten<O: Object, K: BookName<O::Alloc>, W: Wait>(
 }
 
 /// Two of the host's seats.
-fn two_of<O: Object, K: BookName<O::Alloc>>(
-    alloc: O::Alloc,
-    host: &Host<O, K>,
-    seats: &mut Vec<Seat<O::Alloc>, O::Alloc>,
-) -> Result<Vec<Seat<O::Alloc>, O::Alloc>, Fault>
+fn two_of<K: BookName<Global>>(
+    alloc: Global,
+    host: &Host<Locks, K>,
+    seats: &mut Vec<Seat>,
+) -> Result<Vec<Seat>, Fault>
     requires { All (IsAt host.now) seats.old.items }
     ensures seats { All (IsAt host.now) seats.new.items }
     ensures two { IfOk result (λ two. All (IsAt host.now) two.items) }
@@ -107,16 +107,14 @@ fn two_of<O: Object, K: BookName<O::Alloc>>(
 
 /// The nodes run, and both clients ask, all in threads, of which none is left afterwards. The nodes rest where there is nothing to
 /// do: at full speed an idle ring would fill the book within seconds.
-fn run<O: Object + Send, K: BookName<O::Alloc> + Send + Sync, W: Threads + Wait + Sync>(
+fn run<K: BookName<Global> + Send + Sync, W: Threads + Wait + Sync>(
     rt: &W,
-    alloc: O::Alloc,
-    host: &Host<O, K>,
-    seats: Vec<Seat<O::Alloc>, O::Alloc>,
-    ones: Vec<Seat<O::Alloc>, O::Alloc>,
-    others: Vec<Seat<O::Alloc>, O::Alloc>,
+    alloc: Global,
+    host: &Host<Locks, K>,
+    seats: Vec<Seat>,
+    ones: Vec<Seat>,
+    others: Vec<Seat>,
 ) -> Result<(), Fault>
-where
-    O::Alloc: Send + Sync,
     requires { All (IsAt host.now) seats.items × All (IsAt host.now) ones.items × All (IsAt host.now) others.items }
 {
     let paced = host.paced(rt)?;
@@ -143,17 +141,15 @@ where
     )
 }
 
-/// How many calls stand in the order at the end, on three nodes of the opening that K names.
-fn count<O: Object + Send, K: BookName<O::Alloc> + Send + Sync, W: Threads + Wait + Sync>(
+/// How many calls stand in the order at the end, on the nodes of the opening that K names.
+fn count<K: BookName<Global> + Send + Sync, W: Threads + Wait + Sync>(
     rt: &W,
-    alloc: O::Alloc,
-    opening: Opening<O>,
+    alloc: Global,
+    opening: Opening<Locks>,
 ) -> Result<usize, Fault>
-where
-    O::Alloc: Send + Sync,
     requires { opening ≡ K.name }
 {
-    let (host, mut seats) = Host::<O, K>::new(alloc, opening, 4)?;
+    let (host, mut seats) = Host::<Locks, K>::new(alloc, opening, 4)?;
     let ones = two_of(alloc, &host, &mut seats)?;
     let others = two_of(alloc, &host, &mut seats)?;
     run(rt, alloc, &host, seats, ones, others)?;
@@ -161,10 +157,10 @@ where
     Ok(order.len())
 }
 
-/// The same of lock tables.
+/// The same on three nodes at their opening, under a name that nothing else has.
 fn counted<W: Threads + Wait + Sync>(rt: &W, alloc: Global) -> Result<usize, Fault> {
     let opening = Opening::<Locks>::new(alloc, Fixed::new(3)?)?;
-    count::<Locks, Brand, W>(rt, alloc, opening)
+    count::<Brand, W>(rt, alloc, opening)
 }
 
 /// Prints how many calls the one order has.
