@@ -1,4 +1,4 @@
-use Rattle.std.proofs.Common.{◌≡◌, ℕ, ◌+◌, ◌≤◌, List, sym, ap, subst, ◌∙◌, arith}
+use Rattle.std.proofs.Common.{◌≡◌, ℕ, ◌+◌, ◌≤◌, List, refl, sym, ap, subst, ◌∙◌, arith}
 use Rattle.ring_base.specs.Fronts.{IsFront}
 use Rattle.ring_base.specs.Group.{Group}
 use Rattle.ring_payload.specs.declared.call.Call.{Call}
@@ -16,8 +16,8 @@ returns-then-not-front-clause-ok g c = (
       let w = world_of g.O.Object.sequential c.args.world.now in
       let group = c.args.world.now.group in
       let node = c.loop-before.before + 1 in
-      let same : c.in_ok-committed.committed.items ≡ committed_of group (lives_of w node) =
-      c.in_ok-committed.ensures.ok ∙ ap (λ (n : ℕ). committed_of group (lives_of w n)) c.new-proc.ensures in
+      let same : c.as_slice.result.now ≡ committed_of group (lives_of w node) =
+      c.as_slice.ensures.value ∙ c.in_ok-committed.ensures.ok ∙ ap (λ (n : ℕ). committed_of group (lives_of w n)) c.new-proc.ensures in
       let count : c.fixed.result.count ≡ c.args.world.now.group.count = ap (λ (x : Group). x.count) c.fixed.ensures in
       let most : node ≤ c.args.world.now.group.count = omega (arith, c.loop-before-test.true, c.count-before-end.ensures.value, count) in
       let front = subst (λ (cs : List (Call g.row.O-Alloc.Denot)). IsFront (deduplicated cs) c.args.order.now) (sym same)
@@ -30,8 +30,15 @@ loop-before-preserved g c =
     let w = world_of g.O.Object.sequential c.args.world.now in
     let group = c.args.world.now.group in
     let node = c.loop-before.before + 1 in
-    let same : c.in_ok-committed.committed.items ≡ committed_of group (lives_of w node) =
-    c.in_ok-committed.ensures.ok ∙ ap (λ (n : ℕ). committed_of group (lives_of w n)) c.new-proc.ensures in
+    let same : c.as_slice.result.now ≡ committed_of group (lives_of w node) =
+    c.as_slice.ensures.value ∙ c.in_ok-committed.ensures.ok ∙ ap (λ (n : ℕ). committed_of group (lives_of w n)) c.new-proc.ensures in
     up_next (λ (n : ℕ). IsFront (deduplicated (committed_of group (lives_of w n))) c.args.order.now) c.loop-before.before c.loop-before.invariant
     (subst (λ (cs : List (Call g.row.O-Alloc.Denot)). IsFront (deduplicated cs) c.args.order.now) same
     (c.in_ok-front.ensures.ok.0 c.if-not-front.false))
+
+pub returns-clause-ok : goal.returns-clause-ok
+returns-clause-ok g c =
+    let count : c.fixed.result.count ≡ c.args.world.now.group.count = ap (λ (x : Group). x.count) c.fixed.ensures in
+    let passed = c.loop-before-test.false in
+    let end = c.count-before-end.ensures.value in
+    (λ yes node one most. c.loop-before.invariant node one (omega (arith, most, passed, end, count)), λ all. refl)
