@@ -1,15 +1,16 @@
 #!/usr/bin/env python3
 """Tells what nodes that drop their committed places keep, and what a call costs them, with no world round them.
 
-    bench/trimming.py [PROGRAM [OTHER]]
+    bench/trimming.py [PROGRAM]
 
-The program that is measured drives the nodes of a group by 32 calls at a time. They keep registers, counters, a queue and a
-set of 1,000 names, or an object that grows by 1,024 bytes with each call. It promises nothing, so it is no crate of the repository: its text is `bench/trimming/`, each file with `.txt`
-behind its name. Without PROGRAM it is proved and built in a copy of the repository, as the crate `trimming_bench`. OTHER
-is the same program built over another commit, whose instructions are told beside.
+The program that is measured drives the nodes of a group by 32 calls at a time. They keep 256 registers, 256 counters, a
+queue and a set of 488 names, so 1,000 keys, or an object that grows by 1,024 bytes with each call. It promises nothing, so it
+is no crate of the repository: its text is `bench/trimming/`, each file with `.txt` behind its name. Without PROGRAM it is
+proved and built in a copy of the repository, as the crate `trimming_bench`.
 
-Three tables: the most bytes that the process had, after a tenth, all and ten times of 100,000 calls; instructions of a call by
-callgrind, between 10,000 and 20,000 calls; and what a call costs a lone node whose object is long, from the times of two runs.
+Three tables: the most KB that the process had (GNU `time`), after a tenth, all and ten times of 100,000 calls; instructions of a
+call by callgrind (valgrind), over 64 calls in which nothing is dropped and over 256 with the drop that each 256 calls bring; and
+what a call costs a lone node whose object is long, from the processor time of two runs.
 """
 import os
 import shutil
@@ -21,8 +22,11 @@ NAME = "trimming_bench"
 LINE = f"{NAME}: ring_base ring_object ring_things ring_session ring_node ring_driver bytes\n"
 GROUPS = (1, 2, 3)
 CALLS = (10_000, 100_000, 1_000_000)
-LONG = (1_024, 2_048, 4_096, 8_192, 15_360, 17_408)
+LONG = (2_048, 4_096, 8_192, 15_360, 17_408)
 MORE = 1_024
+
+# 77 drops and 160 calls: the next drop comes with the 96th call more.
+START, FEW, ROUND = 19_872, 64, 256
 
 
 def copied(top):
@@ -50,14 +54,19 @@ def built(crate):
 
 
 def run(program, *task):
-    """The most bytes that a run of the task had, its user seconds, and the line that it prints."""
-    words = [program, *map(str, task)]
-    child = subprocess.Popen(words, stdout=subprocess.PIPE, text=True)
-    line = child.stdout.read().strip()
+    """The most KB that a run of the task had, its seconds of processor time, and the line that it prints."""
+    words = ["/usr/bin/time", "-f", "%M", program, *map(str, task)]
+    child = subprocess.Popen(words, stdout=subprocess.PIPE, stderr=subprocess.PIPE, text=True)
+    line, most = child.stdout.read().strip(), child.stderr.read().strip()
     _, status, used = os.wait4(child.pid, 0)
     if status != 0:
         sys.exit(f"{' '.join(words)}: status {status}")
-    return used.ru_maxrss * 1024, used.ru_utime, line
+    return int(most), used.ru_utime + used.ru_stime, line
+
+
+def best(program, *task):
+    """The run of the task, of nine, that took the least time."""
+    return min((run(program, *task) for _ in range(9)), key=lambda ran: ran[1])
 
 
 def instructions(program, *task):
@@ -74,21 +83,17 @@ def memory(program):
     print("|---|" + "---|" * (len(CALLS) + 1))
     for nodes in GROUPS:
         ran = [run(program, "things", nodes, calls) for calls in CALLS]
-        print(f"| {nodes} | " + " | ".join(f"{most // 1024:,}" for most, _, _ in ran) + f" | {ran[-1][2]} |", flush=True)
+        print(f"| {nodes} | " + " | ".join(f"{most:,}" for most, _, _ in ran) + f" | {ran[-1][2]} |", flush=True)
 
 
-def cost(program, other):
-    """Prints how many instructions a call costs, and how many in the other program."""
-    print("| Nodes | Instructions a call |" + (" The other program | The first by the other |" if other else ""))
-    print("|---|---|" + ("---|---|" if other else ""))
+def cost(program):
+    """Prints how many instructions a call costs, without and with the drop that each 256 calls bring."""
+    print("| Nodes | Instructions a call, nothing dropped | With what is dropped | The second by the first |")
+    print("|---|---|---|---|")
     for nodes in GROUPS:
-        each = [
-            (instructions(it, "things", nodes, 20_000) - instructions(it, "things", nodes, 10_000)) / 10_000
-            for it in (program, other)
-            if it
-        ]
-        beside = f" {each[1]:,.0f} | {each[0] / each[1]:.2f} |" if other else ""
-        print(f"| {nodes} | {each[0]:,.0f} |{beside}", flush=True)
+        begun, few, round_ = (instructions(program, "things", nodes, START + more) for more in (0, FEW, ROUND))
+        plain, whole = (few - begun) / FEW, (round_ - begun) / ROUND
+        print(f"| {nodes} | {plain:,.0f} | {whole:,.0f} | {whole / plain:.2f} |", flush=True)
 
 
 def long_objects(program):
@@ -96,26 +101,25 @@ def long_objects(program):
     print("| The object's MB | Microseconds a call | Most KB of the process | What the node tells |")
     print("|---|---|---|---|")
     for calls in LONG:
-        few = run(program, "diary", 1, calls - MORE)
-        many = run(program, "diary", 1, calls)
-        print(f"| {calls / 1024:.0f} | {(many[1] - few[1]) / MORE * 1e6:.0f} | {many[0] // 1024:,} | {many[2]} |", flush=True)
+        few, many = best(program, "diary", 1, calls - MORE), best(program, "diary", 1, calls)
+        print(f"| {calls / 1024:.0f} | {(many[1] - few[1]) / MORE * 1e6:.0f} | {many[0]:,} | {many[2]} |", flush=True)
 
 
-def measure(program, other):
+def measure(program):
     """Prints the tables."""
     memory(program)
     print()
-    cost(program, other)
+    cost(program)
     print()
     long_objects(program)
 
 
 def main():
     if len(sys.argv) > 1:
-        measure(sys.argv[1], sys.argv[2] if len(sys.argv) > 2 else None)
+        measure(sys.argv[1])
         return
     with tempfile.TemporaryDirectory(prefix="trimming-") as top:
-        measure(built(copied(top)), None)
+        measure(built(copied(top)))
 
 
 if __name__ == "__main__":
