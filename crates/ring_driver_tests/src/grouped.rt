@@ -4,17 +4,18 @@ use bytes::BytesMut;
 use ring_base::{Fault, Fixed, Kind, Proc, ProcSet};
 use ring_driver::{Driver, Letter};
 use ring_node::Node;
+use ring_object::Object;
 use ring_session::Ticket;
 use ring_things::Counters;
-use std::alloc::Global;
+use std::alloc::Allocator;
 use std::collections::VecDeque;
 
 /// A letter on its way from one processor to another, as bytes.
 #[derive(Drop)]
-struct Mail {
+struct Mail<A: Allocator> {
     from: Proc,
     to: Proc,
-    bytes: BytesMut<Global>,
+    bytes: BytesMut<A>,
 }
 
 /// What the steps of a node told of its log: how many calls they newly committed, how many they dropped, and how many places the last
@@ -23,18 +24,18 @@ pub type Told = (u64, u64, Option<u64>);
 
 /// A node, and what its steps told of its log.
 #[derive(Drop)]
-struct Member {
-    driver: Driver<Counters>,
+struct Member<O: Object> {
+    driver: Driver<O>,
     told: Told,
 }
 
-/// The nodes of a group, the letters on their way, and who is cut off from the others.
+/// The nodes of a group, the letters on their way, and who is cut off from the others. What no node has a hand in lies in `heap`.
 #[derive(Drop)]
-pub struct Grouped {
-    heap: Global,
+pub struct Grouped<O: Object> {
+    heap: O::Alloc,
     fixed: Fixed,
-    members: Vec<Member>,
-    mails: VecDeque<Mail>,
+    members: Vec<Member<O>, O::Alloc>,
+    mails: VecDeque<Mail<O::Alloc>, O::Alloc>,
     apart: ProcSet,
 }
 
@@ -47,7 +48,7 @@ fn place_of(number: u8) -> usize {
 const MOST: u32 = 10_000;
 
 /// How many calls the last step newly committed.
-fn committed_by(driver: &mut Driver<Counters>) -> u64 {
+fn committed_by<O: Object>(driver: &mut Driver<O>) -> u64 {
     let mut count = 0u64;
     for _ in 0..MOST {
         if driver.next_committed().is_none() {
@@ -59,7 +60,7 @@ fn committed_by(driver: &mut Driver<Counters>) -> u64 {
 }
 
 /// How many calls the last step dropped.
-fn dropped_by(driver: &mut Driver<Counters>) -> u64 {
+fn dropped_by<O: Object>(driver: &mut Driver<O>) -> u64 {
     let mut count = 0u64;
     for _ in 0..MOST {
         if driver.next_dropped().is_none() {
@@ -70,7 +71,7 @@ fn dropped_by(driver: &mut Driver<Counters>) -> u64 {
     count
 }
 
-impl Member {
+impl<O: Object> Member<O> {
     /// What the last step told of the log is counted.
     fn follow(&mut self) {
         let (committed, dropped, restored) = self.told;
@@ -83,11 +84,11 @@ impl Member {
 }
 
 /// What a step sent is on its way to each of its receivers.
-fn post(
-    heap: Global,
-    driver: &mut Driver<Counters>,
+fn post<O: Object>(
+    heap: O::Alloc,
+    driver: &mut Driver<O>,
     from: Proc,
-    mails: &mut VecDeque<Mail>,
+    mails: &mut VecDeque<Mail<O::Alloc>, O::Alloc>,
 ) -> Result<(), Fault> {
     for _ in 0..MOST {
         let Some((receivers, letter)) = driver.next_send() else {
@@ -104,13 +105,14 @@ fn post(
     Ok(())
 }
 
-impl Grouped {
-    /// So many nodes at their opening.
-    pub fn new(heap: Global, count: u8) -> Result<Grouped, Fault> {
+impl<O: Object> Grouped<O> {
+    /// So many nodes at their opening, of which the last has its memory in `last`.
+    pub fn new(heap: O::Alloc, last: O::Alloc, count: u8) -> Result<Grouped<O>, Fault> {
         let fixed = Fixed::new(count)?;
         let mut members = Vec::new(heap);
         for number in 1..=count {
-            let driver = Driver::new(heap, fixed, number)?;
+            let memory = if number == count { last } else { heap };
+            let driver = Driver::new(memory, fixed, number)?;
             let told = (0, 0, None);
             members.push(Member { driver, told })?;
         }
@@ -124,7 +126,7 @@ impl Grouped {
     }
 
     /// The node of this number.
-    pub fn node(&self, number: u8) -> Option<&Node<Counters>> {
+    pub fn node(&self, number: u8) -> Option<&Node<O>> {
         Some(self.members.get(place_of(number))?.driver.node())
     }
 
@@ -174,7 +176,7 @@ impl Grouped {
     }
 
     /// A letter comes to its receiver.
-    fn hear(&mut self, mail: Mail) -> Result<(), Fault> {
+    fn hear(&mut self, mail: Mail<O::Alloc>) -> Result<(), Fault> {
         let letter = Letter::read(self.heap, mail.bytes.as_slice())?;
         match self.members.get_mut(place_of(mail.to.number())) {
             Some(member) => {

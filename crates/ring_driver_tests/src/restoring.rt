@@ -1,9 +1,12 @@
 //! A node that was away is restored. Expected values are those of `docs/PROTOCOL.md`.
 
 use crate::grouped::Grouped;
+use refusing_alloc::Refusing;
 use ring_base::{Fault, Kind, Proc, ProcSet, State};
+use ring_object::Object;
 use ring_session::{Answer, Ticket};
-use ring_things::{Outcome, reply_with};
+use ring_things::{Counters, Outcome, reply_with};
+use std::alloc::Global;
 use std::test::Fail;
 
 /// A node as it is shown: its state, how many places are committed, how many the log has, how many are dropped, and how many calls
@@ -11,7 +14,7 @@ use std::test::Fail;
 type Shown = (State, u64, u64, u64, u64, usize);
 
 /// What is shown of a node.
-fn shown(group: &Grouped, number: u8) -> Option<Shown> {
+fn shown<O: Object>(group: &Grouped<O>, number: u8) -> Option<Shown> {
     let node = group.node(number)?;
     Some((
         node.state(),
@@ -29,14 +32,14 @@ fn done(count: u64) -> Answer {
 }
 
 /// The answers to the first two tickets of a node.
-fn replies(group: &Grouped, number: u8) -> Option<[Option<Answer>; 2]> {
+fn replies<O: Object>(group: &Grouped<O>, number: u8) -> Option<[Option<Answer>; 2]> {
     let node = group.node(number)?;
     Some([node.reply(Ticket::new(0)), node.reply(Ticket::new(1))])
 }
 
 /// Client 7's next calls from this number on, so many, at a node; then so many letters come.
-fn calls(
-    group: &mut Grouped,
+fn calls<O: Object>(
+    group: &mut Grouped<O>,
     number: u8,
     first: u64,
     count: u64,
@@ -49,21 +52,21 @@ fn calls(
 }
 
 /// A join timeout comes to each of three nodes.
-fn join(group: &mut Grouped) -> Result<(), Fault> {
+fn join<O: Object>(group: &mut Grouped<O>) -> Result<(), Fault> {
     group.time(1, Kind::Join)?;
     group.time(2, Kind::Join)?;
     group.time(3, Kind::Join)
 }
 
 /// Three nodes form a ring, and 10 calls are done.
-fn formed(group: &mut Grouped) -> Result<(), Fault> {
+fn formed<O: Object>(group: &mut Grouped<O>) -> Result<(), Fault> {
     join(group)?;
     group.pump(200)?;
     calls(group, 1, 1, 10, 200)
 }
 
 /// Nodes 1 and 2 go on without node 3, and do 290 calls.
-fn parted(group: &mut Grouped) -> Result<(), Fault> {
+fn parted<O: Object>(group: &mut Grouped<O>) -> Result<(), Fault> {
     group.cut(ProcSet::only(Proc::new(3)));
     group.time(1, Kind::Loss)?;
     group.pump(200)?;
@@ -76,18 +79,23 @@ fn parted(group: &mut Grouped) -> Result<(), Fault> {
     calls(group, 1, 267, 34, 400)
 }
 
-/// All three form a ring again.
-fn merged(group: &mut Grouped) -> Result<(), Fault> {
+/// All three hear of each other again.
+fn met<O: Object>(group: &mut Grouped<O>) -> Result<(), Fault> {
     group.cut(ProcSet::new());
     group.time(3, Kind::Join)?;
     group.pump(600)?;
-    join(group)?;
+    join(group)
+}
+
+/// All three form a ring again.
+fn merged<O: Object>(group: &mut Grouped<O>) -> Result<(), Fault> {
+    met(group)?;
     group.pump(600)
 }
 
 #[test]
 fn node_that_was_away_is_restored(rt: HostRuntime) -> Result<(), Fail> {
-    let mut group = Grouped::new(rt.alloc(), 3)?;
+    let mut group = Grouped::<Counters>::new(rt.alloc(), rt.alloc(), 3)?;
     formed(&mut group)?;
     assert!(rt; shown(&group, 3) == Some((State::Operational, 10, 10, 0, 10, 10)));
     parted(&mut group)?;
@@ -105,7 +113,7 @@ fn node_that_was_away_is_restored(rt: HostRuntime) -> Result<(), Fail> {
 /// of those that the snapshot stands for, which answer no ticket: it is sent again, and its number took effect before.
 #[test]
 fn tickets_that_wait_at_a_restore(rt: HostRuntime) -> Result<(), Fail> {
-    let mut group = Grouped::new(rt.alloc(), 3)?;
+    let mut group = Grouped::<Counters>::new(rt.alloc(), rt.alloc(), 3)?;
     formed(&mut group)?;
     parted(&mut group)?;
     group.submit(3, 300)?;
@@ -114,5 +122,99 @@ fn tickets_that_wait_at_a_restore(rt: HostRuntime) -> Result<(), Fail> {
     merged(&mut group)?;
     assert!(rt; replies(&group, 3) == Some([Some(done(300)), Some(Answer::Refused(5))]));
     assert!(rt; shown(&group, 3) == Some((State::Operational, 301, 301, 266, 300, 35)));
+    Ok(())
+}
+
+/// How the step went in which node 3 is restored, or is refused memory: the requests for memory before it and with it, and its answer.
+type Restore = (u64, u64, Result<(), Fault>);
+
+/// How many places node 3 has dropped.
+fn trimmed<O: Object>(group: &Grouped<O>) -> u64 {
+    match group.node(3) {
+        Some(node) => node.trimmed(),
+        None => 0,
+    }
+}
+
+/// Letters come up to the one with which node 3 is restored, or is refused memory.
+fn restore<O: Object>(group: &mut Grouped<O>, heap: &Refusing) -> Option<Restore> {
+    for _ in 0..600 {
+        let before = heap.requests();
+        let answer = group.pump(1);
+        if answer.is_err() || trimmed(group) > 0 {
+            return Some((before, heap.requests(), answer));
+        }
+    }
+    None
+}
+
+/// A group up to that step of node 3, whose memory lies in `heap`.
+fn restored<O: Object>(
+    ample: O::Alloc,
+    last: O::Alloc,
+    heap: &Refusing,
+) -> Result<(Grouped<O>, Option<Restore>), Fault> {
+    let mut group = Grouped::new(ample, last, 3)?;
+    formed(&mut group)?;
+    parted(&mut group)?;
+    met(&mut group)?;
+    let step = restore(&mut group, heap);
+    Ok((group, step))
+}
+
+/// Whether node 3 has stopped, and tells its log as it was before it was to be restored.
+fn has_stopped<O: Object>(group: &Grouped<O>) -> bool {
+    let is_as_before = shown(group, 3) == Some((State::Stopped, 10, 10, 0, 10, 10));
+    is_as_before && group.told(3) == Some((10, 0, None))
+}
+
+/// Whether node 3 has stopped for good: it refuses a timeout, and a letter with which another node looks for it.
+fn stays_stopped<O: Object>(group: &mut Grouped<O>) -> Result<bool, Fault> {
+    let was_stopped = has_stopped(group);
+    let on_timeout = group.time(3, Kind::Join);
+    group.time(1, Kind::Loss)?;
+    let on_letter = group.pump(600);
+    let refuses = on_timeout == Err(Fault::Stopped) && on_letter == Err(Fault::Stopped);
+    Ok(was_stopped && refuses && has_stopped(group))
+}
+
+/// Whether node 3 is refused memory as it is to be restored, where so many requests of it are passed before, and has stopped for good.
+fn refused_after(ample: &Refusing, alloc: Global, passed: u64) -> Result<bool, Fault> {
+    let heap = Refusing::new(alloc, passed);
+    let (mut group, step) = restored::<Counters<&Refusing>>(ample, &heap, &heap)?;
+    match step {
+        Some((_, _, Err(Fault::Memory))) => stays_stopped(&mut group),
+        _ => Ok(false),
+    }
+}
+
+/// Whether node 3 is restored, and in the ring with the others.
+fn is_restored<O: Object>(group: &Grouped<O>) -> bool {
+    let is_in_ring = shown(group, 3) == Some((State::Operational, 300, 300, 266, 300, 34));
+    is_in_ring && group.told(3) == Some((44, 0, Some(266)))
+}
+
+/// The requests for memory before the step in which node 3 is restored, and with it, where none is refused.
+fn requests(ample: &Refusing, alloc: Global) -> Result<Option<(u64, u64)>, Fault> {
+    let heap = Refusing::new(alloc, u64::MAX);
+    let (mut group, step) = restored::<Counters<&Refusing>>(ample, &heap, &heap)?;
+    group.pump(600)?;
+    match step {
+        Some((before, after, Ok(()))) if is_restored(&group) => Ok(Some((before, after))),
+        _ => Ok(None),
+    }
+}
+
+#[test]
+fn restore_that_is_refused_memory_stops_the_node(rt: HostRuntime) -> Result<(), Fail> {
+    let ample = Refusing::new(rt.alloc(), u64::MAX);
+    let Some((before, after)) = requests(&ample, rt.alloc())? else {
+        return Err(Fail::new("node 3 is not restored"));
+    };
+    let count = after.saturating_sub(before);
+    assert!(rt; 0 < count && count < 1_000);
+    for passed in before..after {
+        assert!(rt; refused_after(&ample, rt.alloc(), passed)?, "at {passed}");
+    }
     Ok(())
 }
