@@ -13,7 +13,7 @@ ghost use Rattle.ring_book_lines.specs.Puts.{IsPut};
 use crate::spelled::{SpelledFrame, is_same_text, write_in};
 use bytes::BytesMut;
 use ring_base::{Fault, Proc, ProcSet};
-use ring_replica::Sent;
+use ring_core::Sent;
 use ring_wire::{Frame, Wire};
 use std::alloc::{Allocator, Global};
 use std::marker::Model;

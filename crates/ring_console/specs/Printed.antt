@@ -8,11 +8,10 @@ use Rattle.ring_base.specs.declared.ring_id.RingId.{RingId}
 use Rattle.ring_rules.specs.declared.told.Told.{Told}
 use Rattle.ring_rules.specs.declared.told.Told.TheVariants.{Answer as ToldAnswer, Refused as ToldRefused}
 use Rattle.ring_payload.specs.declared.call.Call.{Call}
-use Rattle.ring_report.specs.Texts.{line_of}
+use Rattle.ring_report.specs.Texts.{line_of, state_text}
 use Rattle.ring_session.specs.declared.answer.Answer.{Answer}
 use Rattle.ring_session.specs.declared.answer.Answer.TheVariants.{Done, Kept, Refused}
 use Rattle.ring_base.specs.declared.state.State.{State}
-use Rattle.ring_base.specs.declared.state.State.TheVariants.{Gather, Commit, Recovery, Operational, Stopped}
 
 -- whether the call took effect, and its reply, or the number of the reason why it did not
 abbrev pub outcome_text : Answer → List ℕ
@@ -39,22 +38,9 @@ one_text (ToldRefused node call reason) = refused_text node call reason
 abbrev pub told_text : {A : Type 0} → List (Told A) → List ℕ
 told_text told = flat_map (λ (t : Told _). line_of (one_text t)) told
 
--- whether a run is legal
-abbrev pub legal_text : Bool → List ℕ
-legal_text true = codes "legal yes"
-legal_text false = codes "legal no"
-
 -- how long the one order is
 abbrev pub order_text : ℕ → List ℕ
 order_text length = codes "order " ++ decimal length
-
--- the word for a state
-abbrev pub state_text : State → List ℕ
-state_text Gather = codes "gather"
-state_text Commit = codes "commit"
-state_text Recovery = codes "recovery"
-state_text Operational = codes "operational"
-state_text Stopped = codes "stopped"
 
 -- how many places are dropped, where any are
 abbrev pub trimmed_text : ℕ → List ℕ

@@ -17,11 +17,11 @@ use Rattle.ring_script.specs.declared.line.Line.TheVariants.{Call, Deliver, Time
 use Rattle.ring_script.specs.declared.scripts.Numbered.{Numbered}
 use Rattle.ring_report.specs.declared.failure.Failure.{Failure}
 use Rattle.ring_report.specs.declared.failure.Failure.TheVariants.{Output, Refused}
-use Rattle.ring_report.specs.Texts.{line_of}
+use Rattle.ring_report.specs.Texts.{line_of, legal_text}
 pub use Rattle.ring_world.specs.declared.pairs.Pair.{Pair}
 use Rattle.ring_world.specs.Pumping.{Pumped, Rests as PumpRests, Happens as PumpHappens}
 use Rattle.ring_world.specs.Played.{Played, played_opening, world_of}
-use Rattle.ring_console.specs.Printed.{told_text, node_text, order_text, legal_text}
+use Rattle.ring_console.specs.Printed.{told_text, node_text, order_text}
 
 -- What contracts see of a run.
 pub record RunView (A : Type 0) : Type 0 where
@@ -47,10 +47,6 @@ abbrev pub UnlessOutput : {T : Type 0} → Result T Failure → Type 0 → Type 
 UnlessOutput (Ok x) P = P
 UnlessOutput (Err Output) P = ⊤
 UnlessOutput (Err _) P = P
-
--- why a run ends before its script: the output failed, or memory was refused
-abbrev pub IsOutputOrMemory : Failure → Type 0
-IsOutputOrMemory failure = (failure ≡ Output) ⊎ (failure ≡ Refused Memory)
 
 -- a line that says whether a run is legal, where it is asked for
 abbrev pub legal_line : Bool → Bool → List ℕ

@@ -11,7 +11,6 @@ mod run;
 mod running;
 
 pub use listing::frames;
-pub use printed::state_word;
 pub use ring_report::{Failure, report};
 pub use ring_script::{
     Groups, Line, NoWords, Numbered, Script, ScriptFault, ShelfWords, Vocabulary,

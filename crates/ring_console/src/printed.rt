@@ -3,13 +3,13 @@
 ghost use Rattle.std.specs.Prelude.{◌≡◌, IfErr, OnOk};
 ghost use Rattle.std.specs.Io.KnownBytes.{Appends};
 ghost use Rattle.ring_report.specs.declared.failure.Failure.TheVariants.{Output};
-ghost use Rattle.ring_report.specs.Texts.{line_of};
-ghost use Rattle.ring_console.specs.Printed.{one_text, told_text, answer_text, refused_text, node_text, order_text, legal_text, state_text};
+ghost use Rattle.ring_report.specs.Texts.{line_of, legal_text};
+ghost use Rattle.ring_console.specs.Printed.{one_text, told_text, answer_text, refused_text, node_text, order_text};
 
 use ring_base::{Proc, RingId, State};
 use ring_object::Reply;
 use ring_payload::Call;
-use ring_report::Failure;
+use ring_report::{Failure, state_word};
 use ring_rules::Told;
 use ring_session::Answer;
 use std::alloc::Allocator;
@@ -167,17 +167,4 @@ pub(crate) fn print_legal<W: Write>(out: &mut W, is_legal: bool) -> Result<(), F
 {
     let word = if is_legal { "yes" } else { "no" };
     writeln!(out, "legal {word}").map_err(|_| Failure::Output)
-}
-
-/// The word for a state.
-pub fn state_word(state: State) -> &'static str
-    ensures { result.now ≡ state_text state }
-{
-    match state {
-        State::Gather => "gather",
-        State::Commit => "commit",
-        State::Recovery => "recovery",
-        State::Operational => "operational",
-        State::Stopped => "stopped",
-    }
 }

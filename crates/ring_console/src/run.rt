@@ -6,10 +6,11 @@ ghost use Rattle.std.specs.Io.KnownBytes.{Appends};
 ghost use Rattle.ring_base.specs.declared.fault.Fault.TheVariants.{Memory};
 ghost use Rattle.ring_rules.specs.WorldLimits.{EventFits};
 ghost use Rattle.ring_world.specs.Pairs.{Takes};
+ghost use Rattle.ring_report.specs.Failures.{IsOutputOrMemory};
 ghost use Rattle.ring_report.specs.declared.failure.Failure.TheVariants.{Output};
 ghost use Rattle.ring_script.specs.Fits.{IsFit, AreFit};
 ghost use Rattle.ring_console.specs.Printed.{told_text};
-ghost use Rattle.ring_console.specs.Running.{run_opening, hears, Prints, UnlessOutput, IsOutputOrMemory, Rests, Happens, Turns, BreaksTurn};
+ghost use Rattle.ring_console.specs.Running.{run_opening, hears, Prints, UnlessOutput, Rests, Happens, Turns, BreaksTurn};
 ghost use Rattle.ring_console.specs.Running.{Comes, Pumps, BreaksPump, Ends, EndsRun, text_of, show_text};
 
 use crate::printed::{print_node, print_order, print_told};

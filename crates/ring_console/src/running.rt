@@ -7,7 +7,8 @@ ghost use Rattle.ring_base.specs.declared.fault.Fault.TheVariants.{Memory};
 ghost use Rattle.ring_script.specs.Fits.{AreFit};
 ghost use Rattle.ring_script.specs.Scripts.{IsAllOf, AnswersInputBy, AnswersInput};
 ghost use Rattle.ring_script.specs.declared.scripts.Script.{Script};
-ghost use Rattle.ring_console.specs.Running.{Prints, IsTextOf, IsLegal, IsVerdict, IsOutputOrMemory, legal_line};
+ghost use Rattle.ring_report.specs.Failures.{IsOutputOrMemory};
+ghost use Rattle.ring_console.specs.Running.{Prints, IsTextOf, IsLegal, IsVerdict, legal_line};
 
 use crate::printed::print_legal;
 use crate::run::Run;

@@ -8,9 +8,8 @@ ghost use Rattle.ring_host.specs.Answering.{IsAnswered};
 ghost use Rattle.ring_host_port.specs.Noted.{told_of};
 
 use ring_base::{Fault, Proc};
-use ring_book::BookName;
 use ring_client::{Asked, Port, tellable};
-use ring_host::{Host, HostTicket, Seat};
+use ring_host::{BookName, Host, HostTicket, Seat};
 use ring_object::Object;
 use ring_payload::{Call, MOST_OPERATION};
 use ring_session::{Answer, copy_of};

@@ -1,8 +1,7 @@
 -- What a live run prints (Live, of docs/FORMATS.md).
 use Rattle.std.specs.Prelude.{ℕ, List, ◌++◌, codes}
 use Rattle.std.specs.Fmt.{decimal}
-use Rattle.ring_report.specs.Texts.{line_of}
-use Rattle.ring_console.specs.Printed.{legal_text}
+use Rattle.ring_report.specs.Texts.{line_of, legal_text}
 use Rattle.ring_live.specs.declared.running.Lived.{Lived}
 
 -- how many nodes there were, how many adds were answered, what this counter was then, and whether all is legal

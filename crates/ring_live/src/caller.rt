@@ -5,10 +5,8 @@ ghost use Rattle.ring_seat.specs.Seats.{IsAt};
 ghost use Rattle.ring_live.specs.Callers.{HasSeatsAt};
 
 use ring_base::Fault;
-use ring_book::BookName;
 use ring_client::Client;
-use ring_host::{Host, Seat};
-use ring_host_port::HostPort;
+use ring_host_port::{BookName, Host, HostPort, Seat};
 use ring_object::{Object, Reply};
 use ring_things::{Counters, Place, Replied};
 use std::alloc::{Allocator, Global};

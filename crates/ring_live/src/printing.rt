@@ -8,9 +8,8 @@ ghost use Rattle.ring_live.specs.declared.running.Lived.{Lived};
 
 use crate::running::{Lived, Setting, run_live};
 use ring_base::{Fault, Fixed};
-use ring_book::Opening;
 use ring_console::{Failure, Things, report};
-use ring_host::INBOX;
+use ring_host_port::{INBOX, Opening};
 use std::alloc::Global;
 use std::io::Write;
 use std::marker::Brand;

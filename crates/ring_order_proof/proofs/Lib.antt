@@ -2,6 +2,7 @@
 -- ProjectedSteps: An event of a world of nodes, as events of a world of ring cores: the core's own, and what is handed over after it, or the core's
 --   stop.
 -- ProjectedEvents: Each event of a world of nodes, and so each list of them, is events of a world of ring cores.
+-- SynchronousRuns: The ring part of every run of nodes is virtually synchronous.
 -- DisciplinedDues: What is due by what a core tells of a ring: pieces of a snapshot, Parts of the log that the node had before the ring, and calls; and
 --   nothing but in a primary ring that runs.
 -- DisciplinedTelling: A life as a core tells it: what is agreed and safe of a ring changes the newest stay alone, by events that may happen to a life;
@@ -65,6 +66,7 @@
 pub mod ProjectedSends
 pub mod ProjectedSteps
 pub mod ProjectedEvents
+pub mod SynchronousRuns
 pub mod DisciplinedDues
 pub mod DisciplinedTelling
 pub mod DisciplinedSteps

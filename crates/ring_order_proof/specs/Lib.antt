@@ -1,4 +1,5 @@
 pub mod Projection
+pub mod Synchronous
 pub mod Living
 pub mod Spoken
 pub mod Said

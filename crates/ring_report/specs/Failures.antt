@@ -1,6 +1,6 @@
 -- Why a function ends before its work is done, and the line that says so.
 -- The command line, of docs/FORMATS.md.
-use Rattle.std.specs.Prelude.{ℕ, List, [], ◌++◌, codes}
+use Rattle.std.specs.Prelude.{◌≡◌, ℕ, ◌⊎◌, List, [], ◌++◌, codes}
 use Rattle.std.specs.Fmt.{decimal}
 use Rattle.ring_base.specs.Fault.{fault_number, fault_text}
 use Rattle.ring_base.specs.declared.fault.Fault.{Fault}
@@ -25,3 +25,7 @@ failure_text (Refused f) = numbered_text f
 failure_text (BadFrame byte) = numbered_text fault.BadFrame ++ codes " at byte " ++ decimal byte
 failure_text (BadScript line) = numbered_text fault.BadScript ++ codes " at line " ++ decimal line
 failure_text Output = []
+
+-- why work on an output ends early: the output failed, or memory was refused
+abbrev pub IsOutputOrMemory : Failure → Type 0
+IsOutputOrMemory failure = (failure ≡ Output) ⊎ (failure ≡ Refused fault.Memory)

@@ -1,9 +1,11 @@
 //! How the program ends: why its work was not done, the line on standard error that says so, and the exit
-//! status. A writer is lent to the buffer that is emptied before that.
+//! status. A writer is lent to the buffer that is emptied before that. Words for states, as all that it prints has them.
 #![tactic(auto)]
 
 mod failure;
 mod lent;
+mod state_words;
 
 pub use failure::{Failure, exit_status, report};
 pub use lent::Lent;
+pub use state_words::state_word;

@@ -6,7 +6,7 @@ use Rattle.ring_payload.specs.declared.call.Call.{Call}
 use Rattle.ring_rules.specs.declared.item.Item.{Item}
 use Rattle.ring_rules.specs.Histories.{IsLinearization}
 use Rattle.ring_rules.specs.Worlds.{order}
-use Rattle.ring_world.specs.Played.{Played, world_of}
+use Rattle.ring_console.specs.Worlds.{Played, world_of}
 use Rattle.ring_sweep.specs.Legal.{IsLegal, AreFronts}
 
 -- it holds of each number from 1 up to this one

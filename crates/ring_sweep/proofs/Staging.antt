@@ -10,7 +10,7 @@ use Rattle.ring_rules.specs.declared.event.Event.TheVariants as events
 use Rattle.ring_script.specs.declared.line.Line.{Line}
 use Rattle.ring_script.specs.declared.line.Line.TheVariants.{Call, Deliver, Timeout, Noise, Stop, Cut, Heal, Pump, Show}
 use Rattle.ring_script.specs.declared.scripts.Numbered.{Numbered}
-use Rattle.ring_world.specs.Played.{Played, Goes as PlayedGoes}
+use Rattle.ring_console.specs.Worlds.{Played, Goes as PlayedGoes}
 use Rattle.ring_script.specs.Fits.{IsFit}
 use Rattle.ring_console.specs.Running.{Pair}
 use Rattle.ring_console.specs.Running.{RunView, Does, Ends, Happens}

@@ -6,7 +6,7 @@ use Rattle.std.specs.Io.KnownBytes.{Appends}
 use Rattle.ring_base.specs.Group.{Group}
 use Rattle.ring_object.specs.Operations.{Sequential}
 use Rattle.ring_script.specs.declared.scripts.Numbered.{Numbered}
-use Rattle.ring_world.specs.Played.{Played}
+use Rattle.ring_console.specs.Worlds.{Played}
 use Rattle.ring_console.specs.Running.{RunView, run_opening, Prints}
 use Rattle.ring_sweep.specs.declared.upset.Upset.{Upset}
 use Rattle.ring_sweep.specs.Legal.{IsLegal}

@@ -8,7 +8,7 @@ use Rattle.ring_session.specs.Deduplicated.{deduplicated}
 use Rattle.ring_log.specs.Lives.{committed_of}
 use Rattle.ring_rules.specs.Histories.{IsLinearization}
 use Rattle.ring_rules.specs.Worlds.{lives_of, order}
-use Rattle.ring_world.specs.Played.{Played, world_of}
+use Rattle.ring_console.specs.Worlds.{Played, world_of}
 
 module _ {O : Type 0} (object : Sequential O) where
   -- the calls that take effect of what each node committed are a front of these

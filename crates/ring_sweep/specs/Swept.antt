@@ -6,8 +6,7 @@ use Rattle.ring_base.specs.Group.{Group}
 use Rattle.ring_object.specs.Operations.{Sequential}
 use Rattle.ring_script.specs.declared.scripts.Numbered.{Numbered}
 use Rattle.ring_report.specs.declared.failure.Failure.{Failure}
-use Rattle.ring_report.specs.Texts.{line_of}
-use Rattle.ring_console.specs.Printed.{legal_text}
+use Rattle.ring_report.specs.Texts.{line_of, legal_text}
 use Rattle.ring_sweep.specs.declared.sweeping.Swept.{Swept}
 use Rattle.ring_sweep.specs.declared.upset.Blow.{Blow}
 use Rattle.ring_sweep.specs.declared.upset.Blow.TheVariants as blows

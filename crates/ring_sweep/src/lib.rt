@@ -12,7 +12,9 @@ mod upset;
 mod variant;
 
 pub use laws::{first_law, variants_law};
-pub use ring_console::{Failure, frames, report, script, script_check, script_of};
+pub use ring_console::{
+    Failure, ShelfWords, Things, Vocabulary, frames, report, script, script_check, script_of,
+};
 pub use spelling::{print_variant, print_variant_of};
 pub use sweeping::{Swept, sweep, sweep_by_threads, sweep_of, sweep_of_by_threads, verdict_status};
 pub use upset::{Blow, Upset};

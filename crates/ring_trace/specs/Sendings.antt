@@ -4,8 +4,7 @@ use Rattle.std.specs.Prelude.{ℕ, List, Option}
 use Rattle.std.specs.Io.KnownBytes.{Appends}
 use Rattle.ring_object.specs.Operations.{Sequential}
 use Rattle.ring_script.specs.declared.scripts.Script.{Script}
-use Rattle.ring_world.specs.Played.{world_of}
-use Rattle.ring_world.specs.Stored.{text_of}
+use Rattle.ring_console.specs.Worlds.{text_of, world_of}
 use Rattle.ring_console.specs.Running.{RunView, run_opening, Runs}
 
 -- there is a run of all of a script's lines, and all frames sent in it were written, as they are spelled, one behind the other

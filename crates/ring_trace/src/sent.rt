@@ -2,8 +2,7 @@
 
 ghost use Rattle.std.specs.Prelude.{OnOk};
 ghost use Rattle.std.specs.Io.KnownBytes.{Appends};
-ghost use Rattle.ring_world.specs.Played.{world_of};
-ghost use Rattle.ring_world.specs.Stored.{text_of};
+ghost use Rattle.ring_console.specs.Worlds.{text_of, world_of};
 
 use ring_base::{Fault, Proc};
 use ring_console::{Failure, World};

@@ -2,8 +2,7 @@
 
 ghost use Rattle.std.specs.Prelude.{◌≡◌, ℕ, List, drop, Some, None, OnOk, IfOk};
 ghost use Rattle.std.specs.Io.KnownBytes.{Appends};
-ghost use Rattle.ring_world.specs.Played.{world_of};
-ghost use Rattle.ring_world.specs.Stored.{text_of};
+ghost use Rattle.ring_console.specs.Worlds.{text_of, world_of};
 ghost use Rattle.ring_script.specs.Fits.{IsFit, AreFit};
 ghost use Rattle.ring_console.specs.Running.{run_opening, Does, Pumps, Runs};
 

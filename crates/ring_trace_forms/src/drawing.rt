@@ -4,7 +4,7 @@ ghost use Rattle.std.specs.Prelude.{◌≡◌, IfErr, OnOk};
 ghost use Rattle.ring_base.specs.declared.fault.Fault.TheVariants.{Memory};
 ghost use Rattle.ring_picture.specs.declared.mark.Mark.TheVariants.{Heal, Lost, Rounds};
 ghost use Rattle.ring_picture.specs.Strips.{strip_opening, begun, marked};
-ghost use Rattle.ring_console.specs.Running.{IsOutputOrMemory};
+ghost use Rattle.ring_report.specs.Failures.{IsOutputOrMemory};
 
 use ring_base::{Fault, Fixed, Proc, ProcSet, State};
 use ring_picture::{Mark, Picture, Shade};

@@ -1,7 +1,7 @@
 //! How a trace is printed: each line in the form that was asked for. A picture has no lines.
 
 ghost use Rattle.std.specs.Prelude.{◌≡◌, IfErr};
-ghost use Rattle.ring_console.specs.Running.{IsOutputOrMemory};
+ghost use Rattle.ring_report.specs.Failures.{IsOutputOrMemory};
 
 use crate::{json, text};
 use ring_base::ProcSet;

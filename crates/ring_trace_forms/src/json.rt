@@ -2,13 +2,12 @@
 
 ghost use Rattle.std.specs.Prelude.{◌≡◌, IfErr};
 ghost use Rattle.ring_base.specs.declared.fault.Fault.TheVariants.{Memory};
-ghost use Rattle.ring_console.specs.Running.{IsOutputOrMemory};
+ghost use Rattle.ring_report.specs.Failures.{IsOutputOrMemory};
 
 use ring_base::{Fault, Proc, ProcSet};
-use ring_console::state_word;
 use ring_object::Reply;
 use ring_payload::Call;
-use ring_report::Failure;
+use ring_report::{Failure, state_word};
 use ring_rules::Told;
 use ring_session::Answer;
 use ring_trace_words::{

@@ -2,8 +2,8 @@
 
 use crate::votes::Share;
 use ring_base::{ProcSet, RingId, State};
-use ring_console::state_word;
 use ring_picture::Members;
+use ring_report::state_word;
 use std::fmt;
 
 /// What an event changed at its node.

@@ -9,7 +9,7 @@
 -- SubmitRefused: A submit is refused for no want of memory where it is refused whatever the memory, and room for many is room for fewer.
 -- FrameHanded: What is handed to a node is the frame that was sent to it, if any.
 -- Playing: A run goes on event by event, and only adds to what was.
--- Synchrony: The ring part of every run is virtually synchronous.
+-- OutputsGrow: What the cores gave in a run goes on in a longer one.
 -- EventLimits: Calls of events that keep the limits of snapshots keep those of frames, as copies of events do.
 -- Segments: The longest of what nodes committed, segment by segment.
 -- OrderLengths: How long the order is: as many calls as took effect at the node where the most did.
@@ -30,7 +30,7 @@ pub mod NodePlaces
 pub mod WorldOfNodes
 pub mod FrameHanded
 pub mod Playing
-pub mod Synchrony
+pub mod OutputsGrow
 pub mod Opening
 pub mod Segments
 pub mod OrderLengths

@@ -6,7 +6,6 @@ use Rattle.std.proofs.lemmas.List.{drop_all, length-take}
 use Rattle.ring_core.specs.declared.input.Input.TheVariants.{Frame as FrameInput, Timeout}
 use Rattle.ring_core.specs.State.{Core, Stepped}
 use Rattle.ring_core.specs.Stepping.{ring_step}
-use Rattle.ring_srp.proofs.PayloadSent.{GaveNothing}
 use Rattle.ring_object.specs.Operations.{Sequential}
 use Rattle.ring_payload.specs.declared.content.Payload.{Payload}
 use Rattle.ring_core.specs.declared.out.Out.{Out}
@@ -20,7 +19,7 @@ use Rattle.ring_rules.specs.declared.input.Input.{Input as NodeInput}
 use Rattle.ring_rules.specs.declared.input.Input.TheVariants.{Frame as NodeFrame, Noise as NodeNoise, Timeout as NodeTime, Stop as NodeStop}
 use Rattle.ring_rules.specs.Nodes.{Node, node_kept, is_stopped, is_closed, is_restored}
 use Rattle.ring_rules.specs.Stepping.{NodeStepped, newly, table_since, with_dropped, drops, ended, did, node_step, after_core, settled, walked}
-use Rattle.ring_srp.proofs.StoppedCore.{stopped_step}
+use Rattle.ring_node.proofs.StoppedCore.{GaveNothing, stopped_step}
 use Rattle.ring_rules.proofs.NodeChanges.{stopped_same}
 use Rattle.ring_order_proof.proofs.Undropped.{IsUndropping}
 

@@ -4,7 +4,6 @@ pub mod Played
 pub mod Longest
 pub mod Ordering
 pub mod Keeping
-pub mod Synchronous
 pub mod Pairs
 pub mod Pumping
 pub mod Refusals

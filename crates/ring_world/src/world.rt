@@ -21,10 +21,10 @@ ghost use Rattle.ring_rules.specs.WorldLimits.{EventFits};
 ghost use Rattle.ring_rules.specs.Worlds.{carried, happens, stepped, order, lives_of, world_opening};
 ghost use Rattle.ring_order_proof.specs.Linear.{EventKeeps, Follows, FollowsOrder};
 ghost use Rattle.ring_order_proof.specs.Projection.{share_of};
+ghost use Rattle.ring_order_proof.specs.Synchronous.{IsSynchronous};
 ghost use Rattle.ring_world.specs.Played.{Played, played_opening, told_of_events, world_of, step_in, Goes, Plays};
 ghost use Rattle.ring_world.specs.Stored.{HasRoom, text_of};
 ghost use Rattle.ring_world.specs.Spares.{Spares as ToldSpares};
-ghost use Rattle.ring_world.specs.Synchronous.{IsSynchronous};
 
 use crate::copies::{copied_call, copied_event};
 use crate::frames::Frames;

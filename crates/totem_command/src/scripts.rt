@@ -3,10 +3,9 @@
 use crate::command_line::{AskedScript, Way};
 use crate::commands::{INPUT, processors};
 use ring_base::Fault;
-use ring_console::Vocabulary;
 use ring_explanation::reason_by;
 use ring_object::Object;
-use ring_sweep::{Failure, print_variant_of, report, script_of, sweep_of_by_threads};
+use ring_sweep::{Failure, Vocabulary, print_variant_of, report, script_of, sweep_of_by_threads};
 use std::alloc::Global;
 use std::io::{Error, ErrorKind, Read, Write};
 use std::rt::Files;

@@ -33,7 +33,6 @@
 pub use ring_base::{Fault, Fixed, Kind, MOST_PROCESSORS, Proc, ProcSet, RingId, State};
 pub use ring_checker::is_linearization;
 pub use ring_client::{Asked, Client, Port};
-pub use ring_console::script_of;
 pub use ring_driver::{Driver, Letter};
 pub use ring_node::{Input, Node, Outs, Sent};
 pub use ring_object::{Object, Reply, Short, object_law};
@@ -44,7 +43,7 @@ pub use ring_runs::{RingEvent, Rings};
 pub use ring_script::{Argument, Form, NoWords, ShelfWords, Vocabulary};
 pub use ring_script_maker::{generate_by, made_script_by};
 pub use ring_session::{Answer, Answered, Ticket};
-pub use ring_sweep::sweep_of;
+pub use ring_sweep::{script_of, sweep_of};
 pub use ring_things::{
     Counters, Names, Operation, Outcome, Place, Queue, Registers, Replied, Shelf, ShelfOperation,
 };

@@ -8,10 +8,11 @@
 //! In contracts, `Rattle.totem_threads.specs` has what `Rattle.totem_ring.specs` has, and `Seats`.
 #![tactic(auto)]
 
-pub use ring_book::{Book, BookName, Opening};
 pub use ring_explore::{Plan, explore_of};
-pub use ring_host::{Gate, GatePlace, Gauge, Host, HostTicket, Open, Paced, Seat, Stir, Turn};
-pub use ring_host_port::HostPort;
+pub use ring_host_port::{
+    Book, BookName, Gate, GatePlace, Gauge, Host, HostPort, HostTicket, Open, Opening, Paced, Seat,
+    Stir, Turn,
+};
 pub use totem_ring::{
     Answer, Answered, Argument, Asked, Call, Client, Counters, Driver, Event, Fault, Fixed, Form,
     Format, Frame, Input, Item, Keyed, Kind, Letter, MOST_PROCESSORS, Names, Network, NoWords,

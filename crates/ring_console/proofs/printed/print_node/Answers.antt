@@ -4,7 +4,8 @@ use Rattle.std.specs.Fmt.{decimal}
 use Rattle.std.specs.Io.KnownBytes.{Appends}
 use Rattle.ring_base.specs.Rings.{ring_text}
 use Rattle.ring_report.specs.Texts.{line_of}
-use Rattle.ring_console.specs.Printed.{node_text, state_text, trimmed_text}
+use Rattle.ring_report.specs.Texts.{state_text}
+use Rattle.ring_console.specs.Printed.{node_text, trimmed_text}
 use Rattle.ring_console.proofs.printed.print_node.Goals as goal
 
 -- eleven pieces and the end of a line, as `writeln!` joins them

@@ -1,7 +1,7 @@
 use Rattle.std.proofs.Common.{subst, sym}
 use Rattle.ring_rules.specs.Histories.{IsLinearization}
 use Rattle.ring_rules.specs.Worlds.{order, run, world_opening}
-use Rattle.ring_book_lines.specs.Events.{events_of, history_of}
+use Rattle.ring_host_port.specs.Books.{events_of, history_of}
 use Rattle.ring_live.proofs.legal.explained.Goals as goal
 
 pub returns-clause-ok : goal.returns-clause-ok

@@ -5,7 +5,7 @@ use Rattle.ring_payload.specs.declared.call.Call.{Call}
 use Rattle.ring_session.specs.Deduplicated.{deduplicated}
 use Rattle.ring_log.specs.Lives.{committed_of}
 use Rattle.ring_rules.specs.Worlds.{lives_of}
-use Rattle.ring_world.specs.Played.{world_of}
+use Rattle.ring_console.specs.Worlds.{world_of}
 use Rattle.ring_sweep.proofs.Legality.{up_next}
 use Rattle.ring_sweep.proofs.legal.are_fronts.Goals as goal
 

@@ -5,7 +5,8 @@ use Rattle.ring_rules.specs.Worlds.{World, world_opening, order}
 use Rattle.ring_order_proof.specs.Projection.{share_of}
 use Rattle.ring_world.specs.Played.{Played, world_of, Plays}
 use Rattle.ring_world.proofs.Playing.{plays_from, plays_longer, world_later}
-use Rattle.ring_world.proofs.Synchrony.{synchronous_run, longer_told}
+use Rattle.ring_order_proof.proofs.SynchronousRuns.{synchronous_run}
+use Rattle.ring_world.proofs.OutputsGrow.{longer_told}
 use Rattle.ring_world.proofs.world.World.run.Goals as goal
 
 pub returns-clause-plays : goal.returns-clause-plays

@@ -1,9 +1,7 @@
--- The ring part of every run is virtually synchronous.
-use Rattle.std.proofs.Common.{◌≡◌, ℕ, List, ◌++◌, ap, sym, ◌∙◌, subst}
-use Rattle.ring_base.specs.Fronts.{IsFront}
+-- The ring part of every run of nodes is virtually synchronous.
+use Rattle.std.proofs.Common.{List, ap, ◌∙◌, subst}
 use Rattle.ring_base.specs.Group.{Group}
 use Rattle.ring_object.specs.Operations.{Sequential}
-use Rattle.ring_core.specs.declared.out.Out.{Out}
 use Rattle.ring_core_proof.specs.Worlds.{World as RingWorld}
 use Rattle.ring_rules.specs.declared.event.Event.{Event}
 use Rattle.ring_rules.specs.Worlds.{world_opening, run}
@@ -11,13 +9,11 @@ use Rattle.ring_chain_proof.specs.ChainTold.{NameSameMembers, SafeIsSafe, ToldIs
 use Rattle.ring_chain_proof.proofs.SafeTold.{unformed_told}
 use Rattle.ring_chain_proof.proofs.TakingPart.{unformed_same_members}
 use Rattle.ring_chain_proof.proofs.Tells.{unformed_held}
-use Rattle.ring_order_proof.specs.Projection.{ring_part, share_of}
-use Rattle.ring_order_proof.proofs.ProjectedEvents.{projected, outs_grow}
 use Rattle.ring_synchrony_proof.proofs.Installed.{all_synchronous}
 use Rattle.ring_synchrony_proof.specs.Synchrony.{IsVirtuallySynchronous}
-use Rattle.ring_world.specs.Played.{Played}
-use Rattle.ring_world.specs.Synchronous.{IsSynchronous}
-use Rattle.ring_world.proofs.Playing.{IsLonger}
+use Rattle.ring_order_proof.specs.Projection.{ring_part}
+use Rattle.ring_order_proof.specs.Synchronous.{IsSynchronous}
+use Rattle.ring_order_proof.proofs.ProjectedEvents.{projected}
 
 pub synchronous_run : {O A : Type 0} (object : Sequential O) (group : Group) (events : List (Event A))
     → IsSynchronous object group events
@@ -32,12 +28,3 @@ synchronous_run {O} {A} object group events =
       held = subst (λ (x : RingWorld A). ToldIsHeld x) part (unformed_held group.count r.events);
       safe = subst (λ (x : RingWorld A). SafeIsSafe x) part (unformed_told group.count r.events);
     }
-
--- what the cores gave in a run goes on in a longer one
-pub longer_told : {O A : Type 0} (object : Sequential O) (p q : Played A) → IsLonger object p q →
-    IsFront (share_of object (world_opening p.group) p.events).outs (share_of object (world_opening q.group) q.events).outs
-longer_told {O} {A} object p q l =
-    let given : Group → List (Event A) → List (ℕ × Out A) = λ group events. (share_of object (world_opening group) events).outs in
-    let same : given p.group (p.events ++ l.later) ≡ given q.group q.events =
-    ap (given p.group) (sym l.events) ∙ ap (λ group. given group q.events) (sym l.group) in
-    subst (λ (xs : List (ℕ × Out A)). IsFront (given p.group p.events) xs) same (outs_grow object p.group p.events l.later)

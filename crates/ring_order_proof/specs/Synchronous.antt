@@ -1,4 +1,4 @@
--- The ring part of a world is virtually synchronous. Outputs, rule 11 of docs/PROTOCOL.md.
+-- The ring part of a run of nodes is virtually synchronous. Outputs, rule 11 of docs/PROTOCOL.md.
 use Rattle.std.specs.Prelude.{List}
 use Rattle.ring_base.specs.Group.{Group}
 use Rattle.ring_object.specs.Operations.{Sequential}

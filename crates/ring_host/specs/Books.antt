@@ -1,0 +1,2 @@
+-- Words of what a book's lines tell, passed on to what reads a host's book.
+pub use Rattle.ring_book_lines.specs.Events.{events_of, history_of}
