@@ -5,7 +5,7 @@ ghost use Rattle.ring_base.specs.declared.fault.Fault.TheVariants.{Memory};
 ghost use Rattle.ring_wire.specs.Frames.{FrameFits};
 ghost use Rattle.ring_core.specs.Stepping.{ring_step};
 ghost use Rattle.ring_core.specs.declared.input.Input.TheVariants.{Frame as FrameInput};
-ghost use Rattle.ring_srp_acts.specs.Allowing.{InputFits};
+ghost use Rattle.ring_srp.specs.Inputs.{InputFits};
 ghost use Rattle.ring_rules.specs.Nodes.{is_stopped};
 ghost use Rattle.ring_rules.specs.Stepping.{handed_over};
 ghost use Rattle.ring_replica.specs.Courses.{rises, IsSteady};

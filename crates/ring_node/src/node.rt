@@ -6,7 +6,7 @@ ghost use Rattle.ring_payload.specs.Calls.{CallFits};
 ghost use Rattle.ring_wire.specs.Frames.{FrameFits};
 ghost use Rattle.ring_core.specs.Stepping.{ring_step};
 ghost use Rattle.ring_core.specs.declared.input.Input.TheVariants.{Frame as FrameInput, Timeout as TimeoutInput};
-ghost use Rattle.ring_srp_acts.specs.Allowing.{InputFits as CoreInputFits};
+ghost use Rattle.ring_srp.specs.Inputs.{InputFits as CoreInputFits};
 ghost use Rattle.ring_session.specs.Pendings.{pending_from};
 ghost use Rattle.ring_rules.specs.Nodes.{node_opening, node_kept, node_length, node_trimmed, node_committed, node_reply, node_stopped, is_stopped, effects_at};
 ghost use Rattle.ring_rules.specs.Stepping.{after_core, node_step, submit_fault, submitted};

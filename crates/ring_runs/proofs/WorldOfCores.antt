@@ -23,7 +23,7 @@ use Rattle.ring_core_proof.specs.Worlds.{stopped_if, handed_if, handed}
 use Rattle.ring_core_proof.specs.Limits.{InputFits, WorldFits}
 use Rattle.ring_core_proof.proofs.RunLimits.{stepped_fits, stopped_fits}
 use Rattle.ring_core.proofs.Carrying.{at_fits, one_fits}
-use Rattle.ring_srp_acts.specs.Allowing.{InputFits as CoreInputFits}
+use Rattle.ring_srp.specs.Inputs.{InputFits as CoreInputFits}
 use Rattle.ring_runs.specs.Running.{Ran, ran_from, world_of, more, opening_frames, carried_of, frames_of, places_from, IsWorld}
 use Rattle.ring_srp.proofs.StoppedCore.{stopped_step, stopped_halts}
 use Rattle.ring_runs.proofs.FramePlaces.{frames_by}

@@ -15,8 +15,7 @@ ghost use Rattle.ring_core.specs.State.{is_stopped};
 use ring_base::{Fault, State};
 use ring_core::{Input, Out};
 use ring_payload::Payload;
-use ring_srp_acts::{Act, Machine};
-use ring_srp_state::is_queued;
+use ring_srp_acts::{Act, Machine, is_queued};
 use ring_wire::{Frame, Token};
 use std::alloc::Allocator;
 

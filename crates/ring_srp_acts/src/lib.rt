@@ -21,3 +21,4 @@ pub use act::Act;
 pub use deciding::first_token;
 pub use giving::Reached;
 pub use machine::{Machine, all_of};
+pub use ring_srp_state::is_queued;
