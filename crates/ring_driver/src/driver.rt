@@ -3,7 +3,7 @@
 ghost use Rattle.std.specs.Prelude.{◌≡◌, length, if◌then◌else◌, IfOk, IfErr, OnOk, OnErr};
 ghost use Rattle.std.specs.Option.{option_map};
 ghost use Rattle.ring_base.specs.declared.fault.Fault.TheVariants.{Memory, Stopped as StoppedFault};
-ghost use Rattle.ring_driver.specs.Driving.{opened, stepped, ended, called, IsRefused, IsTaken, IsFirst};
+ghost use Rattle.ring_driver.specs.Driving.{opened, stepped, ended, called, IsMember, IsNotOpened, IsRefused, IsTaken, IsFirst};
 ghost use Rattle.ring_rules.specs.NodeLimits.{InputFits};
 ghost use Rattle.ring_rules.specs.Nodes.{node_reply, is_stopped};
 ghost use Rattle.ring_rules.specs.declared.input.Input.TheVariants.{Frame as FrameInput, Timeout as TimeoutInput, Stop as StopInput};
@@ -59,7 +59,9 @@ impl<O: Object> Model for Driver<O> {
 impl<O: Object> Driver<O> {
     /// The node of this number in the group, at its opening. `NotMember` where the group has no such node, else `Memory`.
     pub fn new(alloc: O::Alloc, group: Fixed, number: u8) -> Result<Driver<O>, Fault>
-        ensures { IfOk result (λ driver. driver ≡ opened group number) }
+        ensures ok { IfOk result (λ driver. driver ≡ opened group number) }
+        ensures member { OnOk result (IsMember group number) }
+        ensures refused { IfErr result (IsNotOpened group number) }
     {
         node_fits_law::<O>();
         // No effect at run time. The proof reads from this call that a group has at most 16 processors.
