@@ -6,8 +6,8 @@ use Rattle.ring_session.specs.Pendings.{answers_behind}
 use Rattle.ring_session.proofs.TicketEffects.{done-next}
 use Rattle.ring_base.proofs.Rows.{drop-next, take-next}
 use Rattle.ring_session.proofs.Pendings.{answers-on}
-use Rattle.ring_session.proofs.tickets.answers_of.Goals as goal
-use Rattle.ring_session.proofs.tickets.answers_of.Goals.{then-is_done, else-is_done}
+use Rattle.ring_session.proofs.tickets.answers_among.Goals as goal
+use Rattle.ring_session.proofs.tickets.answers_among.Goals.{then-is_done, else-is_done}
 
 pub loop-place-preserved : goal.loop-place-preserved
 loop-place-preserved g c =

@@ -1,7 +1,0 @@
--- What is kept are the tickets whose call wasn't committed.
-use Rattle.std.proofs.Common.{rules}
-use Rattle.std.proofs.lemmas.Fn.{filter_same}
-use Rattle.ring_session.proofs.tickets.leave.Goals as goal
-
-pub returns-clause-items : goal.returns-clause-items
-returns-clause-items g c = filter_same _ _ _ (λ x b f' k. search rules) _ _ c.retain.ensures.filtered
