@@ -1,9 +1,9 @@
 -- The places of a call's bucket, one after the other, are all at which a ticket's call can be the same; those between give no answer.
-use Rattle.std.proofs.Common.{◌≡◌, ℕ, zero, suc, ◌+◌, ◌-◌, ◌<◌, ◌≤◌, ◌==◌, ◌≢◌, ◌&&◌, ◌||◌, nat_lt, Bool, true, false, not, List, [], ◌∷◌, ◌++◌, length, take, drop}
+use Rattle.std.proofs.Common.{◌≡◌, ℕ, zero, suc, ◌+◌, ◌-◌, ◌<◌, ◌≤◌, ◌==◌, ◌≢◌, ◌&&◌, ◌||◌, nat_lt, Bool, true, false, not, List, [], ◌∷◌, ◌++◌, length, drop}
 use Rattle.std.proofs.Common.{Some, slice_get, get_or, replicate, append_assoc, refl, ap, sym, ◌∙◌, subst, arith, ◌⊎◌, inl, inr, if◌then◌else◌}
 use Rattle.std.specs.Prelude.{slice_index, slice_index_or}
 use Rattle.std.proofs.lemmas.Bool.{eqb-true, eqb-false, ltb-true, ltb-false, eq-eqb, cond-true, cond-false}
-use Rattle.std.proofs.lemmas.List.{append-nil, drop-drop, drop_all, get_or-replicate, length-drop}
+use Rattle.std.proofs.lemmas.List.{drop_all, get_or-replicate, length-drop}
 use Rattle.std.proofs.lemmas.List.Folds.{list_any-append}
 use Rattle.std.proofs.lemmas.Option.{slice_get_within, slice_get_read, get_or_from_slice_get}
 use Rattle.std.specs.List.{SwappedAt}
@@ -150,7 +150,7 @@ module _ {A : Type 0} (pending : List (Pending A)) where
   none-before c i k is = λ j p e le lt.
       let same : i + (j - i) ≡ j = omega (arith, le) in
       let other = of-another (bucket_of c) i (j - i) (drop i pending) p (omega (arith, same, is, lt))
-              (get-drop i (j - i) pending ∙ ap (slice_get pending) same ∙ e) in
+      (get-drop i (j - i) pending ∙ ap (slice_get pending) same ∙ e) in
       not-same c p.call other (is_same p.call c) refl
 
   -- ---- which calls are gone
@@ -338,8 +338,15 @@ answers_to-append before c a (p ∷ ps) qs =
     ap (λ w. answer_for before c a p ++ w) (answers_to-append before c a ps qs)
     ∙ sym (append_assoc (answer_for before c a p) (answers_to before c a ps) (answers_to before c a qs))
 
+-- those of all tickets, where some stand behind the others
+pub answers_to-split : {A : Type 0} (before : List (Call A)) (c : Call A) (a : Answer) (all ps qs : List (Pending A)) (old mid new : List (Answered A))
+    → all ≡ ps ++ qs → mid ≡ old ++ answers_to before c a ps → new ≡ mid ++ answers_to before c a qs → new ≡ old ++ answers_to before c a all
+answers_to-split before c a all ps qs old mid new split first rest =
+    rest ∙ ap (λ w. w ++ answers_to before c a qs) first ∙ append_assoc old (answers_to before c a ps) (answers_to before c a qs)
+    ∙ ap (λ w. old ++ w) (sym (ap (answers_to before c a) split ∙ answers_to-append before c a ps qs))
+
 -- where no ticket waits none has an answer
-pub answers_behind-none : {O A : Type 0} (object : Sequential O) (table : Table O) (before more : List (Call A)) → answers_behind object table [] before more ≡ []
+answers_behind-none : {O A : Type 0} (object : Sequential O) (table : Table O) (before more : List (Call A)) → answers_behind object table [] before more ≡ []
 answers_behind-none object table before [] = refl
 answers_behind-none object table before (c ∷ more) = answers_behind-none object (table_next object table c) (before ++ c ∷ []) more
 
@@ -372,6 +379,22 @@ module _ {A : Type 0} (gone : List Bool) (committed : List (Call A)) (xs ys : Li
       FiltersInPlace-more_swap {x = here.0} {zs = zs} so_far within (ap not (sym (are i here.0 here.1) ∙ is)) here.2 swapped
 
 -- where no call was committed each ticket is left
-pub left_by-none : {A : Type 0} (pending : List (Pending A)) → left_by [] pending ≡ pending
+left_by-none : {A : Type 0} (pending : List (Pending A)) → left_by [] pending ≡ pending
 left_by-none [] = refl
 left_by-none (p ∷ ps) = ap (λ w. p ∷ w) (left_by-none ps)
+
+-- the same by its length
+pub left_by-empty : {A : Type 0} (committed : List (Call A)) (pending : List (Pending A)) → length committed ≡ 0 → pending ≡ left_by committed pending
+left_by-empty [] pending none = sym (left_by-none pending)
+left_by-empty (c ∷ committed) pending none = absurd (omega (arith, none))
+
+-- where no ticket waits none goes
+pub left_by-nobody : {A : Type 0} (committed : List (Call A)) (pending : List (Pending A)) → length pending ≡ 0 → pending ≡ left_by committed pending
+left_by-nobody committed [] none = refl
+left_by-nobody committed (p ∷ pending) none = absurd (omega (arith, none))
+
+-- where no ticket waits, by their number, none has an answer
+pub answers_behind-empty : {O A : Type 0} (object : Sequential O) (table : Table O) (pending : List (Pending A)) (before more : List (Call A))
+    → length pending ≡ 0 → answers_behind object table pending before more ≡ []
+answers_behind-empty object table [] before more none = answers_behind-none object table before more
+answers_behind-empty object table (p ∷ pending) before more none = absurd (omega (arith, none))

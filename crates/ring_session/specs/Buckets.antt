@@ -1,7 +1,7 @@
 -- Where the calls of tickets without an answer stand, by bucket, so that a committed call is looked for among those of its bucket alone; and which of
 -- them were committed before.
 -- The replicated log, rules 13 to 15 of docs/PROTOCOL.md.
-use Rattle.std.specs.Prelude.{◌≡◌, ℕ, ◌+◌, ◌*◌, ◌%◌, ◌==◌, ◌<◌, ◌≤◌, ◌||◌, Bool, false, List, [], ◌∷◌, length, drop, slice_get, slice_index, slice_index_or}
+use Rattle.std.specs.Prelude.{◌≡◌, ℕ, ◌+◌, ◌*◌, ◌%◌, ◌==◌, ◌<◌, ◌≤◌, ◌||◌, Bool, false, List, [], ◌∷◌, drop, slice_get, slice_index, slice_index_or}
 use Rattle.std.specs.Prelude.{Some, if◌then◌else◌}
 use Rattle.ring_payload.specs.declared.call.Call.{Call}
 use Rattle.ring_session.specs.declared.pending.Pending.{Pending}

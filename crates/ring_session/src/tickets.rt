@@ -146,9 +146,10 @@ fn leave<A: Allocator + Copy + Drop>(pending: &mut Vec<Pending<A>, A>, committed
     ensures few { length pending.new.items ≤ length pending.old.items }
     ensures capacity { vec_capacity pending.new ≡ vec_capacity pending.old }
 {
-    if !committed.is_empty() {
-        leave_some(pending, committed);
+    if committed.is_empty() || pending.is_empty() {
+        return;
     }
+    leave_some(pending, committed);
 }
 
 /// The same where a call was committed. It stands apart, since a call clears its room for the places of the tickets.
@@ -296,7 +297,10 @@ pub fn answers_of<O: Object>(
 }
 
 /// Applies calls to the sessions, one after the other, and tells how many of them took effect. Refused with `Memory` alone.
-fn apply_all<O: Object>(sessions: &mut Sessions<O>, committed: &[Call<O::Alloc>]) -> Result<u64, Fault>
+fn apply_all<O: Object>(
+    sessions: &mut Sessions<O>,
+    committed: &[Call<O::Alloc>],
+) -> Result<u64, Fault>
     ensures table { OnOk result (sessions.new ≡ fold (table_next O.sequential) sessions.old committed.now) }
     ensures effects { IfOk result (λ effects. effects ≡ done_after O.sequential sessions.old committed.now) }
     ensures refused { IfErr result (λ fault. fault ≡ Memory) }

@@ -1,5 +1,5 @@
 -- The tickets before a place of the call's bucket are gone through: what is given so far, and what the tickets to come add.
-use Rattle.std.proofs.Common.{◌≡◌, ℕ, ◌-◌, ◌≤◌, ◌++◌, List, length, drop}
+use Rattle.std.proofs.Common.{◌≡◌, ◌-◌, ◌≤◌, ◌++◌, List, length, drop}
 use Rattle.ring_payload.specs.declared.call.Call.{Call}
 use Rattle.ring_session.specs.Buckets.{AreGone, AreGoneTo, IsPlaceOf}
 use Rattle.ring_session.specs.Pendings.{answers_to}

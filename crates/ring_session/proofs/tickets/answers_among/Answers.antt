@@ -1,11 +1,14 @@
 -- One committed call more: it goes through the sessions, and its answer to the tickets of the same call.
-use Rattle.std.proofs.Common.{ℕ, ◌+◌, [], drop, fold, refl, ap, sym, ◌∙◌, arith, if◌then◌else◌}
+use Rattle.std.proofs.Common.{ℕ, ◌+◌, [], List, drop, take, fold, refl, ap, sym, subst, ◌∙◌, arith, if◌then◌else◌}
+use Rattle.ring_payload.specs.declared.call.Call.{Call}
+use Rattle.ring_session.specs.Buckets.{AreGone}
 use Rattle.ring_session.specs.Table.{table_next}
 use Rattle.ring_session.specs.TicketEffects.{done_after}
 use Rattle.ring_session.specs.Pendings.{answers_behind}
 use Rattle.ring_session.proofs.TicketEffects.{done-next}
 use Rattle.ring_base.proofs.Rows.{drop-next, take-next}
 use Rattle.ring_session.proofs.Pendings.{answers-on}
+use Rattle.ring_session.proofs.BucketPlaces.{answers_to-split}
 use Rattle.ring_session.proofs.tickets.answers_among.Goals as goal
 use Rattle.ring_session.proofs.tickets.answers_among.Goals.{then-is_done, else-is_done}
 
@@ -33,9 +36,14 @@ loop-place-preserved g c =
           c.loop-place.invariant.effects;
       table = c.loop-place.invariant.table ∙ ap (fold (table_next object) c.loop-place.sessions) rest
           ∙ ap (λ t. fold (table_next object) t (drop (i + 1) more)) (sym after);
+      gone = subst (λ (calls : List (Call g.row.O-Alloc.Denot)). AreGone c.answer_to.new.gone.places calls c.split_at.result.0.now) (sym first)
+          (c.in_ok-answer_to.ensures.gone (take i more) c.loop-place.invariant.gone);
       answers =
           answers-on object c.loop-place.sessions c.apply.new.self pending more _ i call c.in_ok-answer.answer
           (answers_behind object c.args.sessions.now pending [] more)
-          c.loop-place.answers.items c.answer_to.new.answers.items rest first refl answer after
-          c.in_ok-answer_to.ensures.answers c.loop-place.invariant.answers;
+          c.loop-place.answers.items c.answer_beyond.new.answers.items rest first refl answer after
+          (answers_to-split (take i more) call c.in_ok-answer.answer pending c.split_at.result.0.now c.split_at.result.1.now
+          c.loop-place.answers.items c.answer_to.new.answers.items c.answer_beyond.new.answers.items c.split_at.ensures.by_index.0
+          (c.in_ok-answer_to.ensures.answers (take i more) c.loop-place.invariant.gone) c.in_ok-answer_beyond.ensures.answers)
+          c.loop-place.invariant.answers;
     }

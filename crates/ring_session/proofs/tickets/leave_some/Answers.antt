@@ -1,5 +1,5 @@
 -- One ticket more: it goes, or stands behind those that are kept.
-use Rattle.std.proofs.Common.{◌≡◌, ◌<◌, length, arith, subst, sym, ◌∙◌}
+use Rattle.std.proofs.Common.{◌<◌, length, arith, subst, sym, ◌∙◌}
 use Rattle.ring_session.specs.Buckets.{AreGone}
 use Rattle.ring_session.proofs.BucketPlaces.{left-gone, left-kept}
 use Rattle.ring_session.proofs.tickets.leave_some.Goals as goal
@@ -16,13 +16,13 @@ loop-place-preserved g c =
     let within : c.loop-place.place < length ys = omega (arith, c.loop-place-test.true, c.len-place-end.ensures, so_far.long) in
     elim c.if-not-has.branch [
       | then-not-has w ↦ rw (w.pending-is, w.kept-is) (record {
-          filtered = left-kept gone committed xs ys c.loop-place.kept c.loop-place.place w.swap.new.self.items are within
-              (sym c.has.ensures ∙ w.if-not-has.true) w.swap.ensures.by_index so_far;
-          capacity = w.swap.ensures.capacity ∙ c.loop-place.invariant.capacity;
-        })
+        filtered = left-kept gone committed xs ys c.loop-place.kept c.loop-place.place w.swap.new.self.items are within
+            (sym c.has.ensures ∙ w.if-not-has.true) w.swap.ensures.by_index so_far;
+        capacity = w.swap.ensures.capacity ∙ c.loop-place.invariant.capacity;
+      })
       | else-not-has w ↦ rw (w.pending-is, w.kept-is) (record {
-          filtered = left-gone gone committed xs ys c.loop-place.kept c.loop-place.place are within
-              (sym c.has.ensures ∙ w.if-not-has.false) so_far;
-          capacity = c.loop-place.invariant.capacity;
-        })
+        filtered = left-gone gone committed xs ys c.loop-place.kept c.loop-place.place are within
+            (sym c.has.ensures ∙ w.if-not-has.false) so_far;
+        capacity = c.loop-place.invariant.capacity;
+      })
     ]

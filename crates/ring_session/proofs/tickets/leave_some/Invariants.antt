@@ -1,5 +1,5 @@
 -- The tickets so far that aren't gone stand at the front, and the others where they stood.
-use Rattle.std.proofs.Common.{◌≡◌, not, length}
+use Rattle.std.proofs.Common.{◌≡◌, not}
 use Rattle.std.specs.Vec.{vec_capacity}
 use Rattle.std.proofs.lemmas.List.Filters.{FiltersInPlace}
 use Rattle.ring_session.specs.declared.pending.Pending.{Pending}

@@ -1,5 +1,5 @@
 -- From place to place of the call's bucket.
-use Rattle.std.proofs.Common.{ℕ, ◌-◌, ◌+◌, ◌<◌, ◌≤◌, length, arith, ap, sym, ◌∙◌}
+use Rattle.std.proofs.Common.{arith, ap, sym, ◌∙◌}
 use Rattle.ring_session.specs.declared.pending.Pending.{Pending}
 use Rattle.ring_session.specs.SessionAnswer.{is_same}
 use Rattle.ring_session.proofs.BucketPlaces.{found-first, found-next, gone-start, gone-step, gone-end}
@@ -21,8 +21,8 @@ pub loop-place-smaller : goal.loop-place-smaller
 loop-place-smaller g c =
     let pending = c.args.pending.now in
     let next = found-next pending c.args.buckets.now.first c.args.buckets.now.next c.requires.chained c.args.call.now c.loop-place.place
-            c.next_of-place.result c.index-pending-place.result c.loop-place-test.true c.index-pending-place.is
-            c.loop-place.invariant.bucket c.next_of-place.ensures in
+    c.next_of-place.result c.index-pending-place.result c.loop-place-test.true c.index-pending-place.is
+    c.loop-place.invariant.bucket c.next_of-place.ensures in
     let on = next.least in
     omega (arith, on, c.loop-place-test.true)
 
@@ -34,7 +34,7 @@ loop-place-preserved g c =
     let k = c.next_of-place.result in
     let p = c.index-pending-place.result in
     let next = found-next pending c.args.buckets.now.first c.args.buckets.now.next c.requires.chained call i k p c.loop-place-test.true
-            c.index-pending-place.is c.loop-place.invariant.bucket c.next_of-place.ensures in
+    c.index-pending-place.is c.loop-place.invariant.bucket c.next_of-place.ensures in
     let same = c.is_same.ensures ∙ ap (λ (x : Pending g.row.A.Denot). is_same x.call call) (sym c.index-pending-place.is) in
     record {
       within = next.most;

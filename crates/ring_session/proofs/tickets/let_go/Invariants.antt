@@ -1,5 +1,5 @@
 -- The tickets before a place of the call's bucket are gone through.
-use Rattle.std.proofs.Common.{◌≡◌, ℕ, ◌-◌, ◌≤◌, List, length, drop}
+use Rattle.std.proofs.Common.{◌-◌, ◌≤◌, List, length}
 use Rattle.ring_payload.specs.declared.call.Call.{Call}
 use Rattle.ring_session.specs.Buckets.{AreGone, AreGoneTo, IsPlaceOf}
 use Rattle.ring_session.proofs.tickets.let_go.Given as goal

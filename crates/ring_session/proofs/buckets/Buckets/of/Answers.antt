@@ -1,5 +1,5 @@
 -- The chains of no ticket, and of one more before the others.
-use Rattle.std.proofs.Common.{◌≡◌, ◌-◌, ◌+◌, ◌<◌, ◌∙◌, length, arith, refl, ap, sym}
+use Rattle.std.proofs.Common.{◌-◌, ◌∙◌, length, arith, refl, ap, sym}
 use Rattle.ring_session.specs.declared.pending.Pending.{Pending}
 use Rattle.ring_session.specs.Buckets.{bucket_of}
 use Rattle.ring_session.proofs.BucketPlaces.{chain-start, chain-step}

@@ -1,5 +1,4 @@
 -- No place is marked.
-use Rattle.std.proofs.Common.{◌≡◌, ℕ, ◌<◌, ◌≤◌, false, arith, ◌⊎◌, inl, inr}
 use Rattle.ring_session.proofs.BucketPlaces.{none-marked}
 use Rattle.ring_session.proofs.buckets.Gone.new.Goals as goal
 
