@@ -201,10 +201,6 @@ module _ {A : Type 0} (pending : List (Pending A)) where
       ∙ ap (λ b. stands_in before p.call || b) (sym (or-false (is_same p.call c)))
       ∙ sym (list_any-append (is_same p.call) before (c ∷ []))
 
-  -- where nothing was done, nothing is gone
-  pub gone-none : (gone : List Bool) → ((j : ℕ) → slice_index_or gone j false ≡ false) → AreGone gone [] pending
-  gone-none gone none = λ j p e. none j
-
   -- ---- the answers
 
   -- tickets of other calls give none

@@ -12,7 +12,8 @@ use std::alloc::Allocator;
 const BUCKETS: usize = 256;
 
 /// Where the calls of at most 64 tickets stand, by bucket: the first place of each bucket, and behind each place the next
-/// of the same bucket. Where there is none, it is the number of the tickets.
+/// of the same bucket. Where there is none, it is the number of the tickets. A committed call is compared with the calls of
+/// its bucket alone, which are few.
 #[derive(Drop)]
 pub(crate) struct Buckets {
     first: [u8; 256],

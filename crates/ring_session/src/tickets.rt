@@ -152,7 +152,8 @@ fn leave<A: Allocator + Copy + Drop>(pending: &mut Vec<Pending<A>, A>, committed
     leave_some(pending, committed);
 }
 
-/// The same where a call was committed. It stands apart, since a call clears its room for the places of the tickets.
+/// The same where a call was committed and a ticket waits. It stands apart, since a call clears its room for the places of
+/// the tickets.
 #[inline(never)]
 fn leave_some<A: Allocator + Copy + Drop>(pending: &mut Vec<Pending<A>, A>, committed: &[Call<A>])
     requires { length pending.old.items ≤ 64 }
@@ -239,8 +240,8 @@ fn answer_to<A: Allocator + Copy + Drop>(
     Ok(())
 }
 
-/// The same for tickets that no buckets have room for: they are looked through for the call, and the calls before it for
-/// each of them.
+/// The same for tickets for which the buckets have no room: they are looked through for the call, and the calls before it
+/// for each that is of the call.
 fn answer_beyond<A: Allocator + Copy + Drop>(
     pending: &[Pending<A>],
     before: &[Call<A>],
@@ -306,7 +307,7 @@ fn apply_all<O: Object>(
     ensures refused { IfErr result (λ fault. fault ≡ Memory) }
 {
     let mut effects = 0;
-    for (place, call) in committed.iter().enumerate() {
+    for call in committed {
         let answer = sessions.apply(call)?;
         if is_done(&answer) {
             effects += 1;
@@ -315,8 +316,8 @@ fn apply_all<O: Object>(
     Ok(effects)
 }
 
-/// The same as [`answers_of`], where calls wait. It stands apart, since a call clears its room for the places of the
-/// tickets.
+/// The same as [`answers_of`], where a call was committed and a ticket waits. It stands apart, since a call clears its
+/// room for the places of the tickets.
 #[inline(never)]
 fn answers_among<O: Object>(
     alloc: O::Alloc,
