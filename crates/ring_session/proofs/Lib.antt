@@ -8,6 +8,7 @@
 -- AnswersGrow: Answers of a node: they grow at the end, a new ticket has none yet, and the last of them are kept.
 -- TicketEffects: How many calls take effect: as many as the session table tells so, and no more than there are.
 -- Pendings: What is kept of tickets is what all tickets, all answers and all calls done make it, and the answers of a step are those of the definition.
+-- BucketPlaces: The places of a call's bucket, one after the other, are all at which a ticket's call can be the same; those between give no answer.
 -- Clients: Clients that are read and put in one after the other, as a loop does.
 -- Parts: A snapshot taken apart and put together, as the code does it.
 -- SnapshotTables: The table after calls that keep the limits has a snapshot from which it is restored.
@@ -20,6 +21,7 @@ pub mod TicketPlaces
 pub mod AnswersGrow
 pub mod TicketEffects
 pub mod Pendings
+pub mod BucketPlaces
 pub mod Clients
 pub mod Parts
 pub mod SnapshotTables

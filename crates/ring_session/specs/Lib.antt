@@ -10,5 +10,6 @@ pub mod Tickets
 pub mod TicketEffects
 pub mod Recent
 pub mod Pendings
+pub mod Buckets
 pub mod Snapshots
 pub mod SnapshotsLaws

@@ -9,6 +9,7 @@
 
 mod answer;
 mod answered;
+mod buckets;
 mod effects;
 mod laws;
 mod nothing;

@@ -1,8 +1,10 @@
 //! The tickets of a node.
 
-ghost use Rattle.std.specs.Prelude.{◌≡◌, ◌≤◌, ◌<◌, [], ◌++◌, fold, true, false, not, IfOk, IfErr, OnOk, length};
+ghost use Rattle.std.specs.Prelude.{◌≡◌, ◌≤◌, ◌<◌, List, [], ◌∷◌, ◌++◌, fold, true, false, not, IfOk, IfErr, OnOk, length};
 ghost use Rattle.std.specs.Vec.{vec_capacity};
 ghost use Rattle.ring_base.specs.declared.fault.Fault.TheVariants.{Memory, PendingFull};
+ghost use Rattle.ring_payload.specs.declared.call.Call.{Call as OneCall};
+ghost use Rattle.ring_session.specs.Buckets.{AreChained, AreGone};
 ghost use Rattle.ring_session.specs.SessionAnswer.{is_done, is_same};
 ghost use Rattle.ring_session.specs.Table.{table_next};
 ghost use Rattle.ring_session.specs.Recent.{kept_answer};
@@ -10,6 +12,7 @@ ghost use Rattle.ring_session.specs.TicketEffects.{done_after};
 ghost use Rattle.ring_session.specs.Pendings.{none_given, is_full, with_ticket, stands_in, answers_to, answers_behind, left_by, with_answers};
 
 use crate::answered::Answered;
+use crate::buckets::{Buckets, Gone};
 use crate::pending::Pending;
 use crate::recent::Recent;
 use crate::ticket::Ticket;
@@ -138,11 +141,67 @@ fn is_done(answer: &Answer) -> bool
 
 /// Lets the tickets go whose call was committed.
 fn leave<A: Allocator + Copy + Drop>(pending: &mut Vec<Pending<A>, A>, committed: &[Call<A>])
+    requires { length pending.old.items ≤ 64 }
     ensures items { pending.new.items ≡ left_by committed.now pending.old.items }
     ensures few { length pending.new.items ≤ length pending.old.items }
     ensures capacity { vec_capacity pending.new ≡ vec_capacity pending.old }
 {
-    pending.retain(|asked| !stands_in(committed, &asked.call));
+    if committed.is_empty() || pending.is_empty() {
+        return;
+    }
+    leave_some(pending, committed);
+}
+
+/// The same where a call was committed and a ticket waits. It stands apart, since a call clears its room for the places of
+/// the tickets.
+#[inline(never)]
+fn leave_some<A: Allocator + Copy + Drop>(pending: &mut Vec<Pending<A>, A>, committed: &[Call<A>])
+    requires { length pending.old.items ≤ 64 }
+    ensures items { pending.new.items ≡ left_by committed.now pending.old.items }
+    ensures few { length pending.new.items ≤ length pending.old.items }
+    ensures capacity { vec_capacity pending.new ≡ vec_capacity pending.old }
+{
+    let gone = gone_among(pending.as_slice(), committed);
+    let mut kept = 0;
+    for place in 0..pending.len() {
+        if !gone.has(place) {
+            pending.swap(kept, place);
+            kept += 1;
+        }
+    }
+    pending.truncate(kept);
+}
+
+/// Which of these tickets have a call that was committed.
+fn gone_among<A: Allocator + Copy>(pending: &[Pending<A>], committed: &[Call<A>]) -> Gone
+    requires { length pending.now ≤ 64 }
+    ensures { AreGone result.places committed.now pending.now }
+{
+    let buckets = Buckets::of(pending);
+    let mut gone = Gone::new();
+    for call in committed {
+        let_go(&buckets, &mut gone, pending, call);
+    }
+    gone
+}
+
+/// Lets the tickets of a committed call go.
+fn let_go<A: Allocator + Copy>(
+    buckets: &Buckets,
+    gone: &mut Gone,
+    pending: &[Pending<A>],
+    call: &Call<A>,
+)
+    requires few { length pending.now ≤ 64 }
+    requires chained { AreChained buckets.now.first buckets.now.next 0 pending.now }
+    ensures { (before : List (OneCall A)) → AreGone gone.old.places before pending.now
+        → AreGone gone.new.places (before ++ call.now ∷ []) pending.now }
+{
+    let mut place = buckets.first_of(call);
+    while place < pending.len() {
+        gone.take(place, is_same(&pending[place].call, call));
+        place = buckets.next_of(place);
+    }
 }
 
 /// Whether the call stands among these.
@@ -152,9 +211,38 @@ pub fn stands_in<A: Allocator + Copy>(calls: &[Call<A>], call: &Call<A>) -> bool
     calls.iter().any(|other| is_same(call, other))
 }
 
-/// Adds the answers to the tickets of a committed call, behind `answers`: to none whose call was committed before in the
-/// same step. Refused with `Memory` alone.
+/// Adds the answers to the tickets of a committed call, behind `answers`, and lets them go: to none that was gone. Refused
+/// with `Memory` alone.
 fn answer_to<A: Allocator + Copy + Drop>(
+    buckets: &Buckets,
+    gone: &mut Gone,
+    pending: &[Pending<A>],
+    call: &Call<A>,
+    answer: Answer,
+    answers: &mut Vec<Answered<A>, A>,
+) -> Result<(), Fault>
+    requires few { length pending.now ≤ 64 }
+    requires chained { AreChained buckets.now.first buckets.now.next 0 pending.now }
+    ensures answers { OnOk result ((before : List (OneCall A)) → AreGone gone.old.places before pending.now
+        → answers.new.items ≡ answers.old.items ++ answers_to before call.now answer pending.now) }
+    ensures gone { OnOk result ((before : List (OneCall A)) → AreGone gone.old.places before pending.now
+        → AreGone gone.new.places (before ++ call.now ∷ []) pending.now) }
+    ensures refused { IfErr result (λ fault. fault ≡ Memory) }
+{
+    let mut place = buckets.first_of(call);
+    while place < pending.len() {
+        let asked = &pending[place];
+        if gone.take(place, is_same(&asked.call, call)) {
+            answers.push(answered(asked, answer)?)?;
+        }
+        place = buckets.next_of(place);
+    }
+    Ok(())
+}
+
+/// The same for tickets for which the buckets have no room: they are looked through for the call, and the calls before it
+/// for each that is of the call.
+fn answer_beyond<A: Allocator + Copy + Drop>(
     pending: &[Pending<A>],
     before: &[Call<A>],
     call: &Call<A>,
@@ -166,14 +254,24 @@ fn answer_to<A: Allocator + Copy + Drop>(
 {
     for asked in pending {
         if is_same(&asked.call, call) && !stands_in(before, &asked.call) {
-            answers.push(Answered {
-                ticket: asked.ticket,
-                call: copy_of(&asked.call)?,
-                answer,
-            })?;
+            answers.push(answered(asked, answer)?)?;
         }
     }
     Ok(())
+}
+
+/// The answer to a ticket.
+fn answered<A: Allocator + Copy + Drop>(
+    asked: &Pending<A>,
+    answer: Answer,
+) -> Result<Answered<A>, AllocError>
+    ensures { IfOk result (λ told. told ≡ record { ticket = asked.now.ticket; call = asked.now.call; answer = answer }) }
+{
+    Ok(Answered {
+        ticket: asked.ticket,
+        call: copy_of(&asked.call)?,
+        answer,
+    })
 }
 
 /// Applies newly committed calls to the sessions, one after the other, and gives each answer to the pending tickets of
@@ -190,6 +288,51 @@ pub fn answers_of<O: Object>(
     ensures effects { IfOk result (λ given. given.1 ≡ done_after O.sequential sessions.old committed.now) }
     ensures refused { IfErr result (λ fault. fault ≡ Memory) }
 {
+    if committed.is_empty() {
+        return Ok((Vec::new(alloc), 0));
+    }
+    if pending.is_empty() {
+        return Ok((Vec::new(alloc), apply_all(sessions, committed)?));
+    }
+    answers_among(alloc, sessions, pending, committed)
+}
+
+/// Applies calls to the sessions, one after the other, and tells how many of them took effect. Refused with `Memory` alone.
+fn apply_all<O: Object>(
+    sessions: &mut Sessions<O>,
+    committed: &[Call<O::Alloc>],
+) -> Result<u64, Fault>
+    ensures table { OnOk result (sessions.new ≡ fold (table_next O.sequential) sessions.old committed.now) }
+    ensures effects { IfOk result (λ effects. effects ≡ done_after O.sequential sessions.old committed.now) }
+    ensures refused { IfErr result (λ fault. fault ≡ Memory) }
+{
+    let mut effects = 0;
+    for call in committed {
+        let answer = sessions.apply(call)?;
+        if is_done(&answer) {
+            effects += 1;
+        }
+    }
+    Ok(effects)
+}
+
+/// The same as [`answers_of`], where a call was committed and a ticket waits. It stands apart, since a call clears its
+/// room for the places of the tickets.
+#[inline(never)]
+fn answers_among<O: Object>(
+    alloc: O::Alloc,
+    sessions: &mut Sessions<O>,
+    pending: &[Pending<O::Alloc>],
+    committed: &[Call<O::Alloc>],
+) -> Result<(Vec<Answered<O::Alloc>, O::Alloc>, u64), Fault>
+    ensures table { OnOk result (sessions.new ≡ fold (table_next O.sequential) sessions.old committed.now) }
+    ensures answers { IfOk result (λ given. given.0.items ≡ answers_behind O.sequential sessions.old pending.now [] committed.now) }
+    ensures effects { IfOk result (λ given. given.1 ≡ done_after O.sequential sessions.old committed.now) }
+    ensures refused { IfErr result (λ fault. fault ≡ Memory) }
+{
+    let (near, beyond) = pending.split_at(pending.len().min(MAX_UNANSWERED));
+    let buckets = Buckets::of(near);
+    let mut gone = Gone::new();
     let mut answers = Vec::new(alloc);
     let mut effects = 0;
     for (place, call) in committed.iter().enumerate() {
@@ -197,7 +340,8 @@ pub fn answers_of<O: Object>(
         if is_done(&answer) {
             effects += 1;
         }
-        answer_to(pending, &committed[..place], call, answer, &mut answers)?;
+        answer_to(&buckets, &mut gone, near, call, answer, &mut answers)?;
+        answer_beyond(beyond, &committed[..place], call, answer, &mut answers)?;
     }
     Ok((answers, effects))
 }

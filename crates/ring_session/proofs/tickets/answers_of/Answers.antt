@@ -1,41 +1,11 @@
--- One committed call more: it goes through the sessions, and its answer to the tickets of the same call.
-use Rattle.std.proofs.Common.{ℕ, ◌+◌, [], drop, fold, refl, ap, sym, ◌∙◌, arith, if◌then◌else◌}
-use Rattle.ring_session.specs.Table.{table_next}
-use Rattle.ring_session.specs.TicketEffects.{done_after}
-use Rattle.ring_session.specs.Pendings.{answers_behind}
-use Rattle.ring_session.proofs.TicketEffects.{done-next}
-use Rattle.ring_base.proofs.Rows.{drop-next, take-next}
-use Rattle.ring_session.proofs.Pendings.{answers-on}
+-- Where no ticket waits none has an answer.
+use Rattle.std.proofs.Common.{◌≡◌, ◌∙◌, [], length, sym}
+use Rattle.std.proofs.lemmas.Bool.{eqb-true}
+use Rattle.ring_session.proofs.BucketPlaces.{answers_behind-empty}
 use Rattle.ring_session.proofs.tickets.answers_of.Goals as goal
-use Rattle.ring_session.proofs.tickets.answers_of.Goals.{then-is_done, else-is_done}
 
-pub loop-place-preserved : goal.loop-place-preserved
-loop-place-preserved g c =
-    let object = g.O.Object.sequential in
-    let pending = c.args.pending.now in
-    let more = c.args.committed.now in
-    let i : ℕ = c.loop-place.place in
-    let call = c.index-committed-place.result in
-    let rest = drop-next more i call c.loop-place-test.true c.index-committed-place.is in
-    let first = take-next more i call c.loop-place-test.true c.index-committed-place.is in
-    let answer = c.in_ok-answer.ensures.answer in
-    let after = c.in_ok-answer.ensures.ok in
-    record {
-      few = elim c.if-is_done.branch [ then-is_done w ↦ omega arith | else-is_done w ↦ omega arith ];
-      effects =
-          done-next object c.loop-place.sessions c.apply.new.self more i call c.in_ok-answer.answer
-          (done_after object c.args.sessions.now more) c.loop-place.effects c.if-is_done.effects
-          rest answer after
-          (elim c.if-is_done.branch [
-            | then-is_done w ↦ let one = ap {B = ℕ} (λ b. if b then 1 else 0) (sym c.is_done.ensures ∙ w.if-is_done.true) in omega (arith, one)
-            | else-is_done w ↦ let none = ap {B = ℕ} (λ b. if b then 1 else 0) (sym c.is_done.ensures ∙ w.if-is_done.false) in omega (arith, none)
-          ])
-          c.loop-place.invariant.effects;
-      table = c.loop-place.invariant.table ∙ ap (fold (table_next object) c.loop-place.sessions) rest
-          ∙ ap (λ t. fold (table_next object) t (drop (i + 1) more)) (sym after);
-      answers =
-          answers-on object c.loop-place.sessions c.apply.new.self pending more _ i call c.in_ok-answer.answer
-          (answers_behind object c.args.sessions.now pending [] more)
-          c.loop-place.answers.items c.answer_to.new.answers.items rest first refl answer after
-          c.in_ok-answer_to.ensures.answers c.loop-place.invariant.answers;
-    }
+pub returns-then-is_empty-2-clause-answers : goal.returns-then-is_empty-2-clause-answers
+returns-then-is_empty-2-clause-answers g c =
+    let none : length c.args.pending.now ≡ 0 = eqb-true (length c.args.pending.now) 0 (sym c.is_empty-2.ensures ∙ c.if-is_empty-2.true) in
+    c.new-then-is_empty-2.ensures.items
+    ∙ sym (answers_behind-empty g.O.Object.sequential c.args.sessions.now c.args.pending.now [] c.args.committed.now none)
