@@ -6,7 +6,7 @@ use refusing_alloc::{Refusing, refuse_in_turn};
 use ring_base::Fault;
 use ring_object::Object;
 use ring_payload::Call;
-use ring_session::{Answer, Sessions, Ticket, Tickets, answers_of};
+use ring_session::{Answer, Pending, Sessions, Ticket, Tickets, answers_of};
 use ring_things::{Counters, Outcome, reply_with};
 use std::test::Fail;
 
@@ -160,6 +160,53 @@ fn repeated<O: Object>(heap: O::Alloc) -> Result<[(usize, u64); 2], Fault> {
 #[test]
 fn tickets_of_one_call_are_answered_at_its_first_place(rt: HostRuntime) -> Result<(), Fail> {
     assert!(rt; repeated::<Counters>(rt.alloc())? == [(2, 1), (1, 0)]);
+    Ok(())
+}
+
+/// Calls whose numbers are 256 apart, one of them with two tickets: how many are answered as two of them are committed, and
+/// then as the third is.
+fn apart<O: Object>(heap: O::Alloc) -> Result<[(usize, u64); 2], Fault> {
+    let mut kept = Kept::<O>::new(heap)?;
+    kept.give(513)?;
+    kept.give(1)?;
+    kept.give(257)?;
+    kept.give(513)?;
+    let first = kept.commit(&[513, 1])?;
+    let second = kept.commit(&[513, 257])?;
+    Ok([first, second])
+}
+
+#[test]
+fn calls_with_numbers_256_apart_are_told_apart(rt: HostRuntime) -> Result<(), Fail> {
+    assert!(rt; apart::<Counters>(rt.alloc())? == [(3, 1), (1, 0)]);
+    Ok(())
+}
+
+/// Tickets 1 to 66, each with the call of its number, of which four are committed: how many are answered, the first of
+/// them, and how many calls took effect.
+fn beyond<O: Object>(heap: O::Alloc) -> Result<(usize, Option<u64>, u64), Fault> {
+    let mut kept = Kept::<O>::new(heap)?;
+    let mut pending = Vec::new(heap);
+    for number in 1..67 {
+        pending.push(Pending {
+            ticket: Ticket::new(number),
+            call: kept.call(number)?,
+        })?;
+    }
+    let calls = kept.calls(&[66, 1, 66, 64])?;
+    let (answers, effects) = answers_of(
+        heap,
+        &mut kept.sessions,
+        pending.as_slice(),
+        calls.as_slice(),
+    )?;
+    let first = answers.first().map(|told| told.ticket.number());
+    Ok((answers.len(), first, effects))
+}
+
+#[test]
+fn more_than_64_tickets_are_answered(rt: HostRuntime) -> Result<(), Fail> {
+    assert!(rt; beyond::<Counters>(rt.alloc())? == (3, Some(66), 1));
     Ok(())
 }
 
