@@ -30,10 +30,15 @@ impl Bell {
         self.rung.load(Ordering::SeqCst)
     }
 
+    /// Whether a thread rests, or is about to.
+    pub(crate) fn has_resting(&self) -> bool {
+        self.resting.load(Ordering::SeqCst) > 0
+    }
+
     /// Rings: all who rest go on.
     pub(crate) fn ring(&self) {
         self.rung.fetch_add(1, Ordering::SeqCst);
-        if self.resting.load(Ordering::SeqCst) > 0 {
+        if self.has_resting() {
             self.rung.wake_all();
         }
     }
@@ -41,8 +46,23 @@ impl Bell {
     /// Rests so long at most, until it rings; not at all where it has rung more often than that. A rest may also end for no
     /// reason.
     pub(crate) fn rest<W: Wait>(&self, rt: &W, rung: u64, most: Duration) {
+        self.begin();
+        self.park(rt, rung, most);
+        self.end();
+    }
+
+    /// A thread is about to rest.
+    pub(crate) fn begin(&self) {
         self.resting.fetch_add(1, Ordering::SeqCst);
-        self.rung.park_timeout(rt, (rung % HALF) as u32, most);
+    }
+
+    /// A thread that was about to rest has rested, or does not.
+    pub(crate) fn end(&self) {
         self.resting.fetch_sub(1, Ordering::SeqCst);
+    }
+
+    /// The rest of a thread that is about to.
+    pub(crate) fn park<W: Wait>(&self, rt: &W, rung: u64, most: Duration) {
+        self.rung.park_timeout(rt, (rung % HALF) as u32, most);
     }
 }

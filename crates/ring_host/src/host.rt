@@ -12,9 +12,9 @@ ghost use Rattle.ring_host.specs.Turns.{published_by};
 
 use crate::bell::Bell;
 use crate::gate::Open;
-use crate::item::{Item, Task};
+use crate::inbox::Inbox;
+use crate::item::Task;
 use crate::turn::Turn;
-use crossbeam_queue::ArrayQueue;
 use ring_base::{Fault, Kind, Proc};
 use ring_book::{Book, BookName, Cell, FrameRef};
 use ring_object::Object;
@@ -42,7 +42,7 @@ pub struct HostTicket {
 pub struct HostOf<C, B, A: Allocator + Copy + Drop = Global> {
     pub(crate) alloc: A,
     pub(crate) cells: Vec<Mutex<C>, A>,
-    pub(crate) inboxes: Vec<ArrayQueue<Item<A>, A>, A>,
+    pub(crate) inboxes: Vec<Inbox<A>, A>,
     pub(crate) gauge: Gauge<A>,
     // It rings at each submit, and at the close.
     pub(crate) bell: Bell,

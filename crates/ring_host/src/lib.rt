@@ -4,6 +4,7 @@
 mod bell;
 mod gate;
 mod host;
+mod inbox;
 mod item;
 mod making;
 mod paced;

@@ -7,8 +7,7 @@ ghost use Rattle.ring_seat.specs.Seats.{SeatView, IsAt, new_seat, node_at};
 use crate::INBOX;
 use crate::bell::Bell;
 use crate::host::{Host, HostOf};
-use crate::item::Item;
-use crossbeam_queue::ArrayQueue;
+use crate::inbox::Inbox;
 use ring_base::Fault;
 use ring_book::{Book, BookName, Cell, Opening};
 use ring_object::Object;
@@ -90,15 +89,14 @@ fn inboxes<A: Allocator + Copy + Drop>(
     alloc: A,
     count: usize,
     size: usize,
-) -> Result<Vec<ArrayQueue<Item<A>, A>, A>, Fault>
+) -> Result<Vec<Inbox<A>, A>, Fault>
     requires { 0 < size }
     ensures count { IfOk result (λ v. vec_len v ≡ count) }
     ensures refused { IfErr result (λ fault. fault ≡ Memory) }
 {
     let mut inboxes = Vec::new(alloc);
     for _ in 0..count {
-        let inbox = ArrayQueue::new(alloc, size)?;
-        inboxes.push(inbox)?;
+        inboxes.push(Inbox::new(alloc, size)?)?;
     }
     Ok(inboxes)
 }

@@ -30,14 +30,15 @@ struct Done {
 // What a step made that found this and sent so many frames, of the node after it. A token that the node ignores sends nothing.
 fn done_of<O: Object>(node: &Node<O>, found: Found, sent: usize) -> Done {
     let length = node.committed_len();
-    let is_quiet = found != Found::Message
-        && sent <= 1
-        && node.state() == State::Operational
-        && node.log_len() == length;
+    let is_quiet = sent <= 1 && node.state() == State::Operational && node.log_len() == length;
     Done {
         length,
         has_taken: found == Found::Token && sent > 0,
-        stir: if is_quiet { Stir::Quiet } else { Stir::Busy },
+        stir: match found {
+            Found::Token if is_quiet => Stir::Quiet,
+            Found::Timeout if is_quiet => Stir::Timeout,
+            _ => Stir::Busy,
+        },
     }
 }
 
@@ -72,7 +73,7 @@ impl<C, B, A: Allocator + Copy + Drop> HostOf<C, B, A> {
         let Ok(bytes) = bytes.to_vec(self.alloc) else {
             return false;
         };
-        inbox.push(rt, Item { at, bytes }).is_ok()
+        inbox.push(rt, Item { at, bytes })
     }
 }
 

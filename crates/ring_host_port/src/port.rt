@@ -14,12 +14,23 @@ use ring_object::Object;
 use ring_payload::{Call, MOST_OPERATION};
 use ring_session::{Answer, copy_of};
 use std::sync::Wait;
-use std::thread;
+use std::thread::{self, Parker};
+use std::time::Duration;
+
+/// After how many polls of a call that find no answer a port naps.
+const PATIENCE: u64 = 1_000;
+
+/// At each of how many polls it does from then on.
+const NAPS: u64 = 10;
+
+/// How many microseconds a nap is.
+const NAP: u64 = 50;
 
 /// A port to a node of a host, from a seat of its own. Its calls wait for the host's locks, so it holds the handle for that.
 ///
 /// A submit is refused as the port's node refuses it, and before that with `OpTooLong` over 1,024 bytes, `NumberGap` for
-/// number 0, and `Memory` for the call's copy. A poll that finds no answer yields, so that the nodes' threads get on.
+/// number 0, and `Memory` for the call's copy. A poll that finds no answer yields, so that the nodes' threads get on; and from the
+/// thousandth of a call on each tenth of them naps for 50 microseconds too, so that a call outlasts the naps of its nodes.
 #[derive(Drop)]
 pub struct HostPort<'a, O: Object, K: BookName<O::Alloc>, W: Wait> {
     rt: &'a W,
@@ -87,6 +98,15 @@ impl<'a, O: Object, K: BookName<O::Alloc>, W: Wait> HostPort<'a, O, K, W> {
         self.host.submit(self.rt, &mut self.seat, self.node, call)
     }
 
+    /// Lets the nodes' threads get on.
+    fn wait(&self) {
+        thread::yield_now();
+        let polls = self.asked.polls;
+        if polls >= PATIENCE && polls % NAPS == 0 {
+            Parker::new().park_timeout(self.rt, Duration::from_micros(NAP));
+        }
+    }
+
     /// Notes a poll that the host gave this answer to, and answers it, as far as a call can have it.
     fn note(&mut self, found: Option<Answer>) -> Option<Answer>
         ensures answer { result ≡ told_of found }
@@ -133,7 +153,7 @@ impl<'a, O: Object, K: BookName<O::Alloc>, W: Wait> Port for HostPort<'a, O, K, 
         let found = self.host.poll(self.rt, ticket);
         let answer = self.note(found);
         if answer.is_none() {
-            thread::yield_now();
+            self.wait();
         }
         answer
     }
