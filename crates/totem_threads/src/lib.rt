@@ -1,9 +1,9 @@
 //! Totem with threads: all of `totem_ring`, and hosts, on which each node has a thread of its own.
 //!
 //! A [`Host`] keeps the nodes of an [`Opening`]. [`Host::run`] runs them, each on a thread with a [`Seat`], until the host is
-//! closed; a [`Gate`] says which frames come ([`Open`]: all of them). A client calls over [`HostPort`]s, each with a seat of
-//! its own, and any thread may stop a node. A [`BookName`] names the opening in types, so that what a host says is said of
-//! that opening's run (`std::marker::Brand` is one).
+//! closed; a [`Gate`] is told of their turns ([`Open`] lets all pass, and under [`Paced`] a host that has nothing to do rests). A
+//! client calls over [`HostPort`]s, each with a seat of its own, and any thread may stop a node. A [`BookName`] names the opening in
+//! types, so that what a host says is said of that opening's run (`std::marker::Brand` is one).
 //!
 //! In contracts, `Rattle.totem_threads.specs` has what `Rattle.totem_ring.specs` has, and `Seats`.
 #![tactic(auto)]
