@@ -1,9 +1,9 @@
-//! Three nodes on threads of their own, and a lock table that two clients ask for locks from their threads.
+//! Three nodes on threads of their own, of which one has stopped, and a lock table that two clients ask for locks from their threads.
 //!
-//! Client 1 tries node 1 and then node 2; client 2 tries node 3 and then node 2. A client passes on to its next node, with the
-//! same call under the same number, where one refuses the call or doesn't answer; and where none of them answers it begins anew. So
-//! each call takes effect once, whatever the threads do when: both ask for the same ten locks, of which each gets some, and 20 calls
-//! stand in the one order.
+//! Client 1 tries node 1 and then node 2; client 2 tries node 3, which has stopped, and then node 2. A client passes on to its next
+//! node, with the same call under the same number, where one refuses the call or doesn't answer; and where none of them answers it
+//! begins anew. So each call takes effect once, whatever the threads do when: nodes 1 and 2 give up node 3 and form a ring without
+//! it, both clients ask for the same ten locks, of which each gets some, and 20 calls stand in the one order.
 
 ghost use Rattle.std.specs.Prelude.{◌≡◌, All, IfOk};
 ghost use Rattle.totem_threads.specs.Seats.{IsAt};
@@ -24,6 +24,9 @@ const POLLS: u64 = 1_000_000;
 /// How often a client tries a call anew at most that none of its nodes has answered: they may still be forming their ring.
 const TRIES: u64 = 1_000;
 
+/// The node that has stopped.
+const STOPPED: u8 = 3;
+
 /// A client: its number, and the nodes that it tries.
 #[derive(Clone, Copy)]
 struct Plan {
@@ -40,7 +43,7 @@ const CLIENT_1: Plan = Plan {
 
 const CLIENT_2: Plan = Plan {
     client: 2,
-    first: 3,
+    first: STOPPED,
     second: 2,
 };
 
@@ -141,7 +144,7 @@ fn run<K: BookName<Global> + Send + Sync, W: Threads + Wait + Sync>(
     )
 }
 
-/// How many calls stand in the order at the end, on the nodes of the opening that K names.
+/// How many calls stand in the order at the end, on the nodes of the opening that K names, of which one has stopped.
 fn count<K: BookName<Global> + Send + Sync, W: Threads + Wait + Sync>(
     rt: &W,
     alloc: Global,
@@ -150,6 +153,7 @@ fn count<K: BookName<Global> + Send + Sync, W: Threads + Wait + Sync>(
     requires { opening ≡ K.name }
 {
     let (host, mut seats) = Host::<Locks, K>::new(alloc, opening, 4)?;
+    host.stop(rt, host.proc(STOPPED)?)?;
     let ones = two_of(alloc, &host, &mut seats)?;
     let others = two_of(alloc, &host, &mut seats)?;
     run(rt, alloc, &host, seats, ones, others)?;
@@ -167,7 +171,9 @@ fn counted<W: Threads + Wait + Sync>(rt: &W, alloc: Global) -> Result<usize, Fau
 pub fn tell<R: AllocGlobal + Print + Threads + Wait + Sync>(rt: &R) -> io::Result<()> {
     match counted(rt, rt.alloc()) {
         Ok(count) => {
-            println!(rt; "Two clients ask for ten locks each: the one order has {count} calls.")
+            println!(rt;
+                "One of three nodes has stopped, and two clients ask for ten locks each: the one order has {count} calls."
+            )
         }
         Err(fault) => println!(rt; "{fault}"),
     }
