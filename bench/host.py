@@ -5,8 +5,9 @@
     bench/host.py --soak [--program FILE]        hosts under stops and cramped inboxes, for a minute
 
 The program promises nothing, so it is no crate of the repository: its text is bench/host/, each file with `.txt` behind its
-name. It is proved and built in a copy of the repository, as the crate `host_bench`; where checks of the crates below were
-kept, that takes some minutes. --program names one that was built before, and --save FILE keeps the one that is built.
+name. It is proved and built in a copy of the repository, as the crate `host_bench`. In a copy nothing is proved yet, so all crates
+below it are proved too, which takes an hour. --save FILE keeps the program that is built, and --program FILE measures one that
+was kept, without a proof: whether it is of this text, the caller knows.
 
 There are two plain hosts: a Mutex a node, an inbox a node, no book and no checks. One has the same nodes, and is part of the
 program: it shows what the book and the gauge cost. The other is bench/plain_host.rs, built by rustc, with nodes written for it,
