@@ -2,6 +2,7 @@
 """Counts what an event costs `totem script`, over worlds of one, three and sixteen nodes.
 
     bench/nodes.py PROGRAM [FEW]
+    bench/nodes.py PROGRAM --loads
 
 PROGRAM is the built program. For each number of nodes there are three cases: the token alone (`idle`), a call at each
 node in each round of the token (`calls`), and a change of rings every thousand events (`changes`). Each is run by
@@ -10,6 +11,9 @@ what start, settling and the last `show` cost is counted by a run of its own, an
 for an event, few and many, and the second by the first, which stays near 1 where an event costs the same however long
 the run. The bytes of memory are those of a run as long as a script allows, at most a hundred times FEW events, by the
 number of its events.
+
+With `--loads` seven loads of some 20,000 events are counted, by themselves too: the token alone, one call at a time, and 64
+calls at each node, of which all are answered before the next 64 come.
 """
 import os
 import subprocess
@@ -118,8 +122,67 @@ def row_of(program, folder, kind, nodes, few, begun):
     return [nodes, kind, f"{first:,}", f"{one:,.0f}", f"{ten:,.0f}", f"{ten / one:.2f}", f"{held:,.0f}"]
 
 
+def calls_alone(nodes, turns, events):
+    """One call at a time, at each node in turn, and so many turns behind each."""
+    lines = []
+    for place in range(events // (1 + turns)):
+        node, number = place % nodes + 1, place // nodes + 1
+        lines += ["call %d %d %d add 0 1" % (node, node, number), "pump %d" % turns]
+    return lines
+
+
+def calls_delivered(events):
+    """At one node: a call, and its two deliveries, a line each. There each turn of the token sends one frame."""
+    lines = []
+    for place in range(events // 3):
+        frame = SETTLING + 1 + 2 * place
+        lines += ["call 1 1 %d add 0 1" % (place + 1), "deliver 1 %d" % frame, "deliver 1 %d" % (frame + 1)]
+    return lines
+
+
+def waves(nodes, turns, many):
+    """64 calls at each node, and so many turns, so many times."""
+    lines = []
+    for wave in range(many):
+        for node in range(1, nodes + 1):
+            lines += ["call %d %d %d add 0 1" % (node, node, 64 * wave + place) for place in range(1, 65)]
+        lines.append("pump %d" % turns)
+    return lines
+
+
+def turns_of(program, folder, nodes):
+    """How many turns it takes until 64 calls at each node are answered, where they come one wave behind the other."""
+    for turns in range(2, 200):
+        ran = subprocess.run([program, "script", written(folder, opening(nodes) + waves(nodes, turns, 4))], capture_output=True, text=True)
+        if ran.stdout.count("reply") == 4 * 64 * nodes:
+            return turns
+    sys.exit("64 calls are not answered")
+
+
+def print_loads(program, folder, events=20_000):
+    one, three = (turns_of(program, folder, nodes) for nodes in (1, 3))
+    begun = {nodes: instructions(program, written(folder, opening(nodes))) for nodes in (1, 3)}
+    loads = [
+        (1, "the token alone", pumps(events), events),
+        (3, "the token alone", pumps(events), events),
+        (1, "a call, and two turns", calls_alone(1, 2, events), events // 3 * 3),
+        (1, "a call, and its two deliveries, a line each", calls_delivered(events), events // 3 * 3),
+        (3, "one call at a time, at each node in turn, and eight turns", calls_alone(3, 8, events), events // 9 * 9),
+        (1, "64 calls, and %d turns" % one, waves(1, one, events // (64 + one)), events // (64 + one) * (64 + one)),
+        (3, "64 calls at each node, and %d turns" % three, waves(3, three, events // (192 + three)), events // (192 + three) * (192 + three)),
+    ]
+    print("| Nodes | Load | Events | Instructions an event |\n|---|---|---|---|")
+    for nodes, kind, lines, done in loads:
+        took = instructions(program, written(folder, opening(nodes) + lines)) - begun[nodes]
+        print(f"| {nodes} | {kind} | {done:,} | {took / done:,.0f} |", flush=True)
+
+
 def main():
     program = sys.argv[1]
+    if sys.argv[2:] == ["--loads"]:
+        with tempfile.TemporaryDirectory() as folder:
+            print_loads(program, folder)
+        return
     few = int(sys.argv[2]) if len(sys.argv) > 2 else 5_000
     print("| " + " | ".join(HEADS) + " |")
     print("|" + "---|" * len(HEADS))

@@ -17,6 +17,7 @@
 ghost use Rattle.std.specs.Prelude.{◌≡◌};
 ghost use base.Fml.{ftrue};
 
+use std::alloc::AllocError;
 use std::marker::{Model, PhantomData, Send, Sync};
 
 /// A `T` as contracts see it. It has no bytes and owns nothing, and no `T` is ever made for it.
@@ -62,6 +63,15 @@ pub fn told_both<T, F, G>(past: &Past<T>, first: &F, second: &G) -> Past<T>
     ensures { result.value ≡ step past.now.value first.now second.now }
 {
     past_of(&(past, first, second))
+}
+
+/// A copy has the same value.
+impl<T> Clone for Past<T> {
+    ghost is_clone = { λ past copy. copy.value ≡ past.value };
+
+    fn clone(&self) -> Result<Past<T>, AllocError> {
+        Ok(past_of(&self))
+    }
 }
 
 unsafe impl<T> Send for Past<T> {}

@@ -6,6 +6,7 @@
 -- Logging: The longest committed log, line by line.
 -- Bridge: A book run is the run of its lines' events.
 -- Puts: What appending the bytes of a frame answers.
+-- Lives: What a step is made of lives as long as its memory.
 pub mod Leading
 pub mod FramesInLines
 pub mod AnswersByTicket
@@ -14,3 +15,4 @@ pub mod Given
 pub mod Logging
 pub mod Bridge
 pub mod Puts
+mod Lives

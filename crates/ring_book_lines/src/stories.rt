@@ -62,5 +62,5 @@ pub(crate) fn shown_frame<A: Allocator + Copy>(frame: &Frame<A>) -> Past<FrameSt
 pub(crate) fn shown_step<A: Allocator + Copy + Drop>(step: &Step<A>) -> Past<StepStory<A>>
     ensures { result.value ≡ step.now }
 {
-    told(&no_step(), &step)
+    told(&no_step(), step)
 }

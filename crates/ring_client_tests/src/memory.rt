@@ -41,11 +41,15 @@ fn called<P: Port>(client: &mut Client<P>) -> Result<Reply, Fault> {
     }
 }
 
-/// Whether a call whose copy for one port is refused memory, after so many copies, leaves the client as it was where it is the
+/// How many requests for memory a port's call makes: its bytes, and the count of those who share them.
+const A_CALL: u64 = 2;
+
+/// Whether a call whose copy for one port is refused memory, after so many requests, leaves the client as it was where it is the
 /// first port's, else leaves the call open, and is answered when it is tried again.
 fn is_refused_once<P: Port>(client: &mut Client<P>, passed: u64) -> bool {
-    let is_refused = called(client) == Err(Fault::Memory) && asked_ports(client) as u64 == passed;
-    let is_kept = client.is_open() == (passed > 0) && client.next_number() == Some(1);
+    let asked = passed / A_CALL;
+    let is_refused = called(client) == Err(Fault::Memory) && asked_ports(client) as u64 == asked;
+    let is_kept = client.is_open() == (asked > 0) && client.next_number() == Some(1);
     let is_replied = called(client) == Ok(replied()) && client.next_number() == Some(2);
     is_refused && is_kept && is_replied
 }
@@ -67,12 +71,12 @@ fn requests(alloc: Global) -> Result<(u64, Result<Reply, Fault>), Fault> {
     Ok((heap.requests(), answer))
 }
 
-/// Each port's copy of the call is a request.
+/// Each port's call takes memory of its own.
 #[test]
 fn each_request_is_refused_in_turn(rt: HostRuntime) -> Result<(), Fail> {
-    for passed in 0..3 {
+    for passed in 0..3 * A_CALL {
         assert!(rt; is_refused(rt.alloc(), passed)?, "at {passed}");
     }
-    assert!(rt; requests(rt.alloc())? == (3, Ok(replied())));
+    assert!(rt; requests(rt.alloc())? == (3 * A_CALL, Ok(replied())));
     Ok(())
 }

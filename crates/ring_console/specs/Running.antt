@@ -74,7 +74,7 @@ abbrev pub event_of : {A : Type 0} → Line A → Option (Event A)
 event_of (Call node call) = Some (events.Issue node call)
 event_of (Deliver node frame) = Some (events.Deliver node (unwrap_or frame 0))
 event_of (Timeout node kind) = Some (events.Timeout node kind)
-event_of (Noise node bytes) = Some (events.Noise node bytes)
+event_of (Noise node bytes) = Some (events.Noise node bytes.items)
 event_of (Stop node) = Some (events.Stop node)
 event_of (Cut groups) = None
 event_of Heal = None
@@ -136,7 +136,7 @@ module _ {O : Type 0} (object : Sequential O) where
   Does (Call node call) old new = Happens (events.Issue node call) old new
   Does (Deliver node frame) old new = Happens (events.Deliver node (unwrap_or frame 0)) old new
   Does (Timeout node kind) old new = Happens (events.Timeout node kind) old new
-  Does (Noise node bytes) old new = Happens (events.Noise node bytes) old new
+  Does (Noise node bytes) old new = Happens (events.Noise node bytes.items) old new
   Does (Stop node) old new = Happens (events.Stop node) old new
   Does (Cut groups) old new = new ≡ record old { groups = Some groups }
   Does Heal old new = new ≡ record old { groups = None }

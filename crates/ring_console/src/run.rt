@@ -17,7 +17,7 @@ use crate::printed::{print_node, print_order, print_told};
 use ring_base::{Fault, Fixed, Proc};
 use ring_object::Object;
 use ring_report::Failure;
-use ring_rules::Event;
+use ring_rules::{Event, Noise};
 use ring_script::{Groups, Line, Script};
 use ring_world::{Pair, Pump, World};
 use std::io::Write;
@@ -50,6 +50,18 @@ impl<O: Object> Run<O> {
         Ok(Run {
             pump: Pump::new(alloc, world),
             groups: None,
+        })
+    }
+
+    /// Another run that has come as far as this one, or `Memory`. From there each goes on by itself.
+    pub fn copy(&self) -> Result<Run<O>, Fault>
+        ensures ok { IfOk result (λ copy. copy ≡ self.now) }
+        ensures refused { IfErr result (λ fault. fault ≡ Memory) }
+    {
+        let pump = self.pump.copy()?;
+        Ok(Run {
+            pump,
+            groups: self.groups,
         })
     }
 
@@ -113,7 +125,9 @@ impl<O: Object> Run<O> {
             Line::Call { node, call } => self.happen(Event::Issue(node, call)),
             Line::Deliver { node, frame } => self.happen(Event::Deliver(node, frame.unwrap_or(0))),
             Line::Timeout { node, kind } => self.happen(Event::Timeout(node, kind)),
-            Line::Noise { node, bytes } => self.happen(Event::Noise(node, bytes)),
+            Line::Noise { node, bytes } => {
+                self.happen(Event::Noise(node, Noise::from_vec(bytes)))
+            }
             Line::Stop { node } => self.happen(Event::Stop(node)),
             Line::Cut(groups) => {
                 self.cut(groups);

@@ -1,8 +1,10 @@
 //! A frame on its way.
 
+ghost use Rattle.std.specs.Prelude.{◌≡◌};
+
 use ring_base::ProcSet;
 use ring_wire::Frame;
-use std::alloc::{Allocator, Global};
+use std::alloc::{AllocError, Allocator, Global};
 use std::marker::Model;
 
 /// A frame with its receivers.
@@ -20,4 +22,15 @@ impl<A: Allocator + Copy> Model for Sent<A> {
     ghost Value = { ToldSent A };
 
     ghost view = { λ sent. record { to = sent.to; frame = sent.frame } };
+}
+
+impl<A: Allocator + Copy> Clone for Sent<A> {
+    ghost is_clone = { λ sent copy. copy ≡ sent };
+
+    fn clone(&self) -> Result<Sent<A>, AllocError> {
+        Ok(Sent {
+            to: self.to,
+            frame: self.frame.clone()?,
+        })
+    }
 }

@@ -11,6 +11,7 @@ ghost use Rattle.ring_join.specs.Gatherers.{HasSetsOf};
 use crate::hearing::Hearing;
 use ring_base::{Past, Proc, ProcSet, past_of};
 use ring_wire::Join;
+use std::alloc::AllocError;
 use std::marker::Model;
 
 /// A node that gathers: the processors that it reckons with, those of them that it gave up, and who agrees
@@ -156,6 +157,22 @@ impl Gather {
             proc_set: self.proc_set,
             fail_set: self.fail_set,
         }
+    }
+}
+
+impl Clone for Gather {
+    ghost is_clone = { λ gather copy. copy ≡ gather };
+
+    fn clone(&self) -> Result<Gather, AllocError> {
+        Ok(Gather {
+            me: self.me,
+            floor: self.floor,
+            proc_set: self.proc_set,
+            fail_set: self.fail_set,
+            said: self.said,
+            counted: self.counted,
+            heard: self.heard.clone()?,
+        })
     }
 }
 

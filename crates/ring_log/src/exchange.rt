@@ -12,7 +12,7 @@ use crate::stated::Stated;
 use crate::wanted::Wanted;
 use ring_base::{Fault, Proc, ProcSet};
 use ring_payload::{Call, Calls, Head, MOST_SNAPSHOT, Part, Payload, Snap};
-use std::alloc::{Allocator, Global};
+use std::alloc::{AllocError, Allocator, Global};
 use std::marker::Model;
 use std::mem;
 
@@ -45,6 +45,23 @@ impl<A: Allocator + Copy> Model for Exchange<A> {
       bytes = e.bytes.items;
       brought = e.brought.items;
     } };
+}
+
+impl<A: Allocator + Copy> Clone for Exchange<A> {
+    ghost is_clone = { λ exchange copy. copy ≡ exchange };
+
+    fn clone(&self) -> Result<Exchange<A>, AllocError> {
+        Ok(Exchange {
+            alloc: self.alloc,
+            unheard: self.unheard,
+            heads: self.heads.clone()?,
+            got: self.got,
+            total: self.total,
+            places: self.places,
+            bytes: self.bytes.clone()?,
+            brought: self.brought.clone()?,
+        })
+    }
 }
 
 impl<A: Allocator + Copy> Exchange<A> {

@@ -14,7 +14,7 @@ use crate::parts::parts_of;
 use crate::wanted::Wanted;
 use ring_base::{Fault, MAX, RingId};
 use ring_payload::{Call, Calls, Head, Part};
-use std::alloc::{Allocator, Global};
+use std::alloc::{AllocError, Allocator, Global};
 use std::marker::Model;
 use std::mem;
 
@@ -41,6 +41,19 @@ impl<A: Allocator + Copy> Model for Log<A> {
     ghost view = { λ log. record { trimmed = log.trimmed; calls = log.calls.items; committed = log.committed; last = log.last } };
 
     ghost invariant = { λ log. IsKeptLog log.trimmed log.committed (length log.calls.items) };
+}
+
+impl<A: Allocator + Copy> Clone for Log<A> {
+    ghost is_clone = { λ log copy. copy ≡ log };
+
+    fn clone(&self) -> Result<Log<A>, AllocError> {
+        Ok(Log {
+            trimmed: self.trimmed,
+            calls: self.calls.clone()?,
+            committed: self.committed,
+            last: self.last,
+        })
+    }
 }
 
 impl<A: Allocator + Copy> Log<A> {

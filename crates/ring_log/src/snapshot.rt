@@ -2,7 +2,7 @@
 
 ghost use Rattle.std.specs.Prelude.{◌≡◌, ℕ, List};
 
-use std::alloc::{Allocator, Global};
+use std::alloc::{AllocError, Allocator, Global};
 use std::marker::Model;
 
 /// The bytes of a snapshot of the sessions, on the heap. Contracts see them.
@@ -15,6 +15,16 @@ impl<A: Allocator + Copy> Model for Snapshot<A> {
     ghost Value = { List ℕ };
 
     ghost view = { λ snapshot. snapshot.bytes.items };
+}
+
+impl<A: Allocator + Copy> Clone for Snapshot<A> {
+    ghost is_clone = { λ snapshot copy. copy ≡ snapshot };
+
+    fn clone(&self) -> Result<Snapshot<A>, AllocError> {
+        Ok(Snapshot {
+            bytes: self.bytes.clone()?,
+        })
+    }
 }
 
 impl<A: Allocator + Copy> Snapshot<A> {

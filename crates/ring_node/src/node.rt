@@ -72,6 +72,21 @@ impl<O: Object> Node<O> {
         })
     }
 
+    /// A copy of the node, which goes on apart from it. Its object is what the snapshot of this one's is restored to. Refused
+    /// with `Memory` alone.
+    pub fn copy(&self) -> Result<Node<O>, Fault>
+        ensures ok { IfOk result (λ copy. copy ≡ self.now) }
+        ensures refused { IfErr result (λ fault. fault ≡ Memory) }
+    {
+        Ok(Node {
+            alloc: self.alloc,
+            core: self.core.clone()?,
+            replica: self.replica.copy()?,
+            last: self.last,
+            ended: self.ended.clone()?,
+        })
+    }
+
     /// Submits a call that keeps the limits of frames, as each does that `Call::new` makes, and gives its ticket. Refused, in
     /// this order: `Stopped` in a stopped node; `PendingFull` where 64 tickets have no answer, or 2^62 were given; `Memory`. A
     /// refusal leaves the node as it was.

@@ -88,7 +88,7 @@ fn stepped_there<O: Object + Send, R: Threads>(
     driven: &mut Driven<O>,
 ) -> Result<Seen, Fault>
 where
-    O::Alloc: Send,
+    O::Alloc: Send + Sync,
 {
     lend(&driven.node);
     let lent = &mut *driven;
@@ -100,7 +100,7 @@ where
 /// The same of a node that was made here.
 fn seen_there<O: Object + Send, R: Threads>(rt: &R, alloc: O::Alloc) -> Result<Seen, Fault>
 where
-    O::Alloc: Send,
+    O::Alloc: Send + Sync,
 {
     let mut driven = Driven::<O>::new(alloc, alloc)?;
     stepped_there(rt, &mut driven)

@@ -4,10 +4,12 @@
 //! of the content and the operation. A snapshot is the content as bytes, from which the same content is restored.
 #![tactic(auto)]
 
+mod copies;
 mod laws;
 mod object;
 mod short;
 
+pub use copies::copied;
 pub use laws::object_law;
 pub use object::Object;
 pub use short::{Reply, Short};

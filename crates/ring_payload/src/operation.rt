@@ -9,20 +9,24 @@ use ring_base::Fault;
 use ring_layout::{Decode, Encode, Reader};
 use std::alloc::{AllocError, Allocator, Global};
 use std::marker::Model;
+use std::sync::ArcSlice;
 
 /// An operation has at most so many bytes.
 pub const MOST_OPERATION: usize = 1024;
 
-/// An operation, on the heap. Contracts see its bytes.
+/// An operation, on the heap. Its copies share its bytes: to copy it takes no memory. Contracts see its bytes.
 #[derive(Drop)]
 pub struct Operation<A: Allocator + Copy = Global> {
-    bytes: Vec<u8, A>,
+    bytes: ArcSlice<u8, A>,
 }
 
 impl<A: Allocator + Copy> Model for Operation<A> {
+    ghost use Rattle.std.specs.Prelude.{ℕ, List};
+    ghost use Rattle.std.specs.Arc.{arc_slice_items};
+
     ghost Value = { List ℕ };
 
-    ghost view = { λ op. op.bytes.items };
+    ghost view = { λ op. arc_slice_items op.bytes };
 }
 
 impl<A: Allocator + Copy> Operation<A> {
@@ -32,7 +36,7 @@ impl<A: Allocator + Copy> Operation<A> {
         ensures refused { IfErr result (λ fault. fault ≡ Memory) }
     {
         Ok(Operation {
-            bytes: Vec::from_slice(alloc, bytes)?,
+            bytes: ArcSlice::from_slice(alloc, bytes)?,
         })
     }
 

@@ -30,6 +30,8 @@ pub enum Mark {
         node: Proc,
         length: u64,
     },
+    /// A node keeps the first of its places as a snapshot from here on, or more of them than before.
+    Trimmed(Proc),
     /// A call was submitted.
     Submit {
         node: Proc,

@@ -9,7 +9,7 @@ use crate::mark::{Mark, Placed, Shade};
 use crate::shapes::{
     write_band, write_bar, write_call, write_called, write_committed, write_end, write_event,
     write_fold, write_head, write_heal, write_legend, write_lost, write_name, write_rest,
-    write_ring, write_rounds, write_side, write_stop, write_strip_end, write_wall,
+    write_ring, write_rounds, write_side, write_stop, write_strip_end, write_trimmed, write_wall,
 };
 use ring_base::{Fault, Fixed, Proc, State};
 use std::alloc::Allocator;
@@ -217,6 +217,7 @@ fn write_mark<W: Write>(out: &mut W, frame: Frame, placed: &Placed) -> io::Resul
             members,
         } => write_ring(out, frame, *node, *ring, *members, column),
         Mark::Committed { node, length } => write_committed(out, frame, *node, *length, column),
+        Mark::Trimmed(node) => write_trimmed(out, frame, *node, column),
         Mark::Submit {
             node,
             client,

@@ -154,6 +154,23 @@ pub(crate) fn write_committed<W: Write>(
     )
 }
 
+/// A line under how much is committed: a snapshot stands for the first places.
+pub(crate) fn write_trimmed<W: Write>(
+    out: &mut W,
+    frame: Frame,
+    node: Proc,
+    column: u64,
+) -> io::Result<()> {
+    let (x, y) = (
+        frame.x(column),
+        frame.y(node).saturating_add(BAR + BASE + 1),
+    );
+    writeln!(
+        out,
+        "<rect x=\"{x}\" y=\"{y}\" width=\"16\" height=\"1.5\" fill=\"#674ea7\"/>"
+    )
+}
+
 /// The name of a call, where it is submitted: higher in every other column, so that long names have room.
 pub(crate) fn write_called<W: Write>(
     out: &mut W,
@@ -312,7 +329,7 @@ pub(crate) fn write_legend<W: Write>(out: &mut W, frame: Frame) -> io::Result<()
         frame,
         42,
         "In a box: the ring and its members. Arcs: calls to their answers, dashed red where there is none. Below a lane: how much its \
-         node has committed.",
+         node has committed, underlined where a snapshot stands for its first places.",
     )?;
     write_words(
         out,

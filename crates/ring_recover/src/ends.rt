@@ -11,7 +11,7 @@ use crate::kinds::{is_end, is_user};
 use ring_base::{Past, ProcSet};
 use ring_window::Window;
 use ring_wire::Message;
-use std::alloc::{Allocator, Global};
+use std::alloc::{AllocError, Allocator, Global};
 use std::marker::Model;
 
 /// What a node keeps of a new ring's messages up to its front, so that it can tell when the ring may be
@@ -89,6 +89,20 @@ impl<A: Allocator + Copy> Ends<A> {
         ensures { result ≡ is_ready_by self.now members mark }
     {
         have_all(self.ended, members) && (self.last <= mark || self.has_user)
+    }
+}
+
+impl<A: Allocator + Copy> Clone for Ends<A> {
+    ghost is_clone = { λ ends copy. copy ≡ ends };
+
+    fn clone(&self) -> Result<Ends<A>, AllocError> {
+        Ok(Ends {
+            upto: self.upto,
+            ended: self.ended,
+            last: self.last,
+            has_user: self.has_user,
+            past: self.past.clone()?,
+        })
     }
 }
 

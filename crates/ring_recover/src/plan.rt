@@ -24,7 +24,7 @@ use ring_base::{Past, Proc, ProcSet, RingId, WINDOW, past_of};
 use ring_payload::Payload;
 use ring_window::Window;
 use ring_wire::{CommitToken, Message};
-use std::alloc::{Allocator, Global};
+use std::alloc::{AllocError, Allocator, Global};
 use std::marker::Model;
 
 /// What the members that come from one old ring make of a commit token, as contracts see it. No value of it is made.
@@ -238,6 +238,26 @@ impl<A: Allocator + Copy> Plan<A> {
         let (safe, mates) = (self.safe, self.mates);
         let past = Offsets::such(|j| is_past(&known, reach, gap, mates, window, safe, j));
         Numbers::new(safe, past)
+    }
+}
+
+impl<A: Allocator + Copy> Clone for Plan<A> {
+    ghost is_clone = { λ plan copy. copy ≡ plan };
+
+    fn clone(&self) -> Result<Plan<A>, AllocError> {
+        Ok(Plan {
+            me: self.me,
+            old_ring: self.old_ring,
+            mates: self.mates,
+            least: self.least,
+            safe: self.safe,
+            low: self.low,
+            known: self.known,
+            wrapped: self.wrapped,
+            ended: self.ended,
+            plan: self.plan.clone()?,
+            seen: self.seen.clone()?,
+        })
     }
 }
 

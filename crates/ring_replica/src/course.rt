@@ -16,7 +16,7 @@ ghost use Rattle.ring_rules.specs.Stepping.{send_of};
 use crate::hearing::{hear, reach_at};
 use crate::history::{Life, born, dropped, entered, handed, handed_call, heard, marked};
 use crate::holding::Holding;
-use crate::reach::{Reach, cover};
+use crate::reach::{Reach, copied, cover};
 use crate::setting::Setting;
 use crate::stage::{Stage, begun};
 use ring_base::{Fault, Fixed, Past, Proc, ProcSet, RingId};
@@ -25,7 +25,7 @@ use ring_log::{Log, Snapshot};
 use ring_payload::{Call, Payload};
 use ring_session::Pending;
 use ring_wire::{Frame, Message};
-use std::alloc::{Allocator, Global};
+use std::alloc::{AllocError, Allocator, Global};
 use std::collections::VecDeque;
 use std::marker::Model;
 use std::mem;
@@ -56,6 +56,25 @@ impl<A: Allocator + Copy + Drop> Model for Course<A> {
     ghost view = { λ c. record { group = c.fixed; me = c.me; life = c.life.value; held = c.held; fine = c.fine } };
 
     ghost invariant = { λ c. IsCourse c.fixed c.life.value c.fine c.held c.ring c.stage c.mark c.reaches.items };
+}
+
+impl<A: Allocator + Copy + Drop> Clone for Course<A> {
+    ghost is_clone = { λ course copy. copy ≡ course };
+
+    fn clone(&self) -> Result<Course<A>, AllocError> {
+        Ok(Course {
+            alloc: self.alloc,
+            fixed: self.fixed,
+            me: self.me,
+            held: self.held.clone()?,
+            ring: self.ring,
+            stage: self.stage.clone()?,
+            mark: self.mark,
+            reaches: copied(&self.reaches)?,
+            fine: self.fine,
+            life: self.life.clone()?,
+        })
+    }
 }
 
 impl<A: Allocator + Copy + Drop> Course<A> {

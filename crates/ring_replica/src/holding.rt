@@ -9,7 +9,7 @@ ghost use Rattle.ring_replica.specs.Courses.{nothing_held, told_log, adopted_hel
 use ring_base::{Fault, RingId};
 use ring_log::{Adoption, Base, Log, Snapshot};
 use ring_payload::Call;
-use std::alloc::{Allocator, Global};
+use std::alloc::{AllocError, Allocator, Global};
 use std::marker::Model;
 
 /// What a node holds of its log: the log; the log as it was at the end of the last step, where a snapshot was restored since; and
@@ -27,6 +27,18 @@ impl<A: Allocator + Copy> Model for Holding<A> {
     ghost Value = { ToldHolding A };
 
     ghost view = { λ h. record { log = h.log; before = h.before; snapshot = h.snapshot } };
+}
+
+impl<A: Allocator + Copy> Clone for Holding<A> {
+    ghost is_clone = { λ holding copy. copy ≡ holding };
+
+    fn clone(&self) -> Result<Holding<A>, AllocError> {
+        Ok(Holding {
+            log: self.log.clone()?,
+            before: self.before.clone()?,
+            snapshot: self.snapshot.clone()?,
+        })
+    }
 }
 
 impl<A: Allocator + Copy + Drop> Holding<A> {

@@ -1,9 +1,9 @@
 //! How far the log of the newest ring reaches by each message that isn't safe yet.
 
-ghost use Rattle.std.specs.Prelude.{◌≡◌};
+ghost use Rattle.std.specs.Prelude.{◌≡◌, IfOk};
 ghost use Rattle.ring_replica.specs.Courses.{covered, left};
 
-use std::alloc::Allocator;
+use std::alloc::{AllocError, Allocator};
 use std::collections::VecDeque;
 
 /// A message's number, and how many places the ring's log has by it: none before the exchange is whole.
@@ -29,4 +29,13 @@ pub(crate) fn cover<A: Allocator + Copy>(reaches: &mut VecDeque<Reach, A>, mark:
         reaches.pop_front();
     }
     places
+}
+
+/// The same, in memory of their own.
+pub(crate) fn copied<A: Allocator + Copy>(
+    reaches: &VecDeque<Reach, A>,
+) -> Result<VecDeque<Reach, A>, AllocError>
+    ensures { IfOk result (λ copy. copy.items ≡ reaches.now.items) }
+{
+    reaches.clone()
 }

@@ -24,7 +24,7 @@ use ring_log::{Log, Snapshot};
 use ring_object::Object;
 use ring_payload::{Call, MOST_SNAPSHOT};
 use ring_session::{Answer, Answered, Pending, Sessions, Ticket, Tickets, answers_of};
-use std::alloc::Allocator;
+use std::alloc::{AllocError, Allocator};
 use std::marker::Model;
 use std::mem;
 
@@ -83,6 +83,27 @@ impl<O: Object> Replica<O> {
             reached: 0,
             stopped: false,
             story: opened(me),
+        })
+    }
+
+    /// A copy of the replica. Its object is what the snapshot of this one's is restored to. Refused with `Memory` alone.
+    pub fn copy(&self) -> Result<Replica<O>, Fault>
+        ensures ok { IfOk result (λ copy. copy ≡ self.now) }
+        ensures refused { IfErr result (λ fault. fault ≡ Memory) }
+    {
+        Ok(Replica {
+            alloc: self.alloc,
+            course: self.course.clone()?,
+            sessions: self.sessions.copy()?,
+            tickets: self.tickets.clone()?,
+            leaving: copied(&self.leaving)?,
+            places: self.places,
+            committed: self.committed,
+            trimmed: self.trimmed,
+            effects: self.effects,
+            reached: self.reached,
+            stopped: self.stopped,
+            story: self.story.clone()?,
         })
     }
 
@@ -272,6 +293,13 @@ fn is_running(running: &Option<RingId>, last: Option<RingId>) -> bool
         (Some(running), Some(last)) => *running == last,
         _ => false,
     }
+}
+
+/// A copy of a log, if there is one.
+fn copied<A: Allocator + Copy>(log: &Option<Log<A>>) -> Result<Option<Log<A>>, AllocError>
+    ensures { IfOk result (λ copy. copy ≡ log.now) }
+{
+    log.clone()
 }
 
 /// The calls of the places that a step drops, if it drops some.

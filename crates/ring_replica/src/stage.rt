@@ -5,7 +5,7 @@ ghost use Rattle.ring_replica.specs.Courses.{stage_in, reach_at};
 
 use ring_base::{Fixed, ProcSet};
 use ring_log::{Exchange, Log};
-use std::alloc::{Allocator, Global};
+use std::alloc::{AllocError, Allocator, Global};
 
 /// Where the exchange of the newest ring stands.
 #[derive(Drop)]
@@ -16,6 +16,18 @@ pub enum Stage<A: Allocator + Copy = Global> {
     Exchanging(Exchange<A>),
     /// It was heard whole, and the ring is adopted.
     Adopted,
+}
+
+impl<A: Allocator + Copy> Clone for Stage<A> {
+    ghost is_clone = { λ stage copy. copy ≡ stage };
+
+    fn clone(&self) -> Result<Stage<A>, AllocError> {
+        match self {
+            Stage::Apart => Ok(Stage::Apart),
+            Stage::Exchanging(exchange) => Ok(Stage::Exchanging(exchange.clone()?)),
+            Stage::Adopted => Ok(Stage::Adopted),
+        }
+    }
 }
 
 /// The stage of a ring of these members as it is installed.

@@ -1,11 +1,12 @@
 //! What happens to a world of nodes.
 
+use crate::noise::Noise;
 use ring_base::{Kind, Proc};
 use ring_payload::Call;
 use std::alloc::{Allocator, Global};
 
 /// What happens next in a world of nodes. An event of a processor that is none of the group's changes nothing.
-#[derive(Drop)]
+#[derive(Clone, Drop)]
 pub enum Event<A: Allocator + Copy = Global> {
     /// A call is submitted at the node.
     Issue(Proc, Call<A>),
@@ -14,7 +15,7 @@ pub enum Event<A: Allocator + Copy = Global> {
     Deliver(Proc, u64),
     /// Bytes come to the node. They change nothing: those that are no frame are ignored, and a frame is delivered by
     /// its number alone.
-    Noise(Proc, Vec<u8, A>),
+    Noise(Proc, Noise<A>),
     /// A time of the node is over.
     Timeout(Proc, Kind),
     /// The node stops for good.

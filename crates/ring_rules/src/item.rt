@@ -5,7 +5,7 @@ use ring_payload::Call;
 use std::alloc::{Allocator, Global};
 
 /// An event that a client sees. A history is a list of them, in the order in which they happened.
-#[derive(Drop)]
+#[derive(Clone, Drop)]
 pub enum Item<A: Allocator + Copy = Global> {
     /// The call was handed to a node, which took it.
     Issue(Call<A>),

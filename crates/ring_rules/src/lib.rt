@@ -7,10 +7,12 @@ mod event;
 pub mod input;
 mod item;
 mod laws;
+mod noise;
 mod told;
 
 pub use event::Event;
 pub use input::Input;
 pub use item::Item;
 pub use laws::{linearization_law, order_law};
+pub use noise::Noise;
 pub use told::Told;

@@ -6,7 +6,7 @@ use ring_session::Answer;
 use std::alloc::{Allocator, Global};
 
 /// What a node of a world told its clients.
-#[derive(Drop)]
+#[derive(Clone, Drop)]
 pub enum Told<A: Allocator + Copy = Global> {
     /// The node answered the call.
     Answer(Proc, Call<A>, Answer),

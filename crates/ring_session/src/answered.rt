@@ -6,7 +6,7 @@ use ring_payload::Call;
 use std::alloc::{Allocator, Global};
 
 /// The answer to a ticket's call.
-#[derive(Drop)]
+#[derive(Clone, Drop)]
 pub struct Answered<A: Allocator + Copy = Global> {
     pub ticket: Ticket,
     pub call: Call<A>,

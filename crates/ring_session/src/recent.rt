@@ -1,6 +1,8 @@
 //! The answers given last.
 
-ghost use Rattle.std.specs.Prelude.{◌≡◌, [], ◌∷◌, ◌++◌, map, IfOk, IfErr};
+ghost use Rattle.std.specs.Prelude.{◌≡◌, ◌≤◌, [], ◌∷◌, ◌++◌, map, IfOk, IfErr};
+ghost use Rattle.std.specs.VecDeque.{deque_len, deque_capacity};
+ghost use Rattle.ring_session.specs.declared.TheConstants.{KEPT_ANSWERS as MOST};
 ghost use Rattle.ring_base.specs.declared.fault.Fault.TheVariants.{Memory};
 ghost use Rattle.ring_session.specs.Recent.{last_kept, kept_of, kept_answer};
 
@@ -8,7 +10,7 @@ use crate::answered::Answered;
 use crate::ticket::Ticket;
 use crate::{Answer, KEPT_ANSWERS};
 use ring_base::Fault;
-use std::alloc::Allocator;
+use std::alloc::{AllocError, Allocator};
 use std::collections::VecDeque;
 use std::marker::Model;
 
@@ -36,6 +38,17 @@ impl<A: Allocator + Copy> Model for Recent<A> {
     ghost view = { λ recent. recent.answers.items };
 
     ghost invariant = { λ recent. (deque_len recent.answers ≤ MOST) × (MOST ≤ deque_capacity recent.answers) };
+}
+
+/// A copy has room for all that are kept, too.
+impl<A: Allocator + Copy> Clone for Recent<A> {
+    ghost is_clone = { λ recent copy. copy ≡ recent };
+
+    fn clone(&self) -> Result<Recent<A>, AllocError> {
+        Ok(Recent {
+            answers: with_room(&self.answers)?,
+        })
+    }
 }
 
 impl<A: Allocator + Copy> Recent<A> {
@@ -84,4 +97,20 @@ impl<A: Allocator + Copy> Recent<A> {
         }
         None
     }
+}
+
+/// The same answers, with room for all that are kept.
+fn with_room<A: Allocator + Copy>(
+    answers: &VecDeque<Kept, A>,
+) -> Result<VecDeque<Kept, A>, AllocError>
+    requires { deque_len answers.now ≤ MOST }
+    ensures items { IfOk result (λ copy. copy.items ≡ answers.now.items) }
+    ensures few { IfOk result (λ copy. deque_len copy ≤ MOST) }
+    ensures room { IfOk result (λ copy. MOST ≤ deque_capacity copy) }
+{
+    let mut copy = VecDeque::with_capacity(*answers.allocator(), KEPT_ANSWERS)?;
+    for place in 0..answers.len() {
+        copy.push_back_reserved(answers[place]);
+    }
+    Ok(copy)
 }

@@ -10,7 +10,7 @@ use crate::snapshots::append_number;
 use ring_base::Fault;
 use ring_object::{Object, Reply};
 use ring_payload::Call;
-use std::alloc::Allocator;
+use std::alloc::{AllocError, Allocator};
 use std::marker::Model;
 
 /// A client's last call that took effect, and the reply to it.
@@ -27,6 +27,18 @@ impl<A: Allocator + Copy> Model for Session<A> {
     ghost Value = { LastCall };
 
     ghost view = { λ session. record { number = session.number; operation = session.operation.items; reply = session.reply } };
+}
+
+impl<A: Allocator + Copy> Clone for Session<A> {
+    ghost is_clone = { λ session copy. copy ≡ session };
+
+    fn clone(&self) -> Result<Session<A>, AllocError> {
+        Ok(Session {
+            number: self.number,
+            operation: self.operation.clone()?,
+            reply: self.reply,
+        })
+    }
 }
 
 impl<A: Allocator + Copy> Session<A> {

@@ -15,7 +15,7 @@ use crate::answer::Answer;
 use crate::session::Session;
 use crate::snapshots::{append_clients, append_object, parts_of, read_clients};
 use ring_base::Fault;
-use ring_object::Object;
+use ring_object::{Object, copied};
 use ring_payload::Call;
 use std::alloc::Allocator;
 use std::collections::BTreeMap;
@@ -130,6 +130,18 @@ impl<O: Object> Sessions<O> {
             alloc,
             sessions,
             object,
+        })
+    }
+
+    /// A copy of the table, with the object that its snapshot is restored to. Refused with `Memory` alone.
+    pub fn copy(&self) -> Result<Sessions<O>, Fault>
+        ensures ok { IfOk result (λ copy. copy ≡ self.now) }
+        ensures refused { IfErr result (λ fault. fault ≡ Memory) }
+    {
+        Ok(Sessions {
+            alloc: self.alloc,
+            sessions: self.sessions.clone()?,
+            object: copied(self.alloc, &self.object)?,
         })
     }
 

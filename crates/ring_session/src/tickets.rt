@@ -45,6 +45,24 @@ impl<A: Allocator + Copy + Drop> Model for Tickets<A> {
     ghost invariant = { λ t. (length t.pending.items ≤ 64) × (64 ≤ vec_capacity t.pending) × (t.given ≤ max_number) };
 }
 
+/// A copy has room for as many tickets.
+impl<A: Allocator + Copy + Drop> Clone for Tickets<A> {
+    ghost is_clone = { λ tickets copy. copy ≡ tickets };
+
+    fn clone(&self) -> Result<Tickets<A>, AllocError> {
+        let mut pending: Vec<Pending<A>, A> = Vec::with_capacity(
+            *self.pending.allocator(),
+            MAX_UNANSWERED,
+        )?;
+        pending.extend_from_slice(self.pending.as_slice())?;
+        Ok(Tickets {
+            given: self.given,
+            pending,
+            recent: self.recent.clone()?,
+        })
+    }
+}
+
 impl<A: Allocator + Copy + Drop> Tickets<A> {
     /// No ticket was given. Refused with `Memory` alone.
     pub fn new(alloc: A) -> Result<Tickets<A>, Fault>

@@ -18,7 +18,7 @@ use ring_core::{Input, Out};
 use ring_payload::Payload;
 use ring_srp_acts::{Machine, all_of, first_token};
 use ring_wire::Frame;
-use std::alloc::{Allocator, Global};
+use std::alloc::{AllocError, Allocator, Global};
 use std::marker::Model;
 
 /// A processor's ring core. Contracts see a `Core`, with all its history.
@@ -206,6 +206,29 @@ impl<A: Allocator + Copy> Srp<A> {
     {
         self.installed().ring
     }
+}
+
+/// A copy is the same core with the same history, and goes on by itself. It takes memory for what is kept of its rings and for
+/// what is queued: `AllocError` where that was refused.
+impl<A: Allocator + Copy> Clone for Srp<A> {
+    ghost is_clone = { λ srp copy. copy ≡ srp };
+
+    fn clone(&self) -> Result<Srp<A>, AllocError> {
+        Ok(Srp {
+            machine: copied_machine(&self.machine)?,
+            last: self.last,
+            before: self.before.clone()?,
+        })
+    }
+}
+
+/// The same machine, unless it has stopped.
+fn copied_machine<A: Allocator + Copy>(
+    machine: &Option<Machine<A>>,
+) -> Result<Option<Machine<A>>, AllocError>
+    ensures { IfOk result (λ copy. copy ≡ machine.now) }
+{
+    machine.clone()
 }
 
 /// Lets a machine go, with all that it kept.

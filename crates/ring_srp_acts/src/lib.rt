@@ -4,6 +4,7 @@
 #![tactic(auto)]
 
 mod act;
+mod copying;
 mod deciding;
 mod gathering;
 mod giving;

@@ -20,7 +20,7 @@ use ring_payload::Payload;
 use ring_token::{Visit, requests_after};
 use ring_window::Window;
 use ring_wire::{Frame, Requests, Token};
-use std::alloc::{Allocator, Global};
+use std::alloc::{AllocError, Allocator, Global};
 
 /// What a processor keeps of one ring that it took part in: its messages, and its visits of the token.
 #[derive(Drop)]
@@ -147,6 +147,17 @@ impl<A: Allocator + Copy> Part<A> {
         if !stays.as_slice().is_empty() {
             add_stays(stays, requests);
         }
+    }
+}
+
+impl<A: Allocator + Copy> Clone for Part<A> {
+    ghost is_clone = { λ part copy. copy ≡ part };
+
+    fn clone(&self) -> Result<Part<A>, AllocError> {
+        Ok(Part {
+            window: self.window.clone()?,
+            visit: self.visit.clone()?,
+        })
     }
 }
 

@@ -1,10 +1,11 @@
 //! What a processor goes by in Recovery.
 
-ghost use Rattle.std.specs.Prelude.{◌≡◌, ◌≤◌, ◌++◌, length, IfErr, OnOk, OnErr};
+ghost use Rattle.std.specs.Prelude.{◌≡◌, ◌≤◌, ◌++◌, length, IfOk, IfErr, OnOk, OnErr};
 ghost use Rattle.ring_base.specs.Fronts.{IsFront};
 ghost use Rattle.ring_base.specs.declared.fault.Fault.TheVariants.{Memory};
 ghost use Rattle.ring_window.specs.Held.{front_of};
 ghost use Rattle.ring_window.specs.Windows.{taken};
+ghost use Rattle.ring_srp_state.specs.Copies.{IsCopied};
 ghost use Rattle.ring_srp_state.specs.Setting.{SetsAside};
 ghost use Rattle.ring_srp_state.specs.Taking.{window_front, with_taken, with_inner};
 ghost use Rattle.ring_srp_state.specs.Users.{users_in, user_of};
@@ -15,7 +16,7 @@ use ring_payload::Payload;
 use ring_recover::{Ends, Plan, is_user, unwrap};
 use ring_window::Window;
 use ring_wire::Message;
-use std::alloc::{Allocator, Global};
+use std::alloc::{AllocError, Allocator, Global};
 
 /// What a processor goes by in Recovery: what it keeps of the running ring, the plan for the old one, and how far
 /// the members are. The running ring's users' messages are delivered from number 1 on as it is installed; those
@@ -63,6 +64,29 @@ impl<A: Allocator + Copy> Recovering<A> {
         self.part.window.take(message);
         self.ends.follow(&self.part.window);
     }
+}
+
+impl<A: Allocator + Copy> Clone for Recovering<A> {
+    ghost is_clone = { IsCopied };
+
+    fn clone(&self) -> Result<Recovering<A>, AllocError> {
+        Ok(Recovering {
+            part: self.part.clone()?,
+            plan: self.plan.clone()?,
+            ends: self.ends.clone()?,
+            most: self.most,
+            aside: copied_messages(&self.aside)?,
+        })
+    }
+}
+
+/// The same messages in a list of their own.
+fn copied_messages<A: Allocator + Copy>(
+    messages: &Vec<Message<A>, A>,
+) -> Result<Vec<Message<A>, A>, AllocError>
+    ensures { IfOk result (λ copy. copy.items ≡ messages.now.items) }
+{
+    messages.clone()
 }
 
 /// Keeps a copy of a message, if it is a user's.

@@ -1,6 +1,6 @@
 -- One variant after another is run, in parts of which one stands behind the other.
 use Rattle.std.proofs.Common.{◌≡◌, ℕ, zero, suc, ◌+◌, ◌-◌, ◌<◌, ◌≤◌, ◌⊎◌, inl, inr, ◌↔◌, IsTrue, Bool, true, false, List, Option, Some, None, Result, Ok, Err, IfOk}
-use Rattle.std.proofs.Common.{refl, sym, ap, subst, ◌∙◌, arith}
+use Rattle.std.proofs.Common.{refl, sym, ap, subst, ◌∙◌, arith, ◌*◌, ◌/◌, le-div_iff_mul-le}
 use Rattle.std.proofs.lemmas.Bool.{cases_lt}
 use Rattle.std.specs.Io.KnownBytes.{Appends}
 use Rattle.ring_base.specs.Group.{Group}
@@ -16,46 +16,34 @@ use Rattle.ring_sweep.specs.Swept.{are_legal, swept_text, AllLegal, IsSwept, IsS
 use Rattle.ring_sweep.specs.Variants.{steps_of, upset_at, first_illegal, Passes, HasEvents, IsVariant, IsTried, AreTried, AreTriedFrom, AreTriedIn, IsFirstIllegal}
 use Rattle.ring_shares.specs.Shares.{share_begin, first_of}
 use Rattle.ring_shares.proofs.Sharing.{shares_end}
-use Rattle.ring_sweep.specs.Stages.{Stage, stage, PutsIn, Goes}
-use Rattle.ring_sweep.proofs.Staging.{goes_alone, is_variant}
 
 module _ {O A : Type 0} (object : Sequential O) (group : Group) (lines : List (Numbered A)) where
   -- the script's own run
-  pub has_events : (ls : List (Numbered A)) (run : RunView A) (done : ℕ) (pending : Option Upset) (t : Stage A) (events : ℕ) → ls ≡ lines
-      → run ≡ run_opening group → done ≡ 0 → pending ≡ None → Goes object (steps_of ls) (stage run done pending) t → events ≡ t.done
-      → HasEvents object group lines events
-  has_events ls run done pending t events same_lines same_run same_done none h same =
-      let alone = goes_alone object (steps_of ls) (stage run done pending) t none h in (
-        t.run,
-        subst (λ (n : ℕ). Passes object (steps_of lines) 0 n (run_opening group) t.run) (sym same)
-            (subst (λ (r : RunView A). Passes object (steps_of lines) 0 t.done r t.run) same_run
-            (subst (λ (n : ℕ). Passes object (steps_of lines) n t.done run t.run) same_done
-            (subst (λ (xs : List (Numbered A)). Passes object (steps_of xs) done t.done run t.run) same_lines alone))),
-      )
-
-  variant_is : (ls : List (Numbered A)) (run : RunView A) (done : ℕ) (pending : Option Upset) (u : Upset) (t e : Stage A) → ls ≡ lines
-      → run ≡ run_opening group → done ≡ 0 → pending ≡ Some u → Goes object (steps_of ls) (stage run done pending) t → PutsIn object t e
-      → IsVariant object (steps_of lines) u 0 (run_opening group) e.run
-  variant_is ls run done pending u t e same_lines same_run none some h puts =
-      subst (λ (r : RunView A). IsVariant object (steps_of lines) u 0 r e.run) same_run
-      (subst (λ (xs : List (Numbered A)). IsVariant object (steps_of xs) u 0 run e.run) same_lines
-      (is_variant object (steps_of ls) u (stage run done pending) t e some none h puts))
+  pub has_events : (ls : List (Numbered A)) (run t : RunView A) (done ended events : ℕ) → ls ≡ lines → run ≡ run_opening group → done ≡ 0
+      → Passes object (steps_of ls) done ended run t → events ≡ ended → HasEvents object group lines events
+  has_events ls run t done ended events same_lines same_run same_done h same = (
+    t,
+    subst (λ (n : ℕ). Passes object (steps_of lines) 0 n (run_opening group) t) (sym same)
+        (subst (λ (r : RunView A). Passes object (steps_of lines) 0 ended r t) same_run
+        (subst (λ (n : ℕ). Passes object (steps_of lines) n ended run t) same_done
+        (subst (λ (xs : List (Numbered A)). Passes object (steps_of xs) done ended run t) same_lines h))),
+  )
 
   -- a variant's run, and whether it is legal
-  pub is_tried : {E : Type 0} (r : Result Bool E) (ls : List (Numbered A)) (run : RunView A) (done : ℕ) (pending : Option Upset) (u : Upset)
-      (t e : Stage A) (p : Played A) → ls ≡ lines → run ≡ run_opening group → done ≡ 0 → pending ≡ Some u
-      → Goes object (steps_of ls) (stage run done pending) t → PutsIn object t e → p ≡ e.run.played
+  pub is_tried : {E : Type 0} (r : Result Bool E) (u : Upset) (run : RunView A) (p : Played A)
+      → IsVariant object (steps_of lines) u 0 (run_opening group) run → p ≡ run.played
       → IfOk r (λ is_legal. IsTrue is_legal ↔ IsLegal object p) → IfOk r (IsTried object group lines u)
-  is_tried (Ok is_legal) ls run done pending u t e p same_lines same_run none some h puts same legal = (
-    e.run,
-    (
-      variant_is ls run done pending u t e same_lines same_run none some h puts,
-      subst (λ (q : Played A). IsTrue is_legal ↔ IsLegal object q) same legal,
-    ),
-  )
-  is_tried (Err x) ls run done pending u t e p same_lines same_run none some h puts same legal = tt
+  is_tried (Ok is_legal) u run p variant same legal =
+      (run, (variant, subst (λ (q : Played A). IsTrue is_legal ↔ IsLegal object q) same legal))
+  is_tried (Err x) u run p variant same legal = tt
 
   -- ---- parts
+
+  -- the next variant's event is the same, or a later one
+  pub before_next : (place most each : ℕ) → 0 < each → most ≤ place / each → most ≤ (place + 1) / each
+  before_next place most each some le =
+      let whole : most * each ≤ place = (le-div_iff_mul-le {k = each} {x = most} {y = place} some).0 le in
+      (le-div_iff_mul-le {k = each} {x = most} {y = place + 1} some).1 (omega (arith, whole))
 
   -- of none of the variants
   pub tried_none : (a : ℕ) → AreTriedIn object group lines a a None

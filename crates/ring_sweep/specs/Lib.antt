@@ -1,5 +1,5 @@
+pub mod Copies
 pub mod Gaps
 pub mod Legal
-pub mod Stages
 pub mod Swept
 pub mod Variants

@@ -1,13 +1,13 @@
 //! Where something that is put into a script stands among its lines.
 
-ghost use Rattle.std.specs.Prelude.{◌≡◌, ◌+◌, ◌≤◌, None, Some, IfOk, IfErr, OnOk, replicate};
+ghost use Rattle.std.specs.Prelude.{◌≡◌, IfOk, IfErr};
 ghost use Rattle.ring_base.specs.declared.fault.Fault.TheVariants.{Memory};
 ghost use Rattle.ring_script.specs.Fits.{AreFit};
 ghost use Rattle.ring_sweep.specs.Gaps.{IsGap};
 
-use crate::variant::Variant;
+use crate::forerunner::Forerunner;
 use ring_base::Fault;
-use ring_console::{Line, Script};
+use ring_console::Script;
 use ring_object::Object;
 
 /// A place among the steps of a script: behind so many of its lines, and behind so many turns of the next, where that is a pump.
@@ -29,19 +29,11 @@ pub(crate) fn gap_of<O: Object>(
     ensures ok { IfOk result (IsGap O.sequential script.now.nodes script.now.lines.items before) }
     ensures refused { IfErr result (λ fault. fault ≡ Memory) }
 {
-    let mut run = Variant::<O>::new(alloc, script.nodes, None)?;
-    for (lines, numbered) in script.lines.iter().enumerate() {
-        if let Some(turns) = run.follow_until(&numbered.line, before)? {
-            return Ok(Gap {
-                lines,
-                turns,
-                events: run.done(),
-            });
-        }
-    }
+    let mut ahead = Forerunner::<O>::new(alloc, script.nodes)?;
+    ahead.go_to(script, before)?;
     Ok(Gap {
-        lines: script.lines.len(),
-        turns: 0,
-        events: run.done(),
+        lines: ahead.lines,
+        turns: ahead.turns,
+        events: ahead.walk.done(),
     })
 }

@@ -1,6 +1,7 @@
 //! What becomes of a script where a node stops, or is cut off from all others, before any of its events.
 #![tactic(auto)]
 
+mod forerunner;
 mod gap;
 mod laws;
 mod legal;
@@ -9,7 +10,7 @@ mod rounds;
 mod spelling;
 mod sweeping;
 mod upset;
-mod variant;
+mod walk;
 
 pub use laws::{first_law, variants_law};
 pub use ring_console::{

@@ -5,11 +5,12 @@ ghost use Rattle.ring_base.specs.Processors.{IsProc};
 ghost use Rattle.ring_base.specs.declared.fault.Fault.TheVariants.{Memory};
 ghost use Rattle.ring_script.specs.Fits.{AreFit};
 ghost use Rattle.ring_shares.specs.Shares.{share_begin};
-ghost use Rattle.ring_sweep.specs.Variants.{AreTriedIn, IsTried, upset_at, first_illegal};
+ghost use Rattle.ring_sweep.specs.Gaps.{HasCome, left_of};
+ghost use Rattle.ring_sweep.specs.Variants.{AreTriedIn, IsDue, IsTried, upset_at, first_illegal};
 
+use crate::forerunner::Forerunner;
 use crate::legal::is_legal;
 use crate::upset::Upset;
-use crate::variant::Variant;
 use ring_base::Fault;
 use ring_console::Script;
 use ring_object::Object;
@@ -34,7 +35,7 @@ impl Part {
 }
 
 /// Runs the variants of a share of this part, of so many shares, in their order, and tells the first of them that is not legal. None
-/// where all are.
+/// where all are. The script itself is run once, up to the event of the last of them, and each variant as a copy of that.
 pub(crate) fn try_share<O: Object>(
     alloc: O::Alloc,
     script: &Script<O::Alloc>,
@@ -49,11 +50,13 @@ pub(crate) fn try_share<O: Object>(
 {
     let many = part.many();
     let mut illegal = None;
+    let mut ahead = Forerunner::<O>::new(alloc, script.nodes)?;
     let begin = share_begin(many, shares, share);
     let end = share_begin(many, shares, share.saturating_add(1));
     for place in begin..end {
         let upset = Upset::at(script.nodes.count(), part.from + place);
-        let is_legal = try_one::<O>(alloc, script, upset)?;
+        ahead.go_to(script, upset.before)?;
+        let is_legal = try_one(alloc, &ahead, script, upset)?;
         keep_first(
             &mut illegal,
             is_legal,
@@ -74,18 +77,19 @@ fn keep_first(first: &mut Option<Upset>, is_legal: bool, count: u8, place: u64)
     }
 }
 
-/// Runs the script's variant with this upset, and tells whether it is legal.
+/// Runs the script's variant with this upset, before whose event the run ahead stands, and tells whether it is legal.
 fn try_one<O: Object>(
     alloc: O::Alloc,
+    ahead: &Forerunner<O>,
     script: &Script<O::Alloc>,
     upset: Upset,
 ) -> Result<bool, Fault>
-    requires { AreFit script.now.lines.items }
+    requires fit { AreFit script.now.lines.items }
+    requires come { HasCome O.sequential script.now.nodes script.now.lines.items ahead.now.lines ahead.now.turns ahead.now.walk.done ahead.now.walk.run }
+    requires due { IsDue O.sequential (left_of script.now.lines.items ahead.now.lines ahead.now.turns) ahead.now.walk.done upset.before ahead.now.walk.run }
     ensures ok { IfOk result (IsTried O.sequential script.now.nodes script.now.lines.items upset) }
     ensures refused { IfErr result (λ fault. fault ≡ Memory) }
 {
-    let mut variant = Variant::<O>::new(alloc, script.nodes, Some(upset))?;
-    variant.follow(script.lines.as_slice())?;
-    variant.put_in()?;
+    let variant = ahead.variant(script, upset)?;
     is_legal(alloc, variant.world())
 }

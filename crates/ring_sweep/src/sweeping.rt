@@ -17,7 +17,7 @@ ghost use Rattle.ring_sweep.specs.Variants.{HasEvents, AreTried};
 use crate::part::{Part, try_share};
 use crate::rounds::try_by_threads;
 use crate::upset::{Told, Upset};
-use crate::variant::Variant;
+use crate::walk::Walk;
 use ring_base::Fault;
 use ring_console::{Failure, Script, ShelfWords, Things, Vocabulary, report};
 use ring_object::Object;
@@ -250,7 +250,7 @@ fn count_events<O: Object>(alloc: O::Alloc, script: &Script<O::Alloc>) -> Result
     ensures ok { IfOk result (HasEvents O.sequential script.now.nodes script.now.lines.items) }
     ensures refused { IfErr result (λ fault. fault ≡ Memory) }
 {
-    let mut whole = Variant::<O>::new(alloc, script.nodes, None)?;
+    let mut whole = Walk::<O>::new(alloc, script.nodes)?;
     whole.follow(script.lines.as_slice())?;
     Ok(whole.done())
 }

@@ -10,7 +10,7 @@ ghost use Rattle.ring_token.specs.Histories.{unvisited, turn_by, with_turn, with
 
 use ring_base::{MAX, Past, Proc, RingId, past_of};
 use ring_wire::{Requests, Token};
-use std::alloc::{Allocator, Global};
+use std::alloc::{AllocError, Allocator, Global};
 use std::marker::{Model, PhantomData};
 
 /// All that a member did with the tokens of one ring, as contracts see it. No value of it is made.
@@ -132,6 +132,21 @@ impl<A: Allocator + Copy> Visit<A> {
         let past = past_of(&(&self.past, mark));
         self.safe = self.safe.max(mark);
         self.past = past;
+    }
+}
+
+impl<A: Allocator + Copy> Clone for Visit<A> {
+    ghost is_clone = { λ visit copy. copy ≡ visit };
+
+    fn clone(&self) -> Result<Visit<A>, AllocError> {
+        Ok(Visit {
+            me: self.me,
+            ring: self.ring,
+            next: self.next,
+            aru: self.aru,
+            safe: self.safe,
+            past: self.past.clone()?,
+        })
     }
 }
 

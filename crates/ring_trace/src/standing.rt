@@ -10,6 +10,7 @@ pub(crate) struct Standing {
     pub ring: RingId,
     pub members: ProcSet,
     pub committed: u64,
+    pub trimmed: u64,
 }
 
 impl Standing {
@@ -20,6 +21,7 @@ impl Standing {
             ring: RingId { seq: 0, rep: node },
             members: ProcSet::only(node),
             committed: 0,
+            trimmed: 0,
         }
     }
 
@@ -29,7 +31,7 @@ impl Standing {
     }
 
     /// How the node stands, as changes since its opening.
-    pub fn changes(&self, votes: &Votes) -> [Change; 2] {
+    pub fn changes(&self, votes: &Votes) -> [Change; 3] {
         let first = match self.state {
             State::Operational => Change::Ring {
                 ring: self.ring,
@@ -38,7 +40,11 @@ impl Standing {
             },
             state => Change::State(state),
         };
-        [first, Change::Committed(self.committed)]
+        [
+            first,
+            Change::Committed(self.committed),
+            Change::Trimmed(self.trimmed),
+        ]
     }
 
     /// Why a call waits at the node, which has sent it or not.

@@ -292,7 +292,8 @@ impl<O: Object> Tracer<O> {
         };
         let world = self.run.world();
         let node = world.node(world.fixed().proc(sight.node.number())?);
-        let (state, ring, committed) = (node.state(), node.ring(), node.committed_len());
+        let (state, ring) = (node.state(), node.ring());
+        let (committed, trimmed) = (node.committed_len(), node.trimmed());
         if ring != standing.ring {
             standing.members = node.members();
             self.changes.push(Change::Ring {
@@ -307,9 +308,13 @@ impl<O: Object> Tracer<O> {
         if committed != standing.committed {
             self.changes.push(Change::Committed(committed))?;
         }
+        if trimmed != standing.trimmed {
+            self.changes.push(Change::Trimmed(trimmed))?;
+        }
         standing.state = state;
         standing.ring = ring;
         standing.committed = committed;
+        standing.trimmed = trimmed;
         Ok(())
     }
 

@@ -103,6 +103,8 @@ impl<A: Allocator + Copy> Drawing<A> {
                 node,
                 length: *length,
             }),
+            Change::Trimmed(0) => Ok(()),
+            Change::Trimmed(_) => self.picture.add(Mark::Trimmed(node)),
         }
     }
 

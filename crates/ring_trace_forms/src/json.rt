@@ -39,6 +39,7 @@ enum ChangeValue {
     State(&'static str),
     Ring(RingValue),
     Committed(u64),
+    Trimmed(u64),
 }
 
 #[derive(Drop, Serialize)]
@@ -161,6 +162,7 @@ fn change_value(alloc: Global, change: &Change) -> Result<ChangeValue, Fault>
             }))
         }
         Change::Committed(length) => Ok(ChangeValue::Committed(*length)),
+        Change::Trimmed(length) => Ok(ChangeValue::Trimmed(*length)),
     }
 }
 

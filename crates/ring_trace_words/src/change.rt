@@ -19,6 +19,8 @@ pub enum Change {
     },
     /// So much of the node's log is committed now.
     Committed(u64),
+    /// The node keeps so many places, the log's first, as a snapshot now: it dropped them, or restored the snapshot.
+    Trimmed(u64),
 }
 
 /// The change, in words that follow the node.
@@ -44,6 +46,7 @@ impl fmt::Display for Change {
                 )
             }
             Change::Committed(length) => write!(f, "has committed {length}"),
+            Change::Trimmed(length) => write!(f, "keeps its first {length} as a snapshot"),
         }
     }
 }

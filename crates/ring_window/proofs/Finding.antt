@@ -1,5 +1,5 @@
 -- What is held under a number is found, what is found is held, and with more messages all is held that was.
-use Rattle.std.proofs.Common.{◌≡◌, ℕ, inl, inr, true, false, List, [], ◌∷◌, Some, ◌∙◌, Option, refl, ◌++◌}
+use Rattle.std.proofs.Common.{◌≡◌, ℕ, inl, inr, true, List, [], ◌∷◌, Some, ◌∙◌, Option, refl, ◌++◌}
 use Rattle.std.proofs.lemmas.Bool.{cond-true, cond-false, cases_Bool, or_cases, false≢true, both_ways, cond_both, or_right}
 use Rattle.ring_base.specs.declared.ring_id.RingId.{RingId}
 use Rattle.ring_wire.specs.declared.message.Message.{Message}

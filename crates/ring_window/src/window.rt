@@ -11,7 +11,7 @@ use crate::held_bits::HeldBits;
 use crate::history::{nothing_held, one_more};
 use ring_base::{Fault, Past, RingId, WINDOW};
 use ring_wire::{Message, Requests};
-use std::alloc::{Allocator, Global};
+use std::alloc::{AllocError, Allocator, Global};
 use std::marker::Model;
 
 /// As many messages are kept as the window has numbers.
@@ -186,6 +186,22 @@ impl<A: Allocator + Copy> Window<A> {
     }
 }
 
+impl<A: Allocator + Copy> Clone for Window<A> {
+    ghost is_clone = { λ window copy. copy ≡ window };
+
+    fn clone(&self) -> Result<Window<A>, AllocError> {
+        Ok(Window {
+            ring: self.ring,
+            mark: self.mark,
+            front: self.front,
+            highest: self.highest,
+            bits: self.bits,
+            places: copied_places(&self.places)?,
+            past: self.past.clone()?,
+        })
+    }
+}
+
 /// The place of a number's message.
 fn place_of(number: u64) -> usize
     requires { 1 ≤ number }
@@ -219,6 +235,15 @@ fn empty_places<A: Allocator + Copy>(alloc: A) -> Result<Vec<Option<Message<A>>,
         places.push(None)?;
     }
     Ok(places)
+}
+
+/// The same messages in the same places.
+fn copied_places<A: Allocator + Copy>(
+    places: &Vec<Option<Message<A>>, A>,
+) -> Result<Vec<Option<Message<A>>, A>, AllocError>
+    ensures { IfOk result (λ copy. copy.items ≡ places.now.items) }
+{
+    places.clone()
 }
 
 /// Puts a message into its place.

@@ -1,5 +1,5 @@
--- Calls of events that keep the limits of snapshots keep those of frames; a copy of such an event is one, and so is each event that may be a step.
-use Rattle.std.proofs.Common.{◌≡◌, ℕ, List, Some, sym, subst}
+-- Calls of events that keep the limits of snapshots keep those of frames; so does each event that may be a step.
+use Rattle.std.proofs.Common.{◌≡◌, ℕ, List, Some}
 use Rattle.std.specs.List.{AllByRecursion}
 use Rattle.ring_base.proofs.Each.{each-weaker}
 use Rattle.ring_rules.specs.declared.event.Event.{Event}
@@ -7,7 +7,7 @@ use Rattle.ring_rules.specs.declared.event.Event.TheVariants.{Issue, Deliver, No
 use Rattle.ring_rules.specs.WorldLimits.{EventFits}
 use Rattle.ring_rules.specs.Worlds.{World}
 use Rattle.ring_order_proof.specs.Linear.{EventKeeps}
-use Rattle.ring_world.specs.Played.{IsCopy, step_in}
+use Rattle.ring_world.specs.Played.{step_in}
 
 event_fits : {A : Type 0} (e : Event A) → EventKeeps e → EventFits e
 event_fits (Issue i c) keeps = keeps.fits
@@ -18,13 +18,6 @@ event_fits (Stop i) keeps = tt
 
 pub all_fit : {A : Type 0} (events : List (Event A)) → AllByRecursion EventKeeps events → AllByRecursion EventFits events
 all_fit events keep = each-weaker EventKeeps EventFits event_fits events keep
-
-pub copy_keeps : {A : Type 0} (e d : Event A) → IsCopy e d → EventKeeps e → EventKeeps d
-copy_keeps (Issue i c) d copy keeps = subst EventKeeps (sym copy) keeps
-copy_keeps (Deliver i k) d copy keeps = subst EventKeeps (sym copy) tt
-copy_keeps (Noise i bytes) d copy keeps = subst EventKeeps (sym copy.1) tt
-copy_keeps (Timeout i kind) d copy keeps = subst EventKeeps (sym copy) tt
-copy_keeps (Stop i) d copy keeps = subst EventKeeps (sym copy) tt
 
 pub step_keeps : {A : Type 0} (w : World A) (e : Event A) (i : ℕ) → step_in w e ≡ Some i → EventKeeps e
 step_keeps w (Issue j c) i e = absurd (let q : ⊥ = cc e in q)

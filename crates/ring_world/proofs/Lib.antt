@@ -8,6 +8,7 @@
 -- WorldOfNodes: What the code keeps goes on telling the world, event by event.
 -- SubmitRefused: A submit is refused for no want of memory where it is refused whatever the memory, and room for many is room for fewer.
 -- FrameHanded: What is handed to a node is the frame that was sent to it, if any.
+-- Copying: What a copy of a world keeps is what the world keeps.
 -- Playing: A run goes on event by event, and only adds to what was.
 -- OutputsGrow: What the cores gave in a run goes on in a longer one.
 -- EventLimits: Calls of events that keep the limits of snapshots keep those of frames, as copies of events do.
@@ -29,6 +30,7 @@ pub mod Events
 pub mod NodePlaces
 pub mod WorldOfNodes
 pub mod FrameHanded
+pub mod Copying
 pub mod Playing
 pub mod OutputsGrow
 pub mod Opening

@@ -26,14 +26,14 @@ module _ {O A : Type 0} (object : Sequential O) (p : Played A) where
   stops_only : (e : Event A) (node : ℕ) (m : Played A) (es : List (Event A)) → es ≡ m.events → Goes object e p m
       → stopped_for_memory e es ≡ Some node → IsStoppedAt object e node p m
   stops_only (Deliver i k) node m es same (inl d) is =
-      let none : last_stop es ≡ None = stop_behind p.events d.kept es (same ∙ d.events) ∙ ap (λ (x : Event A). stop_of (Some x)) d.copy in
+      let none : last_stop es ≡ None = stop_behind p.events (Deliver i k) es (same ∙ d.events) in
       absurd (cc (none, is))
   stops_only (Deliver i k) node m es same (inr (inl s)) is =
       let some : last_stop es ≡ Some s.node = stop_behind p.events (Stop s.node) es (same ∙ s.events) in
       (s, cc (some, is))
   stops_only (Deliver i k) node m es same (inr (inr r)) is = absurd (cc (r.issues))
   stops_only (Timeout i kind) node m es same (inl d) is =
-      let none : last_stop es ≡ None = stop_behind p.events d.kept es (same ∙ d.events) ∙ ap (λ (x : Event A). stop_of (Some x)) d.copy in
+      let none : last_stop es ≡ None = stop_behind p.events (Timeout i kind) es (same ∙ d.events) in
       absurd (cc (none, is))
   stops_only (Timeout i kind) node m es same (inr (inl s)) is =
       let some : last_stop es ≡ Some s.node = stop_behind p.events (Stop s.node) es (same ∙ s.events) in

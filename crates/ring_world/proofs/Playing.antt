@@ -12,7 +12,7 @@ use Rattle.ring_world.specs.Played.{Played, world_of, Goes, Plays}
 module _ {O A : Type 0} (object : Sequential O) where
   -- how many were done is another matter
   pub goes_to : (e : Event A) (n : ℕ) (p q : Played A) → Goes object e p q → Goes object e p (record q { done = n })
-  goes_to e n p q (inl d) = inl (record { kept = d.kept; copy = d.copy; group = d.group; events = d.events; told = d.told })
+  goes_to e n p q (inl d) = inl (record { group = d.group; events = d.events; told = d.told })
   goes_to e n p q (inr (inl d)) = inr (inl (record { node = d.node; steps = d.steps; known = d.known; group = d.group; events = d.events; told = d.told }))
   goes_to e n p q (inr (inr d)) = inr (inr (record {
     node = d.node;
@@ -26,7 +26,7 @@ module _ {O A : Type 0} (object : Sequential O) where
   }))
 
   pub goes_from : (e : Event A) (n : ℕ) (p q : Played A) → Goes object e (record p { done = n }) q → Goes object e p q
-  goes_from e n p q (inl d) = inl (record { kept = d.kept; copy = d.copy; group = d.group; events = d.events; told = d.told })
+  goes_from e n p q (inl d) = inl (record { group = d.group; events = d.events; told = d.told })
   goes_from e n p q (inr (inl d)) = inr (inl (record { node = d.node; steps = d.steps; known = d.known; group = d.group; events = d.events; told = d.told }))
   goes_from e n p q (inr (inr d)) = inr
       (inr (record {
@@ -65,7 +65,7 @@ module _ {O A : Type 0} (object : Sequential O) where
     pub events : q.events ≡ p.events ++ later
 
   goes_longer : (e : Event A) (p q : Played A) → Goes object e p q → IsLonger p q
-  goes_longer e p q (inl d) = record { later = d.kept ∷ []; group = d.group; events = d.events }
+  goes_longer e p q (inl d) = record { later = e ∷ []; group = d.group; events = d.events }
   goes_longer e p q (inr (inl d)) = record { later = Stop d.node ∷ []; group = d.group; events = d.events }
   goes_longer e p q (inr (inr d)) = record { later = []; group = d.group; events = d.events ∙ sym (append-nil p.events) }
 

@@ -22,7 +22,7 @@ use Rattle.ring_world.proofs.SubmitRefused.{not_memory}
 use Rattle.ring_base.specs.Fault.{fault_number}
 use Rattle.ring_payload.specs.declared.call.Call.{Call}
 use Rattle.ring_rules.specs.declared.event.Event.{Event}
-use Rattle.ring_rules.specs.declared.event.Event.TheVariants.{Issue, Deliver, Noise, Timeout, Stop}
+use Rattle.ring_rules.specs.declared.event.Event.TheVariants.{Issue, Stop}
 use Rattle.ring_rules.specs.declared.item.Item.{Item}
 use Rattle.ring_rules.specs.declared.item.Item.TheVariants.{Issue as IssuedItem}
 use Rattle.ring_rules.specs.declared.told.Told.{Told}
@@ -33,24 +33,15 @@ use Rattle.ring_rules.proofs.NodeChanges.{stopped_same}
 use Rattle.ring_order_proof.specs.Linear.{EventKeeps}
 use Rattle.ring_order_proof.proofs.Orderly.{run-more}
 use Rattle.ring_order_proof.proofs.Undropped.{all-undropping}
-use Rattle.ring_world.specs.Played.{Played, told_of_events, IsCopy, world_of, told_behind, step_in, runs_in, Goes}
+use Rattle.ring_world.specs.Played.{Played, told_of_events, world_of, told_behind, step_in, runs_in, Goes}
 use Rattle.ring_world.specs.Spares.{Spares, AllLeft, Holds, after_answers}
 use Rattle.ring_world.specs.Keeping.{KeepsCopies, IsWorldKept, IsWorld}
 use Rattle.ring_world.proofs.Spared.{set-length, holds-more}
-use Rattle.ring_world.proofs.EventLimits.{copy_keeps, step_keeps}
+use Rattle.ring_world.proofs.EventLimits.{step_keeps}
 use Rattle.ring_world.proofs.Events.{tells_answers, tells_refusal, tells_memory}
 use Rattle.ring_world.proofs.StoppedNode.{silent}
 use Rattle.ring_world.proofs.AnsweredCopies.{step-goes}
 use Rattle.ring_world.proofs.NodePlaces.{Stands, known, node_is, copies_are, copies_set, copies_same, put_kept, same_nodes}
-
--- Copies of events
-
-copy_happens : {O A : Type 0} (object : Sequential O) (w : World A) (e d : Event A) → IsCopy e d → happens object w d ≡ happens object w e
-copy_happens object w (Issue i c) d copy = ap (happens object w) copy
-copy_happens object w (Deliver i k) d copy = ap (happens object w) copy
-copy_happens object w (Noise i bytes) d copy = ap (happens object w) copy.1
-copy_happens object w (Timeout i kind) d copy = ap (happens object w) copy
-copy_happens object w (Stop i) d copy = ap (happens object w) copy
 
 -- what is told
 told_more : {O A : Type 0} (object : Sequential O) (w v : World A) (e : Event A) (more : List (Told A)) → happens object w e ≡ v
@@ -65,38 +56,36 @@ module _ {O A : Type 0} {object : Sequential O} where
   -- an event more
   tells : {group : Group} {events es : List (Event A)} {nodes nodes' : List (Node A)} {spares spares' : List (Spares A)}
       {frames frames' : List (Carried A)} {history history' : List (Item A)} {told told' : List (Told A)} {longest longest' : List (Call A)}
-      {v : World A} (e d : Event A) → IsWorld object group events nodes spares frames history told longest → IsCopy e d → EventKeeps e →
+      {v : World A} (e d : Event A) → IsWorld object group events nodes spares frames history told longest → d ≡ e → EventKeeps e →
       happens object (run object (world_opening group) events) e ≡ v → v.group ≡ (run object (world_opening group) events).group →
       IsWorldKept v nodes' spares' frames' history' told' longest' → es ≡ events ++ d ∷ [] →
       IsWorld object group es nodes' spares' frames' history' told' longest'
   tells {group} {events} {nodes'} {spares'} {frames'} {history'} {told'} {longest'} {v} e d h copy fits is same kept es_is =
       let opening = world_opening group in
       let next : run object opening (events ++ d ∷ []) ≡ v =
-      run-more object opening events d ∙ copy_happens object (run object opening events) e d copy ∙ is in
+      run-more object opening events d ∙ ap (happens object (run object opening events)) copy ∙ is in
       rw es_is record {
         kept = subst (λ (x : World A). IsWorldKept x nodes' spares' frames' history' told' longest') (sym next) kept;
         same = ap (λ (x : World A). x.group) next ∙ same ∙ h.same;
-        fit = each-push EventKeeps events d h.fit (copy_keeps e d copy fits);
+        fit = each-push EventKeeps events d h.fit (subst EventKeeps (sym copy) fits);
         few = h.few;
       }
 
   is_done : {p old : Played A} {es : List (Event A)} {ts : List (Told A)} {done : ℕ} {v : World A} (e d : Event A) (more : List (Told A)) → p ≡ old
-      → IsCopy e d → happens object (world_of object p) e ≡ v → v.told ≡ (world_of object p).told ++ more →
+      → d ≡ e → happens object (world_of object p) e ≡ v → v.told ≡ (world_of object p).told ++ more →
       es ≡ p.events ++ d ∷ [] → ts ≡ p.told ++ more → Goes object e old (record { group = p.group; events = es; told = ts; done = done })
   is_done {p} {es = es} {ts = ts} {done = done} {v = v} e d more was copy is t es_is ts_is =
       let q : Played A = record { group = p.group; events = es; told = ts; done = done } in
       subst (λ (r : Played A). Goes object e r q) was (inl (record {
-        kept = d;
-        copy = copy;
         group = refl;
-        events = es_is;
+        events = es_is ∙ ap (λ (x : Event A). p.events ++ x ∷ []) copy;
         told = ts_is ∙ ap (λ xs. p.told ++ xs) (sym (told_more object (world_of object p) v e more is t));
       }))
 
   -- An event that changes nothing
 
   module _ {p old : Played A} {es : List (Event A)} (e d : Event A) (was : p ≡ old)
-      (same : happens object (world_of object old) e ≡ world_of object old) (copy : IsCopy e d) (es_is : es ≡ p.events ++ d ∷ []) where
+      (same : happens object (world_of object old) e ≡ world_of object old) (copy : d ≡ e) (es_is : es ≡ p.events ++ d ∷ []) where
     pub idle_world : {nodes : List (Node A)} {spares : List (Spares A)} {frames : List (Carried A)} {history : List (Item A)} {longest : List (Call A)}
         → EventKeeps e → IsWorld object p.group p.events nodes spares frames history p.told longest
         → IsWorld object p.group es nodes spares frames history p.told longest
@@ -157,7 +146,7 @@ module _ {O A : Type 0} {object : Sequential O} {p old : Played A} {nodes : List
       answers_left = subst (AllLeft s.calls) (sym gives.answers) step_left.0
 
       pub step_world : {es : List (Event A)} {fs : List (Carried A)} {is : List (Item A)} {ts : List (Told A)} {ls : List (Call A)} (d : Event A)
-          (s' : Spares A) → IsCopy e d
+          (s' : Spares A) → d ≡ e
           → step_in (world_of object old) e ≡ Some i → es ≡ p.events ++ d ∷ [] → s'.calls ≡ after_answers s.calls answered
           → fs ≡ frames ++ carried i sent → is ≡ history ++ items_of answered → ts ≡ p.told ++ told_by i answered
           → ls ≡ longest ++ calls_past (length longest) (node_kept after).committed committed
@@ -176,7 +165,7 @@ module _ {O A : Type 0} {object : Sequential O} {p old : Played A} {nodes : List
           ∙ ap (λ xs. longest ++ calls_past (length longest) (node_kept st.node).committed xs) gives.committed_is))
           (copies_set here after s' keeps) (set-length spares m s')) es_is
 
-      pub step_goes : {es : List (Event A)} {ts : List (Told A)} {done : ℕ} (d : Event A) → IsCopy e d → es ≡ p.events ++ d ∷ []
+      pub step_goes : {es : List (Event A)} {ts : List (Told A)} {done : ℕ} (d : Event A) → d ≡ e → es ≡ p.events ++ d ∷ []
           → ts ≡ p.told ++ told_by i answered → Goes object e old (record { group = p.group; events = es; told = ts; done = done })
       step_goes d copy es_is ts_is = is_done e d (told_by i (node_step object (w.nodes i) input).answers) here.was copy step_is refl es_is
           (ts_is ∙ ap (λ xs. p.told ++ told_by i xs) gives.answers)
@@ -212,7 +201,7 @@ module _ {O A : Type 0} {object : Sequential O} {p old : Played A} {nodes : List
   module _ {n : Node A} {fault : Fault} (e : Event A) (found : n ≡ get_or nodes m n)
       (refused : fault ≡ (if is_stopped n.core.state then StoppedFault else Memory)) where
     -- for it had stopped, and is what it was
-    module _ (d : Event A) (input : Input A) (stopped : fault ≡ StoppedFault) (copy : IsCopy e d)
+    module _ (d : Event A) (input : Input A) (stopped : fault ≡ StoppedFault) (copy : d ≡ e)
         (same : happens object (world_of object old) e ≡ stepped object (world_of object old) i input) where
       silent_is : happens object w e ≡ stopped_if true w i
       silent_is =
@@ -263,9 +252,9 @@ module _ {O A : Type 0} {object : Sequential O} {p old : Played A} {nodes : List
 
   -- A call is submitted
 
-  module _ {n : Node A} {e : Event A} {c : Call A} (d : Event A) (event : e ≡ Issue i c) (copied : IsCopy e d) (found : n ≡ get_or nodes m n) where
-    copy : IsCopy (Issue i c) d
-    copy = subst (λ (x : Event A). IsCopy x d) event copied
+  module _ {n : Node A} {e : Event A} {c : Call A} (d : Event A) (event : e ≡ Issue i c) (copied : d ≡ e) (found : n ≡ get_or nodes m n) where
+    copy : d ≡ Issue i c
+    copy = copied ∙ event
 
     goes : (q : Played A) → Goes object (Issue i c) old q → Goes object e old q
     goes q g = subst (λ (x : Event A). Goes object x old q) (sym event) g

@@ -1,6 +1,6 @@
 -- What a world has done since its opening, and how a run goes on from it: each event is done, or stands as a stop where memory was refused to its step, or
 -- is left out where memory was refused to its submit. The book and the threads, rules 1 to 8, of docs/PROTOCOL.md.
-use Rattle.std.specs.Prelude.{◌≡◌, ℕ, Bool, true, false, not, ◌==◌, ◌&&◌, if◌then◌else◌, ◌⊎◌, Vec, List, [], ◌∷◌, ◌++◌, length, drop, filter}
+use Rattle.std.specs.Prelude.{◌≡◌, ℕ, Bool, true, false, not, ◌==◌, ◌&&◌, if◌then◌else◌, ◌⊎◌, List, [], ◌∷◌, ◌++◌, length, drop, filter}
 use Rattle.std.specs.Prelude.{Option, Some, None}
 use Rattle.ring_base.specs.Group.{Group}
 use Rattle.ring_base.specs.Processors.{has}
@@ -51,14 +51,6 @@ step_in w (Issue i c) = None
 step_in w (Noise i bytes) = None
 step_in w (Stop i) = None
 
--- a copy of an event is the event; of noise it has the same bytes
-abbrev pub IsCopy : {A : Type 0} → Event A → Event A → Type 0
-IsCopy {A} (Noise i bytes) d = (copy : Vec ℕ A) × (d ≡ Noise i copy) × (copy.items ≡ bytes.items)
-IsCopy (Issue i c) d = d ≡ Issue i c
-IsCopy (Deliver i k) d = d ≡ Deliver i k
-IsCopy (Timeout i kind) d = d ≡ Timeout i kind
-IsCopy (Stop i) d = d ≡ Stop i
-
 module _ {O : Type 0} (object : Sequential O) where
   -- the world: the run of all its events
   abbrev pub world_of : {A : Type 0} → Played A → World A
@@ -68,12 +60,10 @@ module _ {O : Type 0} (object : Sequential O) where
   abbrev pub told_behind : {A : Type 0} → World A → Event A → List (Told A)
   told_behind w e = drop (length w.told) (happens object w e).told
 
-  -- the event is done: a copy of it is kept
+  -- the event is done
   pub record IsDone {A : Type 0} (e : Event A) (p q : Played A) : Type 0 where
-    pub kept : Event A
-    pub copy : IsCopy e kept
     pub group : q.group ≡ p.group
-    pub events : q.events ≡ p.events ++ kept ∷ []
+    pub events : q.events ≡ p.events ++ e ∷ []
     pub told : q.told ≡ p.told ++ told_behind (world_of p) e
 
   -- memory was refused to the step that the event is, of a node that ran: it stands as a stop of that node

@@ -12,7 +12,7 @@ use bytes::BytesMut;
 use ring_base::{FRAME_BYTES, Fault, Past, Proc, ProcSet, past_of, told};
 use ring_layout::Encode;
 use ring_wire::{Frame, one_spelling_law, short_law, spelling_law};
-use std::alloc::{Allocator, Global};
+use std::alloc::{AllocError, Allocator, Global};
 use std::marker::{Model, PhantomData};
 
 /// So many frames a step sends at most.
@@ -140,6 +140,19 @@ impl<A: Allocator + Copy> Frames<A> {
             Some(mark) => Some((mark.from, mark.to)),
             None => None,
         }
+    }
+}
+
+/// A copy has the same frames.
+impl<A: Allocator + Copy> Clone for Frames<A> {
+    ghost is_clone = { λ frames copy. copy.frames ≡ frames.frames };
+
+    fn clone(&self) -> Result<Frames<A>, AllocError> {
+        Ok(Frames {
+            bytes: self.bytes.clone()?,
+            marks: self.marks.clone()?,
+            past: self.past.clone()?,
+        })
     }
 }
 

@@ -17,5 +17,5 @@ pub use pump::Pump;
 pub use refusals::stopped_for_memory_law;
 pub use ring_node::Node;
 pub use ring_order_proof::laws::linear_law;
-pub use ring_rules::{Event, Item, Told};
+pub use ring_rules::{Event, Item, Noise, Told};
 pub use world::World;

@@ -6,11 +6,10 @@ ghost use Rattle.ring_session.specs.Deduplicated.{deduplicated};
 ghost use Rattle.ring_rules.specs.Worlds.{calls_past};
 ghost use Rattle.ring_world.specs.Longest.{calls_of};
 
-use crate::copies::copied_call;
 use ring_base::Fault;
 use ring_payload::Call;
-use ring_session::Effects;
-use std::alloc::{Allocator, Global};
+use ring_session::{Effects, copy_of};
+use std::alloc::{AllocError, Allocator, Global};
 use std::marker::Model;
 
 /// The calls that a step newly committed, as it gave them, and from which of them on they are new: those before it were
@@ -38,6 +37,17 @@ impl<A: Allocator + Copy> Segment<A> {
         ensures { result.now ≡ self.now }
     {
         &self.calls[self.from..]
+    }
+}
+
+impl<A: Allocator + Copy> Clone for Segment<A> {
+    ghost is_clone = { λ segment copy. copy ≡ segment };
+
+    fn clone(&self) -> Result<Segment<A>, AllocError> {
+        Ok(Segment {
+            calls: self.calls.clone()?,
+            from: self.from,
+        })
     }
 }
 
@@ -117,6 +127,18 @@ impl<A: Allocator + Copy> Longest<A> {
     }
 }
 
+/// A copy has the same calls.
+impl<A: Allocator + Copy> Clone for Longest<A> {
+    ghost is_clone = { λ longest copy. copy.calls ≡ longest.calls };
+
+    fn clone(&self) -> Result<Longest<A>, AllocError> {
+        Ok(Longest {
+            segments: self.segments.clone()?,
+            len: self.len,
+        })
+    }
+}
+
 /// A copy of the first so many calls of the segments, with room for so many, or `Memory`.
 fn copied_first<A: Allocator + Copy>(
     alloc: A,
@@ -162,7 +184,7 @@ fn copy_upto<A: Allocator + Copy>(
         if copies.len() >= many {
             return Ok(());
         }
-        let copy = copied_call(call)?;
+        let copy = copy_of(call)?;
         copies.push(copy)?;
     }
     Ok(())

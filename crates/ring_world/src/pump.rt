@@ -1,6 +1,6 @@
 //! A world with the copies of its frames.
 
-ghost use Rattle.std.specs.Prelude.{◌≡◌, OnOk, OnErr, IfErr, slice_get};
+ghost use Rattle.std.specs.Prelude.{◌≡◌, OnOk, OnErr, IfOk, IfErr, slice_get};
 ghost use Rattle.ring_base.specs.declared.fault.Fault.TheVariants.{Memory};
 ghost use Rattle.ring_rules.specs.WorldLimits.{EventFits};
 ghost use Rattle.ring_world.specs.Pairs.{frames_of, all_pairs, Takes};
@@ -47,6 +47,20 @@ impl<O: Object> Pump<O> {
             pairs,
             next: Vec::new(alloc),
         }
+    }
+
+    /// Another pump whose world has done the same and told the same, with the same copies of frames under way, or `Memory`. From there
+    /// each goes on by itself.
+    pub fn copy(&self) -> Result<Pump<O>, Fault>
+        ensures ok { IfOk result (λ copy. copy ≡ self.now) }
+        ensures refused { IfErr result (λ fault. fault ≡ Memory) }
+    {
+        let world = self.world.copy()?;
+        Ok(Pump {
+            world,
+            pairs: self.pairs,
+            next: Vec::new(*self.next.allocator()),
+        })
     }
 
     /// The world.

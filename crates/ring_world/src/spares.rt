@@ -8,7 +8,7 @@ ghost use Rattle.ring_world.specs.Spares.{IsLeft, without};
 use ring_base::Fault;
 use ring_payload::Call;
 use ring_session::Ticket;
-use std::alloc::{Allocator, Global};
+use std::alloc::{AllocError, Allocator, Global};
 use std::marker::Model;
 
 /// By ticket of a node, a second copy of its call until the ticket is answered.
@@ -65,5 +65,16 @@ impl<A: Allocator + Copy> Spares<A> {
             Some(spare) => spare,
             None => unreachable!(),
         }
+    }
+}
+
+/// A copy has the same copies of calls.
+impl<A: Allocator + Copy> Clone for Spares<A> {
+    ghost is_clone = { λ spares copy. copy.calls ≡ spares.calls };
+
+    fn clone(&self) -> Result<Spares<A>, AllocError> {
+        Ok(Spares {
+            calls: self.calls.clone()?,
+        })
     }
 }

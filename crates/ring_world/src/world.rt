@@ -26,7 +26,7 @@ ghost use Rattle.ring_world.specs.Played.{Played, played_opening, told_of_events
 ghost use Rattle.ring_world.specs.Stored.{HasRoom, text_of};
 ghost use Rattle.ring_world.specs.Spares.{Spares as ToldSpares};
 
-use crate::copies::{copied_call, copied_event};
+use crate::copies::{copied_event, copied_events, copied_history, copied_told};
 use crate::frames::Frames;
 use crate::longest::Longest;
 use crate::order::most_effects;
@@ -41,6 +41,7 @@ use ring_order_proof::laws::linear_law;
 use ring_order_proof::longest_laws::longest_law;
 use ring_payload::Call;
 use ring_rules::{Event, Item, Told};
+use ring_session::copy_of;
 use ring_wire::Frame;
 use std::alloc::Allocator;
 use std::marker::Model;
@@ -95,6 +96,33 @@ impl<O: Object> World<O> {
             longest: Longest::new(alloc),
             events: Vec::new(alloc),
             done: 0,
+        })
+    }
+
+    /// Another world that has done the same and told the same, or `Memory`. From there each goes on by itself: so a caller can try what
+    /// would come of events, and go on with this one.
+    pub fn copy(&self) -> Result<World<O>, Fault>
+        ensures ok { IfOk result (λ copy. copy ≡ self.now) }
+        ensures refused { IfErr result (λ fault. fault ≡ Memory) }
+    {
+        let nodes = copied_nodes(self.alloc, &self.nodes)?;
+        let spares = self.spares.clone()?;
+        let frames = self.frames.clone()?;
+        let history = copied_history(&self.history)?;
+        let told = copied_told(&self.told)?;
+        let longest = self.longest.clone()?;
+        let events = copied_events(&self.events)?;
+        Ok(World {
+            alloc: self.alloc,
+            fixed: self.fixed,
+            nodes,
+            spares,
+            frames,
+            history,
+            told,
+            longest,
+            events,
+            done: self.done,
         })
     }
 
@@ -400,8 +428,8 @@ impl<O: Object> World<O> {
             return self.idle(event);
         }
         let kept = copied_event(event)?;
-        let copy = copied_call(call)?;
-        let spare = copied_call(call)?;
+        let copy = copy_of(call)?;
+        let spare = copy_of(call)?;
         make_room(
             &mut self.events,
             &mut self.told,
@@ -475,6 +503,22 @@ fn opened<O: Object>(
         nodes.push(node)?;
     }
     Ok(nodes)
+}
+
+/// Copies of the nodes, or `Memory`.
+fn copied_nodes<O: Object>(
+    alloc: O::Alloc,
+    nodes: &[Node<O>],
+) -> Result<Vec<Node<O>, O::Alloc>, Fault>
+    ensures ok { IfOk result (λ copies. copies.items ≡ nodes.now) }
+    ensures refused { IfErr result (λ fault. fault ≡ Memory) }
+{
+    let mut copies = Vec::with_capacity(alloc, nodes.len())?;
+    for node in nodes {
+        let copy = node.copy()?;
+        copies.push(copy)?;
+    }
+    Ok(copies)
 }
 
 /// For each of the nodes, no copies yet, or `Memory`.

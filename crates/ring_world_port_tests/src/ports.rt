@@ -217,8 +217,8 @@ fn refused_once<O: Object>(
     Ok((refused, before, events(shared)?))
 }
 
-/// The same of a submit whose copy of the call is refused memory.
-fn refused_copy<O: Object>(
+/// The same of a submit of a call whose memory is at its end once the call is made.
+fn submitted_from_full_memory<O: Object>(
     heap: O::Alloc,
     ample: O::Alloc,
 ) -> Result<(Refused, usize, usize), Fault> {
@@ -227,12 +227,12 @@ fn refused_copy<O: Object>(
     refused_once(&shared, &call)
 }
 
-/// A submit whose copy memory was refused to is refused as such, and nothing is issued.
+/// A call is made with two requests for memory, and its copy that a submit hands on takes none.
 #[test]
-fn a_copy_without_memory_is_refused(rt: HostRuntime) -> Result<(), Fail> {
+fn a_submitted_copy_takes_no_memory(rt: HostRuntime) -> Result<(), Fail> {
     let ample = Refusing::new(rt.alloc(), u64::MAX);
-    let heap = Refusing::new(rt.alloc(), 1);
-    let refused = (Some(Fault::Memory), Some(11));
-    assert!(rt; refused_copy::<Counters<&Refusing>>(&heap, &ample)? == (refused, 0, 1));
+    let heap = Refusing::new(rt.alloc(), 2);
+    let none = (None, None);
+    assert!(rt; submitted_from_full_memory::<Counters<&Refusing>>(&heap, &ample)? == (none, 1, 2));
     Ok(())
 }

@@ -8,7 +8,7 @@ ghost use Rattle.ring_payload.specs.Calls.{CallFits};
 use ring_base::{Fault, Fixed, Kind, MOST_PROCESSORS, Proc};
 use ring_payload::Call;
 use ring_things::Counters;
-use ring_world::Event;
+use ring_world::{Event, Noise};
 use std::alloc::Allocator;
 
 /// What is done with a world. The first number names a processor, of the group or not.
@@ -58,7 +58,8 @@ fn issue<A: Allocator + Copy>(alloc: A, node: Proc, number: u16) -> Result<Event
 fn noise<A: Allocator + Copy>(alloc: A, node: Proc) -> Result<Event<A>, Fault>
     ensures { IfOk result (λ event. EventFits event) }
 {
-    Ok(Event::Noise(node, vec![in alloc; 0x54, 0x52]?))
+    let bytes = vec![in alloc; 0x54, 0x52]?;
+    Ok(Event::Noise(node, Noise::from_vec(bytes)))
 }
 
 /// The event of a line that is one.

@@ -103,8 +103,20 @@ fn refused_copies<O: Object>(world: &World<O>) -> Result<u64, Fault> {
     }
 }
 
-/// How often memory was refused to a world that does the short run and tells its order and a committed log, after so many
-/// refusals.
+/// How often memory was refused to a copy of the world.
+fn refused_worlds<O: Object>(world: &World<O>) -> Result<u64, Fault> {
+    match world.copy() {
+        Ok(_) => Ok(0),
+        Err(Fault::Memory) => {
+            world.copy()?;
+            Ok(1)
+        }
+        Err(fault) => Err(fault),
+    }
+}
+
+/// How often memory was refused to a world that does the short run, is copied, and then tells its order and a committed log, after so
+/// many refusals.
 fn refused_then<O: Object>(
     world: &mut World<O>,
     ample: O::Alloc,
@@ -112,10 +124,12 @@ fn refused_then<O: Object>(
 ) -> Result<u64, Fault> {
     let runs = refused_runs(world, ample)?;
     let events = refused_events(world)?;
+    let worlds = refused_worlds(world)?;
     let orders = refused_orders(world)?;
     let copies = refused_copies(world)?;
-    let all = before.saturating_add(runs).saturating_add(events);
-    Ok(all.saturating_add(orders).saturating_add(copies))
+    let done = before.saturating_add(runs).saturating_add(events);
+    let copied = worlds.saturating_add(copies);
+    Ok(done.saturating_add(orders).saturating_add(copied))
 }
 
 /// The same of a world whose opening was refused memory once.

@@ -50,5 +50,5 @@ pub use ring_things::{
 pub use ring_trace::{Format, Replies, ReplyForm, Selection, TraceOptions, trace_of};
 pub use ring_typed::{Keyed, Table, done, done_with, refused_with, reply_of};
 pub use ring_wire::{Frame, decode_frame};
-pub use ring_world::{Event, Item, Pump, Told, World, stopped_for_memory_law};
+pub use ring_world::{Event, Item, Noise, Pump, Told, World, stopped_for_memory_law};
 pub use ring_world_port::{Network, Shared, WorldPort};

@@ -16,10 +16,10 @@ pub use ring_host_port::{
 pub use totem_ring::{
     Answer, Answered, Argument, Asked, Call, Client, Counters, Driver, Event, Fault, Fixed, Form,
     Format, Frame, Input, Item, Keyed, Kind, Letter, MOST_PROCESSORS, Names, Network, NoWords,
-    Node, Object, Operation, Outcome, Outs, Place, Port, Proc, ProcSet, Pump, Queue, Registers,
-    Replied, Replies, Reply, ReplyForm, RingEvent, RingId, Rings, Selection, Sent, Shared, Shelf,
-    ShelfOperation, ShelfWords, Short, State, Table, Ticket, Told, TraceOptions, Vocabulary, World,
-    WorldPort, call_keeps_law, decode_frame, done, done_with, generate_by, is_linearization,
-    linear_law, made_script_by, node_fits_law, object_law, refused_with, reply_of, script_of,
-    stopped_for_memory_law, sweep_of, trace_of,
+    Node, Noise, Object, Operation, Outcome, Outs, Place, Port, Proc, ProcSet, Pump, Queue,
+    Registers, Replied, Replies, Reply, ReplyForm, RingEvent, RingId, Rings, Selection, Sent,
+    Shared, Shelf, ShelfOperation, ShelfWords, Short, State, Table, Ticket, Told, TraceOptions,
+    Vocabulary, World, WorldPort, call_keeps_law, decode_frame, done, done_with, generate_by,
+    is_linearization, linear_law, made_script_by, node_fits_law, object_law, refused_with,
+    reply_of, script_of, stopped_for_memory_law, sweep_of, trace_of,
 };

@@ -20,7 +20,7 @@ loop-call-preserved g c =
     let few = c.if-len-many.false in
     let within = c.loop-call-test.true in (
       c.in_ok-push.ensures.items ∙ ap (λ l. l ++ c.in_ok-copy.copy ∷ []) was
-          ∙ ap (λ y. (old ++ take i xs) ++ y ∷ []) c.in_ok-copy.ensures.ok ∙ append_assoc old (take i xs) (x ∷ [])
+          ∙ ap (λ y. (old ++ take i xs) ++ y ∷ []) c.in_ok-copy.ensures ∙ append_assoc old (take i xs) (x ∷ [])
           ∙ ap (λ l. old ++ l) (sym (take-more xs i x at)),
       omega (arith, most, long, taken, now, few, c.len.ensures, c.loop-call.copies.ok.0, within),
     )

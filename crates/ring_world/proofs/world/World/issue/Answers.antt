@@ -43,8 +43,8 @@ invariant_of-self-in-Ok g c =
     let here = place g (goal.at.invariant_of-self-in-Ok g c).In_ok-make_room in
     let spare = spared here c.make_room-2.new.self c.index_mut.ensures.value c.in_ok-make_room-2.ensures.calls in
     issue_world spare c.in_ok-kept.kept c.requires.event c.in_ok-kept.ensures.ok c.index_mut-2.ensures.value c.add.new.self
-    (c.in_ok-kept.ensures.keeps c.requires.fits) c.in-Ok.ensures.taken c.in-Ok.ensures.ok c.index_mut-in-Ok.ensures.value c.in_ok-spare.ensures.ok c.add.ensures
-    c.in_ok-copy.ensures.ok c.push_reserved.ensures.items c.push_reserved-in-Ok.ensures.items
+    (c.in_ok-kept.ensures.keeps c.requires.fits) c.in-Ok.ensures.taken c.in-Ok.ensures.ok c.index_mut-in-Ok.ensures.value c.in_ok-spare.ensures c.add.ensures
+    c.in_ok-copy.ensures c.push_reserved.ensures.items c.push_reserved-in-Ok.ensures.items
 
 pub returns-in-Ok-clause-ok : goal.returns-in-Ok-clause-ok
 returns-in-Ok-clause-ok g c =
@@ -58,7 +58,7 @@ invariant_of-self-in-Err-1 g c =
     let here = place g (goal.at.invariant_of-self-in-Err-1 g c).In_ok-make_room in
     let spare = spared here c.make_room-2.new.self c.index_mut.ensures.value c.in_ok-make_room-2.ensures.calls in
     refusal_world spare c.in_ok-kept.kept c.requires.event c.in_ok-kept.ensures.ok c.index_mut-2.ensures.value c.in-Err.ensures.refused
-    c.in_ok-copy.ensures.ok c.refuse.ensures.left_out c.refuse.ensures.kept c.refuse.ensures.told c.in-Err.ensures.err
+    c.in_ok-copy.ensures c.refuse.ensures.left_out c.refuse.ensures.kept c.refuse.ensures.told c.in-Err.ensures.err
     (c.in_ok-kept.ensures.keeps c.requires.fits)
 
 pub returns-in-Err : goal.returns-in-Err
@@ -67,7 +67,7 @@ returns-in-Err g c =
     let spare = spared here c.make_room-2.new.self c.index_mut.ensures.value c.in_ok-make_room-2.ensures.calls in
     record {
       ok = refusal_goes spare c.in_ok-kept.kept c.requires.event c.in_ok-kept.ensures.ok c.index_mut-2.ensures.value c.in-Err.ensures.refused
-          c.in_ok-copy.ensures.ok c.refuse.ensures.left_out c.refuse.ensures.kept c.refuse.ensures.told;
+          c.in_ok-copy.ensures c.refuse.ensures.left_out c.refuse.ensures.kept c.refuse.ensures.told;
       err = tt;
       done = ap (λ (r : Played g.row.O-Alloc.Denot). r.done) c.self.view_is;
       refused = tt;

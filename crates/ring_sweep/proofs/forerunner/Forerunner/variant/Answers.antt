@@ -1,0 +1,25 @@
+-- The run with what is put in, before its event, and all steps behind it.
+use Rattle.std.proofs.Common.{ℕ, List, sym, ap, subst, ◌∙◌}
+use Rattle.ring_console.specs.Running.{RunView, Does}
+use Rattle.ring_script.specs.declared.scripts.Numbered.{Numbered}
+use Rattle.ring_sweep.specs.Gaps.{left_of}
+use Rattle.ring_sweep.specs.Variants.{line_of_upset, Passes}
+use Rattle.ring_sweep.proofs.Gapping.{is_variant}
+use Rattle.ring_sweep.proofs.forerunner.Forerunner.variant.Goals as goal
+
+pub returns-clause-ok : goal.returns-clause-ok
+returns-clause-ok g c =
+    let object = g.O.Object.sequential in
+    let script = c.args.script.now in
+    let lines = script.lines.items in
+    let here = c.args.self.now in
+    let struck = c.put_in.new.self in
+    let new = c.finish.new.copy in
+    let strikes = subst (λ (r : RunView g.row.O-Alloc.Denot). Does object (line_of_upset c.args.upset) r struck.run) c.in_ok-walk.ensures.run
+    c.in_ok-put_in.ensures.ok in
+    let behind = subst (λ (xs : List (Numbered g.row.O-Alloc.Denot)). Passes object (left_of xs here.lines here.turns) struck.done new.done struck.run new.run)
+    c.as_slice.ensures.value c.in_ok-finish.ensures.ok in
+    is_variant object script.nodes lines c.args.upset here.lines here.turns here.walk.done new.done here.walk.run struck.run new.run
+    c.requires.come c.requires.due strikes
+    (subst (λ (n : ℕ). Passes object (left_of lines here.lines here.turns) n new.done struck.run new.run)
+    (c.in_ok-put_in.ensures.done ∙ c.in_ok-walk.ensures.done) behind)

@@ -1,0 +1,34 @@
+use Rattle.std.proofs.Common.{◌∙◌, sym, arith}
+use Rattle.ring_sweep.proofs.Walking.{none_open}
+use Rattle.ring_sweep.proofs.Gapping.{turns_next, turns_ended, turns_done, turn_comes}
+use Rattle.ring_sweep.proofs.walk.Walk.take_turns_until.Goals as goal
+
+pub loop-taken-preserved : goal.loop-taken-preserved
+loop-taken-preserved g c =
+    let old = c.args.self.now in
+    let here = c.loop-taken.self in
+    let next = c.step.new.self in
+    turns_next g.O.Object.sequential c.loop-taken.taken c.args.from c.args.before old.done here.done next.done old.run here.run next.run
+    c.loop-taken.auto.taken c.loop-taken.invariant c.in_ok-step.ensures.ok (sym c.comes.ensures ∙ c.if-comes.false)
+
+pub returns-then-comes-clause-ok : goal.returns-then-comes-clause-ok
+returns-then-comes-clause-ok g c =
+    let old = c.args.self.now in
+    let here = c.loop-taken.self in
+    turn_comes g.O.Object.sequential c.args.turns c.loop-taken.taken c.args.from c.args.before old.done here.done old.run here.run
+    c.loop-taken.auto.taken c.loop-taken-test.true c.loop-taken.invariant (sym c.comes.ensures ∙ c.if-comes.true)
+
+pub returns-in_default-clause-ok : goal.returns-in_default-clause-ok
+returns-in_default-clause-ok g c =
+    let old = c.args.self.now in
+    let here = c.loop-taken.self in
+    turns_ended g.O.Object.sequential c.args.turns c.loop-taken.taken c.args.from c.args.before old.done here.done old.run here.run
+    (c.loop-taken.auto.taken-end c.requires) (none_open here.run.open_pairs (sym c.first_open.ensures ∙ c.in_default.is)) c.loop-taken.invariant
+
+pub returns-clause-ok : goal.returns-clause-ok
+returns-clause-ok g c =
+    let old = c.args.self.now in
+    let here = c.loop-taken.self in
+    let most = c.loop-taken.auto.taken-end c.requires in
+    turns_done g.O.Object.sequential c.args.turns c.loop-taken.taken c.args.from c.args.before old.done here.done old.run here.run
+    (omega (arith, most, c.loop-taken-test.false)) c.loop-taken.invariant

@@ -1,0 +1,17 @@
+-- Copies of what a script asks for.
+-- Sweep, of docs/FORMATS.md.
+use Rattle.std.specs.Prelude.{◌≡◌, ℕ, Vec}
+use Rattle.ring_script.specs.declared.line.Line.{Line}
+use Rattle.ring_script.specs.declared.line.Line.TheVariants.{Call, Deliver, Timeout, Noise, Stop, Cut, Heal, Pump, Show}
+
+-- a copy of a line is the line; of noise it has the same bytes
+abbrev pub IsCopyOf : {A : Type 0} → Line A → Line A → Type 0
+IsCopyOf {A} (Noise node bytes) l = (copy : Vec ℕ A) × (l ≡ Noise node copy) × (copy.items ≡ bytes.items)
+IsCopyOf (Call node call) l = l ≡ Call node call
+IsCopyOf (Deliver node frame) l = l ≡ Deliver node frame
+IsCopyOf (Timeout node kind) l = l ≡ Timeout node kind
+IsCopyOf (Stop node) l = l ≡ Stop node
+IsCopyOf (Cut groups) l = l ≡ Cut groups
+IsCopyOf Heal l = l ≡ Heal
+IsCopyOf (Pump turns) l = l ≡ Pump turns
+IsCopyOf Show l = l ≡ Show

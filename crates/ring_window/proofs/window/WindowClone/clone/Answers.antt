@@ -1,0 +1,5 @@
+-- What was held and the places are equal, so the invariant of the copy is that of the window.
+use Rattle.ring_window.proofs.window.WindowClone.clone.Goals as goal
+
+pub invariant_of-result : goal.invariant_of-result
+invariant_of-result g c = rw (c.in_ok-clone.ensures.cases, c.in_ok-copied_places.ensures) c.self.invariant
