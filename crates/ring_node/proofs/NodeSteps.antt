@@ -24,12 +24,12 @@ use Rattle.ring_session.specs.Tickets.{unanswered}
 use Rattle.ring_rules.specs.Lives.{lived_through}
 use Rattle.ring_rules.specs.Nodes.{Node, node_kept, node_pending, node_stopped, is_stopped, is_closed, is_restored}
 use Rattle.ring_rules.specs.Stepping.{NodeStepped, handed_over, drops, after_core, submit_fault}
-use Rattle.ring_replica.specs.Courses.{handed_if, dues_by, rises, IsSteady}
+use Rattle.ring_course.specs.Courses.{handed_if, dues_by, rises, IsSteady}
 use Rattle.ring_replica.specs.Replicas.{Replica, ReplicaStepped, replica_stopped, replica_done, replica_ended, node_by}
 use Rattle.ring_replica.specs.Replicas.{replica_settled, replica_step, replica_of, running_of, moment_of, node_unless}
 use Rattle.ring_replica.specs.Replicas.{submit_refusal, has_adopted_running, replica_given, restored_since}
 use Rattle.ring_replica.proofs.Nodes.{step-is, refused-is}
-use Rattle.ring_replica.proofs.Messages.{never-less}
+use Rattle.ring_course.proofs.Messages.{never-less}
 use Rattle.ring_replica.specs.Marks.{IsMarked}
 use Rattle.ring_replica.proofs.StayMarks.{rises_step, marked_step, marked_handed, me_step, me_handed, going_step, going_handed}
 use Rattle.ring_node.specs.Kept.{followed_by, core_told, told_node, Runs, IsNode, stepped_by}

@@ -4,16 +4,15 @@ ghost use Rattle.std.specs.Prelude.{◌≡◌, true, false, IfOk, IfErr, OnOk, O
 ghost use Rattle.ring_base.specs.declared.fault.Fault.TheVariants.{Memory};
 ghost use Rattle.ring_wire.specs.Frames.{FrameFits};
 ghost use Rattle.ring_core.specs.Stepping.{ring_step};
-ghost use Rattle.ring_core.specs.declared.input.Input.TheVariants.{Frame as FrameInput};
-ghost use Rattle.ring_srp.specs.Inputs.{InputFits};
+ghost use Rattle.ring_core.specs.declared.input.Input.TheVariants.{Frame as FrameInput, Timeout as TimeoutInput};
 ghost use Rattle.ring_rules.specs.Nodes.{is_stopped};
 ghost use Rattle.ring_rules.specs.Stepping.{handed_over};
-ghost use Rattle.ring_replica.specs.Courses.{rises, IsSteady};
+ghost use Rattle.ring_course.specs.Courses.{rises, IsSteady};
 ghost use Rattle.ring_replica.specs.Replicas.{IsDone, replica_stopped, replica_ended, running_of};
 ghost use Rattle.ring_node.specs.Kept.{Runs, followed_by, stepped_by};
 
 use crate::outs::Outs;
-use ring_base::{Fault, RingId, State};
+use ring_base::{Fault, Kind, RingId, State};
 use ring_core::{Input, Out};
 use ring_object::Object;
 use ring_payload::Payload;
@@ -47,32 +46,8 @@ pub(crate) fn hand_over<A: Allocator + Copy>(
     Ok(())
 }
 
-/// The core steps, and the replica follows.
-pub(crate) fn advance<O: Object>(
-    core: &mut Srp<O::Alloc>,
-    replica: &mut Replica<O>,
-    input: Input<O::Alloc>,
-) -> Result<Outs<O::Alloc>, Fault>
-    requires fits { InputFits input }
-    requires runs { Runs core.old replica.old }
-    requires going { replica.old.stopped ≡ false }
-    ensures sends { IfOk result (λ outs. outs.sends.items ≡ (stepped_by O.sequential core.old replica.old input).sends) }
-    ensures answers { IfOk result (λ outs. outs.answers.items ≡ (stepped_by O.sequential core.old replica.old input).answers) }
-    ensures committed { IfOk result (λ outs. outs.committed.items ≡ (stepped_by O.sequential core.old replica.old input).replica.doing) }
-    ensures dropped { IfOk result (λ outs. outs.dropped.items ≡ (stepped_by O.sequential core.old replica.old input).replica.leaving) }
-    ensures restored { IfOk result (λ outs. outs.restored ≡ (stepped_by O.sequential core.old replica.old input).restored) }
-    ensures core { OnOk result (core.new ≡ handed_over (ring_step core.old input).core (stepped_by O.sequential core.old replica.old input).due) }
-    ensures replica { OnOk result (replica.new ≡ replica_ended (stepped_by O.sequential core.old replica.old input)) }
-    ensures steady { OnOk result (IsSteady replica.old.group replica.old.life) }
-    ensures err { OnErr result (replica_stopped replica.new ≡ replica_stopped replica.old) }
-    ensures refused { IfErr result (λ fault. fault ≡ Memory) }
-{
-    let outs = core.step(input)?;
-    follow(core, replica, outs)
-}
-
-/// The same for a frame that the caller keeps.
-pub(crate) fn advance_on<O: Object>(
+/// A frame came: the core steps, and the replica follows.
+pub(crate) fn advance_by_frame<O: Object>(
     core: &mut Srp<O::Alloc>,
     replica: &mut Replica<O>,
     frame: &Frame<O::Alloc>,
@@ -93,6 +68,29 @@ pub(crate) fn advance_on<O: Object>(
     ensures refused { IfErr result (λ fault. fault ≡ Memory) }
 {
     let outs = core.hear(frame)?;
+    follow(core, replica, outs)
+}
+
+/// A time is over: the core steps, and the replica follows.
+pub(crate) fn advance_by_time<O: Object>(
+    core: &mut Srp<O::Alloc>,
+    replica: &mut Replica<O>,
+    kind: Kind,
+) -> Result<Outs<O::Alloc>, Fault>
+    requires runs { Runs core.old replica.old }
+    requires going { replica.old.stopped ≡ false }
+    ensures sends { IfOk result (λ outs. outs.sends.items ≡ (stepped_by O.sequential core.old replica.old (TimeoutInput kind)).sends) }
+    ensures answers { IfOk result (λ outs. outs.answers.items ≡ (stepped_by O.sequential core.old replica.old (TimeoutInput kind)).answers) }
+    ensures committed { IfOk result (λ outs. outs.committed.items ≡ (stepped_by O.sequential core.old replica.old (TimeoutInput kind)).replica.doing) }
+    ensures dropped { IfOk result (λ outs. outs.dropped.items ≡ (stepped_by O.sequential core.old replica.old (TimeoutInput kind)).replica.leaving) }
+    ensures restored { IfOk result (λ outs. outs.restored ≡ (stepped_by O.sequential core.old replica.old (TimeoutInput kind)).restored) }
+    ensures core { OnOk result (core.new ≡ handed_over (ring_step core.old (TimeoutInput kind)).core (stepped_by O.sequential core.old replica.old (TimeoutInput kind)).due) }
+    ensures replica { OnOk result (replica.new ≡ replica_ended (stepped_by O.sequential core.old replica.old (TimeoutInput kind))) }
+    ensures steady { OnOk result (IsSteady replica.old.group replica.old.life) }
+    ensures err { OnErr result (replica_stopped replica.new ≡ replica_stopped replica.old) }
+    ensures refused { IfErr result (λ fault. fault ≡ Memory) }
+{
+    let outs = core.step(Input::Timeout(kind))?;
     follow(core, replica, outs)
 }
 

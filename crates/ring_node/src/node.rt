@@ -6,7 +6,6 @@ ghost use Rattle.ring_payload.specs.Calls.{CallFits};
 ghost use Rattle.ring_wire.specs.Frames.{FrameFits};
 ghost use Rattle.ring_core.specs.Stepping.{ring_step};
 ghost use Rattle.ring_core.specs.declared.input.Input.TheVariants.{Frame as FrameInput, Timeout as TimeoutInput};
-ghost use Rattle.ring_srp.specs.Inputs.{InputFits as CoreInputFits};
 ghost use Rattle.ring_session.specs.Pendings.{pending_from};
 ghost use Rattle.ring_rules.specs.Nodes.{node_opening, node_kept, node_length, node_trimmed, node_committed, node_reply, node_stopped, is_stopped, effects_at};
 ghost use Rattle.ring_rules.specs.Stepping.{after_core, node_step, submit_fault, submitted};
@@ -14,11 +13,10 @@ ghost use Rattle.ring_node.specs.Restores.{node_restored};
 ghost use Rattle.ring_rules.specs.NodeLimits.{InputFits};
 ghost use Rattle.ring_rules.specs.declared.input.Input.TheVariants.{Stop as StopInput};
 
-use crate::driving::{advance, advance_on, running};
+use crate::driving::{advance_by_frame, advance_by_time, running};
 use crate::outs::Outs;
 use ring_base::{Fault, Fixed, Kind, Past, Proc, ProcSet, RingId, State, seen};
 use ring_commit::Configuration;
-use ring_core::Input as CoreInput;
 use ring_object::Object;
 use ring_payload::{Call, Payload};
 use ring_replica::Replica;
@@ -98,8 +96,7 @@ impl<O: Object> Node<O> {
         ensures err { OnErr result (self.new ≡ self.old) }
         ensures refused { IfErr result (λ fault. MatchOption (submit_fault self.old) (fault ≡ Memory) (λ first. fault ≡ first)) }
     {
-        self.check()?;
-        self.take(call)
+        self.submit_on(&call)
     }
 
     /// The same for a call that the caller keeps: the node copies it.
@@ -131,18 +128,7 @@ impl<O: Object> Node<O> {
         ensures refused { IfErr result (λ fault. fault ≡ (if is_stopped self.old.core.state then StoppedFault else Memory)) }
         ensures stops { input ≡ StopInput → is_stopped self.old.core.state ≡ false → IsOk result }
     {
-        if self.replica.is_stopped() {
-            return Err(Fault::Stopped);
-        }
-        match input {
-            Input::Frame(frame) => self.drive(CoreInput::Frame(frame)),
-            Input::Timeout(kind) => self.drive(CoreInput::Timeout(kind)),
-            Input::Noise => Ok(Outs::new(self.alloc)),
-            Input::Stop => {
-                self.halt();
-                Ok(Outs::new(self.alloc))
-            }
-        }
+        self.step_on(&input)
     }
 
     /// The same for an input that the caller keeps: the node copies its frame, unless it is a token.
@@ -163,7 +149,7 @@ impl<O: Object> Node<O> {
             return Err(Fault::Stopped);
         }
         match input {
-            Input::Frame(frame) => self.drive_on(frame),
+            Input::Frame(frame) => self.hear(frame),
             Input::Timeout(kind) => self.time_out(*kind),
             Input::Noise => Ok(Outs::new(self.alloc)),
             Input::Stop => {
@@ -284,34 +270,8 @@ impl<O: Object> Node<O> {
         Ok(self.replica.give(&running, call))
     }
 
-    /// The core takes a step, and what follows of it is done. Refused with `Memory` alone, and then the node has stopped.
-    fn drive(&mut self, input: CoreInput<O::Alloc>) -> Result<Outs<O::Alloc>, Fault>
-        requires fits { CoreInputFits input }
-        requires runs { is_stopped self.old.core.state ≡ false }
-        ensures sends { IfOk result (λ outs. outs.sends.items ≡ (after_core O.sequential self.old (ring_step self.old.core input)).sends) }
-        ensures answers { IfOk result (λ outs. outs.answers.items ≡ (after_core O.sequential self.old (ring_step self.old.core input)).answers) }
-        ensures committed { IfOk result (λ outs. outs.committed.items ≡ (after_core O.sequential self.old (ring_step self.old.core input)).committed) }
-        ensures dropped { IfOk result (λ outs. outs.dropped.items ≡ (after_core O.sequential self.old (ring_step self.old.core input)).dropped) }
-        ensures restored { IfOk result (λ outs. outs.restored
-            ≡ node_restored self.old (after_core O.sequential self.old (ring_step self.old.core input)).node) }
-        ensures ok { OnOk result (self.new ≡ (after_core O.sequential self.old (ring_step self.old.core input)).node) }
-        ensures err { OnErr result (self.new ≡ node_stopped self.old) }
-        ensures refused { IfErr result (λ fault. fault ≡ Memory) }
-    {
-        self.last = self.core.installed();
-        self.ended = seen(&self.core);
-        match advance(&mut self.core, &mut self.replica, input) {
-            Ok(outs) => Ok(outs),
-            Err(refused) => {
-                self.core.stop();
-                self.replica.stop();
-                Err(refused)
-            }
-        }
-    }
-
-    /// The same for a frame that the caller keeps.
-    fn drive_on(&mut self, frame: &Frame<O::Alloc>) -> Result<Outs<O::Alloc>, Fault>
+    /// The core hears a frame, and what follows of it is done. Refused with `Memory` alone, and then the node has stopped.
+    fn hear(&mut self, frame: &Frame<O::Alloc>) -> Result<Outs<O::Alloc>, Fault>
         requires fits { FrameFits frame.now }
         requires runs { is_stopped self.old.core.state ≡ false }
         ensures sends { IfOk result (λ outs. outs.sends.items ≡ (after_core O.sequential self.old (ring_step self.old.core (FrameInput frame.now))).sends) }
@@ -329,7 +289,7 @@ impl<O: Object> Node<O> {
     {
         self.last = self.core.installed();
         self.ended = seen(&self.core);
-        match advance_on(&mut self.core, &mut self.replica, frame) {
+        match advance_by_frame(&mut self.core, &mut self.replica, frame) {
             Ok(outs) => Ok(outs),
             Err(refused) => {
                 self.core.stop();
@@ -339,10 +299,11 @@ impl<O: Object> Node<O> {
         }
     }
 
-    /// A time is over. It stands apart, since a call clears its room for an input of the core.
+    /// A time is over, and what follows of it is done. Refused with `Memory` alone, and then the node has stopped. It stands apart, since a
+    /// call clears its room for an input of the core.
     #[inline(never)]
     fn time_out(&mut self, kind: Kind) -> Result<Outs<O::Alloc>, Fault>
-        requires { is_stopped self.old.core.state ≡ false }
+        requires runs { is_stopped self.old.core.state ≡ false }
         ensures sends { IfOk result (λ outs. outs.sends.items ≡ (after_core O.sequential self.old (ring_step self.old.core (TimeoutInput kind))).sends) }
         ensures answers { IfOk result (λ outs. outs.answers.items
             ≡ (after_core O.sequential self.old (ring_step self.old.core (TimeoutInput kind))).answers) }
@@ -356,7 +317,16 @@ impl<O: Object> Node<O> {
         ensures err { OnErr result (self.new ≡ node_stopped self.old) }
         ensures refused { IfErr result (λ fault. fault ≡ Memory) }
     {
-        self.drive(CoreInput::Timeout(kind))
+        self.last = self.core.installed();
+        self.ended = seen(&self.core);
+        match advance_by_time(&mut self.core, &mut self.replica, kind) {
+            Ok(outs) => Ok(outs),
+            Err(refused) => {
+                self.core.stop();
+                self.replica.stop();
+                Err(refused)
+            }
+        }
     }
 
     /// Stops for good. It takes no memory, and gives back what the core kept.

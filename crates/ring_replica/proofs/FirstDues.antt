@@ -20,7 +20,7 @@ use Rattle.ring_log.specs.Lives.{after_all}
 use Rattle.ring_log.specs.Kept.{Kept, kept_of, log_kept}
 use Rattle.ring_rules.specs.Dues.{is_stated, parts_due, snaps_due, is_snapshot_kept, places_due, owner_due, due_when_stated}
 use Rattle.ring_rules.specs.Lives.{lived}
-use Rattle.ring_replica.specs.Courses.{Moment, bytes_at, is_running, owner_dues, dues_when_whole, dues_heard, dues_at, dues_by}
+use Rattle.ring_course.specs.Courses.{Moment, bytes_at, is_running, owner_dues, dues_when_whole, dues_heard, dues_at, dues_by}
 
 -- a snapshot that is wanted is of some places
 some-places : (owner : ℕ) (head : OneHead) (least at : ℕ) → (wanted_of owner head least).snapshot ≡ Some at → 0 < at

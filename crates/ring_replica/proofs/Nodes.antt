@@ -31,11 +31,11 @@ use Rattle.ring_rules.specs.Lives.{lived, lived_through}
 use Rattle.ring_rules.specs.Nodes.{Node, node_kept, node_pending, is_stopped, is_closed, is_restored, snapshot_kept, runs, runs_some}
 use Rattle.ring_rules.specs.Dues.{calls_due, due_when_stated, places_past, due_when_whole, owner_told, due_in_stay, due_at_agreed, due_at, due_by}
 use Rattle.ring_rules.specs.Stepping.{handed_over, walked, NodeStepped, send_of, drops, newly, table_since, settled, after_core, submitted, submit_fault}
-use Rattle.ring_replica.specs.Courses.{Moment, bytes_at, is_running, calls_left, dues_when_whole, dues_in_stay, dues_heard, dues_at}
-use Rattle.ring_replica.specs.Courses.{dues_by, handed_if, rises_at, rises, IsSteady}
+use Rattle.ring_course.specs.Courses.{Moment, bytes_at, is_running, calls_left, dues_when_whole, dues_in_stay, dues_heard, dues_at}
+use Rattle.ring_course.specs.Courses.{dues_by, handed_if, rises_at, rises, IsSteady}
 use Rattle.ring_replica.specs.Replicas.{replica_of, running_of, moment_of, is_running_some, submit_refusal}
 use Rattle.ring_replica.specs.Replicas.{replica_given, replica_settled, replica_step, node_by, node_given}
-use Rattle.ring_replica.proofs.KnownOn.{known-self}
+use Rattle.ring_course.proofs.KnownOn.{known-self}
 use Rattle.ring_replica.proofs.SteadyLives.{KnowsOn, knows-trans, steady-known, steady-lived, sound-through, bytes-same}
 
 -- the same ring runs

@@ -25,11 +25,11 @@ use Rattle.ring_log.proofs.CommittedOf.{hands-kept}
 use Rattle.ring_rules.specs.Lives.{lived_through}
 use Rattle.ring_rules.specs.Nodes.{is_closed, table_at, snapshot_at, effects_at, snapshot_kept, is_restored}
 use Rattle.ring_rules.specs.Stepping.{drops, newly}
-use Rattle.ring_replica.specs.Courses.{Holding, Course, MayRestore, course_trimmed}
+use Rattle.ring_course.specs.Courses.{Holding, Course, MayRestore, course_trimmed}
 use Rattle.ring_replica.specs.Replicas.{Replica, Tale, told_replica, IsIdle, IsCounted}
 use Rattle.ring_replica.specs.Replicas.{behind_log, more_in, snapshot_if_ripe}
 use Rattle.ring_replica.specs.Replicas.{ReplicaStepped, replica_doing, replica_step, is_table_held, table_held}
-use Rattle.ring_replica.proofs.KnownOn.{snapshot-on}
+use Rattle.ring_replica.proofs.SessionsOn.{snapshot-on}
 use Rattle.ring_replica.proofs.SteadyLives.{steady-known, steady-hands, all_dropped, kept-dropped, snapshot-dropped}
 use Rattle.ring_replica.proofs.ReplicaSteps.{IsMoved, K0, K, now-is, was-is, known-was, may, log-is, runs-was}
 use Rattle.ring_replica.proofs.ReplicaSteps.{more-are, halted-counted, told, due_now, step-is}

@@ -25,12 +25,12 @@ use Rattle.ring_session.proofs.Pendings.{are-answers}
 use Rattle.ring_rules.specs.Lives.{lived_through}
 use Rattle.ring_rules.specs.Nodes.{table_at, effects_at, snapshot_kept, is_restored}
 use Rattle.ring_rules.specs.Stepping.{send_of, newly, table_since}
-use Rattle.ring_replica.specs.Courses.{Course, Moment, dues_by, told_log, MayRestore, GoesOn, IsSteady}
+use Rattle.ring_course.specs.Courses.{Course, Moment, dues_by, told_log, MayRestore, GoesOn, IsSteady}
 use Rattle.ring_replica.specs.Replicas.{Replica, ReplicaStepped, Tale, IsDone, IsIdle, Runs, IsReplica, IsCounted}
 use Rattle.ring_replica.specs.Replicas.{told_replica, replica_stopped, behind_log, more_in}
 use Rattle.ring_replica.specs.Replicas.{moment_of, restored_since, replica_settled, replica_step, is_table_held, table_held}
 use Rattle.ring_replica.proofs.FirstDues.{dues-first}
-use Rattle.ring_replica.proofs.Messages.{never-less}
+use Rattle.ring_course.proofs.Messages.{never-less}
 use Rattle.ring_replica.proofs.SteadyLives.{steady-known}
 use Rattle.ring_replica.proofs.TablesOn.{held-since, held-restored, table-done, effects-done}
 

@@ -22,12 +22,12 @@ use Rattle.ring_session.specs.Pendings.{Tickets, none_given, is_full, with_ticke
 use Rattle.ring_session.specs.Tickets.{unanswered}
 use Rattle.ring_session.proofs.Pendings.{are-kept, are-given, are-full, are-replies}
 use Rattle.ring_rules.specs.Nodes.{table_at, effects_at, snapshot_kept, is_restored}
-use Rattle.ring_replica.specs.Courses.{Course, course_opening, handed_if}
+use Rattle.ring_course.specs.Courses.{Course, course_opening, handed_if}
 use Rattle.ring_replica.specs.Replicas.{Replica, Tale, tale_opening, tale_done, tale_given}
 use Rattle.ring_replica.specs.Replicas.{IsDone, replica_kept, replica_committed, replica_reply, replica_done, submit_refusal, ahead_log, behind_log, more_in}
 use Rattle.ring_replica.specs.Replicas.{calls_leaving, leaving_of}
 use Rattle.ring_replica.specs.Replicas.{told_replica, IsIdle, IsReplica, IsCounted}
-use Rattle.ring_replica.proofs.Courses.{exchanged-nothing, length-with}
+use Rattle.ring_course.proofs.Courses.{exchanged-nothing, length-with}
 
 -- ---- the log
 

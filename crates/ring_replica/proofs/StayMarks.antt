@@ -27,7 +27,7 @@ use Rattle.ring_rules.specs.Nodes.{is_stopped}
 use Rattle.ring_rules.specs.Stepping.{handed_over}
 use Rattle.ring_core.proofs.Quiet.{stepped_is}
 use Rattle.ring_rules.proofs.QuietHanding.{queued_all}
-use Rattle.ring_replica.specs.Courses.{rises_at, rises}
+use Rattle.ring_course.specs.Courses.{rises_at, rises}
 use Rattle.ring_replica.specs.Marks.{IsMarked}
 
 -- What an act leaves: the installed ring, whose core it is, and each mark or a higher one

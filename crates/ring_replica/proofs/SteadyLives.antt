@@ -15,14 +15,15 @@ use Rattle.ring_payload.specs.declared.content.Payload.{Payload}
 use Rattle.ring_log_proof.proofs.KnownLogs.{known-stay}
 use Rattle.ring_rules.specs.Lives.{lived, lived_through}
 use Rattle.ring_rules.specs.Nodes.{snapshot_at, snapshot_kept}
-use Rattle.ring_replica.specs.declared.reach.Reach.{Reach}
-use Rattle.ring_replica.specs.declared.setting.Setting.{Setting}
-use Rattle.ring_replica.specs.declared.stage.Stage.{Stage}
-use Rattle.ring_replica.specs.Courses.{Holding, Moment, bytes_at, stage_in, reaches_from, behind, rises_at, KnownOn, MayRestore, IsCourseKept, IsSteady}
-use Rattle.ring_replica.proofs.CourseGoesOn.{kept-hears, sound-hears, kept-marks, kept-enters, kept-hands}
-use Rattle.ring_replica.proofs.KeptSound.{stay-parts, sound-lived}
-use Rattle.ring_replica.proofs.KnownOn.{known-self, known-trans, snapshot-on}
-use Rattle.ring_replica.proofs.Messages.{never-less}
+use Rattle.ring_course.specs.declared.reach.Reach.{Reach}
+use Rattle.ring_course.specs.declared.setting.Setting.{Setting}
+use Rattle.ring_course.specs.declared.stage.Stage.{Stage}
+use Rattle.ring_course.specs.Courses.{Holding, Moment, bytes_at, stage_in, reaches_from, behind, rises_at, KnownOn, MayRestore, IsCourseKept, IsSteady}
+use Rattle.ring_course.proofs.CourseGoesOn.{kept-hears, sound-hears, kept-marks, kept-enters, kept-hands}
+use Rattle.ring_course.proofs.KeptSound.{stay-parts, sound-lived}
+use Rattle.ring_course.proofs.KnownOn.{known-self, known-trans}
+use Rattle.ring_replica.proofs.SessionsOn.{snapshot-on}
+use Rattle.ring_course.proofs.Messages.{never-less}
 
 -- a snapshot was restored, of more places than were dropped
 pub record DropsMore {A : Type 0} (k now : Kept A) : Type 0 where

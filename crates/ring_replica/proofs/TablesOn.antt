@@ -19,10 +19,10 @@ use Rattle.ring_session.specs.Table.{Table, opening as table_opening, table_answ
 use Rattle.ring_session.specs.TicketEffects.{done_after, table_effects}
 use Rattle.ring_rules.specs.Nodes.{table_or, table_before, table_at, effects_at, is_restored}
 use Rattle.ring_rules.specs.Stepping.{table_since}
-use Rattle.ring_replica.specs.Courses.{Holding, KnownOn, RestoresMore, MayRestore}
+use Rattle.ring_course.specs.Courses.{Holding, KnownOn, RestoresMore, MayRestore}
 use Rattle.ring_replica.specs.Replicas.{more_in, is_table_held, table_held}
-use Rattle.ring_replica.proofs.KnownOn.{before-on, table-on}
-use Rattle.ring_replica.proofs.Messages.{never-less}
+use Rattle.ring_replica.proofs.SessionsOn.{before-on, table-on}
+use Rattle.ring_course.proofs.Messages.{never-less}
 
 done-append : {O A : Type 0} (object : Sequential O) (t : Table O) (xs ys : List (OneCall A))
     → done_after object t (xs ++ ys) ≡ done_after object t xs + done_after object (fold (table_next object) t xs) ys

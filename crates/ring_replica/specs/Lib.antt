@@ -1,3 +1,2 @@
-pub mod Courses
 pub mod Replicas
 pub mod Marks

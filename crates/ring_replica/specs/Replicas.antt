@@ -24,7 +24,7 @@ use Rattle.ring_log.specs.Kept.{Kept, IsKnown, kept_of, kept_length, log_kept, i
 use Rattle.ring_session.specs.declared.answered.Answered.{Answered}
 use Rattle.ring_session.specs.Pendings.{Tickets, AreTickets, pending_from}
 use Rattle.ring_session.specs.Tickets.{Asked, unanswered, answers_after, kept_answers, answer_to}
-use Rattle.ring_replica.specs.Courses.{Holding, Course, Moment, is_running, handed_if, dues_by}
+use Rattle.ring_course.specs.Courses.{Holding, Course, Moment, is_running, handed_if, dues_by}
 use Rattle.ring_rules.specs.Lives.{lived_through}
 use Rattle.ring_rules.specs.Nodes.{Node, node_stopped, is_closed, table_or, table_at, effects_at, snapshot_kept, is_restored}
 use Rattle.ring_rules.specs.Stepping.{send_of, handed_over, NodeStepped, quiet, drops, newly, table_since}

@@ -7,7 +7,7 @@ ghost use Rattle.ring_core.specs.State.{Stepped};
 ghost use Rattle.ring_rules.specs.Nodes.{Node, node_opening, node_committed, node_length, node_trimmed, node_reply, is_stopped};
 ghost use Rattle.ring_rules.specs.Stepping.{after_core, submit_fault, submitted};
 ghost use Rattle.ring_replica.specs.Replicas.{replica_opening, replica_of, replica_committed, replica_length, replica_trimmed};
-ghost use Rattle.ring_replica.specs.Courses.{rises, IsSteady};
+ghost use Rattle.ring_course.specs.Courses.{rises, IsSteady};
 ghost use Rattle.ring_replica.specs.Replicas.{replica_reply, submit_refusal, replica_given, replica_step, running_of};
 ghost use Rattle.ring_replica.specs.Replicas.{node_by, node_given};
 

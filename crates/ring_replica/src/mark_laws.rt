@@ -10,7 +10,7 @@ ghost use Rattle.ring_log.specs.Stays.{Stay, born, hands};
 ghost use Rattle.ring_rules.specs.Lives.{lived_through};
 ghost use Rattle.ring_rules.specs.Nodes.{is_stopped};
 ghost use Rattle.ring_rules.specs.Stepping.{handed_over};
-ghost use Rattle.ring_replica.specs.Courses.{rises};
+ghost use Rattle.ring_course.specs.Courses.{rises};
 ghost use Rattle.ring_replica.specs.Marks.{IsMarked};
 
 use std::alloc::Allocator;

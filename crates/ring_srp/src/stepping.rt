@@ -1,10 +1,10 @@
 //! One step: what an input comes to is done, a ring may be proposed, and what follows is given.
 
-ghost use Rattle.std.specs.Prelude.{◌≡◌, ◌≤◌, ◌++◌, ◌∷◌, [], false, IfOk, IfErr, OnOk, OnErr};
+ghost use Rattle.std.specs.Prelude.{◌≡◌, ◌≤◌, ◌++◌, ◌∷◌, [], true, false, IfOk, IfErr, OnOk, OnErr};
 ghost use Rattle.ring_base.specs.declared.fault.Fault.TheVariants.{Memory};
 ghost use Rattle.ring_wire.specs.Frames.{FrameFits};
 ghost use Rattle.ring_core.specs.Acting.{act, may_follow, done};
-ghost use Rattle.ring_core.specs.Deciding.{Visit as VisitAct};
+ghost use Rattle.ring_core.specs.Deciding.{Take as TakeAct, Visit as VisitAct, is_taken};
 ghost use Rattle.ring_core.specs.Giving.{sent, may_install, delivered};
 ghost use Rattle.ring_core.specs.Stepping.{ring_step};
 ghost use Rattle.ring_core.specs.declared.input.Input.TheVariants.{Frame as FrameInput, Send as SendInput};
@@ -16,8 +16,12 @@ use ring_base::{Fault, State};
 use ring_core::{Input, Out};
 use ring_payload::Payload;
 use ring_srp_acts::{Act, Machine, is_queued};
-use ring_wire::{Frame, Token};
+use ring_wire::{Frame, Message, Token};
 use std::alloc::Allocator;
+
+/// For how many outputs a message that is taken needs room. Most often it is the next one, and is given at once; to grow for it would
+/// make room for more.
+const TAKE_ROOM: usize = 1;
 
 /// One step.
 pub(crate) fn step<A: Allocator + Copy>(
@@ -39,7 +43,7 @@ pub(crate) fn step<A: Allocator + Copy>(
     Ok(outs)
 }
 
-/// The same for a frame that the caller keeps. A token that is visited isn't copied.
+/// The same for a frame that the caller keeps. A token that is visited isn't copied, and a message that is taken is copied once.
 pub(crate) fn hear<A: Allocator + Copy>(
     machine: &mut Machine<A>,
     frame: &Frame<A>,
@@ -52,8 +56,75 @@ pub(crate) fn hear<A: Allocator + Copy>(
 {
     match machine.visited_by(frame) {
         Some(token) => pass_by(machine, token),
+        None => hear_other(machine, frame),
+    }
+}
+
+/// The same for a frame that is no token that is visited.
+fn hear_other<A: Allocator + Copy>(
+    machine: &mut Machine<A>,
+    frame: &Frame<A>,
+) -> Result<Vec<Out<A>, A>, Fault>
+    requires { FrameFits frame.now }
+    ensures outs { IfOk result (λ outs. outs.items ≡ (ring_step machine.old (FrameInput frame.now)).outs) }
+    ensures core { OnOk result (machine.new ≡ (ring_step machine.old (FrameInput frame.now)).core) }
+    ensures running { OnOk result (is_stopped machine.old.state ≡ false) }
+    ensures refused { IfErr result (λ fault. fault ≡ Memory) }
+{
+    match machine.taken_by(frame) {
+        Some(message) => take_copy(machine, message),
         None => step_copy(machine, frame),
     }
+}
+
+/// One step, of a copy of a message that is taken.
+#[inline(never)]
+fn take_copy<A: Allocator + Copy>(
+    machine: &mut Machine<A>,
+    message: &Message<A>,
+) -> Result<Vec<Out<A>, A>, Fault>
+    requires { is_taken machine.old message.now ≡ true }
+    ensures outs { IfOk result (λ outs. outs.items ≡ (delivered machine.old (done machine.old (TakeAct message.now))).outs) }
+    ensures core { OnOk result (machine.new ≡ (delivered machine.old (done machine.old (TakeAct message.now))).core) }
+    ensures running { OnOk result (is_stopped machine.old.state ≡ false) }
+    ensures refused { IfErr result (λ fault. fault ≡ Memory) }
+{
+    let copy = copied_message(message)?;
+    take_by(machine, copy)
+}
+
+/// One step, of a message that is taken.
+fn take_by<A: Allocator + Copy>(
+    machine: &mut Machine<A>,
+    message: Message<A>,
+) -> Result<Vec<Out<A>, A>, Fault>
+    requires { is_taken machine.old message ≡ true }
+    ensures outs { IfOk result (λ outs. outs.items ≡ (delivered machine.old (done machine.old (TakeAct message))).outs) }
+    ensures core { OnOk result (machine.new ≡ (delivered machine.old (done machine.old (TakeAct message))).core) }
+    ensures running { is_stopped machine.old.state ≡ false }
+    ensures refused { IfErr result (λ fault. fault ≡ Memory) }
+{
+    let before = machine.reached();
+    let mut outs = machine.outputs(TAKE_ROOM)?;
+    take_through(machine, message, &mut outs)?;
+    machine.give(before, &mut outs)?;
+    machine.install_if_due(&mut outs)?;
+    Ok(outs)
+}
+
+/// A message is taken, and then a ring may be proposed.
+fn take_through<A: Allocator + Copy>(
+    machine: &mut Machine<A>,
+    message: Message<A>,
+    outs: &mut Vec<Out<A>, A>,
+) -> Result<(), Fault>
+    requires { is_taken machine.old message ≡ true }
+    ensures core { OnOk result (machine.new ≡ (done machine.old (TakeAct message)).core) }
+    ensures outs { OnOk result (outs.new.items ≡ outs.old.items ++ sent (done machine.old (TakeAct message)).sends) }
+    ensures refused { IfErr result (λ fault. fault ≡ Memory) }
+{
+    machine.take(message)?;
+    machine.propose_if_due(outs)
 }
 
 /// One step, of a copy of a frame.
@@ -112,8 +183,7 @@ fn room_for<A: Allocator + Copy>(machine: &Machine<A>, what: &Act<A>) -> usize
 {
     match what {
         Act::Visit(token) => machine.room_for_visit(token),
-        // Most often it is the next message, and is given at once; to grow for it would make room for more than one.
-        Act::Take(_) => 1,
+        Act::Take(_) => TAKE_ROOM,
         _ => 0,
     }
 }
@@ -225,5 +295,14 @@ fn copied<A: Allocator + Copy>(frame: &Frame<A>) -> Result<Frame<A>, Fault>
     ensures refused { IfErr result (λ fault. fault ≡ Memory) }
 {
     let copy = frame.clone()?;
+    Ok(copy)
+}
+
+/// A copy of a message, or `Memory`.
+fn copied_message<A: Allocator + Copy>(message: &Message<A>) -> Result<Message<A>, Fault>
+    ensures ok { IfOk result (λ copy. copy ≡ message.now) }
+    ensures refused { IfErr result (λ fault. fault ≡ Memory) }
+{
+    let copy = message.clone()?;
     Ok(copy)
 }

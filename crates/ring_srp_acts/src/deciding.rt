@@ -7,7 +7,7 @@ ghost use Rattle.ring_srp_acts.specs.Acts.{act_of};
 ghost use Rattle.ring_core.specs.Deciding.{decide, decide_frame, decide_token, decide_join, decide_commit};
 ghost use Rattle.ring_core.specs.Deciding.{decide_round, decide_time, decide_payload, decide_user, heard_in_gather};
 ghost use Rattle.ring_core.specs.Deciding.{heard_elsewhere, overhear, is_taken};
-ghost use Rattle.ring_core.specs.Deciding.{Visit as VisitAct, Ignore as IgnoreAct};
+ghost use Rattle.ring_core.specs.Deciding.{Take as TakeAct, Visit as VisitAct, Ignore as IgnoreAct};
 ghost use Rattle.ring_core.specs.declared.input.Input.TheVariants.{Frame as FrameInput};
 ghost use Rattle.ring_core.specs.Joining.{disturbs};
 ghost use Rattle.ring_core.specs.Handing.{takes_first_round, takes_second_round, takes_start};
@@ -54,6 +54,22 @@ impl<A: Allocator + Copy> Machine<A> {
             Frame::Token(token) => {
                 if is_named(self.fixed, frame) && self.visits(token) {
                     Some(token)
+                } else {
+                    None
+                }
+            }
+            _ => None,
+        }
+    }
+
+    /// The message that a frame is, if it is taken.
+    pub fn taken_by<'a>(&self, frame: &'a Frame<A>) -> Option<&'a Message<A>>
+        ensures { IfSome result (λ message. TakeAct message.now ≡ decide self.now (FrameInput frame.now)) }
+    {
+        match frame {
+            Frame::Message(message) => {
+                if is_named(self.fixed, frame) && self.takes(message) {
+                    Some(message)
                 } else {
                     None
                 }

@@ -6,14 +6,13 @@ ghost use Rattle.std.specs.List.{AllByRecursion};
 ghost use Rattle.ring_base.specs.Fronts.{IsFront};
 ghost use Rattle.ring_base.specs.Numbers.{numbers_from};
 ghost use Rattle.ring_base.specs.Fault.{fault_number};
-ghost use Rattle.ring_base.specs.declared.fault.Fault.TheVariants.{Memory, Stopped as StoppedFault};
+ghost use Rattle.ring_base.specs.declared.fault.Fault.TheVariants.{Memory};
 ghost use Rattle.ring_wire.specs.Frames.{FrameFits};
 ghost use Rattle.ring_core.specs.State.{Sent as OneSent, Carried, frame_at};
 ghost use Rattle.ring_log.specs.Lives.{committed_of};
 ghost use Rattle.ring_session.specs.Deduplicated.{deduplicated};
 ghost use Rattle.ring_rules.specs.NodeLimits.{InputFits};
-ghost use Rattle.ring_rules.specs.Nodes.{node_opening, node_stopped, is_stopped};
-ghost use Rattle.ring_rules.specs.Stepping.{node_step};
+ghost use Rattle.ring_rules.specs.Nodes.{node_opening};
 ghost use Rattle.ring_rules.specs.declared.event.Event.TheVariants.{Issue, Deliver, Stop};
 ghost use Rattle.ring_rules.specs.declared.told.Told.TheVariants.{Refused as ToldRefused};
 ghost use Rattle.ring_rules.specs.Histories.{IsLinearization};
@@ -42,10 +41,8 @@ use ring_order_proof::longest_laws::longest_law;
 use ring_payload::Call;
 use ring_rules::{Event, Item, Told};
 use ring_session::copy_of;
-use ring_wire::Frame;
 use std::alloc::Allocator;
 use std::marker::Model;
-use std::mem;
 
 /// A world of nodes that runs. Contracts see its events since the opening, and what was told.
 #[derive(Drop)]
@@ -292,7 +289,7 @@ impl<O: Object> World<O> {
             Event::Issue(node, call) => self.issue(*node, call, event),
             Event::Deliver(node, number) => self.deliver(*node, *number, event),
             Event::Noise(_, _) => self.idle(event),
-            Event::Timeout(node, kind) => { self.step(*node, &mut Input::Timeout(*kind), event) },
+            Event::Timeout(node, kind) => { self.step(*node, &Input::Timeout(*kind), event) },
             Event::Stop(node) => self.stop(*node, event),
         }
     }
@@ -324,20 +321,20 @@ impl<O: Object> World<O> {
         let mut place = None;
         self.frames.read_to(self.alloc, node, number, &mut place)?;
         match place {
-            Some(frame) => self.step(node, &mut Input::Frame(frame), event),
+            Some(frame) => self.step(node, &Input::Frame(frame), event),
             None => self.idle(event),
         }
     }
 
-    /// A node steps by what it takes of the input; an unknown one changes nothing.
+    /// A node steps; an unknown one changes nothing.
     fn step(
         &mut self,
         node: Proc,
-        input: &mut Input<O::Alloc>,
+        input: &Input<O::Alloc>,
         event: &Event<O::Alloc>,
     ) -> Result<(), Fault>
-        requires fits { InputFits input.old }
-        requires same { happens O.sequential (world_of O.sequential self.old) event.now ≡ stepped O.sequential (world_of O.sequential self.old) node input.old }
+        requires fits { InputFits input.now }
+        requires same { happens O.sequential (world_of O.sequential self.old) event.now ≡ stepped O.sequential (world_of O.sequential self.old) node input.now }
         requires steps { step_in (world_of O.sequential self.old) event.now ≡ Some node }
         ensures ok { OnOk result (Goes O.sequential event.now self.old self.new) }
         ensures err { OnErr result (self.new ≡ self.old) }
@@ -359,7 +356,7 @@ impl<O: Object> World<O> {
             &mut self.frames,
             &mut self.longest,
         )?;
-        match hand(&mut self.nodes[place], input) {
+        match self.nodes[place].step_on(input) {
             Ok(outs) => {
                 let Outs {
                     sends,
@@ -448,41 +445,6 @@ impl<O: Object> World<O> {
         }
         Ok(())
     }
-}
-
-/// Hands an input to a node: a message is moved to it, and any other input stays where it is.
-fn hand<O: Object>(node: &mut Node<O>, input: &mut Input<O::Alloc>) -> Result<Outs<O::Alloc>, Fault>
-    requires fits { InputFits input.old }
-    ensures runs { OnOk result (is_stopped node.old.core.state ≡ false) }
-    ensures sends { IfOk result (λ outs. outs.sends.items ≡ (node_step O.sequential node.old input.old).sends) }
-    ensures answers { IfOk result (λ outs. outs.answers.items ≡ (node_step O.sequential node.old input.old).answers) }
-    ensures committed { IfOk result (λ outs. outs.committed.items ≡ (node_step O.sequential node.old input.old).committed) }
-    ensures ok { OnOk result (node.new ≡ (node_step O.sequential node.old input.old).node) }
-    ensures err { OnErr result (node.new ≡ node_stopped node.old) }
-    ensures refused { IfErr result (λ fault. fault ≡ (if is_stopped node.old.core.state then StoppedFault else Memory)) }
-{
-    match input {
-        Input::Frame(Frame::Message(_)) => move_to(node, input),
-        _ => node.step_on(input),
-    }
-}
-
-/// Moves an input to a node.
-#[inline(never)]
-fn move_to<O: Object>(
-    node: &mut Node<O>,
-    input: &mut Input<O::Alloc>,
-) -> Result<Outs<O::Alloc>, Fault>
-    requires fits { InputFits input.old }
-    ensures runs { OnOk result (is_stopped node.old.core.state ≡ false) }
-    ensures sends { IfOk result (λ outs. outs.sends.items ≡ (node_step O.sequential node.old input.old).sends) }
-    ensures answers { IfOk result (λ outs. outs.answers.items ≡ (node_step O.sequential node.old input.old).answers) }
-    ensures committed { IfOk result (λ outs. outs.committed.items ≡ (node_step O.sequential node.old input.old).committed) }
-    ensures ok { OnOk result (node.new ≡ (node_step O.sequential node.old input.old).node) }
-    ensures err { OnErr result (node.new ≡ node_stopped node.old) }
-    ensures refused { IfErr result (λ fault. fault ≡ (if is_stopped node.old.core.state then StoppedFault else Memory)) }
-{
-    node.step(mem::replace(input, Input::Noise))
 }
 
 /// The nodes at their opening, or `Memory`.

@@ -2,7 +2,7 @@
 use Rattle.std.proofs.Common.{◌-◌, ap, ◌∙◌, arith}
 use Rattle.std.proofs.lemmas.List.{length-take}
 use Rattle.ring_log.specs.Logs.{Log, committed_calls}
-use Rattle.ring_replica.specs.Courses.{Holding}
+use Rattle.ring_course.specs.Courses.{Holding}
 use Rattle.ring_replica.specs.Replicas.{behind_log}
 use Rattle.ring_replica.proofs.Replicas.{gone-few, told-bounds, told-committed}
 use Rattle.ring_replica.proofs.replica.Replica.committed.Goals as goal

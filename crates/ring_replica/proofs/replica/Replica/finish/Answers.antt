@@ -2,7 +2,7 @@
 use Rattle.std.proofs.Common.{Option, ap, sym, ◌∙◌, subst}
 use Rattle.std.proofs.lemmas.Bool.{cond-true, cond-false}
 use Rattle.ring_log.specs.Logs.{Log, log_length}
-use Rattle.ring_replica.specs.Courses.{Holding}
+use Rattle.ring_course.specs.Courses.{Holding}
 use Rattle.ring_replica.specs.Replicas.{Replica, tale_done, replica_done, ahead_log, more_in, told_replica, IsCounted, calls_leaving}
 use Rattle.ring_replica.proofs.Replicas.{finished-counted, done-told, left-told, none-left}
 use Rattle.ring_replica.proofs.SteadyLives.{steady-known}

@@ -1,7 +1,7 @@
 -- The newest ring that was adopted is the log's last primary.
 use Rattle.std.proofs.Common.{ap, ◌∙◌}
 use Rattle.ring_log.specs.Logs.{Log}
-use Rattle.ring_replica.specs.Courses.{Holding}
+use Rattle.ring_course.specs.Courses.{Holding}
 use Rattle.ring_replica.specs.Replicas.{is_running_some}
 use Rattle.ring_replica.proofs.Replicas.{last-is}
 use Rattle.ring_replica.proofs.replica.Replica.has_adopted.Goals as goal

@@ -1,7 +1,7 @@
 -- A step that stops gives nothing and leaves what is told; any other gives what the outputs make of the replica.
 use Rattle.std.proofs.Common.{sym, ◌∙◌, ap, Some, None, if◌then◌else◌}
 use Rattle.std.specs.Prelude.{is_some}
-use Rattle.ring_replica.specs.Courses.{Holding, Course}
+use Rattle.ring_course.specs.Courses.{Holding, Course}
 use Rattle.ring_replica.specs.Replicas.{is_table_held}
 use Rattle.ring_replica.proofs.ReplicaSteps.{ready, moved-by, steady-was, halted-counted, halted-later, stopped-same, step-halted, step-lost}
 use Rattle.ring_replica.proofs.ReplicaSteps.{applied-is, effects-are, restored-now, sends-are, due-are, due-is, answers-told, committed-told, restored-told}

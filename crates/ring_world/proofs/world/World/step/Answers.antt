@@ -23,7 +23,7 @@ place g c =
     let room = c.in_ok-make_room.ensures in
     roomy there room.events room.told room.history room.frames room.longest
 
-gave : (g : Over) (c : In-Ok g) → IsStep g.O.Object.sequential c.index_mut.result.now c.args.input.now c.hand.new.node
+gave : (g : Over) (c : In-Ok g) → IsStep g.O.Object.sequential c.index_mut.result.now c.args.input.now c.step_on.new.self
     c.in-Ok.outs.sends.items c.in-Ok.outs.answers.items c.in-Ok.outs.committed.items
 gave g c = record {
   node = c.in-Ok.ensures.ok;
@@ -78,7 +78,7 @@ invariant_of-self-in-Ok g c =
     (rw c.deref.ensures.value at c.keep_all.ensures) c.tell.ensures.history c.tell.ensures.told
     (c.add.ensures ∙ ap (λ n. c.make_room.new.longest.calls ++ calls_past (length c.make_room.new.longest.calls) n c.in-Ok.outs.committed.items)
     (c.committed_len-many.ensures ∙ ap (λ (n : Node g.row.O-Alloc.Denot). (node_kept n).committed)
-    (node_put (place g at.In_ok-make_room) c.hand.new.node c.index.ensures)))
+    (node_put (place g at.In_ok-make_room) c.step_on.new.self c.index.ensures)))
 
 pub returns-in-Ok : goal.returns-in-Ok
 returns-in-Ok g c =

@@ -1,0 +1,27 @@
+-- The committed places that are told stay as a call follows.
+use Rattle.std.proofs.Common.{◌≡◌, ◌+◌, [], ◌∷◌, length, true, ap, ◌∙◌, subst}
+use Rattle.ring_base.specs.Fronts.{IsFront}
+use Rattle.ring_base.proofs.Results.{on-ok}
+use Rattle.ring_log.specs.Logs.{log_length, appended, followed, is_log_length, committed_calls}
+use Rattle.ring_course.specs.Courses.{Holding, told_log}
+use Rattle.ring_course.proofs.LogChanges.{held-followed, front-followed}
+use Rattle.ring_course.proofs.holding.Holding.append.Goals as goal
+
+pub returns-clause-held : goal.returns-clause-held
+returns-clause-held g c =
+    let s = c.self.inside in
+    let old : Holding _ = record { log = s.log; before = s.before; snapshot = s.snapshot } in
+    let calls = (c.args.call ∷ []) in
+    let now : Holding _ = record old { log = c.append.new.self } in
+    on-ok c.append.result (c.append.new.self ≡ followed s.log calls)
+    (is_log_length (log_length c.args.self.now.log + length calls) ≡ true → now ≡ record c.args.self.now { log = appended c.args.self.now.log calls })
+    (λ is fits. held-followed old c.append.new.self calls is (ap (λ (h : Holding _). is_log_length (log_length h.log + length calls)) c.self.view_is ∙ fits)
+    ∙ ap (λ (h : Holding _). record h { log = appended h.log calls }) c.self.view_is) c.append.ensures.log
+
+pub returns-clause-front : goal.returns-clause-front
+returns-clause-front g c =
+    let s = c.self.inside in
+    let old : Holding _ = record { log = s.log; before = s.before; snapshot = s.snapshot } in
+    let now : Holding _ = record old { log = c.append.new.self } in
+    subst (λ (h : Holding _). IsFront (committed_calls (told_log h)) (committed_calls (told_log now))) c.self.view_is
+    (front-followed c.append.result s.before s.log c.append.new.self (c.args.call ∷ []) c.append.ensures.log c.append.ensures.err)

@@ -1,0 +1,34 @@
+-- Where a node restored nothing between what it knew of its log and what it knows later, the sessions after the places that were committed stay as they were,
+-- and so does the snapshot of those that are dropped.
+use Rattle.std.proofs.Common.{◌≡◌, ℕ, ◌-◌, ◌≤◌, ◌==◌, ◌&&◌, take, ap, ◌∙◌, arith, if◌then◌else◌}
+use Rattle.std.specs.Prelude.{nat_lt, fold}
+use Rattle.ring_object.specs.Operations.{Sequential}
+use Rattle.ring_log.specs.Kept.{Kept, IsKnown}
+use Rattle.ring_session.specs.Snapshots.{table_snapshot, restored_table}
+use Rattle.ring_session.specs.Table.{Table, opening as table_opening, table_next}
+use Rattle.ring_course.specs.Courses.{KnownOn}
+use Rattle.ring_course.proofs.KnownOn.{take-fewer}
+use Rattle.ring_rules.specs.Nodes.{table_or, table_before, table_at, snapshot_at, snapshot_kept}
+
+module _ {O A : Type 0} (object : Sequential O) (k now : Kept A) (on : KnownOn k now) (is : IsKnown k) where
+  pub before-on : table_before object now ≡ table_before object k
+  before-on =
+      ap (λ n. if n == 0 then table_opening object.initial else table_or object (restored_table object.restored now.snapshot)) on.from
+      ∙ ap (λ bs. if k.from == 0 then table_opening object.initial else table_or object (restored_table object.restored bs)) on.bytes
+
+  -- the sessions after places that were committed
+  pub table-on : (places : ℕ) → places ≤ k.committed → table_at object now places ≡ table_at object k places
+  table-on places le =
+      ap (λ t. fold (table_next object) t (take (places - now.from) now.calls)) before-on
+      ∙ ap (λ n. fold (table_next object) (table_before object k) (take (places - n) now.calls)) on.from
+      ∙ ap (fold (table_next object) (table_before object k))
+      (take-fewer (places - k.from) (k.committed - k.from) now.calls k.calls (omega (arith, le)) on.places)
+
+  -- the snapshot of those that are dropped
+  pub snapshot-on : snapshot_kept object now ≡ snapshot_kept object k
+  snapshot-on =
+      ap (λ n. if nat_lt 0 n && (now.trimmed == n) then now.snapshot else snapshot_at object now now.trimmed) on.from
+      ∙ ap (λ n. if nat_lt 0 k.from && (n == k.from) then now.snapshot else snapshot_at object now n) on.trimmed
+      ∙ ap (λ bs. if nat_lt 0 k.from && (k.trimmed == k.from) then bs else snapshot_at object now k.trimmed) on.bytes
+      ∙ ap (λ (t : Table O). if nat_lt 0 k.from && (k.trimmed == k.from) then k.snapshot else table_snapshot object.snapshot_of t)
+      (table-on k.trimmed is.high)

@@ -1,0 +1,24 @@
+-- A message that is taken by what is decided makes the step.
+use Rattle.std.proofs.Common.{◌≡◌, sym, subst}
+use Rattle.std.specs.Prelude.{IfOk, OnOk}
+use Rattle.ring_core.specs.State.{Stepped}
+use Rattle.ring_core.specs.Deciding.{Act, Take}
+use Rattle.ring_core.specs.declared.input.Input.TheVariants.{Frame as FrameInput}
+use Rattle.ring_srp_acts.specs.Allowing.{Allows}
+use Rattle.ring_srp.proofs.Allowed.{allowed}
+use Rattle.ring_srp.proofs.StepOutputs.{decided_step}
+use Rattle.ring_srp.proofs.stepping.hear_other.Goals as goal
+
+pub take_copy-requires : goal.take_copy-requires
+take_copy-requires g c = subst (λ (a : Act g.row.A.Denot). Allows c.args.machine.now a) (sym c.in-Some.ensures)
+    (allowed c.args.machine.now (FrameInput c.args.frame.now) c.requires)
+
+pub returns-in-Some-clause-outs : goal.returns-in-Some-clause-outs
+returns-in-Some-clause-outs g c =
+    subst (λ (s : Stepped g.row.A.Denot). IfOk c.take_copy.result (λ outs. outs.items ≡ s.outs))
+    (decided_step c.args.machine.now (Take c.in-Some.message.now) (FrameInput c.args.frame.now) c.in-Some.ensures) c.take_copy.ensures.outs
+
+pub returns-in-Some-clause-core : goal.returns-in-Some-clause-core
+returns-in-Some-clause-core g c =
+    subst (λ (s : Stepped g.row.A.Denot). OnOk c.take_copy.result (c.take_copy.new.machine ≡ s.core))
+    (decided_step c.args.machine.now (Take c.in-Some.message.now) (FrameInput c.args.frame.now) c.in-Some.ensures) c.take_copy.ensures.core
