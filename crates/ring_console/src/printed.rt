@@ -1,11 +1,14 @@
 //! The lines that a script prints.
 
-ghost use Rattle.std.specs.Prelude.{◌≡◌, IfErr, OnOk};
+ghost use Rattle.std.specs.Prelude.{◌≡◌, ◌++◌, codes, IfErr, OnOk};
+ghost use Rattle.std.specs.Fmt.{decimal};
 ghost use Rattle.std.specs.Io.KnownBytes.{Appends};
+ghost use Rattle.hex.specs.Hex.{encode_lower};
 ghost use Rattle.ring_report.specs.declared.failure.Failure.TheVariants.{Output};
 ghost use Rattle.ring_report.specs.Texts.{line_of, legal_text};
 ghost use Rattle.ring_console.specs.Printed.{one_text, told_text, answer_text, refused_text, node_text, order_text};
 
+use itoa::Buffer;
 use ring_base::{Proc, RingId, State};
 use ring_object::Reply;
 use ring_payload::Call;
@@ -13,34 +16,11 @@ use ring_report::{Failure, state_word};
 use ring_rules::Told;
 use ring_session::Answer;
 use std::alloc::Allocator;
-use std::io::Write;
-use std::{fmt, str};
+use std::fmt;
+use std::io::{self, Write};
 
 /// The hexadecimal digits of the longest reply: two for each of its 64 bytes.
 const MOST_DIGITS: usize = 128;
-
-/// A reply, as two hexadecimal digits a byte, in lower case.
-#[derive(Clone, Copy)]
-struct Hex<'a>(&'a Reply);
-
-impl fmt::Display for Hex<'_> {
-    ghost use Rattle.std.specs.Prelude.{Some};
-    ghost use Rattle.hex.specs.Hex.{encode_lower};
-
-    ghost output = { λ hex. Some (encode_lower hex.0.now) };
-
-    fn fmt<W: fmt::Write>(&self, f: &mut fmt::Formatter<W>) -> fmt::Result {
-        let mut room = [0u8; MOST_DIGITS];
-        let digits = &mut room[..2 * self.0.len()];
-        let Ok(()) = hex::encode_to_slice(self.0.as_slice(), digits) else {
-            unreachable!();
-        };
-        let Ok(text) = str::from_utf8(digits) else {
-            unreachable!();
-        };
-        f.write_str(text)
-    }
-}
 
 /// Prints what nodes told, a line each. Otherwise `Output`.
 pub(crate) fn print_told<A: Allocator + Copy + Drop, W: Write>(
@@ -80,21 +60,7 @@ fn print_answer<A: Allocator + Copy + Drop, W: Write>(
     ensures line { OnOk result (Appends (W.contents out.old) (W.contents out.new) (line_of (answer_text node call.now answer.now))) }
     ensures failed { IfErr result (λ failure. failure ≡ Output) }
 {
-    let (node, client, number) = (node.number(), call.client, call.number);
-    let printed = match answer {
-        Answer::Done(reply) => {
-            let reply = Hex(reply);
-            writeln!(out, "reply {node} {client}.{number} done {reply}")
-        }
-        Answer::Kept(reply) => {
-            let reply = Hex(reply);
-            writeln!(out, "reply {node} {client}.{number} kept {reply}")
-        }
-        Answer::Refused(reason) => {
-            writeln!(out, "reply {node} {client}.{number} refused {reason}")
-        }
-    };
-    printed.map_err(|_| Failure::Output)
+    write_answer(out, node, call, answer).map_err(|_| Failure::Output)
 }
 
 /// Prints that a node does not take a call, for the reason of this number. Otherwise `Output`.
@@ -107,8 +73,83 @@ fn print_refused<A: Allocator + Copy + Drop, W: Write>(
     ensures line { OnOk result (Appends (W.contents out.old) (W.contents out.new) (line_of (refused_text node call.now reason))) }
     ensures failed { IfErr result (λ failure. failure ≡ Output) }
 {
-    let (node, client, number) = (node.number(), call.client, call.number);
-    writeln!(out, "refused {node} {client}.{number} {reason}").map_err(|_| Failure::Output)
+    write_refused(out, node, call, reason).map_err(|_| Failure::Output)
+}
+
+/// Writes the line of an answer. Each call has such a line, so it is put together without `write!`, which costs three times as much.
+fn write_answer<A: Allocator + Copy + Drop, W: Write>(
+    out: &mut W,
+    node: Proc,
+    call: &Call<A>,
+    answer: &Answer,
+) -> io::Result<()>
+    ensures { OnOk result (Appends (W.contents out.old) (W.contents out.new) (line_of (answer_text node call.now answer.now))) }
+{
+    write_call(out, "reply ", node, call)?;
+    match answer {
+        Answer::Done(reply) => write_reply(out, " done ", reply),
+        Answer::Kept(reply) => write_reply(out, " kept ", reply),
+        Answer::Refused(reason) => write_reason(out, " refused ", *reason),
+    }
+}
+
+/// Writes the line of a call that is refused.
+fn write_refused<A: Allocator + Copy + Drop, W: Write>(
+    out: &mut W,
+    node: Proc,
+    call: &Call<A>,
+    reason: u8,
+) -> io::Result<()>
+    ensures { OnOk result (Appends (W.contents out.old) (W.contents out.new) (line_of (refused_text node call.now reason))) }
+{
+    write_call(out, "refused ", node, call)?;
+    write_reason(out, " ", reason)
+}
+
+/// Writes a word, the node, and the call's client and number.
+fn write_call<A: Allocator + Copy + Drop, W: Write>(
+    out: &mut W,
+    word: &str,
+    node: Proc,
+    call: &Call<A>,
+) -> io::Result<()>
+    ensures { OnOk result (Appends (W.contents out.old) (W.contents out.new)
+        (word.now ++ decimal node ++ codes " " ++ decimal call.now.client ++ codes "." ++ decimal call.now.number)) }
+{
+    write_number(out, word, u64::from(node.number()))?;
+    write_number(out, " ", u64::from(call.client))?;
+    write_number(out, ".", call.number)
+}
+
+/// Writes a word and a number.
+fn write_number<W: Write>(out: &mut W, word: &str, number: u64) -> io::Result<()>
+    ensures { OnOk result (Appends (W.contents out.old) (W.contents out.new) (word.now ++ decimal number)) }
+{
+    let mut digits = Buffer::new();
+    out.write_all(word.as_bytes())?;
+    out.write_all(digits.format(number).as_bytes())
+}
+
+/// Writes a word and the number of a reason, and ends the line.
+fn write_reason<W: Write>(out: &mut W, word: &str, reason: u8) -> io::Result<()>
+    ensures { OnOk result (Appends (W.contents out.old) (W.contents out.new) (line_of (word.now ++ decimal reason))) }
+{
+    write_number(out, word, u64::from(reason))?;
+    out.write_all(b"\n")
+}
+
+/// Writes a word and a reply, as two hexadecimal digits a byte in lower case, and ends the line.
+fn write_reply<W: Write>(out: &mut W, word: &str, reply: &Reply) -> io::Result<()>
+    ensures { OnOk result (Appends (W.contents out.old) (W.contents out.new) (line_of (word.now ++ encode_lower reply.now))) }
+{
+    let mut room = [0u8; MOST_DIGITS];
+    let digits = &mut room[..2 * reply.len()];
+    let Ok(()) = hex::encode_to_slice(reply.as_slice(), digits) else {
+        unreachable!();
+    };
+    out.write_all(word.as_bytes())?;
+    out.write_all(digits)?;
+    out.write_all(b"\n")
 }
 
 /// How many places of a log are dropped, at the end of what is told of it: nothing where that is 0.
