@@ -17,8 +17,10 @@ For each case the best of N runs is told, 5 where no number is given: calls answ
 calls a second of the plain host of the same nodes, the first by that, and the calls a second of the one in Rust. Ratios matter:
 seconds depend on the machine and on what else it does.
 
-The soak ends with status 1 if a host's history was not legal, or memory grew: if the last quarter of the hosts held more than
-1.2 times what the second quarter held at most.
+The soak ends with status 1 if a host's history was not legal, or memory grew: if the process held more than 1.1 times as much after a
+host of the last quarter as after one of the second. Each of these hosts fills its book, so all have as many lines; and the process has
+one heap for all threads (MALLOC_ARENA_MAX of glibc), so that what one host gave back serves the next. With a heap for each thread
+it would hold more and more of them half empty.
 """
 import argparse
 import os
@@ -122,22 +124,25 @@ def held(pid):
 
 def soak(program):
     """Hosts, one after another, for a minute. The status."""
-    child = subprocess.Popen([str(program), "soak", "1000000"], stdout=subprocess.PIPE, text=True)
+    one_heap = {**os.environ, "MALLOC_ARENA_MAX": "1"}
+    child = subprocess.Popen([str(program), "soak", "1000000"], stdout=subprocess.PIPE, text=True, env=one_heap)
     ends = time.monotonic() + SOAK_SECONDS
-    answered, holds, wrong = 0, [], 0
+    answered, holds, wrong, lines = 0, [], 0, []
     for line in child.stdout:
         told = dict(zip(line.split()[::2], line.split()[1::2]))
         answered += int(told["answered"])
         wrong += told["legal"] != "true"
+        lines.append(int(told["lines"]))
         holds.append(held(child.pid))
         if time.monotonic() > ends:
             child.terminate()
             break
     child.wait()
     quarter = max(1, len(holds) // 4)
-    early, late = max(holds[quarter:2 * quarter] or holds), max(holds[-quarter:])
-    print(f"{len(holds)} hosts, {answered:,} calls answered, {wrong} not legal; at most {early:,} bytes early, {late:,} late")
-    return int(wrong > 0 or not holds or late > 1.2 * early)
+    early, late = max(holds[quarter:2 * quarter] or holds or [0]), max(holds[-quarter:] or [0])
+    print(f"{len(holds)} hosts of {min(lines, default=0):,} to {max(lines, default=0):,} lines, {answered:,} calls answered, {wrong} not legal; "
+          f"at most {early:,} bytes early, {late:,} late")
+    return int(not holds or wrong > 0 or late > 1.1 * early)
 
 
 def main():

@@ -390,6 +390,11 @@ told_answers lines reserved i node ticket t is at low =
 pub none_answers : {A : Type 0} (n node ticket : ℕ) (ls : List (LineView A)) → n < node → Each (IsInside n) ls → None ≡ answer_in ls node ticket
 none_answers {A} n node ticket ls past h = sym (ap (λ (ss : List (StepView A)). told_at (told_from [] ss) ticket) (none_past n node ls past h))
 
+-- no list tells nothing
+pub told_none : (ticket : ℕ) → told_at [] ticket ≡ None
+told_none zero = refl
+told_none (suc ticket) = refl
+
 -- lists of answers with as much room
 pub roomier-refl : (xs : List ToldView) → AreRoomier xs xs
 roomier-refl [] = tt

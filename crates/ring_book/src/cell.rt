@@ -4,17 +4,20 @@ ghost use Rattle.std.specs.Prelude.{◌≡◌, OnErr, MatchResult};
 ghost use Rattle.ring_book_lines.specs.declared.input.LineInput.TheVariants.{Called, Came};
 ghost use Rattle.ring_rules.specs.NodeLimits.{InputFits};
 ghost use Rattle.ring_payload.specs.Calls.{CallFits};
+ghost use Rattle.ring_wire.specs.Frames.{FrameFits, spelling_of};
+ghost use Rattle.ring_rules.specs.declared.input.Input.TheVariants.{Frame as Comes};
 
 use crate::name::BookName;
 use bytes::BytesMut;
 use ring_base::{Fault, Proc};
-use ring_book_lines::{FrameRef, Frames, LineInput, Step};
+use ring_book_lines::{FrameRef, Frames, HeardFrame, LineInput, Step};
 use ring_node::{Node, Outs};
 use ring_object::Object;
 use ring_order_proof::fit_laws::{call_keeps_law, node_fits_law};
 use ring_payload::Call;
 use ring_rules::Input;
 use ring_session::Ticket;
+use ring_wire::Frame;
 use rtrb::Producer;
 use std::marker::{Model, PhantomData};
 
@@ -93,6 +96,54 @@ impl<O: Object, K: BookName<O::Alloc>> Cell<O, K> {
                     answers,
                     committed,
                     places,
+                ));
+                self.ahead = true;
+                Ok(())
+            }
+            Err(fault) => match fault {
+                Fault::Memory => {
+                    let committed = self.node.committed_len() as usize;
+                    let stop = Step::stop(self.alloc, self.me, at, committed);
+                    self.journal.push_reserved(stop);
+                    self.ahead = true;
+                    Err(Fault::Memory)
+                }
+                _ => Err(fault),
+            },
+        }
+    }
+
+    /// Hands the node a frame that came as these bytes, and adds what it did to the journal, which keeps the bytes and not the frame.
+    /// The `FrameRef` says where the frame stands in the book. Refused as [`step`](Cell::step) is.
+    pub fn hear(
+        &mut self,
+        frame: Frame<O::Alloc>,
+        bytes: Vec<u8, O::Alloc>,
+        at: FrameRef,
+    ) -> Result<(), Fault>
+        requires fits { FrameFits frame }
+        requires bytes { bytes.items ≡ spelling_of frame }
+        ensures { let m = node_machine O.sequential K.name.group in
+            MatchResult result (λ _. Journals m self.old self.new (Came (Comes frame) at)) (StepRefused m self.old self.new (Comes frame) at) }
+    {
+        if self.ahead {
+            return Err(Fault::Stranger);
+        }
+        node_fits_law::<O>();
+        let heard = HeardFrame::new(&frame, bytes);
+        match self.node.step(Input::Frame(frame)) {
+            Ok(outs) => {
+                let Outs {
+                    sends,
+                    answers,
+                    committed,
+                    dropped: _,
+                    restored: _,
+                } = outs;
+                let frames = Frames::new(self.alloc, sends, &mut self.text);
+                let places = self.node.committed_len() as usize;
+                self.journal.push_reserved(Step::heard(
+                    self.me, heard, at, frames, answers, committed, places,
                 ));
                 self.ahead = true;
                 Ok(())

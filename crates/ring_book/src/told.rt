@@ -55,6 +55,13 @@ impl<A: Allocator + Copy + Drop> Told<A> {
         tell(&mut self.answers, step);
     }
 
+    /// The answers, in the order of tickets.
+    pub(crate) fn answers(&self) -> &[Option<Answer>]
+        ensures { result.now ≡ self.now.answers }
+    {
+        self.answers.as_slice()
+    }
+
     /// The answer to the ticket, if it has one.
     pub(crate) fn answer(&self, ticket: Ticket) -> Option<Answer>
         ensures { result ≡ told_at self.now.answers ticket }

@@ -23,7 +23,7 @@ use Rattle.ring_rules.specs.Nodes.{Node, node_kept, node_opening, node_stopped}
 use Rattle.ring_rules.specs.Stepping.{NodeStepped, node_step, submit_fault, submitted}
 use Rattle.ring_rules.specs.WorldLimits.{EventFits}
 use Rattle.ring_rules.specs.Worlds.{World, world_opening, put, is_node, carried, items_of, calls_past, after_step, issued_or, issued_if}
-use Rattle.ring_rules.specs.Worlds.{stopped_if, stepped_if, handed_if, handed, happens, run, order}
+use Rattle.ring_rules.specs.Worlds.{stopped_if, stepped_if, handed_if, handed, happens, run}
 use Rattle.ring_order_proof.specs.Linear.{EventKeeps}
 use Rattle.ring_book_lines.specs.declared.frame_ref.FrameRef.{FrameRef}
 use Rattle.ring_book_lines.specs.declared.input.LineInput.{LineInput}

@@ -6,11 +6,14 @@ use Rattle.ring_payload.specs.declared.call.Call.{Call}
 use Rattle.ring_session.specs.declared.answered.Answered.{Answered}
 use Rattle.ring_wire.specs.declared.frame.Frame.{Frame}
 use Rattle.ring_wire.specs.declared.frame.Frame.TheVariants as frames
-use Rattle.ring_rules.specs.declared.input.Input.TheVariants.{Noise}
+use Rattle.ring_rules.specs.declared.input.Input.TheVariants.{Frame as Comes, Noise}
 use Rattle.ring_book_lines.specs.declared.cause.Cause.{Cause}
 use Rattle.ring_book_lines.specs.declared.frames.Kept.{Kept}
 use Rattle.ring_book_lines.specs.declared.frames.Kept.TheVariants.{Spelled, Given}
+use Rattle.ring_book_lines.specs.declared.input.LineInput.{LineInput}
 use Rattle.ring_book_lines.specs.declared.input.LineInput.TheVariants.{Came}
+use Rattle.ring_book_lines.specs.declared.input.StepInput.{StepInput}
+use Rattle.ring_book_lines.specs.declared.input.StepInput.TheVariants.{Told, Heard}
 use Rattle.ring_book_lines.specs.Lines.{cause_of}
 use Rattle.ring_book_lines.specs.Steps.{StepView}
 
@@ -18,6 +21,11 @@ use Rattle.ring_book_lines.specs.Steps.{StepView}
 abbrev pub sends_of : {A : Type 0} → Kept A → List (Sent A)
 sends_of (Spelled frames) = frames.items
 sends_of (Given frames) = frames.items
+
+-- what happened at a node, of what its step keeps
+abbrev pub line_input : {A : Type 0} → StepInput A → LineInput A
+line_input (Told input) = input
+line_input (Heard frame at) = Came (Comes frame) at
 
 -- a frame, and a step, of no meaning
 abbrev pub some_frame : {A : Type 0} → Frame A

@@ -1,7 +1,7 @@
 -- The longest committed log of the nodes, as the lines give it: of each line that makes it longer, the calls by which it does. A line by which its node
 -- restored a snapshot has no calls of the places that this stands for: they were committed by others before.
 -- The book and the threads, of docs/PROTOCOL.md.
-use Rattle.std.specs.Prelude.{ℕ, suc, ◌+◌, ◌-◌, nat_lt, List, [], ◌∷◌, ◌++◌, length, take, drop, Option, Some, None, slice_get, if◌then◌else◌}
+use Rattle.std.specs.Prelude.{ℕ, suc, ◌-◌, nat_lt, List, [], ◌∷◌, ◌++◌, length, take, drop, Option, Some, None, slice_get, if◌then◌else◌}
 use Rattle.ring_payload.specs.declared.call.Call.{Call}
 use Rattle.ring_book_lines.specs.declared.log.Segment.{Segment}
 use Rattle.ring_book_lines.specs.Lines.{steps_of}

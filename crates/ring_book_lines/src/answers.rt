@@ -3,7 +3,7 @@
 ghost use Rattle.std.specs.Prelude.{◌≡◌, ◌<◌, Some, slice_set, vec_len, vec_capacity};
 ghost use Rattle.ring_book_lines.specs.Answers.{answered_in, told_by};
 
-use crate::input::LineInput;
+use crate::input::{LineInput, StepInput};
 use crate::step::Step;
 use ring_session::{Answer, Answered};
 use std::alloc::Allocator;
@@ -15,8 +15,10 @@ pub fn tell<A: Allocator + Copy + Drop>(told: &mut Vec<Option<Answer>, A>, step:
     ensures capacity { vec_capacity told.new ≡ vec_capacity told.old }
 {
     match &step.input {
-        LineInput::Called(_) => told.push_reserved(None),
-        LineInput::Came(_, _) => tell_answers(told, step.answers.as_slice()),
+        StepInput::Told(LineInput::Called(_)) => told.push_reserved(None),
+        StepInput::Told(LineInput::Came(_, _)) | StepInput::Heard(_, _) => {
+            tell_answers(told, step.answers.as_slice())
+        }
     }
 }
 

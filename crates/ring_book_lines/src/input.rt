@@ -1,6 +1,7 @@
 //! What a line is the answer to.
 
 use crate::frame_ref::FrameRef;
+use crate::heard::HeardFrame;
 use ring_payload::Call;
 use ring_rules::Input;
 use std::alloc::{Allocator, Global};
@@ -12,4 +13,13 @@ pub enum LineInput<A: Allocator + Copy = Global> {
     Called(Call<A>),
     /// The input came. If it is a frame, the frame stands there in the book.
     Came(Input<A>, FrameRef),
+}
+
+/// What happened at a node, as a step keeps it on its way.
+#[derive(Drop)]
+pub(crate) enum StepInput<A: Allocator + Copy + Drop = Global> {
+    /// This happened.
+    Told(LineInput<A>),
+    /// The frame came that stands there in the book. Of it the bytes are kept.
+    Heard(HeardFrame<A>, FrameRef),
 }

@@ -3,12 +3,14 @@
 ghost use Rattle.std.specs.Prelude.{◌≡◌, ◌+◌, ◌≤◌, ◌↔◌, Some, IsTrue, length};
 ghost use Rattle.ring_rules.specs.NodeLimits.{InputFits};
 ghost use Rattle.ring_wire.specs.Frames.{FrameFits};
+ghost use Rattle.ring_book_lines.specs.Kept.{line_input};
 ghost use Rattle.ring_book_lines.specs.Lines.{cause_of, frame_to, IsFound, IsThere, Stands};
 
 use crate::cause::Cause;
 use crate::frame_ref::FrameRef;
 use crate::frames::Frames;
-use crate::input::LineInput;
+use crate::heard::HeardFrame;
+use crate::input::{LineInput, StepInput};
 use crate::step::Step;
 use crate::stories::{StepStory, shown_step};
 use bytes::BytesMut;
@@ -49,8 +51,18 @@ impl<A: Allocator + Copy + Drop> Model for Line<A> {
 /// A line takes little, so that a full book on an idle ring does.
 const _: () = prove!(size_of::<Line>() <= 136);
 
-/// What the line tells of its input.
-fn cause<A: Allocator + Copy + Drop>(input: LineInput<A>) -> Cause<A>
+/// What the line tells of what happened.
+fn cause<A: Allocator + Copy + Drop>(input: StepInput<A>) -> Cause<A>
+    ensures { result ≡ cause_of (line_input input) }
+{
+    match input {
+        StepInput::Told(input) => told_cause(input),
+        StepInput::Heard(_, at) => Cause::Delivered(at),
+    }
+}
+
+/// What the line tells of this.
+fn told_cause<A: Allocator + Copy + Drop>(input: LineInput<A>) -> Cause<A>
     ensures { result ≡ cause_of input }
 {
     match input {
@@ -159,8 +171,11 @@ pub fn is_found<A: Allocator + Copy + Drop>(
     ensures room { 8192 ≤ length text.new.items + text.new.spare }
 {
     match &step.input {
-        LineInput::Came(input, at) => is_there(lines, *at, step.node, input, text),
-        LineInput::Called(_) => true,
+        StepInput::Told(LineInput::Came(input, at)) => {
+            is_there(lines, *at, step.node, input, text)
+        }
+        StepInput::Told(LineInput::Called(_)) => true,
+        StepInput::Heard(frame, at) => is_heard(lines, *at, step.node, frame, text),
     }
 }
 
@@ -198,6 +213,24 @@ fn is_sent<A: Allocator + Copy + Drop>(
 {
     match lines.get(at.line as usize) {
         Some(line) => line.frames().has_frame(at.place, node, frame, text),
+        None => false,
+    }
+}
+
+/// Whether the frame that came stands there for the node. The one there may be spelled in `text`, which has room for every frame.
+fn is_heard<A: Allocator + Copy + Drop>(
+    lines: &[Line<A>],
+    at: FrameRef,
+    node: Proc,
+    frame: &HeardFrame<A>,
+    text: &mut BytesMut<A>,
+) -> bool
+    requires { 8192 ≤ length text.old.items + text.old.spare }
+    ensures found { IsTrue result ↔ (frame_to lines.now at node ≡ Some frame.now) }
+    ensures room { 8192 ≤ length text.new.items + text.new.spare }
+{
+    match lines.get(at.line as usize) {
+        Some(line) => line.frames().has_heard(at.place, node, frame, text),
         None => false,
     }
 }

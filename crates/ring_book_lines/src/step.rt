@@ -1,14 +1,15 @@
 //! What a node did, on its way from the cell to the book.
 
 ghost use Rattle.std.specs.Prelude.{◌≡◌, []};
-ghost use Rattle.ring_rules.specs.declared.input.Input.TheVariants.{Stop};
+ghost use Rattle.ring_rules.specs.declared.input.Input.TheVariants.{Frame as Comes, Stop};
 ghost use Rattle.ring_book_lines.specs.Runs.{LineFits};
 ghost use Rattle.ring_payload.specs.Calls.{CallFits};
 ghost use Rattle.ring_book_lines.specs.declared.input.LineInput.TheVariants.{Called, Came};
 
 use crate::frame_ref::FrameRef;
 use crate::frames::Frames;
-use crate::input::LineInput;
+use crate::heard::HeardFrame;
+use crate::input::{LineInput, StepInput};
 use ring_base::Proc;
 use ring_order_proof::fit_laws::call_keeps_law;
 use ring_payload::Call;
@@ -22,7 +23,7 @@ use std::marker::Model;
 #[derive(Drop)]
 pub struct Step<A: Allocator + Copy + Drop = Global> {
     pub(crate) node: Proc,
-    pub(crate) input: LineInput<A>,
+    pub(crate) input: StepInput<A>,
     pub(crate) frames: Frames<A>,
     pub(crate) answers: Vec<Answered<A>, A>,
     pub(crate) calls: Vec<Call<A>, A>,
@@ -30,6 +31,7 @@ pub struct Step<A: Allocator + Copy + Drop = Global> {
 }
 
 impl<A: Allocator + Copy + Drop> Model for Step<A> {
+    ghost use Rattle.ring_book_lines.specs.Kept.{line_input};
     ghost use Rattle.ring_book_lines.specs.Runs.{LineFits};
     ghost use Rattle.ring_book_lines.specs.Steps.{StepView};
 
@@ -37,14 +39,14 @@ impl<A: Allocator + Copy + Drop> Model for Step<A> {
 
     ghost view = { λ s. record {
       node = s.node;
-      input = s.input;
+      input = line_input s.input;
       frames = s.frames;
       answers = s.answers.items;
       calls = s.calls.items;
       committed = s.committed;
     } };
 
-    ghost invariant = { λ s. LineFits s.input };
+    ghost invariant = { λ s. LineFits (line_input s.input) };
 }
 
 impl<A: Allocator + Copy + Drop> Step<A> {
@@ -62,7 +64,30 @@ impl<A: Allocator + Copy + Drop> Step<A> {
     {
         Step {
             node,
-            input,
+            input: StepInput::Told(input),
+            frames,
+            answers,
+            calls,
+            committed,
+        }
+    }
+
+    /// The step of a node to which the frame came that stands there in the book.
+    pub fn heard(
+        node: Proc,
+        frame: HeardFrame<A>,
+        at: FrameRef,
+        frames: Frames<A>,
+        answers: Vec<Answered<A>, A>,
+        calls: Vec<Call<A>, A>,
+        committed: usize,
+    ) -> Step<A>
+        ensures { result ≡ record { node = node; input = Came (Comes frame) at; frames = frames; answers = answers.items; calls = calls.items; committed = committed } }
+    {
+        let _bytes = frame.bytes();
+        Step {
+            node,
+            input: StepInput::Heard(frame, at),
             frames,
             answers,
             calls,

@@ -1,5 +1,5 @@
 -- What `poll` promises (docs/PROTOCOL.md, The book and the threads).
-use Rattle.std.specs.Prelude.{ℕ, ◌≡◌, ◌<◌, List, length, Some}
+use Rattle.std.specs.Prelude.{ℕ, ◌≡◌, ◌<◌, ◌+◌, List, length, Some, slice_get}
 use Rattle.ring_base.specs.Group.{Group}
 use Rattle.ring_object.specs.Operations.{Sequential}
 use Rattle.ring_session.specs.declared.answer.Answer.{Answer}
@@ -15,3 +15,7 @@ pub record IsAnswered (A : Type 0) {O : Type 0} (object : Sequential O) (group :
   pub run : IsRun object group lines
   pub issued : ticket < length (calls_of (steps_of node lines))
   pub answered : answer_in lines node ticket ≡ Some answer
+
+-- Each of the answers is answered, of the node's tickets from this one on.
+abbrev pub AreAnswered : (A : Type 0) {O : Type 0} → Sequential O → Group → ℕ → ℕ → List Answer → Type 0
+AreAnswered A object group node first answers = (i : ℕ) (a : Answer) → slice_get answers i ≡ Some a → IsAnswered A object group node (first + i) a

@@ -1,19 +1,21 @@
 //! The host, and what its callers ask of it.
 
-ghost use Rattle.std.specs.Prelude.{◌≡◌, ◌<◌, ◌≤◌, All, IfOk, IfErr, IfSome, OnErr};
+ghost use Rattle.std.specs.Prelude.{◌≡◌, ◌<◌, ◌≤◌, [], All, IfOk, IfErr, IfSome, OnErr};
 ghost use Rattle.ring_base.specs.declared.fault.Fault.TheVariants.{NotMember};
 ghost use Rattle.std.specs.Fn.{FnOnceReturnsAt};
 ghost use Rattle.ring_payload.specs.Calls.{CallFits};
-ghost use Rattle.ring_rules.specs.NodeLimits.{InputFits};
 ghost use Rattle.ring_seat.specs.Seats.{IsAt, IsOwn};
 ghost use Rattle.ring_host.specs.Answering.{IsAnswered};
 ghost use Rattle.ring_host.specs.Refusing.{IsTurnFault, IsSubmitFault};
+ghost use Rattle.ring_host.specs.Tasks.{TaskFits};
 ghost use Rattle.ring_host.specs.Turns.{published_by};
 
+use crate::answers::Answers;
 use crate::bell::Bell;
 use crate::gate::Open;
 use crate::inbox::Inbox;
 use crate::item::Task;
+use crate::taking::take;
 use crate::turn::Turn;
 use ring_base::{Fault, Kind, Proc};
 use ring_book::{Book, BookName, Cell, FrameRef};
@@ -70,7 +72,7 @@ impl<C, B, A: Allocator + Copy + Drop> HostOf<C, B, A> {
         requires { F.IsAlwaysCallable f }
         ensures { (b : _) × FnOnceReturnsAt F.FnOnce f b result }
     {
-        let book = self.book.lock(rt);
+        let book = take(rt, &self.book);
         f(&book)
     }
 
@@ -117,11 +119,11 @@ impl<C, B, A: Allocator + Copy + Drop> HostOf<C, B, A> {
         due: Option<Kind>,
     ) -> Result<Option<Task<A>>, Fault>
         requires { node ≤ self.now.words }
-        ensures fits { IfOk result (λ found. IfSome found (λ task. InputFits task.input)) }
+        ensures fits { IfOk result (λ found. IfSome found TaskFits) }
         ensures refused { IfErr result IsTurnFault }
     {
         if let Some(kind) = due {
-            return Ok(Some(Task::timeout(self.alloc, kind)));
+            return Ok(Some(Task::Timeout(kind)));
         }
         match self.inboxes[node.number() as usize - 1].pop(rt) {
             Some(item) => Ok(Some(Task::read(self.alloc, item)?)),
@@ -176,8 +178,8 @@ impl<O: Object, K: BookName<O::Alloc>> HostOf<Cell<O, K>, Book<O, K>, O::Alloc> 
         requires { node ≤ self.now.words }
         ensures refused { IfErr result IsTurnFault }
     {
-        let mut cell = self.cells[node.number() as usize - 1].lock(rt);
-        let place = self.book.lock(rt).reserve()?;
+        let mut cell = take(rt, &self.cells[node.number() as usize - 1]);
+        let place = take(rt, &self.book).reserve()?;
         let stopped = cell.step(Input::Stop, FrameRef { line: 0, place: 0 });
         let mut none = Outbox::new(self.alloc);
         self.entered(rt, place, &mut cell, stopped, &mut none)?;
@@ -189,12 +191,31 @@ impl<O: Object, K: BookName<O::Alloc>> HostOf<Cell<O, K>, Book<O, K>, O::Alloc> 
     pub fn poll<W: Wait>(&self, rt: &W, ticket: &HostTicket) -> Option<Answer>
         ensures { IfSome result (IsAnswered O.Alloc O.sequential K.name.group ticket.now.node ticket.now.ticket) }
     {
-        let book = self.book.lock(rt);
+        let book = take(rt, &self.book);
         book.run_law();
         book.answer(ticket.node, ticket.ticket)
     }
 
-    // Submits a call at the node, under its locks.
+    /// No answers, for [`poll_from`](HostOf::poll_from) to put some in. It takes no memory.
+    pub fn no_answers(&self, node: Proc) -> Answers<O, K>
+        ensures { result ≡ record { node = node; first = 0; found = [] } }
+    {
+        Answers::none(self.alloc, node)
+    }
+
+    /// One look for many answers: those to the tickets of this ticket's node from it on that this host's book has take the place
+    /// of the answers. That there is none says as much as of [`poll`](HostOf::poll), or that memory refused it.
+    pub fn poll_from<W: Wait>(&self, rt: &W, ticket: &HostTicket, answers: &mut Answers<O, K>)
+        ensures node { answers.new.node ≡ ticket.now.node }
+        ensures first { answers.new.first ≡ ticket.now.ticket }
+    {
+        answers.make_room();
+        let book = take(rt, &self.book);
+        answers.look(&book, ticket);
+    }
+
+    // Submits a call at the node, under its locks. The book's is held from the place to the line: to take it twice would take longer
+    // than the submit in between.
     fn submit_locked<W: Wait>(
         &self,
         rt: &W,
@@ -206,11 +227,10 @@ impl<O: Object, K: BookName<O::Alloc>> HostOf<Cell<O, K>, Book<O, K>, O::Alloc> 
         ensures node { IfOk result (λ t. t.node ≡ node) }
         ensures refused { IfErr result IsSubmitFault }
     {
-        let mut cell = self.cells[node.number() as usize - 1].lock(rt);
-        let place = self.book.lock(rt).reserve()?;
-        let submitted = cell.submit(call);
-        let mut book = self.book.lock(rt);
-        let ticket = match submitted {
+        let mut cell = take(rt, &self.cells[node.number() as usize - 1]);
+        let mut book = take(rt, &self.book);
+        let place = book.reserve()?;
+        let ticket = match cell.submit(call) {
             Ok(ticket) => ticket,
             Err(fault) => {
                 book.release(place);

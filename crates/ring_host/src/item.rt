@@ -2,12 +2,11 @@
 
 ghost use Rattle.std.specs.Prelude.{◌≡◌, ◌⊎◌, IfOk, IfErr};
 ghost use Rattle.ring_base.specs.declared.fault.Fault.TheVariants.{Memory, Stranger};
-ghost use Rattle.ring_rules.specs.NodeLimits.{InputFits};
+ghost use Rattle.ring_host.specs.Tasks.{TaskFits};
 
 use ring_base::{Fault, Kind};
 use ring_book::FrameRef;
-use ring_rules::Input;
-use ring_wire::{Frame, decode_frame};
+use ring_wire::{Frame, decode_frame, spelling_law};
 use std::alloc::{Allocator, Global};
 
 /// A frame on its way: its bytes, and where they stand in the book.
@@ -27,47 +26,36 @@ pub(crate) enum Found {
     Message,
 }
 
-/// What a turn hands to its node: an input; of a frame its bytes, and where they stand.
+/// What a turn hands to its node.
 #[derive(Drop)]
-pub(crate) struct Task<A: Allocator + Copy + Drop = Global> {
-    pub(crate) input: Input<A>,
-    pub(crate) at: FrameRef,
-    pub(crate) bytes: Vec<u8, A>,
-    pub(crate) found: Found,
+pub(crate) enum Task<A: Allocator + Copy + Drop = Global> {
+    /// A timeout that is due.
+    Timeout(Kind),
+    /// A frame that came, the bytes that spell it, and where they stand in the book.
+    Came(Frame<A>, Vec<u8, A>, FrameRef),
 }
 
 impl<A: Allocator + Copy + Drop> Task<A> {
-    /// A timeout.
-    pub(crate) fn timeout(alloc: A, kind: Kind) -> Task<A>
-        ensures { InputFits result.input }
-    {
-        Task {
-            input: Input::Timeout(kind),
-            at: FrameRef { line: 0, place: 0 },
-            bytes: Vec::new(alloc),
-            found: Found::Timeout,
-        }
-    }
-
     /// A frame that came. Bytes that are none stand nowhere in the book, so they are refused as the book would: with
     /// `Stranger`.
     pub(crate) fn read(alloc: A, item: Item<A>) -> Result<Task<A>, Fault>
-        ensures fits { IfOk result (λ task. InputFits task.input) }
+        ensures fits { IfOk result TaskFits }
         ensures refused { IfErr result (λ fault. (fault ≡ Memory) ⊎ (fault ≡ Stranger)) }
     {
+        spelling_law::<A>();
         let Item { at, bytes } = item;
         match decode_frame(alloc, bytes.as_slice()) {
-            Ok(frame) => {
-                let found = found_in(&frame);
-                Ok(Task {
-                    input: Input::Frame(frame),
-                    at,
-                    bytes,
-                    found,
-                })
-            }
+            Ok(frame) => Ok(Task::Came(frame, bytes, at)),
             Err(Fault::Memory) => Err(Fault::Memory),
             Err(_) => Err(Fault::Stranger),
+        }
+    }
+
+    /// What it is.
+    pub(crate) fn found(&self) -> Found {
+        match self {
+            Task::Timeout(_) => Found::Timeout,
+            Task::Came(frame, _, _) => found_in(frame),
         }
     }
 }

@@ -1,6 +1,7 @@
 //! Threads for the nodes of a book: a lock round each node's cell, one round the book, an inbox for each node, and the gauge.
 #![tactic(auto)]
 
+mod answers;
 mod bell;
 mod gate;
 mod host;
@@ -10,8 +11,10 @@ mod making;
 mod paced;
 mod run;
 mod step;
+mod taking;
 mod turn;
 
+pub use answers::Answers;
 pub use gate::{Gate, GatePlace, Open, Stir};
 pub use host::{Host, HostOf, HostTicket};
 pub use item::Item;

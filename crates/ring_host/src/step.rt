@@ -2,13 +2,14 @@
 
 ghost use Rattle.std.specs.Prelude.{◌≡◌, ◌≤◌, IfErr, IfOk, OnErr};
 ghost use Rattle.ring_seat.specs.Seats.{IsOwn};
-ghost use Rattle.ring_rules.specs.NodeLimits.{InputFits};
 ghost use Rattle.ring_host.specs.Refusing.{IsTurnFault};
+ghost use Rattle.ring_host.specs.Tasks.{TaskFits};
 ghost use Rattle.ring_host.specs.Turns.{published_by};
 
 use crate::gate::{Gate, GatePlace, Stir};
 use crate::host::HostOf;
 use crate::item::{Found, Item, Task};
+use crate::taking::take;
 use crate::turn::Turn;
 use ring_base::{Fault, Proc, State};
 use ring_book::{Book, BookName, Cell, FrameRef, Line, Node, Place};
@@ -18,6 +19,9 @@ use ring_seat::{Outbox, Seat};
 use std::alloc::Allocator;
 use std::sync::Wait;
 use std::thread;
+
+/// What is said to stand somewhere though no frame came.
+const NOWHERE: FrameRef = FrameRef { line: 0, place: 0 };
 
 /// What a step made: how many places the node has committed, whether it took a token, and whether there is anything to do.
 #[derive(Clone, Copy)]
@@ -148,19 +152,17 @@ impl<O: Object, K: BookName<O::Alloc>> HostOf<Cell<O, K>, Book<O, K>, O::Alloc> 
         outbox: &mut Outbox<O::Alloc>,
     ) -> Result<Done, Fault>
         requires member { node ≤ self.now.words }
-        requires fits { InputFits task.input }
+        requires fits { TaskFits task }
         ensures refused { IfErr result IsTurnFault }
     {
-        let mut cell = self.cells[node.number() as usize - 1].lock(rt);
+        let mut cell = take(rt, &self.cells[node.number() as usize - 1]);
         gate.at(node, GatePlace::Held);
         let place = self.place_for(rt, node, &task)?;
-        let Task {
-            input,
-            at,
-            bytes: _,
-            found,
-        } = task;
-        let stepped = cell.step(input, at);
+        let found = task.found();
+        let stepped = match task {
+            Task::Timeout(kind) => cell.step(Input::Timeout(kind), NOWHERE),
+            Task::Came(frame, bytes, at) => cell.hear(frame, bytes, at),
+        };
         let sent = self.entered(rt, place, &mut cell, stepped, outbox)?;
         Ok(done_of(cell.node(), found, sent))
     }
@@ -169,9 +171,9 @@ impl<O: Object, K: BookName<O::Alloc>> HostOf<Cell<O, K>, Book<O, K>, O::Alloc> 
     fn place_for<W: Wait>(&self, rt: &W, node: Proc, task: &Task<O::Alloc>) -> Result<Place, Fault>
         ensures refused { IfErr result IsTurnFault }
     {
-        let mut book = self.book.lock(rt);
-        if let Input::Frame(_) = &task.input {
-            book.check(node, task.at, task.bytes.as_slice())?;
+        let mut book = take(rt, &self.book);
+        if let Task::Came(_, bytes, at) = task {
+            book.check(node, *at, bytes.as_slice())?;
         }
         book.reserve()
     }
@@ -189,7 +191,7 @@ impl<O: Object, K: BookName<O::Alloc>> HostOf<Cell<O, K>, Book<O, K>, O::Alloc> 
         requires refused { IfErr stepped IsTurnFault }
         ensures refused { IfErr result IsTurnFault }
     {
-        let mut book = self.book.lock(rt);
+        let mut book = take(rt, &self.book);
         if let Err(fault) = stepped
             && fault != Fault::Memory
         {

@@ -9,7 +9,7 @@ ghost use Rattle.ring_host_port.specs.Noted.{told_of};
 
 use ring_base::{Fault, Proc};
 use ring_client::{Asked, Port, tellable};
-use ring_host::{BookName, Host, HostTicket, Seat};
+use ring_host::{Answers, BookName, Host, HostTicket, Seat};
 use ring_object::Object;
 use ring_payload::{Call, MOST_OPERATION};
 use ring_session::{Answer, copy_of};
@@ -23,6 +23,9 @@ const PATIENCE: u64 = 1_000;
 /// At each of how many polls it does from then on.
 const NAPS: u64 = 10;
 
+/// At each of how many polls of a call a port looks at the book though its node has committed nothing since its last look.
+const STALE: u64 = 64;
+
 /// How many microseconds a nap is.
 const NAP: u64 = 50;
 
@@ -30,7 +33,8 @@ const NAP: u64 = 50;
 ///
 /// A submit is refused as the port's node refuses it, and before that with `OpTooLong` over 1,024 bytes, `NumberGap` for
 /// number 0, and `Memory` for the call's copy. A poll that finds no answer yields, so that the nodes' threads get on; and from the
-/// thousandth of a call on each tenth of them naps for 50 microseconds too, so that a call outlasts the naps of its nodes.
+/// thousandth of a call on each tenth of them naps for 50 microseconds too, so that a call outlasts the naps of its nodes. One look at
+/// the book serves for 64 tickets of its node.
 #[derive(Drop)]
 pub struct HostPort<'a, O: Object, K: BookName<O::Alloc>, W: Wait> {
     rt: &'a W,
@@ -38,7 +42,19 @@ pub struct HostPort<'a, O: Object, K: BookName<O::Alloc>, W: Wait> {
     seat: Seat<O::Alloc>,
     node: Proc,
     asked: Asked,
+    /// The answers that its last look at the book found.
+    known: Answers<O, K>,
+    /// What its last look at the book was for.
+    looked: LookedFor,
     ghost fits: { (seat.gauge ≡ host.now) × (node ≤ host.now.words) },
+}
+
+/// What a look at the book was for: a ticket, whether it is of the port's node, and how long that node's log was committed before.
+#[derive(Drop)]
+struct LookedFor {
+    ticket: u64,
+    length: u64,
+    is_own: bool,
 }
 
 impl<'a, O: Object, K: BookName<O::Alloc>, W: Wait> HostPort<'a, O, K, W> {
@@ -59,6 +75,12 @@ impl<'a, O: Object, K: BookName<O::Alloc>, W: Wait> HostPort<'a, O, K, W> {
             seat,
             node,
             asked: Asked::new(),
+            known: host.no_answers(node),
+            looked: LookedFor {
+                ticket: 0,
+                length: 0,
+                is_own: false,
+            },
         }
     }
 
@@ -96,6 +118,37 @@ impl<'a, O: Object, K: BookName<O::Alloc>, W: Wait> HostPort<'a, O, K, W> {
         }
         let call = copy_of(call)?;
         self.host.submit(self.rt, &mut self.seat, self.node, call)
+    }
+
+    /// Whether the last look at the book was for this ticket, and the port's node, whose it is, has committed no more since.
+    fn is_vain(&self, ticket: &HostTicket, length: u64) -> bool {
+        self.looked.is_own
+            && ticket.node == self.node
+            && self.looked.ticket == ticket.ticket.number()
+            && self.looked.length == length
+    }
+
+    /// The answer to the ticket, as far as the host's book has it: of those that the last look found, or else of a look now. After one that
+    /// was in vain there is none until the port's node has committed more, but for each 64th poll.
+    fn find(&mut self, ticket: &HostTicket) -> Option<Answer>
+        ensures answered { IfSome result (IsAnswered O.Alloc O.sequential K.name.group ticket.now.node ticket.now.ticket) }
+        ensures node { self.new.node ≡ self.old.node }
+        ensures asked { self.new.asked ≡ self.old.asked }
+    {
+        if let Some(answer) = self.known.answer(ticket) {
+            return Some(answer);
+        }
+        let length = self.host.gauge().look(&mut self.seat, self.node);
+        if self.is_vain(ticket, length) && self.asked.polls % STALE != 0 {
+            return None;
+        }
+        self.looked = LookedFor {
+            ticket: ticket.ticket.number(),
+            length,
+            is_own: ticket.node == self.node,
+        };
+        self.host.poll_from(self.rt, ticket, &mut self.known);
+        self.known.answer(ticket)
     }
 
     /// Lets the nodes' threads get on.
@@ -150,7 +203,7 @@ impl<'a, O: Object, K: BookName<O::Alloc>, W: Wait> Port for HostPort<'a, O, K, 
         ensures answered { IfSome result (IsAnswered O.Alloc O.sequential K.name.group ticket.now.node ticket.now.ticket) }
         ensures node { self.new.node ≡ self.old.node }
     {
-        let found = self.host.poll(self.rt, ticket);
+        let found = self.find(ticket);
         let answer = self.note(found);
         if answer.is_none() {
             self.wait();
