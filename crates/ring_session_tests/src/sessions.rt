@@ -7,9 +7,8 @@ use ring_base::Fault;
 use ring_object::Object;
 use ring_payload::Call;
 use ring_session::{Answer, Sessions, deduplicated_law, session_law, table_law};
-use std::alloc::Global;
+use std::alloc::{Allocator, Global};
 use std::process::Abort;
-use std::test::Fail;
 
 /// A client's call by its number, with its operation, and what it is answered.
 type Row = (u32, u64, &'static [u8], Answer);
@@ -20,17 +19,21 @@ fn assert_answered<O: Object>(
     alloc: O::Alloc,
     sessions: &mut Sessions<O>,
     rows: &[Row],
-) -> Result<(), Fault> {
+) {
     for (client, number, op, want) in rows {
-        let call = Call::new(alloc, *client, *number, *op)?;
+        let call = Call::new(alloc, *client, *number, *op).expect(rt, "a call");
         assert!(rt; sessions.apply(&call) == Ok(*want), "{client}.{number}");
     }
-    Ok(())
+}
+
+/// A table at its opening does so.
+fn assert_new_answers<O: Object>(rt: &impl Abort, alloc: O::Alloc, rows: &[Row]) {
+    let mut sessions = Sessions::<O>::new(alloc).expect(rt, "memory");
+    assert_answered(rt, alloc, &mut sessions, rows);
 }
 
 #[test]
-fn answers_each_row(rt: HostRuntime) -> Result<(), Fail> {
-    let mut sessions = Sessions::<Diary>::new(rt.alloc())?;
+fn answers_each_row(rt: HostRuntime) {
     let rows: [Row; 11] = [
         (7, 2, b"a", Answer::Refused(6)),
         (7, 1, b"a", Answer::Done(had(0))),
@@ -44,48 +47,44 @@ fn answers_each_row(rt: HostRuntime) -> Result<(), Fail> {
         (7, 3, b"a", Answer::Done(had(3))),
         (3, 1, b"a", Answer::Kept(had(2))),
     ];
-    assert_answered(&rt, rt.alloc(), &mut sessions, &rows)?;
-    Ok(())
+    assert_new_answers::<Diary>(&rt, rt.alloc(), &rows);
+}
+
+/// The fault of a call whose operation has so many bytes.
+fn fault_of<A: Allocator + Copy>(alloc: A, op: &[u8]) -> Option<Fault> {
+    Call::new(alloc, 7, 3, op).err()
 }
 
 #[test]
-fn takes_operations_of_every_length(rt: HostRuntime) -> Result<(), Fail> {
-    let mut sessions = Sessions::<Diary>::new(rt.alloc())?;
+fn takes_operations_of_every_length(rt: HostRuntime) {
     let rows: [Row; 4] = [
         (7, 1, &[1; 1024], Answer::Done(had(0))),
         (7, 1, &[1; 1024], Answer::Kept(had(0))),
         (7, 2, &[], Answer::Done(had(0))),
         (7, 2, &[], Answer::Kept(had(0))),
     ];
-    assert_answered(&rt, rt.alloc(), &mut sessions, &rows)?;
-    assert!(rt; Call::new(rt.alloc(), 7, 3, &[1; 1025]).err() == Some(Fault::OpTooLong));
-    Ok(())
+    assert_new_answers::<Diary>(&rt, rt.alloc(), &rows);
+    assert!(rt; fault_of(rt.alloc(), &[1; 1025]) == Some(Fault::OpTooLong));
 }
 
-/// The first call of each of 1,024 clients is done.
-fn assert_all_known<O: Object>(
-    rt: &impl Abort,
-    alloc: O::Alloc,
-    sessions: &mut Sessions<O>,
-) -> Result<(), Fault> {
+/// The first call of each of 1,024 clients is done, and then these are answered.
+fn assert_all_known<O: Object>(rt: &impl Abort, alloc: O::Alloc, rows: &[Row]) {
+    let mut sessions = Sessions::<O>::new(alloc).expect(rt, "memory");
     for before in 0..1024u32 {
         let first: Row = (before * 5 % 1024, 1, &[], Answer::Done(had(0)));
-        assert_answered(rt, alloc, sessions, &[first])?;
+        assert_answered(rt, alloc, &mut sessions, &[first]);
     }
-    Ok(())
+    assert_answered(rt, alloc, &mut sessions, rows);
 }
 
 #[test]
-fn knows_so_many_clients(rt: HostRuntime) -> Result<(), Fail> {
-    let mut sessions = Sessions::<Diary>::new(rt.alloc())?;
-    assert_all_known(&rt, rt.alloc(), &mut sessions)?;
+fn knows_so_many_clients(rt: HostRuntime) {
     let rows: [Row; 3] = [
         (1024, 1, &[], Answer::Refused(7)),
         (1024, 2, &[], Answer::Refused(6)),
         (1023, 2, &[], Answer::Done(had(0))),
     ];
-    assert_answered(&rt, rt.alloc(), &mut sessions, &rows)?;
-    Ok(())
+    assert_all_known::<Diary>(&rt, rt.alloc(), &rows);
 }
 
 /// The answer to a call, tried again if it was refused memory, and how often it was.

@@ -9,7 +9,6 @@ use ring_session::{Answer, Sessions, snapshot_law};
 use ring_things::Queue;
 use std::alloc::Global;
 use std::process::Abort;
-use std::test::Fail;
 
 /// A queue's sessions after client 7's first call, `push 9`: a client, its call, its reply; then the queue.
 const WORKED: &str = "0001000000070000000000000001000901000000000000000901\
@@ -53,55 +52,94 @@ fn snapshot_of<O: Object>(
 }
 
 /// Whether the snapshot of the sessions is this, in hexadecimal.
-fn is_snapshot(alloc: Global, sessions: &Sessions<Queue>, text: &str) -> Result<bool, Fail> {
-    let snapshot = snapshot_of(alloc, sessions)?;
-    let spelled = hex::encode(alloc, snapshot.as_slice())?;
-    Ok(spelled.as_str() == text)
+fn is_snapshot<O: Object>(
+    rt: &impl Abort,
+    ample: Global,
+    alloc: O::Alloc,
+    sessions: &Sessions<O>,
+    text: &str,
+) -> bool {
+    let snapshot = snapshot_of(alloc, sessions).expect(rt, "memory");
+    let spelled = hex::encode(ample, snapshot.as_slice()).expect(rt, "memory");
+    spelled.as_str() == text
 }
 
 /// The sessions that are restored from this, in hexadecimal.
-fn restored(alloc: Global, text: &str) -> Result<Sessions<Queue>, Fail> {
-    let bytes = hex::decode(alloc, text)?;
-    Ok(Sessions::restore(alloc, bytes.as_slice())?)
+fn restored<O: Object>(
+    rt: &impl Abort,
+    ample: Global,
+    alloc: O::Alloc,
+    text: &str,
+) -> Result<Sessions<O>, Fault> {
+    let bytes = hex::decode(ample, text).expect(rt, "hexadecimal");
+    Sessions::restore(alloc, bytes.as_slice())
 }
 
-/// Whether the text is refused as no snapshot.
-fn is_refused(alloc: Global, text: &str) -> Result<bool, Fail> {
-    let bytes = hex::decode(alloc, text)?;
-    Ok(Sessions::<Queue>::restore(alloc, bytes.as_slice()).err() == Some(Fault::BadSnapshot))
+/// The text is a snapshot, and what is restored from it has that snapshot.
+fn assert_restored<O: Object>(rt: &impl Abort, ample: Global, alloc: O::Alloc, text: &str) {
+    let sessions = restored::<O>(rt, ample, alloc, text).expect(rt, "a snapshot");
+    assert!(rt; is_snapshot(rt, ample, alloc, &sessions, text), "{text}");
+}
+
+/// The fault with which the text is refused, if it is.
+fn refusal_of<O: Object>(
+    rt: &impl Abort,
+    ample: Global,
+    alloc: O::Alloc,
+    text: &str,
+) -> Option<Fault> {
+    restored::<O>(rt, ample, alloc, text).err()
+}
+
+/// The sessions answer client 7's call of this number so.
+fn assert_answer<O: Object>(
+    rt: &impl Abort,
+    alloc: O::Alloc,
+    sessions: &mut Sessions<O>,
+    number: u64,
+    op: &[u8],
+    answer: Answer,
+) {
+    let call = Call::new(alloc, 7, number, op).expect(rt, "a call");
+    assert!(rt; sessions.apply(&call) == Ok(answer), "{number}");
+}
+
+/// The sessions of a new queue have the worked snapshot, once 9 was pushed.
+fn assert_worked<O: Object>(rt: &impl Abort, ample: Global, alloc: O::Alloc) {
+    let mut sessions = Sessions::<O>::new(alloc).expect(rt, "memory");
+    let done = Answer::Done(Reply::from_slice(&[0]));
+    assert_answer(rt, alloc, &mut sessions, 1, Queue::push(9).as_slice(), done);
+    assert!(rt; is_snapshot(rt, ample, alloc, &sessions, WORKED));
 }
 
 #[test]
-fn a_queues_sessions_have_the_worked_snapshot(rt: HostRuntime) -> Result<(), Fail> {
-    let mut sessions = Sessions::<Queue>::new(rt.alloc())?;
-    let push = Call::new(rt.alloc(), 7, 1, Queue::push(9).as_slice())?;
-    assert!(rt; sessions.apply(&push) == Ok(Answer::Done(Reply::from_slice(&[0]))));
-    assert!(rt; is_snapshot(rt.alloc(), &sessions, WORKED)?);
-    Ok(())
+fn a_queues_sessions_have_the_worked_snapshot(rt: HostRuntime) {
+    assert_worked::<Queue>(&rt, rt.alloc(), rt.alloc());
 }
 
 /// What was restored answers the client's call again, and goes on.
-#[test]
-fn restored_sessions_go_on(rt: HostRuntime) -> Result<(), Fail> {
-    let mut sessions = restored(rt.alloc(), WORKED)?;
-    let push = Call::new(rt.alloc(), 7, 1, Queue::push(9).as_slice())?;
-    assert!(rt; sessions.apply(&push) == Ok(Answer::Kept(Reply::from_slice(&[0]))));
-    let pop = Call::new(rt.alloc(), 7, 2, Queue::pop().as_slice())?;
-    let nine = Reply::from_slice(&[0, 0, 0, 0, 0, 0, 0, 0, 9]);
-    assert!(rt; sessions.apply(&pop) == Ok(Answer::Done(nine)));
-    Ok(())
+fn assert_goes_on<O: Object>(rt: &impl Abort, ample: Global, alloc: O::Alloc) {
+    let mut sessions = restored::<O>(rt, ample, alloc, WORKED).expect(rt, "a snapshot");
+    let kept = Answer::Kept(Reply::from_slice(&[0]));
+    assert_answer(rt, alloc, &mut sessions, 1, Queue::push(9).as_slice(), kept);
+    let nine = Answer::Done(Reply::from_slice(&[0, 0, 0, 0, 0, 0, 0, 0, 9]));
+    assert_answer(rt, alloc, &mut sessions, 2, Queue::pop().as_slice(), nine);
 }
 
 #[test]
-fn only_snapshots_are_restored(rt: HostRuntime) -> Result<(), Fail> {
+fn restored_sessions_go_on(rt: HostRuntime) {
+    assert_goes_on::<Queue>(&rt, rt.alloc(), rt.alloc());
+}
+
+#[test]
+fn only_snapshots_are_restored(rt: HostRuntime) {
     for text in [WORKED, TABLES[0], TABLES[1]] {
-        let sessions = restored(rt.alloc(), text)?;
-        assert!(rt; is_snapshot(rt.alloc(), &sessions, text)?, "{text}");
+        assert_restored::<Queue>(&rt, rt.alloc(), rt.alloc(), text);
     }
     for text in NO_TABLES {
-        assert!(rt; is_refused(rt.alloc(), text)?, "{text}");
+        let refusal = refusal_of::<Queue>(&rt, rt.alloc(), rt.alloc(), text);
+        assert!(rt; refusal == Some(Fault::BadSnapshot), "{text}");
     }
-    Ok(())
 }
 
 /// The law at one object.

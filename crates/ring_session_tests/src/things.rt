@@ -105,30 +105,19 @@ const NO_SETS: [&str; 7] = [
 
 const NO_VALUES: [&str; 3] = ["", "00", "0000000000000005"];
 
-/// Whether the operation is answered by this reply, both in hexadecimal.
-fn is_replied<O: Object>(
-    alloc: Global,
-    object: &mut O,
-    op: &str,
-    reply: &str,
-) -> Result<bool, Fail> {
-    let op = hex::decode(alloc, op)?;
-    let answer = object.apply(op.as_slice())?;
-    let text = hex::encode(alloc, answer.as_slice())?;
-    Ok(text.as_str() == reply)
-}
-
-/// The object does the operations in turn, and gives these replies.
+/// The object does the operations in turn, and gives these replies, both in hexadecimal.
 fn assert_replies<O: Object>(
     rt: &impl Abort,
     alloc: Global,
     object: &mut O,
     rows: &[(&str, &str)],
-) -> Result<(), Fail> {
+) {
     for (op, reply) in rows {
-        assert!(rt; is_replied(alloc, object, op, reply)?, "at {op}");
+        let bytes = hex::decode(alloc, *op).expect(rt, "hexadecimal");
+        let answer = object.apply(bytes.as_slice()).expect(rt, "memory");
+        let text = hex::encode(alloc, answer.as_slice()).expect(rt, "memory");
+        assert!(rt; text.as_str() == *reply, "at {op}");
     }
-    Ok(())
 }
 
 /// An object at the start does the operations.
@@ -136,24 +125,22 @@ fn assert_started<O: Object<Alloc = Global>>(
     rt: &impl Abort,
     alloc: Global,
     rows: &[(&str, &str)],
-) -> Result<(), Fail> {
-    let mut object = O::start(alloc)?;
-    assert_replies(rt, alloc, &mut object, rows)
+) {
+    let mut object = O::start(alloc).expect(rt, "memory");
+    assert_replies(rt, alloc, &mut object, rows);
 }
 
-/// The object takes 1,024 numbers of 8 bytes, and then does the operations.
-fn assert_filled<O: Object>(
-    rt: &impl Abort,
-    alloc: Global,
-    object: &mut O,
-    rows: &[(&str, &str)],
-) -> Result<(), Fail> {
+/// An object at the start takes 1,024 numbers of 8 bytes, and then does the operations.
+fn assert_filled<O: Object<Alloc = Global>>(rt: &impl Abort, alloc: Global, rows: &[(&str, &str)]) {
+    let mut object = O::start(alloc).expect(rt, "memory");
     for i in 0..1024u16 {
         let [high, low] = i.to_be_bytes();
-        let answer = object.apply(&[1, 0, 0, 0, 0, 0, 0, high, low])?;
+        let answer = object
+            .apply(&[1, 0, 0, 0, 0, 0, 0, high, low])
+            .expect(rt, "memory");
         assert!(rt; answer.as_slice() == [0].as_slice(), "at {i}");
     }
-    assert_replies(rt, alloc, object, rows)
+    assert_replies(rt, alloc, &mut object, rows);
 }
 
 /// An object's snapshot.
@@ -169,65 +156,36 @@ fn snapshot_again<O: Object>(alloc: O::Alloc, snapshot: &[u8]) -> Result<Vec<u8,
     snapshot_of(alloc, &back)
 }
 
-/// Whether this is the snapshot, in hexadecimal.
-fn is_snapshot<O: Object<Alloc = Global>>(
-    alloc: Global,
-    object: &O,
-    text: &str,
-) -> Result<bool, Fail> {
-    let snapshot = snapshot_of(alloc, object)?;
-    let text_of = hex::encode(alloc, snapshot.as_slice())?;
-    Ok(text_of.as_str() == text)
-}
-
-/// An object at the start does the operations, and has this snapshot then.
+/// An object at the start does the operations, and has this snapshot then, in hexadecimal.
 fn assert_snapshot<O: Object<Alloc = Global>>(
     rt: &impl Abort,
     alloc: Global,
     rows: &[(&str, &str)],
     text: &str,
-) -> Result<(), Fail> {
-    let mut object = O::start(alloc)?;
-    assert_replies(rt, alloc, &mut object, rows)?;
-    assert!(rt; is_snapshot(alloc, &object, text)?);
-    Ok(())
-}
-
-/// Whether the text is a snapshot, and what is restored from it has that snapshot.
-fn is_restored<O: Object<Alloc = Global>>(alloc: Global, text: &str) -> Result<bool, Fail> {
-    let bytes = hex::decode(alloc, text)?;
-    let again = snapshot_again::<O>(alloc, bytes.as_slice())?;
-    Ok(again.as_slice() == bytes.as_slice())
+) {
+    let mut object = O::start(alloc).expect(rt, "memory");
+    assert_replies(rt, alloc, &mut object, rows);
+    let snapshot = snapshot_of(alloc, &object).expect(rt, "memory");
+    let spelled = hex::encode(alloc, snapshot.as_slice()).expect(rt, "memory");
+    assert!(rt; spelled.as_str() == text);
 }
 
 /// Each of the texts is a snapshot, and what is restored from it has that snapshot.
-fn assert_restored<O: Object<Alloc = Global>>(
-    rt: &impl Abort,
-    alloc: Global,
-    texts: &[&str],
-) -> Result<(), Fail> {
+fn assert_restored<O: Object<Alloc = Global>>(rt: &impl Abort, alloc: Global, texts: &[&str]) {
     for text in texts {
-        assert!(rt; is_restored::<O>(alloc, text)?, "{text}");
+        let bytes = hex::decode(alloc, *text).expect(rt, "hexadecimal");
+        let again = snapshot_again::<O>(alloc, bytes.as_slice()).expect(rt, "a snapshot");
+        assert!(rt; again.as_slice() == bytes.as_slice(), "{text}");
     }
-    Ok(())
-}
-
-/// Whether the text is refused as no snapshot.
-fn is_refused<O: Object<Alloc = Global>>(alloc: Global, text: &str) -> Result<bool, Fail> {
-    let bytes = hex::decode(alloc, text)?;
-    Ok(O::restore(alloc, bytes.as_slice()).err() == Some(Fault::BadSnapshot))
 }
 
 /// None of the texts is a snapshot.
-fn assert_refused<O: Object<Alloc = Global>>(
-    rt: &impl Abort,
-    alloc: Global,
-    texts: &[&str],
-) -> Result<(), Fail> {
+fn assert_refused<O: Object<Alloc = Global>>(rt: &impl Abort, alloc: Global, texts: &[&str]) {
     for text in texts {
-        assert!(rt; is_refused::<O>(alloc, text)?, "{text}");
+        let bytes = hex::decode(alloc, *text).expect(rt, "hexadecimal");
+        let refusal = O::restore(alloc, bytes.as_slice()).err();
+        assert!(rt; refusal == Some(Fault::BadSnapshot), "{text}");
     }
-    Ok(())
 }
 
 /// Each operation has these bytes.
@@ -308,41 +266,37 @@ fn replies_are_read(rt: HostRuntime) {
 }
 
 #[test]
-fn operations_are_replied(rt: HostRuntime) -> Result<(), Fail> {
-    assert_started::<Registers>(&rt, rt.alloc(), &REGISTERS)?;
-    assert_started::<Counters>(&rt, rt.alloc(), &COUNTERS)?;
-    assert_started::<Queue>(&rt, rt.alloc(), &QUEUE)?;
-    assert_started::<Names>(&rt, rt.alloc(), &NAMES)?;
-    assert_started::<Things<Global>>(&rt, rt.alloc(), &THINGS)?;
-    Ok(())
+fn operations_are_replied(rt: HostRuntime) {
+    assert_started::<Registers>(&rt, rt.alloc(), &REGISTERS);
+    assert_started::<Counters>(&rt, rt.alloc(), &COUNTERS);
+    assert_started::<Queue>(&rt, rt.alloc(), &QUEUE);
+    assert_started::<Names>(&rt, rt.alloc(), &NAMES);
+    assert_started::<Things<Global>>(&rt, rt.alloc(), &THINGS);
 }
 
 #[test]
-fn limits_are_exact(rt: HostRuntime) -> Result<(), Fail> {
-    assert_filled(&rt, rt.alloc(), &mut Queue::start(rt.alloc())?, &FULL_QUEUE)?;
-    assert_filled(&rt, rt.alloc(), &mut Names::start(rt.alloc())?, &FULL_NAMES)?;
-    Ok(())
+fn limits_are_exact(rt: HostRuntime) {
+    assert_filled::<Queue>(&rt, rt.alloc(), &FULL_QUEUE);
+    assert_filled::<Names>(&rt, rt.alloc(), &FULL_NAMES);
 }
 
 #[test]
-fn snapshots_come_back(rt: HostRuntime) -> Result<(), Fail> {
+fn snapshots_come_back(rt: HostRuntime) {
     let pushes = [("010000000000000007", "00"), ("010000000000000009", "00")];
-    assert_snapshot::<Queue>(&rt, rt.alloc(), &pushes, QUEUES[1])?;
+    assert_snapshot::<Queue>(&rt, rt.alloc(), &pushes, QUEUES[1]);
     let inserts = [("0162", "00"), ("0161", "00")];
-    assert_snapshot::<Names>(&rt, rt.alloc(), &inserts, SETS[1])?;
-    assert_restored::<Queue>(&rt, rt.alloc(), &QUEUES)?;
-    assert_restored::<Names>(&rt, rt.alloc(), &SETS)?;
-    Ok(())
+    assert_snapshot::<Names>(&rt, rt.alloc(), &inserts, SETS[1]);
+    assert_restored::<Queue>(&rt, rt.alloc(), &QUEUES);
+    assert_restored::<Names>(&rt, rt.alloc(), &SETS);
 }
 
 #[test]
-fn only_snapshots_are_restored(rt: HostRuntime) -> Result<(), Fail> {
-    assert_refused::<Registers>(&rt, rt.alloc(), &NO_VALUES)?;
-    assert_refused::<Counters>(&rt, rt.alloc(), &NO_VALUES)?;
-    assert_refused::<Queue>(&rt, rt.alloc(), &NO_QUEUES)?;
-    assert_refused::<Names>(&rt, rt.alloc(), &NO_SETS)?;
-    assert_refused::<Things<Global>>(&rt, rt.alloc(), &NO_VALUES)?;
-    Ok(())
+fn only_snapshots_are_restored(rt: HostRuntime) {
+    assert_refused::<Registers>(&rt, rt.alloc(), &NO_VALUES);
+    assert_refused::<Counters>(&rt, rt.alloc(), &NO_VALUES);
+    assert_refused::<Queue>(&rt, rt.alloc(), &NO_QUEUES);
+    assert_refused::<Names>(&rt, rt.alloc(), &NO_SETS);
+    assert_refused::<Things<Global>>(&rt, rt.alloc(), &NO_VALUES);
 }
 
 /// The law at each object.

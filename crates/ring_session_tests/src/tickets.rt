@@ -8,7 +8,6 @@ use ring_object::Object;
 use ring_payload::Call;
 use ring_session::{Answer, Pending, Sessions, Ticket, Tickets, answers_of};
 use ring_things::{Counters, Outcome, reply_with};
-use std::test::Fail;
 
 /// The answer that brings a counter to this count.
 fn done(count: u64) -> Option<Answer> {
@@ -113,12 +112,16 @@ fn makes_room<O: Object>(kept: &mut Kept<O>) -> Result<bool, Fault> {
     Ok(was_full && committed == (1, 1) && waiting == 63 && next == 64)
 }
 
+/// Whether a new node does so, and has no room for a ticket more then.
+fn fills_up<O: Object>(alloc: O::Alloc) -> Result<(bool, bool), Fault> {
+    let mut kept = Kept::<O>::new(alloc)?;
+    let made_room = makes_room(&mut kept)?;
+    Ok((made_room, is_full(&kept)))
+}
+
 #[test]
-fn ticket_65_without_an_answer_is_refused(rt: HostRuntime) -> Result<(), Fail> {
-    let mut kept = Kept::<Counters>::new(rt.alloc())?;
-    assert!(rt; makes_room(&mut kept)?);
-    assert!(rt; is_full(&kept));
-    Ok(())
+fn ticket_65_without_an_answer_is_refused(rt: HostRuntime) {
+    assert!(rt; fills_up::<Counters>(rt.alloc()) == Ok((true, true)));
 }
 
 /// The answers to these tickets.
@@ -130,7 +133,8 @@ fn replies<O: Object>(kept: &Kept<O>, tickets: [Ticket; 3]) -> [Option<Answer>; 
 
 /// What two first tickets and the 65th are answered, before the last of these is answered and after it.
 fn replies_of_65<O: Object>(kept: &mut Kept<O>) -> Result<[[Option<Answer>; 3]; 2], Fault> {
-    let (first, second) = (kept.answer(1)?, kept.answer(2)?);
+    let first = kept.answer(1)?;
+    let second = kept.answer(2)?;
     kept.answer_all(3, 65)?;
     let tickets = [first, second, kept.give(65)?];
     let before = replies(kept, tickets);
@@ -138,13 +142,17 @@ fn replies_of_65<O: Object>(kept: &mut Kept<O>) -> Result<[[Option<Answer>; 3]; 
     Ok([before, replies(kept, tickets)])
 }
 
+/// The same of a new node.
+fn replies_of_new<O: Object>(alloc: O::Alloc) -> Result<[[Option<Answer>; 3]; 2], Fault> {
+    let mut kept = Kept::<O>::new(alloc)?;
+    replies_of_65(&mut kept)
+}
+
 #[test]
-fn last_64_answers_are_kept(rt: HostRuntime) -> Result<(), Fail> {
-    let mut kept = Kept::<Counters>::new(rt.alloc())?;
+fn last_64_answers_are_kept(rt: HostRuntime) {
     let before = [done(1), done(2), None];
     let after = [None, done(2), done(65)];
-    assert!(rt; replies_of_65(&mut kept)? == [before, after]);
-    Ok(())
+    assert!(rt; replies_of_new::<Counters>(rt.alloc()) == Ok([before, after]));
 }
 
 /// Two tickets of one call, and the call twice in one step: both are answered at the first place. A later ticket of the
@@ -158,9 +166,8 @@ fn repeated<O: Object>(heap: O::Alloc) -> Result<[(usize, u64); 2], Fault> {
 }
 
 #[test]
-fn tickets_of_one_call_are_answered_at_its_first_place(rt: HostRuntime) -> Result<(), Fail> {
-    assert!(rt; repeated::<Counters>(rt.alloc())? == [(2, 1), (1, 0)]);
-    Ok(())
+fn tickets_of_one_call_are_answered_at_its_first_place(rt: HostRuntime) {
+    assert!(rt; repeated::<Counters>(rt.alloc()) == Ok([(2, 1), (1, 0)]));
 }
 
 /// Calls whose numbers are 256 apart, one of them with two tickets: how many are answered as two of them are committed, and
@@ -177,9 +184,8 @@ fn apart<O: Object>(heap: O::Alloc) -> Result<[(usize, u64); 2], Fault> {
 }
 
 #[test]
-fn calls_with_numbers_256_apart_are_told_apart(rt: HostRuntime) -> Result<(), Fail> {
-    assert!(rt; apart::<Counters>(rt.alloc())? == [(3, 1), (1, 0)]);
-    Ok(())
+fn calls_with_numbers_256_apart_are_told_apart(rt: HostRuntime) {
+    assert!(rt; apart::<Counters>(rt.alloc()) == Ok([(3, 1), (1, 0)]));
 }
 
 /// Tickets 1 to 66, each with the call of its number, of which four are committed: how many are answered, the first of
@@ -205,9 +211,8 @@ fn beyond<O: Object>(heap: O::Alloc) -> Result<(usize, Option<u64>, u64), Fault>
 }
 
 #[test]
-fn more_than_64_tickets_are_answered(rt: HostRuntime) -> Result<(), Fail> {
-    assert!(rt; beyond::<Counters>(rt.alloc())? == (3, Some(66), 1));
-    Ok(())
+fn more_than_64_tickets_are_answered(rt: HostRuntime) {
+    assert!(rt; beyond::<Counters>(rt.alloc()) == Ok((3, Some(66), 1)));
 }
 
 #[test]

@@ -71,10 +71,10 @@ fn refused_reads_and_copies(rt: HostRuntime) -> Result<(), Fail> {
 
 /// Writes the frame that the bytes spell behind what stands in the buffer. A refusal leaves the buffer as
 /// it was.
-fn put_behind<'a>(
-    heap: &'a Refusing,
+fn put_behind<A: Allocator + Copy + Drop>(
+    heap: A,
     bytes: &[u8],
-    out: &mut BytesMut<&'a Refusing>,
+    out: &mut BytesMut<A>,
     wanted: &mut Vec<u8>,
 ) -> Result<(), Fault> {
     let frame = decode_frame(heap, bytes)?;
@@ -89,8 +89,12 @@ fn put_behind<'a>(
 }
 
 /// Writes the frame again and again, so that the buffer grows.
-fn put_often(heap: &Refusing, alloc: Global, bytes: &[u8]) -> Result<(), Fault> {
-    let mut out = BytesMut::<&Refusing>::new(heap);
+fn put_often<A: Allocator + Copy + Drop>(
+    heap: A,
+    alloc: Global,
+    bytes: &[u8],
+) -> Result<(), Fault> {
+    let mut out = BytesMut::new(heap);
     let mut wanted = Vec::new(alloc);
     for _ in 0..5 {
         put_behind(heap, bytes, &mut out, &mut wanted)?;

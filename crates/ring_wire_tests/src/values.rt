@@ -13,7 +13,7 @@ use ring_wire::{
     CommitEntry, CommitToken, Entries, Frame, Join, Requests, Token, Wire, decode_frame,
     one_spelling_law, short_law, spelling_law,
 };
-use std::alloc::Global;
+use std::alloc::{Allocator, Global};
 use std::test::Fail;
 
 /// The ring of a number, with the smallest representative.
@@ -22,12 +22,6 @@ fn ring(number: u64) -> RingId {
         seq: number,
         rep: Proc::new(1),
     }
-}
-
-/// The frame that the texts spell.
-fn frame_of(alloc: Global, vector: &[&str]) -> Result<Frame, Fail> {
-    let bytes = bytes_of(alloc, vector)?;
-    Ok(decode_frame(alloc, bytes.as_slice())?)
 }
 
 fn is_the_join(join: &Join) -> bool {
@@ -56,7 +50,7 @@ fn is_the_commit_token(commit: &CommitToken) -> bool {
 }
 
 /// Whether the frame, no message, is the vector of its kind.
-fn is_a_vector(frame: &Frame) -> bool {
+fn is_a_vector<A: Allocator + Copy>(frame: &Frame<A>) -> bool {
     match frame {
         Frame::Join(join) => is_the_join(join),
         Frame::Token(token) => is_the_token(token),
@@ -66,7 +60,7 @@ fn is_a_vector(frame: &Frame) -> bool {
 }
 
 /// Ring, number, sender.
-fn message_fields(frame: &Frame) -> Option<(u64, u64, u8)> {
+fn message_fields<A: Allocator + Copy>(frame: &Frame<A>) -> Option<(u64, u64, u8)> {
     match frame {
         Frame::Message(message) => {
             Some((message.ring.seq, message.number, message.sender.number()))
@@ -78,7 +72,7 @@ fn message_fields(frame: &Frame) -> Option<(u64, u64, u8)> {
 /// The tag of the payload, and four of its numbers: client, number and length of a call; last primary's number and
 /// the three lengths of a head; first place and count of a part; count of a pack; places, all bytes, offset and
 /// length of a piece; ring, number and sender of what is wrapped.
-fn payload_fields(frame: &Frame) -> Option<[u64; 5]> {
+fn payload_fields<A: Allocator + Copy>(frame: &Frame<A>) -> Option<[u64; 5]> {
     let Frame::Message(message) = frame else {
         return None;
     };
@@ -111,9 +105,9 @@ fn payload_fields(frame: &Frame) -> Option<[u64; 5]> {
     }
 }
 
-/// Whether the texts spell the vector of a kind, and its copy is it, too.
-fn spell_a_vector(alloc: Global, vector: &[&str]) -> Result<bool, Fail> {
-    let frame = frame_of(alloc, vector)?;
+/// Whether the bytes are the vector of a kind, and what they spell and its copy have its fields.
+fn spell_a_vector<A: Allocator + Copy + Drop>(alloc: A, bytes: &[u8]) -> Result<bool, Fault> {
+    let frame = decode_frame(alloc, bytes)?;
     let copy = frame.clone()?;
     Ok(is_a_vector(&frame) && is_a_vector(&copy))
 }
@@ -121,25 +115,23 @@ fn spell_a_vector(alloc: Global, vector: &[&str]) -> Result<bool, Fail> {
 #[test]
 fn fields_of_the_vectors(rt: HostRuntime) -> Result<(), Fail> {
     for vector in [&JOIN[..], &TOKEN[..], &COMMIT[..]] {
-        assert!(rt; spell_a_vector(rt.alloc(), vector)?);
+        let bytes = bytes_of(rt.alloc(), vector)?;
+        assert!(rt; spell_a_vector(rt.alloc(), bytes.as_slice()) == Ok(true));
     }
     Ok(())
 }
 
-/// Whether the texts spell a message with these fields, and its copy has them, too.
-fn spell_a_message(
-    alloc: Global,
-    vector: &[&str],
-    message: (u64, u64, u8),
-    payload: [u64; 5],
-) -> Result<bool, Fail> {
-    let frame = frame_of(alloc, vector)?;
+/// What is asked of a message: its ring, number and sender, and the fields of its payload.
+type Fields = (Option<(u64, u64, u8)>, Option<[u64; 5]>);
+
+/// The fields of the message that the bytes spell, and those of its copy.
+fn fields_of<A: Allocator + Copy + Drop>(alloc: A, bytes: &[u8]) -> Result<[Fields; 2], Fault> {
+    let frame = decode_frame(alloc, bytes)?;
     let copy = frame.clone()?;
-    let is_right = message_fields(&frame) == Some(message)
-        && payload_fields(&frame) == Some(payload);
-    let is_copied = message_fields(&copy) == Some(message)
-        && payload_fields(&copy) == Some(payload);
-    Ok(is_right && is_copied)
+    Ok([
+        (message_fields(&frame), payload_fields(&frame)),
+        (message_fields(&copy), payload_fields(&copy)),
+    ])
 }
 
 #[test]
@@ -155,8 +147,10 @@ fn fields_of_the_messages(rt: HostRuntime) -> Result<(), Fail> {
         (&SNAP[..], (8, 6, 1), [8, 256, 7002, 7000, 2]),
         (&WRAPPED[..], (2, 1, 2), [2, 1, 3, 1, 0]),
     ] {
+        let bytes = bytes_of(rt.alloc(), vector)?;
+        let fields = (Some(message), Some(payload));
         assert!(rt;
-            spell_a_message(rt.alloc(), vector, message, payload)?,
+            fields_of(rt.alloc(), bytes.as_slice()) == Ok([fields, fields]),
             "tag {}",
             payload[0]
         );
@@ -165,7 +159,10 @@ fn fields_of_the_messages(rt: HostRuntime) -> Result<(), Fail> {
 }
 
 /// Whether the frame at a place of the list is itself and its copy, and none of the others.
-fn is_itself_alone(frames: &[Frame], at: usize) -> Result<bool, Fail> {
+fn is_itself_alone<A: Allocator + Copy + Drop>(
+    frames: &[Frame<A>],
+    at: usize,
+) -> Result<bool, Fault> {
     let Some(frame) = frames.get(at) else {
         return Ok(false);
     };
@@ -178,22 +175,42 @@ fn is_itself_alone(frames: &[Frame], at: usize) -> Result<bool, Fail> {
 }
 
 /// Reads the frames that the vectors spell.
-fn read_all(alloc: Global, frames: &mut Vec<Frame>, vectors: &[&[&str]]) -> Result<(), Fail> {
+fn read_all<A: Allocator + Copy + Drop>(
+    heap: A,
+    alloc: Global,
+    frames: &mut Vec<Frame<A>, A>,
+    vectors: &[&[&str]],
+) -> Result<(), Fail> {
     for vector in vectors {
-        frames.push(frame_of(alloc, vector)?)?;
+        let bytes = bytes_of(alloc, vector)?;
+        frames.push(decode_frame(heap, bytes.as_slice())?)?;
     }
     Ok(())
 }
 
+/// How many of these frames, counted from the first on, are themselves alone.
+fn count_alone<A: Allocator + Copy + Drop>(frames: &[Frame<A>]) -> Result<usize, Fault> {
+    for at in 0..frames.len() {
+        if !is_itself_alone(frames, at)? {
+            return Ok(at);
+        }
+    }
+    Ok(frames.len())
+}
+
+/// The same of one frame of each payload, and of one of each other kind.
+fn count_of_each<A: Allocator + Copy + Drop>(heap: A, alloc: Global) -> Result<usize, Fail> {
+    let mut frames = Vec::new(heap);
+    let others: [&[&str]; 4] = [&JOIN, &TOKEN, &COMMIT, &COMMIT_AFTER_A_RING];
+    read_all(heap, alloc, &mut frames, &EACH_PAYLOAD)?;
+    read_all(heap, alloc, &mut frames, &others)?;
+    Ok(count_alone(frames.as_slice())?)
+}
+
 #[test]
 fn same_frames(rt: HostRuntime) -> Result<(), Fail> {
-    let mut frames = Vec::new(rt.alloc());
-    read_all(rt.alloc(), &mut frames, &EACH_PAYLOAD)?;
-    let others: [&[&str]; 4] = [&JOIN, &TOKEN, &COMMIT, &COMMIT_AFTER_A_RING];
-    read_all(rt.alloc(), &mut frames, &others)?;
-    for at in 0..frames.len() {
-        assert!(rt; is_itself_alone(frames.as_slice(), at)?, "{at}");
-    }
+    let alone = count_of_each(rt.alloc(), rt.alloc())?;
+    assert!(rt; alone == 13, "{alone}");
     Ok(())
 }
 
@@ -232,36 +249,37 @@ fn parts_of_frames_stand_alone(rt: HostRuntime) -> Result<(), Fail> {
     Ok(())
 }
 
-/// A call whose operation has so many bytes.
-fn call_of<'a>(
-    heap: &'a Refusing,
+/// The client, the number and the bytes of a new call whose operation has so many bytes.
+fn new_call<A: Allocator + Copy>(
+    heap: A,
     alloc: Global,
     number: u64,
     length: usize,
-) -> Result<Call<&'a Refusing>, Fault> {
+) -> Result<(u32, u64, usize), Fault> {
     let op = vec![in alloc; 7u8; length]?;
-    Call::new(heap, 1, number, op.as_slice())
+    let call = Call::new(heap, 1, number, op.as_slice())?;
+    Ok((call.client, call.number, call.op.as_slice().len()))
 }
 
 /// A new call is refused in this order: too long, number 0, want of memory.
 #[test]
-fn new_calls(rt: HostRuntime) -> Result<(), Fail> {
+fn new_calls(rt: HostRuntime) {
     let heap = Refusing::new(rt.alloc(), 0);
-    for (number, length, fault) in [
-        (0, 1025, Fault::OpTooLong),
-        (0, 1024, Fault::NumberGap),
-        (1, 1024, Fault::Memory),
+    for (number, length, told) in [
+        (0, 1025, Err(Fault::OpTooLong)),
+        (0, 1024, Err(Fault::NumberGap)),
+        (1, 1024, Err(Fault::Memory)),
+        (1, 1024, Ok((1, 1, 1024))),
     ] {
-        let refused = call_of(&heap, rt.alloc(), number, length).err();
-        assert!(rt; refused == Some(fault), "{fault}");
+        assert!(rt;
+            new_call(&heap, rt.alloc(), number, length) == told,
+            "{number} {length}"
+        );
     }
-    let call = call_of(&heap, rt.alloc(), 1, 1024)?;
-    assert!(rt; (call.client, call.number, call.op.as_slice().len()) == (1, 1, 1024));
-    Ok(())
 }
 
 /// Client 7's first two calls.
-fn two_calls(alloc: Global) -> Result<Calls, Fault> {
+fn two_calls<A: Allocator + Copy>(alloc: A) -> Result<Calls<A>, Fault> {
     let mut list = Vec::new(alloc);
     list.push(Call::new(alloc, 7, 1, &[])?)?;
     list.push(Call::new(alloc, 7, 2, &[])?)?;
@@ -269,20 +287,24 @@ fn two_calls(alloc: Global) -> Result<Calls, Fault> {
 }
 
 /// Whether these are client 7's first two calls.
-fn are_two(calls: &[Call]) -> bool {
+fn are_two<A: Allocator + Copy>(calls: &[Call<A>]) -> bool {
     match calls {
         [one, two] => (one.client, one.number, two.client, two.number) == (7, 1, 7, 2),
         _ => false,
     }
 }
 
+/// Whether the two come out of a copy of a list as they went in, lent and as a list.
+fn come_out<A: Allocator + Copy>(alloc: A) -> Result<(bool, bool), Fault> {
+    let calls = two_calls(alloc)?.clone()?;
+    let are_lent = are_two(calls.as_slice());
+    Ok((are_lent, are_two(calls.into_vec().as_slice())))
+}
+
 /// A list of calls comes out as it went in.
 #[test]
-fn lists_of_calls(rt: HostRuntime) -> Result<(), Fail> {
-    let calls = two_calls(rt.alloc())?.clone()?;
-    assert!(rt; are_two(calls.as_slice()));
-    assert!(rt; are_two(calls.into_vec().as_slice()));
-    Ok(())
+fn lists_of_calls(rt: HostRuntime) {
+    assert!(rt; come_out(rt.alloc()) == Ok((true, true)));
 }
 
 /// Whether it is one entry, of which these two bits alone are looked for and set: 1 and 253.

@@ -4,7 +4,7 @@ use crate::spelled::{bytes_of, is_frame, patched};
 use crate::vectors::{EACH_KIND, EACH_PAYLOAD, JOIN, TOKEN};
 use ring_base::Fault;
 use ring_wire::{Frame, Wire};
-use std::alloc::Global;
+use std::alloc::{Allocator, Global};
 use std::test::Fail;
 
 /// Whether all of the texts spell frames, which are spelled so again.
@@ -76,8 +76,11 @@ fn fronts_and_changed_bits(rt: HostRuntime) -> Result<(), Fail> {
 }
 
 /// How long the join is that begins the bytes, if one does.
-fn length_of_join(alloc: Global, bytes: &[u8]) -> Result<Option<usize>, Fault> {
-    let (frame, length): (Frame, usize) = Wire::get(alloc, bytes)?;
+fn length_of_join<A: Allocator + Copy + Drop>(
+    alloc: A,
+    bytes: &[u8],
+) -> Result<Option<usize>, Fault> {
+    let (frame, length): (Frame<A>, usize) = Wire::get(alloc, bytes)?;
     let is_join = matches!(&frame, Frame::Join(_));
     Ok(is_join.then_some(length))
 }
