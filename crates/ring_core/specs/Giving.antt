@@ -1,6 +1,6 @@
 -- What a step gives, in the order of Outputs, rule 1 of docs/PROTOCOL.md: what is sent, what is agreed and safe of the
 -- ring installed as the step began, and then, where a ring is installed, the two configurations with what they give.
-use Rattle.std.specs.Prelude.{ℕ, ◌+◌, ◌-◌, Bool, true, false, not, ◌==◌, nat_lt, if◌then◌else◌, List, [], ◌∷◌, ◌++◌, map, filter, filter_map}
+use Rattle.std.specs.Prelude.{ℕ, ◌+◌, ◌-◌, Bool, true, false, not, ◌==◌, nat_lt, if◌then◌else◌, Option, Some, None, List, [], ◌∷◌, ◌++◌, map, filter, filter_map}
 use Rattle.ring_base.specs.Numbers.{numbers_from}
 use Rattle.ring_base.specs.Processors.{nobody}
 use Rattle.ring_base.specs.declared.ring_id.RingId.{RingId}
@@ -45,6 +45,15 @@ addressed sends = filter (λ s. not (s.to == nobody)) sends
 
 abbrev pub sent : {A : Type 0} → List (Sent A) → List (Out A)
 sent sends = map (λ s. Send s.to s.frame) (addressed sends)
+
+-- the frame among outputs
+abbrev pub send_of : {A : Type 0} → Out A → Option (Sent A)
+send_of (Send to frame) = Some (record { to = to; frame = frame })
+send_of (Agreed ring k x) = None
+send_of (Safe ring upto) = None
+send_of (Trans old new set) = None
+send_of (Rest ring k x) = None
+send_of (Regular ring set) = None
 
 -- Deliveries
 

@@ -10,7 +10,7 @@ use Rattle.ring_payload.specs.declared.content.Payload.{Payload}
 use Rattle.ring_payload.specs.declared.content.Payload.TheVariants.{Call}
 use Rattle.ring_core.specs.declared.input.Input.TheVariants.{Frame as FrameInput, Timeout as TimeInput, Send as SendInput}
 use Rattle.ring_core.specs.declared.out.Out.{Out}
-use Rattle.ring_core.specs.declared.out.Out.TheVariants.{Send, Agreed, Safe, Trans, Rest, Regular}
+pub use Rattle.ring_core.specs.Giving.{send_of}
 use Rattle.ring_core.specs.State.{Core, Sent, Stepped}
 use Rattle.ring_core.specs.Stepping.{ring_step, after_inputs}
 use Rattle.ring_payload.specs.Limits.{most_snapshot}
@@ -49,15 +49,6 @@ pub record NodeStepped (A : Type 0) : Type 0 where
 
 abbrev pub quiet : {A : Type 0} → Node A → NodeStepped A
 quiet n = record { node = n; sends = []; answers = []; committed = []; dropped = [] }
-
--- the frame among outputs
-abbrev pub send_of : {A : Type 0} → Out A → Option (Sent A)
-send_of (Send to frame) = Some (record { to = to; frame = frame })
-send_of (Agreed ring k x) = None
-send_of (Safe ring upto) = None
-send_of (Trans old new set) = None
-send_of (Rest ring k x) = None
-send_of (Regular ring set) = None
 
 -- a node that has dropped so many places
 abbrev pub with_dropped : {A : Type 0} → ℕ → Node A → Node A
