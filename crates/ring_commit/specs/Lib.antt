@@ -1,3 +1,4 @@
 pub mod Reports
 pub mod Rounds
 pub mod Outcomes
+pub mod Tokens

@@ -7,6 +7,7 @@ mod rounds;
 
 pub use configuration::Configuration;
 pub use outcome::CommitOutcome;
+pub use ring_wire::{CommitEntry, CommitToken, Entries};
 pub use rounds::{
     fill, is_at, is_first_round, is_second_round, is_start, learn, propose, receiver, safe_of,
     start,

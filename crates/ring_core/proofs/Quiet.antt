@@ -12,7 +12,7 @@ use Rattle.ring_payload.specs.declared.content.Payload.{Payload}
 use Rattle.ring_payload.specs.Kinds.{is_user}
 use Rattle.ring_payload.specs.Packing.{is_queued}
 use Rattle.ring_wire.specs.declared.message.Message.{Message}
-use Rattle.ring_window.specs.Held.{found}
+use Rattle.ring_recover.specs.Windows.{found}
 use Rattle.ring_recover.specs.Installing.{is_ready}
 use Rattle.ring_core.specs.declared.input.Input.{Input}
 use Rattle.ring_core.specs.declared.input.Input.TheVariants.{Send as SendInput}

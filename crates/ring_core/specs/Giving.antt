@@ -5,7 +5,7 @@ use Rattle.ring_base.specs.Numbers.{numbers_from}
 use Rattle.ring_base.specs.Processors.{nobody}
 use Rattle.ring_base.specs.declared.ring_id.RingId.{RingId}
 use Rattle.ring_wire.specs.declared.message.Message.{Message}
-use Rattle.ring_window.specs.Held.{found}
+use Rattle.ring_recover.specs.Windows.{found}
 use Rattle.ring_payload.specs.Kinds.{is_user}
 use Rattle.ring_recover.specs.Installing.{is_ready}
 use Rattle.ring_recover.specs.Deliveries.{is_complete, rests}

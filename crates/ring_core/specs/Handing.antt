@@ -5,8 +5,8 @@ use Rattle.ring_wire.specs.declared.commit.CommitToken.{CommitToken}
 use Rattle.ring_wire.specs.declared.frame.Frame.TheVariants.{Commit as CommitFrame}
 use Rattle.ring_token.specs.Turns.{first_token}
 use Rattle.ring_join.specs.Gathering.{candidates, new_number}
-use Rattle.ring_commit.specs.Reports.{reports_of, safe_of}
-use Rattle.ring_commit.specs.Rounds.{receiver, hopped, proposal, is_first_round, is_second_round, is_start}
+use Rattle.ring_recover.specs.Commits.{reports_of, safe_of}
+use Rattle.ring_recover.specs.Commits.{receiver, hopped, proposal, is_first_round, is_second_round, is_start}
 use Rattle.ring_base.specs.declared.state.State.TheVariants.{Commit, Recovery}
 use Rattle.ring_core.specs.State.{Core, Sent, Did, floor}
 use Rattle.ring_core.specs.Views.{own_entry}

@@ -11,7 +11,7 @@ use Rattle.ring_wire.specs.declared.frame.Frame.{Frame}
 use Rattle.ring_wire.specs.declared.message.Message.{Message}
 use Rattle.ring_token.specs.Turns.{Turn, Raise}
 use Rattle.ring_join.specs.Gathering.{Gathering, entered}
-use Rattle.ring_commit.specs.declared.configuration.Configuration.{Configuration}
+use Rattle.ring_recover.specs.Commits.{Configuration}
 use Rattle.ring_core.specs.declared.out.Out.{Out}
 use Rattle.ring_base.specs.declared.state.State.{State}
 use Rattle.ring_base.specs.declared.state.State.TheVariants.{Gather, Commit, Recovery, Operational, Stopped}

@@ -4,8 +4,8 @@ use Rattle.ring_base.specs.Rings.{same_ring}
 use Rattle.ring_base.specs.declared.ring_id.RingId.{RingId}
 use Rattle.ring_wire.specs.declared.commit.CommitToken.{CommitToken}
 use Rattle.ring_wire.specs.declared.entries.CommitEntry.{CommitEntry}
-use Rattle.ring_window.specs.Held.{front_of, is_new}
-use Rattle.ring_window.specs.Bits.{held_bits}
+use Rattle.ring_recover.specs.Windows.{front_of, is_new}
+use Rattle.ring_recover.specs.Windows.{held_bits}
 use Rattle.ring_token.specs.Turns.{safe_mark}
 use Rattle.ring_recover.specs.Plans.{Plan, plan_of}
 use Rattle.ring_core.specs.State.{Core}

@@ -6,7 +6,7 @@ use Rattle.ring_payload.specs.Packing.{packed, left_behind}
 use Rattle.ring_wire.specs.declared.frame.Frame.TheVariants.{Message as MessageFrame, Token as TokenFrame}
 use Rattle.ring_wire.specs.declared.message.Message.{Message}
 use Rattle.ring_wire.specs.declared.token.Token.{Token}
-use Rattle.ring_window.specs.Held.{found, holds, front_of, highest, missing}
+use Rattle.ring_recover.specs.Windows.{found, holds, front_of, highest, missing}
 use Rattle.ring_token.specs.Turns.{Turn, is_accepted}
 use Rattle.ring_token.specs.Visits.{left, above_mark, room, numbered, requests_after, token_after}
 use Rattle.ring_recover.specs.Wrapping.{wraps_and_end}

@@ -14,7 +14,7 @@ use Rattle.ring_base.specs.Elements.{elements_members}
 use Rattle.ring_payload.specs.Kinds.{is_user, is_end}
 use Rattle.ring_payload.specs.declared.content.Payload.{Payload}
 use Rattle.ring_payload.specs.declared.content.Payload.TheVariants.{Call, Wrapped, End, Head, Part, Pack, Snap}
-use Rattle.ring_wire.specs.declared.message.Message.{Message}
+use Rattle.ring_window.specs.Messages.{Message}
 use Rattle.ring_recover.specs.Installing.{ends, has_end_of, has_user, all_ended, is_covered, is_ready_by}
 use Rattle.ring_recover.specs.Ending.{IsCounted}
 

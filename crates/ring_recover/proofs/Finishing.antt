@@ -7,9 +7,9 @@ use Rattle.std.specs.Prelude.{nat_lt}
 use Rattle.ring_base.proofs.Each.{each-append, each-filter}
 use Rattle.ring_base.specs.Processors.{has, size, position_of}
 use Rattle.ring_base.specs.declared.ring_id.RingId.{RingId}
-use Rattle.ring_wire.specs.declared.commit.CommitToken.{CommitToken}
-use Rattle.ring_wire.specs.declared.entries.CommitEntry.{CommitEntry}
-use Rattle.ring_wire.specs.declared.message.Message.{Message}
+use Rattle.ring_commit.specs.Tokens.{CommitToken}
+use Rattle.ring_commit.specs.Tokens.{CommitEntry}
+use Rattle.ring_window.specs.Messages.{Message}
 use Rattle.ring_window.specs.Held.{found, holds, front_of}
 use Rattle.ring_commit.specs.Reports.{is_sound}
 use Rattle.ring_payload.specs.Kinds.{is_user}

@@ -12,7 +12,7 @@ use Rattle.ring_base.specs.Passing.{length-numbers_from}
 use Rattle.ring_base.specs.Rings.{same_ring}
 use Rattle.ring_base.specs.declared.ring_id.RingId.{RingId}
 use Rattle.ring_base.proofs.ListPlaces.{numbers-append}
-use Rattle.ring_wire.specs.declared.message.Message.{Message}
+use Rattle.ring_window.specs.Messages.{Message}
 use Rattle.ring_window.specs.Held.{is_numbered, found, holds, front_of}
 use Rattle.ring_window.specs.Windows.{Windowed, kept}
 use Rattle.ring_window.proofs.HeldFront.{front_is, front_grows}

@@ -5,8 +5,8 @@ use Rattle.std.specs.Cmp.{both_ways}
 use Rattle.std.specs.List.{list_any, prefix_len}
 use Rattle.std.proofs.lemmas.Bool.{cases_lt, cases_Bool, cond-true, cond-false, ltb-true, lt-ltb, le-leb, and_from, true≢false}
 use Rattle.ring_base.specs.Numbers.{window_size, numbers_from}
-use Rattle.ring_wire.specs.declared.entries.CommitEntry.{CommitEntry}
-use Rattle.ring_wire.specs.declared.message.Message.{Message}
+use Rattle.ring_commit.specs.Tokens.{CommitEntry}
+use Rattle.ring_window.specs.Messages.{Message}
 use Rattle.ring_window.specs.Bits.{is_set, IsFirstClear}
 use Rattle.ring_recover.specs.Chosen.{chosen}
 use Rattle.ring_recover.specs.Plans.{Plan, safe, low, least, least_mark, gap, is_reported, is_known}

@@ -12,7 +12,7 @@ use Rattle.ring_base.specs.Members.{nobody_member}
 use Rattle.ring_base.specs.Elements.{elements_members, IsStrictlyIncreasing-elements}
 use Rattle.ring_base.specs.Rings.{same_ring}
 use Rattle.ring_base.specs.declared.ring_id.RingId.{RingId}
-use Rattle.ring_wire.specs.declared.entries.CommitEntry.{CommitEntry}
+use Rattle.ring_commit.specs.Tokens.{CommitEntry}
 use Rattle.ring_recover.specs.Plans.{mates_among}
 
 -- what is gathered and what is to come make up all, and none gathered is still to come

@@ -8,9 +8,9 @@ use Rattle.std.proofs.lemmas.Bool.{cases_Bool, cond-true, cond-false, and_parts,
 use Rattle.ring_base.specs.Processors.{has, size, position_of}
 use Rattle.ring_base.specs.declared.ring_id.RingId.{RingId}
 use Rattle.ring_payload.specs.Kinds.{is_end}
-use Rattle.ring_wire.specs.declared.commit.CommitToken.{CommitToken}
-use Rattle.ring_wire.specs.declared.entries.CommitEntry.{CommitEntry}
-use Rattle.ring_wire.specs.declared.message.Message.{Message}
+use Rattle.ring_commit.specs.Tokens.{CommitToken}
+use Rattle.ring_commit.specs.Tokens.{CommitEntry}
+use Rattle.ring_window.specs.Messages.{Message}
 use Rattle.ring_window.specs.Bits.{is_set}
 use Rattle.ring_window.specs.Held.{found, holds, highest, front_of}
 use Rattle.ring_window.specs.Windows.{Windowed, kept}

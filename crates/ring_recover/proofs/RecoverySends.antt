@@ -11,7 +11,7 @@ use Rattle.ring_base.specs.declared.ring_id.RingId.{RingId}
 use Rattle.ring_payload.specs.Kinds.{is_user, is_end, content_of}
 use Rattle.ring_payload.specs.declared.content.Payload.{Payload}
 use Rattle.ring_payload.specs.declared.content.Payload.TheVariants.{Call, Wrapped, End, Head, Part, Pack, Snap}
-use Rattle.ring_wire.specs.declared.message.Message.{Message}
+use Rattle.ring_window.specs.Messages.{Message}
 use Rattle.ring_window.specs.Held.{is_numbered, found, of_ring, highest}
 use Rattle.ring_recover.specs.Plans.{Plan, low}
 use Rattle.ring_recover.specs.Wrapping.{is_wrap_of, is_wrapped, wrap, wrap_content, above_low, has_own_end, wraps_and_end}

@@ -4,7 +4,7 @@ use Rattle.std.specs.List.{list_all}
 use Rattle.ring_base.specs.Numbers.{window_size, numbers_from}
 use Rattle.ring_base.specs.Processors.{has}
 use Rattle.ring_base.specs.declared.ring_id.RingId.{RingId}
-use Rattle.ring_wire.specs.declared.message.Message.{Message}
+use Rattle.ring_window.specs.Messages.{Message}
 use Rattle.ring_window.specs.Held.{found, holds, front_of}
 use Rattle.ring_recover.specs.declared.delivery.Delivery.{Delivery}
 use Rattle.ring_payload.specs.Kinds.{is_user}

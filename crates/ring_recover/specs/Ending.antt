@@ -2,7 +2,7 @@
 use Rattle.std.specs.Prelude.{◌≡◌, ℕ, Bool, List, map, length}
 use Rattle.ring_base.specs.Numbers.{greatest}
 use Rattle.ring_base.specs.Processors.{IsProc, has}
-use Rattle.ring_wire.specs.declared.message.Message.{Message}
+use Rattle.ring_window.specs.Messages.{Message}
 use Rattle.ring_recover.specs.Installing.{ends, has_end_of, has_user}
 
 -- how many they are, whose Ends are among them, the number of the last End, and whether a users' message is among them

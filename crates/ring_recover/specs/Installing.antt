@@ -5,7 +5,7 @@ use Rattle.std.specs.List.{list_any, list_all}
 use Rattle.ring_base.specs.Numbers.{numbers_from, greatest}
 use Rattle.ring_base.specs.Processors.{elements}
 use Rattle.ring_base.specs.declared.ring_id.RingId.{RingId}
-use Rattle.ring_wire.specs.declared.message.Message.{Message}
+use Rattle.ring_window.specs.Messages.{Message}
 use Rattle.ring_window.specs.Held.{found, front_of}
 use Rattle.ring_payload.specs.Kinds.{is_user, is_end}
 

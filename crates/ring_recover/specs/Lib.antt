@@ -5,3 +5,5 @@ pub mod Recovering
 pub mod Installing
 pub mod Ending
 pub mod Deliveries
+pub mod Windows
+pub mod Commits

@@ -7,9 +7,9 @@ use Rattle.ring_base.specs.Rings.{same_ring}
 use Rattle.ring_base.specs.Numbers.{window_size, numbers_from}
 use Rattle.ring_base.specs.Processors.{only, has, elements, size, position_of}
 use Rattle.ring_base.specs.declared.ring_id.RingId.{RingId}
-use Rattle.ring_wire.specs.Entries.{bit_of}
-use Rattle.ring_wire.specs.declared.commit.CommitToken.{CommitToken}
-use Rattle.ring_wire.specs.declared.entries.CommitEntry.{CommitEntry}
+use Rattle.ring_commit.specs.Tokens.{bit_of}
+use Rattle.ring_commit.specs.Tokens.{CommitToken}
+use Rattle.ring_commit.specs.Tokens.{CommitEntry}
 use Rattle.ring_commit.specs.Reports.{reports_of, safe_of, is_sound}
 
 -- the old ring, the members that come from it, and their reports

@@ -5,9 +5,9 @@ use Rattle.std.specs.Option.{option_map}
 use Rattle.ring_base.specs.Processors.{has, size, position_of}
 use Rattle.ring_base.specs.declared.ring_id.RingId.{RingId}
 use Rattle.ring_payload.specs.Kinds.{is_user}
-use Rattle.ring_wire.specs.declared.commit.CommitToken.{CommitToken}
-use Rattle.ring_wire.specs.declared.entries.CommitEntry.{CommitEntry}
-use Rattle.ring_wire.specs.declared.message.Message.{Message}
+use Rattle.ring_commit.specs.Tokens.{CommitToken}
+use Rattle.ring_commit.specs.Tokens.{CommitEntry}
+use Rattle.ring_window.specs.Messages.{Message}
 use Rattle.ring_window.specs.Bits.{is_set}
 use Rattle.ring_recover.specs.Plans.{Plan, safe, least_mark, low, is_known}
 use Rattle.ring_recover.specs.Wrapping.{is_wrapped, left_to_wrap, has_own_end}

@@ -9,8 +9,7 @@ ghost use Rattle.ring_recover.specs.Installing.{in_front, is_ready_by};
 use crate::history::{nothing_seen, one_after};
 use crate::kinds::{is_end, is_user};
 use ring_base::{Past, ProcSet};
-use ring_window::Window;
-use ring_wire::Message;
+use ring_window::{Message, Window};
 use std::alloc::{AllocError, Allocator, Global};
 use std::marker::Model;
 
@@ -31,7 +30,7 @@ pub struct Ends<A: Allocator + Copy = Global> {
 
 impl<A: Allocator + Copy> Model for Ends<A> {
     ghost use Rattle.std.specs.Prelude.{List};
-    ghost use Rattle.ring_wire.specs.declared.message.Message.{Message as OneMessage};
+    ghost use Rattle.ring_window.specs.Messages.{Message as OneMessage};
     ghost use Rattle.ring_recover.specs.Ending.{IsCounted};
 
     ghost Value = { List (OneMessage A) };

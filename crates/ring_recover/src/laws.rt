@@ -1,8 +1,8 @@
 //! Laws of recovery.
 
 ghost use Rattle.std.specs.Prelude.{◌≡◌, ℕ, List, Option, Some, true};
-ghost use Rattle.ring_wire.specs.declared.commit.CommitToken.{CommitToken};
-ghost use Rattle.ring_wire.specs.declared.message.Message.{Message};
+ghost use Rattle.ring_commit.specs.Tokens.{CommitToken};
+ghost use Rattle.ring_window.specs.Messages.{Message};
 ghost use Rattle.ring_recover.specs.Plans.{Plan, plan_from};
 ghost use Rattle.ring_recover.specs.Deliveries.{is_complete, finish, rests, SameText};
 

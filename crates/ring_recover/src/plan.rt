@@ -21,9 +21,9 @@ use crate::reports::{
     greatest_mark, known_after, least_front, least_mark, mates_among, none_behind, reports_of,
 };
 use ring_base::{Past, Proc, ProcSet, RingId, WINDOW, past_of};
+use ring_commit::CommitToken;
 use ring_payload::Payload;
-use ring_window::Window;
-use ring_wire::{CommitToken, Message};
+use ring_window::{Message, Window};
 use std::alloc::{AllocError, Allocator, Global};
 use std::marker::Model;
 

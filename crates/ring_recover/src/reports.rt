@@ -4,13 +4,13 @@ ghost use Rattle.std.specs.Prelude.{◌≡◌, ℕ, ◌+◌, ◌<◌, ◌≤◌,
 ghost use Rattle.std.specs.List.{list_any};
 ghost use Rattle.ring_base.specs.Processors.{elements};
 ghost use Rattle.ring_window.specs.Bits.{is_set};
-ghost use Rattle.ring_wire.specs.declared.entries.CommitEntry.{CommitEntry as OneEntry};
+ghost use Rattle.ring_commit.specs.Tokens.{CommitEntry as OneEntry};
 ghost use Rattle.ring_commit.specs.Reports.{reports_of, safe_of, none_behind};
 ghost use Rattle.ring_recover.specs.Plans.{is_reported, least, mates_among};
 
 use crate::offsets::Offsets;
 use ring_base::{ProcSet, RingId, WINDOW};
-use ring_wire::{CommitEntry, Entries};
+use ring_commit::{CommitEntry, Entries};
 
 /// The reports of those that come from an old ring.
 pub(crate) fn reports_of(old: &RingId, entries: &[CommitEntry]) -> Entries

@@ -9,8 +9,7 @@ ghost use Rattle.ring_recover.specs.Wrapping.{inner_if_new};
 
 use ring_base::Fault;
 use ring_payload::{Content, Payload, Wrapped};
-use ring_window::Window;
-use ring_wire::Message;
+use ring_window::{Message, Window};
 use std::alloc::Allocator;
 
 /// Holds the inner message, and answers true, where it is of the window's ring and new there. The copy of what

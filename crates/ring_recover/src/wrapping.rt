@@ -7,7 +7,7 @@ ghost use Rattle.ring_recover.specs.Wrapping.{wrap};
 
 use ring_base::Fault;
 use ring_payload::{Content, Payload, Wrapped};
-use ring_wire::Message;
+use ring_window::Message;
 use std::alloc::Allocator;
 
 /// A users' message of the old ring as a payload of the new one, and nothing for any other. The copy of what it

@@ -2,7 +2,7 @@
 use Rattle.std.proofs.Common.{◌≡◌, ℕ, suc, List, [], ◌∷◌, length, refl, ap}
 use Rattle.std.specs.List.{AllByRecursion as Each}
 use Rattle.ring_base.specs.declared.ring_id.RingId.{RingId}
-use Rattle.ring_payload.specs.declared.content.Payload.{Payload}
+use Rattle.ring_wire.specs.Payloads.{Payload}
 use Rattle.ring_wire.specs.declared.message.Message.{Message}
 use Rattle.ring_token.specs.Visits.{numbered}
 

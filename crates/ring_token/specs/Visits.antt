@@ -3,7 +3,7 @@
 use Rattle.std.specs.Prelude.{ℕ, suc, ◌+◌, ◌-◌, min, Bool, true, not, ◌&&◌, ◌||◌, ◌==◌, nat_lt, if◌then◌else◌, List, [], ◌∷◌, filter, take, Option, Some, None}
 use Rattle.ring_base.specs.Numbers.{window_size, visit_limit, max_number, merged}
 use Rattle.ring_base.specs.declared.ring_id.RingId.{RingId}
-use Rattle.ring_payload.specs.Limits.{most_requests}
+use Rattle.ring_wire.specs.Payloads.{most_requests}
 use Rattle.ring_wire.specs.Messages.{Payload}
 use Rattle.ring_wire.specs.declared.message.Message.{Message}
 use Rattle.ring_wire.specs.declared.token.Token.{Token}

@@ -2,3 +2,4 @@ pub mod Held
 pub mod Bits
 pub mod Windows
 pub mod Places
+pub mod Messages

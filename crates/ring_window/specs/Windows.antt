@@ -3,7 +3,7 @@
 use Rattle.std.specs.Prelude.{ℕ, max, Bool, ◌&&◌, nat_lt, if◌then◌else◌, List, [], ◌∷◌, take, Option, None}
 use Rattle.ring_base.specs.Rings.{same_ring}
 use Rattle.ring_base.specs.declared.ring_id.RingId.{RingId}
-use Rattle.ring_payload.specs.Limits.{most_requests}
+use Rattle.ring_wire.specs.Payloads.{most_requests}
 use Rattle.ring_wire.specs.declared.message.Message.{Message}
 use Rattle.ring_window.specs.Held.{found, is_new, missing}
 

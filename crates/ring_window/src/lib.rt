@@ -7,4 +7,5 @@ mod laws;
 mod window;
 
 pub use laws::{bits_law, front_law};
+pub use ring_wire::Message;
 pub use window::Window;

@@ -9,3 +9,4 @@ pub mod Messages
 pub mod Spells
 pub mod SpellsLaws
 pub mod Tokens
+pub mod Payloads

@@ -1,6 +1,6 @@
 -- What was read and what is left decide.
 use Rattle.std.proofs.Common.{◌≡◌, ◌∷◌, map, drop}
-use Rattle.ring_wire.specs.declared.entries.CommitEntry.{CommitEntry}
+use Rattle.ring_commit.specs.Tokens.{CommitEntry}
 use Rattle.ring_recover.specs.Plans.{least}
 use Rattle.ring_recover.proofs.reports.least_mark.Given as goal
 

@@ -2,7 +2,7 @@
 use Rattle.std.proofs.Common.{◌≡◌, ◌+◌, ◌∷◌, List, drop, subst, sym, ap, ◌∙◌, arith}
 use Rattle.std.proofs.lemmas.List.{drop_more, drop_all}
 use Rattle.ring_base.specs.Processors.{elements}
-use Rattle.ring_wire.specs.declared.entries.CommitEntry.{CommitEntry}
+use Rattle.ring_commit.specs.Tokens.{CommitEntry}
 use Rattle.ring_recover.proofs.GatheredMates.{IsGathered, gathered_mate, gathered_other, gathered_all}
 use Rattle.ring_recover.proofs.reports.mates_among.Goals.{then-eq, else-eq}
 use Rattle.ring_recover.proofs.reports.mates_among.Goals as goal

@@ -2,7 +2,7 @@
 use Rattle.std.proofs.Common.{◌≡◌, ◌+◌, true, List, map, refl, sym, ap, ◌∙◌, arith}
 use Rattle.std.specs.List.{list_any}
 use Rattle.ring_base.specs.Processors.{elements}
-use Rattle.ring_wire.specs.declared.entries.CommitEntry.{CommitEntry}
+use Rattle.ring_commit.specs.Tokens.{CommitEntry}
 use Rattle.ring_commit.specs.Reports.{reports_of, safe_of, none_behind}
 use Rattle.ring_recover.specs.Plans.{least, mates_among, is_reported}
 use Rattle.ring_recover.proofs.Planning.{safe_low}

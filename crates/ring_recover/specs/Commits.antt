@@ -1,0 +1,5 @@
+-- Words of the commit token's rounds, passed on to the ring core.
+pub use Rattle.ring_commit.specs.Reports.{reports_of, safe_of}
+pub use Rattle.ring_commit.specs.Outcomes.{is_at}
+pub use Rattle.ring_commit.specs.Rounds.{receiver, hopped, proposal, is_first_round, is_second_round, is_start}
+pub use Rattle.ring_commit.specs.declared.configuration.Configuration.{Configuration}
