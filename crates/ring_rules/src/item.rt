@@ -1,6 +1,6 @@
 //! What a history is made of.
 
-use ring_object::Reply;
+use ring_session::Reply;
 use ring_payload::Call;
 use std::alloc::{Allocator, Global};
 

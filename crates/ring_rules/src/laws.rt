@@ -10,7 +10,7 @@ ghost use Rattle.ring_rules.specs.declared.item.Item.TheVariants.{Issue, Reply a
 ghost use Rattle.ring_rules.specs.Histories.{AreIssued, IsLinearization};
 ghost use Rattle.ring_rules.specs.Orders.{Moment, order_of, opening, last_moment, IsOrderStep, IsOrderRun};
 
-use ring_object::Object;
+use ring_session::Object;
 
 /// Law, for every object. The empty order explains the empty history. An order that explains a history goes on doing so
 /// when calls that were issued are added at its end, when a call is issued, and when a call of the order is replied with

@@ -10,3 +10,4 @@ pub mod Spells
 pub mod SpellsLaws
 pub mod Tokens
 pub mod Payloads
+pub mod Rings
