@@ -10,7 +10,9 @@ ghost use Rattle.ring_rules.specs.declared.input.Input.TheVariants.{Frame as Com
 use crate::name::BookName;
 use bytes::BytesMut;
 use ring_base::{Fault, Proc};
-use ring_book_lines::{FrameRef, Frames, HeardFrame, LineInput, Step, call_keeps_law, node_fits_law};
+use ring_book_lines::{
+    FrameRef, Frames, HeardFrame, LineInput, Step, call_keeps_law, node_fits_law,
+};
 use ring_node::{Node, Outs};
 use ring_object::Object;
 use ring_payload::Call;

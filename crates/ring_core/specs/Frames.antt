@@ -1,4 +1,2 @@
 -- Frames and messages, passed on to the rules of nodes.
-pub use Rattle.ring_wire.specs.declared.message.Message.{Message}
-pub use Rattle.ring_wire.specs.Frames.{FrameFits}
-pub use Rattle.ring_wire.specs.declared.frame.Frame.{Frame}
+pub use Rattle.ring_token.specs.Frames.{Message, FrameFits, Frame}

@@ -14,3 +14,5 @@ pub mod Commits
 pub mod Windows
 pub mod Tokens
 pub mod Joins
+pub mod Payloads
+pub mod PayloadVariants

@@ -6,7 +6,7 @@ use Rattle.std.proofs.lemmas.Option.{slice_get_within, get_or_from_slice_get}
 use Rattle.ring_base.specs.Fronts.{IsFront, front_get, front_append}
 use Rattle.ring_base.proofs.ListPlaces.{get-push}
 use Rattle.ring_session.specs.Objects.{Sequential}
-use Rattle.ring_payload.specs.declared.call.Call.{Call}
+use Rattle.ring_core.specs.Payloads.{Call}
 use Rattle.ring_session.specs.Deduplicated.{StandsAt, IsNumbered}
 use Rattle.ring_session.specs.SessionAnswer.{IsReplyIn}
 use Rattle.ring_session.specs.SessionAnswerLaws.{replied_front}

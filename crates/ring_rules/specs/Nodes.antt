@@ -6,7 +6,7 @@ use Rattle.ring_base.specs.Group.{Group, is_primary}
 use Rattle.ring_base.specs.Rings.{same_ring}
 use Rattle.ring_base.specs.declared.ring_id.RingId.{RingId}
 use Rattle.ring_session.specs.Objects.{Sequential}
-use Rattle.ring_payload.specs.declared.call.Call.{Call}
+use Rattle.ring_core.specs.Payloads.{Call}
 use Rattle.ring_session.specs.declared.answer.Answer.{Answer}
 use Rattle.ring_core.specs.Joining.{is_operational}
 use Rattle.ring_core.specs.State.{Core, opening, halted}

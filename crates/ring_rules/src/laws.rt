@@ -2,7 +2,7 @@
 
 ghost use Rattle.std.specs.Prelude.{◌≡◌, ℕ, List, [], ◌∷◌, ◌++◌, Some, slice_get};
 ghost use Rattle.ring_base.specs.Fronts.{IsFront};
-ghost use Rattle.ring_payload.specs.declared.call.Call.{Call};
+ghost use Rattle.ring_core.specs.Payloads.{Call};
 ghost use Rattle.ring_session.specs.Deduplicated.{deduplicated, StandsAt, IsNumbered};
 ghost use Rattle.ring_session.specs.SessionAnswer.{IsReplyIn};
 ghost use Rattle.ring_rules.specs.declared.item.Item.{Item};

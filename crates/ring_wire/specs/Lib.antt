@@ -11,3 +11,5 @@ pub mod SpellsLaws
 pub mod Tokens
 pub mod Payloads
 pub mod Rings
+pub mod ContentVariants
+pub mod PayloadVariants
