@@ -1,4 +1,4 @@
--- Words of joins, passed on to the proofs of all runs.
+-- Words of joins, passed on to what stands on the ring core.
 pub use Rattle.ring_join.specs.Gathering.{candidates, entered, widened, given_up, new_number, AllSaySame, Gathering, agreed, has_consensus}
 pub use Rattle.ring_join.specs.Gathering.{SaysSame, has_same_sets, hearing, widened_sets, is_unheard, has_smaller_sets, own_join}
 pub use Rattle.ring_join.specs.Gathering.{fails_with, senders, agreeing}

@@ -1,2 +1,2 @@
--- The variants of payloads, passed on to the rules of nodes.
+-- The variants of payloads, passed on to what stands on the ring core.
 pub use Rattle.ring_token.specs.PayloadVariants.{Call, Head, Part, Snap}

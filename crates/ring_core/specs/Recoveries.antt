@@ -1,4 +1,4 @@
--- Words of recovery, passed on to the proofs of all runs.
+-- Words of recovery, passed on to what stands on the ring core.
 pub use Rattle.ring_recover.specs.Deliveries.{rests, is_complete, transitional_part, past_gap_part, is_from_mate, sent_by_mate, SameText}
 pub use Rattle.ring_recover.specs.Deliveries.{delivery, finish}
 pub use Rattle.ring_recover.specs.Plans.{plan_of, low, is_reported, safe, is_known, Plan, gap, known_above_safe, least, mates_among}

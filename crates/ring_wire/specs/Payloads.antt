@@ -1,4 +1,4 @@
--- Words of payloads, passed on to the crates of a ring's parts.
+-- Words of payloads, passed on to the crates of a ring's parts and to the log.
 pub use Rattle.ring_payload.specs.Limits.{most_requests, most_snapshot, whole_piece}
 pub use Rattle.ring_payload.specs.declared.content.Payload.{Payload}
 pub use Rattle.ring_payload.specs.Packing.{is_queued, packed, left_behind}
