@@ -82,7 +82,14 @@ impl<A: Allocator + Copy + Drop> Step<A> {
         calls: Vec<Call<A>, A>,
         committed: usize,
     ) -> Step<A>
-        ensures { result ≡ record { node = node; input = Came (Comes frame) at; frames = frames; answers = answers.items; calls = calls.items; committed = committed } }
+        ensures { result ≡ record {
+          node = node;
+          input = Came (Comes frame) at;
+          frames = frames;
+          answers = answers.items;
+          calls = calls.items;
+          committed = committed;
+        } }
     {
         let _bytes = frame.bytes();
         Step {

@@ -1,53 +1,46 @@
-//! Ports over nodes, all on one thread: a poll lets the node's ring take a turn. A ring of one hears its own frames, which
-//! are those of `docs/FORMATS.md`, byte by byte.
+//! Ports over nodes, all on one thread: a poll lets the node's ring take a turn. A ring of one hears its own letters.
 
-ghost use Rattle.std.specs.Prelude.{IfOk, IfSome};
+ghost use Rattle.std.specs.Prelude.{IfSome};
 ghost use Rattle.ring_client.specs.Asking.{IsTold};
-ghost use Rattle.ring_rules.specs.NodeLimits.{InputFits};
 
 use crate::asked::tell;
 use crate::scripted::told;
 use ring_base::{Fault, Fixed, Kind};
 use ring_client::{Asked, Client, Port};
-use ring_node::{Input, Node};
+use ring_driver::Driver;
 use ring_object::{Object, Reply};
 use ring_payload::Call;
 use ring_session::{Answer, Ticket};
 use ring_things::{Counters, Outcome, reply_with};
-use ring_wire::{Frame, Wire};
-use std::alloc::Allocator;
 use std::process::Abort;
 use std::test::Fail;
 
-/// A node that is alone, and the turns that its ring took.
+/// A node that is alone, and whether its join timeout has come.
 #[derive(Drop)]
 struct Alone<O: Object> {
-    alloc: O::Alloc,
-    node: Node<O>,
-    turns: u8,
+    node: Driver<O>,
+    has_joined: bool,
 }
 
 impl<O: Object> Alone<O> {
     /// The node at its opening.
     fn new(alloc: O::Alloc) -> Result<Alone<O>, Fault> {
-        let fixed = Fixed::new(1)?;
+        let node = Driver::new(alloc, Fixed::new(1)?, 1)?;
         Ok(Alone {
-            alloc,
-            node: Node::new(alloc, fixed, fixed.proc(1)?)?,
-            turns: 0,
+            node,
+            has_joined: false,
         })
     }
 
     /// Stops the node.
     fn stop(&mut self) -> Result<(), Fault> {
-        self.node.step(Input::Stop)?;
-        Ok(())
+        self.node.stop()
     }
 
-    /// Submits a copy of a call, which keeps the limits of frames.
+    /// Submits a call of these words.
     fn submit(&mut self, call: &Call<O::Alloc>) -> Result<Ticket, Fault> {
-        let copy = Call::new(self.alloc, call.client, call.number, call.op.as_slice())?;
-        self.node.submit(copy)
+        self.node
+            .submit(call.client, call.number, call.op.as_slice())
     }
 
     /// The answer to a ticket, if it came and a call can have it.
@@ -57,64 +50,16 @@ impl<O: Object> Alone<O> {
         self.node.reply(*ticket).and_then(told)
     }
 
-    /// Lets the ring take a turn.
+    /// Lets the ring take a turn: its join timeout comes first, then each time the letter that the last step sent.
     fn turn(&mut self) -> Result<(), Fault> {
-        let input = heard(self.alloc, self.turns)?;
-        self.turns = self.turns.saturating_add(1);
-        self.node.step(input)?;
-        Ok(())
-    }
-}
-
-/// The commit token of ring 1.1 of processor 1 alone; its hop, here 0, stands at 19.
-const COMMIT: [u8; 77] = *b"TR\x01\x04\0\0\0\x45\0\0\0\0\0\0\0\x01\x01\0\x01\0\0\0\0\0\0\0\0\0\x01\
-    \0\0\0\0\0\0\0\0\0\0\0\0\0\0\0\0\0\0\0\0\0\0\0\0\0\0\0\0\0\0\0\0\0\0\0\0\0\0\0\0\0\0\0\0\0\0\0\0";
-
-/// The token of ring 1.1 that asks for nothing; its number, here 0, ends at 24, `seq` at 32 and `aru` at 40.
-const TOKEN: [u8; 43] = *b"TR\x01\x02\0\0\0\x23\0\0\0\0\0\0\0\x01\x01\0\0\0\0\0\0\0\0\
-    \0\0\0\0\0\0\0\0\0\0\0\0\0\0\0\0\0\0";
-
-/// The commit token at this hop.
-fn commit(hop: u8) -> [u8; 77] {
-    let mut bytes = COMMIT;
-    bytes[19] = hop;
-    bytes
-}
-
-/// The token of this number, where so many messages were sent and all are held.
-fn token(number: u8, messages: u8) -> [u8; 43] {
-    let mut bytes = TOKEN;
-    bytes[24] = number;
-    bytes[32] = messages;
-    bytes[40] = messages;
-    bytes
-}
-
-/// The frame that these bytes spell.
-fn frame_of<A: Allocator + Copy>(alloc: A, bytes: &[u8]) -> Result<Input<A>, Fault>
-    ensures { IfOk result (λ input. InputFits input) }
-{
-    let (frame, _) = Frame::<A>::get(alloc, bytes)?;
-    Ok(Input::Frame(frame))
-}
-
-/// What the node of a ring of one hears at the turn of this number, counted from 0, where its first call waits for the ring
-/// and its second comes once the first was answered: the token of number 4 is the first that counts the first call, that of
-/// number 6 the first that counts the second.
-fn heard<A: Allocator + Copy>(alloc: A, turn: u8) -> Result<Input<A>, Fault>
-    ensures { IfOk result (λ input. InputFits input) }
-{
-    match turn {
-        0 => Ok(Input::Timeout(Kind::Join)),
-        1 => frame_of(alloc, &commit(1)),
-        2 => frame_of(alloc, &commit(2)),
-        3 => frame_of(alloc, &token(1, 1)),
-        4 => frame_of(alloc, &token(2, 1)),
-        5 => frame_of(alloc, &token(3, 2)),
-        6 => frame_of(alloc, &token(4, 3)),
-        7 => frame_of(alloc, &token(5, 3)),
-        8 => frame_of(alloc, &token(6, 4)),
-        _ => Ok(Input::Noise),
+        if !self.has_joined {
+            self.has_joined = true;
+            return self.node.timeout(Kind::Join);
+        }
+        match self.node.next_send() {
+            Some((_, letter)) => self.node.hear(letter),
+            None => Ok(()),
+        }
     }
 }
 

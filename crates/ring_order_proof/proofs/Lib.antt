@@ -43,6 +43,7 @@
 --   explains the history, and each node follows it.
 -- Bases: No base lacks committed places: it is so of the lives between a step of a core and what its node hands over, which are orderly too.
 -- BytesRestored: In no run whose issued calls keep the limits a node finds that the bytes which it restores are no snapshot.
+-- StepSends: What a step of a core gives to send: what it does sends, to somebody. Whatever else it gives is no frame.
 -- SendCounts: How many frames one step gives: what a visit sends again, its new messages and the token, or one frame, and perhaps a proposal.
 -- AnswerCounts: How many answers come as calls are done: each ticket has one at most, and none that had one before.
 -- KeptByNodes: What each node has at the opening, and keeps in each step, submit and stop, each node has in every run.
@@ -98,6 +99,7 @@ pub mod OrderSteps
 pub mod OrderedRuns
 pub mod Bases
 pub mod BytesRestored
+pub mod StepSends
 pub mod SendCounts
 pub mod AnswerCounts
 pub mod KeptByNodes

@@ -1,13 +1,11 @@
 -- How many frames one step gives: what a visit sends again, its new messages and the token, or one frame, and perhaps a proposal.
 use Rattle.std.proofs.Common.{◌≡◌, suc, ◌≤◌, inl, inr, Bool, true, false, ◌==◌, List, [], ◌∷◌, ◌++◌, length, Option}
-use Rattle.std.proofs.Common.{Some, None, refl, ap, sym, ◌∙◌, subst, arith, append_assoc}
+use Rattle.std.proofs.Common.{Some, None, ap, sym, subst, arith}
 use Rattle.std.specs.Prelude.{filter, filter_map, map, not, nat_lt, ◌&&◌}
-use Rattle.std.specs.List.{AllByRecursion as Each, cons_option}
+use Rattle.std.specs.List.{cons_option}
 use Rattle.std.proofs.lemmas.Bool.{cond_both}
 use Rattle.std.proofs.lemmas.List.{length-append, length-map}
-use Rattle.std.proofs.lemmas.List.Elements.{filter_map-append}
 use Rattle.ring_base.specs.Processors.{nobody, only, less}
-use Rattle.ring_base.proofs.Each.{each-append}
 use Rattle.ring_object.specs.Operations.{Sequential}
 use Rattle.ring_wire.specs.Tokens.{TokenFits}
 use Rattle.ring_wire.specs.declared.frame.Frame.TheVariants.{Message as MessageFrame}
@@ -18,7 +16,6 @@ use Rattle.ring_core.specs.Tokens.{above_mark}
 use Rattle.ring_core.specs.declared.input.Input.{Input}
 use Rattle.ring_core.specs.declared.input.Input.TheVariants.{Frame as FrameInput, Timeout as TimeInput}
 use Rattle.ring_core.specs.declared.out.Out.{Out}
-use Rattle.ring_core.specs.declared.out.Out.TheVariants.{Send as SendOut, Agreed, Safe, Trans, Rest, Regular}
 use Rattle.ring_core.specs.State.{Core, Sent, Did}
 use Rattle.ring_core.specs.Views.{mark}
 use Rattle.ring_core.specs.Visiting.{repeated, new_payloads, new_messages, forwarded, to_next, visited}
@@ -27,7 +24,6 @@ use Rattle.ring_core.specs.Deciding.{RegatherAndAgree, RegatherAndWiden, Take, V
 use Rattle.ring_core.specs.Acting.{shown_again, may_follow, act, proposed_after, done}
 use Rattle.ring_core.specs.Joining.{proposes}
 use Rattle.ring_core.specs.Handing.{proposed}
-use Rattle.ring_core.specs.Giving.{may_install, addressed, sent, given, configured, settle}
 use Rattle.ring_core.specs.Stepping.{ring_step}
 use Rattle.ring_rules.specs.declared.input.Input.{Input as NodeInput}
 use Rattle.ring_rules.specs.declared.input.Input.TheVariants.{Frame as NodeFrame, Noise as NodeNoise, Timeout as NodeTime, Stop as NodeStop}
@@ -39,11 +35,11 @@ use Rattle.ring_rules.specs.Stepping.{NodeStepped, send_of, with_dropped, newly,
 use Rattle.ring_core.proofs.Tokens.{length-numbered}
 use Rattle.ring_core_proof.specs.LawWords.{CameWith}
 use Rattle.ring_core_proof.proofs.Causes.{caused}
-use Rattle.ring_core_proof.proofs.Lifting.{IsTold, told_from, told_configured}
 use Rattle.ring_core_proof.proofs.StepsAreMoves.{fresh_few}
 use Rattle.ring_core_proof.specs.Limits.{InputFits}
 use Rattle.ring_log.specs.Kept.{Kept, kept_of, log_kept, is_kept_sound}
 use Rattle.ring_log.specs.Logs.{committed_calls}
+use Rattle.ring_order_proof.proofs.StepSends.{step_sends}
 
 -- Lists
 
@@ -119,48 +115,13 @@ few_done c input w =
 
 -- What a step gives
 
-told_none : {A : Type 0} → (o : Out A) → IsTold o → send_of o ≡ None
-told_none (SendOut to frame) h = absurd (let e = h 0 in let x : ⊥ = cc in x)
-told_none (Agreed ring n x) h = refl
-told_none (Safe ring upto) h = refl
-told_none (Trans old new set) h = refl
-told_none (Rest ring n x) h = refl
-told_none (Regular ring set) h = refl
-
-none_sent : {A : Type 0} → (outs : List (Out A)) → Each IsTold outs → filter_map send_of outs ≡ []
-none_sent [] h = refl
-none_sent {A} (o ∷ outs) h = ap (λ x. cons_option x (filter_map send_of outs)) (told_none o h.0) ∙ none_sent outs h.1
-
-all_sent : {A : Type 0} → (sends : List (Sent A)) → filter_map send_of (map (λ (s : Sent A). SendOut s.to s.frame) sends) ≡ sends
-all_sent [] = refl
-all_sent (s ∷ sends) = ap (λ xs. s ∷ xs) (all_sent sends)
-
-few_sent : {A : Type 0} → (sends : List (Sent A)) (told : List (Out A)) → Each IsTold told → length (filter_map send_of (sent sends ++ told)) ≤ length sends
-few_sent {A} sends told h =
-    let e : filter_map send_of (sent sends ++ told) ≡ addressed sends ++ [] =
-    filter_map-append send_of (sent sends) told ∙ ap (λ xs. xs ++ filter_map send_of told) (all_sent (addressed sends))
-    ∙ ap (λ xs. addressed sends ++ xs) (none_sent told h) in
-    let a = ap length e in
-    let b = length-append (addressed sends) [] in
-    let d = few_filter (λ (s : Sent A). not (s.to == nobody)) sends in
-    omega (arith, a, b, d)
-
-few_settled : {A : Type 0} → (old c : Core A) (sends : List (Sent A)) (b : Bool) →
-    length (filter_map send_of (settle b c (sent sends ++ given old c)).outs) ≤ length sends
-few_settled old c sends false = few_sent sends (given old c) (told_from c old.installed.ring _ _)
-few_settled {A} old c sends true =
-    let told : Each IsTold (given old c ++ configured c) =
-    each-append IsTold (given old c) (configured c) (told_from c old.installed.ring _ _) (told_configured c) in
-    subst (λ (outs : List (Out A)). length (filter_map send_of outs) ≤ length sends) (sym (append_assoc (sent sends) (given old c) (configured c)))
-    (few_sent sends (given old c ++ configured c) told)
-
 pub few_frames : {A : Type 0} → (c : Core A) (input : Input A) → InputFits input → length (filter_map send_of (ring_step c input).outs) ≤ 64
-unfolding ring_step
-few_frames c input w =
-    let d = done c (decide c input) in
-    let a = few_settled c d.core d.sends (may_install d.core) in
-    let b = few_done c input w in
-    omega (arith, a, b)
+few_frames {A} c input w =
+    let sends = (done c (decide c input)).sends in
+    let a = ap length (step_sends c input) in
+    let b = few_filter (λ (s : Sent A). not (s.to == nobody)) sends in
+    let d = few_done c input w in
+    omega (arith, a, b, d)
 
 -- A step of a node
 

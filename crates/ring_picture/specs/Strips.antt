@@ -5,7 +5,8 @@ use Rattle.ring_base.specs.Group.{Group}
 use Rattle.ring_picture.specs.declared.mark.Mark.{Mark}
 use Rattle.ring_picture.specs.declared.mark.Placed.{Placed}
 
--- what contracts see of a picture: its nodes, the one that alone has a lane, if there is one, how many columns were begun, the marks in these, and the first event that has none
+-- what contracts see of a picture: its nodes, the one that alone has a lane, if there is one, how many columns were begun, the marks in these, and
+-- the first event that has none
 pub record Strip : Type 0 where
   pub nodes : Group
   pub only : Option ℕ

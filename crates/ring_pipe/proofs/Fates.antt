@@ -1,15 +1,11 @@
 -- At a token or a commit token that is ignored nothing is sent; at one that is taken something is.
-use Rattle.std.proofs.Common.{◌≡◌, ℕ, ◌-◌, zero, ◌<◌, ◌⊎◌, inl, inr, Bool, true, false, ◌==◌, List, [], ◌∷◌, ◌++◌, None, refl, ap, sym, ◌∙◌, subst, append_assoc, arith}
-use Rattle.std.specs.Prelude.{filter_map, map, not, ◌&&◌}
-use Rattle.std.specs.List.{AllByRecursion as Each, cons_option}
+use Rattle.std.proofs.Common.{◌≡◌, ℕ, ◌-◌, zero, ◌<◌, ◌⊎◌, inl, inr, Bool, true, false, ◌==◌, List, [], ◌∷◌, ◌++◌, refl, ap, ◌∙◌, arith}
+use Rattle.std.specs.Prelude.{filter_map, not, ◌&&◌}
 use Rattle.std.proofs.lemmas.Bool.{cond_both, ne_eqb}
-use Rattle.std.proofs.lemmas.List.Elements.{filter_map-append}
-use Rattle.std.proofs.lemmas.List.{append-nil}
 use Rattle.std.proofs.lemmas.Nat.{pow_pos}
 use Rattle.ring_base.specs.Processors.{nobody, only, next as next_member}
 use Rattle.ring_base.specs.declared.state.State.{State}
 use Rattle.ring_base.specs.declared.state.State.TheVariants.{Gather, Commit, Recovery, Operational, Stopped}
-use Rattle.ring_base.proofs.Each.{each-append}
 use Rattle.ring_object.specs.Operations.{Sequential}
 use Rattle.ring_wire.specs.declared.commit.CommitToken.{CommitToken}
 use Rattle.ring_wire.specs.declared.frame.Frame.{Frame}
@@ -21,10 +17,9 @@ use Rattle.ring_token.specs.Turns.{first_token}
 use Rattle.ring_core.specs.declared.input.Input.{Input}
 use Rattle.ring_core.specs.declared.input.Input.TheVariants.{Frame as CoreFrame}
 use Rattle.ring_core.specs.declared.out.Out.{Out}
-use Rattle.ring_core.specs.declared.out.Out.TheVariants.{Send, Agreed, Safe, Trans, Rest, Regular}
 use Rattle.ring_core.specs.Acting.{act, may_follow, proposed_after, done}
 use Rattle.ring_core.specs.Deciding.{Act, Ignore, Visit, Fill, Learn, decide, decide_token, decide_round, decide_frame, decide_if_named}
-use Rattle.ring_core.specs.Giving.{addressed, sent, given, configured, settle, may_install}
+use Rattle.ring_core.specs.Giving.{addressed}
 use Rattle.ring_core.specs.Handing.{passed, proposed, takes_first_round, takes_second_round, takes_start}
 use Rattle.ring_core.specs.Joining.{proposes}
 use Rattle.ring_core.specs.Naming.{is_named}
@@ -32,7 +27,6 @@ use Rattle.ring_core.specs.State.{Core, Sent, Did}
 use Rattle.ring_core.specs.Stepping.{ring_step}
 use Rattle.ring_core.specs.Views.{own_entry}
 use Rattle.ring_core.specs.Visiting.{accepts, forwarded, new_messages, repeated, to_next, to_others}
-use Rattle.ring_core_proof.proofs.Lifting.{IsTold, told_from, told_configured}
 use Rattle.ring_log.specs.Kept.{Kept, kept_of, log_kept, is_kept_sound}
 use Rattle.ring_log.specs.Logs.{committed_calls}
 use Rattle.ring_rules.specs.Dues.{due_by}
@@ -40,6 +34,7 @@ use Rattle.ring_rules.specs.Lives.{lived_through}
 use Rattle.ring_rules.specs.Nodes.{Node, node_kept, is_stopped, is_closed, is_restored}
 use Rattle.ring_rules.specs.Stepping.{NodeStepped, with_dropped, newly, drops, ended, did, settled, walked, send_of, node_step}
 use Rattle.ring_rules.specs.declared.input.Input.TheVariants.{Frame as FrameInput}
+use Rattle.ring_order_proof.proofs.StepSends.{step_sends}
 use Rattle.ring_pipe.specs.Telling.{has_sent, is_token}
 
 -- Frames that go out: those to somebody
@@ -119,40 +114,6 @@ proposal_behind false did h = h
 proposal_behind true did h = goes_before did.sends (proposed did.core).sends h
 
 -- What a step sends
-
-told_none : {A : Type 0} → (o : Out A) → IsTold o → send_of o ≡ None
-told_none (Send to frame) h = absurd (let e = h 0 in let x : ⊥ = cc in x)
-told_none (Agreed ring n x) h = refl
-told_none (Safe ring upto) h = refl
-told_none (Trans old new set) h = refl
-told_none (Rest ring n x) h = refl
-told_none (Regular ring set) h = refl
-
-none_sent : {A : Type 0} → (outs : List (Out A)) → Each IsTold outs → filter_map send_of outs ≡ []
-none_sent [] h = refl
-none_sent {A} (o ∷ outs) h = ap (λ x. cons_option x (filter_map send_of outs)) (told_none o h.0) ∙ none_sent outs h.1
-
-all_sent : {A : Type 0} → (sends : List (Sent A)) → filter_map send_of (map (λ (s : Sent A). Send s.to s.frame) sends) ≡ sends
-all_sent [] = refl
-all_sent (s ∷ sends) = ap (λ xs. s ∷ xs) (all_sent sends)
-
-only_sent : {A : Type 0} → (sends : List (Sent A)) (told : List (Out A)) → Each IsTold told → filter_map send_of (sent sends ++ told) ≡ addressed sends
-only_sent {A} sends told h =
-    filter_map-append send_of (sent sends) told ∙ ap (λ xs. xs ++ filter_map send_of told) (all_sent (addressed sends))
-    ∙ ap (λ xs. addressed sends ++ xs) (none_sent told h) ∙ append-nil (addressed sends)
-
-settled_sends : {A : Type 0} → (old c : Core A) (sends : List (Sent A)) (b : Bool) →
-    filter_map send_of (settle b c (sent sends ++ given old c)).outs ≡ addressed sends
-settled_sends old c sends false = only_sent sends (given old c) (told_from c old.installed.ring _ _)
-settled_sends {A} old c sends true =
-    let told : Each IsTold (given old c ++ configured c) =
-    each-append IsTold (given old c) (configured c) (told_from c old.installed.ring _ _) (told_configured c) in
-    subst (λ (outs : List (Out A)). filter_map send_of outs ≡ addressed sends) (sym (append_assoc (sent sends) (given old c) (configured c)))
-    (only_sent sends (given old c ++ configured c) told)
-
-step_sends : {A : Type 0} → (c : Core A) (i : Input A) → filter_map send_of (ring_step c i).outs ≡ addressed (done c (decide c i)).sends
-unfolding ring_step
-step_sends c i = let did = done c (decide c i) in settled_sends c did.core did.sends (may_install did.core)
 
 -- one that is ignored sends nothing
 ignored_sends : {A : Type 0} → (c : Core A) (i : Input A) → decide c i ≡ Ignore → filter_map send_of (ring_step c i).outs ≡ []

@@ -2,7 +2,9 @@
 //! least and the greatest frames.
 
 use crate::spelled::{bytes_of, framed, is_frame};
-use crate::vectors::NOTHING_HELD;
+use crate::vectors::{
+    END, HEAD, HEAD_OF_NONE, MESSAGE, NOTHING_HELD, PACK, PART, SNAP, TRIMMED_HEAD, WRAPPED,
+};
 use std::alloc::Global;
 use std::test::Fail;
 
@@ -315,72 +317,34 @@ fn pieces_of_a_snapshot(rt: HostRuntime) -> Result<(), Fail> {
     Ok(())
 }
 
-/// A payload, and whether it may stand in a message, and in a message as what is wrapped.
-type Inner = (&'static [&'static str], bool, bool);
-
-const CALL: [&str; 4] = ["01", "00000007", "0000000000000001", "000102"];
-
-const HEAD: [&str; 4] = [
-    "04",
-    "000000000000000101",
-    "0000000000000003",
-    "0000000000000002",
-];
-
-const PART: [&str; 4] = [
-    "05",
-    "000000000000000001",
-    "000000070000000000000001",
-    "0000",
-];
-
-const PACK: [&str; 3] = [
-    "0602",
-    "0000000700000000000000010000",
-    "0000000700000000000000020000",
-];
-
-const TRIMMED_HEAD: [&str; 5] = [
-    "07",
-    "000000000000000101",
-    "0000000000000003",
-    "0000000000000002",
-    "0000000000000001",
-];
-
-const SNAP: [&str; 4] = ["08", "0000000000000100", "0000000100000000", "0001ab"];
-
-const WRAPPED: [&str; 5] = [
-    "02",
-    "000000000000000101",
-    "000000000000000101",
-    "0100000007",
-    "00000000000000010000",
-];
-
-const PAYLOADS: [Inner; 9] = [
-    (&CALL, true, true),
-    (&HEAD, true, true),
-    (&PART, true, true),
-    (&PACK, true, true),
-    (&TRIMMED_HEAD, true, true),
-    (&SNAP, true, true),
-    (&WRAPPED, true, false),
-    (&["03"], true, false),
-    (&[], false, false),
-];
-
-/// Whether the payload of these texts may stand in a message, and as what is wrapped.
-fn text_standing(alloc: Global, payload: &[&str]) -> Result<(bool, bool), Fail> {
+/// The same of the payload of a message, which stands behind its sender.
+fn payload_standing(alloc: Global, message: &[&str]) -> Result<(bool, bool), Fail> {
+    let [_start, _ring, _number, _sender, payload @ ..] = message else {
+        return Ok((false, false));
+    };
     let bytes = bytes_of(alloc, payload)?;
     standing(alloc, bytes.as_slice())
 }
 
+/// One message of each payload, and whether that may be wrapped.
+const MESSAGES: [(&[&str], bool); 9] = [
+    (&MESSAGE, true),
+    (&WRAPPED, false),
+    (&END, false),
+    (&HEAD, true),
+    (&HEAD_OF_NONE, true),
+    (&PART, true),
+    (&PACK, true),
+    (&TRIMMED_HEAD, true),
+    (&SNAP, true),
+];
+
 #[test]
 fn what_may_be_wrapped(rt: HostRuntime) -> Result<(), Fail> {
-    for (payload, alone, inside) in PAYLOADS {
-        let standing = text_standing(rt.alloc(), payload)?;
-        assert!(rt; standing == (alone, inside));
+    assert!(rt; standing(rt.alloc(), &[])? == (false, false));
+    for (message, inside) in MESSAGES {
+        let standing = payload_standing(rt.alloc(), message)?;
+        assert!(rt; standing == (true, inside));
     }
     Ok(())
 }

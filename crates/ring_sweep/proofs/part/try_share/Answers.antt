@@ -57,7 +57,8 @@ loop-place-preserved g c =
       tried = subst (λ (n : ℕ). AreTriedIn g.O.Object.sequential nodes lines begin n c.keep_first.new.first) next
           (tried_more g.O.Object.sequential nodes lines begin at c.loop-place.illegal last c.keep_first.new.first c.loop-place.invariant.tried tried first);
       come = c.in_ok-go_to.ensures.come;
-      most = subst (λ (n : ℕ). ahead.walk.done ≤ n / (2 * nodes.count)) next (before_next g.O.Object.sequential nodes lines at ahead.walk.done (2 * nodes.count) some
+      most = subst (λ (n : ℕ). ahead.walk.done ≤ n / (2 * nodes.count)) next
+          (before_next g.O.Object.sequential nodes lines at ahead.walk.done (2 * nodes.count) some
           (subst (λ (n : ℕ). ahead.walk.done ≤ n) (ap (λ (u : Upset). u.before) upset) now));
     }
 
