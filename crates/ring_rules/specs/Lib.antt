@@ -7,3 +7,5 @@ pub mod Histories
 pub mod WorldLimits
 pub mod Orders
 pub mod Worlds
+pub mod Outs
+pub mod OutVariants

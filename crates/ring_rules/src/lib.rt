@@ -15,4 +15,5 @@ pub use input::Input;
 pub use item::Item;
 pub use laws::{linearization_law, order_law};
 pub use noise::Noise;
+pub use ring_core::{Out, Sent};
 pub use told::Told;

@@ -9,8 +9,7 @@ use Rattle.ring_base.specs.Passing.{length-numbers_from}
 use Rattle.ring_base.specs.Processors.{nobody}
 use Rattle.ring_base.proofs.ListPlaces.{numbers-append, get-numbers}
 use Rattle.ring_payload.specs.declared.content.Payload.{Payload}
-use Rattle.ring_token.specs.Turns.{first_token}
-use Rattle.ring_token.specs.Visits.{numbered}
+use Rattle.ring_core.specs.Tokens.{first_token, numbered}
 use Rattle.ring_core.specs.declared.out.Out.{Out}
 use Rattle.ring_core.specs.declared.out.Out.TheVariants.{Send as SendOut}
 use Rattle.ring_core.specs.State.{Core, Sent, all_of, formed}

@@ -18,10 +18,9 @@ use Rattle.ring_wire.specs.declared.frame.Frame.TheVariants.{Commit as CommitFra
 use Rattle.ring_wire.specs.declared.join.Join.{Join}
 use Rattle.ring_wire.specs.declared.message.Message.{Message}
 use Rattle.ring_wire.specs.declared.token.Token.{Token}
-use Rattle.ring_token.specs.Turns.{first_token}
-use Rattle.ring_join.specs.declared.hearing.Hearing.{Hearing}
-use Rattle.ring_join.specs.declared.hearing.Hearing.TheVariants.{Ignored, Agrees, Widens}
-use Rattle.ring_commit.specs.Outcomes.{is_at}
+use Rattle.ring_core.specs.Tokens.{first_token}
+use Rattle.ring_core.specs.Joins.{Hearing, Ignored, Agrees, Widens}
+use Rattle.ring_core.specs.Commits.{is_at}
 use Rattle.ring_core.specs.declared.input.Input.{Input}
 use Rattle.ring_core.specs.declared.input.Input.TheVariants.{Frame as FrameInput, Timeout, Send}
 use Rattle.ring_core.specs.State.{Core, all_of, formed}
@@ -35,7 +34,7 @@ use Rattle.ring_core.specs.Deciding.{decide_commit, decide_frame, decide_if_name
 use Rattle.ring_core.specs.Deciding.{decide_payload, decide}
 use Rattle.ring_srp_acts.specs.Allowing.{Allows, InputFits, TokenGoes, VisitAllowed}
 use Rattle.ring_srp_acts.specs.Machines.{is_running}
-use Rattle.ring_join.proofs.Consensus.{agrees_same}
+use Rattle.ring_core.proofs.Joins.{agrees_same}
 
 -- Tokens
 

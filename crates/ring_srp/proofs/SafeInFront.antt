@@ -8,11 +8,8 @@ use Rattle.ring_base.specs.Rings.{same_ring}
 use Rattle.ring_base.specs.Numbers.{greatest}
 use Rattle.ring_base.specs.declared.ring_id.RingId.{RingId}
 use Rattle.ring_wire.specs.declared.commit.CommitToken.{CommitToken}
-use Rattle.ring_token.specs.Turns.{Turn, Raise, turns_of, mark_by, raised_to, safe_mark}
-use Rattle.ring_token.specs.Histories.{last_aru}
-use Rattle.ring_commit.specs.Reports.{reports_of, safe_of, is_sound}
-use Rattle.ring_commit.specs.Rounds.{position_of_hop, is_own}
-use Rattle.ring_commit.specs.declared.configuration.Configuration.{Configuration}
+use Rattle.ring_core.specs.Tokens.{Turn, Raise, turns_of, mark_by, raised_to, safe_mark, last_aru}
+use Rattle.ring_core.specs.Commits.{reports_of, safe_of, is_sound, position_of_hop, is_own, Configuration}
 use Rattle.ring_core.specs.State.{Core, Did}
 use Rattle.ring_core.specs.Views.{front, mark, own_entry}
 use Rattle.ring_core.specs.Visiting.{turn_of}
@@ -23,7 +20,7 @@ use Rattle.ring_core.specs.Deciding.{RegatherAndAgree, RegatherAndWiden, Take, V
 use Rattle.ring_core.specs.Acting.{act, may_follow, proposed_after, done}
 use Rattle.ring_srp_acts.specs.Allowing.{Allows}
 use Rattle.ring_core.proofs.InstalledKept.{done_installed}
-use Rattle.ring_commit.proofs.Reporting.{none_behind-at, own_stands}
+use Rattle.ring_core.proofs.Commits.{none_behind-at, own_stands}
 
 -- A visit: its mark is the lesser of two numbers, of which the earlier was in the front
 

@@ -1,6 +1,6 @@
 -- A core that runs, or what it was before it stopped.
 use Rattle.std.specs.Prelude.{◌≡◌, false, Option, Some, None}
-use Rattle.ring_commit.specs.declared.configuration.Configuration.{Configuration}
+use Rattle.ring_core.specs.Commits.{Configuration}
 use Rattle.ring_core.specs.State.{Core, halted}
 use Rattle.ring_core.specs.Giving.{may_install}
 

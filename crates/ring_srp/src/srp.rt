@@ -9,13 +9,12 @@ ghost use Rattle.ring_core.specs.Visiting.{visited};
 ghost use Rattle.ring_core.specs.declared.input.Input.TheVariants.{Frame as FrameInput, Timeout as TimeoutInput, Send as SendInput};
 ghost use Rattle.ring_wire.specs.Frames.{FrameFits};
 ghost use Rattle.ring_srp_acts.specs.Allowing.{InputFits};
-ghost use Rattle.ring_token.specs.Turns.{first_token};
+ghost use Rattle.ring_core.specs.Tokens.{first_token};
 ghost use Rattle.ring_srp.specs.Given.{IsGiven};
 
 use crate::stepping::{hear, joined, send, step, step_joined};
 use ring_base::{Fault, Fixed, Kind, Past, Proc, RingId, State, seen};
-use ring_commit::Configuration;
-use ring_core::{Input, Out, Sent};
+use ring_core::{Configuration, Input, Out, Sent};
 use ring_payload::Payload;
 use ring_srp_acts::{Machine, all_of, first_token};
 use ring_wire::Frame;

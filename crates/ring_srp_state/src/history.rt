@@ -6,7 +6,7 @@ ghost use Rattle.ring_srp_state.specs.Histories.{with_ring, with_visit, with_pla
 ghost use Rattle.ring_srp_state.specs.Histories.{history_of};
 
 use ring_base::{Fixed, Past, Proc, RingId, past_of, told};
-use ring_commit::Configuration;
+use ring_core::Configuration;
 use ring_token::Visit;
 use ring_wire::{CommitEntry, CommitToken};
 use std::alloc::{Allocator, Global};

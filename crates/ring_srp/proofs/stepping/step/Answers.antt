@@ -1,7 +1,7 @@
 -- The parts of a step make the step.
 use Rattle.std.proofs.Common.{sym, ◌∙◌, ap, subst}
 use Rattle.std.specs.Prelude.{IfOk}
-use Rattle.ring_commit.specs.declared.configuration.Configuration.{Configuration}
+use Rattle.ring_core.specs.Commits.{Configuration}
 use Rattle.ring_core.specs.State.{Core, Stepped}
 use Rattle.ring_core.specs.Deciding.{Act}
 use Rattle.ring_core.proofs.InstalledKept.{done_installed}

@@ -1,6 +1,6 @@
 -- The parts of a step make the step.
 use Rattle.std.proofs.Common.{sym, ◌∙◌, ap}
-use Rattle.ring_commit.specs.declared.configuration.Configuration.{Configuration}
+use Rattle.ring_core.specs.Commits.{Configuration}
 use Rattle.ring_core.specs.State.{Core}
 use Rattle.ring_core.specs.Deciding.{Take}
 use Rattle.ring_core.proofs.InstalledKept.{done_installed}

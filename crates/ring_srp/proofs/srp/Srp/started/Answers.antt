@@ -1,8 +1,8 @@
 -- The representative may visit the first token, and then it is as the definition starts the ring.
 use Rattle.std.proofs.Common.{ap, ◌∙◌}
 use Rattle.ring_core.specs.State.{formed}
-use Rattle.ring_commit.specs.declared.configuration.Configuration.{Configuration}
-use Rattle.ring_token.specs.Turns.{first_token}
+use Rattle.ring_core.specs.Commits.{Configuration}
+use Rattle.ring_core.specs.Tokens.{first_token}
 use Rattle.ring_srp.proofs.Allowed.{first_allowed}
 use Rattle.ring_srp.proofs.StepOutputs.{first_alone, first_core}
 use Rattle.ring_srp.proofs.srp.Srp.started.Goals as goal
