@@ -5,7 +5,7 @@ use Rattle.ring_rules.specs.Stepping.{node_step}
 use Rattle.ring_rules.specs.declared.input.Input.{Input}
 use Rattle.ring_node.specs.Restores.{node_restored}
 use Rattle.ring_node.proofs.NodeSteps.{going-told, none-restored}
-use Rattle.ring_node.proofs.node.Node.step_on.Goals as goal
+use Rattle.ring_node.proofs.node.Node.step_into.Goals as goal
 
 pub returns-in-Noise-clause-runs : goal.returns-in-Noise-clause-runs
 returns-in-Noise-clause-runs g c =
@@ -22,11 +22,11 @@ returns-in-Stop-clause-runs g c =
 pub returns-in-Noise-clause-restored : goal.returns-in-Noise-clause-restored
 returns-in-Noise-clause-restored g c =
     let n = c.args.self.now in
-    c.new.ensures.restored ∙ none-restored (node_kept n)
+    c.clear.ensures.restored ∙ none-restored (node_kept n)
     ∙ ap (λ (i : Input _). node_restored n (node_step g.O.Object.sequential n i).node) (sym c.in-Noise.is)
 
 pub returns-in-Stop-clause-restored : goal.returns-in-Stop-clause-restored
 returns-in-Stop-clause-restored g c =
     let n = c.args.self.now in
-    c.new-in-Stop.ensures.restored ∙ none-restored (node_kept n)
+    c.clear.ensures.restored ∙ none-restored (node_kept n)
     ∙ ap (λ (i : Input _). node_restored n (node_step g.O.Object.sequential n i).node) (sym c.in-Stop.is)
