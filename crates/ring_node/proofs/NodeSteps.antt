@@ -89,7 +89,7 @@ module _ {O A : Type 0} (object : Sequential O) (running : Option RingId) (r : R
   left-as new e = ap replica_stopped e ∙ left-by object r outs (lived_through r.life outs) due_now kept_now is
 
 -- What follows of what a step told is what the step makes, with the frames that it sent
-module _ {O A : Type 0} (object : Sequential O) {core new : Core A} (r : Replica A) {input : Input A} {sends : List (Sent A)} {told : List (Out A)}
+module _ {O A : Type 0} (object : Sequential O) (core : Core A) (r : Replica A) (input : Input A) {new : Core A} {sends : List (Sent A)} {told : List (Out A)}
     (en : new ≡ (ring_step core input).core) (given : IsGiven (ring_step core input).outs sends told) (runs : r.stopped ≡ false) where
   pub followed-as : sending sends (followed_by object new r told) ≡ stepped_by object core r input
   followed-as =

@@ -22,34 +22,34 @@ follow-requires-clause-runs g c =
 pub returns-clause-sends : goal.returns-clause-sends
 returns-clause-sends g c =
     subst (λ (s : ReplicaStepped _). OnOk c.follow.result (c.follow.new.outs.sends.items ≡ s.sends))
-    (followed-as g.O.Object.sequential c.args.replica.now c.in_ok-told.ensures.ok c.in_ok-told.ensures.given c.requires.going) c.follow.ensures.sends
+    (followed-as g.O.Object.sequential c.args.core.now c.args.replica.now (TimeoutInput c.args.kind) c.in_ok-told.ensures.ok c.in_ok-told.ensures.given c.requires.going) c.follow.ensures.sends
 
 pub returns-clause-answers : goal.returns-clause-answers
 returns-clause-answers g c =
     subst (λ (s : ReplicaStepped _). OnOk c.follow.result (c.follow.new.outs.answers.items ≡ s.answers))
-    (followed-as g.O.Object.sequential c.args.replica.now c.in_ok-told.ensures.ok c.in_ok-told.ensures.given c.requires.going) c.follow.ensures.answers
+    (followed-as g.O.Object.sequential c.args.core.now c.args.replica.now (TimeoutInput c.args.kind) c.in_ok-told.ensures.ok c.in_ok-told.ensures.given c.requires.going) c.follow.ensures.answers
 
 pub returns-clause-committed : goal.returns-clause-committed
 returns-clause-committed g c =
     subst (λ (s : ReplicaStepped _). OnOk c.follow.result (c.follow.new.outs.committed.items ≡ s.replica.doing))
-    (followed-as g.O.Object.sequential c.args.replica.now c.in_ok-told.ensures.ok c.in_ok-told.ensures.given c.requires.going) c.follow.ensures.committed
+    (followed-as g.O.Object.sequential c.args.core.now c.args.replica.now (TimeoutInput c.args.kind) c.in_ok-told.ensures.ok c.in_ok-told.ensures.given c.requires.going) c.follow.ensures.committed
 
 pub returns-clause-dropped : goal.returns-clause-dropped
 returns-clause-dropped g c =
     subst (λ (s : ReplicaStepped _). OnOk c.follow.result (c.follow.new.outs.dropped.items ≡ s.replica.leaving))
-    (followed-as g.O.Object.sequential c.args.replica.now c.in_ok-told.ensures.ok c.in_ok-told.ensures.given c.requires.going) c.follow.ensures.dropped
+    (followed-as g.O.Object.sequential c.args.core.now c.args.replica.now (TimeoutInput c.args.kind) c.in_ok-told.ensures.ok c.in_ok-told.ensures.given c.requires.going) c.follow.ensures.dropped
 
 pub returns-clause-restored : goal.returns-clause-restored
 returns-clause-restored g c =
     subst (λ (s : ReplicaStepped _). OnOk c.follow.result (c.follow.new.outs.restored ≡ s.restored))
-    (followed-as g.O.Object.sequential c.args.replica.now c.in_ok-told.ensures.ok c.in_ok-told.ensures.given c.requires.going) c.follow.ensures.restored
+    (followed-as g.O.Object.sequential c.args.core.now c.args.replica.now (TimeoutInput c.args.kind) c.in_ok-told.ensures.ok c.in_ok-told.ensures.given c.requires.going) c.follow.ensures.restored
 
 pub returns-clause-core : goal.returns-clause-core
 returns-clause-core g c =
     subst (λ (x : Core _). OnOk c.follow.result (c.follow.new.core ≡ x))
-    (followed-core g.O.Object.sequential c.args.replica.now c.in_ok-told.ensures.ok c.in_ok-told.ensures.given c.requires.going) c.follow.ensures.core
+    (followed-core g.O.Object.sequential c.args.core.now c.args.replica.now (TimeoutInput c.args.kind) c.in_ok-told.ensures.ok c.in_ok-told.ensures.given c.requires.going) c.follow.ensures.core
 
 pub returns-clause-replica : goal.returns-clause-replica
 returns-clause-replica g c =
     subst (λ (s : ReplicaStepped _). OnOk c.follow.result (c.follow.new.replica ≡ replica_ended s))
-    (followed-as g.O.Object.sequential c.args.replica.now c.in_ok-told.ensures.ok c.in_ok-told.ensures.given c.requires.going) c.follow.ensures.replica
+    (followed-as g.O.Object.sequential c.args.core.now c.args.replica.now (TimeoutInput c.args.kind) c.in_ok-told.ensures.ok c.in_ok-told.ensures.given c.requires.going) c.follow.ensures.replica
