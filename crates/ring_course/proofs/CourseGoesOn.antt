@@ -2,8 +2,7 @@
 -- sound stays so.
 use Rattle.std.proofs.Common.{◌≡◌, ℕ, zero, suc, ◌+◌, ◌-◌, ◌<◌, ◌≤◌, ◌&&◌, max, Bool, true, false, List, [], ◌∷◌, ◌++◌, length, take, drop, inl, inr}
 use Rattle.std.proofs.Common.{Option, Some, None, refl, ap, sym, ◌∙◌, subst, arith, append_assoc, if◌then◌else◌}
-use Rattle.std.specs.Prelude.{filter_map, slice_get, nat_lt, is_some, not, ◌||◌}
-use Rattle.std.specs.List.{cons_option}
+use Rattle.std.specs.Prelude.{slice_get, nat_lt, is_some, not, ◌||◌}
 use Rattle.std.proofs.lemmas.Bool.{and_parts, leb-true, lt-ltb, cond-true, cond-false}
 use Rattle.std.proofs.lemmas.List.{append-nil}
 use Rattle.ring_base.proofs.ListFronts.{drop-more}
@@ -13,7 +12,6 @@ use Rattle.ring_base.specs.declared.ring_id.RingId.{RingId}
 use Rattle.ring_payload.specs.declared.call.Call.{Call as OneCall}
 use Rattle.ring_payload.specs.declared.content.Payload.{Payload}
 use Rattle.ring_wire.specs.declared.message.Message.{Message}
-use Rattle.ring_core.specs.State.{Sent}
 use Rattle.ring_core.specs.declared.out.Out.{Out}
 use Rattle.ring_core.specs.declared.out.Out.TheVariants.{Send, Agreed, Safe, Trans, Rest, Regular}
 use Rattle.ring_log.specs.Exchanges.{Exchange, opened}
@@ -36,7 +34,6 @@ use Rattle.ring_course.specs.declared.stage.Stage.{Stage}
 use Rattle.ring_course.specs.Courses.{stage_in, reach_of, reach_at, reaches_from, behind, left, covered, took, Moment, bytes_at, dues_when_whole}
 use Rattle.ring_course.specs.Courses.{dues_heard, dues_at, dues_by, is_risen, rises_at, rises, is_running, Holding, nothing_held, held_trimmed, HoldsRestored}
 use Rattle.ring_course.specs.Courses.{MayRestore, GoesOn, IsCourseKept}
-use Rattle.ring_rules.specs.Stepping.{send_of}
 use Rattle.ring_course.proofs.Courses.{exchanged-nothing, covers-upto, upto-behind, reaches-push, kept_base, log_with}
 use Rattle.ring_course.proofs.Courses.{kept-log, length-with, settled, left-settled}
 use Rattle.ring_course.proofs.Messages.{with_message, Hears, hears-is, length-by, from-by, trimmed-by, bytes-by, calls-by, never-less}
@@ -535,15 +532,6 @@ dues-push m life (y ∷ ys) o =
     ap (λ l. dues_at m life y ++ l) (dues-push m (lived life y) ys o)
     ∙ sym (append_assoc (dues_at m life y) (dues_by m (lived life y) ys) (dues_at m (lived_through (lived life y) ys) o))
 
-sends-push : {X Y : Type 0} (f : X → Option Y) (ys : List X) (o : X) → filter_map f (ys ++ o ∷ []) ≡ filter_map f ys ++ filter_map f (o ∷ [])
-sends-push f [] o = refl
-sends-push {X} {Y} f (y ∷ ys) o = by (f y) (sends-push f ys o)
-  where
-    by : (v : Option Y) → filter_map f (ys ++ o ∷ []) ≡ filter_map f ys ++ filter_map f (o ∷ [])
-        → cons_option v (filter_map f (ys ++ o ∷ [])) ≡ cons_option v (filter_map f ys) ++ filter_map f (o ∷ [])
-    by None e = e
-    by (Some z) e = ap (λ l. z ∷ l) e
-
 -- what is due hangs on the bytes that the step goes by
 heard-same : {A : Type 0} (m : Moment A) (t : ℕ) (b : List ℕ) (runs : Bool) (life : List (Stay A)) (x : Message A) (after : List (Stay A))
     → bytes_at (record m { trimmed = t; snapshot = b }) (kept_of m.group life) ≡ bytes_at m (kept_of m.group life)
@@ -568,44 +556,40 @@ dues-same m t b life (Rest ring k x) e = refl
 
 -- what outputs made so far of a course
 pub record IsWalked {A : Type 0} (m : Moment A) (first : List (Stay A)) (begun : Holding A) (ys : List (Out A)) (fine : Bool) (life : List (Stay A))
-    (held : Holding A) (sends-before sends : List (Sent A)) (due-before due : List (Payload A)) : Type 0 where
+    (held : Holding A) (due-before due : List (Payload A)) : Type 0 where
   pub sound : fine ≡ is_kept_sound m.group (lived_through first ys)
   pub lives : fine ≡ true → life ≡ lived_through first ys
   pub onward : fine ≡ true → GoesOn begun held (kept_of m.group first) (kept_of m.group life)
-  pub sent : fine ≡ true → sends ≡ sends-before ++ filter_map send_of ys
   pub handed : fine ≡ true → due ≡ due-before ++ dues_by m first ys
 
-pub walked-none : {A : Type 0} {m : Moment A} {first : List (Stay A)} {begun : Holding A} {fine : Bool} {sends : List (Sent A)} {due : List (Payload A)}
+pub walked-none : {A : Type 0} {m : Moment A} {first : List (Stay A)} {begun : Holding A} {fine : Bool} {due : List (Payload A)}
     → fine ≡ true → is_kept_sound m.group first ≡ true → begun.log.trimmed ≡ (kept_of m.group first).trimmed
-    → IsWalked m first begun [] fine first begun sends sends due due
-walked-none {m} {first} {begun} {sends} {due} f t logged =
+    → IsWalked m first begun [] fine first begun due due
+walked-none {m} {first} {begun} {due} f t logged =
     record {
       sound = f ∙ sym t;
       lives = λ _. refl;
       onward = λ _. goes_none begun begun (kept_of m.group first) (kept_of m.group first) refl refl logged;
-      sent = λ _. sym (append-nil sends);
       handed = λ _. sym (append-nil due);
     }
 
 walked-on : {A : Type 0} (m : Moment A) (first : List (Stay A)) (begun : Holding A) (ys : List (Out A)) (o : Out A) (fine fine' : Bool)
-    (life life' : List (Stay A)) (held held' : Holding A) (sends-before sends sends' : List (Sent A)) (due-before due due' : List (Payload A))
-    → IsWalked m first begun ys fine life held sends-before sends due-before due
+    (life life' : List (Stay A)) (held held' : Holding A) (due-before due due' : List (Payload A))
+    → IsWalked m first begun ys fine life held due-before due
     → m.trimmed ≡ (kept_of m.group first).trimmed → m.snapshot ≡ begun.snapshot
     → fine' ≡ fine && is_kept_sound m.group (lived life o) → (fine' ≡ true → life' ≡ lived life o)
     → (fine' ≡ true → GoesOn held held' (kept_of m.group life) (kept_of m.group life'))
-    → (fine' ≡ true → sends' ≡ sends ++ filter_map send_of (o ∷ []))
     → (fine' ≡ true → due' ≡ due ++ dues_at (record m { trimmed = held.log.trimmed; snapshot = held.snapshot }) life o)
-    → IsWalked m first begun (ys ++ o ∷ []) fine' life' held' sends-before sends' due-before due'
-walked-on {A} m first begun ys o false fine' life life' held held' sends-before sends sends' due-before due due' w at bytes e lives onward sent handed =
+    → IsWalked m first begun (ys ++ o ∷ []) fine' life' held' due-before due'
+walked-on {A} m first begun ys o false fine' life life' held held' due-before due due' w at bytes e lives onward handed =
     let never : fine' ≡ true → ⊥ = λ t. (let y = sym e ∙ t in cc y) in
     record {
       sound = e ∙ sym (ap (is_kept_sound m.group) (lived-push first ys o) ∙ unsound-lived m.group (lived_through first ys) o (sym w.sound));
       lives = λ t. absurd (never t);
       onward = λ t. absurd (never t);
-      sent = λ t. absurd (never t);
       handed = λ t. absurd (never t);
     }
-walked-on {A} m first begun ys o true fine' life life' held held' sends-before sends sends' due-before due due' w at bytes e lives onward sent handed =
+walked-on {A} m first begun ys o true fine' life life' held held' due-before due due' w at bytes e lives onward handed =
     let was = w.lives refl in
     let now = lived-push first ys o in
     let g = w.onward refl in
@@ -618,8 +602,6 @@ walked-on {A} m first begun ys o true fine' life life' held held' sends-before s
       sound = e ∙ ap (λ l. is_kept_sound m.group (lived l o)) was ∙ ap (is_kept_sound m.group) (sym now);
       lives = λ t. lives t ∙ ap (λ l. lived l o) was ∙ sym now;
       onward = λ t. goes-trans begun held held' (kept_of m.group first) k (kept_of m.group life') g (onward t);
-      sent = λ t. sent t ∙ ap (λ l. l ++ filter_map send_of (o ∷ [])) (w.sent refl)
-          ∙ append_assoc sends-before (filter_map send_of ys) (filter_map send_of (o ∷ [])) ∙ ap (λ l. sends-before ++ l) (sym (sends-push send_of ys o));
       handed = λ t. handed t ∙ ap (λ l. due ++ l) (dues-same m held.log.trimmed held.snapshot life o same)
           ∙ ap (λ l. due ++ dues_at m l o) was ∙ ap (λ l. l ++ dues_at m (lived_through first ys) o) (w.handed refl)
           ∙ append_assoc due-before (dues_by m first ys) (dues_at m (lived_through first ys) o) ∙ ap (λ l. due-before ++ l) (sym (dues-push m first ys o));
@@ -627,31 +609,30 @@ walked-on {A} m first begun ys o true fine' life life' held held' sends-before s
 
 -- one output more, of a moment of the same node
 pub walked-more : {A : Type 0} {m : Moment A} {first : List (Stay A)} {begun : Holding A} {ys : List (Out A)} {fine fine' : Bool} {life life' : List (Stay A)}
-    {held held' : Holding A} {sends-before sends sends' : List (Sent A)} {due-before due due' : List (Payload A)} {group group' : Group} {me : ℕ} (o : Out A)
-    → IsWalked m first begun ys fine life held sends-before sends due-before due → group ≡ m.group → group' ≡ group → me ≡ m.me
+    {held held' : Holding A} {due-before due due' : List (Payload A)} {group group' : Group} {me : ℕ} (o : Out A)
+    → IsWalked m first begun ys fine life held due-before due → group ≡ m.group → group' ≡ group → me ≡ m.me
     → m.trimmed ≡ (kept_of m.group first).trimmed → m.snapshot ≡ begun.snapshot
     → fine' ≡ fine && is_kept_sound group (lived life o) → (fine' ≡ true → life' ≡ lived life o)
     → (fine' ≡ true → GoesOn held held' (kept_of group life) (kept_of group' life'))
-    → (fine' ≡ true → sends' ≡ sends ++ filter_map send_of (o ∷ []))
     → (fine' ≡ true → due' ≡ due ++ dues_at (record m { group = group; me = me; trimmed = held.log.trimmed; snapshot = held.snapshot }) life o)
-    → IsWalked m first begun (ys ++ o ∷ []) fine' life' held' sends-before sends' due-before due'
-walked-more {A} {m} {first} {begun} {ys} {fine} {fine'} {life} {life'} {held} {held'} {sends-before} {sends} {sends'} {due-before} {due} {due'} {group} {me} o w
-    same same' at there bytes e lives onward sent handed =
+    → IsWalked m first begun (ys ++ o ∷ []) fine' life' held' due-before due'
+walked-more {A} {m} {first} {begun} {ys} {fine} {fine'} {life} {life'} {held} {held'} {due-before} {due} {due'} {group} {me} o w
+    same same' at there bytes e lives onward handed =
     let by_group : Group → Moment A = λ x. record m { group = x; me = me; trimmed = held.log.trimmed; snapshot = held.snapshot } in
     let by_me : ℕ → Moment A = λ x. record m { me = x; trimmed = held.log.trimmed; snapshot = held.snapshot } in
-    walked-on m first begun ys o fine fine' life life' held held' sends-before sends sends' due-before due due' w there bytes
+    walked-on m first begun ys o fine fine' life life' held held' due-before due due' w there bytes
     (e ∙ ap (λ gr. fine && is_kept_sound gr (lived life o)) same) lives
     (λ t. subst (λ gr. GoesOn held held' (kept_of gr life) (kept_of m.group life')) same
-    (subst (λ gr. GoesOn held held' (kept_of group life) (kept_of gr life')) (same' ∙ same) (onward t))) sent
+    (subst (λ gr. GoesOn held held' (kept_of group life) (kept_of gr life')) (same' ∙ same) (onward t)))
     (λ t. handed t ∙ ap (λ x. due ++ dues_at x life o) (ap by_group same ∙ ap by_me at))
 
 -- once they are all
 pub walked-all : {A : Type 0} {m : Moment A} {first : List (Stay A)} {begun : Holding A} {ys outs : List (Out A)} {fine : Bool} {life : List (Stay A)}
-    {held : Holding A} {sends-before sends : List (Sent A)} {due-before due : List (Payload A)}
-    → IsWalked m first begun ys fine life held sends-before sends due-before due → ys ≡ outs
-    → IsWalked m first begun outs fine life held sends-before sends due-before due
-walked-all {m} {first} {begun} {fine} {life} {held} {sends-before} {sends} {due-before} {due} w all =
-    subst (λ l. IsWalked m first begun l fine life held sends-before sends due-before due) all w
+    {held : Holding A} {due-before due : List (Payload A)}
+    → IsWalked m first begun ys fine life held due-before due → ys ≡ outs
+    → IsWalked m first begun outs fine life held due-before due
+walked-all {m} {first} {begun} {fine} {life} {held} {due-before} {due} w all =
+    subst (λ l. IsWalked m first begun l fine life held due-before due) all w
 
 -- no mark falls at any of them
 rises-at : {A : Type 0} (life : List (Stay A)) (outs : List (Out A)) (k : ℕ) (o : Out A) → rises life outs ≡ true → slice_get outs k ≡ Some o

@@ -1,6 +1,6 @@
 //! How a node's log goes on by the outputs of its core.
 
-ghost use Rattle.std.specs.Prelude.{◌≡◌, ◌++◌, ◌&&◌, [], ◌∷◌, true, filter_map, length, is_some, option_map, None, IfOk, IfErr, OnOk, OnErr};
+ghost use Rattle.std.specs.Prelude.{◌≡◌, ◌++◌, ◌&&◌, [], ◌∷◌, true, length, is_some, option_map, None, IfOk, IfErr, OnOk, OnErr};
 ghost use Rattle.ring_base.specs.Fronts.{IsFront};
 ghost use Rattle.ring_base.specs.declared.fault.Fault.TheVariants.{Memory};
 ghost use Rattle.ring_log.specs.Logs.{committed_calls, committed_upto, committed_log, is_ripe};
@@ -11,7 +11,6 @@ ghost use Rattle.ring_course.specs.Courses.{is_running, is_risen, rises_at, rise
 ghost use Rattle.ring_rules.specs.Nodes.{is_closed};
 ghost use Rattle.ring_rules.specs.Dues.{due_at_regular};
 ghost use Rattle.ring_rules.specs.Lives.{lived, lived_through};
-ghost use Rattle.ring_rules.specs.Stepping.{send_of};
 
 use crate::hearing::{hear, reach_at};
 use crate::history::{Life, born, dropped, entered, handed, handed_call, heard, marked};
@@ -20,11 +19,11 @@ use crate::reach::{Reach, copied, cover};
 use crate::setting::Setting;
 use crate::stage::{Stage, begun};
 use ring_base::{Fault, Fixed, Past, Proc, ProcSet, RingId};
-use ring_core::{Out, Sent};
+use ring_core::Out;
 use ring_log::{Log, Snapshot};
 use ring_payload::{Call, Payload};
 use ring_session::Pending;
-use ring_wire::{Frame, Message};
+use ring_wire::Message;
 use std::alloc::{AllocError, Allocator, Global};
 use std::collections::VecDeque;
 use std::marker::Model;
@@ -134,15 +133,14 @@ impl<A: Allocator + Copy + Drop> Course<A> {
         &self.life
     }
 
-    /// Goes on by the outputs of a step, in their order. The frames sent come behind `sends`, and what is to be handed to
-    /// the core, in which then this ring runs, behind `due`. Refused with `Memory` alone.
+    /// Goes on by the outputs of a step, in their order. What is to be handed to the core, in which then this ring runs, comes
+    /// behind `due`. Refused with `Memory` alone.
     pub fn walk(
         &mut self,
         running: &Option<RingId>,
         pending: &[Pending<A>],
         committed: u64,
         outs: Vec<Out<A>, A>,
-        sends: &mut Vec<Sent<A>, A>,
         due: &mut Vec<Payload<A>, A>,
     ) -> Result<(), Fault>
         requires fine { self.old.fine ≡ true }
@@ -151,7 +149,6 @@ impl<A: Allocator + Copy + Drop> Course<A> {
         requires rises { rises self.old.life outs.items ≡ true }
         ensures sound { OnOk result (self.new.fine ≡ is_kept_sound self.old.group (lived_through self.old.life outs.items)) }
         ensures life { OnOk result (self.new.fine ≡ true → self.new.life ≡ lived_through self.old.life outs.items) }
-        ensures sends { OnOk result (self.new.fine ≡ true → sends.new.items ≡ sends.old.items ++ filter_map send_of outs.items) }
         ensures due { let moment : OneMoment A = record {
           group = self.old.group;
           me = self.old.me;
@@ -170,7 +167,7 @@ impl<A: Allocator + Copy + Drop> Course<A> {
         ensures refused { IfErr result (λ fault. fault ≡ Memory) }
     {
         for out in outs {
-            self.go(running, pending, committed, out, sends, due)?;
+            self.go(running, pending, committed, out, due)?;
         }
         Ok(())
     }
@@ -182,13 +179,11 @@ impl<A: Allocator + Copy + Drop> Course<A> {
         pending: &[Pending<A>],
         committed: u64,
         out: Out<A>,
-        sends: &mut Vec<Sent<A>, A>,
         due: &mut Vec<Payload<A>, A>,
     ) -> Result<(), Fault>
         requires rises { self.old.fine ≡ true → rises_at self.old.life out ≡ true }
         ensures sound { OnOk result (self.new.fine ≡ self.old.fine && is_kept_sound self.old.group (lived self.old.life out)) }
         ensures life { OnOk result (self.new.fine ≡ true → self.new.life ≡ lived self.old.life out) }
-        ensures sends { OnOk result (self.new.fine ≡ true → sends.new.items ≡ sends.old.items ++ filter_map send_of (out ∷ [])) }
         ensures due { let moment : OneMoment A = record {
           group = self.old.group;
           me = self.old.me;
@@ -207,7 +202,7 @@ impl<A: Allocator + Copy + Drop> Course<A> {
         ensures refused { IfErr result (λ fault. fault ≡ Memory) }
     {
         if self.is_fine() {
-            self.take(running, pending, committed, out, sends, due)
+            self.take(running, pending, committed, out, due)
         } else {
             drop(out);
             Ok(())
@@ -222,7 +217,6 @@ impl<A: Allocator + Copy + Drop> Course<A> {
         pending: &[Pending<A>],
         committed: u64,
         out: Out<A>,
-        sends: &mut Vec<Sent<A>, A>,
         due: &mut Vec<Payload<A>, A>,
     ) -> Result<(), Fault>
         requires fine { self.old.fine ≡ true }
@@ -231,7 +225,6 @@ impl<A: Allocator + Copy + Drop> Course<A> {
         requires rises { rises_at self.old.life out ≡ true }
         ensures sound { OnOk result (self.new.fine ≡ is_kept_sound self.old.group (lived self.old.life out)) }
         ensures life { OnOk result (self.new.life ≡ lived self.old.life out) }
-        ensures sends { OnOk result (sends.new.items ≡ sends.old.items ++ filter_map send_of (out ∷ [])) }
         ensures due { let moment : OneMoment A = record {
           group = self.old.group;
           me = self.old.me;
@@ -250,7 +243,6 @@ impl<A: Allocator + Copy + Drop> Course<A> {
         ensures refused { IfErr result (λ fault. fault ≡ Memory) }
     {
         match out {
-            Out::Send(to, frame) => add_send(to, frame, sends),
             Out::Agreed(ring, _, message) => {
                 let runs = is_running(running, &ring);
                 self.hear(runs, pending, committed, message, due)
@@ -263,6 +255,11 @@ impl<A: Allocator + Copy + Drop> Course<A> {
             Out::Trans(_, _, _) => Ok(()),
             Out::Rest(_, _, message) => {
                 drop(message);
+                Ok(())
+            }
+            // A frame makes nothing of the log. A node's frames go out by a list of their own, so none stands among these.
+            Out::Send(_, frame) => {
+                drop(frame);
                 Ok(())
             }
         }
@@ -414,26 +411,6 @@ impl<A: Allocator + Copy + Drop> Course<A> {
     {
         self.held.end_step();
     }
-}
-
-/// Room for so many frames is made with the first that a step sends: seldom more are sent.
-const FEW: usize = 2;
-
-/// Adds a frame that goes to these.
-fn add_send<A: Allocator + Copy>(
-    to: ProcSet,
-    frame: Frame<A>,
-    sends: &mut Vec<Sent<A>, A>,
-) -> Result<(), Fault>
-    ensures ok { OnOk result (sends.new.items ≡ sends.old.items ++ record { to = to; frame = frame } ∷ []) }
-    ensures refused { IfErr result (λ fault. fault ≡ Memory) }
-{
-    if sends.is_empty() {
-        sends.reserve_exact(FEW)?;
-    }
-    sends.reserve(1)?;
-    sends.push_reserved(Sent { to, frame });
-    Ok(())
 }
 
 /// Commits what the mark covers.

@@ -2,7 +2,7 @@
 use Rattle.std.proofs.Common.{◌≡◌, ℕ, zero, suc, ◌+◌, ◌-◌, ◌^◌, ◌≤◌, ◌&&◌, min, Bool, true, false, List}
 use Rattle.std.proofs.Common.{[], ◌++◌, Option, Some, None, inl, inr}
 use Rattle.std.proofs.Common.{refl, ap, sym, ◌∙◌, subst, arith, if◌then◌else◌}
-use Rattle.std.specs.Prelude.{fold, filter_map, is_some, nat_lt}
+use Rattle.std.specs.Prelude.{fold, is_some, nat_lt}
 use Rattle.std.proofs.lemmas.Bool.{cond-true, cond-false, lt-ltb}
 use Rattle.ring_base.specs.Fronts.{IsFront, front_trans}
 use Rattle.ring_base.specs.Group.{Group}
@@ -12,7 +12,6 @@ use Rattle.ring_payload.specs.declared.call.Call.{Call as OneCall}
 use Rattle.ring_payload.specs.declared.content.Payload.{Payload}
 use Rattle.ring_session.specs.Table.{Table, table_next}
 use Rattle.ring_session.specs.TicketEffects.{done_after, table_effects}
-use Rattle.ring_core.specs.State.{Sent}
 use Rattle.ring_core.specs.declared.out.Out.{Out}
 use Rattle.ring_log.specs.Logs.{Log, committed_calls}
 use Rattle.ring_log.specs.Stays.{Stay}
@@ -24,7 +23,7 @@ use Rattle.ring_session.specs.Tickets.{answers_after}
 use Rattle.ring_session.proofs.Pendings.{are-answers}
 use Rattle.ring_rules.specs.Lives.{lived_through}
 use Rattle.ring_rules.specs.Nodes.{table_at, effects_at, snapshot_kept, is_restored}
-use Rattle.ring_rules.specs.Stepping.{send_of, newly, table_since}
+use Rattle.ring_rules.specs.Stepping.{newly, table_since}
 use Rattle.ring_course.specs.Courses.{Course, Moment, dues_by, told_log, MayRestore, GoesOn, IsSteady}
 use Rattle.ring_replica.specs.Replicas.{Replica, ReplicaStepped, Tale, IsDone, IsIdle, Runs, IsReplica, IsCounted}
 use Rattle.ring_replica.specs.Replicas.{told_replica, replica_stopped, behind_log, more_in}
@@ -136,7 +135,6 @@ pub record IsMoved {O A : Type 0} (object : Sequential O) (course : Course A) (t
 -- where it stops, nothing is given
 pub record GivesNothing {O A : Type 0} (object : Sequential O) (running : Option RingId) (r : Replica A) (outs : List (Out A)) : Type 0 where
   pub replica : replica_stopped r ≡ (replica_step object running r outs).replica
-  pub sends : [] ≡ (replica_step object running r outs).sends
   pub due : [] ≡ (replica_step object running r outs).due
   pub answers : [] ≡ (replica_step object running r outs).answers
   pub doing : [] ≡ (replica_step object running r outs).replica.doing
@@ -151,7 +149,6 @@ gives-nothing : {O A : Type 0} (object : Sequential O) (running : Option RingId)
 gives-nothing {A} object running r outs e =
     record {
       replica = ap (λ (v : ReplicaStepped A). v.replica) e;
-      sends = ap (λ (v : ReplicaStepped A). v.sends) e;
       due = ap (λ (v : ReplicaStepped A). v.due) e;
       answers = ap (λ (v : ReplicaStepped A). v.answers) e;
       doing = ap (λ (v : ReplicaStepped A). v.replica.doing) e;
@@ -311,10 +308,6 @@ module _ {O A : Type 0} {object : Sequential O} {course : Course A} {table : Tab
 
     pub step-is : replica_settled object true told outs (lived_through tale.life outs) due_now K ≡ replica_step object running r outs
     step-is = step-by true restored-now
-
-    pub sends-are : {before sends : List (Sent A)} → before ≡ [] → sends ≡ before ++ filter_map send_of outs
-        → sends ≡ (replica_step object running r outs).sends
-    sends-are none is = is ∙ ap (λ l. l ++ filter_map send_of outs) none ∙ ap (λ (v : ReplicaStepped A). v.sends) step-is
 
     pub due-are : {pending : List (Pending A)} {before due : List (Payload A)} → pending ≡ tickets.pending → before ≡ []
         → due ≡ before ++ dues_by (record {

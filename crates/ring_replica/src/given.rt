@@ -2,16 +2,14 @@
 
 ghost use Rattle.std.specs.Prelude.{◌≡◌, [], None};
 
-use ring_core::Sent;
 use ring_payload::{Call, Payload};
 use ring_session::Answered;
 use std::alloc::{Allocator, Global};
 
-/// What a step of the core gives by a node's replica: the frames sent, what is to be handed to the core, in its order, the
-/// answers, by the order of their places, then of their tickets, the calls newly committed, and how many places were restored.
+/// What a step of the core gives by a node's replica: what is to be handed to the core, in its order, the answers, by the order
+/// of their places, then of their tickets, the calls newly committed, and how many places were restored.
 #[derive(Drop)]
 pub struct Given<A: Allocator + Copy + Drop = Global> {
-    pub sends: Vec<Sent<A>, A>,
     pub due: Vec<Payload<A>, A>,
     pub answers: Vec<Answered<A>, A>,
     /// The calls newly committed, in order.
@@ -23,14 +21,12 @@ pub struct Given<A: Allocator + Copy + Drop = Global> {
 impl<A: Allocator + Copy + Drop> Given<A> {
     /// Nothing.
     pub(crate) fn new(alloc: A) -> Given<A>
-        ensures sends { result.sends.items ≡ [] }
         ensures due { result.due.items ≡ [] }
         ensures answers { result.answers.items ≡ [] }
         ensures committed { result.committed.items ≡ [] }
         ensures restored { result.restored ≡ None }
     {
         Given {
-            sends: Vec::new(alloc),
             due: Vec::new(alloc),
             answers: Vec::new(alloc),
             committed: Vec::new(alloc),

@@ -12,5 +12,4 @@ pub use given::Given;
 pub use laws::replica_law;
 pub use mark_laws::marks_law;
 pub use replica::Replica;
-pub use ring_core::Sent;
 pub use ring_course::{Course, Holding};

@@ -152,7 +152,6 @@ impl<O: Object> Replica<O> {
         requires runs { self.old.stopped ≡ false }
         requires rises { rises self.old.life outs.items ≡ true }
         ensures ok { OnOk result (self.new ≡ (replica_step O.sequential running.now self.old outs.items).replica) }
-        ensures sends { IfOk result (λ given. given.sends.items ≡ (replica_step O.sequential running.now self.old outs.items).sends) }
         ensures due { IfOk result (λ given. given.due.items ≡ (replica_step O.sequential running.now self.old outs.items).due) }
         ensures answers { IfOk result (λ given. given.answers.items ≡ (replica_step O.sequential running.now self.old outs.items).answers) }
         ensures committed { IfOk result (λ given. given.committed.items ≡ (replica_step O.sequential running.now self.old outs.items).replica.doing) }
@@ -170,7 +169,6 @@ impl<O: Object> Replica<O> {
             self.tickets.pending(),
             self.committed,
             outs,
-            &mut given.sends,
             &mut given.due,
         )?;
         if !self.course.is_fine() {

@@ -7,3 +7,4 @@ pub mod Keeping
 pub mod Pairs
 pub mod Pumping
 pub mod Refusals
+pub mod Came

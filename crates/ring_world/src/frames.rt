@@ -1,6 +1,6 @@
 //! All frames ever sent, kept as bytes.
 
-ghost use Rattle.std.specs.Prelude.{◌≡◌, ℕ, ◌+◌, ◌≤◌, [], ◌∷◌, ◌++◌, length, slice_range, option_map, OnOk, IfErr, MatchResult, Some, None};
+ghost use Rattle.std.specs.Prelude.{◌≡◌, ℕ, ◌+◌, ◌≤◌, true, [], ◌∷◌, ◌++◌, length, slice_range, option_map, OnOk, IfErr, MatchResult, Some, None};
 ghost use Rattle.ring_base.specs.declared.fault.Fault.TheVariants.{Memory};
 ghost use Rattle.ring_wire.specs.declared.frame.Frame.{Frame as OneFrame};
 ghost use Rattle.ring_wire.specs.Frames.{FrameFits};
@@ -73,6 +73,14 @@ impl<A: Allocator + Copy> Frames<A> {
         }
     }
 
+    /// Whether there is room for as many frames as a step may send, of any length.
+    pub(crate) fn has_room(&self) -> bool
+        ensures { result ≡ true → HasRoom 64 self.now }
+    {
+        self.marks.capacity() - self.marks.len() >= FRAMES
+            && self.bytes.capacity() - self.bytes.len() >= FRAMES * FRAME_BYTES
+    }
+
     /// Makes room for as many frames as a step may send, of any length, or answers `Memory`.
     pub(crate) fn make_room(&mut self) -> Result<(), Fault>
         ensures frames { self.new.frames ≡ self.old.frames }
@@ -105,8 +113,8 @@ impl<A: Allocator + Copy> Frames<A> {
         });
     }
 
-    /// Reads the frame of this number from its bytes into an empty place, if it was sent to this processor. `Memory` is
-    /// the only refusal.
+    /// Reads the frame of this number from its bytes into the place, if it was sent to this processor, and else empties the
+    /// place. `Memory` is the only refusal.
     pub(crate) fn read_to(
         &self,
         alloc: A,
@@ -114,14 +122,16 @@ impl<A: Allocator + Copy> Frames<A> {
         number: u64,
         place: &mut Option<Frame<A>>,
     ) -> Result<(), Fault>
-        requires empty { place.old ≡ None }
         ensures ok { OnOk result (place.new ≡ frame_for node (frame_at self.now.frames number)) }
         ensures refused { IfErr result (λ fault. fault ≡ Memory) }
     {
         spelling_law::<A>();
         match mark_for(mark_at(&self.marks, number), node) {
             Some(mark) => decode(alloc, self.bytes.as_slice(), mark, place),
-            None => Ok(()),
+            None => {
+                *place = None;
+                Ok(())
+            }
         }
     }
 

@@ -21,10 +21,12 @@ ghost use Rattle.ring_rules.specs.Worlds.{carried, happens, stepped, order, live
 ghost use Rattle.ring_order_proof.specs.Linear.{EventKeeps, Follows, FollowsOrder};
 ghost use Rattle.ring_order_proof.specs.Projection.{share_of};
 ghost use Rattle.ring_order_proof.specs.Synchronous.{IsSynchronous};
+ghost use Rattle.ring_world.specs.Came.{input_of};
 ghost use Rattle.ring_world.specs.Played.{Played, played_opening, told_of_events, world_of, step_in, Goes, Plays};
 ghost use Rattle.ring_world.specs.Stored.{HasRoom, text_of};
 ghost use Rattle.ring_world.specs.Spares.{Spares as ToldSpares};
 
+use crate::came::{Came, step_on};
 use crate::copies::{copied_event, copied_events, copied_history, copied_told};
 use crate::frames::Frames;
 use crate::longest::Longest;
@@ -41,6 +43,7 @@ use ring_order_proof::longest_laws::longest_law;
 use ring_payload::Call;
 use ring_rules::{Event, Item, Told};
 use ring_session::copy_of;
+use ring_wire::Frame;
 use std::alloc::Allocator;
 use std::marker::Model;
 
@@ -59,6 +62,10 @@ pub struct World<O: Object> {
     longest: Longest<O::Alloc>,
     events: Vec<Event<O::Alloc>, O::Alloc>,
     done: u64,
+    /// The place to which frames are read as they are handed over, once one was.
+    place: Option<Box<Option<Frame<O::Alloc>>, O::Alloc>>,
+    /// The lists in which a node puts what its step gives: their room is used again.
+    outs: Outs<O::Alloc>,
 }
 
 impl<O: Object> Model for World<O> {
@@ -93,6 +100,8 @@ impl<O: Object> World<O> {
             longest: Longest::new(alloc),
             events: Vec::new(alloc),
             done: 0,
+            place: None,
+            outs: Outs::new(alloc),
         })
     }
 
@@ -120,6 +129,8 @@ impl<O: Object> World<O> {
             longest,
             events,
             done: self.done,
+            place: None,
+            outs: Outs::new(self.alloc),
         })
     }
 
@@ -289,7 +300,7 @@ impl<O: Object> World<O> {
             Event::Issue(node, call) => self.issue(*node, call, event),
             Event::Deliver(node, number) => self.deliver(*node, *number, event),
             Event::Noise(_, _) => self.idle(event),
-            Event::Timeout(node, kind) => { self.step(*node, &Input::Timeout(*kind), event) },
+            Event::Timeout(node, kind) => self.step(*node, Came::Timeout(*kind), event),
             Event::Stop(node) => self.stop(*node, event),
         }
     }
@@ -317,11 +328,41 @@ impl<O: Object> World<O> {
         ensures done { self.new.done ≡ self.old.done }
         ensures refused { IfErr result (λ fault. fault ≡ Memory) }
     {
+        let mut place = self.lent_place()?;
+        let done = self.deliver_by(node, number, event, &mut place);
+        self.place = Some(place);
+        done
+    }
+
+    /// The place to which frames are read, which is to go back: it is made where there is none yet.
+    fn lent_place(&mut self) -> Result<Box<Option<Frame<O::Alloc>>, O::Alloc>, Fault>
+        ensures same { self.new ≡ self.old }
+        ensures refused { IfErr result (λ fault. fault ≡ Memory) }
+    {
+        match self.place.take() {
+            Some(place) => Ok(place),
+            None => Ok(Box::new(self.alloc, None)?),
+        }
+    }
+
+    /// A frame is read to this place and handed to a node, if it was sent to it.
+    fn deliver_by(
+        &mut self,
+        node: Proc,
+        number: u64,
+        event: &Event<O::Alloc>,
+        place: &mut Option<Frame<O::Alloc>>,
+    ) -> Result<(), Fault>
+        requires { event.now ≡ Deliver node number }
+        ensures ok { OnOk result (Goes O.sequential event.now self.old self.new) }
+        ensures err { OnErr result (self.new ≡ self.old) }
+        ensures done { self.new.done ≡ self.old.done }
+        ensures refused { IfErr result (λ fault. fault ≡ Memory) }
+    {
         frames_law::<O>();
-        let mut place = None;
-        self.frames.read_to(self.alloc, node, number, &mut place)?;
-        match place {
-            Some(frame) => self.step(node, &Input::Frame(frame), event),
+        self.frames.read_to(self.alloc, node, number, place)?;
+        match &*place {
+            Some(frame) => self.step(node, Came::Frame(frame), event),
             None => self.idle(event),
         }
     }
@@ -330,11 +371,12 @@ impl<O: Object> World<O> {
     fn step(
         &mut self,
         node: Proc,
-        input: &Input<O::Alloc>,
+        came: Came<'_, O::Alloc>,
         event: &Event<O::Alloc>,
     ) -> Result<(), Fault>
-        requires fits { InputFits input.now }
-        requires same { happens O.sequential (world_of O.sequential self.old) event.now ≡ stepped O.sequential (world_of O.sequential self.old) node input.now }
+        requires fits { InputFits (input_of came) }
+        requires same { happens O.sequential (world_of O.sequential self.old) event.now
+            ≡ stepped O.sequential (world_of O.sequential self.old) node (input_of came) }
         requires steps { step_in (world_of O.sequential self.old) event.now ≡ Some node }
         ensures ok { OnOk result (Goes O.sequential event.now self.old self.new) }
         ensures err { OnErr result (self.new ≡ self.old) }
@@ -356,25 +398,19 @@ impl<O: Object> World<O> {
             &mut self.frames,
             &mut self.longest,
         )?;
-        match self.nodes[place].step_on(input) {
-            Ok(outs) => {
-                let Outs {
-                    sends,
-                    answers,
-                    committed,
-                    dropped: _,
-                    restored: _,
-                } = outs;
-                keep_all(&mut self.frames, node, &sends);
+        match step_on(&mut self.nodes[place], came, &mut self.outs) {
+            Ok(()) => {
+                keep_all(&mut self.frames, node, &self.outs.sends);
                 tell(
+                    self.alloc,
                     &mut self.told,
                     &mut self.history,
                     &mut self.spares[place],
                     node,
-                    answers,
+                    &mut self.outs.answers,
                 );
                 let many = self.nodes[place].committed_len();
-                self.longest.add(many, committed);
+                self.longest.add(self.alloc, many, &mut self.outs.committed);
                 self.events.push_reserved(kept);
             }
             Err(fault) => match fault {
@@ -521,7 +557,7 @@ fn refuse<A: Allocator + Copy>(
 /// The event is left out.
 fn let_go<A: Allocator + Copy>(_event: Event<A>) {}
 
-/// Makes the room for all that an event adds, or answers `Memory`.
+/// Makes the room for all that an event adds, or answers `Memory`. Most often there is room.
 fn make_room<A: Allocator + Copy>(
     events: &mut Vec<Event<A>, A>,
     told: &mut Vec<Told<A>, A>,
@@ -541,6 +577,14 @@ fn make_room<A: Allocator + Copy>(
     ensures longest_room { OnOk result (0 < longest.new.places) }
     ensures refused { IfErr result (λ fault. fault ≡ Memory) }
 {
+    let has_room = events.len() < events.capacity()
+        && told.capacity() - told.len() >= ANSWERS
+        && history.capacity() - history.len() >= ANSWERS
+        && frames.has_room()
+        && longest.has_room();
+    if has_room {
+        return Ok(());
+    }
     events.reserve(1)?;
     told.reserve(ANSWERS)?;
     history.reserve(ANSWERS)?;

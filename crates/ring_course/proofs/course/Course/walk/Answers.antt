@@ -36,8 +36,7 @@ loop-out-preserved g c =
     let i = c.loop-out.invariant in
     let e = c.in_ok-go.ensures in
     record {
-      walked = walked-more c.in-Some.out i.walked i.group c.go.ensures.group i.me (ap (λ (l : Log _). l.trimmed) c.requires.log) refl e.sound e.life e.onward
-          e.sends e.due;
+      walked = walked-more c.in-Some.out i.walked i.group c.go.ensures.group i.me (ap (λ (l : Log _). l.trimmed) c.requires.log) refl e.sound e.life e.onward e.due;
       front = front_trans (committed_calls (told_log c.args.self.now.held)) (committed_calls (told_log c.loop-out.self.held))
           (committed_calls (told_log c.go.new.self.held)) i.front c.go.ensures.front;
       group = c.go.ensures.group ∙ i.group;
@@ -61,7 +60,6 @@ returns g c =
     record {
       sound = w.sound;
       life = w.lives;
-      sends = w.sent;
       due = w.handed;
       onward = λ t. subst (λ gr. GoesOn old.held now.held (kept_of old.group old.life) (kept_of gr now.life)) (sym i.group) (w.onward t);
       front = i.front;

@@ -4,7 +4,7 @@ use Rattle.std.specs.Prelude.{is_some}
 use Rattle.ring_course.specs.Courses.{Holding, Course}
 use Rattle.ring_replica.specs.Replicas.{is_table_held}
 use Rattle.ring_replica.proofs.ReplicaSteps.{ready, moved-by, steady-was, halted-counted, halted-later, stopped-same, step-halted, step-lost}
-use Rattle.ring_replica.proofs.ReplicaSteps.{applied-is, effects-are, restored-now, sends-are, due-are, due-is, answers-told, committed-told, restored-told}
+use Rattle.ring_replica.proofs.ReplicaSteps.{applied-is, effects-are, restored-now, due-are, due-is, answers-told, committed-told, restored-told}
 use Rattle.ring_replica.proofs.ReplicaEnds.{some-fact, carries-as, ended-counted, ended-told, ended-step}
 use Rattle.ring_base.proofs.Results.{on-err}
 use Rattle.ring_replica.proofs.replica.Replica.step.Goals as goal
@@ -39,7 +39,6 @@ returns-then-not-is_fine g c =
     let nothing = step-halted b c.args.running.now c.args.outs.items c.in_ok-walk.ensures.sound (sym c.is_fine.ensures.value ∙ c.if-not-is_fine.true) in
     record {
       ok = stopped-same c.self.view_is c.walk.ensures.group c.walk.ensures.me ∙ nothing.replica;
-      sends = c.new.ensures.sends ∙ nothing.sends;
       due = c.new.ensures.due ∙ nothing.due;
       answers = c.new.ensures.answers ∙ nothing.answers;
       committed = c.new.ensures.committed ∙ nothing.doing;
@@ -73,7 +72,6 @@ returns-in_default g c =
     ∙ ap is_some c.in_default.is) in
     record {
       ok = stopped-same c.self.view_is c.walk.ensures.group c.walk.ensures.me ∙ nothing.replica;
-      sends = c.new-in_default.ensures.sends ∙ nothing.sends;
       due = c.new-in_default.ensures.due ∙ nothing.due;
       answers = c.new-in_default.ensures.answers ∙ nothing.answers;
       committed = c.new-in_default.ensures.committed ∙ nothing.doing;
@@ -137,7 +135,6 @@ returns g c =
       ok = ended-step m carried.fits due (ended-told m c.walk.new.due.items c.carry_out.new.sessions (applied-is m carried.applied)
           (restored-now m carried.fits) (effects-are m carried.counted) c.hand.ensures c.in_ok-self-inside.ensures.ok
           c.in_ok-self-inside.ensures.dropped);
-      sends = sends-are m carried.fits c.new-given.ensures.sends (c.in_ok-walk.ensures.sends m.fine);
       due = due-is m carried.fits due;
       answers = answers-told m carried.fits c.pending-2.ensures carried.given;
       committed = committed-told m carried.fits carried.committed;
