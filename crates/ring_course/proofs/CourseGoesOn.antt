@@ -12,8 +12,8 @@ use Rattle.ring_base.specs.declared.ring_id.RingId.{RingId}
 use Rattle.ring_payload.specs.declared.call.Call.{Call as OneCall}
 use Rattle.ring_payload.specs.declared.content.Payload.{Payload}
 use Rattle.ring_wire.specs.declared.message.Message.{Message}
-use Rattle.ring_core.specs.declared.out.Out.{Out}
-use Rattle.ring_core.specs.declared.out.Out.TheVariants.{Send, Agreed, Safe, Trans, Rest, Regular}
+use Rattle.ring_rules.specs.Outs.{Out}
+use Rattle.ring_rules.specs.OutVariants.{Send, Agreed, Safe, Trans, Rest, Regular}
 use Rattle.ring_log.specs.Exchanges.{Exchange, opened}
 use Rattle.ring_log.specs.Logs.{Log, log_length, committed_upto, trimmed_log, trim_after, is_ripe, is_log_length}
 use Rattle.ring_log.specs.Stays.{Stay, born, stay_in, hears, marks, hands, trims}

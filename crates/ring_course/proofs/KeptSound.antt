@@ -4,8 +4,8 @@ use Rattle.std.proofs.lemmas.Bool.{and_parts, and_from, leb-true, le-leb}
 use Rattle.ring_base.specs.Group.{Group}
 use Rattle.ring_base.specs.Numbers.{max_number}
 use Rattle.ring_wire.specs.declared.message.Message.{Message}
-use Rattle.ring_core.specs.declared.out.Out.{Out}
-use Rattle.ring_core.specs.declared.out.Out.TheVariants.{Send, Agreed, Safe, Trans, Rest, Regular}
+use Rattle.ring_rules.specs.Outs.{Out}
+use Rattle.ring_rules.specs.OutVariants.{Send, Agreed, Safe, Trans, Rest, Regular}
 use Rattle.ring_log.specs.Logs.{is_log_length}
 use Rattle.ring_log.specs.Stays.{Stay, stay_in, hears, marks}
 use Rattle.ring_log.specs.Lives.{Whole, exchanged, calls_in, upto}

@@ -6,6 +6,7 @@
 --   life that is not sound stays so.
 -- EnteredDue: What is due as a ring is entered: the Head of the log before it, where the ring is primary.
 -- LogChanges: The committed places of a log that changes, and what is due by the calls that wait.
+-- Known: What is known of a log stays known, passed on to the replica.
 pub mod Courses
 pub mod KnownOn
 pub mod Messages
@@ -13,3 +14,4 @@ pub mod KeptSound
 pub mod CourseGoesOn
 pub mod EnteredDue
 pub mod LogChanges
+pub mod Known

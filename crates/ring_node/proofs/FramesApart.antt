@@ -14,7 +14,7 @@ use Rattle.ring_log.specs.Stays.{Stay}
 use Rattle.ring_log.specs.Kept.{kept_of, is_kept_sound}
 use Rattle.ring_rules.specs.Lives.{lived_through}
 use Rattle.ring_rules.specs.Nodes.{is_restored}
-use Rattle.ring_course.specs.Courses.{Moment, dues_by, rises}
+use Rattle.ring_replica.specs.Courses.{Moment, dues_by, rises}
 use Rattle.ring_replica.specs.Replicas.{Replica, ReplicaStepped, moment_of, replica_settled, replica_step}
 
 -- ---- frames in front of what is told

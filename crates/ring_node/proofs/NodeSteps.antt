@@ -7,7 +7,7 @@ use Rattle.ring_base.specs.Numbers.{max_number}
 use Rattle.ring_base.specs.declared.fault.Fault.TheVariants.{PendingFull, Stopped as StoppedFault}
 use Rattle.ring_base.specs.Group.{Group}
 use Rattle.ring_base.specs.declared.ring_id.RingId.{RingId}
-use Rattle.ring_commit.specs.declared.configuration.Configuration.{Configuration}
+use Rattle.ring_core.specs.Commits.{Configuration}
 use Rattle.ring_object.specs.Operations.{Sequential}
 use Rattle.ring_payload.specs.declared.call.Call.{Call as OneCall}
 use Rattle.ring_payload.specs.declared.content.Payload.{Payload}
@@ -20,17 +20,16 @@ use Rattle.ring_srp.specs.Given.{IsGiven}
 use Rattle.ring_log.specs.Stays.{Stay, hands, trims}
 use Rattle.ring_log.specs.Kept.{Kept, kept_of, is_kept_sound}
 use Rattle.ring_log.proofs.CommittedOf.{hands-kept}
-use Rattle.ring_session.specs.declared.answered.Answered.{Answered}
-use Rattle.ring_session.specs.Tickets.{unanswered}
+use Rattle.ring_replica.specs.Sessions.{Answered, unanswered}
 use Rattle.ring_rules.specs.Lives.{lived_through}
 use Rattle.ring_rules.specs.Nodes.{Node, node_kept, node_pending, node_stopped, is_stopped, is_closed, is_restored}
 use Rattle.ring_rules.specs.Stepping.{NodeStepped, handed_over, drops, after_core, submit_fault}
-use Rattle.ring_course.specs.Courses.{handed_if, dues_by, rises, IsSteady}
+use Rattle.ring_replica.specs.Courses.{handed_if, dues_by, rises, IsSteady}
 use Rattle.ring_replica.specs.Replicas.{Replica, ReplicaStepped, replica_stopped, replica_done, replica_ended, node_by}
 use Rattle.ring_replica.specs.Replicas.{replica_settled, replica_step, replica_of, running_of, moment_of, node_unless}
 use Rattle.ring_replica.specs.Replicas.{submit_refusal, has_adopted_running, replica_given, restored_since}
 use Rattle.ring_replica.proofs.Nodes.{step-is, refused-is}
-use Rattle.ring_course.proofs.Messages.{never-less}
+use Rattle.ring_replica.proofs.Courses.{never-less}
 use Rattle.ring_replica.specs.Marks.{IsMarked}
 use Rattle.ring_replica.proofs.StayMarks.{rises_step, marked_step, marked_handed, me_step, me_handed, going_step, going_handed}
 use Rattle.ring_node.proofs.FramesApart.{sending, step-apart}

@@ -2,23 +2,22 @@
 
 ghost use Rattle.std.specs.Prelude.{◌≡◌, [], true, false, if◌then◌else◌, IfErr, OnOk, OnErr};
 ghost use Rattle.ring_base.specs.declared.fault.Fault.TheVariants.{Memory};
-ghost use Rattle.ring_wire.specs.Frames.{FrameFits};
+ghost use Rattle.ring_core.specs.Frames.{FrameFits};
 ghost use Rattle.ring_core.specs.Stepping.{ring_step};
 ghost use Rattle.ring_core.specs.declared.input.Input.TheVariants.{Frame as FrameInput, Timeout as TimeoutInput};
 ghost use Rattle.ring_rules.specs.Nodes.{is_stopped};
 ghost use Rattle.ring_rules.specs.Stepping.{handed_over};
-ghost use Rattle.ring_course.specs.Courses.{rises, IsSteady};
+ghost use Rattle.ring_replica.specs.Courses.{rises, IsSteady};
 ghost use Rattle.ring_replica.specs.Replicas.{IsDone, replica_stopped, replica_ended, running_of};
 ghost use Rattle.ring_node.specs.Kept.{Runs, followed_by, stepped_by};
 
 use crate::outs::Outs;
 use ring_base::{Fault, Kind, RingId, State};
-use ring_core::{Out, Sent};
+use ring_core::{Frame, Out, Sent};
 use ring_object::Object;
 use ring_payload::Payload;
 use ring_replica::Replica;
 use ring_srp::Srp;
-use ring_wire::Frame;
 use std::alloc::Allocator;
 
 /// The ring that runs, if one does.

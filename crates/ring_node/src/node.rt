@@ -3,10 +3,10 @@
 ghost use Rattle.std.specs.Prelude.{◌≡◌, ◌≤◌, true, false, [], length, if◌then◌else◌, Some, None, IsOk, IfOk, IfErr, OnOk, OnErr, MatchOption};
 ghost use Rattle.ring_base.specs.declared.fault.Fault.TheVariants.{Memory, Stopped as StoppedFault};
 ghost use Rattle.ring_payload.specs.Calls.{CallFits};
-ghost use Rattle.ring_wire.specs.Frames.{FrameFits};
+ghost use Rattle.ring_core.specs.Frames.{FrameFits};
 ghost use Rattle.ring_core.specs.Stepping.{ring_step};
 ghost use Rattle.ring_core.specs.declared.input.Input.TheVariants.{Frame as FrameInput, Timeout as TimeoutInput};
-ghost use Rattle.ring_session.specs.Pendings.{pending_from};
+ghost use Rattle.ring_replica.specs.Sessions.{pending_from};
 ghost use Rattle.ring_rules.specs.Nodes.{node_opening, node_kept, node_length, node_trimmed, node_committed, node_reply, node_stopped, is_stopped, effects_at};
 ghost use Rattle.ring_rules.specs.Stepping.{after_core, node_step, submit_fault, submitted};
 ghost use Rattle.ring_node.specs.Restores.{node_restored};
@@ -17,14 +17,12 @@ ghost use Rattle.ring_rules.specs.declared.input.Input.TheVariants.{Frame as Com
 use crate::driving::{advance_by_frame, advance_by_time, running};
 use crate::outs::Outs;
 use ring_base::{Fault, Fixed, Kind, Past, Proc, ProcSet, RingId, State, seen};
-use ring_commit::Configuration;
+use ring_core::{Configuration, Frame};
 use ring_object::Object;
 use ring_payload::{Call, Payload};
-use ring_replica::Replica;
+use ring_replica::{Answer, Replica, Ticket, copy_of};
 use ring_rules::Input;
-use ring_session::{Answer, Ticket, copy_of};
 use ring_srp::Srp;
-use ring_wire::Frame;
 use std::marker::Model;
 
 /// A node. Contracts see a `Node`: its group, its core, its life, its tickets, the calls that it did and the answers that it

@@ -4,7 +4,7 @@ ghost use Rattle.ring_node.specs.Nothing.{GivesNothing};
 
 use ring_core::Sent;
 use ring_payload::Call;
-use ring_session::Answered;
+use ring_replica::Answered;
 use std::alloc::{Allocator, Global};
 
 /// What a step of a node gives: the frames sent, with their receivers, the answers, by the order of their places, then of

@@ -7,7 +7,7 @@ use Rattle.ring_base.specs.Group.{is_primary}
 use Rattle.ring_base.specs.Processors.{nobody}
 use Rattle.ring_payload.specs.Limits.{most_snapshot}
 use Rattle.ring_payload.specs.declared.head.Head.{Head as OneHead}
-use Rattle.ring_wire.specs.declared.message.Message.{Message}
+use Rattle.ring_core.specs.Frames.{Message}
 use Rattle.ring_core.specs.declared.out.Out.{Out}
 use Rattle.ring_core.specs.declared.out.Out.TheVariants.{Send, Agreed, Safe, Trans, Rest, Regular}
 use Rattle.ring_log.specs.declared.stated.Stated.{Stated}

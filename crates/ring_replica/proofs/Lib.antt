@@ -7,6 +7,7 @@
 -- ReplicaSteps: What a step makes of what the code keeps of a replica, and what it gives: where the course goes on, and where it stops.
 -- ReplicaEnds: What the end of a step makes of what the code keeps of a replica: places are dropped, or none are.
 -- StayMarks: The safe mark that a node's newest stay has, and the one of its core: a step tells none that is lower.
+-- Courses: What is true of courses, passed on to the node.
 pub mod SessionsOn
 pub mod SteadyLives
 pub mod Nodes
@@ -16,3 +17,4 @@ pub mod Replicas
 pub mod ReplicaSteps
 pub mod ReplicaEnds
 pub mod StayMarks
+pub mod Courses

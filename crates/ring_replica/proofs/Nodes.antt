@@ -13,7 +13,7 @@ use Rattle.ring_object.specs.Operations.{Sequential}
 use Rattle.ring_payload.specs.declared.call.Call.{Call as OneCall}
 use Rattle.ring_payload.specs.declared.content.Payload.{Payload}
 use Rattle.ring_payload.specs.declared.content.Payload.TheVariants.{Call}
-use Rattle.ring_wire.specs.declared.message.Message.{Message}
+use Rattle.ring_core.specs.Frames.{Message}
 use Rattle.ring_core.specs.Joining.{is_operational}
 use Rattle.ring_core.specs.State.{Core, Stepped}
 use Rattle.ring_core.specs.declared.out.Out.{Out}

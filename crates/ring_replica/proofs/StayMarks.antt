@@ -5,10 +5,10 @@ use Rattle.std.proofs.Math.Nat.{le_refl}
 use Rattle.std.proofs.lemmas.Bool.{cond_both, and_parts, le-leb}
 use Rattle.ring_base.specs.declared.ring_id.RingId.{RingId}
 use Rattle.ring_payload.specs.declared.content.Payload.{Payload}
-use Rattle.ring_wire.specs.declared.message.Message.{Message}
-use Rattle.ring_token.proofs.SafeMark.{safe_mark-turn, safe_mark-raise}
-use Rattle.ring_commit.specs.declared.configuration.Configuration.{Configuration}
-use Rattle.ring_recover.specs.Deliveries.{rests}
+use Rattle.ring_core.specs.Frames.{Message}
+use Rattle.ring_core.proofs.Tokens.{safe_mark-turn, safe_mark-raise}
+use Rattle.ring_core.specs.Commits.{Configuration}
+use Rattle.ring_core.specs.Recoveries.{rests}
 use Rattle.ring_core.specs.declared.input.Input.{Input}
 use Rattle.ring_core.specs.declared.input.Input.TheVariants.{Send as SendInput}
 use Rattle.ring_core.specs.declared.out.Out.{Out}

@@ -12,7 +12,7 @@ use Rattle.ring_log.specs.Kept.{Kept, IsKnown, kept_by, kept_of, log_kept, is_ke
 use Rattle.ring_log.specs.Lives.{exchanged, upto}
 use Rattle.ring_log.specs.Stays.{Stay, hands, trims}
 use Rattle.ring_payload.specs.declared.content.Payload.{Payload}
-use Rattle.ring_log_proof.proofs.KnownLogs.{known-stay}
+use Rattle.ring_course.proofs.Known.{known-stay}
 use Rattle.ring_rules.specs.Lives.{lived, lived_through}
 use Rattle.ring_rules.specs.Nodes.{snapshot_at, snapshot_kept}
 use Rattle.ring_course.specs.declared.reach.Reach.{Reach}

@@ -1,2 +1,4 @@
 pub mod Replicas
 pub mod Marks
+pub mod Courses
+pub mod Sessions

@@ -13,3 +13,4 @@ pub use laws::replica_law;
 pub use mark_laws::marks_law;
 pub use replica::Replica;
 pub use ring_course::{Course, Holding};
+pub use ring_session::{Answer, Answered, Ticket, copy_of};
