@@ -7,4 +7,3 @@ pub mod Keeping
 pub mod Pairs
 pub mod Pumping
 pub mod Refusals
-pub mod Came

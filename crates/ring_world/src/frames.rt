@@ -113,8 +113,8 @@ impl<A: Allocator + Copy> Frames<A> {
         });
     }
 
-    /// Reads the frame of this number from its bytes into the place, if it was sent to this processor, and else empties the
-    /// place. `Memory` is the only refusal.
+    /// Reads the frame of this number from its bytes into an empty place, if it was sent to this processor. `Memory` is
+    /// the only refusal.
     pub(crate) fn read_to(
         &self,
         alloc: A,
@@ -122,16 +122,14 @@ impl<A: Allocator + Copy> Frames<A> {
         number: u64,
         place: &mut Option<Frame<A>>,
     ) -> Result<(), Fault>
+        requires empty { place.old ≡ None }
         ensures ok { OnOk result (place.new ≡ frame_for node (frame_at self.now.frames number)) }
         ensures refused { IfErr result (λ fault. fault ≡ Memory) }
     {
         spelling_law::<A>();
         match mark_for(mark_at(&self.marks, number), node) {
             Some(mark) => decode(alloc, self.bytes.as_slice(), mark, place),
-            None => {
-                *place = None;
-                Ok(())
-            }
+            None => Ok(()),
         }
     }
 

@@ -21,12 +21,10 @@ ghost use Rattle.ring_rules.specs.Worlds.{carried, happens, stepped, order, live
 ghost use Rattle.ring_order_proof.specs.Linear.{EventKeeps, Follows, FollowsOrder};
 ghost use Rattle.ring_order_proof.specs.Projection.{share_of};
 ghost use Rattle.ring_order_proof.specs.Synchronous.{IsSynchronous};
-ghost use Rattle.ring_world.specs.Came.{input_of};
 ghost use Rattle.ring_world.specs.Played.{Played, played_opening, told_of_events, world_of, step_in, Goes, Plays};
 ghost use Rattle.ring_world.specs.Stored.{HasRoom, text_of};
 ghost use Rattle.ring_world.specs.Spares.{Spares as ToldSpares};
 
-use crate::came::{Came, step_on};
 use crate::copies::{copied_event, copied_events, copied_history, copied_told};
 use crate::frames::Frames;
 use crate::longest::Longest;
@@ -43,7 +41,6 @@ use ring_order_proof::longest_laws::longest_law;
 use ring_payload::Call;
 use ring_rules::{Event, Item, Told};
 use ring_session::copy_of;
-use ring_wire::Frame;
 use std::alloc::Allocator;
 use std::marker::Model;
 
@@ -62,8 +59,6 @@ pub struct World<O: Object> {
     longest: Longest<O::Alloc>,
     events: Vec<Event<O::Alloc>, O::Alloc>,
     done: u64,
-    /// The place to which frames are read as they are handed over, once one was.
-    place: Option<Box<Option<Frame<O::Alloc>>, O::Alloc>>,
     /// The lists in which a node puts what its step gives: their room is used again.
     outs: Outs<O::Alloc>,
 }
@@ -100,7 +95,6 @@ impl<O: Object> World<O> {
             longest: Longest::new(alloc),
             events: Vec::new(alloc),
             done: 0,
-            place: None,
             outs: Outs::new(alloc),
         })
     }
@@ -129,7 +123,6 @@ impl<O: Object> World<O> {
             longest,
             events,
             done: self.done,
-            place: None,
             outs: Outs::new(self.alloc),
         })
     }
@@ -300,7 +293,7 @@ impl<O: Object> World<O> {
             Event::Issue(node, call) => self.issue(*node, call, event),
             Event::Deliver(node, number) => self.deliver(*node, *number, event),
             Event::Noise(_, _) => self.idle(event),
-            Event::Timeout(node, kind) => self.step(*node, Came::Timeout(*kind), event),
+            Event::Timeout(node, kind) => { self.step(*node, &Input::Timeout(*kind), event) },
             Event::Stop(node) => self.stop(*node, event),
         }
     }
@@ -328,41 +321,11 @@ impl<O: Object> World<O> {
         ensures done { self.new.done ≡ self.old.done }
         ensures refused { IfErr result (λ fault. fault ≡ Memory) }
     {
-        let mut place = self.lent_place()?;
-        let done = self.deliver_by(node, number, event, &mut place);
-        self.place = Some(place);
-        done
-    }
-
-    /// The place to which frames are read, which is to go back: it is made where there is none yet.
-    fn lent_place(&mut self) -> Result<Box<Option<Frame<O::Alloc>>, O::Alloc>, Fault>
-        ensures same { self.new ≡ self.old }
-        ensures refused { IfErr result (λ fault. fault ≡ Memory) }
-    {
-        match self.place.take() {
-            Some(place) => Ok(place),
-            None => Ok(Box::new(self.alloc, None)?),
-        }
-    }
-
-    /// A frame is read to this place and handed to a node, if it was sent to it.
-    fn deliver_by(
-        &mut self,
-        node: Proc,
-        number: u64,
-        event: &Event<O::Alloc>,
-        place: &mut Option<Frame<O::Alloc>>,
-    ) -> Result<(), Fault>
-        requires { event.now ≡ Deliver node number }
-        ensures ok { OnOk result (Goes O.sequential event.now self.old self.new) }
-        ensures err { OnErr result (self.new ≡ self.old) }
-        ensures done { self.new.done ≡ self.old.done }
-        ensures refused { IfErr result (λ fault. fault ≡ Memory) }
-    {
         frames_law::<O>();
-        self.frames.read_to(self.alloc, node, number, place)?;
-        match &*place {
-            Some(frame) => self.step(node, Came::Frame(frame), event),
+        let mut place = None;
+        self.frames.read_to(self.alloc, node, number, &mut place)?;
+        match place {
+            Some(frame) => self.step(node, &Input::Frame(frame), event),
             None => self.idle(event),
         }
     }
@@ -371,12 +334,11 @@ impl<O: Object> World<O> {
     fn step(
         &mut self,
         node: Proc,
-        came: Came<'_, O::Alloc>,
+        input: &Input<O::Alloc>,
         event: &Event<O::Alloc>,
     ) -> Result<(), Fault>
-        requires fits { InputFits (input_of came) }
-        requires same { happens O.sequential (world_of O.sequential self.old) event.now
-            ≡ stepped O.sequential (world_of O.sequential self.old) node (input_of came) }
+        requires fits { InputFits input.now }
+        requires same { happens O.sequential (world_of O.sequential self.old) event.now ≡ stepped O.sequential (world_of O.sequential self.old) node input.now }
         requires steps { step_in (world_of O.sequential self.old) event.now ≡ Some node }
         ensures ok { OnOk result (Goes O.sequential event.now self.old self.new) }
         ensures err { OnErr result (self.new ≡ self.old) }
@@ -398,7 +360,7 @@ impl<O: Object> World<O> {
             &mut self.frames,
             &mut self.longest,
         )?;
-        match step_on(&mut self.nodes[place], came, &mut self.outs) {
+        match self.nodes[place].step_into(input, &mut self.outs) {
             Ok(()) => {
                 keep_all(&mut self.frames, node, &self.outs.sends);
                 tell(

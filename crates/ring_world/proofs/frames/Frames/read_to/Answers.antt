@@ -53,6 +53,6 @@ pub returns-in-None-clause-ok : goal.returns-in-None-clause-ok
 returns-in-None-clause-ok g c =
     let k = c.self.inside in
     let at = ap (λ ms. mark_at ms c.args.number) (sym c.deref.ensures.value) ∙ sym c.mark_at.ensures in
-    sym (ap (λ (s : Stored g.row.A.Denot). frame_for c.args.node (frame_at s.frames c.args.number)) (sym c.self.view_is)
+    c.requires.empty ∙ sym (ap (λ (s : Stored g.row.A.Denot). frame_for c.args.node (frame_at s.frames c.args.number)) (sym c.self.view_is)
     ∙ for_missing k.past.value k.bytes.items k.marks.items c.self.invariant c.args.node c.args.number c.mark_at.result
     at (sym c.mark_for.ensures ∙ c.in-None.is))
