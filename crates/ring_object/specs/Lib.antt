@@ -1,4 +1,5 @@
 pub mod Bytes
+pub mod Nothing
 pub mod Operations
 pub mod Short
 pub mod Snapshots

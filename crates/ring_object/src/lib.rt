@@ -6,10 +6,12 @@
 
 mod copies;
 mod laws;
+mod nothing;
 mod object;
 mod short;
 
 pub use copies::copied;
 pub use laws::object_law;
+pub use nothing::Nothing;
 pub use object::Object;
 pub use short::{Reply, Short};
