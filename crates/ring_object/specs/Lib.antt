@@ -2,4 +2,5 @@ pub mod Bytes
 pub mod Nothing
 pub mod Operations
 pub mod Short
+pub mod Sized
 pub mod Snapshots
