@@ -10,7 +10,7 @@ use Rattle.ring_rules.specs.Stepping.{node_step, submitted}
 use Rattle.ring_rules.specs.declared.input.Input.{Input}
 use Rattle.ring_book_lines.specs.declared.input.LineInput.{LineInput}
 use Rattle.ring_book_lines.specs.declared.input.LineInput.TheVariants.{Called, Came}
-use Rattle.ring_order_proof.specs.NodeFits.{NodeFits}
+use Rattle.ring_book_lines.specs.Limits.{NodeFits}
 use Rattle.ring_book_lines.specs.Machines.{node_machine}
 use Rattle.ring_book_lines.specs.Runs.{IsStep, LineFits, Makes}
 use Rattle.ring_book_lines.specs.Steps.{StepView}

@@ -5,3 +5,4 @@ pub mod Cells
 pub mod Books
 pub mod Entered
 pub mod Openings
+pub mod Lines

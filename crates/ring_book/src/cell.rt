@@ -10,10 +10,11 @@ ghost use Rattle.ring_rules.specs.declared.input.Input.TheVariants.{Frame as Com
 use crate::name::BookName;
 use bytes::BytesMut;
 use ring_base::{Fault, Proc};
-use ring_book_lines::{FrameRef, Frames, HeardFrame, LineInput, Step};
+use ring_book_lines::{
+    FrameRef, Frames, HeardFrame, LineInput, Step, call_keeps_law, node_fits_law,
+};
 use ring_node::{Node, Outs};
 use ring_object::Object;
-use ring_order_proof::fit_laws::{call_keeps_law, node_fits_law};
 use ring_payload::Call;
 use ring_rules::Input;
 use ring_session::Ticket;
@@ -38,7 +39,7 @@ pub struct Cell<O: Object, K: BookName<O::Alloc>> {
 impl<O: Object, K: BookName<O::Alloc>> Model for Cell<O, K> {
     ghost use Rattle.rtrb.specs.Ring.{sent};
     ghost use Rattle.std.specs.Prelude.{◌+◌, length};
-    ghost use Rattle.ring_order_proof.specs.NodeFits.{NodeFits};
+    ghost use Rattle.ring_book_lines.specs.Limits.{NodeFits};
     ghost use Rattle.ring_rules.specs.Nodes.{Node as ToldNode};
     ghost use Rattle.ring_book.specs.Cells.{IsCell};
     ghost use Rattle.ring_book_lines.specs.Machines.{node_machine};

@@ -14,6 +14,7 @@ pub use name::BookName;
 pub use opening::Opening;
 pub use ring_book_lines::{Cause, FrameRef, Frames, Line, linear_law};
 pub use ring_node::Node;
+pub use ring_rules::Input;
 
 /// How many places a book has.
 pub const PLACES: u32 = 262144;

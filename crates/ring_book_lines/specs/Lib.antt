@@ -8,3 +8,4 @@ pub mod Orders
 pub mod Logs
 pub mod Events
 pub mod Puts
+pub mod Limits

@@ -8,7 +8,7 @@ use Rattle.ring_object.specs.Operations.{Sequential}
 use Rattle.ring_payload.specs.Calls.{CallFits}
 use Rattle.ring_payload.specs.declared.call.Call.{Call}
 use Rattle.ring_core.specs.State.{Sent}
-use Rattle.ring_core_proof.specs.Limits.{SentFits}
+use Rattle.ring_order_proof.specs.Limits.{SentFits}
 use Rattle.ring_session.specs.declared.answered.Answered.{Answered}
 use Rattle.ring_rules.specs.declared.input.Input.{Input}
 use Rattle.ring_rules.specs.NodeLimits.{InputFits}

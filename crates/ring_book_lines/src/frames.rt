@@ -7,7 +7,7 @@ ghost use Rattle.ring_core.specs.State.{Sent as SentFrame};
 ghost use Rattle.ring_base.specs.declared.fault.Fault.TheVariants.{Memory};
 ghost use Rattle.ring_wire.specs.Frames.{FrameFits, spelling_of};
 ghost use Rattle.ring_book_lines.specs.Lines.{frame_for};
-ghost use Rattle.ring_core_proof.specs.Limits.{SentFits};
+ghost use Rattle.ring_order_proof.specs.Limits.{SentFits};
 ghost use Rattle.ring_book_lines.specs.Puts.{IsPut};
 
 use crate::heard::HeardFrame;
@@ -37,7 +37,7 @@ impl<A: Allocator + Copy + Drop> Model for Frames<A> {
     ghost use Rattle.std.specs.List.{AllByRecursion};
     ghost use Rattle.ring_core.specs.State.{Sent};
     ghost use Rattle.ring_book_lines.specs.Kept.{sends_of};
-    ghost use Rattle.ring_core_proof.specs.Limits.{SentFits};
+    ghost use Rattle.ring_order_proof.specs.Limits.{SentFits};
 
     ghost Value = { List (Sent A) };
 

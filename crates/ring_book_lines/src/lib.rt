@@ -27,6 +27,7 @@ pub use input::LineInput;
 pub use line::{Line, is_found, stands};
 pub use log::{Segment, note};
 pub use orders::order;
+pub use ring_order_proof::fit_laws::{call_keeps_law, node_fits_law};
 pub use ring_order_proof::laws::linear_law;
 pub use spelled::SpelledFrame;
 pub use step::Step;

@@ -13,8 +13,7 @@ use Rattle.ring_wire.specs.declared.frame.Frame.TheVariants.{Token as TokenFrame
 use Rattle.ring_wire.specs.declared.message.Message.{Message}
 use Rattle.ring_wire.specs.declared.token.Token.{Token}
 use Rattle.ring_base.proofs.SameRing.{ring_same, same-self}
-use Rattle.ring_token.specs.Turns.{Turn, first_token, turns_of}
-use Rattle.ring_token.specs.Rounds.{VisitBy, arrived, IsNext, AreVisits}
+use Rattle.ring_core.specs.Tokens.{Turn, first_token, turns_of, VisitBy, arrived, IsNext, AreVisits}
 use Rattle.ring_core.specs.State.{Core}
 use Rattle.ring_core.specs.Visiting.{to_next}
 use Rattle.ring_core_proof.specs.Worlds.{Carried, put}
@@ -117,7 +116,7 @@ module _ {A : Type 0} (visits : Chains A) (cores : ℕ → Core A) (frames : Lis
           comes = sym arrives;
           turn = has_turn.here ∙ ap (λ n. at ms (n % size ms)) number;
           within = (new.0).within;
-          goes = subst (λ me. visit.turn.went ≡ Rattle.ring_token.specs.Visits.token_after me visit.turn.front
+          goes = subst (λ me. visit.turn.went ≡ Rattle.ring_core.specs.Tokens.token_after me visit.turn.front
               (length fresh) visit.turn.went.requests t) (are.me i) (new.0).goes;
         }
 

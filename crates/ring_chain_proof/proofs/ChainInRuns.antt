@@ -10,9 +10,9 @@ use Rattle.ring_base.specs.declared.ring_id.RingId.{RingId}
 use Rattle.ring_base.specs.declared.state.State.TheVariants.{Recovery, Operational}
 use Rattle.ring_wire.specs.declared.message.Message.{Message}
 use Rattle.ring_wire.specs.declared.token.Token.{Token}
-use Rattle.ring_window.specs.Held.{of_ring}
+use Rattle.ring_core.specs.Windows.{of_ring}
 use Rattle.ring_base.proofs.SameRing.{ring_same}
-use Rattle.ring_token.specs.Turns.{first_token}
+use Rattle.ring_core.specs.Tokens.{first_token}
 use Rattle.ring_core.specs.State.{Core, all_of, formed}
 use Rattle.ring_core.specs.Visiting.{room_at, new_payloads, repeated, queue_after}
 use Rattle.ring_core.specs.Deciding.{Visit}

@@ -23,15 +23,14 @@ use Rattle.ring_wire.specs.declared.frame.Frame.TheVariants.{Message as MessageF
 use Rattle.ring_wire.specs.declared.frame.Frame.TheVariants.{Commit as CommitFrame}
 use Rattle.ring_wire.specs.declared.message.Message.{Message}
 use Rattle.ring_wire.specs.declared.token.Token.{Token}
-use Rattle.ring_window.specs.Held.{is_numbered, found, front_of}
-use Rattle.ring_window.proofs.HeldFront.{front_is}
-use Rattle.ring_token.specs.Turns.{first_token}
-use Rattle.ring_token.specs.Visits.{numbered}
+use Rattle.ring_core.specs.Windows.{is_numbered, found, front_of}
+use Rattle.ring_core.proofs.Windows.{front_is}
+use Rattle.ring_core.specs.Tokens.{first_token, numbered}
 use Rattle.ring_core.specs.declared.input.Input.{Input}
 use Rattle.ring_core.specs.declared.input.Input.TheVariants.{Frame as FrameInput, Timeout as TimeInput, Send as SendInput}
 use Rattle.ring_core.specs.declared.out.Out.{Out}
 use Rattle.ring_core.specs.declared.out.Out.TheVariants.{Send as SendOut, Agreed, Safe}
-use Rattle.ring_commit.specs.declared.configuration.Configuration.{Configuration}
+use Rattle.ring_core.specs.Commits.{Configuration}
 use Rattle.ring_core.specs.State.{Core, Sent, Did, Stepped, all_of, formed, halted, frame_at}
 use Rattle.ring_core.specs.Views.{front, mark}
 use Rattle.ring_core.specs.Visiting.{room_at, new_payloads, new_messages, repeated, to_others, to_next, forwarded}

@@ -3,7 +3,7 @@ use Rattle.std.proofs.Common.{◌≡◌, ℕ, ◌≤◌, inl, inr, List, [], ref
 use Rattle.std.specs.Prelude.{filter}
 use Rattle.ring_base.specs.Members.{everybody_members}
 use Rattle.ring_base.specs.declared.state.State.TheVariants.{Commit, Recovery, Operational}
-use Rattle.ring_token.specs.Turns.{first_token}
+use Rattle.ring_core.specs.Tokens.{first_token}
 use Rattle.ring_core.specs.State.{Core, all_of, formed}
 use Rattle.ring_core.specs.Deciding.{Visit}
 use Rattle.ring_core_proof.specs.declared.event.RingEvent.{RingEvent}

@@ -12,9 +12,8 @@ use Rattle.ring_wire.specs.declared.frame.Frame.{Frame}
 use Rattle.ring_wire.specs.declared.frame.Frame.TheVariants.{Message as MessageFrame, Token as TokenFrame, Join as JoinFrame}
 use Rattle.ring_wire.specs.declared.frame.Frame.TheVariants.{Commit as CommitFrame}
 use Rattle.ring_wire.specs.declared.token.Token.{Token}
-use Rattle.ring_token.specs.Turns.{first_token}
-use Rattle.ring_token.specs.Rounds.{VisitBy}
-use Rattle.ring_commit.specs.Rounds.{receiver}
+use Rattle.ring_core.specs.Tokens.{first_token, VisitBy}
+use Rattle.ring_core.specs.Commits.{receiver}
 use Rattle.ring_core.specs.State.{Core}
 use Rattle.ring_core_proof.specs.Moves.{Move, Idles, Enters, Learns, Visits, Takes, Installs, turn_with}
 use Rattle.ring_core_proof.specs.Worlds.{Carried}

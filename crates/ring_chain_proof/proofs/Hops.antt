@@ -14,8 +14,7 @@ use Rattle.ring_wire.specs.declared.frame.Frame.{Frame}
 use Rattle.ring_wire.specs.declared.frame.Frame.TheVariants.{Message as MessageFrame, Token as TokenFrame, Join as JoinFrame}
 use Rattle.ring_wire.specs.declared.frame.Frame.TheVariants.{Commit as CommitFrame}
 use Rattle.ring_base.proofs.SameRing.{ring_same, same-self}
-use Rattle.ring_commit.specs.Reports.{same_entry}
-use Rattle.ring_commit.specs.Rounds.{receiver, is_own}
+use Rattle.ring_core.specs.Commits.{same_entry, receiver, is_own}
 use Rattle.ring_core.specs.State.{Core, Report}
 use Rattle.ring_core_proof.specs.FactWords.{IsIn}
 use Rattle.ring_core_proof.specs.Worlds.{Carried, World}

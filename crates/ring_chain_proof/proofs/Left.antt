@@ -12,11 +12,11 @@ use Rattle.ring_payload.specs.declared.content.Payload.{Payload}
 use Rattle.ring_payload.specs.declared.content.Payload.TheVariants.{Call, Wrapped, End, Head, Part, Pack, Snap}
 use Rattle.ring_payload.specs.declared.content.Wrapped.{Wrapped as WrappedMessage}
 use Rattle.ring_wire.specs.declared.message.Message.{Message}
-use Rattle.ring_window.specs.Held.{holds, front_of, is_new}
-use Rattle.ring_window.proofs.HeldFront.{front_is, front_only}
+use Rattle.ring_core.specs.Windows.{holds, front_of, is_new}
+use Rattle.ring_core.proofs.Windows.{front_is, front_only}
 use Rattle.ring_base.proofs.SameRing.{ring_same, other_ring}
-use Rattle.ring_token.specs.Turns.{Turn, Raise, turns_of, mark_by, forwarded_in, raised_to, safe_mark}
-use Rattle.ring_recover.specs.Wrapping.{inner_if_new, unwrapped}
+use Rattle.ring_core.specs.Tokens.{Turn, Raise, turns_of, mark_by, forwarded_in, raised_to, safe_mark}
+use Rattle.ring_core.specs.Recoveries.{inner_if_new, unwrapped}
 use Rattle.ring_core.specs.State.{Core}
 use Rattle.ring_core.specs.Views.{mark}
 use Rattle.ring_core.specs.Acting.{gives_old}

@@ -16,11 +16,11 @@ use Rattle.ring_wire.specs.declared.frame.Frame.{Frame}
 use Rattle.ring_wire.specs.declared.frame.Frame.TheVariants.{Message as MessageFrame, Token as TokenFrame, Join as JoinFrame}
 use Rattle.ring_wire.specs.declared.frame.Frame.TheVariants.{Commit as CommitFrame}
 use Rattle.ring_wire.specs.declared.token.Token.{Token}
-use Rattle.ring_window.specs.Held.{highest}
+use Rattle.ring_core.specs.Windows.{highest}
 use Rattle.ring_base.proofs.SameRing.{ring_same, same-self}
-use Rattle.ring_token.specs.Turns.{Turn, is_newer}
-use Rattle.ring_join.specs.Gathering.{candidates}
-use Rattle.ring_commit.specs.Rounds.{receiver, is_of}
+use Rattle.ring_core.specs.Tokens.{Turn, is_newer}
+use Rattle.ring_core.specs.Joins.{candidates}
+use Rattle.ring_core.specs.Commits.{receiver, is_of}
 use Rattle.ring_core.specs.declared.input.Input.{Input}
 use Rattle.ring_core.specs.declared.input.Input.TheVariants.{Frame as FrameInput}
 use Rattle.ring_core.specs.declared.out.Out.{Out}

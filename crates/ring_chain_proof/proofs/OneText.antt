@@ -19,10 +19,9 @@ use Rattle.ring_payload.specs.declared.content.Wrapped.{Wrapped as WrappedMessag
 use Rattle.ring_wire.specs.declared.frame.Frame.TheVariants.{Message as MessageFrame}
 use Rattle.ring_wire.specs.declared.message.Message.{Message}
 use Rattle.ring_wire.specs.declared.token.Token.{Token}
-use Rattle.ring_window.specs.Held.{is_new}
-use Rattle.ring_token.specs.Visits.{numbered}
-use Rattle.ring_token.specs.Rounds.{VisitBy, arrived, AreVisits}
-use Rattle.ring_recover.specs.Wrapping.{unwrapped}
+use Rattle.ring_core.specs.Windows.{is_new}
+use Rattle.ring_core.specs.Tokens.{numbered, VisitBy, arrived, AreVisits}
+use Rattle.ring_core.specs.Recoveries.{unwrapped}
 use Rattle.ring_core.specs.State.{Core}
 use Rattle.ring_core.specs.Views.{mark}
 use Rattle.ring_core.specs.Acting.{gives_old}

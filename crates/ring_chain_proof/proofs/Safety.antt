@@ -14,10 +14,9 @@ use Rattle.ring_wire.specs.declared.commit.CommitToken.{CommitToken}
 use Rattle.ring_wire.specs.declared.entries.CommitEntry.{CommitEntry}
 use Rattle.ring_wire.specs.declared.frame.Frame.TheVariants.{Commit as CommitFrame}
 use Rattle.ring_base.proofs.SameRing.{ring_same}
-use Rattle.ring_token.specs.Turns.{Turn, Raise, mark_by, forwarded_in, raised_to}
-use Rattle.ring_token.specs.Rounds.{VisitBy, forwarded_by, HaveGrown}
-use Rattle.ring_token.proofs.Safe.{marks_safe}
-use Rattle.ring_commit.specs.Reports.{reports_of, safe_of}
+use Rattle.ring_core.specs.Tokens.{Turn, Raise, mark_by, forwarded_in, raised_to, VisitBy, forwarded_by, HaveGrown}
+use Rattle.ring_core.proofs.Tokens.{marks_safe}
+use Rattle.ring_core.specs.Commits.{reports_of, safe_of}
 use Rattle.ring_core.specs.State.{Core, Report}
 use Rattle.ring_core.specs.Views.{front, mark}
 use Rattle.ring_core_proof.specs.FactWords.{IsIn}

@@ -13,8 +13,8 @@ use Rattle.ring_wire.specs.declared.entries.CommitEntry.{CommitEntry}
 use Rattle.ring_wire.specs.declared.frame.Frame.TheVariants.{Message as MessageFrame, Commit as CommitFrame}
 use Rattle.ring_wire.specs.declared.message.Message.{Message}
 use Rattle.ring_wire.specs.declared.token.Token.{Token}
-use Rattle.ring_token.specs.Visits.{numbered}
-use Rattle.ring_commit.specs.Rounds.{receiver, hopped}
+use Rattle.ring_core.specs.Tokens.{numbered}
+use Rattle.ring_core.specs.Commits.{receiver, hopped}
 use Rattle.ring_core.specs.State.{Core, Sent}
 use Rattle.ring_core.specs.Views.{own_entry}
 use Rattle.ring_core.specs.Visiting.{to_others, to_next}

@@ -7,8 +7,7 @@ use Rattle.ring_base.specs.Processors.{IsProc, IsMember, at, size, position_of}
 use Rattle.ring_base.specs.Elements.{position_of-inside, at-position_of}
 use Rattle.ring_base.specs.declared.ring_id.RingId.{RingId}
 use Rattle.ring_wire.specs.declared.token.Token.{Token}
-use Rattle.ring_token.specs.Turns.{Turn}
-use Rattle.ring_token.specs.Rounds.{VisitBy, AreVisits}
+use Rattle.ring_core.specs.Tokens.{Turn, VisitBy, AreVisits}
 use Rattle.ring_base.proofs.TurnsRound.{member_of, turns_differ, turns_return}
 use Rattle.ring_core.specs.State.{Core}
 use Rattle.ring_core_proof.specs.declared.event.RingEvent.{RingEvent}

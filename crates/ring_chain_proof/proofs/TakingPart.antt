@@ -9,8 +9,7 @@ use Rattle.ring_base.specs.Elements.{at_member, smallest-least}
 use Rattle.ring_base.specs.declared.ring_id.RingId.{RingId}
 use Rattle.ring_wire.specs.declared.commit.CommitToken.{CommitToken}
 use Rattle.ring_wire.specs.declared.frame.Frame.TheVariants.{Commit as CommitFrame}
-use Rattle.ring_commit.specs.declared.configuration.Configuration.{Configuration}
-use Rattle.ring_commit.specs.Rounds.{position_of_hop}
+use Rattle.ring_core.specs.Commits.{Configuration, position_of_hop}
 use Rattle.ring_core.specs.State.{Core, floor, alone}
 use Rattle.ring_core_proof.specs.FactWords.{IsIn}
 use Rattle.ring_core_proof.specs.declared.event.RingEvent.{RingEvent}

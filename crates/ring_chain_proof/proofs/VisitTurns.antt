@@ -7,8 +7,7 @@ use Rattle.ring_base.specs.Processors.{only, has, at, size}
 use Rattle.ring_base.specs.Members.{only_members, member_had}
 use Rattle.ring_base.specs.declared.ring_id.RingId.{RingId}
 use Rattle.ring_wire.specs.declared.token.Token.{Token}
-use Rattle.ring_token.specs.Turns.{Turn, first_token}
-use Rattle.ring_token.specs.Rounds.{VisitBy, arrived, AreVisits}
+use Rattle.ring_core.specs.Tokens.{Turn, first_token, VisitBy, arrived, AreVisits}
 use Rattle.ring_chain_proof.specs.ChainWords.{picked}
 use Rattle.ring_chain_proof.proofs.GenuineFrames.{HasArrived}
 

@@ -11,9 +11,7 @@ use Rattle.ring_payload.specs.declared.content.Wrapped.{Wrapped as WrappedMessag
 use Rattle.ring_wire.specs.declared.commit.CommitToken.{CommitToken}
 use Rattle.ring_wire.specs.declared.entries.CommitEntry.{CommitEntry}
 use Rattle.ring_wire.specs.declared.message.Message.{Message}
-use Rattle.ring_token.specs.Turns.{Turn}
-use Rattle.ring_token.specs.Visits.{numbered}
-use Rattle.ring_token.specs.Rounds.{VisitBy, AreVisits, IsSafeIn}
+use Rattle.ring_core.specs.Tokens.{Turn, numbered, VisitBy, AreVisits, IsSafeIn}
 use Rattle.ring_core.specs.State.{Core}
 use Rattle.ring_core.specs.Views.{front}
 use Rattle.ring_core_proof.specs.FactWords.{IsIn, SomeIs}

@@ -39,7 +39,7 @@ pub fn commit_rounds_law<A: Allocator + Copy>()
 
 /// The visits of a ring's token are one list: each is of the token as the visit before it sent it on, by the member
 /// whose turn it is, and goes by the rules; and each processor's own are those that it took. They are the visits of
-/// which `ring_token::safe_law` says how far they make the ring safe.
+/// which `ring_core::safe_law` says how far they make the ring safe.
 pub fn chain_law<A: Allocator + Copy>()
     ensures unformed { (n : ℕ) (events : List (RingEvent A)) → HasChains (run (unformed n) events).cores }
     ensures formed { (n : ℕ) (events : List (RingEvent A)) → 1 ≤ n → HasChains (run_formed n events).cores }

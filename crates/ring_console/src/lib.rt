@@ -11,7 +11,9 @@ mod run;
 mod running;
 
 pub use listing::frames;
+pub use ring_checker::is_linearization;
 pub use ring_report::{Failure, report};
+pub use ring_rules::{Event, Told};
 pub use ring_script::{
     Groups, Line, NoWords, Numbered, Script, ScriptFault, ShelfWords, Vocabulary,
 };

@@ -9,8 +9,7 @@ use Rattle.ring_base.proofs.Each.{each-get}
 use Rattle.ring_core.specs.declared.out.Out.TheVariants.{Send}
 use Rattle.ring_core.specs.State.{Sent, Carried, frame_at, frame_for}
 use Rattle.ring_core.specs.Giving.{addressed, sent}
-use Rattle.ring_wire.specs.Frames.{FrameFits}
-use Rattle.ring_wire.specs.declared.frame.Frame.{Frame}
+use Rattle.ring_token.specs.Frames.{FrameFits, Frame}
 
 -- what is sent of two lists is what is sent of each
 pub sent-append : {A : Type 0} (a b : List (Sent A)) → sent (a ++ b) ≡ sent a ++ sent b

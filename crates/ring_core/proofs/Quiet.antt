@@ -8,10 +8,8 @@ use Rattle.ring_base.specs.declared.ring_id.RingId.{RingId}
 use Rattle.ring_base.specs.declared.state.State.{State}
 use Rattle.ring_base.specs.declared.state.State.TheVariants.{Gather, Commit, Recovery, Operational, Stopped}
 use Rattle.ring_base.proofs.TwoEqual.{ap-both}
-use Rattle.ring_payload.specs.declared.content.Payload.{Payload}
-use Rattle.ring_payload.specs.Kinds.{is_user}
-use Rattle.ring_payload.specs.Packing.{is_queued}
-use Rattle.ring_wire.specs.declared.message.Message.{Message}
+use Rattle.ring_token.specs.Payloads.{Payload, is_user, is_queued}
+use Rattle.ring_token.specs.Frames.{Message}
 use Rattle.ring_recover.specs.Windows.{found}
 use Rattle.ring_recover.specs.Installing.{is_ready}
 use Rattle.ring_core.specs.declared.input.Input.{Input}

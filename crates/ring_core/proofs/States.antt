@@ -11,8 +11,8 @@ use Rattle.ring_core.specs.Giving.{installs_in}
 use Rattle.ring_core.specs.Joining.{proposes_in}
 use Rattle.ring_core.specs.Visiting.{accepts, offers}
 use Rattle.ring_core.specs.Views.{plan}
-use Rattle.ring_wire.specs.declared.token.Token.{Token}
-use Rattle.ring_payload.proofs.Packing.{length-packed}
+use Rattle.ring_token.specs.Frames.{Token}
+use Rattle.ring_token.proofs.Packing.{length-packed}
 use Rattle.ring_recover.specs.Wrapping.{wraps_and_end}
 
 -- a ring is installed in Recovery

@@ -1,6 +1,6 @@
 -- What each act does, and when a proposal follows: Gather, rules 7, 10 and 11 of docs/PROTOCOL.md.
 use Rattle.std.specs.Prelude.{Bool, true, false, ◌&&◌, List, [], ◌∷◌, ◌++◌, Option, Some, None}
-use Rattle.ring_wire.specs.declared.message.Message.{Message}
+use Rattle.ring_token.specs.Frames.{Message}
 use Rattle.ring_join.specs.Gathering.{agreed, widened, given_up}
 use Rattle.ring_recover.specs.Wrapping.{unwrapped}
 use Rattle.ring_base.specs.declared.state.State.{State}

@@ -4,14 +4,9 @@ use Rattle.std.specs.Prelude.{ℕ, Bool, true, false, ◌&&◌, ◌==◌, if◌t
 use Rattle.ring_base.specs.Rings.{same_ring}
 use Rattle.ring_base.specs.Processors.{has}
 use Rattle.ring_base.specs.declared.ring_id.RingId.{RingId}
-use Rattle.ring_payload.specs.declared.content.Payload.{Payload}
-use Rattle.ring_payload.specs.Packing.{is_queued}
-use Rattle.ring_wire.specs.declared.commit.CommitToken.{CommitToken}
-use Rattle.ring_wire.specs.declared.frame.Frame.{Frame}
-use Rattle.ring_wire.specs.declared.frame.Frame.TheVariants.{Message as MessageFrame, Token as TokenFrame, Join as JoinFrame, Commit as CommitFrame}
-use Rattle.ring_wire.specs.declared.join.Join.{Join}
-use Rattle.ring_wire.specs.declared.message.Message.{Message}
-use Rattle.ring_wire.specs.declared.token.Token.{Token}
+use Rattle.ring_token.specs.Payloads.{Payload, is_queued}
+use Rattle.ring_token.specs.Frames.{CommitToken, Frame, Join, Message, Token}
+use Rattle.ring_token.specs.FrameVariants.{Message as MessageFrame, Token as TokenFrame, Join as JoinFrame, Commit as CommitFrame}
 use Rattle.ring_token.specs.Turns.{first_token}
 use Rattle.ring_join.specs.declared.hearing.Hearing.{Hearing}
 use Rattle.ring_join.specs.declared.hearing.Hearing.TheVariants.{Ignored, Agrees, Widens}

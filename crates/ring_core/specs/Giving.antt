@@ -4,9 +4,9 @@ use Rattle.std.specs.Prelude.{ℕ, ◌+◌, ◌-◌, Bool, true, false, not, ◌
 use Rattle.ring_base.specs.Numbers.{numbers_from}
 use Rattle.ring_base.specs.Processors.{nobody}
 use Rattle.ring_base.specs.declared.ring_id.RingId.{RingId}
-use Rattle.ring_wire.specs.declared.message.Message.{Message}
+use Rattle.ring_token.specs.Frames.{Message}
 use Rattle.ring_recover.specs.Windows.{found}
-use Rattle.ring_payload.specs.Kinds.{is_user}
+use Rattle.ring_token.specs.Payloads.{is_user}
 use Rattle.ring_recover.specs.Installing.{is_ready}
 use Rattle.ring_recover.specs.Deliveries.{is_complete, rests}
 use Rattle.ring_core.specs.declared.out.Out.{Out}

@@ -1,8 +1,8 @@
 -- A core hands on a commit token: The commit token, rules 4 to 7 of docs/PROTOCOL.md.
 use Rattle.std.specs.Prelude.{Bool, ◌&&◌, [], ◌∷◌, Some}
 use Rattle.ring_base.specs.Processors.{only}
-use Rattle.ring_wire.specs.declared.commit.CommitToken.{CommitToken}
-use Rattle.ring_wire.specs.declared.frame.Frame.TheVariants.{Commit as CommitFrame}
+use Rattle.ring_token.specs.Frames.{CommitToken}
+use Rattle.ring_token.specs.FrameVariants.{Commit as CommitFrame}
 use Rattle.ring_token.specs.Turns.{first_token}
 use Rattle.ring_join.specs.Gathering.{candidates, new_number}
 use Rattle.ring_recover.specs.Commits.{reports_of, safe_of}

@@ -1,8 +1,8 @@
 -- A core in Gather, and how a join leads there from another state: Gather, rules 1, 7, 10 and 12, and Timeouts, rule 4 of docs/PROTOCOL.md.
 use Rattle.std.specs.Prelude.{ℕ, Bool, true, false, ◌==◌, nat_le, if◌then◌else◌, [], None}
 use Rattle.ring_base.specs.Processors.{nobody, only, everybody, has, less}
-use Rattle.ring_wire.specs.declared.frame.Frame.TheVariants.{Join as JoinFrame}
-use Rattle.ring_wire.specs.declared.join.Join.{Join}
+use Rattle.ring_token.specs.FrameVariants.{Join as JoinFrame}
+use Rattle.ring_token.specs.Frames.{Join}
 use Rattle.ring_join.specs.Gathering.{Gathering, entered, own_join, hearing, may_propose}
 use Rattle.ring_join.specs.declared.hearing.Hearing.{Hearing}
 use Rattle.ring_base.specs.declared.state.State.{State}

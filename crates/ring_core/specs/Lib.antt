@@ -8,3 +8,11 @@ pub mod Giving
 pub mod Deciding
 pub mod Acting
 pub mod Stepping
+pub mod Frames
+pub mod Recoveries
+pub mod Commits
+pub mod Windows
+pub mod Tokens
+pub mod Joins
+pub mod Payloads
+pub mod PayloadVariants

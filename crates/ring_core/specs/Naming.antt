@@ -3,15 +3,11 @@ use Rattle.std.specs.Prelude.{ℕ, Bool, true, ◌&&◌, nat_le, Option, Some, N
 use Rattle.std.specs.List.{list_all}
 use Rattle.ring_base.specs.Processors.{within, everybody}
 use Rattle.ring_base.specs.declared.ring_id.RingId.{RingId}
-use Rattle.ring_payload.specs.declared.content.Content.{Content}
-use Rattle.ring_payload.specs.declared.content.Content.TheVariants.{Call as CallContent, Head as HeadContent}
-use Rattle.ring_payload.specs.declared.content.Content.TheVariants.{Part as PartContent, Pack as PackContent}
-use Rattle.ring_payload.specs.declared.content.Content.TheVariants.{Snap as SnapContent}
-use Rattle.ring_payload.specs.declared.content.Payload.{Payload}
-use Rattle.ring_payload.specs.declared.content.Payload.TheVariants.{Call, Wrapped, End, Head, Part, Pack, Snap}
-use Rattle.ring_wire.specs.declared.entries.CommitEntry.{CommitEntry}
-use Rattle.ring_wire.specs.declared.frame.Frame.{Frame}
-use Rattle.ring_wire.specs.declared.frame.Frame.TheVariants.{Message, Token, Join, Commit}
+use Rattle.ring_token.specs.Payloads.{Content, Payload}
+use Rattle.ring_token.specs.ContentVariants.{Call as CallContent, Head as HeadContent, Part as PartContent, Pack as PackContent, Snap as SnapContent}
+use Rattle.ring_token.specs.PayloadVariants.{Call, Wrapped, End, Head, Part, Pack, Snap}
+use Rattle.ring_token.specs.Frames.{CommitEntry, Frame}
+use Rattle.ring_token.specs.FrameVariants.{Message, Token, Join, Commit}
 
 -- a last primary names its representative
 abbrev pub last_named : ℕ → Option RingId → Bool

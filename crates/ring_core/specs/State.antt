@@ -4,11 +4,8 @@
 use Rattle.std.specs.Prelude.{ℕ, zero, suc, Bool, true, false, if◌then◌else◌, List, [], ◌∷◌, Option, Some, None, slice_get}
 use Rattle.ring_base.specs.Processors.{has, only, everybody}
 use Rattle.ring_base.specs.declared.ring_id.RingId.{RingId}
-use Rattle.ring_payload.specs.declared.content.Payload.{Payload}
-use Rattle.ring_wire.specs.declared.commit.CommitToken.{CommitToken}
-use Rattle.ring_wire.specs.declared.entries.CommitEntry.{CommitEntry}
-use Rattle.ring_wire.specs.declared.frame.Frame.{Frame}
-use Rattle.ring_wire.specs.declared.message.Message.{Message}
+use Rattle.ring_token.specs.Payloads.{Payload}
+use Rattle.ring_token.specs.Frames.{CommitToken, CommitEntry, Frame, Message}
 use Rattle.ring_token.specs.Turns.{Turn, Raise}
 use Rattle.ring_join.specs.Gathering.{Gathering, entered}
 use Rattle.ring_recover.specs.Commits.{Configuration}

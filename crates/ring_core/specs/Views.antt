@@ -2,8 +2,7 @@
 use Rattle.std.specs.Prelude.{ℕ, Bool, if◌then◌else◌, List, [], ◌∷◌}
 use Rattle.ring_base.specs.Rings.{same_ring}
 use Rattle.ring_base.specs.declared.ring_id.RingId.{RingId}
-use Rattle.ring_wire.specs.declared.commit.CommitToken.{CommitToken}
-use Rattle.ring_wire.specs.declared.entries.CommitEntry.{CommitEntry}
+use Rattle.ring_token.specs.Frames.{CommitToken, CommitEntry}
 use Rattle.ring_recover.specs.Windows.{front_of, is_new}
 use Rattle.ring_recover.specs.Windows.{held_bits}
 use Rattle.ring_token.specs.Turns.{safe_mark}

@@ -1,11 +1,9 @@
 -- A core visits the token: Token and window, rules 6 to 9 of docs/PROTOCOL.md.
 use Rattle.std.specs.Prelude.{ℕ, ◌+◌, Bool, List, [], ◌∷◌, ◌++◌, map, filter_map, reverse, take, length, Some}
 use Rattle.ring_base.specs.Processors.{only, less, next}
-use Rattle.ring_payload.specs.declared.content.Payload.{Payload}
-use Rattle.ring_payload.specs.Packing.{packed, left_behind}
-use Rattle.ring_wire.specs.declared.frame.Frame.TheVariants.{Message as MessageFrame, Token as TokenFrame}
-use Rattle.ring_wire.specs.declared.message.Message.{Message}
-use Rattle.ring_wire.specs.declared.token.Token.{Token}
+use Rattle.ring_token.specs.Payloads.{Payload, packed, left_behind}
+use Rattle.ring_token.specs.FrameVariants.{Message as MessageFrame, Token as TokenFrame}
+use Rattle.ring_token.specs.Frames.{Message, Token}
 use Rattle.ring_recover.specs.Windows.{found, holds, front_of, highest, missing}
 use Rattle.ring_token.specs.Turns.{Turn, is_accepted}
 use Rattle.ring_token.specs.Visits.{left, above_mark, room, numbered, requests_after, token_after}

@@ -1,8 +1,7 @@
 //! What a ring core is given.
 
 use ring_base::Kind;
-use ring_payload::Payload;
-use ring_wire::Frame;
+use ring_token::{Frame, Payload};
 use std::alloc::{Allocator, Global};
 
 /// An input of a ring core.

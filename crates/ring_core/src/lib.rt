@@ -10,4 +10,6 @@ mod sent;
 pub use input::Input;
 pub use naming::is_named;
 pub use out::Out;
+pub use ring_recover::{bits_law, finish_law, front_law};
+pub use ring_token::{Call, Frame, safe_law};
 pub use sent::Sent;

@@ -3,13 +3,12 @@
 ghost use Rattle.std.specs.Prelude.{◌≡◌, ◌&&◌, nat_le};
 ghost use Rattle.std.specs.List.{list_all};
 ghost use Rattle.ring_base.specs.Processors.{within, everybody};
-ghost use Rattle.ring_wire.specs.declared.entries.CommitEntry.{CommitEntry as OneEntry};
-ghost use Rattle.ring_wire.specs.declared.frame.Frame.TheVariants.{Join as JoinFrame, Commit as CommitFrame};
+ghost use Rattle.ring_token.specs.Frames.{CommitEntry as OneEntry};
+ghost use Rattle.ring_token.specs.FrameVariants.{Join as JoinFrame, Commit as CommitFrame};
 ghost use Rattle.ring_core.specs.Naming.{last_named, holder_named, content_named, payload_named, is_named};
 
 use ring_base::{Fixed, Proc, RingId};
-use ring_payload::{Content, Payload};
-use ring_wire::{CommitEntry, Frame};
+use ring_token::{CommitEntry, Content, Frame, Payload};
 use std::alloc::Allocator;
 
 /// Whether a frame names processors of the run alone.

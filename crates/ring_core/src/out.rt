@@ -1,7 +1,7 @@
 //! What a ring core gives.
 
 use ring_base::{ProcSet, RingId};
-use ring_wire::{Frame, Message};
+use ring_token::{Frame, Message};
 use std::alloc::{Allocator, Global};
 
 /// An output of a ring core. One step gives its outputs in the order of the kinds here, but that `Agreed` and

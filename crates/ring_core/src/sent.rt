@@ -3,7 +3,7 @@
 ghost use Rattle.std.specs.Prelude.{◌≡◌};
 
 use ring_base::ProcSet;
-use ring_wire::Frame;
+use ring_token::Frame;
 use std::alloc::{AllocError, Allocator, Global};
 use std::marker::Model;
 

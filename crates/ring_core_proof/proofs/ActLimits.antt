@@ -27,11 +27,10 @@ use Rattle.ring_wire.specs.declared.frame.Frame.TheVariants.{Message as MessageF
 use Rattle.ring_wire.specs.declared.join.Join.{Join}
 use Rattle.ring_wire.specs.declared.message.Message.{Message}
 use Rattle.ring_wire.specs.declared.token.Token.{Token}
-use Rattle.ring_window.specs.Held.{holds, highest, missing}
-use Rattle.ring_token.specs.Turns.{is_newer}
-use Rattle.ring_token.specs.Visits.{left}
-use Rattle.ring_join.specs.Gathering.{Gathering, entered, agreed, widened, given_up, candidates, new_number, has_consensus}
-use Rattle.ring_commit.specs.Rounds.{receiver, hopped}
+use Rattle.ring_core.specs.Windows.{holds, highest, missing}
+use Rattle.ring_core.specs.Tokens.{is_newer, left}
+use Rattle.ring_core.specs.Joins.{Gathering, entered, agreed, widened, given_up, candidates, new_number, has_consensus}
+use Rattle.ring_core.specs.Commits.{receiver, hopped}
 use Rattle.ring_core.specs.declared.input.Input.{Input}
 use Rattle.ring_core.specs.declared.input.Input.TheVariants.{Frame as FrameInput}
 use Rattle.ring_core.specs.declared.out.Out.{Out}

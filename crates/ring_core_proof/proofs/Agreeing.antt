@@ -3,10 +3,8 @@ use Rattle.std.proofs.Common.{◌≡◌, ℕ, true, eqb, List, [], ◌∷◌, re
 use Rattle.std.specs.List.{AllByRecursion}
 use Rattle.std.proofs.lemmas.Bool.{cond_both, and_parts, eqb-true}
 use Rattle.ring_wire.specs.declared.join.Join.{Join}
-use Rattle.ring_join.specs.Gathering.{Gathering, SaysSame, AllSaySame, has_same_sets, hearing, agreed, widened_sets}
-use Rattle.ring_join.specs.Gathering.{widened}
-use Rattle.ring_join.specs.declared.hearing.Hearing.TheVariants.{Agrees}
-use Rattle.ring_join.proofs.Consensus.{agrees_same}
+use Rattle.ring_core.specs.Joins.{Gathering, SaysSame, AllSaySame, has_same_sets, hearing, agreed, widened_sets, widened, Agrees}
+use Rattle.ring_core.proofs.Joins.{agrees_same}
 
 says_same : (g : Gathering) (j : Join) → has_same_sets g j ≡ true → SaysSame g j
 says_same g j h =

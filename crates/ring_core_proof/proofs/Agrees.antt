@@ -1,7 +1,7 @@
 -- Each join that a core keeps as heard says exactly its sets.
 use Rattle.std.proofs.Common.{ℕ, List}
 use Rattle.ring_wire.specs.declared.frame.Frame.{Frame}
-use Rattle.ring_join.specs.Gathering.{AllSaySame}
+use Rattle.ring_core.specs.Joins.{AllSaySame}
 use Rattle.ring_core.specs.declared.input.Input.{Input}
 use Rattle.ring_core.specs.State.{Core, opening}
 use Rattle.ring_core.specs.Stepping.{after_inputs}

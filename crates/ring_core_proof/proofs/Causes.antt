@@ -9,10 +9,9 @@ use Rattle.ring_wire.specs.declared.frame.Frame.TheVariants.{Message as MessageF
 use Rattle.ring_wire.specs.declared.join.Join.{Join}
 use Rattle.ring_wire.specs.declared.message.Message.{Message}
 use Rattle.ring_wire.specs.declared.token.Token.{Token}
-use Rattle.ring_token.specs.Turns.{first_token}
-use Rattle.ring_join.specs.declared.hearing.Hearing.{Hearing}
-use Rattle.ring_join.specs.declared.hearing.Hearing.TheVariants.{Ignored, Agrees, Widens}
-use Rattle.ring_commit.specs.Outcomes.{is_at}
+use Rattle.ring_core.specs.Tokens.{first_token}
+use Rattle.ring_core.specs.Joins.{Hearing, Ignored, Agrees, Widens}
+use Rattle.ring_core.specs.Commits.{is_at}
 use Rattle.ring_core.specs.declared.input.Input.{Input}
 use Rattle.ring_core.specs.declared.input.Input.TheVariants.{Frame as FrameInput, Timeout, Send}
 use Rattle.ring_base.specs.declared.kind.Kind.{Kind}

@@ -13,7 +13,7 @@ use Rattle.ring_wire.specs.declared.commit.CommitToken.{CommitToken}
 use Rattle.ring_wire.specs.declared.entries.CommitEntry.{CommitEntry}
 use Rattle.ring_wire.specs.Entries.{EntryFits}
 use Rattle.ring_wire.specs.Commits.{IsReport, AreReports, CommitFits}
-use Rattle.ring_commit.specs.Rounds.{receiver, hopped, proposal}
+use Rattle.ring_core.specs.Commits.{receiver, hopped, proposal}
 
 -- Reports
 

@@ -15,18 +15,17 @@ use Rattle.ring_payload.specs.declared.content.Wrapped.{Wrapped as WrappedMessag
 use Rattle.ring_wire.specs.declared.frame.Frame.{Frame}
 use Rattle.ring_wire.specs.declared.message.Message.{Message}
 use Rattle.ring_wire.specs.declared.token.Token.{Token}
-use Rattle.ring_window.specs.Held.{is_numbered, found, is_new}
+use Rattle.ring_core.specs.Windows.{is_numbered, found, is_new}
 use Rattle.ring_base.proofs.SameRing.{ring_same}
-use Rattle.ring_token.specs.Turns.{Turn}
-use Rattle.ring_token.specs.Visits.{numbered}
-use Rattle.ring_commit.specs.declared.configuration.Configuration.{Configuration}
-use Rattle.ring_recover.specs.Wrapping.{is_wrap_of, unwrapped}
+use Rattle.ring_core.specs.Tokens.{Turn, numbered}
+use Rattle.ring_core.specs.Commits.{Configuration}
+use Rattle.ring_core.specs.Recoveries.{is_wrap_of, unwrapped}
 use Rattle.ring_core.specs.declared.input.Input.{Input}
 use Rattle.ring_core.specs.State.{Core, floor, opening}
 use Rattle.ring_core.specs.Views.{mark}
 use Rattle.ring_core.specs.Acting.{gives_old, took}
 use Rattle.ring_core.specs.Stepping.{after_inputs}
-use Rattle.ring_token.proofs.Numbered.{numbered-ring}
+use Rattle.ring_core.proofs.Tokens.{numbered-ring}
 use Rattle.ring_core_proof.specs.FactWords.{IsIn}
 use Rattle.ring_core_proof.specs.LawWords.{EndsWrapping, HasEnded}
 pub use Rattle.ring_core_proof.specs.Standing.{StandsIn, IsPlaced}

@@ -2,8 +2,8 @@
 use Rattle.std.proofs.Common.{◌≡◌, ℕ, ◌+◌, ◌≤◌, true, List}
 use Rattle.ring_base.specs.Numbers.{window_size}
 use Rattle.ring_base.specs.declared.ring_id.RingId.{RingId}
-use Rattle.ring_window.specs.Held.{holds}
-use Rattle.ring_join.specs.Gathering.{AllSaySame}
+use Rattle.ring_core.specs.Windows.{holds}
+use Rattle.ring_core.specs.Joins.{AllSaySame}
 use Rattle.ring_core.specs.Views.{front, mark}
 use Rattle.ring_core_proof.specs.declared.event.RingEvent.{RingEvent}
 use Rattle.ring_core_proof.specs.Worlds.{run, unformed}

@@ -18,13 +18,11 @@ use Rattle.ring_wire.specs.declared.entries.CommitEntry.{CommitEntry}
 use Rattle.ring_wire.specs.declared.frame.Frame.{Frame}
 use Rattle.ring_wire.specs.declared.message.Message.{Message}
 use Rattle.ring_wire.specs.declared.token.Token.{Token}
-use Rattle.ring_window.specs.Bits.{held_bits}
-use Rattle.ring_window.specs.Held.{front_of}
-use Rattle.ring_window.proofs.OfRing.{front_of_ring, held_bits_of_ring}
+use Rattle.ring_core.specs.Windows.{held_bits, front_of}
+use Rattle.ring_core.proofs.Windows.{front_of_ring, held_bits_of_ring}
 use Rattle.ring_base.proofs.SameRing.{other_ring}
-use Rattle.ring_token.specs.Turns.{Turn, Raise, mark_by}
-use Rattle.ring_token.specs.Visits.{numbered}
-use Rattle.ring_commit.specs.declared.configuration.Configuration.{Configuration}
+use Rattle.ring_core.specs.Tokens.{Turn, Raise, mark_by, numbered}
+use Rattle.ring_core.specs.Commits.{Configuration}
 use Rattle.ring_core.specs.declared.input.Input.{Input}
 use Rattle.ring_core.specs.State.{Core, Report, floor}
 use Rattle.ring_core.specs.Views.{front, mark, own_entry}

@@ -20,7 +20,7 @@ use Rattle.ring_core.specs.State.{Core, Sent, halted, frame_at}
 use Rattle.ring_core.specs.Giving.{may_install, install, addressed, sent, users, agreed_from, safe_from, delivered_from, given, configured, settle}
 use Rattle.ring_core.specs.Stepping.{ring_step}
 use Rattle.ring_core.specs.Views.{front, mark, plan}
-use Rattle.ring_recover.specs.Deliveries.{rests}
+use Rattle.ring_core.specs.Recoveries.{rests}
 use Rattle.ring_core_proof.specs.declared.event.RingEvent.{RingEvent}
 use Rattle.ring_core_proof.specs.declared.event.RingEvent.TheVariants.{Send, Deliver, Timeout, Stop}
 use Rattle.ring_core_proof.specs.Worlds.{Carried, World, put, carried_by, carried_from, after_step, is_node, stepped_if}

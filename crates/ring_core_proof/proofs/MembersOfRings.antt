@@ -14,8 +14,8 @@ use Rattle.ring_wire.specs.declared.commit.CommitToken.{CommitToken}
 use Rattle.ring_wire.specs.declared.frame.Frame.{Frame}
 use Rattle.ring_wire.specs.declared.frame.Frame.TheVariants.{Join as JoinFrame}
 use Rattle.ring_wire.specs.declared.join.Join.{Join}
-use Rattle.ring_join.specs.Gathering.{Gathering, has_same_sets, agreed, widened_sets, widened, candidates}
-use Rattle.ring_commit.specs.declared.configuration.Configuration.{Configuration}
+use Rattle.ring_core.specs.Joins.{Gathering, has_same_sets, agreed, widened_sets, widened, candidates}
+use Rattle.ring_core.specs.Commits.{Configuration}
 use Rattle.ring_core.specs.declared.input.Input.{Input}
 use Rattle.ring_core.specs.declared.input.Input.TheVariants.{Frame as FrameInput, Timeout as TimeInput, Send as SendInput}
 use Rattle.ring_core.specs.declared.out.Out.{Out}

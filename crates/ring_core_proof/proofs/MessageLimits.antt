@@ -9,7 +9,7 @@ use Rattle.ring_base.specs.declared.ring_id.RingId.{RingId}
 use Rattle.ring_base.specs.declared.state.State.{State}
 use Rattle.ring_base.specs.declared.state.State.TheVariants.{Gather, Commit, Recovery, Operational, Stopped}
 use Rattle.ring_base.proofs.Each.{each-weaker, each-append}
-use Rattle.ring_layout.specs.Rings.{RingFits}
+use Rattle.ring_wire.specs.Rings.{RingFits}
 use Rattle.ring_payload.specs.Contents.{ContentFits, WrappedFits}
 use Rattle.ring_payload.specs.Kinds.{is_user, payload_of}
 use Rattle.ring_payload.specs.Payloads.{PayloadFits}
@@ -22,9 +22,9 @@ use Rattle.ring_payload.specs.declared.content.Payload.TheVariants.{Call, Wrappe
 use Rattle.ring_payload.specs.declared.content.Wrapped.{Wrapped as WrappedMessage}
 use Rattle.ring_wire.specs.declared.message.Message.{Message}
 use Rattle.ring_wire.specs.Messages.{IsOlder, MessageFits}
-use Rattle.ring_window.specs.Held.{is_new}
-use Rattle.ring_token.specs.Visits.{numbered}
-use Rattle.ring_recover.specs.Wrapping.{unwrapped}
+use Rattle.ring_core.specs.Windows.{is_new}
+use Rattle.ring_core.specs.Tokens.{numbered}
+use Rattle.ring_core.specs.Recoveries.{unwrapped}
 use Rattle.ring_core.specs.State.{Core}
 use Rattle.ring_core.specs.Views.{mark}
 use Rattle.ring_core.specs.Acting.{gives_old}

@@ -15,16 +15,15 @@ use Rattle.ring_wire.specs.declared.commit.CommitToken.{CommitToken}
 use Rattle.ring_wire.specs.declared.frame.Frame.{Frame}
 use Rattle.ring_wire.specs.declared.message.Message.{Message}
 use Rattle.ring_wire.specs.declared.token.Token.{Token}
-use Rattle.ring_window.specs.Held.{is_new}
+use Rattle.ring_core.specs.Windows.{is_new}
 use Rattle.ring_base.proofs.SameRing.{ring_same}
-use Rattle.ring_token.specs.Turns.{Turn, Raise}
-use Rattle.ring_token.specs.Visits.{numbered}
-use Rattle.ring_recover.specs.Wrapping.{inner_if_new, unwrapped}
-use Rattle.ring_commit.specs.declared.configuration.Configuration.{Configuration}
+use Rattle.ring_core.specs.Tokens.{Turn, Raise, numbered}
+use Rattle.ring_core.specs.Recoveries.{inner_if_new, unwrapped}
+use Rattle.ring_core.specs.Commits.{Configuration}
 use Rattle.ring_core.specs.State.{Core, Report, floor}
 use Rattle.ring_core.specs.Views.{mark, own_entry}
 use Rattle.ring_core.specs.Acting.{gives_old}
-use Rattle.ring_token.proofs.Numbered.{numbered-ring}
+use Rattle.ring_core.proofs.Tokens.{numbered-ring}
 use Rattle.ring_core_proof.specs.FactWords.{IsIn}
 use Rattle.ring_core_proof.specs.Moves.{Move, Idles, Enters, Learns, Visits, Takes, Installs, moved, MayEnter, MayLearn, MayVisit, MayTake, MayMove}
 use Rattle.ring_core_proof.proofs.InLists.{in-each}

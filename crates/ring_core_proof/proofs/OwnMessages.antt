@@ -17,12 +17,11 @@ use Rattle.ring_payload.specs.declared.content.Payload.TheVariants.{Call, Wrappe
 use Rattle.ring_payload.specs.declared.content.Wrapped.{Wrapped as WrappedMessage}
 use Rattle.ring_wire.specs.declared.frame.Frame.{Frame}
 use Rattle.ring_wire.specs.declared.message.Message.{Message}
-use Rattle.ring_window.specs.Held.{is_numbered, holds, highest, in_window, is_new}
-use Rattle.ring_window.proofs.HeldFront.{highest_covers}
+use Rattle.ring_core.specs.Windows.{is_numbered, holds, highest, in_window, is_new}
+use Rattle.ring_core.proofs.Windows.{highest_covers}
 use Rattle.ring_base.proofs.SameRing.{ring_same}
-use Rattle.ring_token.specs.Turns.{Turn}
-use Rattle.ring_token.specs.Visits.{numbered}
-use Rattle.ring_recover.specs.Wrapping.{inner_if_new, unwrapped}
+use Rattle.ring_core.specs.Tokens.{Turn, numbered}
+use Rattle.ring_core.specs.Recoveries.{inner_if_new, unwrapped}
 use Rattle.ring_core.specs.State.{Core, floor}
 use Rattle.ring_core.specs.Views.{mark}
 use Rattle.ring_core.specs.Acting.{gives_old}

@@ -13,16 +13,12 @@ use Rattle.ring_base.proofs.Each.{each-weaker}
 use Rattle.ring_wire.specs.Entries.{bit_of}
 use Rattle.ring_wire.specs.declared.frame.Frame.{Frame}
 use Rattle.ring_wire.specs.declared.message.Message.{Message}
-use Rattle.ring_window.specs.Bits.{held_bits}
-use Rattle.ring_window.specs.Held.{is_numbered, holds, front_of}
-use Rattle.ring_window.proofs.Bits.{held_bit}
-use Rattle.ring_window.proofs.HeldFront.{front_is}
-use Rattle.ring_window.proofs.Finding.{holds-more}
-use Rattle.ring_token.specs.Turns.{safe_mark}
-use Rattle.ring_token.specs.Visits.{numbered}
-use Rattle.ring_token.proofs.SafeMark.{safe_mark-turn, safe_mark-raise}
-use Rattle.ring_commit.specs.Reports.{reports_of, safe_of}
-use Rattle.ring_recover.specs.Plans.{is_reported}
+use Rattle.ring_core.specs.Windows.{held_bits, is_numbered, holds, front_of}
+use Rattle.ring_core.proofs.Windows.{held_bit, front_is, holds-more}
+use Rattle.ring_core.specs.Tokens.{safe_mark, numbered}
+use Rattle.ring_core.proofs.Tokens.{safe_mark-turn, safe_mark-raise}
+use Rattle.ring_core.specs.Commits.{reports_of, safe_of}
+use Rattle.ring_core.specs.Recoveries.{is_reported}
 use Rattle.ring_core.specs.State.{Core, Report}
 use Rattle.ring_core.specs.Views.{front, mark, own_entry}
 use Rattle.ring_core.specs.Acting.{gives_old}

@@ -10,11 +10,8 @@ use Rattle.ring_wire.specs.declared.message.Message.{Message}
 use Rattle.ring_wire.specs.Messages.{MessageFits}
 use Rattle.ring_wire.specs.Entries.{bit_of, AreZero, EntryFits}
 use Rattle.ring_wire.specs.Commits.{IsReport}
-use Rattle.ring_window.specs.Held.{is_numbered, holds, front_of}
-use Rattle.ring_window.specs.Bits.{bytes_of, held_bits}
-use Rattle.ring_window.proofs.Bits.{held_bit}
-use Rattle.ring_window.proofs.HeldFront.{front_is}
-use Rattle.ring_window.proofs.Missing.{length-bytes_of}
+use Rattle.ring_core.specs.Windows.{is_numbered, holds, front_of, bytes_of, held_bits}
+use Rattle.ring_core.proofs.Windows.{held_bit, front_is, length-bytes_of}
 use Rattle.ring_base.proofs.SameRing.{ring_same}
 use Rattle.ring_core.specs.State.{Core}
 use Rattle.ring_core.specs.Views.{front, mark, own_entry}

@@ -1,7 +1,7 @@
 -- The rings that a core takes part in strictly rise.
 use Rattle.std.proofs.Common.{◌≡◌, ℕ, ◌<◌, ◌≤◌, inl, inr, List, [], ◌∷◌, refl, ap, sym, ◌∙◌, subst, arith}
 use Rattle.ring_wire.specs.declared.frame.Frame.{Frame}
-use Rattle.ring_commit.specs.declared.configuration.Configuration.{Configuration}
+use Rattle.ring_core.specs.Commits.{Configuration}
 use Rattle.ring_core.specs.declared.input.Input.{Input}
 use Rattle.ring_core.specs.State.{Core, floor, alone, opening}
 use Rattle.ring_core.specs.Stepping.{after_inputs}

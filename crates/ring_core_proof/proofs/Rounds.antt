@@ -9,12 +9,9 @@ use Rattle.ring_base.specs.Processors.{has, size}
 use Rattle.ring_wire.specs.declared.commit.CommitToken.{CommitToken}
 use Rattle.ring_wire.specs.declared.frame.Frame.{Frame}
 use Rattle.ring_wire.specs.declared.frame.Frame.TheVariants.{Message as MessageFrame, Token as TokenFrame, Join as JoinFrame, Commit as CommitFrame}
-use Rattle.ring_token.specs.Turns.{first_token}
-use Rattle.ring_join.specs.Gathering.{candidates}
-use Rattle.ring_commit.specs.Reports.{is_sound}
-use Rattle.ring_commit.specs.declared.configuration.Configuration.{Configuration}
-use Rattle.ring_commit.specs.Rounds.{position_of_hop, receiver, is_of, is_own}
-use Rattle.ring_commit.specs.Outcomes.{is_at}
+use Rattle.ring_core.specs.Tokens.{first_token}
+use Rattle.ring_core.specs.Joins.{candidates}
+use Rattle.ring_core.specs.Commits.{is_sound, Configuration, position_of_hop, receiver, is_of, is_own, is_at}
 use Rattle.ring_core.specs.declared.input.Input.TheVariants.{Frame as FrameInput}
 use Rattle.ring_base.specs.declared.state.State.{State}
 use Rattle.ring_base.specs.declared.state.State.TheVariants.{Gather, Commit, Recovery, Operational, Stopped}

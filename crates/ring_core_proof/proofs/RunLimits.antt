@@ -10,7 +10,7 @@ use Rattle.ring_base.proofs.Each.{each-append, each-get, each-map, each-filter}
 use Rattle.ring_wire.specs.Frames.{FrameFits}
 use Rattle.ring_wire.specs.declared.frame.Frame.{Frame}
 use Rattle.ring_wire.specs.declared.token.Token.{Token}
-use Rattle.ring_token.specs.Turns.{first_token}
+use Rattle.ring_core.specs.Tokens.{first_token}
 use Rattle.ring_core.specs.declared.input.Input.{Input}
 use Rattle.ring_core.specs.declared.input.Input.TheVariants.{Frame as FrameInput, Timeout as TimeInput, Send as SendInput}
 use Rattle.ring_core.specs.declared.out.Out.{Out}

@@ -8,11 +8,9 @@ use Rattle.ring_base.specs.Processors.{IsProc, IsMember, IsSubset, has, nobody, 
 use Rattle.ring_base.specs.Members.{has_member, nobody_member, only_members, union_members, less_members}
 use Rattle.ring_wire.specs.declared.join.Join.{Join}
 use Rattle.ring_wire.specs.Joins.{JoinFits}
-use Rattle.ring_join.specs.Gathering.{Gathering, is_unheard, has_same_sets, has_smaller_sets, entered, own_join}
-use Rattle.ring_join.specs.Gathering.{hearing, agreed, fails_with, widened_sets, widened, senders, agreeing, candidates}
-use Rattle.ring_join.specs.Gathering.{given_up}
-use Rattle.ring_join.specs.declared.hearing.Hearing.{Hearing}
-use Rattle.ring_join.specs.declared.hearing.Hearing.TheVariants.{Ignored, Agrees, Widens}
+use Rattle.ring_core.specs.Joins.{Gathering, is_unheard, has_same_sets, has_smaller_sets, entered, own_join}
+use Rattle.ring_core.specs.Joins.{hearing, agreed, fails_with, widened_sets, widened, senders, agreeing, candidates, given_up, Hearing}
+use Rattle.ring_core.specs.Joins.{Ignored, Agrees, Widens}
 use Rattle.ring_core_proof.specs.Limits.{GatheringFits}
 
 -- Sets of sixteen

@@ -20,15 +20,12 @@ use Rattle.ring_wire.specs.declared.frame.Frame.{Frame}
 use Rattle.ring_wire.specs.declared.frame.Frame.TheVariants.{Token as TokenFrame}
 use Rattle.ring_wire.specs.declared.message.Message.{Message}
 use Rattle.ring_wire.specs.declared.token.Token.{Token}
-use Rattle.ring_window.specs.Held.{found, highest}
+use Rattle.ring_core.specs.Windows.{found, highest}
 use Rattle.ring_base.proofs.SameRing.{ring_same}
-use Rattle.ring_token.specs.Turns.{first_token, is_newer}
-use Rattle.ring_token.specs.Visits.{above_mark}
-use Rattle.ring_join.specs.Gathering.{Gathering, AllSaySame, candidates, new_number, has_consensus, own_join, agreed, widened, given_up}
-use Rattle.ring_commit.specs.Rounds.{position_of_hop, receiver, is_of, is_own}
-use Rattle.ring_commit.specs.Reports.{is_sound}
-use Rattle.ring_recover.specs.Installing.{is_ready}
-use Rattle.ring_recover.specs.Deliveries.{is_complete}
+use Rattle.ring_core.specs.Tokens.{first_token, is_newer, above_mark}
+use Rattle.ring_core.specs.Joins.{Gathering, AllSaySame, candidates, new_number, has_consensus, own_join, agreed, widened, given_up}
+use Rattle.ring_core.specs.Commits.{position_of_hop, receiver, is_of, is_own, is_sound}
+use Rattle.ring_core.specs.Recoveries.{is_ready, is_complete}
 use Rattle.ring_core.specs.declared.input.Input.{Input}
 use Rattle.ring_core.specs.declared.input.Input.TheVariants.{Frame as FrameInput}
 use Rattle.ring_core.specs.State.{Core, Sent, Did, floor}

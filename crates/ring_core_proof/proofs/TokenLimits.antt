@@ -8,15 +8,13 @@ use Rattle.ring_base.specs.Numbers.{max_number, window_size, numbers_from, inser
 use Rattle.ring_base.specs.Processors.{IsProc}
 use Rattle.ring_base.specs.declared.ring_id.RingId.{RingId}
 use Rattle.ring_base.proofs.Each.{each-weaker, each-filter}
-use Rattle.ring_layout.specs.Processors.{SomeProcFits}
-use Rattle.ring_layout.specs.Rings.{RingFits}
+use Rattle.ring_wire.specs.Rings.{SomeProcFits, RingFits}
 use Rattle.ring_wire.specs.declared.message.Message.{Message}
 use Rattle.ring_wire.specs.declared.token.Token.{Token}
 use Rattle.ring_wire.specs.Tokens.{TokenFits}
 use Rattle.ring_wire.specs.Ascending.{ascends, ascends-each, ascends-increasing, Between}
-use Rattle.ring_window.specs.Held.{holds, missing}
-use Rattle.ring_token.specs.Turns.{first_token}
-use Rattle.ring_token.specs.Visits.{is_left, left, is_mine, may_set, requests_after, token_after}
+use Rattle.ring_core.specs.Windows.{holds, missing}
+use Rattle.ring_core.specs.Tokens.{first_token, is_left, left, is_mine, may_set, requests_after, token_after}
 
 -- Requests
 

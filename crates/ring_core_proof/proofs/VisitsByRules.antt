@@ -10,10 +10,9 @@ use Rattle.ring_payload.specs.declared.content.Payload.{Payload}
 use Rattle.ring_wire.specs.declared.frame.Frame.{Frame}
 use Rattle.ring_wire.specs.declared.message.Message.{Message}
 use Rattle.ring_wire.specs.declared.token.Token.{Token}
-use Rattle.ring_window.specs.Held.{is_numbered, holds, highest, front_of}
-use Rattle.ring_window.proofs.HeldFront.{front_is, highest_covers}
-use Rattle.ring_token.specs.Turns.{Turn}
-use Rattle.ring_token.specs.Visits.{numbered}
+use Rattle.ring_core.specs.Windows.{is_numbered, holds, highest, front_of}
+use Rattle.ring_core.proofs.Windows.{front_is, highest_covers}
+use Rattle.ring_core.specs.Tokens.{Turn, numbered}
 use Rattle.ring_core.specs.declared.input.Input.{Input}
 use Rattle.ring_core.specs.State.{Core, opening}
 use Rattle.ring_core.specs.Acting.{gives_old}

@@ -15,17 +15,14 @@ use Rattle.ring_wire.specs.declared.frame.Frame.{Frame}
 use Rattle.ring_wire.specs.declared.commit.CommitToken.{CommitToken}
 use Rattle.ring_wire.specs.declared.message.Message.{Message}
 use Rattle.ring_wire.specs.declared.token.Token.{Token}
-use Rattle.ring_window.specs.Held.{is_numbered, holds, front_of, in_window, is_new}
-use Rattle.ring_window.proofs.HeldFront.{front_grows}
-use Rattle.ring_window.proofs.Finding.{holds-more}
+use Rattle.ring_core.specs.Windows.{is_numbered, holds, front_of, in_window, is_new}
+use Rattle.ring_core.proofs.Windows.{front_grows, holds-more}
 use Rattle.ring_base.proofs.SameRing.{ring_same}
-use Rattle.ring_token.specs.Turns.{Turn, Raise, safe_mark}
-use Rattle.ring_token.specs.Visits.{numbered, may_set, is_mine, aru_after}
-use Rattle.ring_token.proofs.SafeMark.{safe_mark-below, safe_mark-turn, safe_mark-raise}
-use Rattle.ring_commit.specs.Reports.{reports_of, safe_of, is_sound}
-use Rattle.ring_commit.specs.Rounds.{position_of_hop, is_own}
+use Rattle.ring_core.specs.Tokens.{Turn, Raise, safe_mark, numbered, may_set, is_mine, aru_after}
+use Rattle.ring_core.proofs.Tokens.{safe_mark-below, safe_mark-turn, safe_mark-raise}
+use Rattle.ring_core.specs.Commits.{reports_of, safe_of, is_sound, position_of_hop, is_own}
 use Rattle.ring_payload.specs.Kinds.{payload_of}
-use Rattle.ring_recover.specs.Wrapping.{inner_if_new, unwrapped}
+use Rattle.ring_core.specs.Recoveries.{inner_if_new, unwrapped}
 use Rattle.ring_core.specs.declared.input.Input.{Input}
 use Rattle.ring_base.specs.declared.state.State.{State}
 use Rattle.ring_base.specs.declared.state.State.TheVariants.{Gather, Commit, Recovery, Operational, Stopped}
@@ -33,7 +30,7 @@ use Rattle.ring_core.specs.State.{Core, opening}
 use Rattle.ring_core.specs.Views.{front, mark, own_entry, takes_number}
 use Rattle.ring_core.specs.Acting.{gives_old}
 use Rattle.ring_core.specs.Stepping.{after_inputs}
-use Rattle.ring_commit.proofs.Reporting.{none_behind-at, own_stands}
+use Rattle.ring_core.proofs.Commits.{none_behind-at, own_stands}
 pub use Rattle.ring_core_proof.specs.Standing.{Within, IsFit, Fit}
 use Rattle.ring_core_proof.specs.Moves.{Move, Idles, Enters, Learns, Visits, Takes, Installs, held_in, turn_with, moved, MayMove}
 use Rattle.ring_base.proofs.Each.{each-weaker, each-append, each-reverse}

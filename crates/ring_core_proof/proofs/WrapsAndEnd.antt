@@ -20,12 +20,10 @@ use Rattle.ring_payload.specs.declared.content.Content.TheVariants.{Snap as Snap
 use Rattle.ring_payload.specs.declared.content.Payload.{Payload}
 use Rattle.ring_payload.specs.declared.content.Payload.TheVariants.{Call, Wrapped, End, Head, Part, Pack, Snap}
 use Rattle.ring_wire.specs.declared.message.Message.{Message}
-use Rattle.ring_window.specs.Held.{is_numbered, found, highest, of_ring}
+use Rattle.ring_core.specs.Windows.{is_numbered, found, highest, of_ring}
 use Rattle.ring_base.proofs.SameRing.{ring_same, ring_itself}
-use Rattle.ring_window.proofs.HeldFront.{highest_covers}
-use Rattle.ring_window.proofs.Finding.{found-holds}
-use Rattle.ring_recover.specs.Plans.{low}
-use Rattle.ring_recover.specs.Wrapping.{is_wrap_of, is_wrapped, wrap, wrap_content, above_low, to_wrap, has_ended, wraps_and_end}
+use Rattle.ring_core.proofs.Windows.{highest_covers, found-holds}
+use Rattle.ring_core.specs.Recoveries.{low, is_wrap_of, is_wrapped, wrap, wrap_content, above_low, to_wrap, has_ended, wraps_and_end}
 use Rattle.ring_core.specs.State.{Core}
 use Rattle.ring_core.specs.Views.{plan}
 use Rattle.ring_core_proof.specs.FactWords.{IsIn, SomeIs}

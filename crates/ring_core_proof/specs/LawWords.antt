@@ -11,16 +11,11 @@ use Rattle.ring_wire.specs.declared.frame.Frame.TheVariants.{Message as MessageF
 use Rattle.ring_wire.specs.declared.join.Join.{Join}
 use Rattle.ring_wire.specs.declared.message.Message.{Message}
 use Rattle.ring_wire.specs.declared.token.Token.{Token}
-use Rattle.ring_window.specs.Held.{front_of}
-use Rattle.ring_token.specs.Turns.{Turn, first_token}
-use Rattle.ring_token.specs.Visits.{token_after}
-use Rattle.ring_join.specs.declared.hearing.Hearing.{Hearing}
-use Rattle.ring_join.specs.declared.hearing.Hearing.TheVariants.{Ignored, Agrees, Widens}
-use Rattle.ring_commit.specs.declared.configuration.Configuration.{Configuration}
-use Rattle.ring_commit.specs.Rounds.{is_start}
-use Rattle.ring_commit.specs.Outcomes.{is_at}
-use Rattle.ring_recover.specs.Plans.{Plan}
-use Rattle.ring_recover.specs.Wrapping.{wraps_and_end}
+use Rattle.ring_core.specs.Windows.{front_of}
+use Rattle.ring_core.specs.Tokens.{Turn, first_token, token_after}
+use Rattle.ring_core.specs.Joins.{Hearing, Ignored, Agrees, Widens}
+use Rattle.ring_core.specs.Commits.{Configuration, is_start, is_at}
+use Rattle.ring_core.specs.Recoveries.{Plan, wraps_and_end}
 use Rattle.ring_base.specs.declared.kind.Kind.TheVariants.{Retransmit, Join as JoinTime, Consensus, Loss}
 use Rattle.ring_core.specs.declared.input.Input.{Input}
 use Rattle.ring_core.specs.declared.input.Input.TheVariants.{Frame as FrameInput, Timeout as TimeInput, Send as SendInput}

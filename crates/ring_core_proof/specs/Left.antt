@@ -6,8 +6,8 @@ use Rattle.ring_base.specs.declared.ring_id.RingId.{RingId}
 use Rattle.ring_base.specs.declared.state.State.TheVariants.{Gather, Commit, Stopped}
 use Rattle.ring_wire.specs.declared.commit.CommitToken.{CommitToken}
 use Rattle.ring_wire.specs.declared.message.Message.{Message}
-use Rattle.ring_window.specs.Held.{of_ring}
-use Rattle.ring_token.specs.Turns.{Turn, Raise, turns_of}
+use Rattle.ring_core.specs.Windows.{of_ring}
+use Rattle.ring_core.specs.Tokens.{Turn, Raise, turns_of}
 use Rattle.ring_core.specs.State.{Core, Report, floor}
 use Rattle.ring_core.specs.Views.{front, mark, own_entry}
 

@@ -2,13 +2,13 @@
 use Rattle.std.specs.Prelude.{◌≡◌, ℕ, ◌^◌, ◌<◌, ◌≤◌, List, Some}
 use Rattle.std.specs.List.{AllByRecursion}
 use Rattle.ring_base.specs.Processors.{IsProc, IsMember, IsSubset, most_processors}
-use Rattle.ring_layout.specs.Rings.{RingFits}
+use Rattle.ring_wire.specs.Rings.{RingFits}
 use Rattle.ring_payload.specs.declared.content.Payload.{Payload}
 use Rattle.ring_payload.specs.Payloads.{PayloadFits}
 use Rattle.ring_wire.specs.Messages.{MessageFits}
 use Rattle.ring_wire.specs.Frames.{FrameFits}
-use Rattle.ring_join.specs.Gathering.{Gathering}
-use Rattle.ring_commit.specs.declared.configuration.Configuration.{Configuration}
+use Rattle.ring_core.specs.Joins.{Gathering}
+use Rattle.ring_core.specs.Commits.{Configuration}
 use Rattle.ring_core.specs.declared.input.Input.{Input}
 use Rattle.ring_core.specs.declared.input.Input.TheVariants.{Frame as FrameInput, Timeout as TimeInput, Send as SendInput}
 use Rattle.ring_core.specs.declared.out.Out.{Out}

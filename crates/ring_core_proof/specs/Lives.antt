@@ -3,7 +3,7 @@ use Rattle.std.specs.Prelude.{ℕ, Bool, true, false, ◌&&◌, ◌==◌, nat_lt
 use Rattle.ring_base.specs.Rings.{same_ring}
 use Rattle.ring_base.specs.declared.ring_id.RingId.{RingId}
 use Rattle.ring_wire.specs.declared.message.Message.{Message}
-use Rattle.ring_commit.specs.declared.configuration.Configuration.{Configuration}
+use Rattle.ring_core.specs.Commits.{Configuration}
 use Rattle.ring_core.specs.declared.out.Out.{Out}
 use Rattle.ring_core.specs.declared.out.Out.TheVariants.{Send as SendOut, Agreed, Safe, Trans, Rest, Regular}
 use Rattle.ring_core.specs.State.{alone}

@@ -10,11 +10,10 @@ use Rattle.ring_base.specs.declared.state.State.TheVariants.{Commit, Recovery, O
 use Rattle.ring_wire.specs.declared.commit.CommitToken.{CommitToken}
 use Rattle.ring_wire.specs.declared.entries.CommitEntry.{CommitEntry}
 use Rattle.ring_wire.specs.declared.message.Message.{Message}
-use Rattle.ring_window.specs.Held.{holds}
-use Rattle.ring_token.specs.Turns.{Turn, Raise, is_newer}
-use Rattle.ring_token.specs.Visits.{numbered}
-use Rattle.ring_commit.specs.declared.configuration.Configuration.{Configuration}
-use Rattle.ring_recover.specs.Plans.{is_reported}
+use Rattle.ring_core.specs.Windows.{holds}
+use Rattle.ring_core.specs.Tokens.{Turn, Raise, is_newer, numbered}
+use Rattle.ring_core.specs.Commits.{Configuration}
+use Rattle.ring_core.specs.Recoveries.{is_reported}
 use Rattle.ring_core.specs.State.{Core, Report, floor}
 use Rattle.ring_core.specs.Views.{front, mark, own_entry}
 use Rattle.ring_core_proof.specs.FactWords.{IsIn}

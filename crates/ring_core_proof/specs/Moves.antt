@@ -18,16 +18,11 @@ use Rattle.ring_wire.specs.declared.frame.Frame.TheVariants.{Message as MessageF
 use Rattle.ring_wire.specs.declared.join.Join.{Join}
 use Rattle.ring_wire.specs.declared.message.Message.{Message}
 use Rattle.ring_wire.specs.declared.token.Token.{Token}
-use Rattle.ring_window.specs.Held.{found, of_ring, highest, front_of}
-use Rattle.ring_token.specs.Turns.{Turn, first_token, is_newer}
-use Rattle.ring_token.specs.Visits.{numbered, token_after}
-use Rattle.ring_join.specs.Gathering.{Gathering, AllSaySame}
-use Rattle.ring_commit.specs.Reports.{is_sound}
-use Rattle.ring_commit.specs.Rounds.{position_of_hop, receiver, hopped, is_own}
-use Rattle.ring_recover.specs.Installing.{is_ready}
-use Rattle.ring_recover.specs.Deliveries.{is_complete}
-use Rattle.ring_recover.specs.Plans.{low}
-use Rattle.ring_recover.specs.Wrapping.{is_wrap_of, is_wrapped, has_ended}
+use Rattle.ring_core.specs.Windows.{found, of_ring, highest, front_of}
+use Rattle.ring_core.specs.Tokens.{Turn, first_token, is_newer, numbered, token_after}
+use Rattle.ring_core.specs.Joins.{Gathering, AllSaySame}
+use Rattle.ring_core.specs.Commits.{is_sound, position_of_hop, receiver, hopped, is_own}
+use Rattle.ring_core.specs.Recoveries.{is_ready, is_complete, low, is_wrap_of, is_wrapped, has_ended}
 use Rattle.ring_core.specs.State.{Core, Sent, Did, floor}
 use Rattle.ring_core.specs.Views.{mark, takes_number, own_entry, plan}
 use Rattle.ring_core.specs.Visiting.{to_others, to_next}

@@ -14,7 +14,7 @@ use Rattle.ring_wire.specs.declared.frame.Frame.TheVariants.{Token as TokenFrame
 use Rattle.ring_wire.specs.declared.join.Join.{Join}
 use Rattle.ring_wire.specs.declared.message.Message.{Message}
 use Rattle.ring_wire.specs.declared.token.Token.{Token}
-use Rattle.ring_window.specs.Bits.{bytes_of}
+use Rattle.ring_core.specs.Windows.{bytes_of}
 use Rattle.ring_core.specs.State.{Core, formed}
 
 abbrev pub ring_of : ℕ → ℕ → RingId

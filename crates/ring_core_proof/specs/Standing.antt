@@ -7,9 +7,9 @@ use Rattle.ring_base.specs.Numbers.{window_size}
 use Rattle.ring_base.specs.declared.state.State.{State}
 use Rattle.ring_base.specs.declared.state.State.TheVariants.{Gather, Commit, Recovery, Operational, Stopped}
 use Rattle.ring_wire.specs.declared.message.Message.{Message}
-use Rattle.ring_window.specs.Held.{front_of}
-use Rattle.ring_token.specs.Turns.{Turn, Raise, safe_mark}
-use Rattle.ring_commit.specs.declared.configuration.Configuration.{Configuration}
+use Rattle.ring_core.specs.Windows.{front_of}
+use Rattle.ring_core.specs.Tokens.{Turn, Raise, safe_mark}
+use Rattle.ring_core.specs.Commits.{Configuration}
 use Rattle.ring_core.specs.State.{Core, floor}
 
 -- the installed ring is below the running one, or is it, as the state says; in Commit no visit is of the running ring yet

@@ -3,7 +3,7 @@ use Rattle.std.specs.Prelude.{◌≡◌, ℕ, List, [], ◌∷◌, ◌++◌, Con
 use Rattle.ring_base.specs.Numbers.{numbers_from}
 use Rattle.ring_base.specs.declared.ring_id.RingId.{RingId}
 use Rattle.ring_wire.specs.declared.message.Message.{Message}
-use Rattle.ring_window.specs.Held.{of_ring}
+use Rattle.ring_core.specs.Windows.{of_ring}
 use Rattle.ring_core.specs.State.{Core}
 use Rattle.ring_core_proof.specs.Worlds.{World}
 

@@ -6,7 +6,7 @@ use Rattle.ring_base.specs.Processors.{has}
 use Rattle.ring_base.specs.declared.kind.Kind.{Kind}
 use Rattle.ring_base.specs.declared.kind.Kind.TheVariants.{Retransmit, Join as JoinTime, Consensus, Loss}
 use Rattle.ring_wire.specs.declared.frame.Frame.{Frame}
-use Rattle.ring_token.specs.Turns.{first_token}
+use Rattle.ring_core.specs.Tokens.{first_token}
 use Rattle.ring_core.specs.declared.input.Input.{Input}
 use Rattle.ring_core.specs.declared.input.Input.TheVariants.{Frame as FrameInput, Timeout as TimeInput, Send as SendInput}
 use Rattle.ring_core.specs.declared.out.Out.{Out}

@@ -10,9 +10,9 @@ ghost use Rattle.ring_payload.specs.Kinds.{is_user, units};
 ghost use Rattle.ring_payload.specs.Packing.{AreQueued, IsLongestRun, front_run, packed, left_behind};
 ghost use Rattle.ring_payload.specs.Payloads.{PayloadFits};
 ghost use Rattle.ring_wire.specs.declared.commit.CommitToken.{CommitToken};
-ghost use Rattle.ring_window.specs.Held.{holds};
-ghost use Rattle.ring_join.specs.Gathering.{AllSaySame};
-ghost use Rattle.ring_commit.specs.Rounds.{receiver};
+ghost use Rattle.ring_core.specs.Windows.{holds};
+ghost use Rattle.ring_core.specs.Joins.{AllSaySame};
+ghost use Rattle.ring_core.specs.Commits.{receiver};
 ghost use Rattle.ring_core.specs.declared.input.Input.{Input};
 ghost use Rattle.ring_core.specs.State.{Core, opening};
 ghost use Rattle.ring_core.specs.Views.{front, mark};
@@ -24,9 +24,7 @@ ghost use Rattle.ring_core_proof.specs.CommitRounds.{has_rising_rings, is_taken,
 ghost use Rattle.ring_core_proof.specs.Moves.{IsMoved};
 ghost use Rattle.ring_core_proof.specs.LawWords.{CameWith, HasPassed, IsFalling, TakesCommit, AreTurnsOf, AreFreshOf, HasEnded};
 
-use ring_recover::finish_law;
-use ring_token::safe_law;
-use ring_window::{bits_law, front_law};
+use ring_core::{bits_law, finish_law, front_law, safe_law};
 use std::alloc::{Allocator, Global};
 
 /// What is decided has passed its tests.

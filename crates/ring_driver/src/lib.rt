@@ -10,3 +10,6 @@ mod letter;
 
 pub use driver::Driver;
 pub use letter::Letter;
+pub use ring_node::{Input, Node, Outs, Sent};
+pub use ring_order_proof::fit_laws::{call_keeps_law, node_fits_law};
+pub use ring_order_proof::laws::linear_law;

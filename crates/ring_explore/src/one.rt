@@ -9,10 +9,10 @@ ghost use Rattle.ring_explore.specs.Tried.{IsTried};
 
 use crate::found::Found;
 use ring_base::{Fault, Fixed, Proc, RingId};
-use ring_checker::is_linearization;
-use ring_console::{Line, Pair, Run, Script, ScriptFault, Vocabulary, World};
+use ring_console::{
+    Event, Line, Pair, Run, Script, ScriptFault, Told, Vocabulary, World, is_linearization,
+};
 use ring_object::Object;
-use ring_rules::{Event, Told};
 use ring_script_maker::made_script_by;
 use std::alloc::{Allocator, Global};
 

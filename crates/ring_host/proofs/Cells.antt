@@ -1,6 +1,6 @@
 -- How many cells an opening gives.
 use Rattle.std.proofs.Common.{◌≡◌, ℕ, zero, suc, ◌<◌, ◌≤◌, ◌∷◌, [], List, ap, ◌∙◌, length, refl, arith, length-append}
-use Rattle.ring_book_lines.specs.Machines.{Machine}
+use Rattle.ring_book.specs.Lines.{Machine}
 use Rattle.ring_book.specs.Openings.{new_cells, new_cell}
 use Rattle.ring_book.specs.Seen.{CellView}
 

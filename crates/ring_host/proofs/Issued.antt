@@ -5,13 +5,8 @@ use Rattle.ring_base.specs.Group.{Group}
 use Rattle.ring_object.specs.Operations.{Sequential}
 use Rattle.ring_session.specs.declared.answer.Answer.{Answer}
 use Rattle.ring_session.specs.declared.answered.Answered.{Answered}
-use Rattle.ring_book_lines.specs.declared.input.LineInput.{LineInput}
-use Rattle.ring_book_lines.specs.declared.input.LineInput.TheVariants.{Called, Came}
-use Rattle.ring_book_lines.specs.Answers.{answered_in, told_by, told_from, told_to, told_at, answer_in}
-use Rattle.ring_book_lines.specs.Events.{IsRun}
-use Rattle.ring_book_lines.specs.Lines.{steps_of}
-use Rattle.ring_book_lines.specs.Orders.{call_in, calls_of}
-use Rattle.ring_book_lines.specs.Steps.{StepView, LineView}
+use Rattle.ring_book.specs.Lines.{LineInput, Called, Came, answered_in, told_by, told_from, told_to, told_at, answer_in, IsRun, steps_of}
+use Rattle.ring_book.specs.Lines.{call_in, calls_of, StepView, LineView}
 use Rattle.ring_host.specs.Answering.{IsAnswered}
 
 module _ {A : Type 0} where

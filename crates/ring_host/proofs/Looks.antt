@@ -5,9 +5,7 @@ use Rattle.std.proofs.lemmas.Bool.{and_parts, eqb-true, leb-true}
 use Rattle.ring_base.specs.Group.{Group}
 use Rattle.ring_object.specs.Operations.{Sequential}
 use Rattle.ring_session.specs.declared.answer.Answer.{Answer}
-use Rattle.ring_book_lines.specs.Answers.{told_at, answer_in}
-use Rattle.ring_book_lines.specs.Events.{IsRun}
-use Rattle.ring_book_lines.specs.Steps.{LineView}
+use Rattle.ring_book.specs.Lines.{told_at, answer_in, IsRun, LineView}
 use Rattle.ring_host.specs.Answering.{IsAnswered, AreAnswered}
 use Rattle.ring_host.specs.Looking.{Looked, kept_for}
 use Rattle.ring_host.proofs.Issued.{is_answered}

@@ -3,11 +3,7 @@ use Rattle.std.specs.Prelude.{ℕ, ◌≡◌, ◌<◌, ◌+◌, List, length, So
 use Rattle.ring_base.specs.Group.{Group}
 use Rattle.ring_object.specs.Operations.{Sequential}
 use Rattle.ring_session.specs.declared.answer.Answer.{Answer}
-use Rattle.ring_book_lines.specs.Answers.{answer_in}
-use Rattle.ring_book_lines.specs.Events.{IsRun}
-use Rattle.ring_book_lines.specs.Lines.{steps_of}
-use Rattle.ring_book_lines.specs.Orders.{calls_of}
-use Rattle.ring_book_lines.specs.Steps.{LineView}
+use Rattle.ring_book.specs.Lines.{answer_in, IsRun, steps_of, calls_of, LineView}
 
 -- Some run of the group has the issue of the node's ticket, which is a place among the node's calls, and this answer to it.
 pub record IsAnswered (A : Type 0) {O : Type 0} (object : Sequential O) (group : Group) (node ticket : ℕ) (answer : Answer) : Type 0 where

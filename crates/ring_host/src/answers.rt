@@ -2,7 +2,7 @@
 
 ghost use Rattle.std.specs.Prelude.{◌≡◌, ℕ, ◌+◌, [], Some, slice_get, IfSome};
 ghost use Rattle.ring_session.specs.declared.answer.Answer.{Answer as OneAnswer};
-ghost use Rattle.ring_book_lines.specs.Answers.{told_at};
+ghost use Rattle.ring_book.specs.Lines.{told_at};
 ghost use Rattle.ring_host.specs.Answering.{IsAnswered};
 ghost use Rattle.ring_host.specs.Looking.{kept_for};
 

@@ -5,7 +5,7 @@ ghost use Rattle.ring_base.specs.declared.fault.Fault.TheVariants.{Memory};
 ghost use Rattle.ring_rules.specs.Histories.{IsLinearization};
 
 use ring_base::Fault;
-use ring_checker::is_linearization;
+use ring_console::is_linearization;
 use ring_host_port::{Book, BookName, Host, linear_law};
 use ring_object::Object;
 use ring_payload::Call;

@@ -13,7 +13,7 @@ use Rattle.ring_base.specs.Fronts.{IsFront}
 use Rattle.ring_base.specs.Numbers.{max_number}
 use Rattle.ring_base.specs.declared.ring_id.RingId.{RingId}
 use Rattle.ring_base.proofs.ListFronts.{take-longer}
-use Rattle.ring_payload.specs.declared.call.Call.{Call as OneCall}
+use Rattle.ring_wire.specs.Payloads.{Call as OneCall}
 use Rattle.ring_log.specs.declared.base.Base.{Base}
 use Rattle.ring_log.specs.Logs.{Log, log_length, appended, followed, based, restores, restored_log, joined_log, adopted, adopted_if, trimmed_log}
 use Rattle.ring_log.specs.Logs.{committed_upto, committed_calls, same_call, begins, is_log_length, is_adoptable, IsKeptLog, IsLog, KeepsCommitted}

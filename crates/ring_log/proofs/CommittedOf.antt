@@ -6,7 +6,7 @@ use Rattle.ring_base.specs.Processors.{only}
 use Rattle.ring_log.specs.Stays.{born, Stay, hands}
 use Rattle.ring_log.specs.Kept.{kept_of}
 use Rattle.ring_log.specs.Lives.{Whole, exchanged, committed_by, restored_by, committed_of}
-use Rattle.ring_payload.specs.declared.content.Payload.{Payload}
+use Rattle.ring_wire.specs.Payloads.{Payload}
 
 -- at the opening nothing is committed
 pub born-committed : {A : Type 0} (group : Group) (i : ℕ) → committed_of group (born {A = A} i) ≡ []

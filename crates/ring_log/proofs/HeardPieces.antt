@@ -6,7 +6,7 @@ use Rattle.std.proofs.lemmas.Bool.{and_from, cond-true, eq-eqb, lt-ltb}
 use Rattle.std.proofs.lemmas.List.{take_all}
 use Rattle.ring_base.specs.Numbers.{numbers_from}
 use Rattle.ring_base.proofs.ListFronts.{take-nil}
-use Rattle.ring_payload.specs.declared.snap.Snap.{Snap as OneSnap}
+use Rattle.ring_wire.specs.Payloads.{Snap as OneSnap}
 use Rattle.ring_log.specs.declared.wanted.Wanted.{Wanted}
 use Rattle.ring_log.specs.Exchanges.{Exchange, wanted, is_piece_of, is_next_piece, hear_snap, heard_pieces}
 use Rattle.ring_log.specs.Parts.{nth_piece, pieces_of}

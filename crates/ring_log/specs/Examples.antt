@@ -5,12 +5,8 @@ use Rattle.std.specs.declared.alloc.Global.{Global}
 use Rattle.ring_base.specs.Group.{Group}
 use Rattle.ring_base.specs.Numbers.{numbers_from}
 use Rattle.ring_base.specs.declared.ring_id.RingId.{RingId}
-use Rattle.ring_payload.specs.declared.call.Call.{Call as OneCall}
-use Rattle.ring_payload.specs.declared.calls.Part.{Part as OnePart}
-use Rattle.ring_payload.specs.declared.head.Head.{Head as OneHead}
-use Rattle.ring_payload.specs.declared.content.Payload.{Payload}
-use Rattle.ring_payload.specs.declared.snap.Snap.{Snap as OneSnap}
-use Rattle.ring_payload.specs.declared.content.Payload.TheVariants.{Call as CallPayload, Head, Part, Pack, Snap}
+use Rattle.ring_wire.specs.Payloads.{Call as OneCall, Part as OnePart, Head as OneHead, Payload, Snap as OneSnap}
+use Rattle.ring_wire.specs.PayloadVariants.{Call as CallPayload, Head, Part, Pack, Snap}
 use Rattle.ring_wire.specs.declared.message.Message.{Message}
 use Rattle.ring_log.specs.declared.base.Base.{Base}
 use Rattle.ring_log.specs.declared.wanted.Wanted.{Wanted}

@@ -3,12 +3,8 @@
 -- behind it. The replicated log, rules 3, 4 and 6 of docs/PROTOCOL.md.
 use Rattle.std.specs.Prelude.{ℕ, ◌+◌, Bool, true, false, ◌&&◌, ◌||◌, ◌==◌, nat_le, nat_lt, if◌then◌else◌, List, [], ◌∷◌, ◌++◌, length, Option, Some, None}
 use Rattle.ring_base.specs.Processors.{has, nobody, only, less}
-use Rattle.ring_payload.specs.declared.call.Call.{Call as OneCall}
-use Rattle.ring_payload.specs.declared.calls.Part.{Part as OnePart}
-use Rattle.ring_payload.specs.declared.head.Head.{Head as OneHead}
-use Rattle.ring_payload.specs.declared.snap.Snap.{Snap as OneSnap}
-use Rattle.ring_payload.specs.declared.content.Payload.{Payload}
-use Rattle.ring_payload.specs.declared.content.Payload.TheVariants.{Call, Wrapped, End, Head, Part, Pack, Snap}
+use Rattle.ring_wire.specs.Payloads.{Call as OneCall, Part as OnePart, Head as OneHead, Snap as OneSnap, Payload}
+use Rattle.ring_wire.specs.PayloadVariants.{Call, Wrapped, End, Head, Part, Pack, Snap}
 use Rattle.ring_log.specs.declared.base.Base.{Base}
 use Rattle.ring_log.specs.declared.stated.Stated.{Stated}
 use Rattle.ring_log.specs.declared.wanted.Wanted.{Wanted}

@@ -4,7 +4,7 @@ use Rattle.std.specs.Prelude.{ℕ, min, Bool, if◌then◌else◌, List, [], ◌
 use Rattle.std.specs.declared.cmp.Ordering.{Ordering}
 use Rattle.std.specs.Ordering.{nat_cmp, ordering_then, is_lt}
 use Rattle.ring_base.specs.Rings.{primary_cmp}
-use Rattle.ring_payload.specs.declared.head.Head.{Head}
+use Rattle.ring_wire.specs.Payloads.{Head}
 use Rattle.ring_log.specs.declared.stated.Stated.{Stated}
 
 -- how two Heads compare: by last primary, none below every ring, and then by length

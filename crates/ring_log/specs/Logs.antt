@@ -6,8 +6,7 @@ use Rattle.std.specs.Str.{bytes_eq}
 use Rattle.ring_base.specs.Fronts.{IsFront}
 use Rattle.ring_base.specs.Numbers.{max_number}
 use Rattle.ring_base.specs.declared.ring_id.RingId.{RingId}
-use Rattle.ring_payload.specs.declared.call.Call.{Call as OneCall}
-use Rattle.ring_payload.specs.declared.head.Head.{Head}
+use Rattle.ring_wire.specs.Payloads.{Call as OneCall, Head}
 use Rattle.ring_log.specs.declared.base.Base.{Base}
 
 -- how many places were dropped, the calls of the others, how many places are committed, and the last primary. Places are counted from the log's beginning

@@ -1,7 +1,7 @@
 //! What an exchange hands out.
 
 use crate::snapshot::Snapshot;
-use ring_payload::Calls;
+use ring_wire::Calls;
 use std::alloc::{Allocator, Global};
 
 /// What the exchange of a ring makes of a member's log: the log keeps its first `from` places, and the calls follow. Where

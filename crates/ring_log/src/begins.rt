@@ -3,7 +3,7 @@
 ghost use Rattle.std.specs.Prelude.{◌≡◌, ◌↔◌, length, take, IsTrue};
 ghost use Rattle.ring_log.specs.Logs.{begins};
 
-use ring_payload::Call;
+use ring_wire::Call;
 use std::alloc::Allocator;
 
 /// Whether the others begin with these calls.

@@ -2,7 +2,7 @@
 
 ghost use Rattle.std.specs.Prelude.{◌≡◌, true, false, [], ◌∷◌, Some, None};
 ghost use Rattle.std.specs.declared.alloc.Global.{Global};
-ghost use Rattle.ring_payload.specs.declared.content.Payload.TheVariants.{Part, Snap};
+ghost use Rattle.ring_wire.specs.PayloadVariants.{Part, Snap};
 ghost use Rattle.ring_log.specs.Exchanges.{wanted, heard, base_at};
 ghost use Rattle.ring_log.specs.Parts.{parts_of, pieces_of};
 ghost use Rattle.ring_log.specs.Examples.{three, longer_but_older, unequal, wanted_places, calls_from, part_at};

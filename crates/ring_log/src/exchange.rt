@@ -11,7 +11,7 @@ use crate::snapshot::Snapshot;
 use crate::stated::Stated;
 use crate::wanted::Wanted;
 use ring_base::{Fault, Proc, ProcSet};
-use ring_payload::{Call, Calls, Head, MOST_SNAPSHOT, Part, Payload, Snap};
+use ring_wire::{Call, Calls, Head, MOST_SNAPSHOT, Part, Payload, Snap};
 use std::alloc::{AllocError, Allocator, Global};
 use std::marker::Model;
 use std::mem;

@@ -7,7 +7,7 @@ ghost use Rattle.ring_log.specs.Exchanges.{wanted_by, wanted_of};
 use crate::stated::Stated;
 use crate::wanted::Wanted;
 use ring_base::Proc;
-use ring_payload::Head;
+use ring_wire::Head;
 
 /// Whose places are wanted by these Heads; none where there is no Head.
 pub(crate) fn wanted_by(heads: &[Stated]) -> Option<Wanted>

@@ -4,7 +4,7 @@ ghost use Rattle.std.specs.Prelude.{◌≡◌, ℕ, ◌+◌, ◌≤◌, true, Li
 ghost use Rattle.ring_base.specs.Fronts.{IsFront};
 ghost use Rattle.ring_base.specs.Group.{Group, is_primary};
 ghost use Rattle.ring_base.specs.declared.ring_id.RingId.{RingId};
-ghost use Rattle.ring_payload.specs.declared.call.Call.{Call as OneCall};
+ghost use Rattle.ring_wire.specs.Payloads.{Call as OneCall};
 ghost use Rattle.ring_wire.specs.declared.message.Message.{Message};
 ghost use Rattle.ring_log.specs.declared.base.Base.{Base};
 ghost use Rattle.ring_log.specs.declared.wanted.Wanted.{Wanted};

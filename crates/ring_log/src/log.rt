@@ -13,7 +13,7 @@ use crate::begins::begins;
 use crate::parts::parts_of;
 use crate::wanted::Wanted;
 use ring_base::{Fault, MAX, RingId};
-use ring_payload::{Call, Calls, Head, Part};
+use ring_wire::{Call, Calls, Head, Part};
 use std::alloc::{AllocError, Allocator, Global};
 use std::marker::Model;
 use std::mem;

@@ -5,7 +5,7 @@ ghost use Rattle.ring_base.specs.declared.fault.Fault.TheVariants.{Memory};
 ghost use Rattle.ring_log.specs.Parts.{parts_of};
 
 use ring_base::Fault;
-use ring_payload::{Call, Calls, Part};
+use ring_wire::{Call, Calls, Part};
 use std::alloc::Allocator;
 
 /// So many places are in a Part, or fewer in the last.

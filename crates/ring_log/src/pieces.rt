@@ -2,11 +2,11 @@
 
 ghost use Rattle.std.specs.Prelude.{◌≡◌, ◌≤◌, length, IfOk, IfErr};
 ghost use Rattle.ring_base.specs.declared.fault.Fault.TheVariants.{Memory};
-ghost use Rattle.ring_payload.specs.Limits.{most_snapshot};
+ghost use Rattle.ring_wire.specs.Payloads.{most_snapshot};
 ghost use Rattle.ring_log.specs.Parts.{pieces_of};
 
 use ring_base::Fault;
-use ring_payload::{Piece, Snap, WHOLE_PIECE};
+use ring_wire::{Piece, Snap, WHOLE_PIECE};
 use std::alloc::Allocator;
 
 /// So many bytes are in a piece, or fewer in the last.

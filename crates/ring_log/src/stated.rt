@@ -4,7 +4,7 @@ ghost use Rattle.std.specs.Prelude.{◌≡◌};
 ghost use Rattle.ring_log.specs.Heads.{is_behind};
 
 use ring_base::Proc;
-use ring_payload::Head;
+use ring_wire::Head;
 
 /// A Head with its sender.
 #[derive(Clone, Copy, Debug, PartialEq, Eq)]

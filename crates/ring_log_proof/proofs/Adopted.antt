@@ -13,7 +13,7 @@ use Rattle.ring_base.specs.declared.ring_id.RingId.{RingId}
 use Rattle.ring_base.proofs.ListFronts.{take-front, take-on}
 use Rattle.ring_payload.specs.declared.call.Call.{Call as OneCall}
 use Rattle.ring_payload.specs.declared.head.Head.{Head as OneHead}
-use Rattle.ring_wire.specs.declared.message.Message.{Message}
+use Rattle.ring_log.specs.Messages.{Message}
 use Rattle.ring_log.specs.Exchanges.{wanted}
 use Rattle.ring_log.specs.Logs.{begins}
 use Rattle.ring_log.specs.Stays.{Stay}

@@ -5,7 +5,7 @@ use Rattle.std.proofs.lemmas.Bool.{cond_both, and_parts, ltb-true}
 use Rattle.ring_base.specs.Fronts.{IsFront, front_self, front_trans, front_shorter}
 use Rattle.ring_base.specs.Group.{Group, is_primary}
 use Rattle.ring_payload.specs.declared.call.Call.{Call}
-use Rattle.ring_wire.specs.declared.message.Message.{Message}
+use Rattle.ring_log.specs.Messages.{Message}
 use Rattle.ring_log.specs.Logs.{begins, is_log_length}
 use Rattle.ring_log.specs.Exchanges.{wanted}
 use Rattle.ring_log.specs.Stays.{Stay}

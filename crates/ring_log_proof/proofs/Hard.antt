@@ -12,7 +12,7 @@ use Rattle.ring_base.specs.RingOrder.{below_numbers}
 use Rattle.ring_base.specs.declared.ring_id.RingId.{RingId}
 use Rattle.ring_payload.specs.declared.call.Call.{Call as OneCall}
 use Rattle.ring_payload.specs.declared.head.Head.{Head as OneHead}
-use Rattle.ring_wire.specs.declared.message.Message.{Message}
+use Rattle.ring_log.specs.Messages.{Message}
 use Rattle.ring_log.specs.declared.stated.Stated.{Stated}
 use Rattle.ring_log.specs.Stays.{Stay}
 use Rattle.ring_log.specs.Lives.{Whole, exchanged, calls_in, log_of, last_of, own_base, head_of_life, base_of}

@@ -16,7 +16,7 @@ use Rattle.ring_payload.specs.declared.snap.Snap.{Snap as OneSnap}
 use Rattle.ring_payload.specs.declared.content.Payload.{Payload}
 use Rattle.ring_payload.specs.declared.content.Payload.TheVariants.{Call, Wrapped, End, Head, Part, Pack, Snap}
 use Rattle.ring_payload.specs.Kinds.{units, calls_of}
-use Rattle.ring_wire.specs.declared.message.Message.{Message}
+use Rattle.ring_log.specs.Messages.{Message}
 use Rattle.ring_log.specs.declared.wanted.Wanted.{Wanted}
 use Rattle.ring_log.specs.Exchanges.{Exchange, opened, wanted, hear_head, is_next_piece, hear_snap, is_wanted, hear_part, heard}
 use Rattle.ring_log.specs.Stays.{Stay}

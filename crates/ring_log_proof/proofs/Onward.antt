@@ -8,7 +8,7 @@ use Rattle.ring_base.specs.Group.{Group}
 use Rattle.ring_base.specs.Processors.{IsMember}
 use Rattle.ring_base.specs.declared.ring_id.RingId.{RingId}
 use Rattle.ring_payload.specs.declared.call.Call.{Call as OneCall}
-use Rattle.ring_wire.specs.declared.message.Message.{Message}
+use Rattle.ring_log.specs.Messages.{Message}
 use Rattle.ring_log.specs.Exchanges.{wanted}
 use Rattle.ring_log.specs.Stays.{Stay}
 use Rattle.ring_log.specs.Lives.{Whole, exchanged, calls_in, own_base, log_of, upto, longer, committed_by, front_on, restored_by, committed_of}

@@ -5,7 +5,7 @@ use Rattle.ring_base.specs.Fronts.{front_length}
 use Rattle.ring_base.specs.Group.{Group}
 use Rattle.ring_base.specs.Numbers.{max_number}
 use Rattle.ring_base.specs.declared.ring_id.RingId.{RingId}
-use Rattle.ring_wire.specs.declared.message.Message.{Message}
+use Rattle.ring_log.specs.Messages.{Message}
 use Rattle.ring_log.specs.Logs.{is_log_length}
 use Rattle.ring_log.specs.Stays.{Stay, stay_in, hears, marks}
 use Rattle.ring_log.specs.Lives.{Whole, exchanged, own_base, log_by, log_of, committed_of, keeps_committed, is_sound}

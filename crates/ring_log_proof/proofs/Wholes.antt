@@ -9,7 +9,7 @@ use Rattle.ring_base.specs.Primaries.{primary_tested}
 use Rattle.ring_base.proofs.ListFronts.{front-either}
 use Rattle.ring_payload.specs.declared.call.Call.{Call as OneCall}
 use Rattle.ring_payload.specs.Kinds.{calls_of}
-use Rattle.ring_wire.specs.declared.message.Message.{Message}
+use Rattle.ring_log.specs.Messages.{Message}
 use Rattle.ring_log.specs.Exchanges.{Exchange, opened, is_whole}
 use Rattle.ring_log.specs.Lives.{Whole, heard_by, whole_from, after_all, exchanged, calls_in, upto}
 

@@ -12,7 +12,7 @@ use Rattle.ring_base.specs.Rings.{same_ring}
 use Rattle.ring_base.specs.declared.ring_id.RingId.{RingId}
 use Rattle.ring_payload.specs.Kinds.{units}
 use Rattle.ring_payload.specs.declared.content.Payload.TheVariants.{Call}
-use Rattle.ring_wire.specs.declared.message.Message.{Message}
+use Rattle.ring_log.specs.Messages.{Message}
 use Rattle.ring_log.specs.Stays.{Stay, born}
 use Rattle.ring_log_proof.specs.RingFacts.{IsStay, StayIn, Rises, said_by, safe_part, AllHeard, RingFacts}
 use Rattle.ring_log_proof.specs.Discipline.{OpensWithHead, KeepsDiscipline}

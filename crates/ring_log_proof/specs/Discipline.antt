@@ -7,7 +7,7 @@ use Rattle.ring_base.specs.Group.{Group, IsPrimary}
 use Rattle.ring_base.specs.declared.ring_id.RingId.{RingId}
 use Rattle.ring_payload.specs.declared.content.Payload.{Payload}
 use Rattle.ring_payload.specs.declared.content.Payload.TheVariants.{Call, Wrapped, End, Head, Part, Pack, Snap}
-use Rattle.ring_wire.specs.declared.message.Message.{Message}
+use Rattle.ring_log.specs.Messages.{Message}
 use Rattle.ring_log.specs.declared.wanted.Wanted.{Wanted}
 use Rattle.ring_log.specs.Exchanges.{wanted}
 use Rattle.ring_log.specs.Stays.{Stay}

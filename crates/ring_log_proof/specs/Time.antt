@@ -8,7 +8,7 @@ use Rattle.ring_base.specs.declared.ring_id.RingId.{RingId}
 use Rattle.ring_payload.specs.declared.call.Call.{Call as OneCall}
 use Rattle.ring_payload.specs.declared.content.Payload.{Payload}
 use Rattle.ring_payload.specs.declared.content.Payload.TheVariants.{Call, Wrapped, End, Head, Part, Pack, Snap}
-use Rattle.ring_wire.specs.declared.message.Message.{Message}
+use Rattle.ring_log.specs.Messages.{Message}
 use Rattle.ring_log.specs.Stays.{Stay, stay_in, hears, marks, hands, trims}
 use Rattle.ring_log.specs.Kept.{kept_of, head_kept}
 use Rattle.ring_log.specs.Exchanges.{opened}

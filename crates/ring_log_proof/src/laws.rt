@@ -11,7 +11,7 @@ ghost use Rattle.ring_payload.specs.declared.call.Call.{Call};
 ghost use Rattle.ring_payload.specs.declared.calls.Part.{Part};
 ghost use Rattle.ring_payload.specs.declared.head.Head.{Head};
 ghost use Rattle.ring_payload.specs.declared.content.Payload.TheVariants.{Head as HeadPayload, Part as PartPayload};
-ghost use Rattle.ring_wire.specs.declared.message.Message.{Message};
+ghost use Rattle.ring_log.specs.Messages.{Message};
 ghost use Rattle.ring_log.specs.declared.wanted.Wanted.{Wanted};
 ghost use Rattle.ring_log.specs.Exchanges.{wanted};
 ghost use Rattle.ring_log.specs.Stays.{Stay};

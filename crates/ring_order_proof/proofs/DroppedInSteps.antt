@@ -19,7 +19,7 @@ use Rattle.ring_core.specs.Deciding.{decide}
 use Rattle.ring_core.specs.Acting.{done}
 use Rattle.ring_core.specs.Giving.{may_install, addressed, sent, users, agreed_from, safe_from, delivered_from, given, configured, settle}
 use Rattle.ring_core.specs.Stepping.{ring_step}
-use Rattle.ring_recover.specs.Deliveries.{rests}
+use Rattle.ring_core.specs.Recoveries.{rests}
 use Rattle.ring_log.specs.declared.wanted.Wanted.{Wanted}
 use Rattle.ring_log.specs.Exchanges.{opened, wanted}
 use Rattle.ring_log.specs.Stays.{Stay, stay_in}

@@ -7,7 +7,7 @@ use Rattle.ring_base.specs.Group.{Group, is_primary}
 use Rattle.ring_base.specs.Numbers.{max_number}
 use Rattle.ring_base.specs.declared.ring_id.RingId.{RingId}
 use Rattle.ring_base.proofs.Each.{each-append, each-push, each-filter, each-drop}
-use Rattle.ring_layout.specs.Rings.{RingFits}
+use Rattle.ring_wire.specs.Rings.{RingFits}
 use Rattle.ring_object.specs.Operations.{Sequential}
 use Rattle.ring_payload.specs.Calls.{CallFits}
 use Rattle.ring_payload.specs.Limits.{most_snapshot}

@@ -9,7 +9,7 @@ use Rattle.ring_base.specs.Numbers.{max_number, numbers_from}
 use Rattle.ring_base.specs.Processors.{has, nobody, only, less}
 use Rattle.ring_base.specs.declared.ring_id.RingId.{RingId}
 use Rattle.ring_base.proofs.Each.{each-weaker, each-append, each-push, each-map, each-left, each-right, each-take, each-drop}
-use Rattle.ring_layout.specs.Rings.{RingFits, SomeRingFits}
+use Rattle.ring_wire.specs.Rings.{RingFits, SomeRingFits}
 use Rattle.ring_payload.specs.Calls.{CallFits}
 use Rattle.ring_payload.specs.Heads.{HeadFits}
 use Rattle.ring_payload.specs.Kinds.{calls_of}

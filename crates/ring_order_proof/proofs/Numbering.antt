@@ -16,14 +16,12 @@ use Rattle.ring_payload.specs.declared.content.Payload.{Payload}
 use Rattle.ring_payload.specs.Kinds.{is_user, units}
 use Rattle.ring_wire.specs.declared.message.Message.{Message}
 use Rattle.ring_wire.specs.declared.token.Token.{Token}
-use Rattle.ring_token.specs.Turns.{Turn}
-use Rattle.ring_token.specs.Visits.{numbered}
-use Rattle.ring_token.specs.Rounds.{VisitBy, arrived, AreVisits}
-use Rattle.ring_token.proofs.Numbered.{length-numbered, numbered-ring}
+use Rattle.ring_core.specs.Tokens.{Turn, numbered, VisitBy, arrived, AreVisits}
+use Rattle.ring_core.proofs.Tokens.{length-numbered, numbered-ring}
 use Rattle.ring_core_proof.specs.FactWords.{IsIn, SomeIs}
 use Rattle.ring_core_proof.proofs.InLists.{in-left, in-right, in-parts, in-filtered, each-in}
 use Rattle.ring_log.specs.Lives.{upto}
-use Rattle.ring_chain_proof.specs.ChainWords.{picked}
+use Rattle.ring_synchrony_proof.specs.Chains.{picked}
 use Rattle.ring_log_proof.specs.RingFacts.{said_by}
 use Rattle.ring_order_proof.specs.Spoken.{spoken_at, spoken_in}
 use Rattle.ring_order_proof.specs.Texts.{Ascends}

@@ -7,14 +7,14 @@ use Rattle.std.proofs.lemmas.Bool.{cond_both, ltb-false}
 use Rattle.ring_base.specs.Numbers.{numbers_from}
 use Rattle.ring_base.specs.declared.ring_id.RingId.{RingId}
 use Rattle.ring_base.proofs.Each.{each-filter, each-filter_map}
-use Rattle.ring_layout.specs.Rings.{RingFits}
+use Rattle.ring_wire.specs.Rings.{RingFits}
 use Rattle.ring_payload.specs.Kinds.{is_user}
 use Rattle.ring_wire.specs.Messages.{MessageFits}
 use Rattle.ring_wire.specs.declared.message.Message.{Message}
-use Rattle.ring_window.specs.Held.{found}
-use Rattle.ring_recover.specs.Deliveries.{rests}
-use Rattle.ring_token.proofs.SafeMark.{safe_mark-turn, safe_mark-raise}
-use Rattle.ring_commit.specs.declared.configuration.Configuration.{Configuration}
+use Rattle.ring_core.specs.Windows.{found}
+use Rattle.ring_core.specs.Recoveries.{rests}
+use Rattle.ring_core.proofs.Tokens.{safe_mark-turn, safe_mark-raise}
+use Rattle.ring_core.specs.Commits.{Configuration}
 use Rattle.ring_core.specs.declared.input.Input.{Input}
 use Rattle.ring_core.specs.declared.out.Out.{Out}
 use Rattle.ring_core.specs.declared.out.Out.TheVariants.{Send, Agreed, Safe, Trans, Rest, Regular}

@@ -20,7 +20,7 @@ use Rattle.ring_payload.specs.declared.snap.Snap.{Snap as OneSnap}
 use Rattle.ring_payload.specs.declared.content.Payload.{Payload}
 use Rattle.ring_payload.specs.declared.content.Payload.TheVariants.{Call, Wrapped, End, Head, Part, Pack, Snap}
 use Rattle.ring_wire.specs.declared.message.Message.{Message}
-use Rattle.ring_commit.specs.declared.configuration.Configuration.{Configuration}
+use Rattle.ring_core.specs.Commits.{Configuration}
 use Rattle.ring_core.specs.declared.input.Input.{Input}
 use Rattle.ring_core.specs.declared.out.Out.{Out}
 use Rattle.ring_core.specs.declared.out.Out.TheVariants.{Send as SendOut, Agreed as AgreedOut, Safe as SafeOut, Trans, Rest, Regular}
@@ -31,7 +31,7 @@ use Rattle.ring_core.specs.Acting.{done}
 use Rattle.ring_core.specs.Giving.{may_install, install, addressed, sent, users, agreed_from, safe_from, delivered_from, given, settle}
 use Rattle.ring_core.specs.Stepping.{ring_step}
 use Rattle.ring_core.proofs.States.{installs_recovering}
-use Rattle.ring_recover.specs.Deliveries.{rests}
+use Rattle.ring_core.specs.Recoveries.{rests}
 use Rattle.ring_log.specs.declared.wanted.Wanted.{Wanted}
 use Rattle.ring_log.specs.Exchanges.{Exchange, opened, wanted, is_next_piece, is_wanted, heard, is_whole}
 use Rattle.ring_log.specs.Parts.{nth_piece, pieces_of, parts_between}

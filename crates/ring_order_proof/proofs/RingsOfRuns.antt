@@ -9,11 +9,10 @@ use Rattle.ring_base.specs.Rings.{same_ring}
 use Rattle.ring_base.specs.declared.ring_id.RingId.{RingId}
 use Rattle.ring_payload.specs.Kinds.{is_user}
 use Rattle.ring_wire.specs.declared.message.Message.{Message}
-use Rattle.ring_window.specs.Held.{found}
+use Rattle.ring_core.specs.Windows.{found}
 use Rattle.ring_base.proofs.SameRing.{ring_same, same-self}
-use Rattle.ring_token.specs.Turns.{Turn}
-use Rattle.ring_token.specs.Rounds.{IsSafeIn}
-use Rattle.ring_commit.specs.declared.configuration.Configuration.{Configuration}
+use Rattle.ring_core.specs.Tokens.{Turn, IsSafeIn}
+use Rattle.ring_core.specs.Commits.{Configuration}
 use Rattle.ring_core.specs.State.{Core}
 use Rattle.ring_core.specs.Views.{front, mark}
 use Rattle.ring_core.specs.Giving.{users}
@@ -22,10 +21,8 @@ use Rattle.ring_core_proof.specs.declared.event.RingEvent.{RingEvent}
 use Rattle.ring_core_proof.specs.Worlds.{World, is_node, run, unformed}
 use Rattle.ring_core_proof.proofs.WithinWindow.{mark_below}
 use Rattle.ring_core_proof.proofs.InLists.{in-each}
-use Rattle.ring_chain_proof.specs.ChainWords.{IsRingOf}
-use Rattle.ring_chain_proof.specs.ChainTold.{MarksAreSafe}
-use Rattle.ring_chain_proof.proofs.Rings.{AreRings, one_members}
-use Rattle.ring_chain_proof.proofs.ChainInRuns.{unformed_marks}
+use Rattle.ring_synchrony_proof.specs.Chains.{IsRingOf, MarksAreSafe}
+use Rattle.ring_synchrony_proof.proofs.Chains.{AreRings, one_members, unformed_marks}
 use Rattle.ring_synchrony_proof.proofs.Quantified.{numbers_in}
 use Rattle.ring_synchrony_proof.proofs.Heard.{found_as}
 use Rattle.ring_synchrony_proof.proofs.Recovering.{Recovered, all_recovered}

@@ -11,22 +11,21 @@ use Rattle.ring_base.proofs.ListFronts.{take-longer}
 use Rattle.ring_object.specs.Operations.{Sequential}
 use Rattle.ring_payload.specs.declared.content.Payload.{Payload}
 use Rattle.ring_wire.specs.declared.message.Message.{Message}
-use Rattle.ring_commit.specs.declared.configuration.Configuration.{Configuration}
+use Rattle.ring_core.specs.Commits.{Configuration}
 use Rattle.ring_core.specs.Views.{front, mark}
 use Rattle.ring_core.specs.Giving.{users}
 use Rattle.ring_core_proof.specs.FactWords.{IsIn}
 use Rattle.ring_core_proof.specs.LawWords.{IsFalling}
 use Rattle.ring_core_proof.specs.Worlds.{World as RingWorld}
 use Rattle.ring_core_proof.proofs.InLists.{in-each}
-use Rattle.ring_chain_proof.specs.ChainWords.{IsRingOf}
+use Rattle.ring_synchrony_proof.specs.Chains.{IsRingOf}
 use Rattle.ring_synchrony_proof.proofs.Ordered.{Ordered}
 use Rattle.ring_log.specs.Stays.{Stay}
 use Rattle.ring_log.specs.Lives.{upto, fronts_below}
 use Rattle.ring_payload.specs.declared.call.Call.{Call as OneCall}
 use Rattle.ring_log_proof.specs.RingFacts.{IsStay, StayIn, Rises, said_by, safe_part, AllHeard, RingFacts}
 use Rattle.ring_log_proof.proofs.FilledLives.{filled-heard, facts-filled}
-use Rattle.ring_token.specs.Turns.{Turn, turns_of}
-use Rattle.ring_token.specs.Rounds.{IsSafeIn}
+use Rattle.ring_core.specs.Tokens.{Turn, turns_of, IsSafeIn}
 use Rattle.ring_rules.specs.declared.event.Event.{Event}
 use Rattle.ring_rules.specs.Worlds.{World, world_opening, is_node, run, lives_in, above, lives_of}
 use Rattle.ring_order_proof.specs.Projection.{ring_part, IsRingRun}

@@ -9,20 +9,17 @@ use Rattle.ring_base.proofs.ListFronts.{taken-front}
 use Rattle.ring_base.proofs.SameRing.{same-self}
 use Rattle.ring_payload.specs.Kinds.{is_user}
 use Rattle.ring_wire.specs.declared.message.Message.{Message}
-use Rattle.ring_window.specs.Held.{found, holds}
-use Rattle.ring_window.proofs.HeldFront.{front_is}
-use Rattle.ring_window.proofs.Finding.{holds-found}
-use Rattle.ring_token.specs.Turns.{Turn}
-use Rattle.ring_token.specs.Visits.{numbered}
-use Rattle.ring_token.specs.Rounds.{VisitBy}
+use Rattle.ring_core.specs.Windows.{found, holds}
+use Rattle.ring_core.proofs.Windows.{front_is, holds-found}
+use Rattle.ring_core.specs.Tokens.{Turn, numbered, VisitBy}
 use Rattle.ring_core.specs.Views.{front}
 use Rattle.ring_core.specs.Giving.{users}
 use Rattle.ring_core_proof.specs.FactWords.{IsIn, SomeIs}
 use Rattle.ring_core_proof.specs.declared.event.RingEvent.{RingEvent}
 use Rattle.ring_core_proof.specs.Worlds.{World, run, unformed}
 use Rattle.ring_core_proof.proofs.InLists.{in-each, in-filter, in-filtered}
-use Rattle.ring_chain_proof.specs.ChainWords.{picked, IsGenuine}
-use Rattle.ring_chain_proof.proofs.AllLayers.{Holds}
+use Rattle.ring_synchrony_proof.specs.Chains.{picked, IsGenuine}
+use Rattle.ring_synchrony_proof.proofs.Chains.{Holds}
 use Rattle.ring_synchrony_proof.proofs.Heard.{found_as}
 use Rattle.ring_synchrony_proof.proofs.Recovering.{Recovered, numbered_by, all_recovered}
 use Rattle.ring_order_proof.specs.Spoken.{spoken_in}

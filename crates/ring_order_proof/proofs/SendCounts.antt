@@ -11,8 +11,8 @@ use Rattle.ring_wire.specs.Tokens.{TokenFits}
 use Rattle.ring_wire.specs.declared.frame.Frame.TheVariants.{Message as MessageFrame}
 use Rattle.ring_wire.specs.declared.message.Message.{Message}
 use Rattle.ring_wire.specs.declared.token.Token.{Token}
-use Rattle.ring_window.specs.Held.{found}
-use Rattle.ring_token.specs.Visits.{above_mark}
+use Rattle.ring_core.specs.Windows.{found}
+use Rattle.ring_core.specs.Tokens.{above_mark}
 use Rattle.ring_core.specs.declared.input.Input.{Input}
 use Rattle.ring_core.specs.declared.input.Input.TheVariants.{Frame as FrameInput, Timeout as TimeInput}
 use Rattle.ring_core.specs.declared.out.Out.{Out}
@@ -32,7 +32,7 @@ use Rattle.ring_rules.specs.Lives.{lived_through}
 use Rattle.ring_rules.specs.Nodes.{Node, node_kept, is_closed, is_restored}
 use Rattle.ring_rules.specs.Dues.{due_by}
 use Rattle.ring_rules.specs.Stepping.{NodeStepped, send_of, with_dropped, newly, drops, did, settled, walked, after_core, node_step}
-use Rattle.ring_token.proofs.Numbered.{length-numbered}
+use Rattle.ring_core.proofs.Tokens.{length-numbered}
 use Rattle.ring_core_proof.specs.LawWords.{CameWith}
 use Rattle.ring_core_proof.proofs.Causes.{caused}
 use Rattle.ring_core_proof.proofs.StepsAreMoves.{fresh_few}

@@ -16,8 +16,8 @@ use Rattle.ring_payload.specs.Packing.{is_queued, AreQueued, packed, left_behind
 use Rattle.ring_payload.proofs.Packing.{units-packed, packed-users, user-queued}
 use Rattle.ring_wire.specs.declared.token.Token.{Token}
 use Rattle.ring_base.proofs.SameRing.{ring_same, same-self}
-use Rattle.ring_commit.specs.declared.configuration.Configuration.{Configuration}
-use Rattle.ring_token.specs.Turns.{Turn, turns_of}
+use Rattle.ring_core.specs.Commits.{Configuration}
+use Rattle.ring_core.specs.Tokens.{Turn, turns_of}
 use Rattle.ring_core.specs.declared.input.Input.{Input}
 use Rattle.ring_core.specs.State.{Core, Did, opening, halted}
 use Rattle.ring_core.specs.Visiting.{accepts, room_at, offers, new_payloads, queue_after}

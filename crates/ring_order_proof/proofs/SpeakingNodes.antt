@@ -19,8 +19,8 @@ use Rattle.ring_payload.specs.declared.content.Payload.TheVariants.{Call, Wrappe
 use Rattle.ring_payload.specs.Packing.{is_queued, AreQueued}
 use Rattle.ring_wire.specs.declared.message.Message.{Message}
 use Rattle.ring_wire.specs.declared.frame.Frame.{Frame}
-use Rattle.ring_commit.specs.declared.configuration.Configuration.{Configuration}
-use Rattle.ring_recover.specs.Deliveries.{rests}
+use Rattle.ring_core.specs.Commits.{Configuration}
+use Rattle.ring_core.specs.Recoveries.{rests}
 use Rattle.ring_core.specs.declared.input.Input.{Input}
 use Rattle.ring_core.specs.declared.input.Input.TheVariants.{Frame as FrameInput, Timeout as TimeInput, Send as SendInput}
 use Rattle.ring_core.specs.declared.out.Out.{Out}

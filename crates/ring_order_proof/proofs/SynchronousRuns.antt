@@ -5,10 +5,8 @@ use Rattle.ring_object.specs.Operations.{Sequential}
 use Rattle.ring_core_proof.specs.Worlds.{World as RingWorld}
 use Rattle.ring_rules.specs.declared.event.Event.{Event}
 use Rattle.ring_rules.specs.Worlds.{world_opening, run}
-use Rattle.ring_chain_proof.specs.ChainTold.{NameSameMembers, SafeIsSafe, ToldIsHeld}
-use Rattle.ring_chain_proof.proofs.SafeTold.{unformed_told}
-use Rattle.ring_chain_proof.proofs.TakingPart.{unformed_same_members}
-use Rattle.ring_chain_proof.proofs.Tells.{unformed_held}
+use Rattle.ring_synchrony_proof.specs.Chains.{NameSameMembers, SafeIsSafe, ToldIsHeld}
+use Rattle.ring_synchrony_proof.proofs.Chains.{unformed_told, unformed_same_members, unformed_held}
 use Rattle.ring_synchrony_proof.proofs.Installed.{all_synchronous}
 use Rattle.ring_synchrony_proof.specs.Synchrony.{IsVirtuallySynchronous}
 use Rattle.ring_order_proof.specs.Projection.{ring_part}

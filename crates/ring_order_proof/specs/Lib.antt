@@ -10,3 +10,4 @@ pub mod Linear
 pub mod Done
 pub mod NodeFits
 pub mod Counts
+pub mod Limits

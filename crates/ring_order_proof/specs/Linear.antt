@@ -9,7 +9,7 @@ use Rattle.ring_base.specs.declared.ring_id.RingId.{RingId}
 use Rattle.ring_object.specs.Operations.{Sequential, content_after}
 use Rattle.ring_payload.specs.declared.call.Call.{Call}
 use Rattle.ring_wire.specs.declared.message.Message.{Message}
-use Rattle.ring_token.specs.Rounds.{IsSafeIn}
+use Rattle.ring_core.specs.Tokens.{IsSafeIn}
 use Rattle.ring_core.specs.Views.{front}
 use Rattle.ring_log.specs.Stays.{Stay}
 use Rattle.ring_log.specs.Lives.{Whole, upto, exchanged, log_of, committed_of, base_of, ring_log, keeps_committed}

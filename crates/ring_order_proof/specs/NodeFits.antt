@@ -2,7 +2,7 @@
 -- Limits, rule 1 of docs/PROTOCOL.md.
 use Rattle.std.specs.Prelude.{◌≡◌, ℕ, ◌≤◌, false, List, [], ◌∷◌}
 use Rattle.std.specs.List.{AllByRecursion as Each}
-use Rattle.ring_layout.specs.Rings.{RingFits}
+use Rattle.ring_wire.specs.Rings.{RingFits}
 use Rattle.ring_payload.specs.Calls.{CallFits}
 use Rattle.ring_payload.specs.Payloads.{PayloadFits}
 use Rattle.ring_wire.specs.Frames.{FrameFits}

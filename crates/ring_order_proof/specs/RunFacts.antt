@@ -3,7 +3,7 @@
 use Rattle.std.specs.Prelude.{◌≡◌, ℕ, ◌⊎◌, List, []}
 use Rattle.ring_base.specs.declared.ring_id.RingId.{RingId}
 use Rattle.ring_wire.specs.declared.message.Message.{Message}
-use Rattle.ring_token.specs.Rounds.{IsSafeIn}
+use Rattle.ring_core.specs.Tokens.{IsSafeIn}
 use Rattle.ring_core.specs.Views.{front}
 use Rattle.ring_log.specs.Lives.{upto}
 use Rattle.ring_rules.specs.Worlds.{World}

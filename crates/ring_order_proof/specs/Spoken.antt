@@ -4,7 +4,7 @@ use Rattle.std.specs.List.{flat_map}
 use Rattle.ring_base.specs.declared.ring_id.RingId.{RingId}
 use Rattle.ring_payload.specs.declared.content.Payload.{Payload}
 use Rattle.ring_payload.specs.Kinds.{is_user, units}
-use Rattle.ring_token.specs.Turns.{Turn, turns_of}
+use Rattle.ring_core.specs.Tokens.{Turn, turns_of}
 use Rattle.ring_core.specs.State.{Core}
 
 -- the users' payloads of a visit, a Pack as its calls

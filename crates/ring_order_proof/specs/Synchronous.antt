@@ -4,7 +4,7 @@ use Rattle.ring_base.specs.Group.{Group}
 use Rattle.ring_object.specs.Operations.{Sequential}
 use Rattle.ring_rules.specs.declared.event.Event.{Event}
 use Rattle.ring_rules.specs.Worlds.{World, world_opening, run}
-use Rattle.ring_chain_proof.specs.ChainTold.{NameSameMembers, SafeIsSafe, ToldIsHeld}
+use Rattle.ring_synchrony_proof.specs.Chains.{NameSameMembers, SafeIsSafe, ToldIsHeld}
 use Rattle.ring_core_proof.specs.Worlds.{World as RingWorld}
 use Rattle.ring_order_proof.specs.Projection.{IsProjected, ring_part, share_of}
 use Rattle.ring_synchrony_proof.specs.Synchrony.{IsVirtuallySynchronous}

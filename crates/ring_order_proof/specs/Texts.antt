@@ -6,8 +6,7 @@ use Rattle.ring_base.specs.Fronts.{IsFront}
 use Rattle.ring_base.specs.declared.ring_id.RingId.{RingId}
 use Rattle.ring_payload.specs.Kinds.{is_user}
 use Rattle.ring_wire.specs.declared.message.Message.{Message}
-use Rattle.ring_token.specs.Turns.{Turn}
-use Rattle.ring_token.specs.Visits.{numbered}
+use Rattle.ring_core.specs.Tokens.{Turn, numbered}
 use Rattle.ring_core.specs.State.{Core}
 use Rattle.ring_core.specs.Views.{front}
 use Rattle.ring_core.specs.Giving.{users}

@@ -1,2 +1,4 @@
 -- Packing: What a queue's messages are: unpacked, they and what is left are the queue; each run is the longest that fits one Pack.
+-- Writes: How bytes are written one after another, passed on to frames.
 pub mod Packing
+pub mod Writes

@@ -10,3 +10,4 @@ pub mod Payloads
 pub mod Snaps
 pub mod Versions
 pub mod Packing
+pub mod Layouts

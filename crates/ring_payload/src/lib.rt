@@ -20,4 +20,7 @@ pub use content::{Content, Payload, Wrapped};
 pub use head::Head;
 pub use operation::{MOST_OPERATION, Operation};
 pub use piece::Piece;
+pub use ring_layout::{
+    Decode, Encode, Reader, Words, read_in_place, read_sized, write_many, write_sized,
+};
 pub use snap::{MOST_SNAPSHOT, Snap, WHOLE_PIECE};

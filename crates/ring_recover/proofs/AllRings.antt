@@ -5,8 +5,7 @@ use Rattle.std.specs.List.{list_all}
 use Rattle.ring_base.specs.Numbers.{numbers_from}
 use Rattle.ring_base.specs.Rings.{same_ring}
 use Rattle.ring_base.specs.declared.ring_id.RingId.{RingId}
-use Rattle.ring_payload.specs.Kinds.{is_user, payload_of}
-use Rattle.ring_payload.specs.declared.content.Wrapped.{Wrapped as WrappedMessage}
+use Rattle.ring_window.specs.Payloads.{is_user, payload_of, Wrapped as WrappedMessage}
 use Rattle.ring_window.specs.Messages.{Message}
 use Rattle.ring_window.specs.Held.{found, holds, of_ring, highest, front_of}
 use Rattle.ring_window.proofs.OfRing.{highest_of_ring, front_of_ring, is_new_of_ring, all_of_ring, all_found}

@@ -11,9 +11,8 @@ use Rattle.ring_base.specs.Numbers.{greatest}
 use Rattle.ring_base.specs.Processors.{IsProc, IsMember, has, elements}
 use Rattle.ring_base.specs.Members.{has_member, member_had}
 use Rattle.ring_base.specs.Elements.{elements_members}
-use Rattle.ring_payload.specs.Kinds.{is_user, is_end}
-use Rattle.ring_payload.specs.declared.content.Payload.{Payload}
-use Rattle.ring_payload.specs.declared.content.Payload.TheVariants.{Call, Wrapped, End, Head, Part, Pack, Snap}
+use Rattle.ring_window.specs.Payloads.{is_user, is_end, Payload}
+use Rattle.ring_window.specs.PayloadVariants.{Call, Wrapped, End, Head, Part, Pack, Snap}
 use Rattle.ring_window.specs.Messages.{Message}
 use Rattle.ring_recover.specs.Installing.{ends, has_end_of, has_user, all_ended, is_covered, is_ready_by}
 use Rattle.ring_recover.specs.Ending.{IsCounted}

@@ -12,7 +12,7 @@ use Rattle.ring_commit.specs.Tokens.{CommitEntry}
 use Rattle.ring_window.specs.Messages.{Message}
 use Rattle.ring_window.specs.Held.{found, holds, front_of}
 use Rattle.ring_commit.specs.Reports.{is_sound}
-use Rattle.ring_payload.specs.Kinds.{is_user}
+use Rattle.ring_window.specs.Payloads.{is_user}
 use Rattle.ring_window.proofs.Finding.{holds-found}
 use Rattle.ring_recover.specs.Plans.{Plan, plan_of, plan_if_sound, plan_from, safe, gap, known_above_safe}
 use Rattle.ring_recover.specs.Deliveries.{is_complete, is_from_mate, transitional_part, past_gap_part, finish, rests, SameText}

@@ -10,6 +10,8 @@
 --   same of both.
 -- RecoverySends: What a node in Recovery sends of its old ring: the first of it is what `to_wrap` names, and once a message that wraps that is seen, the
 --   others are left.
+-- Commits: What a commit token reports, passed on to the ring core.
+-- Windows: What a window holds, and its bits, passed on to the ring core.
 pub mod Finishing
 pub mod NumbersPassing
 pub mod Gaps
@@ -20,3 +22,5 @@ pub mod EndsCounted
 pub mod Following
 pub mod AllRings
 pub mod RecoverySends
+pub mod Commits
+pub mod Windows

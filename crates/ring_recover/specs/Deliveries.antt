@@ -7,7 +7,7 @@ use Rattle.ring_base.specs.declared.ring_id.RingId.{RingId}
 use Rattle.ring_window.specs.Messages.{Message}
 use Rattle.ring_window.specs.Held.{found, holds, front_of}
 use Rattle.ring_recover.specs.declared.delivery.Delivery.{Delivery}
-use Rattle.ring_payload.specs.Kinds.{is_user}
+use Rattle.ring_window.specs.Payloads.{is_user}
 use Rattle.ring_recover.specs.Plans.{Plan, safe, least_mark, gap, known_above_safe}
 
 -- all that one of those from the old ring holds is held: up to the greatest safe mark, and above it

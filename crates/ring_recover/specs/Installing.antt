@@ -7,7 +7,7 @@ use Rattle.ring_base.specs.Processors.{elements}
 use Rattle.ring_base.specs.declared.ring_id.RingId.{RingId}
 use Rattle.ring_window.specs.Messages.{Message}
 use Rattle.ring_window.specs.Held.{found, front_of}
-use Rattle.ring_payload.specs.Kinds.{is_user, is_end}
+use Rattle.ring_window.specs.Payloads.{is_user, is_end}
 
 -- the ring's messages in the front, ascending
 abbrev pub in_front : {A : Type 0} → List (Message A) → RingId → List (Message A)

@@ -4,7 +4,7 @@ use Rattle.std.specs.Prelude.{◌≡◌, ℕ, ◌+◌, ◌<◌, ◌≤◌, Bool,
 use Rattle.std.specs.Option.{option_map}
 use Rattle.ring_base.specs.Processors.{has, size, position_of}
 use Rattle.ring_base.specs.declared.ring_id.RingId.{RingId}
-use Rattle.ring_payload.specs.Kinds.{is_user}
+use Rattle.ring_window.specs.Payloads.{is_user}
 use Rattle.ring_commit.specs.Tokens.{CommitToken}
 use Rattle.ring_commit.specs.Tokens.{CommitEntry}
 use Rattle.ring_window.specs.Messages.{Message}

@@ -4,13 +4,10 @@ use Rattle.std.specs.List.{list_any}
 use Rattle.ring_base.specs.Rings.{same_ring}
 use Rattle.ring_base.specs.Numbers.{numbers_from}
 use Rattle.ring_base.specs.declared.ring_id.RingId.{RingId}
-use Rattle.ring_payload.specs.declared.content.Content.{Content}
-use Rattle.ring_payload.specs.declared.content.Payload.{Payload}
-use Rattle.ring_payload.specs.declared.content.Payload.TheVariants.{Call, Wrapped, End, Head, Part, Pack, Snap}
-use Rattle.ring_payload.specs.declared.content.Wrapped.{Wrapped as WrappedMessage}
+use Rattle.ring_window.specs.Payloads.{Content, Payload, Wrapped as WrappedMessage, is_end, payload_of, content_of}
+use Rattle.ring_window.specs.PayloadVariants.{Call, Wrapped, End, Head, Part, Pack, Snap}
 use Rattle.ring_window.specs.Messages.{Message}
 use Rattle.ring_window.specs.Held.{found, of_ring, highest, is_new}
-use Rattle.ring_payload.specs.Kinds.{is_end, payload_of, content_of}
 use Rattle.ring_recover.specs.Plans.{Plan, low}
 
 -- the payload wraps this number of the old ring

@@ -1,9 +1,9 @@
 //! Whose messages they are.
 
 ghost use Rattle.std.specs.Prelude.{◌≡◌};
-ghost use Rattle.ring_payload.specs.Kinds.{is_user, is_end};
+ghost use Rattle.ring_window.specs.Payloads.{is_user, is_end};
 
-use ring_payload::Payload;
+use ring_window::Payload;
 use std::alloc::Allocator;
 
 /// Whether the payload is a user's: what clients and the log hand over, and not what recovery sends for itself.

@@ -20,5 +20,6 @@ pub use kinds::is_user;
 pub use laws::{finish_law, plan_law};
 pub use numbers::{Numbers, NumbersLeft};
 pub use plan::{Plan, Plans};
+pub use ring_window::{bits_law, front_law};
 pub use unwrapping::unwrap;
 pub use wrapping::wrap;

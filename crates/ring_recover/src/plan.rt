@@ -22,8 +22,7 @@ use crate::reports::{
 };
 use ring_base::{Past, Proc, ProcSet, RingId, WINDOW, past_of};
 use ring_commit::CommitToken;
-use ring_payload::Payload;
-use ring_window::{Message, Window};
+use ring_window::{Message, Payload, Window};
 use std::alloc::{AllocError, Allocator, Global};
 use std::marker::Model;
 

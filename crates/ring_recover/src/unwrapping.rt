@@ -3,13 +3,12 @@
 ghost use Rattle.std.specs.Prelude.{◌≡◌, ◌&&◌, ◌++◌, IfOk, IfErr, OnOk, OnErr};
 ghost use Rattle.ring_base.specs.Rings.{same_ring};
 ghost use Rattle.ring_base.specs.declared.fault.Fault.TheVariants.{Memory};
-ghost use Rattle.ring_payload.specs.Kinds.{payload_of};
+ghost use Rattle.ring_window.specs.Payloads.{payload_of};
 ghost use Rattle.ring_window.specs.Held.{is_new};
 ghost use Rattle.ring_recover.specs.Wrapping.{inner_if_new};
 
 use ring_base::Fault;
-use ring_payload::{Content, Payload, Wrapped};
-use ring_window::{Message, Window};
+use ring_window::{Content, Message, Payload, Window, Wrapped};
 use std::alloc::Allocator;
 
 /// Holds the inner message, and answers true, where it is of the window's ring and new there. The copy of what

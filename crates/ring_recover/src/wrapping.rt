@@ -2,12 +2,11 @@
 
 ghost use Rattle.std.specs.Prelude.{◌≡◌, IfOk, IfErr};
 ghost use Rattle.ring_base.specs.declared.fault.Fault.TheVariants.{Memory};
-ghost use Rattle.ring_payload.specs.Kinds.{content_of};
+ghost use Rattle.ring_window.specs.Payloads.{content_of};
 ghost use Rattle.ring_recover.specs.Wrapping.{wrap};
 
 use ring_base::Fault;
-use ring_payload::{Content, Payload, Wrapped};
-use ring_window::Message;
+use ring_window::{Content, Message, Payload, Wrapped};
 use std::alloc::Allocator;
 
 /// A users' message of the old ring as a payload of the new one, and nothing for any other. The copy of what it

@@ -5,8 +5,8 @@ use Rattle.std.proofs.lemmas.List.Elements.{All-head, All-tail}
 use Rattle.std.proofs.lemmas.Option.{slice_get_within, get_or_from_slice_get}
 use Rattle.ring_base.specs.Fronts.{IsFront, front_get, front_append}
 use Rattle.ring_base.proofs.ListPlaces.{get-push}
-use Rattle.ring_object.specs.Operations.{Sequential}
-use Rattle.ring_payload.specs.declared.call.Call.{Call}
+use Rattle.ring_session.specs.Objects.{Sequential}
+use Rattle.ring_core.specs.Payloads.{Call}
 use Rattle.ring_session.specs.Deduplicated.{StandsAt, IsNumbered}
 use Rattle.ring_session.specs.SessionAnswer.{IsReplyIn}
 use Rattle.ring_session.specs.SessionAnswerLaws.{replied_front}

@@ -1,6 +1,6 @@
 -- A submit commits nothing, and a node that has stopped stays as it is when it stops again.
 use Rattle.std.proofs.Common.{◌≡◌, true, refl, ap}
-use Rattle.ring_payload.specs.declared.call.Call.{Call}
+use Rattle.ring_core.specs.Payloads.{Call}
 use Rattle.ring_rules.specs.Nodes.{Node, node_committed, is_stopped, node_stopped}
 use Rattle.ring_rules.specs.Stepping.{due_by_submit, submitted}
 use Rattle.ring_log.proofs.CommittedOf.{hands-kept}

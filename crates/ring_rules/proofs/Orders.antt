@@ -4,8 +4,8 @@ use Rattle.std.proofs.Common.{slice_get, All, refl, ap, sym, subst, arith, inl, 
 use Rattle.std.proofs.lemmas.Bool.Decides.{nat_tests}
 use Rattle.std.proofs.lemmas.List.Elements.{All-nil, All-cons, All-head, All-tail, All-replicate, All-weaker}
 use Rattle.ring_base.specs.Fronts.{IsFront, front_self, front_trans, front_shorter, front_length}
-use Rattle.ring_object.specs.Operations.{Sequential}
-use Rattle.ring_payload.specs.declared.call.Call.{Call}
+use Rattle.ring_session.specs.Objects.{Sequential}
+use Rattle.ring_core.specs.Payloads.{Call}
 use Rattle.ring_session.specs.Deduplicated.{deduplicated, IsNumbered}
 use Rattle.ring_session.specs.DeduplicatedLaws.{deduplicated-front, deduplicated-numbered, deduplicated-stands}
 use Rattle.ring_session.specs.SessionAnswer.{IsReplyIn}

@@ -1,6 +1,6 @@
 -- Payloads that are handed to a core of which no installation is due change its queue alone.
 use Rattle.std.proofs.Common.{◌≡◌, false, List, [], ◌∷◌, refl, ap, ◌∙◌}
-use Rattle.ring_payload.specs.declared.content.Payload.{Payload}
+use Rattle.ring_core.specs.Payloads.{Payload}
 use Rattle.ring_core.specs.State.{Core, Stepped}
 use Rattle.ring_core.specs.Giving.{may_install}
 use Rattle.ring_core.proofs.Quiet.{queued, quiet_send}

@@ -5,13 +5,11 @@ use Rattle.std.specs.List.{list_any}
 use Rattle.ring_base.specs.Group.{Group, is_primary}
 use Rattle.ring_base.specs.Processors.{nobody}
 use Rattle.ring_base.specs.declared.ring_id.RingId.{RingId}
-use Rattle.ring_payload.specs.Limits.{most_snapshot}
-use Rattle.ring_payload.specs.declared.call.Call.{Call as OneCall}
-use Rattle.ring_payload.specs.declared.content.Payload.{Payload}
-use Rattle.ring_payload.specs.declared.content.Payload.TheVariants.{Call, Head, Part, Snap}
-use Rattle.ring_object.specs.Operations.{Sequential}
+use Rattle.ring_core.specs.Payloads.{most_snapshot, Call as OneCall, Payload}
+use Rattle.ring_core.specs.PayloadVariants.{Call, Head, Part, Snap}
+use Rattle.ring_session.specs.Objects.{Sequential}
 use Rattle.ring_session.specs.SessionAnswer.{is_same}
-use Rattle.ring_wire.specs.declared.message.Message.{Message}
+use Rattle.ring_core.specs.Frames.{Message}
 use Rattle.ring_core.specs.State.{Core}
 use Rattle.ring_core.specs.declared.out.Out.{Out}
 use Rattle.ring_core.specs.declared.out.Out.TheVariants.{Send, Agreed, Safe, Trans, Rest, Regular}

@@ -1,5 +1,5 @@
 -- What keeps the limits of frames, of what comes to a node: a frame that does has a spelling. Limits, rule 1 of docs/PROTOCOL.md.
-use Rattle.ring_wire.specs.Frames.{FrameFits}
+use Rattle.ring_core.specs.Frames.{FrameFits}
 use Rattle.ring_rules.specs.declared.input.Input.{Input}
 use Rattle.ring_rules.specs.declared.input.Input.TheVariants.{Frame, Noise, Timeout, Stop}
 

@@ -5,8 +5,8 @@ use Rattle.std.specs.Prelude.{is_some, List, [], ◌∷◌, take, fold, Option, 
 use Rattle.ring_base.specs.Group.{Group, is_primary}
 use Rattle.ring_base.specs.Rings.{same_ring}
 use Rattle.ring_base.specs.declared.ring_id.RingId.{RingId}
-use Rattle.ring_object.specs.Operations.{Sequential}
-use Rattle.ring_payload.specs.declared.call.Call.{Call}
+use Rattle.ring_session.specs.Objects.{Sequential}
+use Rattle.ring_core.specs.Payloads.{Call}
 use Rattle.ring_session.specs.declared.answer.Answer.{Answer}
 use Rattle.ring_core.specs.Joining.{is_operational}
 use Rattle.ring_core.specs.State.{Core, opening, halted}

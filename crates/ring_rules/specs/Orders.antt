@@ -2,8 +2,8 @@
 -- Sessions, of docs/PROTOCOL.md.
 use Rattle.std.specs.Prelude.{◌≡◌, ℕ, nat_lt, List, [], ◌∷◌, ◌++◌, length, All, Some, slice_get, replicate, if◌then◌else◌, ◌⊎◌}
 use Rattle.ring_base.specs.Fronts.{IsFront}
-use Rattle.ring_object.specs.Operations.{Sequential}
-use Rattle.ring_payload.specs.declared.call.Call.{Call}
+use Rattle.ring_session.specs.Objects.{Sequential}
+use Rattle.ring_core.specs.Payloads.{Call}
 use Rattle.ring_session.specs.declared.answer.Answer.{Answer}
 use Rattle.ring_session.specs.Deduplicated.{deduplicated, StandsAt}
 use Rattle.ring_session.specs.SessionAnswer.{reply_in, session_answer}

@@ -4,16 +4,14 @@ use Rattle.std.specs.Prelude.{List, [], ◌∷◌, ◌++◌, map, filter_map, le
 use Rattle.ring_base.specs.Numbers.{max_number}
 use Rattle.ring_base.specs.declared.fault.Fault.{Fault}
 use Rattle.ring_base.specs.declared.fault.Fault.TheVariants.{PendingFull, Stopped as StoppedFault}
-use Rattle.ring_object.specs.Operations.{Sequential}
-use Rattle.ring_payload.specs.declared.call.Call.{Call as OneCall}
-use Rattle.ring_payload.specs.declared.content.Payload.{Payload}
-use Rattle.ring_payload.specs.declared.content.Payload.TheVariants.{Call}
+use Rattle.ring_session.specs.Objects.{Sequential}
+use Rattle.ring_core.specs.Payloads.{Call as OneCall, Payload, most_snapshot}
+use Rattle.ring_core.specs.PayloadVariants.{Call}
 use Rattle.ring_core.specs.declared.input.Input.TheVariants.{Frame as FrameInput, Timeout as TimeInput, Send as SendInput}
 use Rattle.ring_core.specs.declared.out.Out.{Out}
 pub use Rattle.ring_core.specs.Giving.{send_of}
 use Rattle.ring_core.specs.State.{Core, Sent, Stepped}
 use Rattle.ring_core.specs.Stepping.{ring_step, after_inputs}
-use Rattle.ring_payload.specs.Limits.{most_snapshot}
 use Rattle.ring_log.specs.Kept.{Kept, kept_of, log_kept, is_kept_sound}
 use Rattle.ring_log.specs.Logs.{committed_calls, is_ripe}
 use Rattle.ring_log.specs.Stays.{Stay, hands, trims}

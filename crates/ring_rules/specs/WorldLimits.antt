@@ -1,5 +1,5 @@
 -- What keeps the limits of frames, of what happens to a world: a call that does has a spelling. Limits, rule 1 of docs/PROTOCOL.md.
-use Rattle.ring_payload.specs.Calls.{CallFits}
+use Rattle.ring_core.specs.Payloads.{CallFits}
 use Rattle.ring_rules.specs.declared.event.Event.{Event}
 use Rattle.ring_rules.specs.declared.event.Event.TheVariants.{Issue, Deliver, Noise, Timeout, Stop}
 

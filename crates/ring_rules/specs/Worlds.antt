@@ -6,10 +6,10 @@ use Rattle.ring_base.specs.Group.{Group}
 use Rattle.ring_base.specs.Numbers.{numbers_from}
 use Rattle.ring_base.specs.Processors.{has}
 use Rattle.ring_base.specs.declared.fault.Fault.{Fault}
-use Rattle.ring_object.specs.Operations.{Sequential}
-use Rattle.ring_payload.specs.declared.call.Call.{Call}
+use Rattle.ring_session.specs.Objects.{Sequential}
+use Rattle.ring_core.specs.Payloads.{Call}
 use Rattle.ring_session.specs.SessionAnswer.{reply_in}
-use Rattle.ring_wire.specs.declared.frame.Frame.{Frame}
+use Rattle.ring_core.specs.Frames.{Frame}
 use Rattle.ring_core.specs.State.{Sent, Carried, frame_at}
 use Rattle.ring_rules.specs.Stepping.{Answered}
 use Rattle.ring_rules.specs.declared.input.Input.{Input}

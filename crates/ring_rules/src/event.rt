@@ -2,7 +2,7 @@
 
 use crate::noise::Noise;
 use ring_base::{Kind, Proc};
-use ring_payload::Call;
+use ring_core::Call;
 use std::alloc::{Allocator, Global};
 
 /// What happens next in a world of nodes. An event of a processor that is none of the group's changes nothing.

@@ -1,7 +1,7 @@
 //! What a node is given.
 
 use ring_base::Kind;
-use ring_wire::Frame;
+use ring_core::Frame;
 use std::alloc::{Allocator, Global};
 
 /// An input of a node.

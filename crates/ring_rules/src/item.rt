@@ -1,7 +1,7 @@
 //! What a history is made of.
 
-use ring_object::Reply;
-use ring_payload::Call;
+use ring_core::Call;
+use ring_session::Reply;
 use std::alloc::{Allocator, Global};
 
 /// An event that a client sees. A history is a list of them, in the order in which they happened.

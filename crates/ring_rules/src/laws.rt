@@ -2,7 +2,7 @@
 
 ghost use Rattle.std.specs.Prelude.{◌≡◌, ℕ, List, [], ◌∷◌, ◌++◌, Some, slice_get};
 ghost use Rattle.ring_base.specs.Fronts.{IsFront};
-ghost use Rattle.ring_payload.specs.declared.call.Call.{Call};
+ghost use Rattle.ring_core.specs.Payloads.{Call};
 ghost use Rattle.ring_session.specs.Deduplicated.{deduplicated, StandsAt, IsNumbered};
 ghost use Rattle.ring_session.specs.SessionAnswer.{IsReplyIn};
 ghost use Rattle.ring_rules.specs.declared.item.Item.{Item};
@@ -10,7 +10,7 @@ ghost use Rattle.ring_rules.specs.declared.item.Item.TheVariants.{Issue, Reply a
 ghost use Rattle.ring_rules.specs.Histories.{AreIssued, IsLinearization};
 ghost use Rattle.ring_rules.specs.Orders.{Moment, order_of, opening, last_moment, IsOrderStep, IsOrderRun};
 
-use ring_object::Object;
+use ring_session::Object;
 
 /// Law, for every object. The empty order explains the empty history. An order that explains a history goes on doing so
 /// when calls that were issued are added at its end, when a call is issued, and when a call of the order is replied with

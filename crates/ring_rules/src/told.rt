@@ -1,7 +1,7 @@
 //! What nodes tell.
 
 use ring_base::Proc;
-use ring_payload::Call;
+use ring_core::Call;
 use ring_session::Answer;
 use std::alloc::{Allocator, Global};
 

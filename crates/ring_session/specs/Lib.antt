@@ -12,3 +12,4 @@ pub mod Pendings
 pub mod Buckets
 pub mod Snapshots
 pub mod SnapshotsLaws
+pub mod Objects

@@ -27,6 +27,7 @@ pub use effects::{Effects, effects_of};
 pub use laws::{deduplicated_law, session_law, snapshot_law, table_law};
 pub use pending::Pending;
 pub use recent::Recent;
+pub use ring_object::{Object, Reply};
 pub use sessions::Sessions;
 pub use ticket::Ticket;
 pub use ticket_laws::tickets_law;

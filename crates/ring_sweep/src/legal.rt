@@ -7,8 +7,7 @@ ghost use Rattle.ring_session.specs.Deduplicated.{deduplicated};
 ghost use Rattle.ring_sweep.specs.Legal.{IsLegal, AreFronts};
 
 use ring_base::{Fault, Proc};
-use ring_checker::is_linearization;
-use ring_console::World;
+use ring_console::{World, is_linearization};
 use ring_object::Object;
 use ring_payload::Call;
 use ring_session::effects_of;

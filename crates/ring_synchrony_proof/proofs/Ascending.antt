@@ -8,9 +8,8 @@ use Rattle.ring_base.specs.declared.ring_id.RingId.{RingId}
 use Rattle.ring_base.proofs.Each.{each-weaker, each-append, each-filter, each-filter_map}
 use Rattle.ring_payload.specs.Kinds.{is_user}
 use Rattle.ring_wire.specs.declared.message.Message.{Message}
-use Rattle.ring_window.specs.Held.{found}
-use Rattle.ring_recover.specs.Plans.{Plan, safe, is_known, gap, known_above_safe}
-use Rattle.ring_recover.specs.Deliveries.{is_from_mate, transitional_part, past_gap_part, rests}
+use Rattle.ring_core.specs.Windows.{found}
+use Rattle.ring_core.specs.Recoveries.{Plan, safe, is_known, gap, known_above_safe, is_from_mate, transitional_part, past_gap_part, rests}
 use Rattle.ring_core_proof.proofs.InLists.{each-in, numbers-above, in-filtered}
 use Rattle.ring_synchrony_proof.specs.Synchrony.{IsBefore, Ascend}
 use Rattle.ring_synchrony_proof.proofs.LivesTold.{heard}

@@ -18,19 +18,12 @@ use Rattle.ring_payload.specs.declared.content.Wrapped.{Wrapped as WrappedMessag
 use Rattle.ring_wire.specs.declared.commit.CommitToken.{CommitToken}
 use Rattle.ring_wire.specs.declared.entries.CommitEntry.{CommitEntry}
 use Rattle.ring_wire.specs.declared.message.Message.{Message}
-use Rattle.ring_window.specs.Held.{holds, front_of}
-use Rattle.ring_window.proofs.HeldFront.{front_is}
-use Rattle.ring_window.proofs.Finding.{holds-found}
+use Rattle.ring_core.specs.Windows.{holds, front_of}
+use Rattle.ring_core.proofs.Windows.{front_is, holds-found}
 use Rattle.ring_base.proofs.SameRing.{ring_same, same-self}
-use Rattle.ring_token.specs.Turns.{Turn}
-use Rattle.ring_token.specs.Rounds.{VisitBy, AreVisits}
-use Rattle.ring_token.specs.Visits.{numbered}
-use Rattle.ring_commit.specs.Reports.{reports_of}
-use Rattle.ring_commit.specs.declared.configuration.Configuration.{Configuration}
-use Rattle.ring_recover.specs.Plans.{Plan, plan_of, safe, low, least, is_reported, is_known, known_above_safe}
-use Rattle.ring_recover.specs.Deliveries.{is_complete}
-use Rattle.ring_recover.specs.Installing.{is_ready}
-use Rattle.ring_recover.specs.Wrapping.{is_wrap_of}
+use Rattle.ring_core.specs.Tokens.{Turn, VisitBy, AreVisits, numbered}
+use Rattle.ring_core.specs.Commits.{reports_of, Configuration}
+use Rattle.ring_core.specs.Recoveries.{Plan, plan_of, safe, low, least, is_reported, is_known, known_above_safe, is_complete, is_ready, is_wrap_of}
 use Rattle.ring_core.specs.State.{Core, Report}
 use Rattle.ring_core.specs.Views.{front, mark, plan}
 use Rattle.ring_core_proof.specs.FactWords.{IsIn, SomeIs}

@@ -20,7 +20,7 @@ use Rattle.ring_payload.specs.declared.content.Payload.{Payload}
 use Rattle.ring_payload.specs.declared.content.Payload.TheVariants.{Call, Wrapped, End, Head, Part, Pack, Snap}
 use Rattle.ring_payload.specs.declared.content.Wrapped.{Wrapped as WrappedMessage}
 use Rattle.ring_wire.specs.declared.message.Message.{Message}
-use Rattle.ring_commit.specs.declared.configuration.Configuration.{Configuration}
+use Rattle.ring_core.specs.Commits.{Configuration}
 use Rattle.ring_log.specs.Logs.{same_call}
 use Rattle.ring_synchrony_proof.specs.Same.{same_calls, same_last, same_head, same_part, same_snap, same_content, same_wrapped, same_payload, same_message}
 use Rattle.ring_synchrony_proof.specs.Same.{same_messages}

@@ -12,8 +12,8 @@ use Rattle.ring_base.proofs.SameRing.{ring_same, same-self}
 use Rattle.ring_wire.specs.declared.commit.CommitToken.{CommitToken}
 use Rattle.ring_wire.specs.declared.entries.CommitEntry.{CommitEntry}
 use Rattle.ring_wire.specs.declared.frame.Frame.{Frame}
-use Rattle.ring_commit.specs.declared.configuration.Configuration.{Configuration}
-use Rattle.ring_recover.specs.Plans.{plan_of, mates_among}
+use Rattle.ring_core.specs.Commits.{Configuration}
+use Rattle.ring_core.specs.Recoveries.{plan_of, mates_among}
 use Rattle.ring_core.specs.State.{Core, Report, floor, opening}
 use Rattle.ring_core_proof.specs.FactWords.{IsIn}
 use Rattle.ring_core_proof.specs.Local.{IsRingAmong, IsOnTheWay}

@@ -11,10 +11,9 @@ use Rattle.ring_payload.specs.declared.content.Payload.{Payload}
 use Rattle.ring_wire.specs.declared.frame.Frame.{Frame}
 use Rattle.ring_wire.specs.declared.message.Message.{Message}
 use Rattle.ring_wire.specs.declared.token.Token.{Token}
-use Rattle.ring_window.specs.Held.{found}
-use Rattle.ring_token.specs.Visits.{numbered}
-use Rattle.ring_recover.specs.Plans.{Plan, plan_of, low, is_reported}
-use Rattle.ring_recover.specs.Wrapping.{is_wrap_of}
+use Rattle.ring_core.specs.Windows.{found}
+use Rattle.ring_core.specs.Tokens.{numbered}
+use Rattle.ring_core.specs.Recoveries.{Plan, plan_of, low, is_reported, is_wrap_of}
 use Rattle.ring_core.specs.State.{Core}
 use Rattle.ring_core.specs.Views.{plan}
 use Rattle.ring_core_proof.specs.FactWords.{IsIn, SomeIs}
@@ -24,7 +23,7 @@ use Rattle.ring_core_proof.proofs.WrapsAndEnd.{seen_of}
 use Rattle.ring_core_proof.proofs.OwnMessages.{held_stays}
 use Rattle.ring_chain_proof.proofs.FactsGrow.{moved_grows}
 use Rattle.ring_chain_proof.proofs.OneText.{numbered_in}
-use Rattle.ring_window.proofs.Finding.{holds-found}
+use Rattle.ring_core.proofs.Windows.{holds-found}
 use Rattle.ring_synchrony_proof.proofs.Heard.{found_as}
 use Rattle.ring_synchrony_proof.specs.Ends.{IsHandedBefore, HasHandedOn, EndsBehindWraps}
 use Rattle.ring_synchrony_proof.proofs.Sent.{numbered-left, held_under, end_last, all_users, end_no_user}

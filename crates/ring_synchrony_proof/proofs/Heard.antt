@@ -12,10 +12,10 @@ use Rattle.ring_base.specs.declared.ring_id.RingId.{RingId}
 use Rattle.ring_base.proofs.Each.{each-weaker, each-filter, each-filter_map}
 use Rattle.ring_payload.specs.Kinds.{is_user}
 use Rattle.ring_wire.specs.declared.message.Message.{Message}
-use Rattle.ring_window.specs.Held.{is_numbered, found}
+use Rattle.ring_core.specs.Windows.{is_numbered, found}
 use Rattle.ring_base.proofs.SameRing.{ring_same}
-use Rattle.ring_recover.specs.Plans.{Plan, safe, low, is_known, gap, known_above_safe}
-use Rattle.ring_recover.specs.Deliveries.{sent_by_mate, is_from_mate, transitional_part, past_gap_part, rests}
+use Rattle.ring_core.specs.Recoveries.{Plan, safe, low, is_known, gap, known_above_safe}
+use Rattle.ring_core.specs.Recoveries.{sent_by_mate, is_from_mate, transitional_part, past_gap_part, rests}
 use Rattle.ring_core_proof.specs.FactWords.{IsIn}
 use Rattle.ring_core_proof.proofs.InLists.{in-left, in-right, each-in, find-in, in-filter}
 use Rattle.ring_synchrony_proof.proofs.Quantified.{in_numbers, numbers_in}

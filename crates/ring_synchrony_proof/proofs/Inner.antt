@@ -20,12 +20,10 @@ use Rattle.ring_wire.specs.declared.frame.Frame.{Frame}
 use Rattle.ring_wire.specs.declared.frame.Frame.TheVariants.{Message as MessageFrame}
 use Rattle.ring_wire.specs.declared.message.Message.{Message}
 use Rattle.ring_wire.specs.declared.token.Token.{Token}
-use Rattle.ring_window.specs.Held.{holds, is_new}
-use Rattle.ring_window.proofs.HeldFront.{front_is}
-use Rattle.ring_window.proofs.Finding.{found-holds, holds-more}
-use Rattle.ring_token.specs.Visits.{numbered}
-use Rattle.ring_recover.specs.Plans.{safe, is_reported, is_known}
-use Rattle.ring_recover.specs.Wrapping.{unwrapped}
+use Rattle.ring_core.specs.Windows.{holds, is_new}
+use Rattle.ring_core.proofs.Windows.{front_is, found-holds, holds-more}
+use Rattle.ring_core.specs.Tokens.{numbered}
+use Rattle.ring_core.specs.Recoveries.{safe, is_reported, is_known, unwrapped}
 use Rattle.ring_core.specs.State.{Core, floor}
 use Rattle.ring_core.specs.Views.{front, mark}
 use Rattle.ring_core.specs.Acting.{gives_old, took}

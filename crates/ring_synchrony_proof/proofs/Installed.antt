@@ -11,11 +11,10 @@ use Rattle.ring_base.specs.declared.ring_id.RingId.{RingId}
 use Rattle.ring_payload.specs.Kinds.{is_user, is_end}
 use Rattle.ring_wire.specs.declared.frame.Frame.{Frame}
 use Rattle.ring_wire.specs.declared.message.Message.{Message}
-use Rattle.ring_window.specs.Held.{found}
-use Rattle.ring_window.proofs.HeldFront.{front_is}
-use Rattle.ring_window.proofs.Finding.{holds-found}
-use Rattle.ring_commit.specs.declared.configuration.Configuration.{Configuration}
-use Rattle.ring_recover.specs.Installing.{in_front, ends, has_end_of, all_ended, is_covered, has_user, is_ready}
+use Rattle.ring_core.specs.Windows.{found}
+use Rattle.ring_core.proofs.Windows.{front_is, holds-found}
+use Rattle.ring_core.specs.Commits.{Configuration}
+use Rattle.ring_core.specs.Recoveries.{in_front, ends, has_end_of, all_ended, is_covered, has_user, is_ready}
 use Rattle.ring_core.specs.State.{Core, opening, halted, frame_at}
 use Rattle.ring_core.specs.Stepping.{ring_step}
 use Rattle.ring_core.specs.Views.{front, mark}

@@ -14,13 +14,12 @@ use Rattle.ring_payload.specs.declared.content.Wrapped.{Wrapped as WrappedMessag
 use Rattle.ring_wire.specs.declared.frame.Frame.{Frame}
 use Rattle.ring_wire.specs.declared.message.Message.{Message}
 use Rattle.ring_wire.specs.declared.token.Token.{Token}
-use Rattle.ring_window.specs.Held.{is_numbered, found, holds, highest, front_of, is_new, in_window}
-use Rattle.ring_window.proofs.HeldFront.{highest_covers}
-use Rattle.ring_window.proofs.Finding.{holds-found, found-holds}
+use Rattle.ring_core.specs.Windows.{is_numbered, found, holds, highest, front_of, is_new, in_window}
+use Rattle.ring_core.proofs.Windows.{highest_covers, holds-found, found-holds}
 use Rattle.ring_base.proofs.SameRing.{ring_same, other_ring}
-use Rattle.ring_token.specs.Visits.{numbered}
-use Rattle.ring_token.proofs.SafeMark.{safe_mark-turn, safe_mark-raise}
-use Rattle.ring_recover.specs.Wrapping.{inner_if_new, unwrapped}
+use Rattle.ring_core.specs.Tokens.{numbered}
+use Rattle.ring_core.proofs.Tokens.{safe_mark-turn, safe_mark-raise}
+use Rattle.ring_core.specs.Recoveries.{inner_if_new, unwrapped}
 use Rattle.ring_core.specs.State.{Core, floor}
 use Rattle.ring_core.specs.Views.{front, mark, entries_for}
 use Rattle.ring_core.specs.Acting.{gives_old}

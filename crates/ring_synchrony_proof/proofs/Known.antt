@@ -12,15 +12,12 @@ use Rattle.ring_base.specs.Rings.{same_ring}
 use Rattle.ring_base.specs.declared.ring_id.RingId.{RingId}
 use Rattle.ring_wire.specs.Entries.{bit_of}
 use Rattle.ring_wire.specs.declared.entries.CommitEntry.{CommitEntry}
-use Rattle.ring_window.specs.Held.{holds, front_of}
-use Rattle.ring_window.specs.Bits.{held_bits}
-use Rattle.ring_window.proofs.Bits.{held_bit}
-use Rattle.ring_window.proofs.HeldFront.{front_is}
+use Rattle.ring_core.specs.Windows.{holds, front_of, held_bits}
+use Rattle.ring_core.proofs.Windows.{held_bit, front_is}
 use Rattle.ring_base.proofs.SameRing.{ring_same, same-self}
-use Rattle.ring_token.specs.Turns.{Turn, Raise, raised_to, safe_mark, mark_by, forwarded_in}
-use Rattle.ring_commit.specs.Reports.{same_entry, reports_of, safe_of, none_behind}
-use Rattle.ring_commit.specs.Rounds.{is_own}
-use Rattle.ring_recover.specs.Plans.{Plan, safe, low, least, is_reported, is_known}
+use Rattle.ring_core.specs.Tokens.{Turn, Raise, raised_to, safe_mark, mark_by, forwarded_in}
+use Rattle.ring_core.specs.Commits.{same_entry, reports_of, safe_of, none_behind, is_own}
+use Rattle.ring_core.specs.Recoveries.{Plan, safe, low, least, is_reported, is_known}
 use Rattle.ring_core.specs.State.{Core}
 use Rattle.ring_core.specs.Views.{front, mark, own_entry}
 use Rattle.ring_core_proof.specs.FactWords.{IsIn}

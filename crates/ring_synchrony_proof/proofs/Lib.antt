@@ -25,6 +25,7 @@
 -- Complete: Where every member's End of the running ring is within the front, all is held that one of the old ring's members reported.
 -- Ready: At the end of each step a ring that is ready is installed: in Recovery the step tried it last, and of the other rings nothing changed.
 -- Installed: In every run a ring that is ready is installed, and who holds a users' message within the front has installed the ring.
+-- Chains: What runs have by the chain of visits, passed on to the proof of the one order.
 pub mod EqualityTests
 pub mod Quantified
 pub mod FactsByTests
@@ -51,3 +52,4 @@ pub mod Order
 pub mod Complete
 pub mod Ready
 pub mod Installed
+pub mod Chains

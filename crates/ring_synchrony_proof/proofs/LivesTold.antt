@@ -15,12 +15,11 @@ use Rattle.ring_payload.specs.Kinds.{is_user}
 use Rattle.ring_wire.specs.declared.entries.CommitEntry.{CommitEntry}
 use Rattle.ring_wire.specs.declared.frame.Frame.{Frame}
 use Rattle.ring_wire.specs.declared.message.Message.{Message}
-use Rattle.ring_window.specs.Held.{is_numbered, found}
-use Rattle.ring_window.proofs.HeldFront.{front_is}
+use Rattle.ring_core.specs.Windows.{is_numbered, found}
+use Rattle.ring_core.proofs.Windows.{front_is}
 use Rattle.ring_base.proofs.SameRing.{ring_same, same-self}
-use Rattle.ring_commit.specs.declared.configuration.Configuration.{Configuration}
-use Rattle.ring_recover.specs.Plans.{Plan, plan_of, gap, known_above_safe}
-use Rattle.ring_recover.specs.Deliveries.{sent_by_mate, transitional_part, past_gap_part, rests}
+use Rattle.ring_core.specs.Commits.{Configuration}
+use Rattle.ring_core.specs.Recoveries.{Plan, plan_of, gap, known_above_safe, sent_by_mate, transitional_part, past_gap_part, rests}
 use Rattle.ring_core.specs.declared.input.Input.{Input}
 use Rattle.ring_core.specs.declared.out.Out.{Out}
 use Rattle.ring_core.specs.declared.out.Out.TheVariants.{Send as SendOut, Agreed, Safe, Trans, Rest, Regular}

@@ -10,10 +10,10 @@ use Rattle.ring_base.specs.Rings.{same_ring}
 use Rattle.ring_base.specs.declared.ring_id.RingId.{RingId}
 use Rattle.ring_base.proofs.Each.{each-filter}
 use Rattle.ring_wire.specs.declared.entries.CommitEntry.{CommitEntry}
-use Rattle.ring_recover.specs.Plans.{mates_among}
+use Rattle.ring_core.specs.Recoveries.{mates_among}
 use Rattle.ring_core_proof.specs.FactWords.{IsIn}
 use Rattle.ring_core_proof.proofs.InLists.{in-each, numbers-above}
-use Rattle.ring_recover.proofs.GatheredMates.{union_apart}
+use Rattle.ring_core.proofs.Recoveries.{union_apart}
 
 -- Ascending numbers
 

@@ -3,7 +3,7 @@ use Rattle.std.proofs.Common.{◌≡◌, ℕ, ◌<◌, ◌≤◌, ◌⊎◌, inl
 use Rattle.ring_base.specs.declared.state.State.{State}
 use Rattle.ring_base.specs.declared.state.State.TheVariants.{Gather, Commit, Recovery, Operational, Stopped}
 use Rattle.ring_wire.specs.declared.frame.Frame.{Frame}
-use Rattle.ring_commit.specs.declared.configuration.Configuration.{Configuration}
+use Rattle.ring_core.specs.Commits.{Configuration}
 use Rattle.ring_core.specs.State.{Core, floor, opening}
 use Rattle.ring_core_proof.specs.LawWords.{IsFalling}
 use Rattle.ring_core_proof.specs.Moves.{Move, Idles, Enters, Learns, Visits, Takes, Installs, moved, MayMove}

@@ -9,10 +9,10 @@ use Rattle.ring_base.proofs.SameRing.{same-self}
 use Rattle.ring_wire.specs.declared.commit.CommitToken.{CommitToken}
 use Rattle.ring_wire.specs.declared.entries.CommitEntry.{CommitEntry}
 use Rattle.ring_wire.specs.declared.frame.Frame.{Frame}
-use Rattle.ring_window.specs.Held.{holds}
-use Rattle.ring_token.specs.Visits.{numbered}
-use Rattle.ring_commit.specs.Rounds.{position_of_hop}
-use Rattle.ring_recover.specs.Plans.{plan_of, is_reported}
+use Rattle.ring_core.specs.Windows.{holds}
+use Rattle.ring_core.specs.Tokens.{numbered}
+use Rattle.ring_core.specs.Commits.{position_of_hop}
+use Rattle.ring_core.specs.Recoveries.{plan_of, is_reported}
 use Rattle.ring_core.specs.State.{Core}
 use Rattle.ring_core.specs.Views.{front, own_entry, entries_for, plan}
 use Rattle.ring_core.specs.Acting.{gives_old}
@@ -22,7 +22,7 @@ use Rattle.ring_core_proof.proofs.WithinWindow.{Fit}
 use Rattle.ring_chain_proof.proofs.FactsGrow.{moved_grows}
 use Rattle.ring_core_proof.proofs.OwnMessages.{AreFit}
 use Rattle.ring_core_proof.proofs.OwnReports.{exact_now}
-use Rattle.ring_window.proofs.Finding.{holds-more}
+use Rattle.ring_core.proofs.Windows.{holds-more}
 use Rattle.ring_synchrony_proof.proofs.Known.{own_is}
 
 pub record HasOwn {A : Type 0} (c : Core A) : Type 0 where

@@ -16,12 +16,9 @@ use Rattle.ring_wire.specs.declared.commit.CommitToken.{CommitToken}
 use Rattle.ring_wire.specs.declared.entries.CommitEntry.{CommitEntry}
 use Rattle.ring_wire.specs.declared.frame.Frame.{Frame}
 use Rattle.ring_wire.specs.declared.message.Message.{Message}
-use Rattle.ring_window.specs.Held.{is_numbered, found, holds, front_of}
-use Rattle.ring_commit.specs.Reports.{safe_of}
-use Rattle.ring_commit.specs.Rounds.{position_of_hop}
-use Rattle.ring_commit.specs.declared.configuration.Configuration.{Configuration}
-use Rattle.ring_recover.specs.Plans.{Plan, plan_of, safe, low, is_known, known_above_safe}
-use Rattle.ring_recover.specs.Deliveries.{is_complete}
+use Rattle.ring_core.specs.Windows.{is_numbered, found, holds, front_of}
+use Rattle.ring_core.specs.Commits.{safe_of, position_of_hop, Configuration}
+use Rattle.ring_core.specs.Recoveries.{Plan, plan_of, safe, low, is_known, known_above_safe, is_complete}
 use Rattle.ring_core.specs.State.{Core}
 use Rattle.ring_core.specs.Views.{mark, own_entry, entries_for}
 use Rattle.ring_core_proof.specs.FactWords.{IsIn}

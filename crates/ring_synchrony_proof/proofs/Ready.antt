@@ -11,12 +11,10 @@ use Rattle.ring_base.specs.declared.state.State.TheVariants.{Gather, Recovery, O
 use Rattle.ring_wire.specs.declared.commit.CommitToken.{CommitToken}
 use Rattle.ring_wire.specs.declared.frame.Frame.{Frame}
 use Rattle.ring_wire.specs.declared.message.Message.{Message}
-use Rattle.ring_window.specs.Held.{found, front_of}
+use Rattle.ring_core.specs.Windows.{found, front_of}
 use Rattle.ring_base.proofs.SameRing.{ring_same, same-self}
-use Rattle.ring_commit.specs.Rounds.{position_of_hop}
-use Rattle.ring_commit.specs.declared.configuration.Configuration.{Configuration}
-use Rattle.ring_recover.specs.Deliveries.{is_complete}
-use Rattle.ring_recover.specs.Installing.{in_front, is_ready, is_ready_by}
+use Rattle.ring_core.specs.Commits.{position_of_hop, Configuration}
+use Rattle.ring_core.specs.Recoveries.{is_complete, in_front, is_ready, is_ready_by}
 use Rattle.ring_core.specs.declared.input.Input.{Input}
 use Rattle.ring_core.specs.declared.input.Input.TheVariants.{Frame as FrameInput}
 use Rattle.ring_core.specs.declared.out.Out.{Out}

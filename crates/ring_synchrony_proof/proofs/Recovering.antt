@@ -23,15 +23,11 @@ use Rattle.ring_wire.specs.declared.frame.Frame.{Frame}
 use Rattle.ring_wire.specs.declared.frame.Frame.TheVariants.{Message as MessageFrame}
 use Rattle.ring_wire.specs.declared.message.Message.{Message}
 use Rattle.ring_wire.specs.declared.token.Token.{Token}
-use Rattle.ring_window.specs.Held.{is_numbered, holds, is_new}
+use Rattle.ring_core.specs.Windows.{is_numbered, holds, is_new}
 use Rattle.ring_base.proofs.SameRing.{ring_same}
-use Rattle.ring_token.specs.Turns.{Turn, turns_of}
-use Rattle.ring_token.specs.Rounds.{VisitBy}
-use Rattle.ring_token.specs.Visits.{numbered}
-use Rattle.ring_commit.specs.Rounds.{position_of_hop}
-use Rattle.ring_commit.specs.declared.configuration.Configuration.{Configuration}
-use Rattle.ring_recover.specs.Plans.{Plan, plan_of, is_known}
-use Rattle.ring_recover.specs.Wrapping.{unwrapped}
+use Rattle.ring_core.specs.Tokens.{Turn, turns_of, VisitBy, numbered}
+use Rattle.ring_core.specs.Commits.{position_of_hop, Configuration}
+use Rattle.ring_core.specs.Recoveries.{Plan, plan_of, is_known, unwrapped}
 use Rattle.ring_core.specs.State.{Core, Report, floor, opening, alone}
 use Rattle.ring_core.specs.Views.{mark}
 use Rattle.ring_core.specs.Acting.{gives_old, took}
@@ -53,7 +49,7 @@ use Rattle.ring_chain_proof.proofs.OneText.{numbered_in}
 use Rattle.ring_chain_proof.proofs.Safety.{in_picked}
 use Rattle.ring_chain_proof.proofs.AllLayers.{Holds}
 use Rattle.ring_chain_proof.proofs.Plans.{IsPlan, HoldsPlans, learned_plan as learned_plan_is, plans_moved, one_plan, plans_hold}
-use Rattle.ring_window.proofs.Finding.{found-holds}
+use Rattle.ring_core.proofs.Windows.{found-holds}
 use Rattle.ring_synchrony_proof.specs.Tales.{plan_into}
 use Rattle.ring_synchrony_proof.proofs.Ordered.{Ordered, moved_ordered, opening_ordered}
 use Rattle.ring_synchrony_proof.proofs.Keeps.{Keeps, IsStill, all_same, visited_same, moved_keeps}

@@ -11,12 +11,10 @@ use Rattle.ring_payload.specs.declared.content.Payload.TheVariants.{Call, Wrappe
 use Rattle.ring_wire.specs.declared.frame.Frame.{Frame}
 use Rattle.ring_wire.specs.declared.message.Message.{Message}
 use Rattle.ring_wire.specs.declared.token.Token.{Token}
-use Rattle.ring_window.specs.Held.{found, highest, of_ring}
-use Rattle.ring_window.proofs.HeldFront.{highest_covers}
-use Rattle.ring_window.specs.Held.{holds}
-use Rattle.ring_token.specs.Turns.{Turn}
-use Rattle.ring_token.specs.Visits.{numbered}
-use Rattle.ring_recover.specs.Wrapping.{has_ended}
+use Rattle.ring_core.specs.Windows.{found, highest, of_ring, holds}
+use Rattle.ring_core.proofs.Windows.{highest_covers}
+use Rattle.ring_core.specs.Tokens.{Turn, numbered}
+use Rattle.ring_core.specs.Recoveries.{has_ended}
 use Rattle.ring_core.specs.State.{Core}
 use Rattle.ring_core_proof.specs.FactWords.{IsIn}
 use Rattle.ring_core_proof.specs.LawWords.{EndsWrapping, HasEnded}

@@ -10,15 +10,12 @@ use Rattle.ring_base.specs.declared.ring_id.RingId.{RingId}
 use Rattle.ring_base.proofs.SameRing.{same-self}
 use Rattle.ring_payload.specs.Kinds.{is_user}
 use Rattle.ring_wire.specs.declared.message.Message.{Message}
-use Rattle.ring_window.specs.Held.{found, holds}
-use Rattle.ring_window.proofs.HeldFront.{front_is}
-use Rattle.ring_window.proofs.Finding.{holds-found}
-use Rattle.ring_token.specs.Turns.{Turn}
-use Rattle.ring_token.specs.Visits.{numbered}
-use Rattle.ring_commit.specs.declared.configuration.Configuration.{Configuration}
-use Rattle.ring_recover.specs.Plans.{Plan, plan_of, safe, gap}
-use Rattle.ring_recover.specs.Deliveries.{SameText, is_complete, rests}
-use Rattle.ring_recover.proofs.Finishing.{same_rests}
+use Rattle.ring_core.specs.Windows.{found, holds}
+use Rattle.ring_core.proofs.Windows.{front_is, holds-found}
+use Rattle.ring_core.specs.Tokens.{Turn, numbered}
+use Rattle.ring_core.specs.Commits.{Configuration}
+use Rattle.ring_core.specs.Recoveries.{Plan, plan_of, safe, gap, SameText, is_complete, rests}
+use Rattle.ring_core.proofs.Recoveries.{same_rests}
 use Rattle.ring_core.specs.State.{Core}
 use Rattle.ring_core.specs.Views.{front, mark, entries_for}
 use Rattle.ring_core_proof.specs.FactWords.{IsIn}

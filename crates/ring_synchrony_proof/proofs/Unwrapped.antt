@@ -11,9 +11,9 @@ use Rattle.ring_base.proofs.Each.{each-filter_map}
 use Rattle.ring_payload.specs.Kinds.{is_end}
 use Rattle.ring_wire.specs.declared.frame.Frame.{Frame}
 use Rattle.ring_wire.specs.declared.message.Message.{Message}
-use Rattle.ring_window.specs.Held.{found, front_of}
-use Rattle.ring_commit.specs.declared.configuration.Configuration.{Configuration}
-use Rattle.ring_recover.specs.Installing.{in_front, ends, has_end_of, all_ended, is_covered, has_user, is_ready}
+use Rattle.ring_core.specs.Windows.{found, front_of}
+use Rattle.ring_core.specs.Commits.{Configuration}
+use Rattle.ring_core.specs.Recoveries.{in_front, ends, has_end_of, all_ended, is_covered, has_user, is_ready}
 use Rattle.ring_core.specs.State.{Core, opening}
 use Rattle.ring_core.specs.Views.{front, mark}
 use Rattle.ring_core_proof.specs.FactWords.{IsIn}

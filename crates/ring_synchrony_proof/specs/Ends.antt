@@ -9,11 +9,9 @@ use Rattle.ring_payload.specs.Kinds.{is_user, is_end}
 use Rattle.ring_wire.specs.declared.commit.CommitToken.{CommitToken}
 use Rattle.ring_wire.specs.declared.entries.CommitEntry.{CommitEntry}
 use Rattle.ring_wire.specs.declared.message.Message.{Message}
-use Rattle.ring_token.specs.Turns.{Turn}
-use Rattle.ring_token.specs.Visits.{numbered}
-use Rattle.ring_commit.specs.declared.configuration.Configuration.{Configuration}
-use Rattle.ring_recover.specs.Plans.{plan_of, low, is_reported}
-use Rattle.ring_recover.specs.Wrapping.{is_wrap_of}
+use Rattle.ring_core.specs.Tokens.{Turn, numbered}
+use Rattle.ring_core.specs.Commits.{Configuration}
+use Rattle.ring_core.specs.Recoveries.{plan_of, low, is_reported, is_wrap_of}
 use Rattle.ring_core.specs.State.{Core, Report}
 use Rattle.ring_core_proof.specs.FactWords.{IsIn}
 

@@ -4,7 +4,7 @@ use Rattle.std.specs.Prelude.{◌≡◌, ℕ, ◌≤◌, true}
 use Rattle.ring_base.specs.declared.ring_id.RingId.{RingId}
 use Rattle.ring_payload.specs.Kinds.{is_user}
 use Rattle.ring_wire.specs.declared.message.Message.{Message}
-use Rattle.ring_commit.specs.declared.configuration.Configuration.{Configuration}
+use Rattle.ring_core.specs.Commits.{Configuration}
 use Rattle.ring_core.specs.Views.{front}
 use Rattle.ring_core_proof.specs.FactWords.{IsIn}
 use Rattle.ring_core_proof.specs.Worlds.{World}

@@ -8,3 +8,4 @@ pub mod Installed
 pub mod Recovery
 pub mod Ends
 pub mod Ready
+pub mod Chains

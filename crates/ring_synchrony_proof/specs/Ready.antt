@@ -2,9 +2,8 @@
 -- very step. Recovery, rules 7 and 8 of docs/PROTOCOL.md.
 use Rattle.std.specs.Prelude.{◌≡◌, ◌<◌, true}
 use Rattle.ring_base.specs.declared.state.State.TheVariants.{Recovery}
-use Rattle.ring_commit.specs.declared.configuration.Configuration.{Configuration}
-use Rattle.ring_recover.specs.Deliveries.{is_complete}
-use Rattle.ring_recover.specs.Installing.{is_ready}
+use Rattle.ring_core.specs.Commits.{Configuration}
+use Rattle.ring_core.specs.Recoveries.{is_complete, is_ready}
 use Rattle.ring_core.specs.State.{Core}
 use Rattle.ring_core.specs.Views.{mark, plan}
 use Rattle.ring_core_proof.specs.FactWords.{IsIn}

@@ -8,9 +8,9 @@ use Rattle.ring_payload.specs.Kinds.{is_end}
 use Rattle.ring_payload.specs.declared.content.Payload.TheVariants.{Wrapped}
 use Rattle.ring_payload.specs.declared.content.Wrapped.{Wrapped as WrappedMessage}
 use Rattle.ring_wire.specs.declared.message.Message.{Message}
-use Rattle.ring_window.specs.Held.{holds}
-use Rattle.ring_commit.specs.declared.configuration.Configuration.{Configuration}
-use Rattle.ring_recover.specs.Plans.{safe, is_known}
+use Rattle.ring_core.specs.Windows.{holds}
+use Rattle.ring_core.specs.Commits.{Configuration}
+use Rattle.ring_core.specs.Recoveries.{safe, is_known}
 use Rattle.ring_core.specs.State.{Core}
 use Rattle.ring_core.specs.Views.{front, mark, plan}
 use Rattle.ring_core_proof.specs.FactWords.{IsIn}

@@ -2,9 +2,8 @@
 -- safe mark, and between two of them what the plan of the newer one gave of the older one.
 -- Outputs, rules 9 and 10 of docs/PROTOCOL.md.
 use Rattle.std.specs.Prelude.{List, [], ◌∷◌}
-use Rattle.ring_commit.specs.declared.configuration.Configuration.{Configuration}
-use Rattle.ring_recover.specs.Plans.{Plan, plan_of}
-use Rattle.ring_recover.specs.Deliveries.{rests}
+use Rattle.ring_core.specs.Commits.{Configuration}
+use Rattle.ring_core.specs.Recoveries.{Plan, plan_of, rests}
 use Rattle.ring_core.specs.State.{Core}
 use Rattle.ring_core.specs.Views.{front, mark, entries_for}
 use Rattle.ring_core.specs.Giving.{users}

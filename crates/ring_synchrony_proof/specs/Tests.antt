@@ -8,8 +8,8 @@ use Rattle.ring_base.specs.Rings.{same_ring}
 use Rattle.ring_base.specs.declared.ring_id.RingId.{RingId}
 use Rattle.ring_payload.specs.Kinds.{is_user}
 use Rattle.ring_wire.specs.declared.message.Message.{Message}
-use Rattle.ring_window.specs.Held.{found}
-use Rattle.ring_commit.specs.declared.configuration.Configuration.{Configuration}
+use Rattle.ring_core.specs.Windows.{found}
+use Rattle.ring_core.specs.Commits.{Configuration}
 use Rattle.ring_core.specs.State.{Core}
 use Rattle.ring_core.specs.Views.{front}
 use Rattle.ring_core_proof.specs.Worlds.{World, is_node}

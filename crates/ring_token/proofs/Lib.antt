@@ -4,9 +4,11 @@
 -- VisitNumbers: The three numbers that the code keeps of a member's visits stand for all that is read off them.
 -- Merging: The smallest numbers of two lists, of which the first ascends, one after another.
 -- Numbered: New messages of a visit, numbered in a row: as many as payloads, and each of the visit's ring.
+-- Packing: What a queue's messages are, passed on to the ring core.
 pub mod SafeMark
 pub mod Arus
 pub mod Safe
 pub mod VisitNumbers
 pub mod Merging
 pub mod Numbered
+pub mod Packing

@@ -3,3 +3,8 @@ pub mod Visits
 pub mod Rounds
 pub mod Histories
 pub mod Requesting
+pub mod Frames
+pub mod FrameVariants
+pub mod Payloads
+pub mod ContentVariants
+pub mod PayloadVariants

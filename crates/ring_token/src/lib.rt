@@ -8,4 +8,5 @@ mod visit;
 
 pub use laws::safe_law;
 pub use requests::{left, requests_after};
+pub use ring_wire::{Call, CommitEntry, Content, Frame, Message, Payload};
 pub use visit::{Visit, Visits};

@@ -10,7 +10,6 @@ mod standing;
 mod tracer;
 mod tracing;
 
-pub use ring_trace_forms::Format;
-pub use ring_trace_words::{Replies, ReplyForm};
+pub use ring_trace_forms::{Format, Replies, ReplyForm};
 pub use selection::Selection;
 pub use tracing::{TraceOptions, trace, trace_of};

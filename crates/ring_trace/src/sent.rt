@@ -8,7 +8,7 @@ use ring_base::{Fault, Proc};
 use ring_console::{Failure, World};
 use ring_object::Object;
 use ring_payload::{Call, Payload};
-use ring_trace_words::Waiting;
+use ring_trace_forms::Waiting;
 use ring_wire::Frame;
 use std::alloc::Allocator;
 use std::io::Write;

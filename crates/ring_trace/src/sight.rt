@@ -2,7 +2,7 @@
 
 use ring_base::{Kind, Proc};
 use ring_console::{Line, Pair};
-use ring_trace_words::{CallWords, Waiting, Wording};
+use ring_trace_forms::{CallWords, Waiting, Wording};
 use std::alloc::{AllocError, Allocator};
 use std::fmt::Write;
 

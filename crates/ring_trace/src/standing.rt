@@ -1,7 +1,7 @@
 //! How nodes stand.
 
 use ring_base::{Proc, ProcSet, RingId, State};
-use ring_trace_words::{Change, Votes, Why};
+use ring_trace_forms::{Change, Votes, Why};
 
 /// What was last seen of a node.
 #[derive(Clone, Copy)]

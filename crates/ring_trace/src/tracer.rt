@@ -14,9 +14,10 @@ use crate::standing::Standing;
 use ring_base::{Fault, Proc, ProcSet, State};
 use ring_console::{Failure, Groups, Line, Pair, Run, Script};
 use ring_object::Object;
-use ring_rules::Told;
-use ring_trace_forms::{Drawing, Form, Format};
-use ring_trace_words::{Change, Counts, Fold, Happening, Queue, Votes, Waiting, Why, Wording};
+use ring_trace_forms::{
+    Change, Counts, Drawing, Fold, Form, Format, Happening, Queue, Told, Votes, Waiting, Why,
+    Wording,
+};
 use std::alloc::Allocator;
 use std::io::Write;
 

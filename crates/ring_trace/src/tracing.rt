@@ -13,8 +13,7 @@ use ring_base::Fault;
 use ring_console::{Failure, Script, ShelfWords, Things, Vocabulary, report};
 use ring_object::Object;
 use ring_report::{Lent, exit_status};
-use ring_trace_forms::{Form, Format};
-use ring_trace_words::{Replies, Votes, Wording};
+use ring_trace_forms::{Form, Format, Replies, Votes, Wording};
 use std::alloc::Global;
 use std::io::{BufWriter, Write};
 

@@ -9,8 +9,7 @@ ghost use Rattle.ring_report.specs.Failures.{IsOutputOrMemory};
 use ring_base::{Fault, Fixed, Proc, ProcSet, State};
 use ring_picture::{Mark, Picture, Shade};
 use ring_report::Failure;
-use ring_rules::Told;
-use ring_trace_words::{Change, Fold, Waiting};
+use ring_trace_words::{Change, Fold, Told, Waiting};
 use std::alloc::Allocator;
 use std::io::{ErrorKind, Write};
 

@@ -6,8 +6,7 @@ ghost use Rattle.ring_report.specs.Failures.{IsOutputOrMemory};
 use crate::{json, text};
 use ring_base::ProcSet;
 use ring_report::Failure;
-use ring_rules::Told;
-use ring_trace_words::{Change, Counts, Fold, Happening, Waiting, Why, Wording};
+use ring_trace_words::{Change, Counts, Fold, Happening, Told, Waiting, Why, Wording};
 use std::alloc::{Allocator, Global};
 use std::io::Write;
 

@@ -8,10 +8,10 @@ use ring_base::{Fault, Proc, ProcSet};
 use ring_object::Reply;
 use ring_payload::Call;
 use ring_report::{Failure, state_word};
-use ring_rules::Told;
 use ring_session::Answer;
 use ring_trace_words::{
-    Change, Counts, Fold, Happening, OperationWords, ReasonWords, ReplyWords, Waiting, Why, Wording,
+    Change, Counts, Fold, Happening, OperationWords, ReasonWords, ReplyWords, Told, Waiting, Why,
+    Wording,
 };
 use serde::Serialize;
 use serde_json::to_string;

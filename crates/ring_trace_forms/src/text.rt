@@ -6,8 +6,7 @@ ghost use Rattle.ring_report.specs.declared.failure.Failure.TheVariants.{Output}
 use ring_base::ProcSet;
 use ring_picture::Members;
 use ring_report::Failure;
-use ring_rules::Told;
-use ring_trace_words::{Change, Counts, Fold, Happening, ToldWords, Waiting, Why, Wording};
+use ring_trace_words::{Change, Counts, Fold, Happening, Told, ToldWords, Waiting, Why, Wording};
 use std::alloc::Allocator;
 use std::io::Write;
 

@@ -24,6 +24,7 @@ pub use happening::{Counts, Happening};
 pub use operation_words::OperationWords;
 pub use reason_words::ReasonWords;
 pub use reply_words::ReplyWords;
+pub use ring_rules::Told;
 pub use told_words::ToldWords;
 pub use votes::{Share, Votes};
 pub use waiting::{Queue, Waiting};

@@ -7,5 +7,5 @@ mod laws;
 mod window;
 
 pub use laws::{bits_law, front_law};
-pub use ring_wire::Message;
+pub use ring_wire::{Content, Message, Payload, Wrapped};
 pub use window::Window;

@@ -10,9 +10,8 @@ use Rattle.byteorder.specs.Endian.{big_bytes}
 use Rattle.ring_base.specs.Processors.{elements, size, smallest, nobody}
 use Rattle.ring_base.specs.Elements.{size_le}
 use Rattle.ring_base.specs.declared.ring_id.RingId.{RingId}
-use Rattle.ring_layout.specs.Reading.{IsFormat, such_at, made_at, ◌⊕◌}
-use Rattle.ring_layout.specs.Formats.{Format, byte, word2, ◌&◌, followed, times, tested_format}
-use Rattle.ring_layout.specs.Rings.{ring, ring_spelling, RingFits}
+use Rattle.ring_payload.specs.Layouts.{IsFormat, such_at, made_at, ◌⊕◌, Format, byte, word2, ◌&◌, followed, times, tested_format}
+use Rattle.ring_payload.specs.Layouts.{ring, ring_spelling, RingFits}
 use Rattle.ring_wire.specs.declared.entries.CommitEntry.{CommitEntry}
 use Rattle.ring_wire.specs.declared.commit.CommitToken.{CommitToken}
 use Rattle.ring_wire.specs.Entries.{entry, entry_spelling, EntryFits}

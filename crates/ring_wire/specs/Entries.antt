@@ -10,9 +10,7 @@ use Rattle.std.proofs.lemmas.Bool.{not-true, and_cases, or_parts, both_ways, and
 use Rattle.byteorder.specs.Endian.{big_bytes}
 use Rattle.ring_base.specs.Numbers.{max_number, window_size, has_bit}
 use Rattle.ring_base.specs.declared.ring_id.RingId.{RingId}
-use Rattle.ring_layout.specs.Reading.{IsFormat, such_at, made_at, ◌⊕◌}
-use Rattle.ring_layout.specs.Formats.{Format, word8, text, ◌&◌, tested_format}
-use Rattle.ring_layout.specs.Rings.{ring, ring_spelling, RingFits}
+use Rattle.ring_payload.specs.Layouts.{IsFormat, such_at, made_at, ◌⊕◌, Format, word8, text, ◌&◌, tested_format, ring, ring_spelling, RingFits}
 use Rattle.ring_wire.specs.declared.entries.CommitEntry.{CommitEntry}
 
 -- ---- the held bits: bit j mod 8 of byte j div 8 stands for the number front + 1 + j

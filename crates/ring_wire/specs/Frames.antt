@@ -3,9 +3,8 @@ use Rattle.std.proofs.Common.{◌≡◌, ℕ, ◌^◌, ◌<◌, ◌≤◌, Bool,
 use Rattle.std.specs.Prelude.{◌&&◌, ◌==◌, if◌then◌else◌}
 use Rattle.std.proofs.lemmas.Bool.{eqb-true, and_parts, cases_Bool}
 use Rattle.byteorder.specs.Endian.{big_bytes}
-use Rattle.ring_layout.specs.Reading.{IsFormat, made_at, such_at, byte_at, ◌>>=◌, ◌⊕◌}
-use Rattle.ring_layout.specs.Formats.{Format, byte, ◌&◌, such, sized, told_format}
-use Rattle.ring_layout.specs.Cases.{Case, case, told_at, cases_at, IsMade, cases_format}
+use Rattle.ring_payload.specs.Layouts.{IsFormat, made_at, such_at, byte_at, ◌>>=◌, ◌⊕◌, Format, byte, ◌&◌, such, sized, told_format}
+use Rattle.ring_payload.specs.Layouts.{Case, case, told_at, cases_at, IsMade, cases_format}
 use Rattle.ring_payload.specs.declared.head.Head.{Head}
 use Rattle.ring_payload.specs.declared.content.Content.{Content}
 use Rattle.ring_payload.specs.declared.content.Content.TheVariants as contents

@@ -6,8 +6,7 @@ use Rattle.ring_base.specs.declared.fault.Fault.{Fault}
 use Rattle.ring_base.specs.declared.fault.Fault.TheVariants.{NotMember, PendingFull, OpTooLong, Conflict, Stale}
 use Rattle.ring_base.specs.declared.fault.Fault.TheVariants.{NumberGap, SessionsFull, Stopped, BookFull, Stranger}
 use Rattle.ring_base.specs.declared.fault.Fault.TheVariants.{Memory, BadFrame, BadScript, NoAnswer, BadSnapshot}
-use Rattle.ring_layout.specs.Reading.{IsFormat, IsBytes, Refuses}
-use Rattle.ring_layout.specs.ReadingLaws.{some_is}
+use Rattle.ring_payload.specs.Layouts.{IsFormat, IsBytes, Refuses, some_is}
 use Rattle.std.proofs.lemmas.List.{length-append, length-drop, append-nil, take_all, take_at, take-append-drop}
 
 -- the first n bytes spell the value

@@ -7,9 +7,7 @@ use Rattle.byteorder.specs.Endian.{big_bytes}
 use Rattle.ring_base.specs.Numbers.{max_number}
 use Rattle.ring_base.specs.Processors.{IsProc, IsMember, IsSubset, has, within}
 use Rattle.ring_base.specs.Members.{has_member, member_had, within_members}
-use Rattle.ring_layout.specs.Reading.{IsFormat, such_at, made_at, ◌⊕◌}
-use Rattle.ring_layout.specs.Formats.{Format, word2, word8, ◌&◌, tested_format}
-use Rattle.ring_layout.specs.Processors.{proc, proc_spelling}
+use Rattle.ring_payload.specs.Layouts.{IsFormat, such_at, made_at, ◌⊕◌, Format, word2, word8, ◌&◌, tested_format, proc, proc_spelling}
 use Rattle.ring_wire.specs.declared.join.Join.{Join}
 
 abbrev pub join_spelling : Join → List ℕ

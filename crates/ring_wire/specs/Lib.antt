@@ -10,3 +10,6 @@ pub mod Spells
 pub mod SpellsLaws
 pub mod Tokens
 pub mod Payloads
+pub mod Rings
+pub mod ContentVariants
+pub mod PayloadVariants

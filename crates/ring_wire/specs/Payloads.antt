@@ -1,3 +1,12 @@
--- Words of payloads, passed on to the crates of a ring's parts.
-pub use Rattle.ring_payload.specs.Limits.{most_requests}
+-- Words of payloads, passed on to the crates of a ring's parts and to the log.
+pub use Rattle.ring_payload.specs.Limits.{most_requests, most_snapshot, whole_piece}
 pub use Rattle.ring_payload.specs.declared.content.Payload.{Payload}
+pub use Rattle.ring_payload.specs.Packing.{is_queued, packed, left_behind}
+pub use Rattle.ring_payload.specs.Kinds.{is_user, is_end, payload_of, content_of, calls_of}
+pub use Rattle.ring_payload.specs.declared.content.Content.{Content}
+pub use Rattle.ring_payload.specs.declared.call.Call.{Call}
+pub use Rattle.ring_payload.specs.Calls.{CallFits}
+pub use Rattle.ring_payload.specs.declared.content.Wrapped.{Wrapped}
+pub use Rattle.ring_payload.specs.declared.calls.Part.{Part}
+pub use Rattle.ring_payload.specs.declared.head.Head.{Head}
+pub use Rattle.ring_payload.specs.declared.snap.Snap.{Snap}

@@ -3,9 +3,7 @@
 use Rattle.std.specs.Prelude.{◌≡◌, ℕ, ◌≤◌, ◌⊎◌, List, [], ◌∷◌, length}
 use Rattle.std.specs.List.{flat_map}
 use Rattle.byteorder.specs.Endian.{big_bytes}
-use Rattle.ring_layout.specs.Reading.{◌⊕◌}
-use Rattle.ring_layout.specs.Processors.{some_proc_spelling}
-use Rattle.ring_layout.specs.Rings.{ring_spelling, some_ring_spelling}
+use Rattle.ring_payload.specs.Layouts.{◌⊕◌, some_proc_spelling, ring_spelling, some_ring_spelling}
 use Rattle.ring_payload.specs.declared.call.Call.{Call}
 use Rattle.ring_payload.specs.declared.calls.Pack.{Pack}
 use Rattle.ring_payload.specs.declared.calls.Part.{Part}

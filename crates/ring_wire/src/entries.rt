@@ -3,12 +3,12 @@
 ghost use Rattle.std.specs.Prelude.{◌≡◌, ℕ, ◌+◌, ◌^◌, ◌<◌, ◌≤◌, List, [], ◌∷◌, ◌++◌, length};
 ghost use Rattle.std.specs.Prelude.{◌==◌, ◌*◌, true};
 ghost use Rattle.std.specs.List.{list_all};
-ghost use Rattle.ring_layout.specs.Reading.{Appends, Gives, GivesBy, times_at};
+ghost use Rattle.ring_payload.specs.Layouts.{Appends, Gives, GivesBy, times_at};
 
 use arrayvec::ArrayVec;
 use bytes::BytesMut;
 use ring_base::{Fault, MAX, Proc, RingId, WINDOW};
-use ring_layout::{Decode, Encode, Reader, read_in_place};
+use ring_payload::{Decode, Encode, Reader, read_in_place};
 use std::alloc::{AllocError, Allocator};
 use std::marker::Model;
 

@@ -2,7 +2,7 @@
 
 ghost use Rattle.std.specs.Prelude.{◌≡◌, ℕ, ◌+◌, ◌^◌, ◌<◌, ◌≤◌, List, [], ◌∷◌, ◌++◌, length, IfOk, IfErr, IfSome, Some, IsSome, OnOk, OnErr, ◌↔◌};
 ghost use Rattle.ring_base.specs.declared.fault.Fault.TheVariants.{BadFrame};
-ghost use Rattle.ring_layout.specs.Reading.{Appends, Gives};
+ghost use Rattle.ring_payload.specs.Layouts.{Appends, Gives};
 ghost use Rattle.ring_wire.specs.declared.frame.Frame.{Frame as OneFrame};
 ghost use Rattle.ring_wire.specs.declared.frame.Frame.TheVariants.{Token as TokenFrame};
 ghost use Rattle.ring_payload.specs.Limits.{message_kind, token_kind, join_kind, commit_kind, most_frame};
@@ -17,7 +17,7 @@ use crate::token::{LaidToken, Token};
 use crate::wire::Wire;
 use bytes::BytesMut;
 use ring_base::Fault;
-use ring_layout::{Decode, Encode, Reader, read_sized, write_sized};
+use ring_payload::{Decode, Encode, Reader, read_sized, write_sized};
 use std::alloc::{Allocator, Global};
 use std::mem::size_of;
 

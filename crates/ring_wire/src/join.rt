@@ -1,11 +1,11 @@
 //! Joins.
 
 ghost use Rattle.std.specs.Prelude.{◌≡◌, ℕ, ◌+◌, ◌^◌, ◌<◌, ◌≤◌, List, [], ◌∷◌, ◌++◌, length};
-ghost use Rattle.ring_layout.specs.Reading.{Appends, Gives};
+ghost use Rattle.ring_payload.specs.Layouts.{Appends, Gives};
 
 use bytes::BytesMut;
 use ring_base::{Fault, MAX, Proc, ProcSet};
-use ring_layout::{Decode, Encode, Reader};
+use ring_payload::{Decode, Encode, Reader};
 use std::alloc::Allocator;
 
 /// What a gathering processor tells the others: itself, the greatest ring number that it has taken part

@@ -19,5 +19,8 @@ pub use frame::{Frame, decode_frame, one_spelling_law, short_law, spelling_law};
 pub use join::Join;
 pub use message::Message;
 pub use requests::Requests;
+pub use ring_payload::{
+    Call, Calls, Content, Head, MOST_SNAPSHOT, Part, Payload, Piece, Snap, WHOLE_PIECE, Wrapped,
+};
 pub use token::Token;
 pub use wire::Wire;

@@ -1,12 +1,11 @@
 //! Messages.
 
 ghost use Rattle.std.specs.Prelude.{◌≡◌, ℕ, ◌+◌, ◌^◌, ◌<◌, ◌≤◌, List, [], ◌∷◌, ◌++◌, length};
-ghost use Rattle.ring_layout.specs.Reading.{Appends, Gives};
+ghost use Rattle.ring_payload.specs.Layouts.{Appends, Gives};
 
 use bytes::BytesMut;
 use ring_base::{Fault, MAX, Proc, RingId};
-use ring_layout::{Decode, Encode, Reader};
-use ring_payload::Payload;
+use ring_payload::{Decode, Encode, Payload, Reader};
 use std::alloc::{Allocator, Global};
 
 /// A message of a ring: its number there, counted from 1, who sent it, and what it carries.

@@ -1,12 +1,12 @@
 //! The numbers of the messages that a token asks for.
 
 ghost use Rattle.std.specs.Prelude.{◌≡◌, ℕ, ◌+◌, ◌^◌, ◌<◌, ◌≤◌, List, [], ◌∷◌, ◌++◌, length, IfOk};
-ghost use Rattle.ring_layout.specs.Reading.{Appends, Gives};
+ghost use Rattle.ring_payload.specs.Layouts.{Appends, Gives};
 
 use arrayvec::ArrayVec;
 use bytes::BytesMut;
 use ring_base::Fault;
-use ring_layout::{Decode, Encode, Reader, Words, write_many};
+use ring_payload::{Decode, Encode, Reader, Words, write_many};
 use std::alloc::{AllocError, Allocator};
 use std::marker::Model;
 

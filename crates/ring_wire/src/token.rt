@@ -1,13 +1,13 @@
 //! The token.
 
 ghost use Rattle.std.specs.Prelude.{◌≡◌, ℕ, ◌+◌, ◌^◌, ◌<◌, ◌≤◌, List, [], ◌∷◌, ◌++◌, length};
-ghost use Rattle.ring_layout.specs.Reading.{Appends, Gives, sized_at};
+ghost use Rattle.ring_payload.specs.Layouts.{Appends, Gives, sized_at};
 ghost use Rattle.ring_wire.specs.Ascending.{ascends as ascends_to};
 
 use crate::requests::Requests;
 use bytes::BytesMut;
 use ring_base::{Fault, MAX, Proc, RingId};
-use ring_layout::{Decode, Encode, Reader, Words};
+use ring_payload::{Decode, Encode, Reader, Words};
 use std::alloc::Allocator;
 use std::marker::Model;
 

@@ -6,7 +6,7 @@ ghost use Rattle.ring_wire.specs.Fronts.{IsGot, IsNoFront, IsReadFault, same_fro
 
 use bytes::BytesMut;
 use ring_base::Fault;
-use ring_layout::{Decode, Encode, Reader};
+use ring_payload::{Decode, Encode, Reader};
 use std::alloc::Allocator;
 
 /// A value that has one spelling, where no spelling begins another.

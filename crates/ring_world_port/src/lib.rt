@@ -11,4 +11,4 @@ mod port;
 pub use network::{Network, Ticket};
 pub use port::{Shared, WorldPort};
 pub use ring_rules::Event;
-pub use ring_world::World;
+pub use ring_world::{Item, Noise, Pump, Told, World, stopped_for_memory_law};

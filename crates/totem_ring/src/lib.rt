@@ -31,24 +31,23 @@
 #![tactic(auto)]
 
 pub use ring_base::{Fault, Fixed, Kind, MOST_PROCESSORS, Proc, ProcSet, RingId, State};
-pub use ring_checker::is_linearization;
 pub use ring_client::{Asked, Client, Port};
-pub use ring_driver::{Driver, Letter};
-pub use ring_node::{Input, Node, Outs, Sent};
+pub use ring_driver::{
+    Driver, Input, Letter, Node, Outs, Sent, call_keeps_law, linear_law, node_fits_law,
+};
 pub use ring_object::{Object, Reply, Short, object_law};
-pub use ring_order_proof::fit_laws::{call_keeps_law, node_fits_law};
-pub use ring_order_proof::laws::linear_law;
 pub use ring_payload::Call;
 pub use ring_runs::{RingEvent, Rings};
 pub use ring_script::{Argument, Form, NoWords, ShelfWords, Vocabulary};
 pub use ring_script_maker::{generate_by, made_script_by};
 pub use ring_session::{Answer, Answered, Ticket};
-pub use ring_sweep::{script_of, sweep_of};
+pub use ring_sweep::{is_linearization, script_of, sweep_of};
 pub use ring_things::{
     Counters, Names, Operation, Outcome, Place, Queue, Registers, Replied, Shelf, ShelfOperation,
 };
 pub use ring_trace::{Format, Replies, ReplyForm, Selection, TraceOptions, trace_of};
 pub use ring_typed::{Keyed, Table, done, done_with, refused_with, reply_of};
 pub use ring_wire::{Frame, decode_frame};
-pub use ring_world::{Event, Item, Noise, Pump, Told, World, stopped_for_memory_law};
-pub use ring_world_port::{Network, Shared, WorldPort};
+pub use ring_world_port::{
+    Event, Item, Network, Noise, Pump, Shared, Told, World, WorldPort, stopped_for_memory_law,
+};

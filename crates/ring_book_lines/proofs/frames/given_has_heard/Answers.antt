@@ -1,6 +1,6 @@
 use Rattle.std.proofs.Common.{sym}
 use Rattle.ring_base.proofs.Each.{each-get}
-use Rattle.ring_core_proof.specs.Limits.{SentFits}
+use Rattle.ring_order_proof.specs.Limits.{SentFits}
 use Rattle.ring_book_lines.proofs.frames.given_has_heard.Goals as goal
 
 pub is_sent-requires-clause-fits : goal.is_sent-requires-clause-fits

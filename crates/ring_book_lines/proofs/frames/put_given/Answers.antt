@@ -2,7 +2,7 @@ use Rattle.std.proofs.Common.{ap, subst, sym}
 use Rattle.ring_base.proofs.Each.{each-get}
 use Rattle.ring_core.specs.State.{Sent}
 use Rattle.ring_wire.specs.Frames.{FrameFits}
-use Rattle.ring_core_proof.specs.Limits.{SentFits}
+use Rattle.ring_order_proof.specs.Limits.{SentFits}
 use Rattle.ring_book_lines.proofs.Puts.{put_gives}
 use Rattle.ring_book_lines.proofs.frames.put_given.Goals as goal
 

@@ -5,7 +5,7 @@ use Rattle.ring_base.proofs.Each.{each-get}
 use Rattle.ring_core.specs.State.{Sent}
 use Rattle.ring_base.proofs.Rows.{take-found}
 use Rattle.ring_wire.specs.Frames.{FrameFits}
-use Rattle.ring_core_proof.specs.Limits.{SentFits}
+use Rattle.ring_order_proof.specs.Limits.{SentFits}
 use Rattle.ring_book_lines.proofs.frames.spell_all.Goals as goal
 
 pub spell-requires-clause-fits : goal.spell-requires-clause-fits

@@ -1,6 +1,6 @@
 use Rattle.std.proofs.Common.{◌≡◌, ℕ, ◌+◌, Some, length, slice_get}
 use Rattle.ring_session.specs.declared.answer.Answer.{Answer}
-use Rattle.ring_book_lines.specs.Answers.{told_at}
+use Rattle.ring_book.specs.Lines.{told_at}
 use Rattle.ring_host.proofs.answers.keep.Given as goal
 
 abbrev pub invariant-loop-ahead : goal.invariant-loop-ahead

@@ -1,6 +1,6 @@
 use Rattle.std.proofs.Common.{◌≡◌, ◌+◌, refl, subst, sym, ap, Bool, ◌∙◌, length}
 use Rattle.rtrb.specs.Ring.{sent}
-use Rattle.ring_order_proof.specs.NodeFits.{NodeFits}
+use Rattle.ring_book_lines.specs.Limits.{NodeFits}
 use Rattle.ring_rules.specs.declared.input.Input.TheVariants.{Stop}
 use Rattle.ring_rules.specs.Nodes.{Node}
 use Rattle.ring_book.specs.Cells.{IsCell}

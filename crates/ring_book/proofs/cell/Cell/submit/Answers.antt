@@ -1,6 +1,6 @@
 use Rattle.std.proofs.Common.{◌+◌, refl, subst, ap, Bool, length}
 use Rattle.std.proofs.lemmas.Result.{err_from_is_err_and}
-use Rattle.ring_order_proof.specs.NodeFits.{NodeFits}
+use Rattle.ring_book_lines.specs.Limits.{NodeFits}
 use Rattle.ring_book.specs.Cells.{IsCell}
 use Rattle.ring_book_lines.specs.Machines.{node_machine}
 use Rattle.ring_book_lines.specs.Runs.{IsStep}

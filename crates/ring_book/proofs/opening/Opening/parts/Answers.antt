@@ -1,4 +1,4 @@
-use Rattle.ring_order_proof.specs.NodeFits.{NodeFits}
+use Rattle.ring_book_lines.specs.Limits.{NodeFits}
 use Rattle.std.proofs.Common.{◌≡◌, ◌≤◌, ◌+◌, ℕ, subst, ◌++◌, ◌∷◌, [], length, arith, sym, ap, ◌∙◌, add-one, false, suc}
 use Rattle.rtrb.specs.Ring.{sent}
 use Rattle.ring_base.specs.Group.{Group}

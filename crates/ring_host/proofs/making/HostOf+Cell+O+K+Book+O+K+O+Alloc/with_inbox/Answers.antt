@@ -1,5 +1,5 @@
 use Rattle.std.proofs.Common.{◌∙◌, arith}
-use Rattle.ring_book_lines.specs.Machines.{node_machine}
+use Rattle.ring_book.specs.Lines.{node_machine}
 use Rattle.ring_host.proofs.Cells.{count_of, at_least, at_most, in_byte}
 use Rattle.ring_host.proofs.making.HostOf+Cell+O+K+Book+O+K+O+Alloc.with_inbox.Goals as goal
 

@@ -1,4 +1,4 @@
-use Rattle.ring_layout.proofs.Writes.{and_then}
+use Rattle.ring_payload.proofs.Writes.{and_then}
 use Rattle.ring_wire.specs.Commits.{commit_hop}
 use Rattle.ring_wire.proofs.commit.CommitTokenEncode.write.Goals as goal
 

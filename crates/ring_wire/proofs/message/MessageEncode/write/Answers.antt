@@ -1,4 +1,4 @@
-use Rattle.ring_layout.proofs.Writes.{and_then}
+use Rattle.ring_payload.proofs.Writes.{and_then}
 use Rattle.ring_wire.proofs.message.MessageEncode.write.Goals as goal
 
 pub returns : goal.returns

@@ -1,4 +1,4 @@
-use Rattle.ring_layout.proofs.Writes.{and_then}
+use Rattle.ring_payload.proofs.Writes.{and_then}
 use Rattle.ring_wire.specs.Tokens.{token_requests}
 use Rattle.ring_wire.proofs.token.TokenEncode.write.Goals as goal
 

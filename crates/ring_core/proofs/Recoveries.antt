@@ -1,0 +1,3 @@
+-- What recovery makes of messages, passed on to what stands on the ring core.
+pub use Rattle.ring_recover.proofs.GatheredMates.{union_apart}
+pub use Rattle.ring_recover.proofs.Finishing.{same_rests}

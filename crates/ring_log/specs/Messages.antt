@@ -1,0 +1,2 @@
+-- The type of messages, passed on to the proof of the log.
+pub use Rattle.ring_wire.specs.declared.message.Message.{Message}

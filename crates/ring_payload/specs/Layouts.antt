@@ -1,0 +1,8 @@
+-- Words of formats and of reading, passed on to frames.
+pub use Rattle.ring_layout.specs.Reading.{Appends, Gives, GivesBy, times_at, sized_at, IsFormat, such_at, made_at, ◌⊕◌, byte_at, ◌>>=◌}
+pub use Rattle.ring_layout.specs.Reading.{IsBytes, Refuses, IsWord}
+pub use Rattle.ring_layout.specs.Formats.{Format, byte, word2, ◌&◌, followed, times, tested_format, word8, text, such, sized, told_format}
+pub use Rattle.ring_layout.specs.Rings.{ring, ring_spelling, RingFits, some_ring_spelling, SomeRingFits}
+pub use Rattle.ring_layout.specs.Cases.{Case, case, told_at, cases_at, IsMade, cases_format}
+pub use Rattle.ring_layout.specs.ReadingLaws.{some_is}
+pub use Rattle.ring_layout.specs.Processors.{proc, proc_spelling, some_proc_spelling, SomeProcFits, some_proc}
