@@ -6,10 +6,14 @@
 
 mod copies;
 mod laws;
+mod nothing;
 mod object;
 mod short;
+mod sized;
 
 pub use copies::copied;
 pub use laws::object_law;
+pub use nothing::Nothing;
 pub use object::Object;
 pub use short::{Reply, Short};
+pub use sized::append_sized;

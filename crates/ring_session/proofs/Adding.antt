@@ -3,13 +3,13 @@ use Rattle.std.proofs.Common.{◌≡◌, Bool, true, false, List, [], ◌∷◌,
 use Rattle.std.proofs.Common.{refl, ap, sym, ◌∙◌, append-nil}
 use Rattle.std.specs.Prelude.{if◌then◌else◌}
 use Rattle.std.proofs.lemmas.List.Sums.{fold-append}
+use Rattle.ring_object.specs.Nothing.{Content, nothing}
 use Rattle.ring_payload.specs.declared.call.Call.{Call}
 use Rattle.ring_session.specs.declared.answer.Answer.{Answer}
 use Rattle.ring_session.specs.Deduplicated.{deduplicated, takes_effect}
 use Rattle.ring_session.specs.DeduplicatedLaws.{deduplicated-push}
 use Rattle.ring_session.specs.SessionAnswer.{is_done}
 use Rattle.ring_session.specs.Table.{Table, table_after, table_answer, table_next, opening}
-use Rattle.ring_session.specs.Nothing.{Content, nothing}
 use Rattle.ring_session.specs.Effects.{Found, AreOf}
 
 pub effects-as : {A : Type 0} {calls more : List (Call A)} {found : Found A} → AreOf calls found → calls ≡ more → AreOf more found

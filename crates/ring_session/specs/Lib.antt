@@ -4,7 +4,6 @@ pub mod OneEffect
 pub mod SessionAnswer
 pub mod SessionAnswerLaws
 pub mod Table
-pub mod Nothing
 pub mod Effects
 pub mod Tickets
 pub mod TicketEffects

@@ -106,10 +106,6 @@ clients_at (suc count) low bytes = do
 
 -- ---- the table: how many clients there are in 2 bytes, the clients, and the object's snapshot behind its length in 8
 
--- a text behind its length, a number of the width in bytes
-unfoldable pub sized : ℕ → List ℕ → List ℕ
-sized width text = big_bytes width (length text) ⊕ text
-
 abbrev pub table_snapshot : {O : Type 0} → (O → List ℕ) → Table O → List ℕ
 table_snapshot snapshot_of table =
     big_bytes 2 (length table.sessions) ⊕ flat_map client_spelling table.sessions

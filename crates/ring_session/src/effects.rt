@@ -6,14 +6,15 @@ ghost use Rattle.ring_payload.specs.declared.call.Call.{Call as OneCall};
 ghost use Rattle.ring_session.specs.Deduplicated.{deduplicated};
 ghost use Rattle.ring_session.specs.Effects.{AreOf};
 
-use crate::nothing::Nothing;
 use crate::{Answer, Sessions, table_law};
 use ring_base::Fault;
+use ring_object::Nothing;
 use ring_payload::Call;
 use std::alloc::Allocator;
 use std::marker::Model;
 
-/// The calls that take effect, of those that were added one after the other.
+/// The calls that take effect, of those that were added one after the other. The session table of an object that keeps nothing
+/// tells which these are, whatever the object that they are for.
 #[derive(Drop)]
 pub struct Effects<A: Allocator + Copy + Drop> {
     sessions: Sessions<Nothing<A>>,

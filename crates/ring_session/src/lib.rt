@@ -12,7 +12,6 @@ mod answered;
 mod buckets;
 mod effects;
 mod laws;
-mod nothing;
 mod pending;
 mod recent;
 mod session;

@@ -13,9 +13,9 @@ ghost use Rattle.ring_session.specs.Table.{opening, session_of, table_answer, ta
 use crate::MAX_CLIENTS;
 use crate::answer::Answer;
 use crate::session::Session;
-use crate::snapshots::{append_clients, append_object, parts_of, read_clients};
+use crate::snapshots::{append_clients, parts_of, read_clients};
 use ring_base::Fault;
-use ring_object::{Object, copied};
+use ring_object::{Object, append_sized, copied};
 use ring_payload::Call;
 use std::alloc::Allocator;
 use std::collections::BTreeMap;
@@ -105,7 +105,7 @@ impl<O: Object> Sessions<O> {
     }
 
     /// Appends the snapshot; or a front of it, for want of memory.
-    #[tactic(auto, unfolding(crate::specs::Snapshots::sized))]
+    #[tactic(auto, unfolding(ring_object::specs::Sized::sized))]
     fn append(&self, out: &mut Vec<u8, O::Alloc>) -> Result<(), Fault>
         ensures content { OnOk result (O.is_content self.now.content) }
         ensures ok { OnOk result (out.new.items ≡ out.old.items ++ table_snapshot O.sequential.snapshot_of self.now) }
@@ -113,7 +113,7 @@ impl<O: Object> Sessions<O> {
         ensures refused { IfErr result (λ fault. fault ≡ Memory) }
     {
         append_clients(out, &self.sessions)?;
-        append_object(out, &self.object)
+        append_sized(&self.object, out)
     }
 
     /// The table whose snapshot the bytes are. `BadSnapshot` exactly where they are none, else the table or `Memory`.

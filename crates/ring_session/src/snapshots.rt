@@ -8,13 +8,12 @@ ghost use Rattle.byteorder.specs.Endian.{big_bytes};
 ghost use Rattle.ring_layout.specs.Reading.{number_at, text_at, ◌⊕◌};
 ghost use Rattle.ring_payload.specs.Operations.{op_at};
 ghost use Rattle.ring_session.specs.Deduplicated.{most_clients};
-ghost use Rattle.ring_session.specs.Snapshots.{client_spelling, sized, reply_at, next_at, clients_at, clients_in, AreParts};
+ghost use Rattle.ring_session.specs.Snapshots.{client_spelling, reply_at, next_at, clients_at, clients_in, AreParts};
 
 use crate::MAX_CLIENTS;
 use crate::session::Session;
 use byteorder::{BigEndian, ByteOrder};
 use ring_base::Fault;
-use ring_object::Object;
 use ring_payload::MOST_OPERATION;
 use std::alloc::Allocator;
 use std::collections::BTreeMap;
@@ -57,24 +56,6 @@ pub fn append_clients<A: Allocator + Copy>(
         append_number(out, u64::from(*client), 4)?;
         session.append(out)?;
     }
-    Ok(())
-}
-
-/// Appends the object's snapshot behind its length; or nothing, for want of memory.
-pub fn append_object<O: Object>(out: &mut Vec<u8, O::Alloc>, object: &O) -> Result<(), Fault>
-    ensures content { OnOk result (O.is_content object.now) }
-    ensures ok { OnOk result (out.new.items ≡ out.old.items ++ sized 8 (O.sequential.snapshot_of object.now)) }
-    ensures err { OnErr result (out.new.items ≡ out.old.items) }
-    ensures refused { IfErr result (λ fault. fault ≡ Memory) }
-{
-    let start = out.len();
-    out.extend_from_slice(&[0; 8])?;
-    if let Err(fault) = object.snapshot(out) {
-        out.truncate(start);
-        return Err(fault);
-    }
-    let len = out.len() - start - 8;
-    BigEndian::write_u64(&mut out.as_mut_slice()[start..], len as u64);
     Ok(())
 }
 

@@ -2,8 +2,9 @@
 -- Objects, of docs/PROTOCOL.md; Operations and replies, and Snapshots, of docs/FORMATS.md.
 use Rattle.std.specs.Prelude.{ℕ, Bool, false, ◌==◌, nat_le, ◌&&◌, if◌then◌else◌, List, [], ◌∷◌, ◌++◌, length, take, drop, Option, Some, None}
 use Rattle.std.specs.Option.{option_and_then}
-use Rattle.byteorder.specs.Endian.{big_bytes, big_number}
+use Rattle.byteorder.specs.Endian.{big_number}
 use Rattle.ring_object.specs.Operations.{unreadable}
+use Rattle.ring_object.specs.Sized.{sized}
 use Rattle.ring_things.specs.declared.shelf.Place.{Place}
 use Rattle.ring_things.specs.declared.shelf.Place.TheVariants.{First, Second, Third, Fourth}
 
@@ -38,10 +39,6 @@ shelf_next p q r s objects (which ∷ op) =
     else if which == 2 then (objects.0, objects.1, r objects.2 op, objects.3)
     else if which == 3 then (objects.0, objects.1, objects.2, s objects.3 op)
     else objects
-
--- a text behind its length, a number of the width in bytes
-unfoldable pub sized : ℕ → List ℕ → List ℕ
-sized width text = big_bytes width (length text) ++ text
 
 -- the text at the front, and what stands behind it
 unfoldable pub first_text : ℕ → List ℕ → Option (List ℕ × List ℕ)

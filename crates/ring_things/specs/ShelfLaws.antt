@@ -9,11 +9,12 @@ use Rattle.byteorder.specs.Endian.{big_bytes, big_number}
 use Rattle.byteorder.specs.Numbers.{big_number-reads_back, length-bytes_high_first}
 use Rattle.ring_object.specs.Bytes.{AreBytes}
 use Rattle.ring_object.specs.Operations.{IsReply, unreadable}
+use Rattle.ring_object.specs.Sized.{sized}
 use Rattle.ring_object.specs.Snapshots.{Restores}
 use Rattle.ring_things.specs.Guards.{guarded, and_then_some}
 use Rattle.ring_things.specs.Numbers.{IsExact, exact_8, big_bytes-big_number}
 use Rattle.ring_things.specs.Replies.{code_fits, AreBytes-rest, AreBytes-drop, AreBytes-take}
-use Rattle.ring_things.specs.Shelf.{shelf_readable, shelf_reply, shelf_next, sized, first_text, texts_of}
+use Rattle.ring_things.specs.Shelf.{shelf_readable, shelf_reply, shelf_next, first_text, texts_of}
 use Rattle.ring_things.specs.Shelf.{shelf_snapshot, both_of, four_of, objects_of, shelf_of}
 
 -- what holds of each object

@@ -3,14 +3,14 @@
 ghost use Rattle.std.specs.Prelude.{◌≡◌, ◌∷◌, ◌++◌, take, Option, IfErr, OnOk, OnErr, vec_len};
 ghost use Rattle.std.specs.Option.{option_map};
 ghost use Rattle.ring_object.specs.Snapshots.{IsRestored};
-ghost use Rattle.ring_things.specs.Shelf.{number_of, sized, first_text, texts_of, shelf_snapshot, both_of};
+ghost use Rattle.ring_things.specs.Shelf.{number_of, first_text, texts_of, shelf_snapshot, both_of};
 ghost use Rattle.ring_things.specs.ShelfLaws.{AreContents};
 
 use crate::operations::{Operation, ShelfOperation, headed};
 use crate::replies::{Outcome, reply};
 use byteorder::{BigEndian, ByteOrder};
 use ring_base::Fault;
-use ring_object::{Object, Reply};
+use ring_object::{Object, Reply, append_sized};
 use std::marker::Model;
 
 /// Four objects of any types side by side. The first byte of an operation, 0 to 3, names the object,
@@ -148,24 +148,6 @@ impl Place {
     {
         headed(self as u8, operation.as_slice())
     }
-}
-
-/// Appends the object's snapshot behind its length; or nothing, for want of memory.
-fn append_sized<O: Object>(object: &O, out: &mut Vec<u8, O::Alloc>) -> Result<(), Fault>
-    ensures content { OnOk result (O.is_content object.now) }
-    ensures ok { OnOk result (out.new.items ≡ out.old.items ++ sized 8 (O.sequential.snapshot_of object.now)) }
-    ensures err { OnErr result (out.new.items ≡ out.old.items) }
-    ensures refused { IfErr result (λ fault. fault ≡ Fault.Memory) }
-{
-    let start = out.len();
-    out.extend_from_slice(&[0; 8])?;
-    if let Err(fault) = object.snapshot(out) {
-        out.truncate(start);
-        return Err(fault);
-    }
-    let len = out.len() - start - 8;
-    BigEndian::write_u64(&mut out.as_mut_slice()[start..], len as u64);
-    Ok(())
 }
 
 /// Appends four snapshots, each behind its length; or a front of that, for want of memory.

@@ -1,6 +1,6 @@
 use Rattle.std.proofs.Common.{◌-◌, [], ◌∷◌, ◌++◌, refl, sym, ap, ◌∙◌}
-use Rattle.ring_session.proofs.Parts.{patched, length_behind}
-use Rattle.ring_session.proofs.snapshots.append_object.Goals as goal
+use Rattle.ring_object.proofs.BehindLengths.{patched, length_behind}
+use Rattle.ring_object.proofs.sized.append_sized.Goals as goal
 
 pub returns-clause-ok : goal.returns-clause-ok
 returns-clause-ok g c =

@@ -1,19 +1,18 @@
 //! The object that keeps nothing.
 
+use crate::{Object, Reply};
 use ring_base::Fault;
-use ring_object::{Object, Reply};
 use std::alloc::Allocator;
 use std::marker::{Model, PhantomData};
 
-/// No content: an operation changes nothing and is replied the byte `FF`. Its session table tells which calls of a list
-/// take effect, whatever the object that they are for.
+/// No content: an operation changes nothing and is replied the byte `FF`.
 #[derive(Drop)]
 pub struct Nothing<A: Allocator + Copy> {
     home: PhantomData<A>,
 }
 
 impl<A: Allocator + Copy> Model for Nothing<A> {
-    ghost use Rattle.ring_session.specs.Nothing.{Content};
+    ghost use Rattle.ring_object.specs.Nothing.{Content};
 
     ghost Value = { Content };
 
@@ -21,7 +20,7 @@ impl<A: Allocator + Copy> Model for Nothing<A> {
 }
 
 impl<A: Allocator + Copy + Drop> Object for Nothing<A> {
-    ghost use Rattle.ring_session.specs.Nothing.{is_content, is_readable, nothing, ignores, replies, restores};
+    ghost use Rattle.ring_object.specs.Nothing.{is_content, is_readable, nothing, ignores, replies, restores};
 
     type Alloc = A;
 
