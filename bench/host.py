@@ -1,30 +1,33 @@
 #!/usr/bin/env python3
 """Measures hosts on threads, beside plain hosts.
 
-    bench/host.py [--runs N] [--program FILE]    calls and lines a second, of this host and of the plain ones; and an idle host
-    bench/host.py --soak [--program FILE]        hosts under stops and cramped inboxes, for a minute
+    bench/host.py [--runs N] [--program FILE | --save FILE]    calls and lines a second, of this host and of the plain ones; and an idle host
+    bench/host.py --soak [--program FILE | --save FILE]        hosts under stops and cramped inboxes, for a minute
+    bench/host.py --build --save FILE                          proves and builds the program, and measures nothing
 
 The program promises nothing, so it is no crate of the repository: its text is bench/host/, each file with `.txt` behind its
-name. It is proved and built in a copy of the repository, as the crate `host_bench`. In a copy nothing is proved yet, so all crates
-below it are proved too, which takes an hour. --save FILE keeps the program that is built, and --program FILE measures one that
-was kept, without a proof: whether it is of this text, the caller knows.
+name. It is proved and built in a copy of the repository, as the crate `host_bench`, over what the repository's crates have built
+in out/, as far as it is of their text; what is missing is proved first, which may take an hour. --save FILE keeps the program that
+is built, and --program FILE measures one that was kept, without a proof: whether it is of this text, the caller knows.
 
 There are two plain hosts: a Mutex a node, an inbox a node, no book and no checks. One has the same nodes, and is part of the
 program: it shows what the book and the gauge cost. The other is bench/plain_host.rs, built by rustc, with nodes written for it,
 whose ring never changes and loses nothing: it shows what threads and a token can do at all.
 
-For each case the best of N runs is told, 5 where no number is given: calls answered a second, lines of the book a second, the
-calls a second of the plain host of the same nodes, the first by that, and the calls a second of the one in Rust. Ratios matter:
-seconds depend on the machine and on what else it does.
+For each case N runs of each host are made in turns, 9 where no number is given, so that all of them have the same share of what
+else the machine does. Told are the best and the median of this host's calls answered a second, its lines of the book a second, the
+same of the plain host of the same nodes, the first by that, of the best and of the medians, and the best of the one in Rust. A run
+that didn't answer all its calls is told, and not counted. Ratios matter: seconds depend on the machine and on what else it does.
 
-The soak ends with status 1 if a host's history was not legal, or memory grew: if the process held more than 1.1 times as much after a
-host of the last quarter as after one of the second. Each of these hosts fills its book, so all have as many lines; and the process has
-one heap for all threads (MALLOC_ARENA_MAX of glibc), so that what one host gave back serves the next. With a heap for each thread
-it would hold more and more of them half empty.
+The soak ends with status 1 if a host's history was not legal; if a call at a node that was not stopped has no answer, and its
+client wasn't told why; or if memory grew: if the process held more than 1.1 times as much after a host of the last quarter as
+after one of the second. The process has one heap for all threads (MALLOC_ARENA_MAX of glibc), so that what one host gave back
+serves the next. With a heap for each thread it would hold more and more of them half empty.
 """
 import argparse
 import os
 import shutil
+import statistics
 import subprocess
 import sys
 import tempfile
@@ -38,14 +41,21 @@ LINE = ("host_bench: ring_base ring_payload ring_wire ring_object ring_things ri
 CASES = [(3, 1, 2_000), (16, 1, 100), (3, 64, 20_000), (16, 64, 2_000)]
 IDLE_NODES, IDLE_MILLIS = 3, 10_000
 SOAK_SECONDS = 60
-HEADS = ["Nodes", "In flight a client", "Calls a second", "Lines a second", "Plain host of the same nodes", "The first by that",
-         "Plain host in Rust"]
+HEADS = ["Nodes", "In flight a client", "Calls a second: best", "median", "Lines a second", "Plain host of the same nodes: best", "median",
+         "The first by that: best", "median", "Plain host in Rust: best"]
+
+
+def taken_over(top):
+    """Hands the copy what the repository's crates have built. The toolchain sees what is not of the crates' text."""
+    for built_there in ROOT.glob("crates/*/out/rlib"):
+        shutil.copytree(built_there, top / built_there.relative_to(ROOT), copy_function=os.link)
 
 
 def copied(folder):
     """A copy of the repository, with the program among its crates. The folder of the program's crate."""
     top = folder / "repo"
     shutil.copytree(ROOT, top, ignore=shutil.ignore_patterns("out", ".git"))
+    taken_over(top)
     crate = top / "crates" / "host_bench"
     for part in ("specs", "proofs"):
         (crate / part).mkdir(parents=True)
@@ -87,25 +97,35 @@ def run(*words):
     return dict(zip(line[::2], line[1::2])), used.ru_utime + used.ru_stime
 
 
-def best(runs, *words):
-    """The greatest rate of some runs: calls answered a second, and lines a second in that run."""
-    rates = []
+def rates(told, wanted):
+    """Calls answered and lines a second of a run, if all calls that were wanted were answered."""
+    seconds = int(told["nanos"]) / 1e9
+    is_whole = int(told["answered"]) == wanted
+    return (int(told["answered"]) / seconds, int(told.get("lines", 0)) / seconds) if is_whole else None
+
+
+def case(hosts, runs, nodes, depth, calls):
+    """The rates of each host, of runs in turns."""
+    seen = [[] for _ in hosts]
     for _ in range(runs):
-        told, _ = run(*words)
-        seconds = int(told["nanos"]) / 1e9
-        rates.append((int(told["answered"]) / seconds, int(told.get("lines", 0)) / seconds))
-    return max(rates)
+        for words, rows in zip(hosts, seen):
+            rows.append(rates(run(*words, nodes, depth, calls)[0], nodes * calls))
+    for words, rows in zip(hosts, seen):
+        if None in rows:
+            print(f"{rows.count(None)} runs of {' '.join(str(word) for word in words)} did not answer all calls", file=sys.stderr)
+    return [[row for row in rows if row] or [(0.0, 0.0)] for rows in seen]
 
 
 def table(program, plain, runs):
     print("| " + " | ".join(HEADS) + " |")
     print("|" + "---|" * len(HEADS))
     for nodes, depth, calls in CASES:
-        answered, lines = best(runs, program, "load", nodes, depth, calls)
-        plainly, _ = best(runs, program, "plain", nodes, depth, calls)
-        in_rust, _ = best(runs, plain, nodes, depth, calls)
-        row = [nodes, depth, f"{answered:,.0f}", f"{lines:,.0f}", f"{plainly:,.0f}", f"{answered / plainly:.2f}", f"{in_rust:,.0f}"]
-        print("| " + " | ".join(str(cell) for cell in row) + " |", flush=True)
+        own, plainly, in_rust = case([(program, "load"), (program, "plain"), (plain,)], runs, nodes, depth, calls)
+        middle, plain_middle = (statistics.median(rate for rate, _ in rows) for rows in (own, plainly))
+        (most, lines), (plain_most, _), (rust_most, _) = max(own), max(plainly), max(in_rust)
+        cells = [f"{number:,.0f}" for number in (most, middle, lines, plain_most, plain_middle)]
+        cells += [f"{one / max(other, 1):.2f}" for one, other in ((most, plain_most), (middle, plain_middle))]
+        print("| " + " | ".join([str(nodes), str(depth), *cells, f"{rust_most:,.0f}"]) + " |", flush=True)
 
 
 def idle(program):
@@ -127,11 +147,13 @@ def soak(program):
     one_heap = {**os.environ, "MALLOC_ARENA_MAX": "1"}
     child = subprocess.Popen([str(program), "soak", "1000000"], stdout=subprocess.PIPE, text=True, env=one_heap)
     ends = time.monotonic() + SOAK_SECONDS
-    answered, holds, wrong, lines = 0, [], 0, []
+    answered, holds, wrong, lost, told_why, lines = 0, [], 0, 0, 0, []
     for line in child.stdout:
         told = dict(zip(line.split()[::2], line.split()[1::2]))
         answered += int(told["answered"])
         wrong += told["legal"] != "true"
+        lost += told["missed"] != "0" and told["fault"] == "0"
+        told_why += told["missed"] != "0" and told["fault"] != "0"
         lines.append(int(told["lines"]))
         holds.append(held(child.pid))
         if time.monotonic() > ends:
@@ -140,21 +162,25 @@ def soak(program):
     child.wait()
     quarter = max(1, len(holds) // 4)
     early, late = max(holds[quarter:2 * quarter] or holds or [0]), max(holds[-quarter:] or [0])
-    print(f"{len(holds)} hosts of {min(lines, default=0):,} to {max(lines, default=0):,} lines, {answered:,} calls answered, {wrong} not legal; "
+    print(f"{len(holds)} hosts of {min(lines, default=0):,} to {max(lines, default=0):,} lines, {answered:,} calls answered; {wrong} not legal, "
+          f"{told_why} with clients that were told why calls at nodes that go on have no answer, {lost} where they were not told; "
           f"at most {early:,} bytes early, {late:,} late")
-    return int(not holds or wrong > 0 or late > 1.1 * early)
+    return int(not holds or wrong > 0 or lost > 0 or late > 1.1 * early)
 
 
 def main():
     parser = argparse.ArgumentParser(description=__doc__, formatter_class=argparse.RawDescriptionHelpFormatter)
     parser.add_argument("--soak", action="store_true")
-    parser.add_argument("--runs", type=int, default=5)
+    parser.add_argument("--build", action="store_true")
+    parser.add_argument("--runs", type=int, default=9)
     parser.add_argument("--program", type=Path)
     parser.add_argument("--save", type=Path)
     words = parser.parse_args()
     with tempfile.TemporaryDirectory() as folder:
         folder = Path(folder)
         program = words.program or built(folder, words.save)
+        if words.build:
+            return
         if words.soak:
             sys.exit(soak(program.resolve()))
         table(program.resolve(), plain_built(folder), words.runs)

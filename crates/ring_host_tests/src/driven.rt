@@ -156,12 +156,15 @@ impl<O: Object, K: BookName<O::Alloc>> Driven<O, K> {
         self.host.read_book(rt, |book| book.places())
     }
 
-    /// What a poll of the ticket answers, and whether it is what the host's book answers.
+    /// What a poll of the ticket answers, and whether it is what the host's book answers, and what one look for many finds.
     pub fn polled<W: Wait>(&self, rt: &W, ticket: &HostTicket) -> (Option<Answer>, bool) {
         let answer = self.host.poll(rt, ticket);
+        let mut answers = self.host.no_answers(ticket.node);
+        self.host.poll_from(rt, ticket, &mut answers);
+        let looked = answers.answer(ticket);
         let HostTicket { node, ticket } = *ticket;
         let told = self.host.read_book(rt, |book| book.answer(node, ticket));
-        (answer, answer == told)
+        (answer, answer == told && looked == told)
     }
 }
 
