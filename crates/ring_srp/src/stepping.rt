@@ -41,7 +41,7 @@ pub(crate) fn step<A: Allocator + Copy>(
     tell(machine, before)
 }
 
-/// The same with all outputs in one list.
+/// One step, whose outputs all go to one list, in their order.
 pub(crate) fn step_joined<A: Allocator + Copy>(
     machine: &mut Machine<A>,
     input: Input<A>,
@@ -57,7 +57,7 @@ pub(crate) fn step_joined<A: Allocator + Copy>(
     joined(sends, told)
 }
 
-/// The same for a frame that the caller keeps. A token that is visited isn't copied, and a message that is taken is copied once.
+/// One step, of a frame that the caller keeps. A token that is visited isn't copied, and a message that is taken is copied once.
 pub(crate) fn hear<A: Allocator + Copy>(
     machine: &mut Machine<A>,
     frame: &Frame<A>,
@@ -216,7 +216,7 @@ fn tell<A: Allocator + Copy>(
     Ok(told)
 }
 
-/// The frames that were sent, and then what the processor is told.
+/// All outputs of a step in one list: the frames that were sent, and then what the processor is told.
 pub(crate) fn joined<A: Allocator + Copy>(
     sends: Vec<Sent<A>, A>,
     mut told: Vec<Out<A>, A>,
