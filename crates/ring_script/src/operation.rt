@@ -13,6 +13,9 @@ use ring_base::Fault;
 use ring_payload::MOST_OPERATION;
 use std::alloc::Allocator;
 
+/// Room for the bytes of most operations.
+const ROOM: usize = 32;
+
 /// The greatest length of a name.
 const LONGEST_NAME: usize = 64;
 
@@ -51,7 +54,7 @@ fn named_of<V: Vocabulary, A: Allocator + Copy>(
     ensures { Gives (λ bytes. (bytes.items, words.new)) result (named_at V.forms name.now words.old) }
 {
     let form = form_of::<V>(name).ok_or(Fault::BadScript)?;
-    let mut bytes = Vec::new(alloc);
+    let mut bytes = Vec::with_capacity(alloc, ROOM)?;
     bytes.extend_from_slice(form.first)?;
     spell_all(form.arguments, words, &mut bytes)?;
     Ok(bytes)

@@ -219,7 +219,7 @@ pub(crate) fn is_skipped(line: &[u8]) -> bool
 pub(crate) fn are_ascii(line: &[u8]) -> bool
     ensures { result ≡ are_ascii line.now }
 {
-    line.iter().all(|byte| byte.is_ascii())
+    line.is_ascii()
 }
 
 /// The nodes that a line `nodes N` tells. `BadScript` where the line is none.
