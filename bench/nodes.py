@@ -83,13 +83,23 @@ def instructions(program, path):
     return int(ran.stderr.split("Collected :")[1].split()[0])
 
 
+# A child's count begins with the memory of who starts it, so a process of its own starts the program.
+MEASURED = """
+import os, sys
+quiet = [(os.POSIX_SPAWN_OPEN, 1, os.devnull, os.O_WRONLY, 0)]
+child = os.posix_spawn(sys.argv[1], [sys.argv[1], "script", sys.argv[2]], os.environ, file_actions=quiet)
+_, status, used = os.wait4(child, 0)
+print(used.ru_maxrss * 1024)
+sys.exit(status != 0)
+"""
+
+
 def memory(program, path):
     """How many bytes of memory a run has at most."""
-    child = subprocess.Popen([program, "script", path], stdout=subprocess.DEVNULL)
-    _, status, used = os.wait4(child.pid, 0)
-    if status != 0:
-        sys.exit("%s: status %d" % (path, status))
-    return used.ru_maxrss * 1024
+    ran = subprocess.run([sys.executable, "-c", MEASURED, program, path], stdout=subprocess.PIPE, text=True)
+    if ran.returncode != 0:
+        sys.exit("%s: status %d" % (path, ran.returncode))
+    return int(ran.stdout)
 
 
 def written(folder, lines):

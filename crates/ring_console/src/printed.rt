@@ -1,6 +1,6 @@
 //! The lines that a script prints.
 
-ghost use Rattle.std.specs.Prelude.{◌≡◌, ◌++◌, codes, IfErr, OnOk};
+ghost use Rattle.std.specs.Prelude.{◌≡◌, ◌+◌, ◌≤◌, [], ◌++◌, length, codes, IfErr, OnOk};
 ghost use Rattle.std.specs.Fmt.{decimal};
 ghost use Rattle.std.specs.Io.KnownBytes.{Appends};
 ghost use Rattle.hex.specs.Hex.{encode_lower};
@@ -8,6 +8,7 @@ ghost use Rattle.ring_report.specs.declared.failure.Failure.TheVariants.{Output}
 ghost use Rattle.ring_report.specs.Texts.{line_of, legal_text};
 ghost use Rattle.ring_console.specs.Printed.{one_text, told_text, answer_text, refused_text, node_text, order_text};
 
+use arrayvec::ArrayVec;
 use itoa::Buffer;
 use ring_base::{Proc, RingId, State};
 use ring_object::Reply;
@@ -21,6 +22,12 @@ use std::io::{self, Write};
 
 /// The hexadecimal digits of the longest reply: two for each of its 64 bytes.
 const MOST_DIGITS: usize = 128;
+
+/// Room for the longest line of an answer: 8 bytes of a word, three numbers of at most 20 digits behind a word each, a word and a reply, and its end.
+const LONGEST_LINE: usize = 208;
+
+/// A line of an answer, as far as it is put together.
+type AnswerLine = ArrayVec<u8, LONGEST_LINE>;
 
 /// Prints what nodes told, a line each. Otherwise `Output`.
 pub(crate) fn print_told<A: Allocator + Copy + Drop, W: Write>(
@@ -76,7 +83,7 @@ fn print_refused<A: Allocator + Copy + Drop, W: Write>(
     write_refused(out, node, call, reason).map_err(|_| Failure::Output)
 }
 
-/// Writes the line of an answer. Each call has such a line, so it is put together without `write!`, which costs three times as much.
+/// Writes the line of an answer. Each call has such a line, so it is put together without `write!`, and written at once.
 fn write_answer<A: Allocator + Copy + Drop, W: Write>(
     out: &mut W,
     node: Proc,
@@ -85,12 +92,15 @@ fn write_answer<A: Allocator + Copy + Drop, W: Write>(
 ) -> io::Result<()>
     ensures { OnOk result (Appends (W.contents out.old) (W.contents out.new) (line_of (answer_text node call.now answer.now))) }
 {
-    write_call(out, "reply ", node, call)?;
+    let mut line = ArrayVec::new();
+    add_call(&mut line, "reply ", node, call);
     match answer {
-        Answer::Done(reply) => write_reply(out, " done ", reply),
-        Answer::Kept(reply) => write_reply(out, " kept ", reply),
-        Answer::Refused(reason) => write_reason(out, " refused ", *reason),
+        Answer::Done(reply) => add_reply(&mut line, " done ", reply),
+        Answer::Kept(reply) => add_reply(&mut line, " kept ", reply),
+        Answer::Refused(reason) => add_number(&mut line, " refused ", u64::from(*reason)),
     }
+    line.push(b'\n');
+    out.write_all(line.as_slice())
 }
 
 /// Writes the line of a call that is refused.
@@ -102,54 +112,65 @@ fn write_refused<A: Allocator + Copy + Drop, W: Write>(
 ) -> io::Result<()>
     ensures { OnOk result (Appends (W.contents out.old) (W.contents out.new) (line_of (refused_text node call.now reason))) }
 {
-    write_call(out, "refused ", node, call)?;
-    write_reason(out, " ", reason)
+    let mut line = ArrayVec::new();
+    add_call(&mut line, "refused ", node, call);
+    add_number(&mut line, " ", u64::from(reason));
+    line.push(b'\n');
+    out.write_all(line.as_slice())
 }
 
-/// Writes a word, the node, and the call's client and number.
-fn write_call<A: Allocator + Copy + Drop, W: Write>(
-    out: &mut W,
+/// Adds a word, the node, and the call's client and number.
+fn add_call<A: Allocator + Copy + Drop>(
+    line: &mut AnswerLine,
     word: &str,
     node: Proc,
     call: &Call<A>,
-) -> io::Result<()>
-    ensures { OnOk result (Appends (W.contents out.old) (W.contents out.new)
-        (word.now ++ decimal node ++ codes " " ++ decimal call.now.client ++ codes "." ++ decimal call.now.number)) }
+)
+    requires empty { line.old.items ≡ [] }
+    requires room { length word.now ≤ 8 }
+    ensures items { line.new.items ≡ word.now ++ decimal node ++ codes " " ++ decimal call.now.client ++ codes "." ++ decimal call.now.number }
+    ensures len { length line.new.items ≤ 70 }
 {
-    write_number(out, word, u64::from(node.number()))?;
-    write_number(out, " ", u64::from(call.client))?;
-    write_number(out, ".", call.number)
+    add_number(line, word, u64::from(node.number()));
+    add_number(line, " ", u64::from(call.client));
+    add_number(line, ".", call.number);
 }
 
-/// Writes a word and a number.
-fn write_number<W: Write>(out: &mut W, word: &str, number: u64) -> io::Result<()>
-    ensures { OnOk result (Appends (W.contents out.old) (W.contents out.new) (word.now ++ decimal number)) }
+/// Adds a word and a number.
+fn add_number(line: &mut AnswerLine, word: &str, number: u64)
+    requires { length line.old.items + length word.now + 20 ≤ LONGEST_LINE }
+    ensures items { line.new.items ≡ line.old.items ++ word.now ++ decimal number }
+    ensures len { length line.new.items ≤ length line.old.items + length word.now + 20 }
 {
     let mut digits = Buffer::new();
-    out.write_all(word.as_bytes())?;
-    out.write_all(digits.format(number).as_bytes())
+    add(line, word.as_bytes());
+    add(line, digits.format(number).as_bytes());
 }
 
-/// Writes a word and the number of a reason, and ends the line.
-fn write_reason<W: Write>(out: &mut W, word: &str, reason: u8) -> io::Result<()>
-    ensures { OnOk result (Appends (W.contents out.old) (W.contents out.new) (line_of (word.now ++ decimal reason))) }
-{
-    write_number(out, word, u64::from(reason))?;
-    out.write_all(b"\n")
-}
-
-/// Writes a word and a reply, as two hexadecimal digits a byte in lower case, and ends the line.
-fn write_reply<W: Write>(out: &mut W, word: &str, reply: &Reply) -> io::Result<()>
-    ensures { OnOk result (Appends (W.contents out.old) (W.contents out.new) (line_of (word.now ++ encode_lower reply.now))) }
+/// Adds a word and a reply, as two hexadecimal digits a byte in lower case.
+fn add_reply(line: &mut AnswerLine, word: &str, reply: &Reply)
+    requires { length line.old.items + length word.now + MOST_DIGITS ≤ LONGEST_LINE }
+    ensures items { line.new.items ≡ line.old.items ++ word.now ++ encode_lower reply.now }
+    ensures len { length line.new.items ≤ length line.old.items + length word.now + MOST_DIGITS }
 {
     let mut room = [0u8; MOST_DIGITS];
     let digits = &mut room[..2 * reply.len()];
     let Ok(()) = hex::encode_to_slice(reply.as_slice(), digits) else {
         unreachable!();
     };
-    out.write_all(word.as_bytes())?;
-    out.write_all(digits)?;
-    out.write_all(b"\n")
+    add(line, word.as_bytes());
+    add(line, digits);
+}
+
+/// Adds the bytes, for which there is room.
+fn add(line: &mut AnswerLine, bytes: &[u8])
+    requires { length line.old.items + length bytes.now ≤ LONGEST_LINE }
+    ensures items { line.new.items ≡ line.old.items ++ bytes.now }
+    ensures len { length line.new.items ≡ length line.old.items + length bytes.now }
+{
+    let Ok(()) = line.try_extend_from_slice(bytes) else {
+        unreachable!();
+    };
 }
 
 /// How many places of a log are dropped, at the end of what is told of it: nothing where that is 0.

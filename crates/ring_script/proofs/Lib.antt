@@ -1,10 +1,11 @@
 -- Among: No line of a script names a node past the script's nodes.
+-- AsciiLines: Whether each byte of a line is below 128, as the library tells it.
 -- Cutting: The words of a cut, taken one after the other.
 -- Fitting: Each call that a script asks for keeps the limits of calls.
 -- FoundForms: The form that a word calls, as the program finds it.
 -- Inputs: The bytes of an input that was read whole.
 -- Lengths: An operation of a script is short enough for a call.
--- Numerals: What `parse` gives of a decimal word.
+-- Numerals: The number that digits write, read digit by digit.
 -- Pieces: The first piece of a text, and the first line, by where the separator stands.
 -- Readings: The lines of a text, read one after the other.
 -- RefusalsPassOn: Refusals that pass on.
@@ -12,6 +13,7 @@
 -- CutGroups: Which nodes a cut keeps together: the group kept for a processor is the only one that it is in.
 -- Voting: A line of votes, read word by word.
 pub mod Among
+pub mod AsciiLines
 pub mod Cutting
 pub mod Fitting
 pub mod FoundForms

@@ -7,7 +7,7 @@ ghost use Rattle.ring_script.specs.Reading.{Gives, Tells};
 
 use crate::groups::Groups;
 use crate::hex_word::bytes_of;
-use crate::operation::operation_of;
+use crate::operation::spell_operation;
 use crate::vocabulary::Vocabulary;
 use crate::words::{Words, decimal, is};
 use ring_base::{FRAME_BYTES, Fault, Fixed, Kind, Proc};
@@ -42,18 +42,19 @@ pub enum Line<A: Allocator + Copy = Global> {
 
 impl<A: Allocator + Copy> Line<A> {
     /// What the line asks for, among these nodes, of an object with these words. `BadScript` where it has none of the forms, or
-    /// `Memory`.
+    /// `Memory`. The bytes of an operation are put together in the room, which so serves for many lines.
     #[tactic(auto, unfolding(crate::specs::Lines::asked_of))]
     pub(crate) fn parse<V: Vocabulary>(
         alloc: A,
         nodes: Fixed,
         line: &[u8],
+        room: &mut Vec<u8, A>,
     ) -> Result<Line<A>, Fault>
         ensures { Gives asked_by result (asked_of V.forms nodes line.now) }
     {
         let mut words = Words::new(line, b' ');
         let word = words.word()?;
-        let asked = form_of::<V, A>(alloc, nodes, word, &mut words)?;
+        let asked = form_of::<V, A>(alloc, nodes, word, &mut words, room)?;
         words.end()?;
         Ok(asked)
     }
@@ -66,11 +67,12 @@ fn form_of<V: Vocabulary, A: Allocator + Copy>(
     nodes: Fixed,
     word: &[u8],
     words: &mut Words<'_>,
+    room: &mut Vec<u8, A>,
 ) -> Result<Line<A>, Fault>
     ensures { Gives (λ line. (asked_by line, words.new)) result (form_at V.forms nodes word.now words.old) }
 {
     if is(word, b"call") {
-        call_of::<V, A>(alloc, nodes, words)
+        call_of::<V, A>(alloc, nodes, words, room)
     } else if is(word, b"deliver") {
         deliver_of(nodes, words)
     } else if is(word, b"timeout") {
@@ -98,14 +100,15 @@ fn call_of<V: Vocabulary, A: Allocator + Copy>(
     alloc: A,
     nodes: Fixed,
     words: &mut Words<'_>,
+    room: &mut Vec<u8, A>,
 ) -> Result<Line<A>, Fault>
     ensures { Gives (λ line. (asked_by line, words.new)) result (call_at V.forms nodes words.old) }
 {
     let node = words.node(nodes)?;
     let client = words.number(0, u64::from(u32::MAX))? as u32;
     let number = words.number(1, u64::MAX)?;
-    let op = operation_of::<V, A>(alloc, words)?;
-    let call = Call::new(alloc, client, number, op.as_slice())?;
+    spell_operation::<V, A>(alloc, words, room)?;
+    let call = Call::new(alloc, client, number, room.as_slice())?;
     Ok(Line::Call { node, call })
 }
 

@@ -16,45 +16,50 @@ use std::alloc::Allocator;
 /// The greatest length of a name.
 const LONGEST_NAME: usize = 64;
 
-/// The bytes of the operation that the words say. `BadScript` where they say none, or `Memory`.
+/// Makes the bytes those of the operation that the words say. `BadScript` where they say none, or `Memory`.
 #[tactic(auto, unfolding(crate::specs::Operations::operation_at))]
-pub(crate) fn operation_of<V: Vocabulary, A: Allocator + Copy>(
+pub(crate) fn spell_operation<V: Vocabulary, A: Allocator + Copy>(
     alloc: A,
     words: &mut Words<'_>,
-) -> Result<Vec<u8, A>, Fault>
-    ensures { Gives (λ bytes. (bytes.items, words.new)) result (operation_at V.forms words.old) }
+    bytes: &mut Vec<u8, A>,
+) -> Result<(), Fault>
+    ensures { Gives (λ _. (bytes.new.items, words.new)) result (operation_at V.forms words.old) }
 {
     let word = words.word()?;
     if is(word, b"raw") {
-        raw_of(alloc, words)
+        spell_raw(alloc, words, bytes)
     } else {
-        named_of::<V, A>(alloc, word, words)
+        spell_named::<V, A>(word, words, bytes)
     }
 }
 
-/// The bytes that the next word spells. `BadScript` where it spells none, or `Memory`.
+/// Makes the bytes those that the next word spells. `BadScript` where it spells none, or `Memory`.
 #[tactic(auto, unfolding(crate::specs::Operations::raw_at))]
-fn raw_of<A: Allocator + Copy>(alloc: A, words: &mut Words<'_>) -> Result<Vec<u8, A>, Fault>
-    ensures { Gives (λ bytes. (bytes.items, words.new)) result (raw_at words.old) }
+fn spell_raw<A: Allocator + Copy>(
+    alloc: A,
+    words: &mut Words<'_>,
+    bytes: &mut Vec<u8, A>,
+) -> Result<(), Fault>
+    ensures { Gives (λ _. (bytes.new.items, words.new)) result (raw_at words.old) }
 {
-    bytes_of(alloc, words.word()?, MOST_OPERATION)
+    *bytes = bytes_of(alloc, words.word()?, MOST_OPERATION)?;
+    Ok(())
 }
 
-/// The bytes of the operation of this name with the arguments that the next words are. `BadScript` where they say none, or
-/// `Memory`.
+/// Makes the bytes those of the operation of this name with the arguments that the next words are. `BadScript` where they say
+/// none, or `Memory`.
 #[tactic(auto, unfolding(crate::specs::Operations::named_at))]
-fn named_of<V: Vocabulary, A: Allocator + Copy>(
-    alloc: A,
+fn spell_named<V: Vocabulary, A: Allocator + Copy>(
     name: &[u8],
     words: &mut Words<'_>,
-) -> Result<Vec<u8, A>, Fault>
-    ensures { Gives (λ bytes. (bytes.items, words.new)) result (named_at V.forms name.now words.old) }
+    bytes: &mut Vec<u8, A>,
+) -> Result<(), Fault>
+    ensures { Gives (λ _. (bytes.new.items, words.new)) result (named_at V.forms name.now words.old) }
 {
     let form = form_of::<V>(name).ok_or(Fault::BadScript)?;
-    let mut bytes = Vec::new(alloc);
+    bytes.clear();
     bytes.extend_from_slice(form.first)?;
-    spell_all(form.arguments, words, &mut bytes)?;
-    Ok(bytes)
+    spell_all(form.arguments, words, bytes)
 }
 
 /// Appends the next words' spellings as these arguments.

@@ -146,8 +146,9 @@ fn read_lines<V: Vocabulary, A: Allocator + Copy>(
         (asked_in V.forms nodes lines.old.before lines.old.lines) }
 {
     let mut asked = Vec::new(alloc);
+    let mut room = Vec::new(alloc);
     while let Some((number, line)) = lines.next_line() {
-        match line_of::<V, A>(alloc, nodes, line) {
+        match line_of::<V, A>(alloc, nodes, line, &mut room) {
             Ok(None) => {}
             Ok(Some(line)) => {
                 if asked.push(Numbered { number, line }).is_err() {
@@ -185,13 +186,14 @@ fn line_of<V: Vocabulary, A: Allocator + Copy>(
     alloc: A,
     nodes: Fixed,
     line: &[u8],
+    room: &mut Vec<u8, A>,
 ) -> Result<Option<Line<A>>, Fault>
     ensures { Gives (option_map asked_by) result (unless_skipped (asked_of V.forms nodes) line.now) }
 {
     if skips(line)? {
         return Ok(None);
     }
-    Ok(Some(Line::parse::<V>(alloc, nodes, line)?))
+    Ok(Some(Line::parse::<V>(alloc, nodes, line, room)?))
 }
 
 /// Whether the line asks for nothing: it is empty, or a comment. `BadScript` where it is not ASCII.
@@ -219,7 +221,7 @@ pub(crate) fn is_skipped(line: &[u8]) -> bool
 pub(crate) fn are_ascii(line: &[u8]) -> bool
     ensures { result ≡ are_ascii line.now }
 {
-    line.iter().all(|byte| byte.is_ascii())
+    line.is_ascii()
 }
 
 /// The nodes that a line `nodes N` tells. `BadScript` where the line is none.

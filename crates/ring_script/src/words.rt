@@ -1,10 +1,11 @@
 //! The words of a script's line, and what a word can stand for.
 
-ghost use Rattle.std.specs.Prelude.{◌≡◌, ◌≤◌, ◌==◌, IfOk, drop, position};
+ghost use Rattle.std.specs.Prelude.{◌≡◌, ◌≤◌, ◌==◌, IfOk, drop, position, true};
 ghost use Rattle.std.specs.Char.{is_ascii_digit};
 ghost use Rattle.std.specs.Iterator.{YieldsFirstRef};
 ghost use Rattle.std.specs.List.{list_all};
-ghost use Rattle.ring_script.specs.Numbers.{is, is_decimal, number_within, node_of, decimal_of, word_at, number_at, node_at};
+ghost use Rattle.std.specs.Str.Parse.{digits_value};
+ghost use Rattle.ring_script.specs.Numbers.{is, is_decimal, number_within, node_of, as_u64, decimal_of, word_at, number_at, node_at};
 ghost use Rattle.ring_script.specs.Reading.{Tells};
 ghost use Rattle.ring_script.specs.Words.{pieces, ended};
 
@@ -116,10 +117,21 @@ pub(crate) fn decimal(word: &[u8]) -> Result<Option<u64>, Fault>
     if !is_decimal(word) {
         return Err(Fault::BadScript);
     }
-    match str::from_utf8(word) {
-        Ok(text) => Ok(text.parse::<u64>().ok()),
-        Err(_) => Err(Fault::BadScript),
+    Ok(value_of(word))
+}
+
+/// The number that the digits write, none if no u64 holds it.
+fn value_of(digits: &[u8]) -> Option<u64>
+    requires { list_all is_ascii_digit digits.now ≡ true }
+    ensures { result ≡ as_u64 (digits_value 10 digits.now) }
+{
+    let mut value = 0u64;
+    for digit in digits {
+        value = value
+            .checked_mul(10)?
+            .checked_add(u64::from(*digit - b'0'))?;
     }
+    Some(value)
 }
 
 /// Whether the word is digits alone, with no leading zero but in `0` itself.
