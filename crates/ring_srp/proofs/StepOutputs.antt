@@ -1,21 +1,25 @@
 -- What the parts of a step send and give, one after another, is what the step sends and gives.
-use Rattle.std.proofs.Common.{◌≡◌, ℕ, Bool, true, false, List, [], ◌++◌, refl, ap, sym, ◌∙◌}
-use Rattle.std.specs.Prelude.{◌&&◌}
+use Rattle.std.proofs.Common.{◌≡◌, ℕ, Bool, true, false, List, [], ◌++◌, map, Result, Ok, Err, refl, ap, sym, ◌∙◌}
+use Rattle.std.specs.Prelude.{◌&&◌, filter_map, Vec, IfOk}
 use Rattle.std.proofs.lemmas.List.{append-nil, append_assoc}
+use Rattle.ring_base.specs.declared.fault.Fault.{Fault}
 use Rattle.ring_base.specs.declared.ring_id.RingId.{RingId}
 use Rattle.ring_wire.specs.declared.token.Token.{Token}
 use Rattle.ring_token.specs.Turns.{first_token}
 use Rattle.ring_core.specs.declared.input.Input.{Input}
 use Rattle.ring_core.specs.declared.out.Out.{Out}
-use Rattle.ring_core.specs.State.{Core, Sent, Did, Stepped, all_of, formed}
+use Rattle.ring_core.specs.declared.out.Out.TheVariants.{Send}
+use Rattle.ring_core.specs.State.{Core, Sent, Did, all_of, formed}
 use Rattle.ring_core.specs.Joining.{proposes}
 use Rattle.ring_core.specs.Deciding.{Act, decide}
 use Rattle.ring_core.specs.Acting.{act, may_follow, silently, proposed_after, done}
 use Rattle.ring_core.specs.Views.{front, mark}
 use Rattle.ring_core.specs.Visiting.{visited}
-use Rattle.ring_core.specs.Giving.{sent, delivered_from, given, may_install, settle, delivered}
+use Rattle.ring_core.specs.Giving.{addressed, sent, send_of, delivered_from, given, may_install, settle, delivered}
 use Rattle.ring_core.specs.Stepping.{ring_step}
-use Rattle.ring_core.proofs.Carrying.{sent-append}
+use Rattle.ring_srp_acts.proofs.Told.{none_both, none_from, none_settled}
+use Rattle.ring_srp_acts.proofs.Visits.{addressed-append}
+use Rattle.ring_srp.specs.Given.{IsGiven}
 
 -- A proposal stands after what was sent before
 
@@ -34,20 +38,20 @@ done_core {A} c mid a f e =
     ∙ after_core (proposes (act c a).core) (act c a)
     ∙ sym (ap (λ b. (proposed_after (b && proposes (act c a).core) (act c a)).core) f)
 
-pub done_sends : {A : Type 0} (c mid : Core A) (a : Act A) (outs outs' outs'' : List (Out A)) → may_follow a ≡ true → mid ≡ (act c a).core
-    → outs' ≡ outs ++ sent (act c a).sends → outs'' ≡ outs' ++ sent (proposed_after (proposes mid) (silently mid)).sends
-    → outs'' ≡ outs ++ sent (done c a).sends
-done_sends {A} c mid a outs outs' outs'' f e p q =
+pub done_sends : {A : Type 0} (c mid : Core A) (a : Act A) (before first all : List (Sent A)) → may_follow a ≡ true → mid ≡ (act c a).core
+    → first ≡ before ++ addressed (act c a).sends → all ≡ first ++ addressed (proposed_after (proposes mid) (silently mid)).sends
+    → all ≡ before ++ addressed (done c a).sends
+done_sends {A} c mid a before first all f e p q =
     let did = act c a in
-    let s : sent did.sends ++ sent (proposed_after (proposes mid) (silently mid)).sends ≡ sent (done c a).sends =
-    ap (λ (m : Core A). sent did.sends ++ sent (proposed_after (proposes m) (silently m)).sends) e
-    ∙ sym (sent-append did.sends (proposed_after (proposes did.core) (silently did.core)).sends)
-    ∙ ap sent (after_sends (proposes did.core) did)
-    ∙ sym (ap (λ b. sent (proposed_after (b && proposes did.core) did).sends) f) in
+    let s : addressed did.sends ++ addressed (proposed_after (proposes mid) (silently mid)).sends ≡ addressed (done c a).sends =
+    ap (λ (m : Core A). addressed did.sends ++ addressed (proposed_after (proposes m) (silently m)).sends) e
+    ∙ sym (addressed-append did.sends (proposed_after (proposes did.core) (silently did.core)).sends)
+    ∙ ap addressed (after_sends (proposes did.core) did)
+    ∙ sym (ap (λ b. addressed (proposed_after (b && proposes did.core) did).sends) f) in
     q
-    ∙ ap (λ (xs : List (Out A)). xs ++ sent (proposed_after (proposes mid) (silently mid)).sends) p
-    ∙ append_assoc outs (sent did.sends) (sent (proposed_after (proposes mid) (silently mid)).sends)
-    ∙ ap (λ (xs : List (Out A)). outs ++ xs) s
+    ∙ ap (λ (xs : List (Sent A)). xs ++ addressed (proposed_after (proposes mid) (silently mid)).sends) p
+    ∙ append_assoc before (addressed did.sends) (addressed (proposed_after (proposes mid) (silently mid)).sends)
+    ∙ ap (λ (xs : List (Sent A)). before ++ xs) s
 
 -- and where none may follow there is none
 pub alone_core : {A : Type 0} (c : Core A) (a : Act A) → may_follow a ≡ false → (act c a).core ≡ (done c a).core
@@ -73,40 +77,55 @@ delivered_core {A} c mid a e =
     ap (λ (m : Core A). (settle (may_install m) m []).core) e
     ∙ settled_core (may_install did.core) did.core (sent did.sends ++ given c did.core)
 
-pub delivered_outs : {A : Type 0} (c mid : Core A) (a : Act A) (outs : List (Out A)) → mid ≡ (done c a).core
-    → outs ≡ sent (done c a).sends ++ given c mid → outs ++ (settle (may_install mid) mid []).outs ≡ (delivered c (done c a)).outs
-delivered_outs {A} c mid a outs e o =
-    let did = done c a in
-    ap (λ (xs : List (Out A)). xs ++ (settle (may_install mid) mid []).outs) o
-    ∙ ap (λ (m : Core A). (sent did.sends ++ given c m) ++ (settle (may_install m) m []).outs) e
-    ∙ settled_outs (may_install did.core) did.core (sent did.sends ++ given c did.core)
-
 -- the act that is decided makes the step
 pub decided_step : {A : Type 0} (c : Core A) (a : Act A) (input : Input A) → a ≡ decide c input → delivered c (done c a) ≡ ring_step c input
 unfolding ring_step
 decided_step {A} c a input d = ap (λ (b : Act A). delivered c (done c b)) d
 
-pub step_core : {A : Type 0} (c mid : Core A) (a : Act A) (input : Input A) → a ≡ decide c input → mid ≡ (done c a).core
-    → (settle (may_install mid) mid []).core ≡ (ring_step c input).core
-step_core {A} c mid a input d e = delivered_core c mid a e ∙ ap (λ (s : Stepped A). s.core) (decided_step c a input d)
+-- What was sent, and what was told behind it, are what the step gives
 
-pub step_outs : {A : Type 0} (c mid : Core A) (a : Act A) (input : Input A) (outs : List (Out A)) → a ≡ decide c input → mid ≡ (done c a).core
-    → outs ≡ sent (done c a).sends ++ given c mid → outs ++ (settle (may_install mid) mid []).outs ≡ (ring_step c input).outs
-step_outs {A} c mid a input outs d e o = delivered_outs c mid a outs e o ∙ ap (λ (s : Stepped A). s.outs) (decided_step c a input d)
+is_given : {A : Type 0} (c mid : Core A) (a : Act A) (sends : List (Sent A)) (told : List (Out A)) → mid ≡ (done c a).core
+    → sends ≡ addressed (done c a).sends → told ≡ given c mid ++ (settle (may_install mid) mid []).outs → IsGiven (delivered c (done c a)).outs sends told
+is_given {A} c mid a sends told e s t =
+    let did = done c a in
+    let later = (settle (may_install did.core) did.core []).outs in
+    let behind : told ≡ given c did.core ++ later = t ∙ ap (λ (m : Core A). given c m ++ (settle (may_install m) m []).outs) e in
+    let joined : sent did.sends ++ (given c did.core ++ later) ≡ map (λ (s : Sent A). Send s.to s.frame) sends ++ told =
+    ap (λ (xs : List (Sent A)). map (λ (s : Sent A). Send s.to s.frame) xs ++ (given c did.core ++ later)) (sym s)
+    ∙ ap (λ (xs : List (Out A)). map (λ (s : Sent A). Send s.to s.frame) sends ++ xs) (sym behind) in
+    record {
+      outs = sym (settled_outs (may_install did.core) did.core (sent did.sends ++ given c did.core))
+          ∙ append_assoc (sent did.sends) (given c did.core) later
+          ∙ joined;
+      told = ap (λ (xs : List (Out A)). filter_map send_of xs) behind
+          ∙ none_both (given c did.core) later
+          (none_from did.core c.installed.ring (front c c.installed.ring) (mark c c.installed.ring)) (none_settled (may_install did.core) did.core);
+    }
 
--- what was sent and given, of what the code keeps
-pub given_outs : {A : Type 0} (c mid : Core A) (sends : List (Sent A)) (none first outs : List (Out A)) (ring : RingId) (reached safe : ℕ) → none ≡ []
-    → first ≡ none ++ sent sends → outs ≡ first ++ delivered_from mid ring reached safe
-    → ring ≡ c.installed.ring → reached ≡ front c c.installed.ring → safe ≡ mark c c.installed.ring → outs ≡ sent sends ++ given c mid
-given_outs c mid sends none first outs ring reached safe n f o r a b = rw (o, f, n, r, a, b) refl
+-- of what the code keeps
+pub told_behind : {A Z : Type 0} (c mid : Core A) (a : Act A) (none sends : List (Sent A)) (ring : RingId) (reached safe : ℕ)
+    (r : Result (Vec (Out A) Z) Fault) → none ≡ [] → mid ≡ (done c a).core → sends ≡ none ++ addressed (done c a).sends
+    → ring ≡ c.installed.ring → reached ≡ front c c.installed.ring → safe ≡ mark c c.installed.ring
+    → IfOk r (λ told. told.items ≡ delivered_from mid ring reached safe ++ (settle (may_install mid) mid []).outs)
+    → IfOk r (λ told. IsGiven (delivered c (done c a)).outs sends told.items)
+told_behind {A} c mid a none sends ring reached safe (Ok told) n e s i f m t =
+    let later = (settle (may_install mid) mid []).outs in
+    is_given c mid a sends told.items e (s ∙ ap (λ (xs : List (Sent A)). xs ++ addressed (done c a).sends) n)
+    (t ∙ ap (λ q. delivered_from mid q reached safe ++ later) i ∙ ap (λ k. delivered_from mid c.installed.ring k safe ++ later) f
+    ∙ ap (λ k. delivered_from mid c.installed.ring (front c c.installed.ring) k ++ later) m)
+told_behind c mid a none sends ring reached safe (Err x) n e s i f m t = tt
 
--- where nothing was sent before, the outputs of the first visit are all
-pub first_alone : {A : Type 0} (n : ℕ) (c : Core A) (t : Token) (before after : List (Out A)) → before ≡ []
-    → after ≡ before ++ sent (visited c t).sends → c ≡ formed n 1 →
-    t ≡ first_token (all_of n).ring → after ≡ sent (visited {A = A} (formed n 1) (first_token (all_of n).ring)).sends
-first_alone {A} n c t before after none gives same first =
-    gives ∙ ap (λ outs. outs ++ sent (visited c t).sends) none ∙ ap (λ (d : Core A). sent (visited d t).sends) same
-    ∙ ap (λ k. sent (visited {A = A} (formed n 1) k).sends) first
+-- joined in one list they are the step's outputs
+pub joined_outs : {A : Type 0} (step outs told : List (Out A)) (sends : List (Sent A)) → IsGiven step sends told
+    → outs ≡ map (λ (s : Sent A). Send s.to s.frame) sends ++ told → outs ≡ step
+joined_outs step outs told sends g e = e ∙ sym g.outs
+
+-- where nothing was sent before and nothing is told, what the first visit sends is all
+pub first_alone : {A : Type 0} (n : ℕ) (c : Core A) (t : Token) (before sends : List (Sent A)) (told outs : List (Out A)) → before ≡ []
+    → sends ≡ before ++ addressed (visited c t).sends → told ≡ [] → outs ≡ map (λ (s : Sent A). Send s.to s.frame) sends ++ told
+    → c ≡ formed n 1 → t ≡ first_token (all_of n).ring → outs ≡ sent (visited {A = A} (formed n 1) (first_token (all_of n).ring)).sends
+first_alone {A} n c t before sends told outs none gives silent all same first =
+    all ∙ rw (gives, none, silent, same, first) (append-nil (sent (visited {A = A} (formed n 1) (first_token (all_of n).ring)).sends))
 
 pub first_core : {A : Type 0} (n : ℕ) (c d : Core A) (t : Token) → d ≡ (visited c t).core → c ≡ formed n 1 → t ≡ first_token (all_of n).ring →
     d ≡ (visited (formed n 1) (first_token (all_of n).ring)).core

@@ -6,15 +6,16 @@ ghost use Rattle.ring_core.specs.Giving.{sent};
 ghost use Rattle.ring_core.specs.State.{all_of, opening, formed, halted, is_stopped};
 ghost use Rattle.ring_core.specs.Stepping.{ring_step};
 ghost use Rattle.ring_core.specs.Visiting.{visited};
-ghost use Rattle.ring_core.specs.declared.input.Input.TheVariants.{Frame as FrameInput, Send as SendInput};
+ghost use Rattle.ring_core.specs.declared.input.Input.TheVariants.{Frame as FrameInput, Timeout as TimeoutInput, Send as SendInput};
 ghost use Rattle.ring_wire.specs.Frames.{FrameFits};
 ghost use Rattle.ring_srp_acts.specs.Allowing.{InputFits};
 ghost use Rattle.ring_token.specs.Turns.{first_token};
+ghost use Rattle.ring_srp.specs.Given.{IsGiven};
 
-use crate::stepping::{hear, send, step};
-use ring_base::{Fault, Fixed, Past, Proc, RingId, State, seen};
+use crate::stepping::{hear, joined, send, step, step_joined};
+use ring_base::{Fault, Fixed, Kind, Past, Proc, RingId, State, seen};
 use ring_commit::Configuration;
-use ring_core::{Input, Out};
+use ring_core::{Input, Out, Sent};
 use ring_payload::Payload;
 use ring_srp_acts::{Machine, all_of, first_token};
 use ring_wire::Frame;
@@ -87,8 +88,9 @@ impl<A: Allocator + Copy> Srp<A> {
     {
         let mut machine = Machine::formed(alloc, fixed, Proc::new(1))?;
         let token = first_token(all_of(fixed).ring);
-        let mut outs = machine.outputs(machine.room_for_visit(&token))?;
-        machine.visit(&token, &mut outs)?;
+        let mut sends = machine.list();
+        machine.visit(&token, &mut sends)?;
+        let outs = joined(sends, machine.list())?;
         let last = machine.installed();
         let before = seen(&machine);
         let srp = Srp {
@@ -99,9 +101,9 @@ impl<A: Allocator + Copy> Srp<A> {
         Ok((srp, outs))
     }
 
-    /// One step, of an input whose frame keeps its limits, as a decoded one does. `Stopped` once stopped. `Memory`
-    /// where a growth was refused: then the core has stopped for good, and
-    /// none of the step's outputs is given.
+    /// One step, of an input whose frame keeps its limits, as a decoded one does. All its outputs stand in one list, in their
+    /// order. `Stopped` once stopped. `Memory` where a growth was refused: then the core has stopped for good, and none of the
+    /// step's outputs is given.
     pub fn step(&mut self, input: Input<A>) -> Result<Vec<Out<A>, A>, Fault>
         requires fits { InputFits input }
         ensures outs { IfOk result (λ outs. outs.items ≡ (ring_step self.old input).outs) }
@@ -115,7 +117,7 @@ impl<A: Allocator + Copy> Srp<A> {
         };
         let last = machine.installed();
         let before = seen(machine);
-        match step(machine, input) {
+        match step_joined(machine, input) {
             Ok(outs) => Ok(outs),
             Err(refused) => {
                 let_go(&mut self.machine);
@@ -126,10 +128,18 @@ impl<A: Allocator + Copy> Srp<A> {
         }
     }
 
-    /// The same for a frame that the caller keeps: the core copies it, unless it is a token.
-    pub fn hear(&mut self, frame: &Frame<A>) -> Result<Vec<Out<A>, A>, Fault>
+    /// One step, of a frame that the caller keeps: the core copies it, unless it is a token. The frames that it sends are put
+    /// into `sends`, a list that the caller keeps from step to step with its room; what the processor is told is answered.
+    /// `Stopped` once stopped. `Memory` where a growth was refused: then the core has stopped for good, none of the step's
+    /// outputs is given, and what `sends` has is not told, so the caller empties it.
+    pub fn hear(
+        &mut self,
+        frame: &Frame<A>,
+        sends: &mut Vec<Sent<A>, A>,
+    ) -> Result<Vec<Out<A>, A>, Fault>
         requires fits { FrameFits frame.now }
-        ensures outs { IfOk result (λ outs. outs.items ≡ (ring_step self.old (FrameInput frame.now)).outs) }
+        requires empty { sends.old.items ≡ [] }
+        ensures given { IfOk result (λ told. IsGiven (ring_step self.old (FrameInput frame.now)).outs sends.new.items told.items) }
         ensures ok { OnOk result (self.new ≡ (ring_step self.old (FrameInput frame.now)).core) }
         ensures running { OnOk result (is_stopped self.old.state ≡ false) }
         ensures err { OnErr result (self.new ≡ halted self.old) }
@@ -140,8 +150,37 @@ impl<A: Allocator + Copy> Srp<A> {
         };
         let last = machine.installed();
         let before = seen(machine);
-        match hear(machine, frame) {
-            Ok(outs) => Ok(outs),
+        match hear(machine, frame, sends) {
+            Ok(told) => Ok(told),
+            Err(refused) => {
+                let_go(&mut self.machine);
+                self.last = last;
+                self.before = before;
+                Err(refused)
+            }
+        }
+    }
+
+    /// The same for a time that is over.
+    pub fn time_out(
+        &mut self,
+        kind: Kind,
+        sends: &mut Vec<Sent<A>, A>,
+    ) -> Result<Vec<Out<A>, A>, Fault>
+        requires empty { sends.old.items ≡ [] }
+        ensures given { IfOk result (λ told. IsGiven (ring_step self.old (TimeoutInput kind)).outs sends.new.items told.items) }
+        ensures ok { OnOk result (self.new ≡ (ring_step self.old (TimeoutInput kind)).core) }
+        ensures running { OnOk result (is_stopped self.old.state ≡ false) }
+        ensures err { OnErr result (self.new ≡ halted self.old) }
+        ensures refused { IfErr result (λ fault. fault ≡ (if is_stopped self.old.state then StoppedFault else Memory)) }
+    {
+        let Some(machine) = &mut self.machine else {
+            return Err(Fault::Stopped);
+        };
+        let last = machine.installed();
+        let before = seen(machine);
+        match step(machine, Input::Timeout(kind), sends) {
+            Ok(told) => Ok(told),
             Err(refused) => {
                 let_go(&mut self.machine);
                 self.last = last;

@@ -1,30 +1,48 @@
-//! One step: what an input comes to is done, a ring may be proposed, and what follows is given.
+//! One step: what an input comes to is done, a ring may be proposed, and what follows is told.
 
-ghost use Rattle.std.specs.Prelude.{◌≡◌, ◌≤◌, ◌++◌, ◌∷◌, [], true, false, IfOk, IfErr, OnOk, OnErr};
+ghost use Rattle.std.specs.Prelude.{◌≡◌, ◌≤◌, ◌++◌, [], true, false, map, IfOk, IfErr, OnOk, OnErr};
 ghost use Rattle.ring_base.specs.declared.fault.Fault.TheVariants.{Memory};
 ghost use Rattle.ring_wire.specs.Frames.{FrameFits};
 ghost use Rattle.ring_core.specs.Acting.{act, may_follow, done};
 ghost use Rattle.ring_core.specs.Deciding.{Take as TakeAct, Visit as VisitAct, is_taken};
-ghost use Rattle.ring_core.specs.Giving.{sent, may_install, delivered};
+ghost use Rattle.ring_core.specs.Giving.{addressed, may_install, settle, delivered, delivered_from};
 ghost use Rattle.ring_core.specs.Stepping.{ring_step};
 ghost use Rattle.ring_core.specs.declared.input.Input.TheVariants.{Frame as FrameInput, Send as SendInput};
 ghost use Rattle.ring_srp_acts.specs.Acts.{act_of};
 ghost use Rattle.ring_srp_acts.specs.Allowing.{Allows, InputFits, VisitAllowed};
-ghost use Rattle.ring_core.specs.State.{is_stopped};
+ghost use Rattle.ring_core.specs.State.{is_stopped, Sent as ToldSent};
+ghost use Rattle.ring_core.specs.Views.{mark};
+ghost use Rattle.ring_core.specs.declared.out.Out.TheVariants.{Send};
+ghost use Rattle.ring_srp.specs.Given.{IsGiven};
 
 use ring_base::{Fault, State};
-use ring_core::{Input, Out};
+use ring_core::{Input, Out, Sent};
 use ring_payload::Payload;
-use ring_srp_acts::{Act, Machine, is_queued};
+use ring_srp_acts::{Act, Machine, Reached, is_queued};
 use ring_wire::{Frame, Message, Token};
 use std::alloc::Allocator;
 
-/// For how many outputs a message that is taken needs room. Most often it is the next one, and is given at once; to grow for it would
-/// make room for more.
-const TAKE_ROOM: usize = 1;
-
-/// One step.
+/// One step, whose frames go to a list of their own. Answers what the processor is told.
 pub(crate) fn step<A: Allocator + Copy>(
+    machine: &mut Machine<A>,
+    input: Input<A>,
+    sends: &mut Vec<Sent<A>, A>,
+) -> Result<Vec<Out<A>, A>, Fault>
+    requires fits { InputFits input }
+    requires empty { sends.old.items ≡ [] }
+    ensures given { IfOk result (λ told. IsGiven (ring_step machine.old input).outs sends.new.items told.items) }
+    ensures core { OnOk result (machine.new ≡ (ring_step machine.old input).core) }
+    ensures running { is_stopped machine.old.state ≡ false }
+    ensures refused { IfErr result (λ fault. fault ≡ Memory) }
+{
+    let before = machine.reached();
+    let what = machine.decide(input);
+    carry_out(machine, what, sends)?;
+    tell(machine, before)
+}
+
+/// The same with all outputs in one list.
+pub(crate) fn step_joined<A: Allocator + Copy>(
     machine: &mut Machine<A>,
     input: Input<A>,
 ) -> Result<Vec<Out<A>, A>, Fault>
@@ -34,29 +52,27 @@ pub(crate) fn step<A: Allocator + Copy>(
     ensures running { is_stopped machine.old.state ≡ false }
     ensures refused { IfErr result (λ fault. fault ≡ Memory) }
 {
-    let before = machine.reached();
-    let what = machine.decide(input);
-    let mut outs = machine.outputs(room_for(machine, &what))?;
-    carry_out(machine, what, &mut outs)?;
-    machine.give(before, &mut outs)?;
-    machine.install_if_due(&mut outs)?;
-    Ok(outs)
+    let mut sends = machine.list();
+    let told = step(machine, input, &mut sends)?;
+    joined(sends, told)
 }
 
 /// The same for a frame that the caller keeps. A token that is visited isn't copied, and a message that is taken is copied once.
 pub(crate) fn hear<A: Allocator + Copy>(
     machine: &mut Machine<A>,
     frame: &Frame<A>,
+    sends: &mut Vec<Sent<A>, A>,
 ) -> Result<Vec<Out<A>, A>, Fault>
-    requires { FrameFits frame.now }
-    ensures outs { IfOk result (λ outs. outs.items ≡ (ring_step machine.old (FrameInput frame.now)).outs) }
+    requires fits { FrameFits frame.now }
+    requires empty { sends.old.items ≡ [] }
+    ensures given { IfOk result (λ told. IsGiven (ring_step machine.old (FrameInput frame.now)).outs sends.new.items told.items) }
     ensures core { OnOk result (machine.new ≡ (ring_step machine.old (FrameInput frame.now)).core) }
     ensures running { OnOk result (is_stopped machine.old.state ≡ false) }
     ensures refused { IfErr result (λ fault. fault ≡ Memory) }
 {
     match machine.visited_by(frame) {
-        Some(token) => pass_by(machine, token),
-        None => hear_other(machine, frame),
+        Some(token) => pass_by(machine, token, sends),
+        None => hear_other(machine, frame, sends),
     }
 }
 
@@ -64,16 +80,18 @@ pub(crate) fn hear<A: Allocator + Copy>(
 fn hear_other<A: Allocator + Copy>(
     machine: &mut Machine<A>,
     frame: &Frame<A>,
+    sends: &mut Vec<Sent<A>, A>,
 ) -> Result<Vec<Out<A>, A>, Fault>
-    requires { FrameFits frame.now }
-    ensures outs { IfOk result (λ outs. outs.items ≡ (ring_step machine.old (FrameInput frame.now)).outs) }
+    requires fits { FrameFits frame.now }
+    requires empty { sends.old.items ≡ [] }
+    ensures given { IfOk result (λ told. IsGiven (ring_step machine.old (FrameInput frame.now)).outs sends.new.items told.items) }
     ensures core { OnOk result (machine.new ≡ (ring_step machine.old (FrameInput frame.now)).core) }
     ensures running { OnOk result (is_stopped machine.old.state ≡ false) }
     ensures refused { IfErr result (λ fault. fault ≡ Memory) }
 {
     match machine.taken_by(frame) {
-        Some(message) => take_copy(machine, message),
-        None => step_copy(machine, frame),
+        Some(message) => take_copy(machine, message, sends),
+        None => step_copy(machine, frame, sends),
     }
 }
 
@@ -82,49 +100,50 @@ fn hear_other<A: Allocator + Copy>(
 fn take_copy<A: Allocator + Copy>(
     machine: &mut Machine<A>,
     message: &Message<A>,
+    sends: &mut Vec<Sent<A>, A>,
 ) -> Result<Vec<Out<A>, A>, Fault>
-    requires { is_taken machine.old message.now ≡ true }
-    ensures outs { IfOk result (λ outs. outs.items ≡ (delivered machine.old (done machine.old (TakeAct message.now))).outs) }
+    requires taken { is_taken machine.old message.now ≡ true }
+    requires empty { sends.old.items ≡ [] }
+    ensures given { IfOk result (λ told. IsGiven (delivered machine.old (done machine.old (TakeAct message.now))).outs sends.new.items told.items) }
     ensures core { OnOk result (machine.new ≡ (delivered machine.old (done machine.old (TakeAct message.now))).core) }
     ensures running { OnOk result (is_stopped machine.old.state ≡ false) }
     ensures refused { IfErr result (λ fault. fault ≡ Memory) }
 {
     let copy = copied_message(message)?;
-    take_by(machine, copy)
+    take_by(machine, copy, sends)
 }
 
 /// One step, of a message that is taken.
 fn take_by<A: Allocator + Copy>(
     machine: &mut Machine<A>,
     message: Message<A>,
+    sends: &mut Vec<Sent<A>, A>,
 ) -> Result<Vec<Out<A>, A>, Fault>
-    requires { is_taken machine.old message ≡ true }
-    ensures outs { IfOk result (λ outs. outs.items ≡ (delivered machine.old (done machine.old (TakeAct message))).outs) }
+    requires taken { is_taken machine.old message ≡ true }
+    requires empty { sends.old.items ≡ [] }
+    ensures given { IfOk result (λ told. IsGiven (delivered machine.old (done machine.old (TakeAct message))).outs sends.new.items told.items) }
     ensures core { OnOk result (machine.new ≡ (delivered machine.old (done machine.old (TakeAct message))).core) }
     ensures running { is_stopped machine.old.state ≡ false }
     ensures refused { IfErr result (λ fault. fault ≡ Memory) }
 {
     let before = machine.reached();
-    let mut outs = machine.outputs(TAKE_ROOM)?;
-    take_through(machine, message, &mut outs)?;
-    machine.give(before, &mut outs)?;
-    machine.install_if_due(&mut outs)?;
-    Ok(outs)
+    take_through(machine, message, sends)?;
+    tell(machine, before)
 }
 
 /// A message is taken, and then a ring may be proposed.
 fn take_through<A: Allocator + Copy>(
     machine: &mut Machine<A>,
     message: Message<A>,
-    outs: &mut Vec<Out<A>, A>,
+    sends: &mut Vec<Sent<A>, A>,
 ) -> Result<(), Fault>
     requires { is_taken machine.old message ≡ true }
     ensures core { OnOk result (machine.new ≡ (done machine.old (TakeAct message)).core) }
-    ensures outs { OnOk result (outs.new.items ≡ outs.old.items ++ sent (done machine.old (TakeAct message)).sends) }
+    ensures sends { OnOk result (sends.new.items ≡ sends.old.items ++ addressed (done machine.old (TakeAct message)).sends) }
     ensures refused { IfErr result (λ fault. fault ≡ Memory) }
 {
     machine.take(message)?;
-    machine.propose_if_due(outs)
+    machine.propose_if_due(sends)
 }
 
 /// One step, of a copy of a frame.
@@ -132,60 +151,86 @@ fn take_through<A: Allocator + Copy>(
 fn step_copy<A: Allocator + Copy>(
     machine: &mut Machine<A>,
     frame: &Frame<A>,
+    sends: &mut Vec<Sent<A>, A>,
 ) -> Result<Vec<Out<A>, A>, Fault>
-    requires { FrameFits frame.now }
-    ensures outs { IfOk result (λ outs. outs.items ≡ (ring_step machine.old (FrameInput frame.now)).outs) }
+    requires fits { FrameFits frame.now }
+    requires empty { sends.old.items ≡ [] }
+    ensures given { IfOk result (λ told. IsGiven (ring_step machine.old (FrameInput frame.now)).outs sends.new.items told.items) }
     ensures core { OnOk result (machine.new ≡ (ring_step machine.old (FrameInput frame.now)).core) }
     ensures running { OnOk result (is_stopped machine.old.state ≡ false) }
     ensures refused { IfErr result (λ fault. fault ≡ Memory) }
 {
     let copy = copied(frame)?;
-    step(machine, Input::Frame(copy))
+    step(machine, Input::Frame(copy), sends)
 }
 
 /// One step, of a token that is visited.
 fn pass_by<A: Allocator + Copy>(
     machine: &mut Machine<A>,
     token: &Token,
+    sends: &mut Vec<Sent<A>, A>,
 ) -> Result<Vec<Out<A>, A>, Fault>
-    requires { VisitAllowed machine.old token.now }
-    ensures outs { IfOk result (λ outs. outs.items ≡ (delivered machine.old (done machine.old (VisitAct token.now))).outs) }
+    requires allowed { VisitAllowed machine.old token.now }
+    requires empty { sends.old.items ≡ [] }
+    ensures given { IfOk result (λ told. IsGiven (delivered machine.old (done machine.old (VisitAct token.now))).outs sends.new.items told.items) }
     ensures core { OnOk result (machine.new ≡ (delivered machine.old (done machine.old (VisitAct token.now))).core) }
     ensures running { is_stopped machine.old.state ≡ false }
     ensures refused { IfErr result (λ fault. fault ≡ Memory) }
 {
     let before = machine.reached();
-    let mut outs = machine.outputs(machine.room_for_visit(token))?;
-    visit_through(machine, token, &mut outs)?;
-    machine.give(before, &mut outs)?;
-    machine.install_if_due(&mut outs)?;
-    Ok(outs)
+    visit_through(machine, token, sends)?;
+    tell(machine, before)
 }
 
 /// A token is visited, and then a ring may be proposed.
 fn visit_through<A: Allocator + Copy>(
     machine: &mut Machine<A>,
     token: &Token,
-    outs: &mut Vec<Out<A>, A>,
+    sends: &mut Vec<Sent<A>, A>,
 ) -> Result<(), Fault>
     requires { VisitAllowed machine.old token.now }
     ensures core { OnOk result (machine.new ≡ (done machine.old (VisitAct token.now)).core) }
-    ensures outs { OnOk result (outs.new.items ≡ outs.old.items ++ sent (done machine.old (VisitAct token.now)).sends) }
+    ensures sends { OnOk result (sends.new.items ≡ sends.old.items ++ addressed (done machine.old (VisitAct token.now)).sends) }
     ensures refused { IfErr result (λ fault. fault ≡ Memory) }
 {
-    machine.visit(token, outs)?;
-    machine.propose_if_due(outs)
+    machine.visit(token, sends)?;
+    machine.propose_if_due(sends)
 }
 
-/// For how many outputs an act needs room that is told beforehand.
-fn room_for<A: Allocator + Copy>(machine: &Machine<A>, what: &Act<A>) -> usize
-    ensures { result ≤ 50 }
+/// What the processor is told after an act: what is agreed and safe by now of the ring that was installed before it, and then
+/// what an installation gives.
+fn tell<A: Allocator + Copy>(
+    machine: &mut Machine<A>,
+    before: Reached,
+) -> Result<Vec<Out<A>, A>, Fault>
+    requires ring { before.ring ≡ machine.old.installed.ring }
+    requires mark { mark machine.old machine.old.installed.ring ≤ before.front }
+    ensures told { IfOk result (λ told. told.items ≡ delivered_from machine.old before.ring before.front before.mark ++
+        (settle (may_install machine.old) machine.old []).outs) }
+    ensures core { OnOk result (machine.new ≡ (settle (may_install machine.old) machine.old []).core) }
+    ensures refused { IfErr result (λ fault. fault ≡ Memory) }
 {
-    match what {
-        Act::Visit(token) => machine.room_for_visit(token),
-        Act::Take(_) => TAKE_ROOM,
-        _ => 0,
+    let mut told = machine.list();
+    machine.give(before, &mut told)?;
+    machine.install_if_due(&mut told)?;
+    Ok(told)
+}
+
+/// The frames that were sent, and then what the processor is told.
+pub(crate) fn joined<A: Allocator + Copy>(
+    sends: Vec<Sent<A>, A>,
+    mut told: Vec<Out<A>, A>,
+) -> Result<Vec<Out<A>, A>, Fault>
+    ensures ok { IfOk result (λ outs. outs.items ≡ map (λ (s : ToldSent A). Send s.to s.frame) sends.items ++ told.items) }
+    ensures refused { IfErr result (λ fault. fault ≡ Memory) }
+{
+    let mut outs = Vec::new(*told.allocator());
+    outs.reserve(sends.len().saturating_add(told.len()))?;
+    for sent in sends {
+        outs.push(Out::Send(sent.to, sent.frame))?;
     }
+    outs.append(&mut told)?;
+    Ok(outs)
 }
 
 /// A payload is queued in Operational where it may be, and dropped elsewhere. Nothing comes out.
@@ -216,17 +261,17 @@ pub(crate) fn send<A: Allocator + Copy>(
 fn carry_out<A: Allocator + Copy>(
     machine: &mut Machine<A>,
     what: Act<A>,
-    outs: &mut Vec<Out<A>, A>,
+    sends: &mut Vec<Sent<A>, A>,
 ) -> Result<(), Fault>
     requires { Allows machine.old (act_of what) }
     ensures core { OnOk result (machine.new ≡ (done machine.old (act_of what)).core) }
-    ensures outs { OnOk result (outs.new.items ≡ outs.old.items ++ sent (done machine.old (act_of what)).sends) }
+    ensures sends { OnOk result (sends.new.items ≡ sends.old.items ++ addressed (done machine.old (act_of what)).sends) }
     ensures refused { IfErr result (λ fault. fault ≡ Memory) }
 {
     let follows = may_follow(&what);
-    act(machine, what, outs)?;
+    act(machine, what, sends)?;
     if follows {
-        machine.propose_if_due(outs)
+        machine.propose_if_due(sends)
     } else {
         Ok(())
     }
@@ -236,26 +281,26 @@ fn carry_out<A: Allocator + Copy>(
 fn act<A: Allocator + Copy>(
     machine: &mut Machine<A>,
     what: Act<A>,
-    outs: &mut Vec<Out<A>, A>,
+    sends: &mut Vec<Sent<A>, A>,
 ) -> Result<(), Fault>
     requires { Allows machine.old (act_of what) }
     ensures core { OnOk result (machine.new ≡ (act machine.old (act_of what)).core) }
-    ensures outs { OnOk result (outs.new.items ≡ outs.old.items ++ sent (act machine.old (act_of what)).sends) }
+    ensures sends { OnOk result (sends.new.items ≡ sends.old.items ++ addressed (act machine.old (act_of what)).sends) }
     ensures refused { IfErr result (λ fault. fault ≡ Memory) }
 {
     match what {
         Act::Ignore => Ok(()),
         Act::Enqueue(payload) => machine.enqueue(payload),
-        Act::Repeat => machine.repeat(outs),
-        Act::Announce => machine.announce(outs),
-        Act::Invite => machine.invite(outs),
+        Act::Repeat => machine.repeat(sends),
+        Act::Announce => machine.announce(sends),
+        Act::Invite => machine.invite(sends),
         Act::GiveUp => {
             machine.give_up();
-            machine.announce(outs)
+            machine.announce(sends)
         }
         Act::Regather => {
             machine.regather();
-            machine.announce(outs)
+            machine.announce(sends)
         }
         Act::Agree(join) => {
             machine.agree(&join);
@@ -263,22 +308,22 @@ fn act<A: Allocator + Copy>(
         }
         Act::Widen(join) => {
             machine.widen(&join);
-            machine.announce(outs)
+            machine.announce(sends)
         }
         Act::RegatherAndAgree(join) => {
             machine.regather();
             machine.agree(&join);
-            machine.announce(outs)
+            machine.announce(sends)
         }
         Act::RegatherAndWiden(join) => {
             machine.regather();
             machine.widen(&join);
-            machine.announce(outs)
+            machine.announce(sends)
         }
         Act::Take(message) => machine.take(message),
-        Act::Visit(token) => machine.visit(&token, outs),
-        Act::Fill(boxed) => machine.fill(boxed, outs),
-        Act::Learn(boxed) => machine.learn(boxed, outs),
+        Act::Visit(token) => machine.visit(&token, sends),
+        Act::Fill(boxed) => machine.fill(boxed, sends),
+        Act::Learn(boxed) => machine.learn(boxed, sends),
     }
 }
 

@@ -11,6 +11,7 @@
 -- Held: What a core keeps stands on as messages are held: one of the ring in use; and in Recovery what it wraps, of the old ring.
 -- RecoveryVisits: What is kept in Recovery tells what a visit sends there.
 -- Visits: A visit, part by part: what was asked for goes out again, what is new goes out and is held, and what the token then is.
+-- Told: What a processor is told has no frames.
 -- Copied: What is kept of a core's rings and what Recovery goes by fit the core as well in a copy.
 pub mod OneRingOfCore
 pub mod KeptByActs
@@ -24,4 +25,5 @@ pub mod TokenGoesOn
 pub mod Held
 pub mod RecoveryVisits
 pub mod Visits
+pub mod Told
 pub mod Copied

@@ -2,15 +2,16 @@
 use Rattle.std.proofs.Common.{◌≡◌, ℕ, suc, ◌+◌, ◌<◌, ◌≤◌, max, true, List, [], ◌∷◌, ◌++◌, length, map, reverse, drop}
 use Rattle.std.proofs.Common.{get_or, Option, Some, None, Result, Ok, Err, refl, sym, ap, subst, ◌∙◌, arith}
 use Rattle.std.proofs.Common.{append_assoc, ◌⊎◌, inl, inr}
-use Rattle.std.specs.Prelude.{◌&&◌, nat_lt, nat_le, filter_map, if◌then◌else◌, OnOk}
+use Rattle.std.specs.Prelude.{◌&&◌, ◌==◌, not, nat_lt, nat_le, filter_map, if◌then◌else◌, OnOk}
 use Rattle.std.specs.List.{cons_option}
 use Rattle.std.specs.List.Sorted.{IsStrictlyIncreasing}
 use Rattle.std.proofs.lemmas.Bool.{cases_Bool, cond-true, cond-false, and_parts, ltb-true, leb-true, true≢false}
 use Rattle.std.proofs.lemmas.Bool.Decides.{nat_tests}
 use Rattle.std.proofs.lemmas.List.{append-nil, map-append, reverse-append, drop_more, at_drop_all}
+use Rattle.std.proofs.lemmas.List.Elements.{filter-append}
 use Rattle.std.proofs.lemmas.List.Kept.{IsStrictlyIncreasing-filter}
 use Rattle.ring_base.specs.Numbers.{max_number, greatest}
-use Rattle.ring_base.specs.Processors.{only, less}
+use Rattle.ring_base.specs.Processors.{nobody, only, less}
 use Rattle.ring_base.specs.Rings.{same_ring}
 use Rattle.ring_base.specs.declared.ring_id.RingId.{RingId}
 use Rattle.ring_base.specs.declared.state.State.{State}
@@ -29,15 +30,13 @@ use Rattle.ring_token.specs.Turns.{Turn, Raise, turns_of, is_newer, mark_by, rai
 use Rattle.ring_token.specs.Visits.{is_left, left, above_mark, room, numbered}
 use Rattle.ring_commit.specs.declared.configuration.Configuration.{Configuration}
 use Rattle.ring_join.specs.Gatherers.{Gatherer}
-use Rattle.ring_core.specs.declared.out.Out.{Out}
-use Rattle.ring_core.specs.Giving.{sent}
+use Rattle.ring_core.specs.Giving.{addressed}
 use Rattle.ring_core.specs.State.{Core, Sent}
 use Rattle.ring_core.specs.Views.{front, mark, takes_number}
 use Rattle.ring_core.specs.Visiting.{accepts, repeated, room_at, new_payloads, new_messages, queue_after, to_others, to_next, forwarded}
 use Rattle.ring_core.specs.Visiting.{visited}
 use Rattle.ring_srp_state.specs.declared.recovering.Recovering.{Recovering}
 use Rattle.ring_core.proofs.States.{offers_few}
-use Rattle.ring_core.proofs.Carrying.{sent-append}
 use Rattle.ring_srp_acts.specs.Machines.{IsPart, IsMachine, IsRecovering, visits_of, raises_of, is_running, ring_in_use}
 use Rattle.ring_srp_acts.specs.Passing.{went, passed_on}
 use Rattle.ring_srp_acts.specs.Sending.{news, holding}
@@ -54,9 +53,13 @@ no_payloads (p ∷ payloads) e = absurd cc
 
 -- What is sent
 
+-- of two lists it is what is sent of each
+pub addressed-append : {A : Type 0} (a b : List (Sent A)) → addressed (a ++ b) ≡ addressed a ++ addressed b
+addressed-append {A} a b = filter-append (λ (s : Sent A). not (s.to == nobody)) a b
+
 -- one send more
-sent-push : {A : Type 0} (outs : List (Out A)) (a b : List (Sent A)) → outs ++ sent (a ++ b) ≡ (outs ++ sent a) ++ sent b
-sent-push outs a b = ap (λ s. outs ++ s) (sent-append a b) ∙ sym (append_assoc outs (sent a) (sent b))
+addressed-push : {A : Type 0} (sends : List (Sent A)) (a b : List (Sent A)) → sends ++ addressed (a ++ b) ≡ (sends ++ addressed a) ++ addressed b
+addressed-push sends a b = ap (λ s. sends ++ s) (addressed-append a b) ∙ sym (append_assoc sends (addressed a) (addressed b))
 
 abbrev pub to_all : {A : Type 0} → Core A → Message A → Sent A
 to_all c x = record { to = less c.running.members (only c.me); frame = MessageFrame x }
@@ -158,12 +161,12 @@ stays_ascending c t h = IsStrictlyIncreasing-filter (is_left (mark c t.ring) (ho
 -- What was asked for goes out again
 
 -- what of these numbers goes out again
-abbrev pub again : {A : Type 0} → Core A → Token → List ℕ → List (Out A)
-again c t numbers = sent (to_others c (filter_map (found c.held t.ring) (above_mark (mark c t.ring) numbers)))
+abbrev pub again : {A : Type 0} → Core A → Token → List ℕ → List (Sent A)
+again c t numbers = addressed (to_others c (filter_map (found c.held t.ring) (above_mark (mark c t.ring) numbers)))
 
 -- where what went out so far, and what follows of the numbers left, are all
-abbrev pub AreRepeated : {A : Type 0} → Core A → Token → List (Out A) → List (Out A) → ℕ → Type 0
-AreRepeated c t old outs i = outs ++ again c t (drop i t.requests) ≡ old ++ again c t t.requests
+abbrev pub AreRepeated : {A : Type 0} → Core A → Token → List (Sent A) → List (Sent A) → ℕ → Type 0
+AreRepeated c t old sends i = sends ++ again c t (drop i t.requests) ≡ old ++ again c t t.requests
 
 -- the window tells of a number what is found of it, if it is above the mark
 kept_by : {A : Type 0} (c : Core A) (window : Windowed A) (visit : TokenHistory A) (t : Token) (n : ℕ)
@@ -183,40 +186,40 @@ found_first c t n ns = elim (cases_Bool (nat_lt (mark c t.ring) n)) [
   | inr e ↦ rw e refl
 ]
 
-module _ {A : Type 0} (c : Core A) (window : Windowed A) (visit : TokenHistory A) (t : Token) (old outs : List (Out A)) (i : ℕ) where
+module _ {A : Type 0} (c : Core A) (window : Windowed A) (visit : TokenHistory A) (t : Token) (old sends : List (Sent A)) (i : ℕ) where
   pub repeated_begun : AreRepeated c t old old 0
   repeated_begun = refl
 
-  pub repeated_all : length t.requests ≤ i → AreRepeated c t old outs i → outs ≡ old ++ again c t t.requests
-  repeated_all l r = sym (append-nil outs) ∙ ap (λ s. outs ++ s) (sym (at_drop_all (again c t) t.requests i l)) ∙ r
+  pub repeated_all : length t.requests ≤ i → AreRepeated c t old sends i → sends ≡ old ++ again c t t.requests
+  repeated_all l r = sym (append-nil sends) ∙ ap (λ s. sends ++ s) (sym (at_drop_all (again c t) t.requests i l)) ∙ r
 
   -- nothing of this number goes out
   pub repeated_less : (n : ℕ) → IsPart c c.running.ring window visit → accepts c t ≡ true → i < length t.requests
       → n ≡ get_or t.requests i 0 → kept window n ≡ None →
-      AreRepeated c t old outs i → AreRepeated c t old outs (i + 1)
+      AreRepeated c t old sends i → AreRepeated c t old sends (i + 1)
   repeated_less n p a l at k r =
       let d : drop i t.requests ≡ n ∷ drop (i + 1) t.requests = drop_more t.requests i 0 l ∙ ap (λ m. m ∷ drop (i + 1) t.requests) (sym at) in
       let none : (if nat_lt (mark c t.ring) n then found c.held t.ring n else None) ≡ None = sym (kept_by c window visit t n p a) ∙ k in
       let rest = filter_map (found c.held t.ring) (above_mark (mark c t.ring) (drop (i + 1) t.requests)) in
       let e : again c t (drop i t.requests) ≡ again c t (drop (i + 1) t.requests) =
-      ap (again c t) d ∙ ap (λ xs. sent (to_others c xs)) (found_first c t n (drop (i + 1) t.requests) ∙ ap (λ o. cons_option o rest) none) in
-      ap (λ s. outs ++ s) (sym e) ∙ r
+      ap (again c t) d ∙ ap (λ xs. addressed (to_others c xs)) (found_first c t n (drop (i + 1) t.requests) ∙ ap (λ o. cons_option o rest) none) in
+      ap (λ s. sends ++ s) (sym e) ∙ r
 
   -- this message goes out
-  pub repeated_more : (n : ℕ) (x : Message A) (after : List (Out A)) → IsPart c c.running.ring window visit
+  pub repeated_more : (n : ℕ) (x : Message A) (after : List (Sent A)) → IsPart c c.running.ring window visit
       → accepts c t ≡ true → i < length t.requests → n ≡ get_or t.requests i 0 →
-      kept window n ≡ Some x → after ≡ outs ++ sent (to_all c x ∷ []) → AreRepeated c t old outs i → AreRepeated c t old after (i + 1)
+      kept window n ≡ Some x → after ≡ sends ++ addressed (to_all c x ∷ []) → AreRepeated c t old sends i → AreRepeated c t old after (i + 1)
   repeated_more n x after p a l at k s r =
       let d : drop i t.requests ≡ n ∷ drop (i + 1) t.requests = drop_more t.requests i 0 l ∙ ap (λ m. m ∷ drop (i + 1) t.requests) (sym at) in
       let some : (if nat_lt (mark c t.ring) n then found c.held t.ring n else None) ≡ Some x = sym (kept_by c window visit t n p a) ∙ k in
       let rest = filter_map (found c.held t.ring) (above_mark (mark c t.ring) (drop (i + 1) t.requests)) in
-      let e : again c t (drop i t.requests) ≡ sent (to_all c x ∷ []) ++ again c t (drop (i + 1) t.requests) =
+      let e : again c t (drop i t.requests) ≡ addressed (to_all c x ∷ []) ++ again c t (drop (i + 1) t.requests) =
       ap (again c t) d
-      ∙ ap (λ xs. sent (to_others c xs)) (found_first c t n (drop (i + 1) t.requests) ∙ ap (λ o. cons_option o rest) some)
-      ∙ sent-append (to_all c x ∷ []) (to_others c rest) in
+      ∙ ap (λ xs. addressed (to_others c xs)) (found_first c t n (drop (i + 1) t.requests) ∙ ap (λ o. cons_option o rest) some)
+      ∙ addressed-append (to_all c x ∷ []) (to_others c rest) in
       ap (λ o. o ++ again c t (drop (i + 1) t.requests)) s
-      ∙ append_assoc outs (sent (to_all c x ∷ [])) (again c t (drop (i + 1) t.requests))
-      ∙ ap (λ s. outs ++ s) (sym e)
+      ∙ append_assoc sends (addressed (to_all c x ∷ [])) (again c t (drop (i + 1) t.requests))
+      ∙ ap (λ s. sends ++ s) (sym e)
       ∙ r
 
 -- New messages
@@ -289,13 +292,15 @@ module _ {A : Type 0} (c : Core A) (t : Token) (ps : List (Payload A)) (p : Payl
       ap (λ (d : Core A). record d { held = x ∷ d.held }) f ∙ ap (λ xs. record c { held = xs ++ c.held }) (sym turned)
 
   -- one more goes out
-  pub sends_more : (x : Message A) (old outs after : List (Out A)) → n ≡ t.seq + length ps
+  pub sends_more : (x : Message A) (old sends after : List (Sent A)) → n ≡ t.seq + length ps
       → x ≡ record { ring = t.ring; number = n + 1; sender = c.me; payload = p } →
-      outs ≡ old ++ sent (to_others c (news c t ps)) → after ≡ outs ++ sent (to_all c x ∷ []) → after ≡ old ++ sent (to_others c (news c t (ps ++ p ∷ [])))
-  sends_more x old outs after e same f g =
-      g ∙ ap (λ o. o ++ sent (to_all c x ∷ [])) f
-      ∙ sym (sent-push old (to_others c (news c t ps)) (to_all c x ∷ []))
-      ∙ ap (λ s. old ++ sent s) (sym (ap (to_others c) (news_more e ∙ ap (λ y. news c t ps ++ y ∷ []) (sym same)) ∙ others-append c (news c t ps) (x ∷ [])))
+      sends ≡ old ++ addressed (to_others c (news c t ps)) → after ≡ sends ++ addressed (to_all c x ∷ [])
+      → after ≡ old ++ addressed (to_others c (news c t (ps ++ p ∷ [])))
+  sends_more x old sends after e same f g =
+      g ∙ ap (λ o. o ++ addressed (to_all c x ∷ [])) f
+      ∙ sym (addressed-push old (to_others c (news c t ps)) (to_all c x ∷ []))
+      ∙ ap (λ s. old ++ addressed s) (sym (ap (to_others c) (news_more e ∙ ap (λ y. news c t ps ++ y ∷ []) (sym same))
+      ∙ others-append c (news c t ps) (x ∷ [])))
 
 -- The whole visit
 
@@ -334,18 +339,18 @@ module _ {A : Type 0} (c one two : Core A) (t : Token) (stays : List ℕ) (paylo
   visited_token count q s n = λ i. to_next (q i) (went (q i) t (s i) (n i))
 
   -- and all that went out
-  pub visited_sends : (last : Sent A) (old a b after : List (Out A)) → payloads ≡ new_payloads c t
+  pub visited_sends : (last : Sent A) (old a b after : List (Sent A)) → payloads ≡ new_payloads c t
       → one ≡ record c { queue = queue_after c.state (room_at c t) c.queue } →
-      a ≡ old ++ again c t t.requests → b ≡ a ++ sent (to_others one (numbered t.ring one.me t.seq payloads))
-      → last ≡ to_next c (forwarded c t) → after ≡ b ++ sent (last ∷ []) →
-      after ≡ old ++ sent (visited c t).sends
+      a ≡ old ++ again c t t.requests → b ≡ a ++ addressed (to_others one (numbered t.ring one.me t.seq payloads))
+      → last ≡ to_next c (forwarded c t) → after ≡ b ++ addressed (last ∷ []) →
+      after ≡ old ++ addressed (visited c t).sends
   visited_sends last old a b after p e f g l h =
       let x = to_others c (repeated c t) in
       let y = to_others c (new_messages c t) in
       let z = to_next c (forwarded c t) ∷ [] in
-      let k : b ≡ a ++ sent y = g ∙ ap (λ (d : Core A). a ++ sent (to_others d (numbered t.ring d.me t.seq payloads)))
-      e ∙ ap (λ ps. a ++ sent (to_others c (numbered t.ring c.me t.seq ps))) p in
-      h ∙ ap (λ s. b ++ sent (s ∷ [])) l
-      ∙ ap (λ o. o ++ sent z) (k ∙ ap (λ o. o ++ sent y) f ∙ sym (sent-push old x y))
-      ∙ sym (sent-push old (x ++ y) z)
-      ∙ ap (λ s. old ++ sent (s ++ z)) (sym (others-append c (repeated c t) (new_messages c t)))
+      let k : b ≡ a ++ addressed y = g ∙ ap (λ (d : Core A). a ++ addressed (to_others d (numbered t.ring d.me t.seq payloads)))
+      e ∙ ap (λ ps. a ++ addressed (to_others c (numbered t.ring c.me t.seq ps))) p in
+      h ∙ ap (λ s. b ++ addressed (s ∷ [])) l
+      ∙ ap (λ o. o ++ addressed z) (k ∙ ap (λ o. o ++ addressed y) f ∙ sym (addressed-push old x y))
+      ∙ sym (addressed-push old (x ++ y) z)
+      ∙ ap (λ s. old ++ addressed (s ++ z)) (sym (others-append c (repeated c t) (new_messages c t)))

@@ -6,12 +6,12 @@ ghost use Rattle.ring_base.specs.declared.state.State.TheVariants.{Gather as InG
 ghost use Rattle.ring_join.specs.Gathering.{entered, agreed, widened, given_up, has_same_sets};
 ghost use Rattle.ring_core.specs.State.{floor};
 ghost use Rattle.ring_core.specs.Acting.{shown_again};
-ghost use Rattle.ring_core.specs.Giving.{sent};
+ghost use Rattle.ring_core.specs.Giving.{addressed};
 ghost use Rattle.ring_core.specs.Joining.{first_procs, regathered, with_gathering, announced, invited};
 
 use crate::machine::Machine;
 use ring_base::{Fault, ProcSet, State};
-use ring_core::Out;
+use ring_core::Sent;
 use ring_join::Gather;
 use ring_srp_state::{send, send_copy};
 use ring_wire::{Frame, Join};
@@ -72,18 +72,18 @@ impl<A: Allocator + Copy> Machine<A> {
     }
 
     /// The own join goes to all other processors.
-    pub fn announce(&self, outs: &mut Vec<Out<A>, A>) -> Result<(), Fault>
+    pub fn announce(&self, sends: &mut Vec<Sent<A>, A>) -> Result<(), Fault>
         requires { self.now.state ≡ InGather }
-        ensures ok { OnOk result (outs.new.items ≡ outs.old.items ++ sent (announced self.now ∷ [])) }
+        ensures ok { OnOk result (sends.new.items ≡ sends.old.items ++ addressed (announced self.now ∷ [])) }
         ensures refused { IfErr result (λ fault. fault ≡ Memory) }
     {
         let others = self.fixed.everybody().less(ProcSet::only(self.me));
-        send(outs, others, Frame::Join(self.gather.my_join()))
+        send(sends, others, Frame::Join(self.gather.my_join()))
     }
 
     /// In Operational a join goes to those outside the ring.
-    pub fn invite(&self, outs: &mut Vec<Out<A>, A>) -> Result<(), Fault>
-        ensures ok { OnOk result (outs.new.items ≡ outs.old.items ++ sent (invited self.now ∷ [])) }
+    pub fn invite(&self, sends: &mut Vec<Sent<A>, A>) -> Result<(), Fault>
+        ensures ok { OnOk result (sends.new.items ≡ sends.old.items ++ addressed (invited self.now ∷ [])) }
         ensures refused { IfErr result (λ fault. fault ≡ Memory) }
     {
         let members = self.running.members;
@@ -94,20 +94,20 @@ impl<A: Allocator + Copy> Machine<A> {
             fail_set: ProcSet::new(),
         };
         send(
-            outs,
+            sends,
             self.fixed.everybody().less(members),
             Frame::Join(join),
         )
     }
 
     /// The last token or commit token goes out again, to the same receiver.
-    pub fn repeat(&self, outs: &mut Vec<Out<A>, A>) -> Result<(), Fault>
-        ensures ok { OnOk result (outs.new.items ≡ outs.old.items ++ sent (shown_again self.now.shown)) }
+    pub fn repeat(&self, sends: &mut Vec<Sent<A>, A>) -> Result<(), Fault>
+        ensures ok { OnOk result (sends.new.items ≡ sends.old.items ++ addressed (shown_again self.now.shown)) }
         ensures refused { IfErr result (λ fault. fault ≡ Memory) }
     {
         match &self.shown {
             None => Ok(()),
-            Some(shown) => send_copy(outs, shown.to, &shown.frame),
+            Some(shown) => send_copy(sends, shown.to, &shown.frame),
         }
     }
 }

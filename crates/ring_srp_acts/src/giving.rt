@@ -55,7 +55,8 @@ impl<A: Allocator + Copy> Machine<A> {
         give_safe(window.ring(), before.mark, window.mark(), outs)
     }
 
-    /// Room for all that may be given past a front and a mark: what the front newly covers, and the safe mark if it rose.
+    /// Room for all that may be given past a front and a mark, and no more: what the front newly covers, and the safe mark if it
+    /// rose. Most often that is one output or none.
     fn make_room(&self, front: u64, mark: u64, outs: &mut Vec<Out<A>, A>) -> Result<(), Fault>
         ensures kept { outs.new.items ≡ outs.old.items }
         ensures refused { IfErr result (λ fault. fault ≡ Memory) }
@@ -63,7 +64,7 @@ impl<A: Allocator + Copy> Machine<A> {
         let window = &self.kept.window;
         let covered = window.front().saturating_sub(front) as usize;
         let marks = usize::from(mark < window.mark());
-        outs.reserve(covered.saturating_add(marks))?;
+        outs.reserve_exact(covered.saturating_add(marks))?;
         Ok(())
     }
 }

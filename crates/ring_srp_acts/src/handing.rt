@@ -5,7 +5,7 @@ ghost use Rattle.ring_base.specs.Processors.{IsMember, size, smallest};
 ghost use Rattle.ring_base.specs.declared.fault.Fault.TheVariants.{Memory};
 ghost use Rattle.ring_base.specs.declared.state.State.TheVariants.{Gather as InGather, Commit as InCommit};
 ghost use Rattle.ring_core.specs.State.{floor};
-ghost use Rattle.ring_core.specs.Giving.{sent};
+ghost use Rattle.ring_core.specs.Giving.{addressed};
 ghost use Rattle.ring_core.specs.Joining.{proposes};
 ghost use Rattle.ring_core.specs.Handing.{joined, filled};
 ghost use Rattle.ring_core.specs.Acting.{silently, proposed_after};
@@ -16,20 +16,20 @@ ghost use Rattle.ring_srp_acts.specs.Allowing.{FillAllowed};
 use crate::machine::Machine;
 use ring_base::{Fault, MAX, ProcSet, RingId, State};
 use ring_commit::{CommitOutcome, propose, receiver};
-use ring_core::{Out, Sent};
+use ring_core::Sent;
 use ring_srp_state::{send_copy, with_ring};
 use ring_wire::{CommitBox, Frame};
 use std::alloc::Allocator;
 
 impl<A: Allocator + Copy> Machine<A> {
     /// In Gather, with consensus, the smallest proposes a ring.
-    pub fn propose_if_due(&mut self, outs: &mut Vec<Out<A>, A>) -> Result<(), Fault>
+    pub fn propose_if_due(&mut self, sends: &mut Vec<Sent<A>, A>) -> Result<(), Fault>
         ensures core { OnOk result (self.new ≡ (proposed_after (proposes self.old) (silently self.old)).core) }
-        ensures outs { OnOk result (outs.new.items ≡ outs.old.items ++ sent (proposed_after (proposes self.old) (silently self.old)).sends) }
+        ensures sends { OnOk result (sends.new.items ≡ sends.old.items ++ addressed (proposed_after (proposes self.old) (silently self.old)).sends) }
         ensures refused { IfErr result (λ fault. fault ≡ Memory) }
     {
         if self.proposes() {
-            self.propose(outs)
+            self.propose(sends)
         } else {
             Ok(())
         }
@@ -37,10 +37,10 @@ impl<A: Allocator + Copy> Machine<A> {
 
     /// Takes part in the ring that it proposes.
     #[inline(never)]
-    fn propose(&mut self, outs: &mut Vec<Out<A>, A>) -> Result<(), Fault>
+    fn propose(&mut self, sends: &mut Vec<Sent<A>, A>) -> Result<(), Fault>
         requires { proposes self.old ≡ true }
         ensures core { OnOk result (self.new ≡ (proposed_after (proposes self.old) (silently self.old)).core) }
-        ensures outs { OnOk result (outs.new.items ≡ outs.old.items ++ sent (proposed_after (proposes self.old) (silently self.old)).sends) }
+        ensures sends { OnOk result (sends.new.items ≡ sends.old.items ++ addressed (proposed_after (proposes self.old) (silently self.old)).sends) }
         ensures refused { IfErr result (λ fault. fault ≡ Memory) }
     {
         let greatest = self.gather.greatest_number();
@@ -48,7 +48,7 @@ impl<A: Allocator + Copy> Machine<A> {
         match propose(self.me, greatest, candidates, self.own_entry()) {
             CommitOutcome::Pass(token) => {
                 let boxed = CommitBox::new(self.alloc, token)?;
-                self.join(boxed, outs)
+                self.join(boxed, sends)
             }
             _ => Ok(()),
         }
@@ -82,33 +82,33 @@ impl<A: Allocator + Copy> Machine<A> {
     }
 
     /// The first round: the own report is added.
-    pub fn fill(&mut self, boxed: CommitBox<A>, outs: &mut Vec<Out<A>, A>) -> Result<(), Fault>
+    pub fn fill(&mut self, boxed: CommitBox<A>, sends: &mut Vec<Sent<A>, A>) -> Result<(), Fault>
         requires { FillAllowed self.old boxed }
         ensures core { OnOk result (self.new ≡ (filled self.old boxed).core) }
-        ensures outs { OnOk result (outs.new.items ≡ outs.old.items ++ sent (filled self.old boxed).sends) }
+        ensures sends { OnOk result (sends.new.items ≡ sends.old.items ++ addressed (filled self.old boxed).sends) }
         ensures refused { IfErr result (λ fault. fault ≡ Memory) }
     {
         let mut went = boxed;
         went.hop_on();
         went.report(self.own_entry());
-        self.join(went, outs)
+        self.join(went, sends)
     }
 
     /// Takes part in the ring of a commit token, which goes on.
-    fn join(&mut self, boxed: CommitBox<A>, outs: &mut Vec<Out<A>, A>) -> Result<(), Fault>
+    fn join(&mut self, boxed: CommitBox<A>, sends: &mut Vec<Sent<A>, A>) -> Result<(), Fault>
         requires state { self.old.state ≡ InGather }
         requires newer { floor self.old < boxed.ring.seq }
         requires member { IsMember boxed.members self.old.me }
         requires some { 0 < size boxed.members }
         ensures core { OnOk result (self.new ≡ (joined self.old boxed).core) }
-        ensures outs { OnOk result (outs.new.items ≡ outs.old.items ++ sent (joined self.old boxed).sends) }
+        ensures sends { OnOk result (sends.new.items ≡ sends.old.items ++ addressed (joined self.old boxed).sends) }
         ensures refused { IfErr result (λ fault. fault ≡ Memory) }
     {
         let token = boxed.token();
         let (ring, members) = (token.ring, token.members);
         let to = ProcSet::only(receiver(token));
         let frame = Frame::Commit(boxed);
-        send_copy(outs, to, &frame)?;
+        send_copy(sends, to, &frame)?;
         self.take_part(ring, members, to, frame);
         Ok(())
     }

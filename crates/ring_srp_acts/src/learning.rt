@@ -4,7 +4,7 @@ ghost use Rattle.std.specs.Prelude.{◌≡◌, ◌++◌, IfErr, OnOk};
 ghost use Rattle.ring_base.specs.declared.fault.Fault.TheVariants.{Memory};
 ghost use Rattle.ring_window.specs.Windows.{opened};
 ghost use Rattle.ring_recover.specs.Recovering.{begun};
-ghost use Rattle.ring_core.specs.Giving.{sent};
+ghost use Rattle.ring_core.specs.Giving.{addressed};
 ghost use Rattle.ring_core.specs.Handing.{learned};
 ghost use Rattle.ring_srp_acts.specs.Allowing.{LearnAllowed};
 ghost use Rattle.ring_srp_acts.specs.Learns.{plan_at, recovering_by};
@@ -12,7 +12,7 @@ ghost use Rattle.ring_srp_acts.specs.Learns.{plan_at, recovering_by};
 use crate::machine::Machine;
 use ring_base::{Fault, Past, ProcSet, State, seen};
 use ring_commit::receiver;
-use ring_core::{Out, Sent};
+use ring_core::Sent;
 use ring_recover::{Ends, Plan};
 use ring_srp_state::{Part, Recovering, send_copy, with_plan};
 use ring_token::Visit;
@@ -22,10 +22,10 @@ use std::alloc::Allocator;
 
 impl<A: Allocator + Copy> Machine<A> {
     /// The second round: recovery begins, and the old ring is safe up to the greatest mark that was reported of it.
-    pub fn learn(&mut self, boxed: CommitBox<A>, outs: &mut Vec<Out<A>, A>) -> Result<(), Fault>
+    pub fn learn(&mut self, boxed: CommitBox<A>, sends: &mut Vec<Sent<A>, A>) -> Result<(), Fault>
         requires { LearnAllowed self.old boxed }
         ensures core { OnOk result (self.new ≡ (learned self.old boxed).core) }
-        ensures outs { OnOk result (outs.new.items ≡ outs.old.items ++ sent (learned self.old boxed).sends) }
+        ensures sends { OnOk result (sends.new.items ≡ sends.old.items ++ addressed (learned self.old boxed).sends) }
         ensures refused { IfErr result (λ fault. fault ≡ Memory) }
     {
         let plan = Plan::from_commit(self.me, boxed.token()).unwrap();
@@ -35,7 +35,7 @@ impl<A: Allocator + Copy> Machine<A> {
         went.hop_on();
         let to = ProcSet::only(receiver(went.token()));
         let frame = Frame::Commit(went);
-        send_copy(outs, to, &frame)?;
+        send_copy(sends, to, &frame)?;
         self.recover(&came, plan, window, Sent { to, frame });
         Ok(())
     }

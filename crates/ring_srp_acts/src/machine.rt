@@ -7,7 +7,7 @@ ghost use Rattle.ring_core.specs.State.{all_of, alone, formed, opening};
 
 use ring_base::{Fault, Fixed, Past, Proc, ProcSet, RingId, State};
 use ring_commit::Configuration;
-use ring_core::{Out, Sent};
+use ring_core::Sent;
 use ring_join::Gather;
 use ring_payload::Payload;
 use ring_srp_state::{CoreStory, Part, Recovering, formed_of, none, opened};
@@ -104,13 +104,11 @@ impl<A: Allocator + Copy> Machine<A> {
         })
     }
 
-    /// A list for outputs, with room for so many, or `Memory`.
-    pub fn outputs(&self, room: usize) -> Result<Vec<Out<A>, A>, Fault>
-        ensures ok { IfOk result (λ outs. outs.items ≡ []) }
-        ensures refused { IfErr result (λ fault. fault ≡ Memory) }
+    /// An empty list, for frames or outputs.
+    pub fn list<T>(&self) -> Vec<T, A>
+        ensures { result.items ≡ [] }
     {
-        let outs = Vec::with_capacity(self.alloc, room)?;
-        Ok(outs)
+        Vec::new(self.alloc)
     }
 
     /// The state. It has not stopped.

@@ -5,14 +5,14 @@ ghost use Rattle.std.specs.List.Sorted.{IsStrictlyIncreasing};
 ghost use Rattle.ring_base.specs.Numbers.{max_number};
 ghost use Rattle.ring_base.specs.declared.fault.Fault.TheVariants.{Memory};
 ghost use Rattle.ring_base.specs.declared.state.State.TheVariants.{Recovery as InRecovery, Operational as InOperational};
-ghost use Rattle.ring_core.specs.Giving.{sent};
+ghost use Rattle.ring_core.specs.Giving.{addressed};
 ghost use Rattle.ring_core.specs.Visiting.{to_next};
 ghost use Rattle.ring_srp_acts.specs.Machines.{is_running};
 ghost use Rattle.ring_srp_acts.specs.Passing.{went, passed_on};
 
 use crate::machine::Machine;
 use ring_base::{Fault, Past, ProcSet, State};
-use ring_core::Out;
+use ring_core::Sent;
 use ring_payload::Payload;
 use ring_srp_state::with_visit;
 use ring_wire::{Requests, Token};
@@ -27,7 +27,7 @@ impl<A: Allocator + Copy> Machine<A> {
         stays: &Requests,
         count: u64,
         fresh: &Past<[Payload<A>; 0]>,
-        outs: &mut Vec<Out<A>, A>,
+        sends: &mut Vec<Sent<A>, A>,
     ) -> Result<(), Fault>
         requires runs { is_running self.old.state ≡ true }
         requires ring { token.now.ring ≡ self.old.running.ring }
@@ -36,11 +36,11 @@ impl<A: Allocator + Copy> Machine<A> {
         requires count { length fresh.now.value ≡ count }
         requires stays { IsStrictlyIncreasing stays.now }
         ensures core { OnOk result (self.new ≡ passed_on self.old token.now stays.now fresh.now.value) }
-        ensures outs { OnOk result (outs.new.items ≡ outs.old.items ++ sent (to_next self.old (went self.old token.now stays.now count) ∷ [])) }
+        ensures sends { OnOk result (sends.new.items ≡ sends.old.items ++ addressed (to_next self.old (went self.old token.now stays.now count) ∷ [])) }
         ensures refused { IfErr result (λ fault. fault ≡ Memory) }
     {
         self.pass_on(token, stays, count, fresh)?;
-        self.repeat(outs)
+        self.repeat(sends)
     }
 
     /// The token as it goes to the next member is shown, and the visit is a fact.

@@ -6,7 +6,7 @@ ghost use Rattle.ring_base.specs.Processors.{only, less};
 ghost use Rattle.ring_token.specs.Visits.{room, left};
 ghost use Rattle.ring_window.specs.Held.{holds};
 ghost use Rattle.ring_srp_acts.specs.Allowing.{VisitAllowed};
-ghost use Rattle.ring_core.specs.Giving.{sent};
+ghost use Rattle.ring_core.specs.Giving.{addressed};
 ghost use Rattle.ring_srp_acts.specs.Machines.{is_running};
 ghost use Rattle.ring_srp_acts.specs.Sending.{news, holding};
 ghost use Rattle.ring_core.specs.Views.{mark};
@@ -14,7 +14,7 @@ ghost use Rattle.ring_core.specs.Visiting.{accepts, repeated, room_at, new_paylo
 
 use crate::machine::Machine;
 use ring_base::{Fault, MAX, MAX_NEW, Past, ProcSet, State, WINDOW};
-use ring_core::Out;
+use ring_core::Sent;
 use ring_payload::Payload;
 use ring_srp_state::{none, one_last, send_message, take_packed};
 use ring_token::left;
@@ -24,47 +24,29 @@ use std::alloc::Allocator;
 impl<A: Allocator + Copy> Machine<A> {
     /// Visits an accepted token: what was asked for goes out again, new messages go out and are held at once, and the
     /// token goes on.
-    pub fn visit(&mut self, token: &Token, outs: &mut Vec<Out<A>, A>) -> Result<(), Fault>
+    pub fn visit(&mut self, token: &Token, sends: &mut Vec<Sent<A>, A>) -> Result<(), Fault>
         requires { VisitAllowed self.old token.now }
         ensures core { OnOk result (self.new ≡ (visited self.old token.now).core) }
-        ensures outs { OnOk result (outs.new.items ≡ outs.old.items ++ sent (visited self.old token.now).sends) }
+        ensures sends { OnOk result (sends.new.items ≡ sends.old.items ++ addressed (visited self.old token.now).sends) }
         ensures refused { IfErr result (λ fault. fault ≡ Memory) }
     {
         if token.requests.as_slice().is_empty() {
-            self.visit_asked(token, &token.requests, outs)
+            self.visit_asked(token, &token.requests, sends)
         } else {
-            self.visit_asking(token, outs)
+            self.visit_asking(token, sends)
         }
     }
 
     /// The same for a token with requests, some of which may stay. It stands apart, since a call clears its room for them.
     #[inline(never)]
-    fn visit_asking(&mut self, token: &Token, outs: &mut Vec<Out<A>, A>) -> Result<(), Fault>
+    fn visit_asking(&mut self, token: &Token, sends: &mut Vec<Sent<A>, A>) -> Result<(), Fault>
         requires { VisitAllowed self.old token.now }
         ensures core { OnOk result (self.new ≡ (visited self.old token.now).core) }
-        ensures outs { OnOk result (outs.new.items ≡ outs.old.items ++ sent (visited self.old token.now).sends) }
+        ensures sends { OnOk result (sends.new.items ≡ sends.old.items ++ addressed (visited self.old token.now).sends) }
         ensures refused { IfErr result (λ fault. fault ≡ Memory) }
     {
         let stays = self.stays(token);
-        self.visit_asked(token, &stays, outs)
-    }
-
-    /// For how many outputs a visit needs room that is told beforehand: it sends again what was asked for, then its new messages
-    /// and the token; the new messages may be agreed at once, and the safe mark may rise.
-    pub fn room_for_visit(&self, token: &Token) -> usize
-        ensures { result ≤ 50 }
-    {
-        token.requests.as_slice().len() + 2 * self.most_new() + 2
-    }
-
-    /// A visit sends no more new messages than this.
-    fn most_new(&self) -> usize
-        ensures { result ≤ 8 }
-    {
-        match self.state {
-            State::Operational => self.queue.len().min(MAX_NEW as usize),
-            _ => MAX_NEW as usize,
-        }
+        self.visit_asked(token, &stays, sends)
     }
 
     /// Visits an accepted token of whose requests these stay.
@@ -72,19 +54,19 @@ impl<A: Allocator + Copy> Machine<A> {
         &mut self,
         token: &Token,
         stays: &Requests,
-        outs: &mut Vec<Out<A>, A>,
+        sends: &mut Vec<Sent<A>, A>,
     ) -> Result<(), Fault>
         requires allowed { VisitAllowed self.old token.now }
         requires stays { stays.now ≡ left (mark self.old token.now.ring) (holds self.old.held token.now.ring) token.now.requests }
         ensures core { OnOk result (self.new ≡ (visited self.old token.now).core) }
-        ensures outs { OnOk result (outs.new.items ≡ outs.old.items ++ sent (visited self.old token.now).sends) }
+        ensures sends { OnOk result (sends.new.items ≡ sends.old.items ++ addressed (visited self.old token.now).sends) }
         ensures refused { IfErr result (λ fault. fault ≡ Memory) }
     {
-        self.repeat_requested(token, outs)?;
+        self.repeat_requested(token, sends)?;
         let payloads = self.new_payloads(token)?;
         let count = payloads.len() as u64;
-        let fresh = self.send_new(token, payloads, outs)?;
-        self.pass_token(token, stays, count, &fresh, outs)
+        let fresh = self.send_new(token, payloads, sends)?;
+        self.pass_token(token, stays, count, &fresh, sends)
     }
 
     /// The requests that stay: above the safe mark, and not held.
@@ -109,17 +91,17 @@ impl<A: Allocator + Copy> Machine<A> {
     }
 
     /// What was asked for and is held goes out again, to all other members.
-    fn repeat_requested(&self, token: &Token, outs: &mut Vec<Out<A>, A>) -> Result<(), Fault>
+    fn repeat_requested(&self, token: &Token, sends: &mut Vec<Sent<A>, A>) -> Result<(), Fault>
         requires runs { is_running self.now.state ≡ true }
         requires passes { accepts self.now token.now ≡ true }
-        ensures ok { OnOk result (outs.new.items ≡ outs.old.items ++ sent (to_others self.now (repeated self.now token.now))) }
+        ensures ok { OnOk result (sends.new.items ≡ sends.old.items ++ addressed (to_others self.now (repeated self.now token.now))) }
         ensures refused { IfErr result (λ fault. fault ≡ Memory) }
     {
         let others = self.others();
         let window = &self.part().window;
         for &number in token.requests.as_slice() {
             if let Some(message) = window.get(number) {
-                send_message(outs, others, message)?;
+                send_message(sends, others, message)?;
             }
         }
         Ok(())
@@ -147,20 +129,20 @@ impl<A: Allocator + Copy> Machine<A> {
         &mut self,
         token: &Token,
         payloads: Vec<Payload<A>, A>,
-        outs: &mut Vec<Out<A>, A>,
+        sends: &mut Vec<Sent<A>, A>,
     ) -> Result<Past<[Payload<A>; 0]>, Fault>
         requires passes { accepts self.old token.now ≡ true }
         requires runs { is_running self.old.state ≡ true }
         requires count { length payloads.items ≤ room (mark self.old token.now.ring) token.now.seq }
         ensures fresh { IfOk result (λ fresh. fresh.value ≡ payloads.items) }
         ensures core { OnOk result (self.new ≡ holding self.old token.now payloads.items) }
-        ensures outs { OnOk result (outs.new.items ≡ outs.old.items ++ sent (to_others self.old (news self.old token.now payloads.items))) }
+        ensures sends { OnOk result (sends.new.items ≡ sends.old.items ++ addressed (to_others self.old (news self.old token.now payloads.items))) }
         ensures refused { IfErr result (λ fault. fault ≡ Memory) }
     {
         if payloads.is_empty() {
             return Ok(none());
         }
-        self.send_all(token, payloads, outs)
+        self.send_all(token, payloads, sends)
     }
 
     /// The same where there are new messages. It stands apart, since a call clears its room for them.
@@ -169,14 +151,14 @@ impl<A: Allocator + Copy> Machine<A> {
         &mut self,
         token: &Token,
         payloads: Vec<Payload<A>, A>,
-        outs: &mut Vec<Out<A>, A>,
+        sends: &mut Vec<Sent<A>, A>,
     ) -> Result<Past<[Payload<A>; 0]>, Fault>
         requires passes { accepts self.old token.now ≡ true }
         requires runs { is_running self.old.state ≡ true }
         requires count { length payloads.items ≤ room (mark self.old token.now.ring) token.now.seq }
         ensures fresh { IfOk result (λ fresh. fresh.value ≡ payloads.items) }
         ensures core { OnOk result (self.new ≡ holding self.old token.now payloads.items) }
-        ensures outs { OnOk result (outs.new.items ≡ outs.old.items ++ sent (to_others self.old (news self.old token.now payloads.items))) }
+        ensures sends { OnOk result (sends.new.items ≡ sends.old.items ++ addressed (to_others self.old (news self.old token.now payloads.items))) }
         ensures refused { IfErr result (λ fault. fault ≡ Memory) }
     {
         let others = self.others();
@@ -192,7 +174,7 @@ impl<A: Allocator + Copy> Machine<A> {
                 sender: me,
                 payload,
             };
-            send_message(outs, others, &message)?;
+            send_message(sends, others, &message)?;
             self.hold(message);
         }
         Ok(fresh)

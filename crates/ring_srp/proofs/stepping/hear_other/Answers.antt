@@ -5,18 +5,19 @@ use Rattle.ring_core.specs.State.{Stepped}
 use Rattle.ring_core.specs.Deciding.{Act, Take}
 use Rattle.ring_core.specs.declared.input.Input.TheVariants.{Frame as FrameInput}
 use Rattle.ring_srp_acts.specs.Allowing.{Allows}
+use Rattle.ring_srp.specs.Given.{IsGiven}
 use Rattle.ring_srp.proofs.Allowed.{allowed}
 use Rattle.ring_srp.proofs.StepOutputs.{decided_step}
 use Rattle.ring_srp.proofs.stepping.hear_other.Goals as goal
 
-pub take_copy-requires : goal.take_copy-requires
-take_copy-requires g c = subst (λ (a : Act g.row.A.Denot). Allows c.args.machine.now a) (sym c.in-Some.ensures)
-    (allowed c.args.machine.now (FrameInput c.args.frame.now) c.requires)
+pub take_copy-requires-clause-taken : goal.take_copy-requires-clause-taken
+take_copy-requires-clause-taken g c = subst (λ (a : Act g.row.A.Denot). Allows c.args.machine.now a) (sym c.in-Some.ensures)
+    (allowed c.args.machine.now (FrameInput c.args.frame.now) c.requires.fits)
 
-pub returns-in-Some-clause-outs : goal.returns-in-Some-clause-outs
-returns-in-Some-clause-outs g c =
-    subst (λ (s : Stepped g.row.A.Denot). IfOk c.take_copy.result (λ outs. outs.items ≡ s.outs))
-    (decided_step c.args.machine.now (Take c.in-Some.message.now) (FrameInput c.args.frame.now) c.in-Some.ensures) c.take_copy.ensures.outs
+pub returns-in-Some-clause-given : goal.returns-in-Some-clause-given
+returns-in-Some-clause-given g c =
+    subst (λ (s : Stepped g.row.A.Denot). IfOk c.take_copy.result (λ told. IsGiven s.outs c.take_copy.new.sends.items told.items))
+    (decided_step c.args.machine.now (Take c.in-Some.message.now) (FrameInput c.args.frame.now) c.in-Some.ensures) c.take_copy.ensures.given
 
 pub returns-in-Some-clause-core : goal.returns-in-Some-clause-core
 returns-in-Some-clause-core g c =

@@ -3,33 +3,32 @@ use Rattle.std.proofs.Common.{sym, ◌∙◌, ap}
 use Rattle.ring_commit.specs.declared.configuration.Configuration.{Configuration}
 use Rattle.ring_core.specs.State.{Core}
 use Rattle.ring_core.specs.Deciding.{Visit}
-use Rattle.ring_core.specs.Acting.{done}
 use Rattle.ring_core.proofs.InstalledKept.{done_installed}
+use Rattle.ring_base.proofs.Results.{ok_to}
 use Rattle.ring_srp.proofs.SafeInFront.{may_give}
-use Rattle.ring_srp.proofs.StepOutputs.{delivered_core, delivered_outs, given_outs}
+use Rattle.ring_srp.proofs.StepOutputs.{delivered_core, told_behind}
 use Rattle.ring_srp.proofs.stepping.pass_by.Goals as goal
 
-pub give-requires-clause-ring : goal.give-requires-clause-ring
-give-requires-clause-ring g c =
+pub tell-requires-clause-ring : goal.tell-requires-clause-ring
+tell-requires-clause-ring g c =
     c.reached-before.ensures.ring
     ∙ sym (ap (λ (x : Core g.row.A.Denot). x.installed.ring) c.in_ok-visit_through.ensures.core
     ∙ ap (λ (x : Configuration). x.ring) (done_installed c.args.machine.now (Visit c.args.token.now)))
 
-pub give-requires-clause-mark : goal.give-requires-clause-mark
-give-requires-clause-mark g c =
-    may_give _ _ (Visit c.args.token.now) _ c.requires c.in_ok-visit_through.ensures.core c.reached-before.ensures.front
+pub tell-requires-clause-mark : goal.tell-requires-clause-mark
+tell-requires-clause-mark g c =
+    may_give _ _ (Visit c.args.token.now) _ c.requires.allowed c.in_ok-visit_through.ensures.core c.reached-before.ensures.front
     c.reached-before.ensures.safe c.reached-before.ensures.led
 
-pub returns-clause-outs : goal.returns-clause-outs
-returns-clause-outs g c =
-    let a = Visit c.args.token.now in
-    c.in_ok-install_if_due.ensures.outs
-    ∙ delivered_outs c.args.machine.now c.visit_through.new.machine a c.give.new.outs.items c.in_ok-visit_through.ensures.core
-    (given_outs c.args.machine.now c.visit_through.new.machine (done c.args.machine.now a).sends _ _ _ _ _ _
-    c.in_ok-outs.ensures.ok c.in_ok-visit_through.ensures.outs c.in_ok-give.ensures.ok
-    c.reached-before.ensures.ring c.reached-before.ensures.front c.reached-before.ensures.mark)
+pub returns-clause-given : goal.returns-clause-given
+returns-clause-given g c =
+    told_behind c.args.machine.now c.visit_through.new.machine (Visit c.args.token.now) c.args.sends.now.items c.visit_through.new.sends.items
+    c.reached-before.result.ring c.reached-before.result.front c.reached-before.result.mark c.tell.result
+    c.requires.empty c.in_ok-visit_through.ensures.core c.in_ok-visit_through.ensures.sends
+    c.reached-before.ensures.ring c.reached-before.ensures.front c.reached-before.ensures.mark c.tell.ensures.told
 
 pub returns-clause-core : goal.returns-clause-core
 returns-clause-core g c =
-    c.in_ok-install_if_due.ensures.core
-    ∙ delivered_core c.args.machine.now c.visit_through.new.machine (Visit c.args.token.now) c.in_ok-visit_through.ensures.core
+    ok_to c.tell.result _ _ _
+    (delivered_core c.args.machine.now c.visit_through.new.machine (Visit c.args.token.now) c.in_ok-visit_through.ensures.core)
+    c.tell.ensures.core

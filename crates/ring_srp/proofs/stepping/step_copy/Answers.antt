@@ -4,16 +4,18 @@ use Rattle.std.specs.Prelude.{IfOk, OnOk}
 use Rattle.ring_wire.specs.declared.frame.Frame.{Frame}
 use Rattle.ring_wire.specs.Frames.{FrameFits}
 use Rattle.ring_core.specs.Stepping.{ring_step}
+use Rattle.ring_srp.specs.Given.{IsGiven}
 use Rattle.ring_core.specs.declared.input.Input.TheVariants.{Frame as FrameInput}
 use Rattle.ring_srp.proofs.stepping.step_copy.Goals as goal
 
-pub step-requires : goal.step-requires
-step-requires g c = subst (λ (f : Frame g.row.A.Denot). FrameFits f) (sym c.in_ok-copy.ensures.ok) c.requires
+pub step-requires-clause-fits : goal.step-requires-clause-fits
+step-requires-clause-fits g c = subst (λ (f : Frame g.row.A.Denot). FrameFits f) (sym c.in_ok-copy.ensures.ok) c.requires.fits
 
-pub returns-clause-outs : goal.returns-clause-outs
-returns-clause-outs g c =
-    subst (λ (f : Frame g.row.A.Denot). IfOk c.step.result (λ outs. outs.items ≡ (ring_step c.args.machine.now (FrameInput f)).outs))
-    c.in_ok-copy.ensures.ok c.step.ensures.outs
+pub returns-clause-given : goal.returns-clause-given
+returns-clause-given g c =
+    let sends = c.step.new.sends.items in
+    subst (λ (f : Frame g.row.A.Denot). IfOk c.step.result (λ told. IsGiven (ring_step c.args.machine.now (FrameInput f)).outs sends told.items))
+    c.in_ok-copy.ensures.ok c.step.ensures.given
 
 pub returns-clause-core : goal.returns-clause-core
 returns-clause-core g c =

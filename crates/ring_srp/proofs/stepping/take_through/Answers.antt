@@ -11,9 +11,9 @@ returns-clause-core g c =
     ok_to c.propose_if_due.result _ _ _
     (done_core c.args.machine.now c.take.new.self (Take c.args.message) refl c.in_ok-take.ensures.ok) c.propose_if_due.ensures.core
 
-pub returns-clause-outs : goal.returns-clause-outs
-returns-clause-outs g c =
+pub returns-clause-sends : goal.returns-clause-sends
+returns-clause-sends g c =
     ok_to c.propose_if_due.result _ _ _
-    (done_sends c.args.machine.now c.take.new.self (Take c.args.message) c.args.outs.now.items c.args.outs.now.items _
-    refl c.in_ok-take.ensures.ok (sym (append-nil c.args.outs.now.items)) refl)
-    c.propose_if_due.ensures.outs
+    (done_sends c.args.machine.now c.take.new.self (Take c.args.message) c.args.sends.now.items c.args.sends.now.items _
+    refl c.in_ok-take.ensures.ok (sym (append-nil c.args.sends.now.items)) refl)
+    c.propose_if_due.ensures.sends

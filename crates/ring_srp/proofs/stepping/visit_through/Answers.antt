@@ -10,9 +10,9 @@ returns-clause-core g c =
     ok_to c.propose_if_due.result _ _ _
     (done_core c.args.machine.now c.visit.new.self (Visit c.args.token.now) refl c.in_ok-visit.ensures.core) c.propose_if_due.ensures.core
 
-pub returns-clause-outs : goal.returns-clause-outs
-returns-clause-outs g c =
+pub returns-clause-sends : goal.returns-clause-sends
+returns-clause-sends g c =
     ok_to c.propose_if_due.result _ _ _
-    (done_sends c.args.machine.now c.visit.new.self (Visit c.args.token.now) c.args.outs.now.items c.visit.new.outs.items _
-    refl c.in_ok-visit.ensures.core c.in_ok-visit.ensures.outs refl)
-    c.propose_if_due.ensures.outs
+    (done_sends c.args.machine.now c.visit.new.self (Visit c.args.token.now) c.args.sends.now.items c.visit.new.sends.items _
+    refl c.in_ok-visit.ensures.core c.in_ok-visit.ensures.sends refl)
+    c.propose_if_due.ensures.sends

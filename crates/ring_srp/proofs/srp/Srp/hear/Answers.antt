@@ -5,6 +5,7 @@ use Rattle.ring_core.specs.Giving.{may_install}
 use Rattle.ring_core.specs.Stepping.{ring_step}
 use Rattle.ring_core.specs.declared.input.Input.TheVariants.{Frame as FrameInput}
 use Rattle.ring_core.proofs.Quiet.{stepped_is}
+use Rattle.ring_srp.specs.Given.{IsGiven}
 use Rattle.ring_srp.proofs.Stopping.{runs_as}
 use Rattle.ring_srp.proofs.srp.Srp.hear.Goals as goal
 
@@ -12,9 +13,10 @@ pub invariant_of-self-in-Ok-1 : goal.invariant_of-self-in-Ok-1
 invariant_of-self-in-Ok-1 g c =
     ap (λ (x : Core g.row.A.Denot). may_install x) c.in-Ok.ensures.core ∙ stepped_is c.in-Some.machine (FrameInput c.args.frame.now)
 
-pub returns-in-Ok-clause-outs : goal.returns-in-Ok-clause-outs
-returns-in-Ok-clause-outs g c = c.in-Ok.ensures.outs
-    ∙ ap (λ (x : Core g.row.A.Denot). (ring_step x (FrameInput c.args.frame.now)).outs) (runs_as _ _ c.in-Some.machine _ c.self.view_is c.in-Some.is)
+pub returns-in-Ok-clause-given : goal.returns-in-Ok-clause-given
+returns-in-Ok-clause-given g c =
+    subst (λ (x : Core g.row.A.Denot). IsGiven (ring_step x (FrameInput c.args.frame.now)).outs c.hear.new.sends.items c.in-Ok.told.items)
+    (runs_as _ _ c.in-Some.machine _ c.self.view_is c.in-Some.is) c.in-Ok.ensures.given
 
 pub returns-in-Ok-clause-ok : goal.returns-in-Ok-clause-ok
 returns-in-Ok-clause-ok g c = c.in-Ok.ensures.core

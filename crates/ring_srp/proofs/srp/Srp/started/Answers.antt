@@ -26,5 +26,5 @@ returns-clause-outs g c =
     let n = c.args.fixed.count in
     let same = c.in_ok-machine.ensures.ok ∙ ap (λ me. formed n me) c.new.ensures in
     let first = c.first_token-token.ensures ∙ ap (λ (p : Configuration). first_token p.ring) c.all_of.ensures in
-    first_alone n c.in_ok-machine.machine c.first_token-token.result c.in_ok-outs.outs.items c.visit.new.outs.items
-    c.in_ok-outs.ensures.ok c.in_ok-visit.ensures.outs same first
+    first_alone n c.in_ok-machine.machine c.first_token-token.result c.list-sends.result.items c.visit.new.sends.items c.list.result.items
+    c.in_ok-outs.outs.items c.list-sends.ensures c.in_ok-visit.ensures.sends c.list.ensures c.in_ok-outs.ensures.ok same first

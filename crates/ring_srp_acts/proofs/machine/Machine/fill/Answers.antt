@@ -6,7 +6,7 @@ use Rattle.ring_wire.specs.declared.commit.CommitToken.{CommitToken}
 use Rattle.ring_join.specs.Gathering.{candidates}
 use Rattle.ring_commit.proofs.Hopping.{first_round_room}
 use Rattle.ring_core.specs.State.{floor}
-use Rattle.ring_core.specs.Giving.{sent}
+use Rattle.ring_core.specs.Giving.{addressed}
 use Rattle.ring_core.specs.Handing.{joined}
 use Rattle.ring_core.specs.Views.{own_entry}
 use Rattle.ring_srp_acts.proofs.Receivers.{hop_room, filled_on, first_some, first_newer, receiver_member}
@@ -43,9 +43,9 @@ returns-clause-core g c =
     let on = filled_on k c.hop_on.new.self c.report.new.self (own_entry now) c.own_entry.result c.hop_on.ensures c.report.ensures c.own_entry.ensures in
     subst (λ (t : CommitToken). OnOk c.join.result (c.join.new.self ≡ (joined now t).core)) on c.join.ensures.core
 
-pub returns-clause-outs : goal.returns-clause-outs
-returns-clause-outs g c =
+pub returns-clause-sends : goal.returns-clause-sends
+returns-clause-sends g c =
     let now = c.args.self.now in
     let k = c.args.boxed in
     let on = filled_on k c.hop_on.new.self c.report.new.self (own_entry now) c.own_entry.result c.hop_on.ensures c.report.ensures c.own_entry.ensures in
-    subst (λ (t : CommitToken). OnOk c.join.result (c.join.new.outs.items ≡ c.args.outs.now.items ++ sent (joined now t).sends)) on c.join.ensures.outs
+    subst (λ (t : CommitToken). OnOk c.join.result (c.join.new.sends.items ≡ c.args.sends.now.items ++ addressed (joined now t).sends)) on c.join.ensures.sends

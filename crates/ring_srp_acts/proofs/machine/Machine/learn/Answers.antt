@@ -6,7 +6,7 @@ use Rattle.ring_window.specs.Windows.{opened}
 use Rattle.ring_wire.specs.declared.commit.CommitToken.{CommitToken}
 use Rattle.ring_wire.specs.declared.frame.Frame.TheVariants.{Commit as CommitFrame}
 use Rattle.ring_core.specs.State.{Core, Sent}
-use Rattle.ring_core.specs.Giving.{sent}
+use Rattle.ring_core.specs.Giving.{addressed}
 use Rattle.ring_srp_acts.specs.Allowing.{LearnAllowed}
 use Rattle.ring_srp_acts.specs.Learns.{plan_at, recovering_by}
 use Rattle.ring_srp_acts.proofs.Learns.{planned_for, passes_on}
@@ -48,8 +48,8 @@ returns-clause-core g c =
     (c.seen-came.ensures ∙ c.token-2.ensures)
     ∙ ap (recovering_by now c.args.boxed) goes
 
-pub returns-clause-outs : goal.returns-clause-outs
-returns-clause-outs g c =
+pub returns-clause-sends : goal.returns-clause-sends
+returns-clause-sends g c =
     let goes = passes_on {A = g.row.A.Denot} c.args.boxed c.hop_on.new.self c.receiver.result c.only-to.result
     (went_on c.args.boxed c.hop_on.new.self c.hop_on.ensures) (c.receiver.ensures ∙ ap receiver c.token-3.ensures) c.only-to.ensures.value in
-    c.in_ok-send_copy.ensures.ok ∙ ap (λ (x : Sent g.row.A.Denot). c.args.outs.now.items ++ sent (x ∷ [])) goes
+    c.in_ok-send_copy.ensures.ok ∙ ap (λ (x : Sent g.row.A.Denot). c.args.sends.now.items ++ addressed (x ∷ [])) goes

@@ -2,7 +2,7 @@
 use Rattle.std.proofs.Common.{◌≡◌, ◌<◌, ◌≤◌, ◌++◌, ◌∷◌, [], length, get_or, refl, subst, ap, sym, ◌∙◌}
 use Rattle.std.specs.Prelude.{option_copied}
 use Rattle.ring_wire.specs.declared.frame.Frame.TheVariants.{Message as MessageFrame}
-use Rattle.ring_core.specs.Giving.{sent}
+use Rattle.ring_core.specs.Giving.{addressed}
 use Rattle.ring_srp_acts.proofs.Visits.{repeated_all, repeated_less, repeated_more}
 use Rattle.ring_srp_acts.proofs.machine.Machine.repeat_requested.Goals.{in-Some+in_ok-send_message, in_default}
 use Rattle.ring_srp_acts.proofs.machine.Machine.repeat_requested.Goals as goal
@@ -25,12 +25,12 @@ loop-number-preserved g c =
       | in-Some+in_ok-send_message w ↦
           (let x = w.in-Some.message.now in
           let went = w.in_ok-send_message.ensures.ok
-          ∙ ap (λ o. c.loop-number.outs.items ++ sent (record { to = o; frame = MessageFrame x } ∷ []))
+          ∙ ap (λ o. c.loop-number.sends.items ++ addressed (record { to = o; frame = MessageFrame x } ∷ []))
           c.others-others.ensures in
-          rw w.outs-is (repeated_more now p.window p.visit t c.args.outs.now.items c.loop-number.outs.items i n x
-          w.send_message.new.outs.items is c.requires.passes inside at
+          rw w.sends-is (repeated_more now p.window p.visit t c.args.sends.now.items c.loop-number.sends.items i n x
+          w.send_message.new.sends.items is c.requires.passes inside at
           (sym c.get.ensures ∙ ap option_copied w.in-Some.is) went c.loop-number.invariant))
-      | in_default w ↦ rw w.outs-is (repeated_less now p.window p.visit t c.args.outs.now.items c.loop-number.outs.items i n is c.requires.passes inside at
+      | in_default w ↦ rw w.sends-is (repeated_less now p.window p.visit t c.args.sends.now.items c.loop-number.sends.items i n is c.requires.passes inside at
           (sym c.get.ensures ∙ ap option_copied w.in_default.is) c.loop-number.invariant)
     ]
 
@@ -40,4 +40,4 @@ returns-clause-ok g c =
     let p = c.part.result.now in
     let all : length t.requests ≤ c.loop-number.number-index = subst (λ xs. length xs ≤ c.loop-number.number-index)
     c.as_slice-number-items.ensures.value c.loop-number-test.false in
-    repeated_all c.args.self.now p.window p.visit t c.args.outs.now.items c.loop-number.outs.items c.loop-number.number-index all c.loop-number.invariant
+    repeated_all c.args.self.now p.window p.visit t c.args.sends.now.items c.loop-number.sends.items c.loop-number.number-index all c.loop-number.invariant

@@ -6,7 +6,7 @@ use Rattle.std.proofs.lemmas.List.{length_push, map-id}
 use Rattle.ring_payload.specs.declared.content.Payload.{Payload}
 use Rattle.ring_wire.specs.declared.frame.Frame.TheVariants.{Message as MessageFrame}
 use Rattle.ring_wire.specs.declared.message.Message.{Message}
-use Rattle.ring_core.specs.Giving.{sent}
+use Rattle.ring_core.specs.Giving.{addressed}
 use Rattle.ring_core.specs.State.{Core}
 use Rattle.ring_core.specs.Views.{takes_number}
 use Rattle.ring_core.specs.Visiting.{to_others}
@@ -68,14 +68,14 @@ loop-payload-preserved g c =
     let same : x ≡ record { ring = t.ring; number = n + 1; sender = now.me; payload = p } =
     ap (λ m. record { ring = t.ring; number = n + 1; sender = m; payload = p }) me in
     let goes = c.in_ok-send_message.ensures.ok
-    ∙ ap (λ o. c.loop-payload.outs.items ++ sent (record { to = o; frame = MessageFrame x } ∷ []))
+    ∙ ap (λ o. c.loop-payload.sends.items ++ addressed (record { to = o; frame = MessageFrame x } ∷ []))
     c.others-others.ensures in
     record {
       number = omega (arith, length_push ps p, e);
       told = c.one_last-fresh.ensures ∙ ap (λ xs. xs ++ p ∷ []) c.loop-payload.invariant.told;
       held = c.hold.ensures ∙ holding_more now t ps p n count x c.loop-payload.self e same c.loop-payload.invariant.held;
-      out = sends_more now t ps p n count x c.args.outs.now.items c.loop-payload.outs.items
-          c.send_message.new.outs.items e same c.loop-payload.invariant.out goes;
+      out = sends_more now t ps p n count x c.args.sends.now.items c.loop-payload.sends.items
+          c.send_message.new.sends.items e same c.loop-payload.invariant.out goes;
     }
 
 pub returns-clause-fresh : goal.returns-clause-fresh
@@ -95,12 +95,12 @@ returns-clause-core g c =
     c.loop-payload.invariant.held ∙ ap (λ (ps : List (Payload g.row.A.Denot)). holding c.args.self.now
     c.args.token.now ps) (sym (map-id c.loop-payload.yielded) ∙ ended.0)
 
-pub returns-clause-outs : goal.returns-clause-outs
-returns-clause-outs g c =
+pub returns-clause-sends : goal.returns-clause-sends
+returns-clause-sends g c =
     let now = c.args.self.now in
     let begun = c.into_iter-payload-iterator.ensures.into_iter_gives in
     let ended = YieldsList-end (YieldsList-from_vec c.args.payloads.items begun.0 (begun.1 ∙ c.args.payloads.ok.0))
     c.loop-payload.yielded c.loop-payload.payload-iterator c.loop-payload.yielded_by c.next.result c.next.new.self
     c.in-None.is c.next.ensures.steps in
-    c.loop-payload.invariant.out ∙ ap (λ (ps : List (Payload g.row.A.Denot)). c.args.outs.now.items ++ sent
+    c.loop-payload.invariant.out ∙ ap (λ (ps : List (Payload g.row.A.Denot)). c.args.sends.now.items ++ addressed
     (to_others now (news now c.args.token.now ps))) (sym (map-id c.loop-payload.yielded) ∙ ended.0)

@@ -3,7 +3,7 @@ use Rattle.std.proofs.Common.{◌≡◌, ◌++◌, [], List, length, ap, sym, �
 use Rattle.std.proofs.lemmas.Bool.{eqb-true}
 use Rattle.std.proofs.lemmas.List.{append-nil}
 use Rattle.ring_payload.specs.declared.content.Payload.{Payload}
-use Rattle.ring_core.specs.Giving.{sent}
+use Rattle.ring_core.specs.Giving.{addressed}
 use Rattle.ring_core.specs.Visiting.{to_others}
 use Rattle.ring_srp_acts.specs.Sending.{news, holding}
 use Rattle.ring_srp_acts.proofs.Visits.{no_payloads}
@@ -21,10 +21,10 @@ returns-then-is_empty-clause-core g c =
     (omega (arith, eqb-true _ _ (sym c.if-is_empty.ensures), c.args.payloads.ok.0)) in
     ap (λ (ps : List (Payload g.row.A.Denot)). holding c.args.self.now c.args.token.now ps) empty
 
-pub returns-then-is_empty-clause-outs : goal.returns-then-is_empty-clause-outs
-returns-then-is_empty-clause-outs g c =
+pub returns-then-is_empty-clause-sends : goal.returns-then-is_empty-clause-sends
+returns-then-is_empty-clause-sends g c =
     let now = c.args.self.now in
     let empty : [] ≡ c.args.payloads.items = no_payloads c.args.payloads.items
     (omega (arith, eqb-true _ _ (sym c.if-is_empty.ensures), c.args.payloads.ok.0)) in
-    sym (append-nil c.args.outs.now.items)
-    ∙ ap (λ (ps : List (Payload g.row.A.Denot)). c.args.outs.now.items ++ sent (to_others now (news now c.args.token.now ps))) empty
+    sym (append-nil c.args.sends.now.items)
+    ∙ ap (λ (ps : List (Payload g.row.A.Denot)). c.args.sends.now.items ++ addressed (to_others now (news now c.args.token.now ps))) empty

@@ -40,8 +40,8 @@ pass_token-requires g c =
     let stays = subst IsStrictlyIncreasing (sym c.requires.stays) (stays_ascending now t c.requires.allowed.goes.ascending) in
     (omega arith, (runs, (ring, (passes.number, (seq, (count, stays))))))
 
-pub returns-clause-outs : goal.returns-clause-outs
-returns-clause-outs g c =
+pub returns-clause-sends : goal.returns-clause-sends
+returns-clause-sends g c =
     let now = c.args.self.now in
     let one = c.new_payloads.new.self in
     let two = c.send_new.new.self in
@@ -54,7 +54,7 @@ returns-clause-outs g c =
     let n : c.len-count.result ≡ length items = c.len-count.ensures ∙ c.in_ok-payloads.payloads.ok.0 in
     on_ok_weaker c.pass_token.result
     (λ h. visited_sends now one two t stays items (to_next two (went two t stays c.len-count.result))
-    c.args.outs.now.items c.repeat_requested.new.outs.items c.send_new.new.outs.items
-    c.pass_token.new.outs.items p e c.in_ok-repeat_requested.ensures.ok c.in_ok-fresh.ensures.outs
+    c.args.sends.now.items c.repeat_requested.new.sends.items c.send_new.new.sends.items
+    c.pass_token.new.sends.items p e c.in_ok-repeat_requested.ensures.ok c.in_ok-fresh.ensures.sends
     (visited_token now one two t stays items c.len-count.result q c.requires.stays (n ∙ ap length p)) h)
-    c.pass_token.ensures.outs
+    c.pass_token.ensures.sends
