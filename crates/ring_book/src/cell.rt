@@ -78,8 +78,9 @@ impl<O: Object, K: BookName<O::Alloc>> Cell<O, K> {
             return Err(Fault::Stranger);
         }
         node_fits_law::<O>();
-        match self.node.step_on(&input) {
-            Ok(outs) => {
+        let mut outs = Outs::new(self.alloc);
+        match self.node.step_into(&input, &mut outs) {
+            Ok(()) => {
                 let Outs {
                     sends,
                     answers,

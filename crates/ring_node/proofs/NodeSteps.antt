@@ -14,8 +14,9 @@ use Rattle.ring_payload.specs.declared.content.Payload.{Payload}
 use Rattle.ring_core.specs.declared.input.Input.{Input}
 use Rattle.ring_core.specs.declared.input.Input.TheVariants.{Send as SendInput}
 use Rattle.ring_core.specs.declared.out.Out.{Out}
-use Rattle.ring_core.specs.State.{Core, halted}
+use Rattle.ring_core.specs.State.{Core, Sent, halted}
 use Rattle.ring_core.specs.Stepping.{ring_step}
+use Rattle.ring_srp.specs.Given.{IsGiven}
 use Rattle.ring_log.specs.Stays.{Stay, hands, trims}
 use Rattle.ring_log.specs.Kept.{Kept, kept_of, is_kept_sound}
 use Rattle.ring_log.proofs.CommittedOf.{hands-kept}
@@ -32,6 +33,7 @@ use Rattle.ring_replica.proofs.Nodes.{step-is, refused-is}
 use Rattle.ring_course.proofs.Messages.{never-less}
 use Rattle.ring_replica.specs.Marks.{IsMarked}
 use Rattle.ring_replica.proofs.StayMarks.{rises_step, marked_step, marked_handed, me_step, me_handed, going_step, going_handed}
+use Rattle.ring_node.proofs.FramesApart.{sending, step-apart}
 use Rattle.ring_node.specs.Kept.{followed_by, core_told, told_node, Runs, IsNode, stepped_by}
 use Rattle.ring_node.specs.Restores.{node_restored}
 
@@ -86,17 +88,18 @@ module _ {O A : Type 0} (object : Sequential O) (running : Option RingId) (r : R
   pub left-as : (new : Replica A) → new ≡ step.replica → replica_stopped new ≡ replica_stopped r
   left-as new e = ap replica_stopped e ∙ left-by object r outs (lived_through r.life outs) due_now kept_now is
 
--- What follows a step's outputs is what the step makes
-module _ {O A : Type 0} (object : Sequential O) (core new : Core A) (r : Replica A) (input : Input A) (outs : List (Out A)) where
-  pub followed-as : new ≡ (ring_step core input).core → outs ≡ (ring_step core input).outs → followed_by object new r outs ≡ stepped_by object core r input
-  followed-as en eo =
-      ap (λ (x : Core A). followed_by object x r outs) en ∙ ap (followed_by object (ring_step core input).core r) eo
+-- What follows of what a step told is what the step makes, with the frames that it sent
+module _ {O A : Type 0} (object : Sequential O) (core : Core A) (r : Replica A) (input : Input A) {new : Core A} {sends : List (Sent A)} {told : List (Out A)}
+    (en : new ≡ (ring_step core input).core) (given : IsGiven (ring_step core input).outs sends told) (runs : r.stopped ≡ false) where
+  pub followed-as : sending sends (followed_by object new r told) ≡ stepped_by object core r input
+  followed-as =
+      ap (λ (x : Core A). sending sends (followed_by object x r told)) en
+      ∙ step-apart given object (running_of (ring_step core input).core) r runs
 
-  pub followed-core : new ≡ (ring_step core input).core → outs ≡ (ring_step core input).outs →
-      handed_over new (followed_by object new r outs).due ≡ handed_over (ring_step core input).core (stepped_by object core r input).due
-  followed-core en eo =
-      ap (λ (x : Core A). handed_over x (followed_by object new r outs).due) en
-      ∙ ap (λ (s : ReplicaStepped A). handed_over (ring_step core input).core s.due) (followed-as en eo)
+  pub followed-core : handed_over new (followed_by object new r told).due ≡ handed_over (ring_step core input).core (stepped_by object core r input).due
+  followed-core =
+      ap (λ (x : Core A). handed_over x (followed_by object new r told).due) en
+      ∙ ap (λ (s : ReplicaStepped A). handed_over (ring_step core input).core s.due) followed-as
 
 -- A node that runs
 

@@ -1,6 +1,6 @@
 //! A ring core and a replica go on together.
 
-ghost use Rattle.std.specs.Prelude.{◌≡◌, true, false, IfOk, IfErr, OnOk, OnErr};
+ghost use Rattle.std.specs.Prelude.{◌≡◌, [], true, false, if◌then◌else◌, IfErr, OnOk, OnErr};
 ghost use Rattle.ring_base.specs.declared.fault.Fault.TheVariants.{Memory};
 ghost use Rattle.ring_wire.specs.Frames.{FrameFits};
 ghost use Rattle.ring_core.specs.Stepping.{ring_step};
@@ -13,7 +13,7 @@ ghost use Rattle.ring_node.specs.Kept.{Runs, followed_by, stepped_by};
 
 use crate::outs::Outs;
 use ring_base::{Fault, Kind, RingId, State};
-use ring_core::{Input, Out};
+use ring_core::{Out, Sent};
 use ring_object::Object;
 use ring_payload::Payload;
 use ring_replica::Replica;
@@ -46,20 +46,22 @@ pub(crate) fn hand_over<A: Allocator + Copy>(
     Ok(())
 }
 
-/// A frame came: the core steps, and the replica follows.
+/// A frame came: the core steps, and the replica follows. What they give goes into `outs`, which has no frames yet.
 pub(crate) fn advance_by_frame<O: Object>(
     core: &mut Srp<O::Alloc>,
     replica: &mut Replica<O>,
     frame: &Frame<O::Alloc>,
-) -> Result<Outs<O::Alloc>, Fault>
+    outs: &mut Outs<O::Alloc>,
+) -> Result<(), Fault>
     requires fits { FrameFits frame.now }
+    requires empty { outs.old.sends.items ≡ [] }
     requires runs { Runs core.old replica.old }
     requires going { replica.old.stopped ≡ false }
-    ensures sends { IfOk result (λ outs. outs.sends.items ≡ (stepped_by O.sequential core.old replica.old (FrameInput frame.now)).sends) }
-    ensures answers { IfOk result (λ outs. outs.answers.items ≡ (stepped_by O.sequential core.old replica.old (FrameInput frame.now)).answers) }
-    ensures committed { IfOk result (λ outs. outs.committed.items ≡ (stepped_by O.sequential core.old replica.old (FrameInput frame.now)).replica.doing) }
-    ensures dropped { IfOk result (λ outs. outs.dropped.items ≡ (stepped_by O.sequential core.old replica.old (FrameInput frame.now)).replica.leaving) }
-    ensures restored { IfOk result (λ outs. outs.restored ≡ (stepped_by O.sequential core.old replica.old (FrameInput frame.now)).restored) }
+    ensures sends { OnOk result (outs.new.sends.items ≡ (stepped_by O.sequential core.old replica.old (FrameInput frame.now)).sends) }
+    ensures answers { OnOk result (outs.new.answers.items ≡ (stepped_by O.sequential core.old replica.old (FrameInput frame.now)).answers) }
+    ensures committed { OnOk result (outs.new.committed.items ≡ (stepped_by O.sequential core.old replica.old (FrameInput frame.now)).replica.doing) }
+    ensures dropped { OnOk result (outs.new.dropped.items ≡ (stepped_by O.sequential core.old replica.old (FrameInput frame.now)).replica.leaving) }
+    ensures restored { OnOk result (outs.new.restored ≡ (stepped_by O.sequential core.old replica.old (FrameInput frame.now)).restored) }
     ensures core { OnOk result (core.new ≡ handed_over (ring_step core.old (FrameInput frame.now)).core
         (stepped_by O.sequential core.old replica.old (FrameInput frame.now)).due) }
     ensures replica { OnOk result (replica.new ≡ replica_ended (stepped_by O.sequential core.old replica.old (FrameInput frame.now))) }
@@ -67,64 +69,76 @@ pub(crate) fn advance_by_frame<O: Object>(
     ensures err { OnErr result (replica_stopped replica.new ≡ replica_stopped replica.old) }
     ensures refused { IfErr result (λ fault. fault ≡ Memory) }
 {
-    let outs = core.hear(frame)?;
-    follow(core, replica, outs)
+    let told = core.hear(frame, &mut outs.sends)?;
+    follow(core, replica, told, outs)
 }
 
-/// A time is over: the core steps, and the replica follows.
+/// A time is over: the core steps, and the replica follows. What they give goes into `outs`, which has no frames yet.
 pub(crate) fn advance_by_time<O: Object>(
     core: &mut Srp<O::Alloc>,
     replica: &mut Replica<O>,
     kind: Kind,
-) -> Result<Outs<O::Alloc>, Fault>
+    outs: &mut Outs<O::Alloc>,
+) -> Result<(), Fault>
+    requires empty { outs.old.sends.items ≡ [] }
     requires runs { Runs core.old replica.old }
     requires going { replica.old.stopped ≡ false }
-    ensures sends { IfOk result (λ outs. outs.sends.items ≡ (stepped_by O.sequential core.old replica.old (TimeoutInput kind)).sends) }
-    ensures answers { IfOk result (λ outs. outs.answers.items ≡ (stepped_by O.sequential core.old replica.old (TimeoutInput kind)).answers) }
-    ensures committed { IfOk result (λ outs. outs.committed.items ≡ (stepped_by O.sequential core.old replica.old (TimeoutInput kind)).replica.doing) }
-    ensures dropped { IfOk result (λ outs. outs.dropped.items ≡ (stepped_by O.sequential core.old replica.old (TimeoutInput kind)).replica.leaving) }
-    ensures restored { IfOk result (λ outs. outs.restored ≡ (stepped_by O.sequential core.old replica.old (TimeoutInput kind)).restored) }
-    ensures core { OnOk result (core.new ≡ handed_over (ring_step core.old (TimeoutInput kind)).core (stepped_by O.sequential core.old replica.old (TimeoutInput kind)).due) }
+    ensures sends { OnOk result (outs.new.sends.items ≡ (stepped_by O.sequential core.old replica.old (TimeoutInput kind)).sends) }
+    ensures answers { OnOk result (outs.new.answers.items ≡ (stepped_by O.sequential core.old replica.old (TimeoutInput kind)).answers) }
+    ensures committed { OnOk result (outs.new.committed.items ≡ (stepped_by O.sequential core.old replica.old (TimeoutInput kind)).replica.doing) }
+    ensures dropped { OnOk result (outs.new.dropped.items ≡ (stepped_by O.sequential core.old replica.old (TimeoutInput kind)).replica.leaving) }
+    ensures restored { OnOk result (outs.new.restored ≡ (stepped_by O.sequential core.old replica.old (TimeoutInput kind)).restored) }
+    ensures core { OnOk result (core.new ≡ handed_over (ring_step core.old (TimeoutInput kind)).core
+        (stepped_by O.sequential core.old replica.old (TimeoutInput kind)).due) }
     ensures replica { OnOk result (replica.new ≡ replica_ended (stepped_by O.sequential core.old replica.old (TimeoutInput kind))) }
     ensures steady { OnOk result (IsSteady replica.old.group replica.old.life) }
     ensures err { OnErr result (replica_stopped replica.new ≡ replica_stopped replica.old) }
     ensures refused { IfErr result (λ fault. fault ≡ Memory) }
 {
-    let outs = core.step(Input::Timeout(kind))?;
-    follow(core, replica, outs)
+    let told = core.time_out(kind, &mut outs.sends)?;
+    follow(core, replica, told, outs)
 }
 
-/// The replica takes what the core gave in a step, and what is due is handed to the core. Where the replica stops by
-/// that, nothing is given. Refused with `Memory` alone: then the replica, once stopped, is what it was before.
+/// The replica takes what the core told in a step, of which the frames stand in `outs`, and what is due is handed to the core.
+/// Where the replica stops by that, nothing is given. Refused with `Memory` alone: then the replica, once stopped, is what it was
+/// before.
 fn follow<O: Object>(
     core: &mut Srp<O::Alloc>,
     replica: &mut Replica<O>,
-    outs: Vec<Out<O::Alloc>, O::Alloc>,
-) -> Result<Outs<O::Alloc>, Fault>
+    told: Vec<Out<O::Alloc>, O::Alloc>,
+    outs: &mut Outs<O::Alloc>,
+) -> Result<(), Fault>
     requires done { IsDone replica.old }
-    requires rises { rises replica.old.life outs.items ≡ true }
+    requires rises { rises replica.old.life told.items ≡ true }
     requires runs { is_stopped core.old.state ≡ false }
     requires going { replica.old.stopped ≡ false }
-    ensures sends { IfOk result (λ given. given.sends.items ≡ (followed_by O.sequential core.old replica.old outs.items).sends) }
-    ensures answers { IfOk result (λ given. given.answers.items ≡ (followed_by O.sequential core.old replica.old outs.items).answers) }
-    ensures committed { IfOk result (λ given. given.committed.items ≡ (followed_by O.sequential core.old replica.old outs.items).replica.doing) }
-    ensures dropped { IfOk result (λ given. given.dropped.items ≡ (followed_by O.sequential core.old replica.old outs.items).replica.leaving) }
-    ensures restored { IfOk result (λ given. given.restored ≡ (followed_by O.sequential core.old replica.old outs.items).restored) }
-    ensures core { OnOk result (core.new ≡ handed_over core.old (followed_by O.sequential core.old replica.old outs.items).due) }
-    ensures replica { OnOk result (replica.new ≡ replica_ended (followed_by O.sequential core.old replica.old outs.items)) }
+    ensures sends { OnOk result (outs.new.sends.items ≡ (if (followed_by O.sequential core.old replica.old told.items).replica.stopped then [] else outs.old.sends.items)) }
+    ensures answers { OnOk result (outs.new.answers.items ≡ (followed_by O.sequential core.old replica.old told.items).answers) }
+    ensures committed { OnOk result (outs.new.committed.items ≡ (followed_by O.sequential core.old replica.old told.items).replica.doing) }
+    ensures dropped { OnOk result (outs.new.dropped.items ≡ (followed_by O.sequential core.old replica.old told.items).replica.leaving) }
+    ensures restored { OnOk result (outs.new.restored ≡ (followed_by O.sequential core.old replica.old told.items).restored) }
+    ensures core { OnOk result (core.new ≡ handed_over core.old (followed_by O.sequential core.old replica.old told.items).due) }
+    ensures replica { OnOk result (replica.new ≡ replica_ended (followed_by O.sequential core.old replica.old told.items)) }
     ensures steady { OnOk result (IsSteady replica.old.group replica.old.life) }
     ensures err { OnErr result (replica_stopped replica.new ≡ replica_stopped replica.old) }
     ensures refused { IfErr result (λ fault. fault ≡ Memory) }
 {
     let running = running(core);
-    let given = replica.step(&running, outs)?;
+    let given = replica.step(&running, told)?;
     hand_over(core, given.due)?;
-    let dropped = replica.finish(given.answers.as_slice());
-    Ok(Outs {
-        sends: given.sends,
-        answers: given.answers,
-        committed: given.committed,
-        dropped,
-        restored: given.restored,
-    })
+    outs.dropped = replica.finish(given.answers.as_slice());
+    outs.answers = given.answers;
+    outs.committed = given.committed;
+    outs.restored = given.restored;
+    let_go_if(replica.is_stopped(), &mut outs.sends);
+    Ok(())
+}
+
+/// Lets go of the frames of a step by which the replica stopped.
+fn let_go_if<A: Allocator + Copy>(stopped: bool, sends: &mut Vec<Sent<A>, A>)
+    ensures { sends.new.items ≡ (if stopped then [] else sends.old.items) }
+{
+    if stopped {
+        sends.clear();
+    }
 }

@@ -7,5 +7,5 @@ mod outs;
 
 pub use node::Node;
 pub use outs::Outs;
-pub use ring_replica::Sent;
+pub use ring_core::Sent;
 pub use ring_rules::Input;

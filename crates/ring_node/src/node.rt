@@ -1,6 +1,6 @@
 //! A node.
 
-ghost use Rattle.std.specs.Prelude.{◌≡◌, ◌≤◌, true, false, length, if◌then◌else◌, Some, None, IsOk, IfOk, IfErr, OnOk, OnErr, MatchOption};
+ghost use Rattle.std.specs.Prelude.{◌≡◌, ◌≤◌, true, false, [], length, if◌then◌else◌, Some, None, IsOk, IfOk, IfErr, OnOk, OnErr, MatchOption};
 ghost use Rattle.ring_base.specs.declared.fault.Fault.TheVariants.{Memory, Stopped as StoppedFault};
 ghost use Rattle.ring_payload.specs.Calls.{CallFits};
 ghost use Rattle.ring_wire.specs.Frames.{FrameFits};
@@ -10,8 +10,9 @@ ghost use Rattle.ring_session.specs.Pendings.{pending_from};
 ghost use Rattle.ring_rules.specs.Nodes.{node_opening, node_kept, node_length, node_trimmed, node_committed, node_reply, node_stopped, is_stopped, effects_at};
 ghost use Rattle.ring_rules.specs.Stepping.{after_core, node_step, submit_fault, submitted};
 ghost use Rattle.ring_node.specs.Restores.{node_restored};
+ghost use Rattle.ring_node.specs.Nothing.{GivesNothing};
 ghost use Rattle.ring_rules.specs.NodeLimits.{InputFits};
-ghost use Rattle.ring_rules.specs.declared.input.Input.TheVariants.{Stop as StopInput};
+ghost use Rattle.ring_rules.specs.declared.input.Input.TheVariants.{Frame as ComesInput, Stop as StopInput};
 
 use crate::driving::{advance_by_frame, advance_by_time, running};
 use crate::outs::Outs;
@@ -128,35 +129,66 @@ impl<O: Object> Node<O> {
         ensures refused { IfErr result (λ fault. fault ≡ (if is_stopped self.old.core.state then StoppedFault else Memory)) }
         ensures stops { input ≡ StopInput → is_stopped self.old.core.state ≡ false → IsOk result }
     {
-        self.step_on(&input)
+        let mut outs = Outs::new(self.alloc);
+        self.step_into(&input, &mut outs)?;
+        Ok(outs)
     }
 
-    /// The same for an input that the caller keeps: the node copies its frame, unless it is a token.
-    pub fn step_on(&mut self, input: &Input<O::Alloc>) -> Result<Outs<O::Alloc>, Fault>
+    /// The same for an input that the caller keeps, into lists of the caller: the node copies its frame, unless it is a token. What stands
+    /// in the lists is let go first, and their room is used again. Where the step is refused, nothing stands in them.
+    pub fn step_into(
+        &mut self,
+        input: &Input<O::Alloc>,
+        outs: &mut Outs<O::Alloc>,
+    ) -> Result<(), Fault>
         requires fits { InputFits input.now }
         ensures runs { OnOk result (is_stopped self.old.core.state ≡ false) }
-        ensures sends { IfOk result (λ outs. outs.sends.items ≡ (node_step O.sequential self.old input.now).sends) }
-        ensures answers { IfOk result (λ outs. outs.answers.items ≡ (node_step O.sequential self.old input.now).answers) }
-        ensures committed { IfOk result (λ outs. outs.committed.items ≡ (node_step O.sequential self.old input.now).committed) }
-        ensures dropped { IfOk result (λ outs. outs.dropped.items ≡ (node_step O.sequential self.old input.now).dropped) }
-        ensures restored { IfOk result (λ outs. outs.restored ≡ node_restored self.old (node_step O.sequential self.old input.now).node) }
+        ensures sends { OnOk result (outs.new.sends.items ≡ (node_step O.sequential self.old input.now).sends) }
+        ensures answers { OnOk result (outs.new.answers.items ≡ (node_step O.sequential self.old input.now).answers) }
+        ensures committed { OnOk result (outs.new.committed.items ≡ (node_step O.sequential self.old input.now).committed) }
+        ensures dropped { OnOk result (outs.new.dropped.items ≡ (node_step O.sequential self.old input.now).dropped) }
+        ensures restored { OnOk result (outs.new.restored ≡ node_restored self.old (node_step O.sequential self.old input.now).node) }
+        ensures nothing { OnErr result (GivesNothing outs.new) }
         ensures ok { OnOk result (self.new ≡ (node_step O.sequential self.old input.now).node) }
         ensures err { OnErr result (self.new ≡ node_stopped self.old) }
         ensures refused { IfErr result (λ fault. fault ≡ (if is_stopped self.old.core.state then StoppedFault else Memory)) }
         ensures stops { input.now ≡ StopInput → is_stopped self.old.core.state ≡ false → IsOk result }
     {
-        if self.replica.is_stopped() {
-            return Err(Fault::Stopped);
-        }
         match input {
-            Input::Frame(frame) => self.hear(frame),
-            Input::Timeout(kind) => self.time_out(*kind),
-            Input::Noise => Ok(Outs::new(self.alloc)),
+            Input::Frame(frame) => self.hear_into(frame, outs),
+            Input::Timeout(kind) => {
+                self.begin(outs)?;
+                self.time_out(*kind, outs)
+            }
+            Input::Noise => self.begin(outs),
             Input::Stop => {
+                self.begin(outs)?;
                 self.halt();
-                Ok(Outs::new(self.alloc))
+                Ok(())
             }
         }
+    }
+
+    /// The same for a frame that comes.
+    pub fn hear_into(
+        &mut self,
+        frame: &Frame<O::Alloc>,
+        outs: &mut Outs<O::Alloc>,
+    ) -> Result<(), Fault>
+        requires fits { FrameFits frame.now }
+        ensures runs { OnOk result (is_stopped self.old.core.state ≡ false) }
+        ensures sends { OnOk result (outs.new.sends.items ≡ (node_step O.sequential self.old (ComesInput frame.now)).sends) }
+        ensures answers { OnOk result (outs.new.answers.items ≡ (node_step O.sequential self.old (ComesInput frame.now)).answers) }
+        ensures committed { OnOk result (outs.new.committed.items ≡ (node_step O.sequential self.old (ComesInput frame.now)).committed) }
+        ensures dropped { OnOk result (outs.new.dropped.items ≡ (node_step O.sequential self.old (ComesInput frame.now)).dropped) }
+        ensures restored { OnOk result (outs.new.restored ≡ node_restored self.old (node_step O.sequential self.old (ComesInput frame.now)).node) }
+        ensures nothing { OnErr result (GivesNothing outs.new) }
+        ensures ok { OnOk result (self.new ≡ (node_step O.sequential self.old (ComesInput frame.now)).node) }
+        ensures err { OnErr result (self.new ≡ node_stopped self.old) }
+        ensures refused { IfErr result (λ fault. fault ≡ (if is_stopped self.old.core.state then StoppedFault else Memory)) }
+    {
+        self.begin(outs)?;
+        self.hear(frame, outs)
     }
 
     /// The answer to a ticket, if it is among the 64 that were answered last.
@@ -270,30 +302,44 @@ impl<O: Object> Node<O> {
         Ok(self.replica.give(&running, call))
     }
 
+    /// Empties the lists for a step. Refused with `Stopped` in a stopped node.
+    fn begin(&self, outs: &mut Outs<O::Alloc>) -> Result<(), Fault>
+        ensures nothing { GivesNothing outs.new }
+        ensures ok { OnOk result (is_stopped self.now.core.state ≡ false) }
+        ensures err { OnErr result (is_stopped self.now.core.state ≡ true) }
+        ensures refused { IfErr result (λ fault. fault ≡ StoppedFault) }
+    {
+        outs.clear();
+        if self.replica.is_stopped() {
+            return Err(Fault::Stopped);
+        }
+        Ok(())
+    }
+
     /// The core hears a frame, and what follows of it is done. Refused with `Memory` alone, and then the node has stopped.
-    fn hear(&mut self, frame: &Frame<O::Alloc>) -> Result<Outs<O::Alloc>, Fault>
+    fn hear(&mut self, frame: &Frame<O::Alloc>, outs: &mut Outs<O::Alloc>) -> Result<(), Fault>
         requires fits { FrameFits frame.now }
+        requires empty { outs.old.sends.items ≡ [] }
         requires runs { is_stopped self.old.core.state ≡ false }
-        ensures sends { IfOk result (λ outs. outs.sends.items ≡ (after_core O.sequential self.old (ring_step self.old.core (FrameInput frame.now))).sends) }
-        ensures answers { IfOk result (λ outs. outs.answers.items
-            ≡ (after_core O.sequential self.old (ring_step self.old.core (FrameInput frame.now))).answers) }
-        ensures committed { IfOk result (λ outs. outs.committed.items
-            ≡ (after_core O.sequential self.old (ring_step self.old.core (FrameInput frame.now))).committed) }
-        ensures dropped { IfOk result (λ outs. outs.dropped.items
-            ≡ (after_core O.sequential self.old (ring_step self.old.core (FrameInput frame.now))).dropped) }
-        ensures restored { IfOk result (λ outs. outs.restored
+        ensures sends { OnOk result (outs.new.sends.items ≡ (after_core O.sequential self.old (ring_step self.old.core (FrameInput frame.now))).sends) }
+        ensures answers { OnOk result (outs.new.answers.items ≡ (after_core O.sequential self.old (ring_step self.old.core (FrameInput frame.now))).answers) }
+        ensures committed { OnOk result (outs.new.committed.items ≡ (after_core O.sequential self.old (ring_step self.old.core (FrameInput frame.now))).committed) }
+        ensures dropped { OnOk result (outs.new.dropped.items ≡ (after_core O.sequential self.old (ring_step self.old.core (FrameInput frame.now))).dropped) }
+        ensures restored { OnOk result (outs.new.restored
             ≡ node_restored self.old (after_core O.sequential self.old (ring_step self.old.core (FrameInput frame.now))).node) }
+        ensures nothing { OnErr result (GivesNothing outs.new) }
         ensures ok { OnOk result (self.new ≡ (after_core O.sequential self.old (ring_step self.old.core (FrameInput frame.now))).node) }
         ensures err { OnErr result (self.new ≡ node_stopped self.old) }
         ensures refused { IfErr result (λ fault. fault ≡ Memory) }
     {
         self.last = self.core.installed();
         self.ended = seen(&self.core);
-        match advance_by_frame(&mut self.core, &mut self.replica, frame) {
-            Ok(outs) => Ok(outs),
+        match advance_by_frame(&mut self.core, &mut self.replica, frame, outs) {
+            Ok(()) => Ok(()),
             Err(refused) => {
                 self.core.stop();
                 self.replica.stop();
+                outs.clear();
                 Err(refused)
             }
         }
@@ -302,28 +348,28 @@ impl<O: Object> Node<O> {
     /// A time is over, and what follows of it is done. Refused with `Memory` alone, and then the node has stopped. It stands apart, since a
     /// call clears its room for an input of the core.
     #[inline(never)]
-    fn time_out(&mut self, kind: Kind) -> Result<Outs<O::Alloc>, Fault>
+    fn time_out(&mut self, kind: Kind, outs: &mut Outs<O::Alloc>) -> Result<(), Fault>
+        requires empty { outs.old.sends.items ≡ [] }
         requires runs { is_stopped self.old.core.state ≡ false }
-        ensures sends { IfOk result (λ outs. outs.sends.items ≡ (after_core O.sequential self.old (ring_step self.old.core (TimeoutInput kind))).sends) }
-        ensures answers { IfOk result (λ outs. outs.answers.items
-            ≡ (after_core O.sequential self.old (ring_step self.old.core (TimeoutInput kind))).answers) }
-        ensures committed { IfOk result (λ outs. outs.committed.items
-            ≡ (after_core O.sequential self.old (ring_step self.old.core (TimeoutInput kind))).committed) }
-        ensures dropped { IfOk result (λ outs. outs.dropped.items
-            ≡ (after_core O.sequential self.old (ring_step self.old.core (TimeoutInput kind))).dropped) }
-        ensures restored { IfOk result (λ outs. outs.restored
+        ensures sends { OnOk result (outs.new.sends.items ≡ (after_core O.sequential self.old (ring_step self.old.core (TimeoutInput kind))).sends) }
+        ensures answers { OnOk result (outs.new.answers.items ≡ (after_core O.sequential self.old (ring_step self.old.core (TimeoutInput kind))).answers) }
+        ensures committed { OnOk result (outs.new.committed.items ≡ (after_core O.sequential self.old (ring_step self.old.core (TimeoutInput kind))).committed) }
+        ensures dropped { OnOk result (outs.new.dropped.items ≡ (after_core O.sequential self.old (ring_step self.old.core (TimeoutInput kind))).dropped) }
+        ensures restored { OnOk result (outs.new.restored
             ≡ node_restored self.old (after_core O.sequential self.old (ring_step self.old.core (TimeoutInput kind))).node) }
+        ensures nothing { OnErr result (GivesNothing outs.new) }
         ensures ok { OnOk result (self.new ≡ (after_core O.sequential self.old (ring_step self.old.core (TimeoutInput kind))).node) }
         ensures err { OnErr result (self.new ≡ node_stopped self.old) }
         ensures refused { IfErr result (λ fault. fault ≡ Memory) }
     {
         self.last = self.core.installed();
         self.ended = seen(&self.core);
-        match advance_by_time(&mut self.core, &mut self.replica, kind) {
-            Ok(outs) => Ok(outs),
+        match advance_by_time(&mut self.core, &mut self.replica, kind, outs) {
+            Ok(()) => Ok(()),
             Err(refused) => {
                 self.core.stop();
                 self.replica.stop();
+                outs.clear();
                 Err(refused)
             }
         }

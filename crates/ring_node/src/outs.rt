@@ -1,9 +1,9 @@
 //! What a step of a node gives.
 
-ghost use Rattle.std.specs.Prelude.{◌≡◌, [], None};
+ghost use Rattle.ring_node.specs.Nothing.{GivesNothing};
 
+use ring_core::Sent;
 use ring_payload::Call;
-use ring_replica::Sent;
 use ring_session::Answered;
 use std::alloc::{Allocator, Global};
 
@@ -24,13 +24,9 @@ pub struct Outs<A: Allocator + Copy + Drop = Global> {
 }
 
 impl<A: Allocator + Copy + Drop> Outs<A> {
-    /// Nothing.
-    pub(crate) fn new(alloc: A) -> Outs<A>
-        ensures sends { result.sends.items ≡ [] }
-        ensures answers { result.answers.items ≡ [] }
-        ensures committed { result.committed.items ≡ [] }
-        ensures dropped { result.dropped.items ≡ [] }
-        ensures restored { result.restored ≡ None }
+    /// Nothing, with no room for anything.
+    pub fn new(alloc: A) -> Outs<A>
+        ensures { GivesNothing result }
     {
         Outs {
             sends: Vec::new(alloc),
@@ -39,5 +35,16 @@ impl<A: Allocator + Copy + Drop> Outs<A> {
             dropped: Vec::new(alloc),
             restored: None,
         }
+    }
+
+    /// Lets go of all that stands in it. Its lists keep their room.
+    pub(crate) fn clear(&mut self)
+        ensures { GivesNothing self.new }
+    {
+        self.sends.clear();
+        self.answers.clear();
+        self.committed.clear();
+        self.dropped.clear();
+        self.restored = None;
     }
 }

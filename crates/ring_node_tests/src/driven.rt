@@ -11,6 +11,7 @@ use ring_session::{Answer, Ticket};
 use ring_things::Counters;
 use ring_wire::{Frame, Wire};
 use std::alloc::Allocator;
+use std::mem;
 
 /// The commit token of ring 1.1 of processor 1 alone; its hop, here 0, stands at 19.
 const COMMIT: [u8; 77] = *b"TR\x01\x04\0\0\0\x45\0\0\0\0\0\0\0\x01\x01\0\x01\0\0\0\0\0\0\0\0\0\x01\
@@ -60,6 +61,8 @@ pub struct Driven<O: Object> {
     pub dropped: usize,
     /// Its number, and how many messages were sent by then.
     last: Option<(u8, u8)>,
+    /// What the last step by reference gave: the next one uses the room of its lists.
+    lent: Outs<O::Alloc>,
 }
 
 impl<O: Object> Driven<O> {
@@ -74,6 +77,7 @@ impl<O: Object> Driven<O> {
             committed: 0,
             dropped: 0,
             last: None,
+            lent: Outs::new(heap),
         })
     }
 
@@ -117,8 +121,10 @@ impl<O: Object> Driven<O> {
     /// A frame comes, which the node copies.
     fn deliver_on(&mut self, bytes: &[u8]) -> Result<(), Fault> {
         let frame = frame_of(self.ample, bytes)?;
-        let outs = self.node.step_on(&Input::Frame(frame))?;
+        let mut outs = mem::replace(&mut self.lent, Outs::new(self.ample));
+        self.node.step_into(&Input::Frame(frame), &mut outs)?;
         self.count(&outs);
+        self.lent = outs;
         Ok(())
     }
 

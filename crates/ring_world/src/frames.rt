@@ -1,6 +1,6 @@
 //! All frames ever sent, kept as bytes.
 
-ghost use Rattle.std.specs.Prelude.{◌≡◌, ℕ, ◌+◌, ◌≤◌, [], ◌∷◌, ◌++◌, length, slice_range, option_map, OnOk, IfErr, MatchResult, Some, None};
+ghost use Rattle.std.specs.Prelude.{◌≡◌, ℕ, ◌+◌, ◌≤◌, true, [], ◌∷◌, ◌++◌, length, slice_range, option_map, OnOk, IfErr, MatchResult, Some, None};
 ghost use Rattle.ring_base.specs.declared.fault.Fault.TheVariants.{Memory};
 ghost use Rattle.ring_wire.specs.declared.frame.Frame.{Frame as OneFrame};
 ghost use Rattle.ring_wire.specs.Frames.{FrameFits};
@@ -71,6 +71,14 @@ impl<A: Allocator + Copy> Frames<A> {
             marks: Vec::new(alloc),
             past: none_sent(&alloc),
         }
+    }
+
+    /// Whether there is room for as many frames as a step may send, of any length.
+    pub(crate) fn has_room(&self) -> bool
+        ensures { result ≡ true → HasRoom 64 self.now }
+    {
+        self.marks.capacity() - self.marks.len() >= FRAMES
+            && self.bytes.capacity() - self.bytes.len() >= FRAMES * FRAME_BYTES
     }
 
     /// Makes room for as many frames as a step may send, of any length, or answers `Memory`.

@@ -1,6 +1,6 @@
 //! The longest of what nodes committed, from the log's beginning: nodes drop places, and the world keeps them.
 
-ghost use Rattle.std.specs.Prelude.{◌≡◌, ℕ, ◌-◌, ◌<◌, [], ◌++◌, List, length, take, OnOk, IfOk, IfErr};
+ghost use Rattle.std.specs.Prelude.{◌≡◌, ℕ, ◌-◌, ◌<◌, true, [], ◌++◌, List, length, take, OnOk, IfOk, IfErr};
 ghost use Rattle.ring_base.specs.declared.fault.Fault.TheVariants.{Memory};
 ghost use Rattle.ring_session.specs.Deduplicated.{deduplicated};
 ghost use Rattle.ring_rules.specs.Worlds.{calls_past};
@@ -11,6 +11,7 @@ use ring_payload::Call;
 use ring_session::{Effects, copy_of};
 use std::alloc::{AllocError, Allocator, Global};
 use std::marker::Model;
+use std::mem;
 
 /// The calls that a step newly committed, as it gave them, and from which of them on they are new: those before it were
 /// committed elsewhere. Contracts see the new ones.
@@ -82,6 +83,13 @@ impl<A: Allocator + Copy> Longest<A> {
         }
     }
 
+    /// Whether there is room for what one step more commits.
+    pub(crate) fn has_room(&self) -> bool
+        ensures { result ≡ true → 0 < self.now.places }
+    {
+        self.segments.len() < self.segments.capacity()
+    }
+
     /// Makes room for what one step more commits, or answers `Memory`.
     pub(crate) fn make_room(&mut self) -> Result<(), Fault>
         ensures calls { self.new.calls ≡ self.old.calls }
@@ -92,9 +100,21 @@ impl<A: Allocator + Copy> Longest<A> {
         Ok(())
     }
 
-    /// Adds what a step newly committed, at a node that has then committed so many. It takes no memory: there is room. Where
-    /// nothing of it is new, nothing is kept.
-    pub(crate) fn add(&mut self, committed: u64, calls: Vec<Call<A>, A>)
+    /// Adds what a step newly committed, at a node that has then committed so many, and takes it out of its list. It takes no
+    /// memory: there is room. Where nothing of it is new, nothing is kept. Most often nothing is committed.
+    pub(crate) fn add(&mut self, alloc: A, committed: u64, calls: &mut Vec<Call<A>, A>)
+        requires { 0 < self.old.places }
+        ensures { self.new.calls ≡ self.old.calls ++ calls_past (length self.old.calls) committed calls.old.items }
+    {
+        if !calls.is_empty() {
+            let calls = mem::replace(calls, Vec::new(alloc));
+            self.add_all(committed, calls);
+        }
+    }
+
+    /// Adds these calls.
+    #[inline(never)]
+    fn add_all(&mut self, committed: u64, calls: Vec<Call<A>, A>)
         requires { 0 < self.old.places }
         ensures { self.new.calls ≡ self.old.calls ++ calls_past (length self.old.calls) committed calls.items }
     {

@@ -12,9 +12,34 @@ use ring_payload::Call;
 use ring_rules::{Item, Told};
 use ring_session::{Answer, Answered};
 use std::alloc::Allocator;
+use std::mem;
 
-/// Tells the answers of a node, in order. There is room, and the copies of their calls are left.
+/// Tells the answers of a node, in order, and takes them out of their list. There is room, and the copies of their calls are
+/// left. Most often there is no answer.
 pub(crate) fn tell<A: Allocator + Copy>(
+    alloc: A,
+    told: &mut Vec<Told<A>, A>,
+    history: &mut Vec<Item<A>, A>,
+    spares: &mut Spares<A>,
+    node: Proc,
+    answers: &mut Vec<Answered<A>, A>,
+)
+    requires left { AllLeft spares.old.calls answers.old.items }
+    requires told_room { vec_len told.old + length answers.old.items ≤ vec_capacity told.old }
+    requires history_room { vec_len history.old + length answers.old.items ≤ vec_capacity history.old }
+    ensures told { told.new.items ≡ told.old.items ++ told_by node answers.old.items }
+    ensures history { history.new.items ≡ history.old.items ++ items_of answers.old.items }
+    ensures spares { spares.new.calls ≡ after_answers spares.old.calls answers.old.items }
+{
+    if !answers.is_empty() {
+        let answers = mem::replace(answers, Vec::new(alloc));
+        tell_all(told, history, spares, node, answers);
+    }
+}
+
+/// Tells these answers.
+#[inline(never)]
+fn tell_all<A: Allocator + Copy>(
     told: &mut Vec<Told<A>, A>,
     history: &mut Vec<Item<A>, A>,
     spares: &mut Spares<A>,

@@ -59,6 +59,8 @@ pub struct World<O: Object> {
     longest: Longest<O::Alloc>,
     events: Vec<Event<O::Alloc>, O::Alloc>,
     done: u64,
+    /// The lists in which a node puts what its step gives: their room is used again.
+    outs: Outs<O::Alloc>,
 }
 
 impl<O: Object> Model for World<O> {
@@ -93,6 +95,7 @@ impl<O: Object> World<O> {
             longest: Longest::new(alloc),
             events: Vec::new(alloc),
             done: 0,
+            outs: Outs::new(alloc),
         })
     }
 
@@ -120,6 +123,7 @@ impl<O: Object> World<O> {
             longest,
             events,
             done: self.done,
+            outs: Outs::new(self.alloc),
         })
     }
 
@@ -356,25 +360,19 @@ impl<O: Object> World<O> {
             &mut self.frames,
             &mut self.longest,
         )?;
-        match self.nodes[place].step_on(input) {
-            Ok(outs) => {
-                let Outs {
-                    sends,
-                    answers,
-                    committed,
-                    dropped: _,
-                    restored: _,
-                } = outs;
-                keep_all(&mut self.frames, node, &sends);
+        match self.nodes[place].step_into(input, &mut self.outs) {
+            Ok(()) => {
+                keep_all(&mut self.frames, node, &self.outs.sends);
                 tell(
+                    self.alloc,
                     &mut self.told,
                     &mut self.history,
                     &mut self.spares[place],
                     node,
-                    answers,
+                    &mut self.outs.answers,
                 );
                 let many = self.nodes[place].committed_len();
-                self.longest.add(many, committed);
+                self.longest.add(self.alloc, many, &mut self.outs.committed);
                 self.events.push_reserved(kept);
             }
             Err(fault) => match fault {
@@ -521,7 +519,7 @@ fn refuse<A: Allocator + Copy>(
 /// The event is left out.
 fn let_go<A: Allocator + Copy>(_event: Event<A>) {}
 
-/// Makes the room for all that an event adds, or answers `Memory`.
+/// Makes the room for all that an event adds, or answers `Memory`. Most often there is room.
 fn make_room<A: Allocator + Copy>(
     events: &mut Vec<Event<A>, A>,
     told: &mut Vec<Told<A>, A>,
@@ -541,6 +539,14 @@ fn make_room<A: Allocator + Copy>(
     ensures longest_room { OnOk result (0 < longest.new.places) }
     ensures refused { IfErr result (λ fault. fault ≡ Memory) }
 {
+    let has_room = events.len() < events.capacity()
+        && told.capacity() - told.len() >= ANSWERS
+        && history.capacity() - history.len() >= ANSWERS
+        && frames.has_room()
+        && longest.has_room();
+    if has_room {
+        return Ok(());
+    }
     events.reserve(1)?;
     told.reserve(ANSWERS)?;
     history.reserve(ANSWERS)?;

@@ -9,7 +9,7 @@ use Rattle.ring_session.specs.declared.answered.Answered.{Answered}
 use Rattle.ring_rules.specs.Worlds.{items_of, told_by}
 use Rattle.ring_world.specs.Spares.{IsLeft, after_answers}
 use Rattle.ring_world.proofs.Tellings.{none_told, one_told, none_taken, one_taken, left_at}
-use Rattle.ring_world.proofs.telling.tell.Goals as goal
+use Rattle.ring_world.proofs.telling.tell_all.Goals as goal
 
 pub loop-answered-init : goal.loop-answered-init
 loop-answered-init g c = (

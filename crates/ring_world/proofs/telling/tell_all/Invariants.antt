@@ -2,7 +2,7 @@
 use Rattle.std.proofs.Common.{length}
 use Rattle.std.specs.Prelude.{vec_len, vec_capacity}
 use Rattle.ring_world.proofs.Tellings.{HasTold, HasTaken}
-use Rattle.ring_world.proofs.telling.tell.Given as goal
+use Rattle.ring_world.proofs.telling.tell_all.Given as goal
 
 abbrev pub invariant-loop-answered : goal.invariant-loop-answered
 invariant-loop-answered g l =

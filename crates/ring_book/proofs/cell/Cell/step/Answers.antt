@@ -30,15 +30,15 @@ invariant_of-self g c =
     c.if-self.false c.self.invariant in
     let e = c.in-Ok.ensures in
     let l = c.came.result in
-    let stepped : IsStep m c.self.inside.node l c.step_on.new.self = rw c.came.ensures record {
+    let stepped : IsStep m c.self.inside.node l c.step_into.new.self = rw c.came.ensures record {
       fits = c.requires;
       makes = (e.runs, e.ok, c.new-frames.ensures.same ∙ e.sends, e.answers, e.committed);
       committed = c.committed_len-places.ensures;
     } in
-    cell_adds m NodeFits g.K.BookName.name c.self.inside.me c.self.inside.node c.step_on.new.self
+    cell_adds m NodeFits g.K.BookName.name c.self.inside.me c.self.inside.node c.step_into.new.self
     c.self.inside.journal c.push_reserved.new.self _ _ l k (ap (λ x. x.node) c.came.ensures) stepped
     (node_sound g.O.Object.sequential g.K.BookName.name.group c.node_fits_law.ensures.step c.node_fits_law.ensures.submit
-    c.self.inside.node l c.step_on.new.self c.self.invariant.sound stepped) c.new-frames.ensures.room c.push_reserved.ensures.ring
+    c.self.inside.node l c.step_into.new.self c.self.invariant.sound stepped) c.new-frames.ensures.room c.push_reserved.ensures.ring
     c.push_reserved.ensures.sent.0
 
 pub returns-in-Ok : goal.returns-in-Ok
@@ -46,7 +46,7 @@ returns-in-Ok g c =
     let m = node_machine g.O.Object.sequential g.K.BookName.name.group in
     let e = c.in-Ok.ensures in
     let l = c.came.result in
-    let stepped : IsStep m c.self.inside.node l c.step_on.new.self = rw c.came.ensures record {
+    let stepped : IsStep m c.self.inside.node l c.step_into.new.self = rw c.came.ensures record {
       fits = c.requires;
       makes = (e.runs, e.ok, c.new-frames.ensures.same ∙ e.sends, e.answers, e.committed);
       committed = c.committed_len-places.ensures;
@@ -70,15 +70,15 @@ invariant_of-self-in-Memory g c =
     c.if-self.false c.self.invariant in
     let l = c.stop-stop.result in
     let e = c.in-Err.ensures in
-    let stepped : IsStep m c.self.inside.node l c.step_on.new.self = rw c.stop-stop.ensures record {
+    let stepped : IsStep m c.self.inside.node l c.step_into.new.self = rw c.stop-stop.ensures record {
       fits = tt;
       makes = (memory_runs _ (sym c.in-Memory.is ∙ e.refused), e.err, refl, refl, refl);
       committed = c.committed_len-committed.ensures;
     } in
-    cell_adds m NodeFits g.K.BookName.name c.self.inside.me c.self.inside.node c.step_on.new.self
+    cell_adds m NodeFits g.K.BookName.name c.self.inside.me c.self.inside.node c.step_into.new.self
     c.self.inside.journal c.push_reserved-in-Memory.new.self _ _ l k (ap (λ x. x.node) c.stop-stop.ensures) stepped
     (node_sound g.O.Object.sequential g.K.BookName.name.group c.node_fits_law.ensures.step c.node_fits_law.ensures.submit
-    c.self.inside.node l c.step_on.new.self c.self.invariant.sound stepped) c.self.invariant.text c.push_reserved-in-Memory.ensures.ring
+    c.self.inside.node l c.step_into.new.self c.self.invariant.sound stepped) c.self.invariant.text c.push_reserved-in-Memory.ensures.ring
     c.push_reserved-in-Memory.ensures.sent.0
 
 pub returns-in-Memory : goal.returns-in-Memory
@@ -86,7 +86,7 @@ returns-in-Memory g c =
     let m = node_machine g.O.Object.sequential g.K.BookName.name.group in
     let l = c.stop-stop.result in
     let e = c.in-Err.ensures in
-    let stepped : IsStep m c.self.inside.node l c.step_on.new.self = rw c.stop-stop.ensures record {
+    let stepped : IsStep m c.self.inside.node l c.step_into.new.self = rw c.stop-stop.ensures record {
       fits = tt;
       makes = (memory_runs _ (sym c.in-Memory.is ∙ e.refused), e.err, refl, refl, refl);
       committed = c.committed_len-committed.ensures;

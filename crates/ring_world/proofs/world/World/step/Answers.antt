@@ -23,8 +23,8 @@ place g c =
     let room = c.in_ok-make_room.ensures in
     roomy there room.events room.told room.history room.frames room.longest
 
-gave : (g : Over) (c : In-Ok g) → IsStep g.O.Object.sequential c.index_mut.result.now c.args.input.now c.step_on.new.self
-    c.in-Ok.outs.sends.items c.in-Ok.outs.answers.items c.in-Ok.outs.committed.items
+gave : (g : Over) (c : In-Ok g) → IsStep g.O.Object.sequential c.index_mut.result.now c.args.input.now c.step_into.new.self
+    c.step_into.new.outs.sends.items c.step_into.new.outs.answers.items c.step_into.new.outs.committed.items
 gave g c = record {
   node = c.in-Ok.ensures.ok;
   sends = c.in-Ok.ensures.sends;
@@ -76,9 +76,9 @@ invariant_of-self-in-Ok g c =
     step_world (place g at.In_ok-make_room) c.index_mut.ensures.value (gave g at.In-Ok) c.args.event.now c.index_mut-in-Ok.ensures.value c.requires.same
     c.in_ok-kept.kept c.tell.new.spares c.in_ok-kept.ensures.ok c.requires.steps c.push_reserved.ensures.items c.tell.ensures.spares
     (rw c.deref.ensures.value at c.keep_all.ensures) c.tell.ensures.history c.tell.ensures.told
-    (c.add.ensures ∙ ap (λ n. c.make_room.new.longest.calls ++ calls_past (length c.make_room.new.longest.calls) n c.in-Ok.outs.committed.items)
+    (c.add.ensures ∙ ap (λ n. c.make_room.new.longest.calls ++ calls_past (length c.make_room.new.longest.calls) n c.step_into.new.outs.committed.items)
     (c.committed_len-many.ensures ∙ ap (λ (n : Node g.row.O-Alloc.Denot). (node_kept n).committed)
-    (node_put (place g at.In_ok-make_room) c.step_on.new.self c.index.ensures)))
+    (node_put (place g at.In_ok-make_room) c.step_into.new.self c.index.ensures)))
 
 pub returns-in-Ok : goal.returns-in-Ok
 returns-in-Ok g c =

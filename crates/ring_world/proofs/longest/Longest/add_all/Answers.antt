@@ -3,7 +3,7 @@ use Rattle.std.proofs.Common.{◌≡◌, ◌-◌, ◌++◌, length, drop, ap, �
 use Rattle.ring_rules.specs.Worlds.{calls_past}
 use Rattle.ring_world.specs.Longest.{Committed, calls_of}
 use Rattle.ring_world.proofs.Segments.{calls_of-push, new-calls}
-use Rattle.ring_world.proofs.longest.Longest.add.Goals as goal
+use Rattle.ring_world.proofs.longest.Longest.add_all.Goals as goal
 
 pub invariant_of-self : goal.invariant_of-self
 invariant_of-self g c =
