@@ -38,7 +38,8 @@ pub(crate) fn step<A: Allocator + Copy>(
     let before = machine.reached();
     let what = machine.decide(input);
     carry_out(machine, what, sends)?;
-    tell(machine, before)
+    let told = machine.list();
+    tell(machine, before, told)
 }
 
 /// One step, whose outputs all go to one list, in their order.
@@ -128,7 +129,8 @@ fn take_by<A: Allocator + Copy>(
 {
     let before = machine.reached();
     take_through(machine, message, sends)?;
-    tell(machine, before)
+    let told = machine.list();
+    tell(machine, before, told)
 }
 
 /// A message is taken, and then a ring may be proposed.
@@ -177,9 +179,10 @@ fn pass_by<A: Allocator + Copy>(
     ensures running { is_stopped machine.old.state ≡ false }
     ensures refused { IfErr result (λ fault. fault ≡ Memory) }
 {
+    let told = machine.told_by_visit()?;
     let before = machine.reached();
     visit_through(machine, token, sends)?;
-    tell(machine, before)
+    tell(machine, before, told)
 }
 
 /// A token is visited, and then a ring may be proposed.
@@ -197,12 +200,14 @@ fn visit_through<A: Allocator + Copy>(
     machine.propose_if_due(sends)
 }
 
-/// What the processor is told after an act: what is agreed and safe by now of the ring that was installed before it, and then
-/// what an installation gives.
+/// What the processor is told after an act, in an empty list: what is agreed and safe by now of the ring that was installed before
+/// it, and then what an installation gives.
 fn tell<A: Allocator + Copy>(
     machine: &mut Machine<A>,
     before: Reached,
+    mut told: Vec<Out<A>, A>,
 ) -> Result<Vec<Out<A>, A>, Fault>
+    requires empty { told.items ≡ [] }
     requires ring { before.ring ≡ machine.old.installed.ring }
     requires mark { mark machine.old machine.old.installed.ring ≤ before.front }
     ensures told { IfOk result (λ told. told.items ≡ delivered_from machine.old before.ring before.front before.mark ++
@@ -210,7 +215,6 @@ fn tell<A: Allocator + Copy>(
     ensures core { OnOk result (machine.new ≡ (settle (may_install machine.old) machine.old []).core) }
     ensures refused { IfErr result (λ fault. fault ≡ Memory) }
 {
-    let mut told = machine.list();
     machine.give(before, &mut told)?;
     machine.install_if_due(&mut told)?;
     Ok(told)

@@ -1,6 +1,6 @@
 //! A token is visited.
 
-ghost use Rattle.std.specs.Prelude.{◌≡◌, ◌≤◌, ◌++◌, true, length, IfOk, IfErr, OnOk};
+ghost use Rattle.std.specs.Prelude.{◌≡◌, ◌≤◌, ◌++◌, [], true, length, IfOk, IfErr, OnOk};
 ghost use Rattle.ring_base.specs.declared.fault.Fault.TheVariants.{Memory};
 ghost use Rattle.ring_base.specs.Processors.{only, less};
 ghost use Rattle.ring_token.specs.Visits.{room, left};
@@ -14,7 +14,7 @@ ghost use Rattle.ring_core.specs.Visiting.{accepts, repeated, room_at, new_paylo
 
 use crate::machine::Machine;
 use ring_base::{Fault, MAX, MAX_NEW, Past, ProcSet, State, WINDOW};
-use ring_core::Sent;
+use ring_core::{Out, Sent};
 use ring_payload::Payload;
 use ring_srp_state::{none, one_last, send_message, take_packed};
 use ring_token::left;
@@ -47,6 +47,25 @@ impl<A: Allocator + Copy> Machine<A> {
     {
         let stays = self.stays(token);
         self.visit_asked(token, &stays, sends)
+    }
+
+    /// An empty list with room for what a visit may tell at once: that its new messages are agreed, and that the safe mark rose.
+    /// The room is made before the visit, by which the window gives many small pieces of memory back: behind these a large one is
+    /// dear. Where nothing is queued there is none, and no memory is asked for.
+    pub fn told_by_visit(&self) -> Result<Vec<Out<A>, A>, Fault>
+        ensures ok { IfOk result (λ told. told.items ≡ []) }
+        ensures refused { IfErr result (λ fault. fault ≡ Memory) }
+    {
+        let told = Vec::with_capacity(self.alloc, self.most_told())?;
+        Ok(told)
+    }
+
+    /// For how many outputs a visit has such room.
+    fn most_told(&self) -> usize {
+        match self.queue.len().min(MAX_NEW as usize) {
+            0 => 0,
+            new => new + 1,
+        }
     }
 
     /// Visits an accepted token of whose requests these stay.

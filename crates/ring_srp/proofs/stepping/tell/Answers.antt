@@ -10,4 +10,4 @@ returns-clause-told g c =
     c.in_ok-install_if_due.ensures.outs
     ∙ ap (λ (xs : List (Out g.row.A.Denot)). xs ++ later) (c.in_ok-give.ensures.ok
     ∙ ap (λ (xs : List (Out g.row.A.Denot)). xs ++ delivered_from c.args.machine.now c.args.before.ring c.args.before.front c.args.before.mark)
-    c.list-told.ensures)
+    c.requires.empty)
