@@ -1,13 +1,19 @@
 #!/usr/bin/env python3
 """Times the ring core at two numbers of steps, a tenth and the whole, and tells what a step costs.
 
-    bench/rings.py [RUNS]
+    bench/rings.py [RUNS]                times it
+    bench/rings.py --instructions        counts instructions instead, by callgrind
+    .. --program FILE | --save FILE      takes a program that was built before, or keeps the one that is built
 
 The program that is timed promises nothing, so it is no crate of the repository: its text is `bench/rings/`, each file with
 `.txt` behind its name. It is proved and built in a copy of the repository, as the crate `ring_bench`. A step is one frame that
 is handed to one processor. For each case, the least user time of RUNS runs is told: in microseconds for a step at each number
 of steps, and the second by the first. That last figure stays near 1 where a step costs the same however long the run.
+
+Instructions are those of 10,000 steps behind the first 5,000: of the whole program, whose network spells each frame, keeps it and
+reads it again, and whose clients make the calls; and in the ring core alone, which is what is done in `heard` of the program.
 """
+import argparse
 import os
 import shutil
 import subprocess
@@ -19,6 +25,9 @@ LINE = f"{NAME}: ring_base ring_payload ring_wire ring_core ring_srp ring_core_p
 CASES = [("idle", 3), ("idle", 16), ("load", 3), ("load", 16), ("change", 3), ("change", 16)]
 FEW = 100_000
 MANY = 1_000_000
+# Instructions are counted between so many steps and so many.
+FIRST = 5_000
+LAST = 15_000
 
 
 def copied(top):
@@ -71,10 +80,41 @@ def measure(program, runs):
         print(f"| {case} | {processors} | {few:.2f} | {many:.2f} | {many / few:.2f} | {int(done[4]):,} | {int(done[7]):,} |", flush=True)
 
 
+def instructions(program, case, processors, steps, words=()):
+    """How many instructions a run takes, by callgrind."""
+    command = ["valgrind", "--tool=callgrind", "--callgrind-out-file=/dev/null", *words, program, case, str(processors), str(steps)]
+    ran = subprocess.run(command, stdout=subprocess.DEVNULL, stderr=subprocess.PIPE, text=True)
+    if ran.returncode != 0:
+        sys.exit(f"{' '.join(command)}: status {ran.returncode}")
+    return int(ran.stderr.split("Collected :")[1].split()[0])
+
+
+def count(program):
+    """Prints the table of instructions."""
+    print("| Case | Processors | Instructions a step | In the ring core alone |\n|---|---|---|---|")
+    for case, processors in CASES:
+        cells = []
+        for words in ([], ["--toggle-collect=ring_bench::rings::heard"]):
+            first, last = (instructions(program, case, processors, steps, words) for steps in (FIRST, LAST))
+            cells.append(f"{(last - first) / (LAST - FIRST):,.0f}")
+        print(f"| {case} | {processors} | " + " | ".join(cells) + " |", flush=True)
+
+
 def main():
-    runs = int(sys.argv[1]) if len(sys.argv) > 1 else 3
+    parser = argparse.ArgumentParser(description=__doc__, formatter_class=argparse.RawDescriptionHelpFormatter)
+    parser.add_argument("runs", nargs="?", type=int, default=3)
+    parser.add_argument("--instructions", action="store_true")
+    parser.add_argument("--program")
+    parser.add_argument("--save")
+    words = parser.parse_args()
     with tempfile.TemporaryDirectory(prefix="rings-") as top:
-        measure(built(copied(top)), runs)
+        program = words.program or built(copied(top))
+        if words.save:
+            shutil.copy(program, words.save)
+        if words.instructions:
+            count(program)
+        else:
+            measure(program, words.runs)
 
 
 if __name__ == "__main__":
