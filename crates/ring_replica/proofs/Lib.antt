@@ -6,6 +6,7 @@
 -- Replicas: What the code keeps of a replica, as it opens, gives a ticket and ends a step, and what it tells.
 -- ReplicaSteps: What a step makes of what the code keeps of a replica, and what it gives: where the course goes on, and where it stops.
 -- ReplicaEnds: What the end of a step makes of what the code keeps of a replica: places are dropped, or none are.
+-- RestingReplicas: A step of which the core tells nothing: it changes nothing of a replica of which no places are to be dropped, and gives nothing.
 -- StayMarks: The safe mark that a node's newest stay has, and the one of its core: a step tells none that is lower.
 -- Courses: What is true of courses, passed on to the node.
 pub mod SessionsOn
@@ -16,5 +17,6 @@ pub mod TablesOn
 pub mod Replicas
 pub mod ReplicaSteps
 pub mod ReplicaEnds
+pub mod RestingReplicas
 pub mod StayMarks
 pub mod Courses

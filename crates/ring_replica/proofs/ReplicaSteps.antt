@@ -26,7 +26,7 @@ use Rattle.ring_rules.specs.Nodes.{table_at, effects_at, snapshot_kept, is_resto
 use Rattle.ring_rules.specs.Stepping.{newly, table_since}
 use Rattle.ring_course.specs.Courses.{Course, Moment, dues_by, told_log, MayRestore, GoesOn, IsSteady}
 use Rattle.ring_replica.specs.Replicas.{Replica, ReplicaStepped, Tale, IsDone, IsIdle, Runs, IsReplica, IsCounted}
-use Rattle.ring_replica.specs.Replicas.{told_replica, replica_stopped, behind_log, more_in}
+use Rattle.ring_replica.specs.Replicas.{told_replica, replica_kept, replica_stopped, behind_log, more_in}
 use Rattle.ring_replica.specs.Replicas.{moment_of, restored_since, replica_settled, replica_step, is_table_held, table_held}
 use Rattle.ring_replica.proofs.FirstDues.{dues-first}
 use Rattle.ring_course.proofs.Messages.{never-less}
@@ -155,6 +155,19 @@ gives-nothing {A} object running r outs e =
       restored = ap (λ (v : ReplicaStepped A). v.restored) e;
     }
 
+-- what its course knows is what it tells
+module _ {O A : Type 0} {object : Sequential O} {course : Course A} {table : Table O} {tickets : Tickets A} {leaving : Option (Log A)}
+    {places first gone effects reached : ℕ} {stopped : Bool} {tale : Tale A} {r : Replica A}
+    (b : IsReady object course table tickets leaving places first gone effects reached stopped tale r) where
+  pub steady-was : IsSteady course.group course.life → IsSteady r.group r.life
+  steady-was is = subst (λ (v : Replica A). IsSteady v.group v.life) b.told (subst (λ l. IsSteady course.group l) b.here is)
+
+  pub sound-was : is_kept_sound course.group course.life ≡ true → is_kept_sound r.group r.life ≡ true
+  sound-was is = subst (λ (v : Replica A). is_kept_sound v.group v.life ≡ true) b.told (subst (λ l. is_kept_sound course.group l ≡ true) b.here is)
+
+  pub kept-was : kept_of course.group course.life ≡ replica_kept r
+  kept-was = ap (kept_of course.group) b.here ∙ ap (λ (v : Replica A). replica_kept v) b.told
+
 module _ {O A : Type 0} {object : Sequential O} {course : Course A} {table : Table O} {tickets : Tickets A} {leaving : Option (Log A)}
     {places first gone effects reached : ℕ} {stopped : Bool} {tale : Tale A} {r : Replica A}
     (b : IsReady object course table tickets leaving places first gone effects reached stopped tale r) (running : Option RingId) (outs : List (Out A)) where
@@ -170,10 +183,6 @@ module _ {O A : Type 0} {object : Sequential O} {course : Course A} {table : Tab
       gives-nothing object running r outs
       (ap (λ x. replica_settled object (x && is_restored object k) r outs life (dues_by (moment_of object running r) r.life outs) k)
       (sym not ∙ sound-here is ∙ ap (λ (v : Replica A). is_kept_sound v.group (lived_through v.life outs)) b.told))
-
-  -- it was steady
-  pub steady-was : IsSteady course.group course.life → IsSteady r.group r.life
-  steady-was is = subst (λ (v : Replica A). IsSteady v.group v.life) b.told (subst (λ l. IsSteady course.group l) b.here is)
 
   pub moved-by : (moved : Course A) → moved.group ≡ course.group → moved.me ≡ course.me
       → IsFront (committed_calls (told_log course.held)) (committed_calls (told_log moved.held)) → moved.fine ≡ true

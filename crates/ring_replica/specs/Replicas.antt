@@ -135,6 +135,10 @@ pub record ReplicaStepped (A : Type 0) : Type 0 where
   pub answers : List (Answered A)
   pub restored : Option ℕ
 
+-- a step that leaves it as it is and gives nothing
+abbrev pub replica_still : {A : Type 0} → Replica A → ReplicaStepped A
+replica_still r = record { replica = r; sends = []; due = []; answers = []; restored = None }
+
 module _ {O : Type 0} (object : Sequential O) where
   abbrev pub moment_of : {A : Type 0} → Option RingId → Replica A → Moment A
   moment_of running r =
@@ -181,6 +185,10 @@ module _ {O : Type 0} (object : Sequential O) where
       let life = lived_through r.life outs in
       let k = kept_of r.group life in
       replica_settled (is_kept_sound r.group life && is_restored object k) r outs life (dues_by (moment_of running r) r.life outs) k
+
+  -- a step of which the core tells nothing leaves it as it is and gives nothing, whichever ring runs
+  abbrev pub Rests : {A : Type 0} → Replica A → Type 0
+  Rests r = (running : Option RingId) → replica_step running r [] ≡ replica_still r
 
 -- the step is done, by which these answers were given
 abbrev pub replica_done : {A : Type 0} → Replica A → List (Answered A) → Replica A

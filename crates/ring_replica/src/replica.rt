@@ -1,18 +1,20 @@
 //! All of a node but its core.
 
 ghost use Rattle.std.specs.Prelude.{◌≡◌, ◌+◌, ◌-◌, ◌^◌, [], true, false, fold, min, is_some, option_map, if◌then◌else◌};
-ghost use Rattle.std.specs.Prelude.{length, IfOk, IfErr, IfSome, OnOk, OnErr};
+ghost use Rattle.std.specs.Prelude.{length, not, IfOk, IfErr, IfSome, OnOk, OnErr};
 ghost use Rattle.std.specs.Prelude.{Some, None};
 ghost use Rattle.ring_base.specs.declared.fault.Fault.TheVariants.{Memory};
 ghost use Rattle.ring_session.specs.Table.{table_next};
 ghost use Rattle.ring_session.specs.Pendings.{answers_behind, pending_from};
 ghost use Rattle.ring_session.specs.TicketEffects.{done_after, table_effects};
-ghost use Rattle.ring_log.specs.Logs.{committed_log};
+ghost use Rattle.ring_log.specs.Kept.{log_kept};
+ghost use Rattle.ring_log.specs.Logs.{committed_log, is_ripe};
 ghost use Rattle.ring_rules.specs.Nodes.{effects_at, is_closed};
 ghost use Rattle.ring_course.specs.Courses.{rises, course_trimmed, IsSteady};
 ghost use Rattle.ring_replica.specs.Replicas.{IsDone, replica_opening, replica_kept, replica_length, replica_trimmed, replica_committed, replica_stopped};
 ghost use Rattle.ring_replica.specs.Replicas.{replica_reply, submit_refusal, is_running_some, has_adopted_running, replica_given, calls_leaving};
 ghost use Rattle.ring_replica.specs.Replicas.{more_in, ahead_log, behind_log, is_table_held, table_held, snapshot_if_ripe, replica_step, replica_done};
+ghost use Rattle.ring_replica.specs.Replicas.{Rests};
 
 use crate::given::Given;
 use crate::story::{ReplicaStory, done, given, opened};
@@ -139,6 +141,18 @@ impl<O: Object> Replica<O> {
         self.story = given(&self.story, &call, runs);
         self.course.hand_call(&call, runs);
         self.tickets.give(call)
+    }
+
+    /// Whether a step of which the core tells nothing changes nothing and gives nothing, so that none has to be done: unless committed
+    /// places wait to be dropped.
+    pub fn rests(&self) -> bool
+        requires done { IsDone self.now }
+        requires runs { self.now.stopped ≡ false }
+        ensures value { result ≡ not (is_ripe (log_kept (replica_kept self.now))) }
+        ensures rests { result ≡ true → Rests O.sequential self.now }
+        ensures steady { IsSteady self.now.group self.now.life }
+    {
+        !self.course.held().log().is_ripe()
     }
 
     /// Takes the outputs of a step of the core, in which then this ring runs. Where a base drops committed places or brings no

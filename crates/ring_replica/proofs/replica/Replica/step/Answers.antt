@@ -43,7 +43,7 @@ returns-then-not-is_fine g c =
       answers = c.new.ensures.answers ∙ nothing.answers;
       committed = c.new.ensures.committed ∙ nothing.doing;
       restored = c.new.ensures.restored ∙ nothing.restored;
-      steady = steady-was b c.args.running.now c.args.outs.items (c.is_fine-is_fine.ensures.steady b.fine);
+      steady = steady-was b (c.is_fine-is_fine.ensures.steady b.fine);
       err = tt;
       refused = tt;
     }
@@ -76,7 +76,7 @@ returns-in_default g c =
       answers = c.new-in_default.ensures.answers ∙ nothing.answers;
       committed = c.new-in_default.ensures.committed ∙ nothing.doing;
       restored = c.new-in_default.ensures.restored ∙ nothing.restored;
-      steady = steady-was b c.args.running.now c.args.outs.items (c.is_fine-is_fine.ensures.steady b.fine);
+      steady = steady-was b (c.is_fine-is_fine.ensures.steady b.fine);
       err = tt;
       refused = tt;
     }
@@ -140,7 +140,7 @@ returns g c =
       committed = committed-told m carried.fits carried.committed;
       restored = restored-told m carried.fits (c.restored_places-given.ensures
           ∙ ap (λ (h : Holding _). if is_some h.before then Some h.log.trimmed else None) c.held-2.ensures.held);
-      steady = steady-was b c.args.running.now c.args.outs.items (c.is_fine-is_fine.ensures.steady b.fine);
+      steady = steady-was b (c.is_fine-is_fine.ensures.steady b.fine);
       err = tt;
       refused = tt;
     }
