@@ -1,6 +1,7 @@
 -- Among: No line of a script names a node past the script's nodes.
--- AsciiLines: Whether each byte of a line is below 128, as the library tells it.
+-- AsciiLines: Whether each byte of a line is below 128, as the library tells it, and of all lines of a text.
 -- Cutting: The words of a cut, taken one after the other.
+-- Digits: The digits that a text begins with, and the word that they are.
 -- Fitting: Each call that a script asks for keeps the limits of calls.
 -- FoundForms: The form that a word calls, as the program finds it.
 -- Inputs: The bytes of an input that was read whole.
@@ -15,6 +16,7 @@
 pub mod Among
 pub mod AsciiLines
 pub mod Cutting
+pub mod Digits
 pub mod Fitting
 pub mod FoundForms
 pub mod Inputs
