@@ -6,7 +6,6 @@
 -- FoundForms: The form that a word calls, as the program finds it.
 -- Inputs: The bytes of an input that was read whole.
 -- Lengths: An operation of a script is short enough for a call.
--- Numerals: The number that digits write, read digit by digit.
 -- Pieces: The first piece of a text, and the first line, by where the separator stands.
 -- Readings: The lines of a text, read one after the other.
 -- RefusalsPassOn: Refusals that pass on.
@@ -21,7 +20,6 @@ pub mod Fitting
 pub mod FoundForms
 pub mod Inputs
 pub mod Lengths
-pub mod Numerals
 pub mod Pieces
 pub mod Readings
 pub mod RefusalsPassOn
