@@ -1,9 +1,11 @@
 -- The first piece of a text, and the first line, by where the separator stands.
-use Rattle.std.proofs.Common.{◌≡◌, ℕ, suc, ◌+◌, ◌-◌, ◌<◌, ◌≤◌, true, List, [], ◌∷◌, length, take, drop, Some, None, ltb, arith, refl, inl, inr}
+use Rattle.std.proofs.Common.{◌≡◌, ℕ, suc, ◌+◌, ◌-◌, ◌<◌, ◌≤◌, true, false, List, [], ◌∷◌, length, get_or, take, drop, Some, None, ltb, arith, refl, inl, inr}
 use Rattle.std.specs.Prelude.{position, ◌==◌}
 use Rattle.std.specs.List.{position_or_len}
 use Rattle.std.proofs.lemmas.Bool.{cases_Bool, ltb-true, ltb-false, eqb-true}
 use Rattle.std.proofs.lemmas.Grind.{common_steps}
+use Rattle.std.proofs.lemmas.List.Sums.{position_or_len_is}
+use Rattle.memchr.specs.Find.{IsFirstByte, is_byte}
 use Rattle.ring_script.specs.Words.{pieces, lines_of}
 
 -- where a byte stands first, or the length
@@ -38,7 +40,7 @@ piece_stays separator (b ∷ text) le =
     ]
 
 -- what stands from a place on
-rest_is : (n : ℕ) (text : List ℕ) → take (length text - n) (drop n text) ≡ drop n text
+pub rest_is : (n : ℕ) (text : List ℕ) → take (length text - n) (drop n text) ≡ drop n text
 rest_is n text = grind (arith, common_steps)
 
 -- the same by what `position` gives
@@ -91,25 +93,40 @@ line_stays b (c ∷ text) le =
           rw (later, others) refl
     ]
 
-pub lines-ended : (n : ℕ) (text : List ℕ) → Some n ≡ position (λ b. b == 10) text → lines_of text ≡ take n text
-    ∷ lines_of (take (length text - (n + 1)) (drop (n + 1) text))
-lines-ended n text e =
-    elim (cases_Bool (ltb (place 10 text) (length text))) [
-      | inl inside ↦
-          let found = rw inside at e in
-          let same : place 10 text ≡ n = cc in
-          let first = line_ends text (ltb-true _ _ inside) in
-          rw (rest_is (n + 1) text, ← same) first
-      | inr outside ↦ let none = rw outside at e in absurd (cc)
-    ]
+-- a byte stands first where a search finds it
+found_place : (b : ℕ) (text : List ℕ) (n : ℕ) → IsFirstByte (is_byte b) text (Some n) → place b text ≡ n
+found_place b text n found =
+    position_or_len_is (λ x. x == b) text n 0 (omega (arith, found.0.high)) (λ k lt. other k lt) (λ lt. found.1)
+  where
+    other : (k : ℕ) → k < n → (get_or text k 0 == b) ≡ false
+    other k lt =
+        elim (cases_Bool (get_or text k 0 == b)) [
+          | inl here ↦ absurd (found.0.before k (omega arith) lt here)
+          | inr later ↦ later
+        ]
 
-pub lines-last : (text : List ℕ) → None ≡ position (λ b. b == 10) text → 0 < length text → lines_of text ≡ text ∷ []
-lines-last [] e some = absurd (omega arith)
-lines-last (b ∷ text) e some =
-    elim (cases_Bool (ltb (place 10 (b ∷ text)) (length (b ∷ text)))) [
-      | inl inside ↦ let found = rw inside at e in absurd (cc)
-      | inr outside ↦ line_stays b text (ltb-false _ _ outside)
-    ]
+-- and nowhere where it finds none
+no_place : (b : ℕ) (text : List ℕ) → IsFirstByte (is_byte b) text None → place b text ≡ length text
+no_place b text none =
+    position_or_len_is (λ x. x == b) text (length text) 0 (omega arith) (λ k lt. other k lt) (λ lt. absurd (omega (arith, lt)))
+  where
+    other : (k : ℕ) → k < length text → (get_or text k 0 == b) ≡ false
+    other k lt =
+        elim (cases_Bool (get_or text k 0 == b)) [
+          | inl here ↦ absurd (none k (omega arith) lt here)
+          | inr later ↦ later
+        ]
+
+pub lines-ended : (n : ℕ) (text : List ℕ) → IsFirstByte (is_byte 10) text (Some n) → lines_of text ≡ take n text
+    ∷ lines_of (take (length text - (n + 1)) (drop (n + 1) text))
+lines-ended n text found =
+    let same = found_place 10 text n found in
+    let first = line_ends text (omega (arith, same, found.0.high)) in
+    rw (rest_is (n + 1) text, ← same) first
+
+pub lines-last : (text : List ℕ) → IsFirstByte (is_byte 10) text None → 0 < length text → lines_of text ≡ text ∷ []
+lines-last [] none some = absurd (omega arith)
+lines-last (b ∷ text) none some = line_stays b text (omega (arith, no_place 10 (b ∷ text) none))
 
 pub lines-none : (text : List ℕ) → (length text == 0) ≡ true → lines_of text ≡ []
 unfolding lines_of

@@ -77,6 +77,13 @@ frame_of word = do
   frame ← decimal_of word
   if is_zero frame then None else Some frame
 
+-- the number of a frame that the next word is, and the words after it
+abbrev pub frame_at : List (List ℕ) → Option (Option ℕ × List (List ℕ))
+frame_at words = do
+  word ← word_at words
+  frame ← frame_of word.0
+  Some (frame, word.1)
+
 -- ---- the forms of lines, and the words after each
 
 unfoldable pub call_at : List Form → Group → List (List ℕ) → Option (Asked × List (List ℕ))

@@ -1,6 +1,6 @@
 -- What a word can stand for: a number, a node.
 -- Scripts, of docs/FORMATS.md.
-use Rattle.std.specs.Prelude.{ℕ, ◌^◌, Bool, false, ◌&&◌, ◌==◌, nat_lt, nat_le, if◌then◌else◌, List, [], ◌∷◌, length, Option, Some, None, option_map, bytes_eq}
+use Rattle.std.specs.Prelude.{◌≡◌, ◌<◌, ◌≤◌, ℕ, ◌^◌, Bool, true, false, ◌&&◌, ◌==◌, nat_lt, nat_le, if◌then◌else◌, List, [], ◌∷◌, length, take, get_or, Option, Some, None, option_map, bytes_eq}
 use Rattle.std.specs.Char.{is_ascii_digit}
 use Rattle.std.specs.List.{list_all}
 use Rattle.std.specs.Str.Parse.{digits_value}
@@ -38,10 +38,24 @@ as_u64 number = if nat_lt number (2 ^ 64) then Some number else None
 abbrev pub decimal_of : List ℕ → Option (Option ℕ)
 decimal_of word = option_map as_u64 (number_of word)
 
+-- A text begins with so many digits and no more, and they write this number, none where no u64 holds it.
+pub record BeginsWith (text : List ℕ) (count : ℕ) (value : Option ℕ) : Type 0 where
+  pub within : count ≤ length text
+  pub digits : list_all is_ascii_digit (take count text) ≡ true
+  pub ended : count < length text → is_ascii_digit (get_or text count 0) ≡ false
+  pub value_is : value ≡ as_u64 (digits_value 10 (take count text))
+
 -- the next word, and the words after it
 abbrev pub word_at : List (List ℕ) → Option (List ℕ × List (List ℕ))
 word_at [] = None
 word_at (word ∷ words) = Some (word, words)
+
+-- the next word's number, where a u64 holds it, and the words after it
+abbrev pub decimal_at : List (List ℕ) → Option (Option ℕ × List (List ℕ))
+decimal_at words = do
+  word ← word_at words
+  number ← decimal_of word.0
+  Some (number, word.1)
 
 -- the next word's number, from `least` to `most`, and the words after it
 abbrev pub number_at : ℕ → ℕ → List (List ℕ) → Option (ℕ × List (List ℕ))

@@ -5,7 +5,7 @@ ghost use Rattle.ring_base.specs.Processors.{has, nobody};
 ghost use Rattle.ring_script.specs.Cuts.{apart, cut_at, placed_from, group_of, gathered};
 ghost use Rattle.ring_script.specs.Reading.{Tells};
 
-use crate::words::{Words, node_of};
+use crate::words::Words;
 use ring_base::{Fault, Fixed, Proc, ProcSet};
 use std::marker::Model;
 
@@ -98,8 +98,8 @@ fn gathered(nodes: Fixed, numbers: &mut Words<'_>) -> Result<ProcSet, Fault>
     ensures { Tells (λ set. set) result (gathered nodes nobody numbers.old) }
 {
     let mut group = ProcSet::new();
-    while let Some(number) = numbers.next_word() {
-        let node = node_of(number, nodes)?;
+    while !numbers.is_over() {
+        let node = numbers.node(nodes)?;
         if group.contains(node) {
             return Err(Fault::BadScript);
         }

@@ -2,14 +2,14 @@
 
 ghost use Rattle.std.specs.Prelude.{◌≡◌};
 ghost use Rattle.ring_script.specs.Lines.{asked_by, asked_of, form_at, call_at, deliver_at, timeout_at, noise_at};
-ghost use Rattle.ring_script.specs.Lines.{stop_at, cut_line_at, pump_at, frame_of, kind_of};
+ghost use Rattle.ring_script.specs.Lines.{stop_at, cut_line_at, pump_at, frame_at, kind_of};
 ghost use Rattle.ring_script.specs.Reading.{Gives, Tells};
 
 use crate::groups::Groups;
 use crate::hex_word::bytes_of;
 use crate::operation::spell_operation;
 use crate::vocabulary::Vocabulary;
-use crate::words::{Words, decimal, is};
+use crate::words::{Words, is};
 use ring_base::{FRAME_BYTES, Fault, Fixed, Kind, Proc};
 use ring_payload::Call;
 use std::alloc::{Allocator, Global};
@@ -118,7 +118,7 @@ fn deliver_of<A: Allocator + Copy>(nodes: Fixed, words: &mut Words<'_>) -> Resul
     ensures { Gives (λ line. (asked_by line, words.new)) result (deliver_at nodes words.old) }
 {
     let node = words.node(nodes)?;
-    let frame = frame_of(words.word()?)?;
+    let frame = frame_at(words)?;
     Ok(Line::Deliver { node, frame })
 }
 
@@ -173,12 +173,12 @@ fn pump_of<A: Allocator + Copy>(words: &mut Words<'_>) -> Result<Line<A>, Fault>
     Ok(Line::Pump { turns })
 }
 
-/// The number of a frame, none if no u64 holds it.
+/// The next word as the number of a frame, none if no u64 holds it.
 #[tactic(auto, unfolding(crate::specs::Lines::frame_of))]
-fn frame_of(word: &[u8]) -> Result<Option<u64>, Fault>
-    ensures { Tells (λ frame. frame) result (frame_of word.now) }
+fn frame_at(words: &mut Words<'_>) -> Result<Option<u64>, Fault>
+    ensures { Tells (λ frame. (frame, words.new)) result (frame_at words.old) }
 {
-    match decimal(word)? {
+    match words.decimal()? {
         Some(0) => Err(Fault::BadScript),
         frame => Ok(frame),
     }

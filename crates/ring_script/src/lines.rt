@@ -1,9 +1,10 @@
 //! The lines of a text.
 
 ghost use Rattle.std.specs.Prelude.{◌≡◌, ◌+◌};
-ghost use Rattle.ring_script.specs.Words.{lines_of, TakesLine};
+ghost use Rattle.std.specs.List.{list_all};
+ghost use Rattle.ring_script.specs.Words.{are_ascii, lines_of, TakesLine};
 
-use crate::words::end_of_piece;
+use memchr::memchr;
 use std::marker::Model;
 
 /// The lines of a text that are left, each with its number, counted from 1. A line feed ends a line, so after the
@@ -54,6 +55,13 @@ impl<'a> Lines<'a> {
         self.before + 1
     }
 
+    /// Whether each byte of these lines is below 128.
+    pub fn are_ascii(&self) -> bool
+        ensures { result ≡ list_all are_ascii self.now.lines }
+    {
+        self.rest.is_ascii()
+    }
+
     /// The next line with its number, none after the last.
     pub fn next_line(&mut self) -> Option<(u64, &'a [u8])>
         ensures { TakesLine self.old result self.new }
@@ -62,7 +70,7 @@ impl<'a> Lines<'a> {
             return None;
         }
         let text = self.rest;
-        let line = match end_of_piece(text, b'\n') {
+        let line = match memchr(b'\n', text) {
             Some(end) => {
                 self.rest = &text[end + 1..];
                 &text[..end]

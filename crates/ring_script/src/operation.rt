@@ -1,8 +1,9 @@
 //! The operations of calls: by the words of an object, or by their bytes.
 
-ghost use Rattle.std.specs.Prelude.{◌≡◌};
+ghost use Rattle.std.specs.Prelude.{◌≡◌, OnOk, IfErr};
 ghost use Rattle.std.specs.Char.{is_ascii_graphic};
 ghost use Rattle.std.specs.List.{list_all};
+ghost use Rattle.ring_base.specs.declared.fault.Fault.TheVariants.{Memory};
 ghost use Rattle.ring_script.specs.Operations.{is_name, named_at, raw_at, operation_at, argument_after, arguments_after};
 ghost use Rattle.ring_script.specs.Reading.{Gives};
 
@@ -57,9 +58,20 @@ fn spell_named<V: Vocabulary, A: Allocator + Copy>(
     ensures { Gives (λ _. (bytes.new.items, words.new)) result (named_at V.forms name.now words.old) }
 {
     let form = form_of::<V>(name).ok_or(Fault::BadScript)?;
-    bytes.clear();
-    bytes.extend_from_slice(form.first)?;
+    begin(bytes, form.first)?;
     spell_all(form.arguments, words, bytes)
+}
+
+/// Makes the bytes these few, one by one, which costs less than a copy. Otherwise `Memory`.
+fn begin<A: Allocator + Copy>(bytes: &mut Vec<u8, A>, first: &[u8]) -> Result<(), Fault>
+    ensures bytes { OnOk result (bytes.new.items ≡ first.now) }
+    ensures refused { IfErr result (λ fault. fault ≡ Memory) }
+{
+    bytes.clear();
+    for byte in first {
+        bytes.push(*byte)?;
+    }
+    Ok(())
 }
 
 /// Appends the next words' spellings as these arguments.

@@ -2,7 +2,7 @@
 
 ghost use Rattle.std.specs.Char.{is_ascii};
 ghost use Rattle.std.specs.List.{list_all};
-ghost use Rattle.std.specs.Prelude.{◌≡◌, ℕ, ◌≤◌, Some, None, List, length, map, option_map, if◌then◌else◌, IfOk, IfErr};
+ghost use Rattle.std.specs.Prelude.{◌≡◌, ℕ, ◌≤◌, Some, None, List, length, map, option_map, if◌then◌else◌, IfOk, IfErr, true};
 ghost use Rattle.ring_script.specs.Faults.{IsOfText};
 ghost use Rattle.ring_script.specs.Fits.{AreFit};
 ghost use Rattle.ring_script.specs.Lines.{asked_by, asked_of};
@@ -147,8 +147,9 @@ fn read_lines<V: Vocabulary, A: Allocator + Copy>(
 {
     let mut asked = Vec::new(alloc);
     let mut room = Vec::new(alloc);
+    let is_plain = lines.are_ascii();
     while let Some((number, line)) = lines.next_line() {
-        match line_of::<V, A>(alloc, nodes, line, &mut room) {
+        match line_of::<V, A>(alloc, nodes, line, is_plain, &mut room) {
             Ok(None) => {}
             Ok(Some(line)) => {
                 if asked.push(Numbered { number, line }).is_err() {
@@ -181,16 +182,23 @@ fn first_of(line: &[u8]) -> Result<Option<Fixed>, Fault>
     Ok(Some(nodes_of(line)?))
 }
 
-/// What a line asks for, none where it is skipped. `BadScript` where it has none of the forms, or `Memory`.
+/// What a line asks for, none where it is skipped. `BadScript` where it has none of the forms, or `Memory`. A line that is
+/// known to be plain ASCII isn't looked through for that.
 fn line_of<V: Vocabulary, A: Allocator + Copy>(
     alloc: A,
     nodes: Fixed,
     line: &[u8],
+    is_plain: bool,
     room: &mut Vec<u8, A>,
 ) -> Result<Option<Line<A>>, Fault>
+    requires { is_plain ≡ true → are_ascii line.now ≡ true }
     ensures { Gives (option_map asked_by) result (unless_skipped (asked_of V.forms nodes) line.now) }
 {
-    if skips(line)? {
+    if is_plain {
+        if is_skipped(line) {
+            return Ok(None);
+        }
+    } else if skips(line)? {
         return Ok(None);
     }
     Ok(Some(Line::parse::<V>(alloc, nodes, line, room)?))

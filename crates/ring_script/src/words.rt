@@ -1,19 +1,20 @@
 //! The words of a script's line, and what a word can stand for.
 
-ghost use Rattle.std.specs.Prelude.{◌≡◌, ◌≤◌, ◌==◌, IfOk, drop, position, true};
+ghost use Rattle.std.specs.Prelude.{◌≡◌, ◌+◌, ◌-◌, ◌*◌, ◌^◌, ◌≤◌, ◌<◌, ◌==◌, ◌∷◌, [], IfOk, IfErr, SomeIff, drop, take, get_or, length, position, true, false};
 ghost use Rattle.std.specs.Char.{is_ascii_digit};
 ghost use Rattle.std.specs.Iterator.{YieldsFirstRef};
 ghost use Rattle.std.specs.List.{list_all};
 ghost use Rattle.std.specs.Str.Parse.{digits_value};
-ghost use Rattle.ring_script.specs.Numbers.{is, is_decimal, number_within, node_of, as_u64, decimal_of, word_at, number_at, node_at};
+ghost use Rattle.ring_script.specs.Numbers.{is, is_decimal, BeginsWith, word_at, decimal_at, number_at, node_at};
 ghost use Rattle.ring_script.specs.Reading.{Tells};
-ghost use Rattle.ring_script.specs.Words.{pieces, ended};
+ghost use Rattle.ring_base.specs.declared.fault.Fault.TheVariants.{BadScript};
+ghost use Rattle.ring_script.specs.Words.{pieces, pieces_left, ended};
 
 use ring_base::{Fault, Fixed, Proc};
 use std::marker::Model;
 
 /// The words of a text that are left: the pieces between its separators. One separator parts two words, so
-/// where two stand there is an empty word between them. Contracts see the list of the words.
+/// where two stand there is an empty word between them. No digit is the separator. Contracts see the list of the words.
 #[derive(Drop)]
 pub(crate) struct Words<'a> {
     rest: Option<&'a [u8]>,
@@ -21,17 +22,21 @@ pub(crate) struct Words<'a> {
 }
 
 impl<'a> Model for Words<'a> {
-    ghost use Rattle.std.specs.Prelude.{ℕ, List};
+    ghost use Rattle.std.specs.Prelude.{◌≡◌, ℕ, List, false};
+    ghost use Rattle.std.specs.Char.{is_ascii_digit};
     ghost use Rattle.ring_script.specs.Words.{pieces_left};
 
     ghost Value = { List (List ℕ) };
 
     ghost view = { λ words. pieces_left words.separator words.rest };
+
+    ghost invariant = { λ words. is_ascii_digit words.separator ≡ false };
 }
 
 impl<'a> Words<'a> {
     /// The words that the byte parts.
     pub fn new(text: &'a [u8], separator: u8) -> Words<'a>
+        requires { is_ascii_digit separator ≡ false }
         ensures { result ≡ pieces separator text.now }
     {
         Words {
@@ -64,19 +69,43 @@ impl<'a> Words<'a> {
         self.next_word().ok_or(Fault::BadScript)
     }
 
+    /// The next word as a number, none if no u64 holds it. `BadScript` where it is no number. Each of its bytes is looked at once.
+    pub fn decimal(&mut self) -> Result<Option<u64>, Fault>
+        ensures { Tells (λ number. (number, self.new)) result (decimal_at self.old) }
+    {
+        let text = self.rest.ok_or(Fault::BadScript)?;
+        let digits = Digits::leading(text);
+        if !are_plain(&text[..digits.count]) {
+            return Err(Fault::BadScript);
+        }
+        self.rest = behind(&text[digits.count..], self.separator)?;
+        Ok(digits.value)
+    }
+
     /// The next word as a number from `least` to `most`. `BadScript` where it is none.
     pub fn number(&mut self, least: u64, most: u64) -> Result<u64, Fault>
         ensures read { Tells (λ number. (number, self.new)) result (number_at least most self.old) }
         ensures within { IfOk result (λ number. (least ≤ number) × (number ≤ most)) }
     {
-        number_of(self.word()?, least, most)
+        match self.decimal()? {
+            Some(number) if least <= number && number <= most => Ok(number),
+            _ => Err(Fault::BadScript),
+        }
     }
 
     /// The next word as one of the nodes, or `BadScript` where it is none.
     pub fn node(&mut self, nodes: Fixed) -> Result<Proc, Fault>
         ensures { Tells (λ node. (node, self.new)) result (node_at nodes self.old) }
     {
-        node_of(self.word()?, nodes)
+        let number = self.number(1, u64::from(nodes.count()))?;
+        Ok(Proc::new(number as u8))
+    }
+
+    /// Whether no word is left.
+    pub fn is_over(&self) -> bool
+        ensures { result ≡ (length self.now == 0) }
+    {
+        self.rest.is_none()
     }
 
     /// `BadScript` where a word is left.
@@ -91,68 +120,77 @@ impl<'a> Words<'a> {
     }
 }
 
-/// The node of this number, or `BadScript` where the word is the number of none.
-pub(crate) fn node_of(word: &[u8], nodes: Fixed) -> Result<Proc, Fault>
-    ensures { Tells (λ node. node) result (node_of nodes word.now) }
-{
-    let number = number_of(word, 1, u64::from(nodes.count()))?;
-    Ok(Proc::new(number as u8))
+/// The digits that a text begins with: how many there are, and the number that they write, none if no u64 holds it.
+#[derive(Drop)]
+struct Digits {
+    count: usize,
+    value: Option<u64>,
 }
 
-/// The number that the word spells, from `least` to `most`. `BadScript` where it is none.
-fn number_of(word: &[u8], least: u64, most: u64) -> Result<u64, Fault>
-    ensures read { Tells (λ number. number) result (number_within least most word.now) }
-    ensures within { IfOk result (λ number. (least ≤ number) × (number ≤ most)) }
-{
-    match decimal(word)? {
-        Some(number) if least <= number && number <= most => Ok(number),
-        _ => Err(Fault::BadScript),
+impl Digits {
+    /// Those of this text.
+    fn leading(text: &[u8]) -> Digits
+        ensures { BeginsWith text.now result.count result.value }
+    {
+        let mut count = 0;
+        let mut value = 0;
+        while count < text.len() && text[count].is_ascii_digit() {
+            match with_digit(value, text[count]) {
+                Some(more) => value = more,
+                None => return Digits::beyond(text, count),
+            }
+            count += 1;
+        }
+        Digits {
+            count,
+            value: Some(value),
+        }
+    }
+
+    /// Those of this text, where the digit at this place and those before it write a number that no u64 holds.
+    fn beyond(text: &[u8], place: usize) -> Digits
+        requires within { place + 1 ≤ length text.now }
+        requires digits { list_all is_ascii_digit (take (place + 1) text.now) ≡ true }
+        requires great { 2 ^ 64 ≤ digits_value 10 (take (place + 1) text.now) }
+        ensures { BeginsWith text.now result.count result.value }
+    {
+        let mut count = place + 1;
+        while count < text.len() && text[count].is_ascii_digit() {
+            count += 1;
+        }
+        Digits { count, value: None }
     }
 }
 
-/// The number that the word spells, none if no u64 holds it. `BadScript` where the word is no number.
-pub(crate) fn decimal(word: &[u8]) -> Result<Option<u64>, Fault>
-    ensures { Tells (λ number. number) result (decimal_of word.now) }
+/// The number with one digit more at its end, none if no u64 holds it.
+fn with_digit(number: u64, digit: u8) -> Option<u64>
+    requires { is_ascii_digit digit ≡ true }
+    ensures { SomeIff result (number * 10 + (digit - 48) < 2 ^ 64) (number * 10 + (digit - 48)) }
 {
-    if !is_decimal(word) {
-        return Err(Fault::BadScript);
-    }
-    Ok(value_of(word))
+    number.checked_mul(10)?.checked_add(u64::from(digit - b'0'))
 }
 
-/// The number that the digits write, none if no u64 holds it.
-fn value_of(digits: &[u8]) -> Option<u64>
+/// Whether there are digits, with no leading zero but in `0` itself.
+fn are_plain(digits: &[u8]) -> bool
     requires { list_all is_ascii_digit digits.now ≡ true }
-    ensures { result ≡ as_u64 (digits_value 10 digits.now) }
+    ensures { result ≡ is_decimal digits.now }
 {
-    let mut value = 0u64;
-    for digit in digits {
-        value = value
-            .checked_mul(10)?
-            .checked_add(u64::from(*digit - b'0'))?;
-    }
-    Some(value)
-}
-
-/// Whether the word is digits alone, with no leading zero but in `0` itself.
-fn is_decimal(word: &[u8]) -> bool
-    ensures { result ≡ is_decimal word.now }
-{
-    let Some((first, rest)) = word.split_first() else {
-        return false;
-    };
-    if *first == b'0' {
-        rest.is_empty()
-    } else {
-        are_digits(word)
+    match digits.split_first() {
+        Some((first, others)) => *first != b'0' || others.is_empty(),
+        None => false,
     }
 }
 
-/// Whether each byte is a digit.
-fn are_digits(word: &[u8]) -> bool
-    ensures { result ≡ list_all is_ascii_digit word.now }
+/// What is left of a text behind its first byte, the separator, and none of an empty one. `BadScript` where another byte comes first.
+fn behind(text: &[u8], separator: u8) -> Result<Option<&[u8]>, Fault>
+    ensures left { IfOk result (λ left. pieces separator text.now ≡ [] ∷ pieces_left separator left) }
+    ensures failed { IfErr result (λ fault. (fault ≡ BadScript) × (0 < length text.now) × ((get_or text.now 0 0 == separator) ≡ false)) }
 {
-    word.iter().all(|byte| byte.is_ascii_digit())
+    match text.split_first() {
+        None => Ok(None),
+        Some((first, others)) if *first == separator => Ok(Some(others)),
+        Some(_) => Err(Fault::BadScript),
+    }
 }
 
 /// Where the first piece of the text ends: at the separator, none where there is no separator.

@@ -14,7 +14,7 @@ unfolding lines_of
 returns c =
     let seen = sym (ap (λ (left : LinesLeft). left.lines) c.self.view_is) in
     let before = ap (λ (left : LinesLeft). left.before) c.self.view_is in
-    elim c.match-end_of_piece.branch [
+    elim c.match-memchr.branch [
       | in-Some w ↦ rw (w.line-is, w.self-inside-is) (
         seen ∙ lines-ended w.in-Some.end c.self.inside.rest.now w.in-Some.ensures,
         omega (arith, before),
