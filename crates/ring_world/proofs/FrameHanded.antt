@@ -108,7 +108,7 @@ pub record IsStepBy {O A : Type 0} (object : Sequential O) (old : Played A) (e :
   pub same : happens object (world_of object old) e ≡ stepped object (world_of object old) i input
   pub steps : step_in (world_of object old) e ≡ Some i
 
-module _ {O A : Type 0} {object : Sequential O} {p old : Played A} {frames : List (Carried A)} (e : Event A) (i : ℕ) (was : p ≡ old)
+module _ {O A : Type 0} (object : Sequential O) {p old : Played A} {frames : List (Carried A)} (e : Event A) (i : ℕ) (was : p ≡ old)
     (frames_are : frames ≡ (world_of object p).frames) (may : stepping e ≡ Some i) where
   now_is : happens object (world_of object old) e ≡ takes object (world_of object old) i (input_by e (handed_by e frames))
   now_is = event_is object (world_of object old) e i may
@@ -129,17 +129,17 @@ module _ {O A : Type 0} {object : Sequential O} {p old : Played A} {frames : Lis
   module _ {is : Bool} (is_is : is ≡ is_some (input_by e (handed_by e frames))) where
     -- there is no such frame
     pub not_read : is ≡ false → happens object (world_of object old) e ≡ world_of object old
-    not_read no = now_is ∙ takes_none (input_by e (handed_by e frames)) (none_is (input_by e (handed_by e frames)) (sym is_is ∙ no))
+    not_read missing = now_is ∙ takes_none (input_by e (handed_by e frames)) (none_is (input_by e (handed_by e frames)) (sym is_is ∙ missing))
 
     pub read : {place : Option (Frame A)} → (is ≡ true → input_by e place ≡ input_by e (handed_by e frames)) → is ≡ true
         → Each (λ (f : Carried A). FrameFits f.frame) (world_of object p).frames → IsStepBy object old e i place
-    read {place} placed yes fit =
+    read {place} placed there fit =
         let w = world_of object old in
-        let found = some_is (input_by e (handed_by e frames)) (sym is_is ∙ yes) in
+        let found = some_is (input_by e (handed_by e frames)) (sym is_is ∙ there) in
         let sent : frames ≡ w.frames = frames_are ∙ ap (λ (r : Played A). (world_of object r).frames) was in
         record {
           input = found.0;
-          there = placed yes ∙ found.1;
+          there = placed there ∙ found.1;
           fits = input_fits frames e found.0 (subst (Each (λ (f : Carried A). FrameFits f.frame)) (sym frames_are) fit) found.1;
           same = now_is ∙ ap (takes object w i) found.1;
           steps = steps_it w e i found.0 may (ap (λ fs. input_by e (handed_by e fs)) (sym sent) ∙ found.1);

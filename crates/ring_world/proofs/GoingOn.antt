@@ -25,15 +25,15 @@ longer object e p q (Err x) goes same =
 
 module _ {O A : Type 0} (object : Sequential O)
     (explains : (group : Group) (events : List (Event A)) → group.count ≤ 16 → AllByRecursion EventKeeps events →
-      IsLinearization object (order (run object (world_opening group) events)) (run object (world_opening group) events).history)
+    IsLinearization object (order (run object (world_opening group) events)) (run object (world_opening group) events).history)
     (grows : (group : Group) (events later : List (Event A)) → group.count ≤ 16 →
-      IsFront (order (run object (world_opening group) events)) (order (run object (run object (world_opening group) events) later)))
+    IsFront (order (run object (world_opening group) events)) (order (run object (run object (world_opening group) events) later)))
     (fronts : (group : Group) (events : List (Event A)) (node : ℕ) → group.count ≤ 16 → 1 ≤ node → node ≤ group.count →
-      IsFront (deduplicated (committed_of group (lives_of (run object (world_opening group) events) node)))
-      (order (run object (world_opening group) events)))
+    IsFront (deduplicated (committed_of group (lives_of (run object (world_opening group) events) node)))
+    (order (run object (world_opening group) events)))
     (follows : (group : Group) (events : List (Event A)) (node : ℕ) → group.count ≤ 16 → AllByRecursion EventKeeps events → 1 ≤ node → node ≤ group.count →
-      Follows object ((run object (world_opening group) events).nodes node) (committed_of group (lives_of (run object (world_opening group) events) node))
-      × FollowsOrder object ((run object (world_opening group) events).nodes node) (order (run object (world_opening group) events))) where
+    Follows object ((run object (world_opening group) events).nodes node) (committed_of group (lives_of (run object (world_opening group) events) node))
+    × FollowsOrder object ((run object (world_opening group) events).nodes node) (order (run object (world_opening group) events))) where
   pub goes_on : (p q : Played A) → q.group.count ≤ 16 → AllByRecursion EventKeeps q.events → IsLonger object p q → GoesOn object p q
   goes_on p q few keep l =
       let few_before : p.group.count ≤ 16 = subst (λ (group : Group). group.count ≤ 16) l.group few in

@@ -33,7 +33,7 @@ by : (g : Over) (c : In_ok-make_room g) → IsStepBy g.O.Object.sequential c.arg
 by g c =
     let k = c.self.inside in
     let placed = c.in_ok-is_step.ensures in
-    read c.args.event.now c.args.node c.self.view_is c.self.invariant.kept.frames_are c.requires placed.is placed.input c.if-is_step.true
+    read g.O.Object.sequential c.args.event.now c.args.node c.self.view_is c.self.invariant.kept.frames_are c.requires placed.is placed.input c.if-is_step.true
     (c.frames_law.ensures.frames k.fixed k.events.items c.self.invariant.few (all_fit k.events.items c.self.invariant.fit))
 
 gave : (g : Over) (c : In-Ok g) → IsStep g.O.Object.sequential c.index_mut.result.now (by g c.In_ok-make_room).input c.step_by.new.node
@@ -52,13 +52,13 @@ idle-requires g c =
     c.self.inside.nodes.ok.0 c.len.ensures c.if-place-len.true in
     record {
       fits = step_fits c.args.event.now c.args.node c.requires;
-      same = unknown_step c.args.event.now c.args.node c.self.view_is c.self.invariant.kept.frames_are c.requires none;
+      same = unknown_step g.O.Object.sequential c.args.event.now c.args.node c.self.view_is c.self.invariant.kept.frames_are c.requires none;
     }
 
 pub idle-requires-2 : goal.idle-requires-2
 idle-requires-2 g c = record {
   fits = step_fits c.args.event.now c.args.node c.requires;
-  same = not_read c.args.event.now c.args.node c.self.view_is c.self.invariant.kept.frames_are c.requires c.in_ok-is_step.ensures.is c.if-is_step.false;
+  same = not_read g.O.Object.sequential c.args.event.now c.args.node c.self.view_is c.self.invariant.kept.frames_are c.requires c.in_ok-is_step.ensures.is c.if-is_step.false;
 }
 
 pub step_by-requires : goal.step_by-requires
