@@ -7,10 +7,11 @@
 -- NodePlaces: Where a node stands in the lists that the code of a world keeps, and what they are with another node in its place.
 -- WorldOfNodes: What the code keeps goes on telling the world, event by event.
 -- SubmitRefused: A submit is refused for no want of memory where it is refused whatever the memory, and room for many is room for fewer.
--- FrameHanded: What is handed to a node is the frame that was sent to it, if any.
+-- FrameHanded: What a step is handed: the frame that was sent to its node, or a time.
 -- Copying: What a copy of a world keeps is what the world keeps.
 -- Playing: A run goes on event by event, and only adds to what was.
 -- OutputsGrow: What the cores gave in a run goes on in a longer one.
+-- GoingOn: What the laws of every run say of a world that has gone on.
 -- EventLimits: Calls of events that keep the limits of snapshots keep those of frames, as copies of events do.
 -- Segments: The longest of what nodes committed, segment by segment.
 -- OrderLengths: How long the order is: as many calls as took effect at the node where the most did.
@@ -33,6 +34,7 @@ pub mod FrameHanded
 pub mod Copying
 pub mod Playing
 pub mod OutputsGrow
+pub mod GoingOn
 pub mod Opening
 pub mod Segments
 pub mod OrderLengths

@@ -64,7 +64,7 @@ module _ {O A : Type 0} (object : Sequential O) where
     pub group : q.group ≡ p.group
     pub events : q.events ≡ p.events ++ later
 
-  goes_longer : (e : Event A) (p q : Played A) → Goes object e p q → IsLonger p q
+  pub goes_longer : (e : Event A) (p q : Played A) → Goes object e p q → IsLonger p q
   goes_longer e p q (inl d) = record { later = e ∷ []; group = d.group; events = d.events }
   goes_longer e p q (inr (inl d)) = record { later = Stop d.node ∷ []; group = d.group; events = d.events }
   goes_longer e p q (inr (inr d)) = record { later = []; group = d.group; events = d.events ∙ sym (append-nil p.events) }

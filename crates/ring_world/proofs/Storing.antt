@@ -1,8 +1,8 @@
 -- One frame more is kept, and the frame of a number is found.
 use Rattle.std.proofs.Common.{◌≡◌, ℕ, zero, suc, ◌+◌, ◌-◌, ◌≤◌, Bool, true, false, if◌then◌else◌, List, [], ◌∷◌, ◌++◌}
-use Rattle.std.proofs.Common.{length, take, Option, Some, None, slice_get, Result, Ok, Err, refl, ap, ◌∙◌, sym, subst}
-use Rattle.std.proofs.Common.{arith, append-nil, append_assoc, length-append, MatchResult, IfErr, inl, inr}
-use Rattle.std.specs.Prelude.{slice_range, option_map, drop, OnOk, IfSome, IsSome, ◌↔◌}
+use Rattle.std.proofs.Common.{length, take, Option, Some, None, slice_get, refl, ap, ◌∙◌, sym, subst}
+use Rattle.std.proofs.Common.{arith, append-nil, append_assoc, length-append, inl, inr}
+use Rattle.std.specs.Prelude.{slice_range, option_map, drop, IfSome, IsSome, ◌↔◌}
 use Rattle.std.specs.List.{AllByRecursion as Each}
 use Rattle.std.proofs.lemmas.List.{take_at, drop_at, take-append-drop}
 use Rattle.ring_base.proofs.Each.{each-push, each-get}
@@ -85,16 +85,6 @@ from_if false m n e = absurd (let q : ⊥ = cc e in q)
 not_if : (b : Bool) (m : Mark) → (if b then Some m else None) ≡ None → b ≡ false
 not_if true m e = absurd (let q : ⊥ = cc e in q)
 not_if false m e = refl
-
--- what holds of either answer
-
-pub match_ok : {T E Q : Type 0} (P : Type 0) (R : E → Type 0) (r : Result T E) → MatchResult r (λ _. P) R → (P → Q) → OnOk r Q
-match_ok P R (Ok x) h to = to h
-match_ok P R (Err e) h to = tt
-
-pub match_err : {T E : Type 0} (P : Type 0) (R : E → Type 0) (r : Result T E) → MatchResult r (λ _. P) R → IfErr r R
-match_err P R (Ok x) h = tt
-match_err P R (Err e) h = h
 
 module _ {A : Type 0} where
   first_mark : (before : List ℕ) (f : Carried A) (fs : List (Carried A)) (m : Mark) → mark_of (length before) f ≡ m

@@ -1,6 +1,6 @@
 -- What the code keeps goes on telling the world, event by event.
 use Rattle.std.proofs.Common.{◌≡◌, ℕ, ◌-◌, ◌≤◌, ◌==◌, true, List, [], ◌∷◌, ◌++◌, length, drop, arith}
-use Rattle.std.proofs.Common.{Option, Some, None, get_or, refl, ap, ◌∙◌, sym, subst, inl, inr, append-nil}
+use Rattle.std.proofs.Common.{Option, Some, None, Ok, get_or, refl, ap, ◌∙◌, sym, subst, inl, inr, append-nil}
 use Rattle.std.specs.Prelude.{not, slice_set, MatchOption, if◌then◌else◌}
 use Rattle.std.specs.List.{AllByRecursion}
 use Rattle.std.proofs.Math.Seq.{drop-append_seam}
@@ -34,6 +34,8 @@ use Rattle.ring_order_proof.specs.Linear.{EventKeeps}
 use Rattle.ring_order_proof.proofs.Orderly.{run-more}
 use Rattle.ring_order_proof.proofs.Undropped.{all-undropping}
 use Rattle.ring_world.specs.Played.{Played, told_of_events, world_of, told_behind, step_in, runs_in, Goes}
+use Rattle.ring_node.specs.declared.outs.Outs.{Outs}
+use Rattle.ring_world.specs.Steps.{HasStepped}
 use Rattle.ring_world.specs.Spares.{Spares, AllLeft, Holds, after_answers}
 use Rattle.ring_world.specs.Keeping.{KeepsCopies, IsWorldKept, IsWorld}
 use Rattle.ring_world.proofs.Spared.{set-length, holds-more}
@@ -106,6 +108,10 @@ pub record IsStep {O A : Type 0} (object : Sequential O) (n : Node A) (input : I
   pub sends : sent ≡ (node_step object n input).sends
   pub answers : answered ≡ (node_step object n input).answers
   pub committed_is : committed ≡ (node_step object n input).committed
+
+pub stepped_so : {O A T : Type 0} {object : Sequential O} {n after : Node A} {input : Input A} {x : T} {outs : Outs A}
+    → HasStepped object n input (Ok x) after outs → IsStep object n input after outs.sends.items outs.answers.items outs.committed.items
+stepped_so h = record { node = h.ok; sends = h.sends; answers = h.answers; committed_is = h.committed }
 
 module _ {O A : Type 0} {object : Sequential O} {p old : Played A} {nodes : List (Node A)} {spares : List (Spares A)}
     {frames : List (Carried A)} {history : List (Item A)} {longest : List (Call A)} {i m : ℕ}

@@ -1,6 +1,8 @@
 pub mod Stored
 pub mod Spares
 pub mod Played
+pub mod Shown
+pub mod Steps
 pub mod Longest
 pub mod Ordering
 pub mod Keeping

@@ -1,6 +1,6 @@
 //! All frames ever sent, kept as bytes.
 
-ghost use Rattle.std.specs.Prelude.{◌≡◌, ℕ, ◌+◌, ◌≤◌, true, [], ◌∷◌, ◌++◌, length, slice_range, option_map, OnOk, IfErr, MatchResult, Some, None};
+ghost use Rattle.std.specs.Prelude.{◌≡◌, ℕ, ◌+◌, ◌≤◌, true, [], ◌∷◌, ◌++◌, length, slice_range, option_map, is_some, OnOk, IfOk, IfErr, MatchResult, Some};
 ghost use Rattle.ring_base.specs.declared.fault.Fault.TheVariants.{Memory};
 ghost use Rattle.ring_wire.specs.declared.frame.Frame.{Frame as OneFrame};
 ghost use Rattle.ring_wire.specs.Frames.{FrameFits};
@@ -113,23 +113,26 @@ impl<A: Allocator + Copy> Frames<A> {
         });
     }
 
-    /// Reads the frame of this number from its bytes into an empty place, if it was sent to this processor. `Memory` is
-    /// the only refusal.
+    /// Reads the frame of this number from its bytes into the place, over what stands there, if it was sent to this processor:
+    /// whether it was. `Memory` is the only refusal.
     pub(crate) fn read_to(
         &self,
         alloc: A,
         node: Proc,
         number: u64,
         place: &mut Option<Frame<A>>,
-    ) -> Result<(), Fault>
-        requires empty { place.old ≡ None }
-        ensures ok { OnOk result (place.new ≡ frame_for node (frame_at self.now.frames number)) }
+    ) -> Result<bool, Fault>
+        ensures is { IfOk result (λ is. is ≡ is_some (frame_for node (frame_at self.now.frames number))) }
+        ensures placed { IfOk result (λ is. is ≡ true → place.new ≡ frame_for node (frame_at self.now.frames number)) }
         ensures refused { IfErr result (λ fault. fault ≡ Memory) }
     {
         spelling_law::<A>();
         match mark_for(mark_at(&self.marks, number), node) {
-            Some(mark) => decode(alloc, self.bytes.as_slice(), mark, place),
-            None => Ok(()),
+            Some(mark) => {
+                decode(alloc, self.bytes.as_slice(), mark, place)?;
+                Ok(true)
+            }
+            None => Ok(false),
         }
     }
 

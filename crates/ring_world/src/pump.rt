@@ -21,8 +21,6 @@ use std::marker::Model;
 pub struct Pump<O: Object> {
     world: World<O>,
     pairs: Pairs,
-    /// The event that is run: its room stays.
-    next: Vec<Event<O::Alloc>, O::Alloc>,
 }
 
 impl<O: Object> Model for Pump<O> {
@@ -38,15 +36,11 @@ impl<O: Object> Model for Pump<O> {
 
 impl<O: Object> Pump<O> {
     /// The world, with a copy of each frame that it has sent under way to each of the frame's receivers.
-    pub fn new(alloc: O::Alloc, world: World<O>) -> Pump<O>
+    pub fn new(_alloc: O::Alloc, world: World<O>) -> Pump<O>
         ensures { result ≡ record { played = world; open_pairs = all_pairs (frames_of O.sequential world) } }
     {
         let pairs = Pairs::new();
-        Pump {
-            world,
-            pairs,
-            next: Vec::new(alloc),
-        }
+        Pump { world, pairs }
     }
 
     /// Another pump whose world has done the same and told the same, with the same copies of frames under way, or `Memory`. From there
@@ -59,7 +53,6 @@ impl<O: Object> Pump<O> {
         Ok(Pump {
             world,
             pairs: self.pairs,
-            next: Vec::new(*self.next.allocator()),
         })
     }
 
@@ -77,9 +70,7 @@ impl<O: Object> Pump<O> {
         ensures rests { OnErr result (Rests self.old self.new) }
         ensures refused { IfErr result (λ fault. fault ≡ Memory) }
     {
-        self.next.clear();
-        self.next.push(event)?;
-        self.world.run(self.next.as_slice())
+        self.world.run_one(&event)
     }
 
     /// The first open copy. `None` where none is open.

@@ -12,7 +12,7 @@ use ring_rules::Event;
 use std::alloc::Allocator;
 
 impl<O: Object> World<O> {
-    /// The node that stopped because memory was refused to its step, where `run` has just run this event alone and
+    /// The node that stopped because memory was refused to its step, where `run_one`, or `run`, has just run this event alone and
     /// answered Ok; none if it did not stop so. That this is exact is `stopped_for_memory_law`.
     pub fn stopped_for_memory(&self, event: &Event<O::Alloc>) -> Option<Proc>
         ensures { result ≡ stopped_for_memory event.now self.now.events }

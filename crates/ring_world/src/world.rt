@@ -1,7 +1,7 @@
 //! The world: all nodes, what happened to them and what they told.
 
 ghost use Rattle.std.specs.Prelude.{◌≡◌, ℕ, true, [], ◌∷◌, ◌++◌, ◌+◌, ◌<◌, ◌≤◌, ◌^◌, List, length, map, take, vec_len};
-ghost use Rattle.std.specs.Prelude.{vec_capacity, false, if◌then◌else◌, IfOk, IfErr, OnOk, OnErr, Some, option_map};
+ghost use Rattle.std.specs.Prelude.{vec_capacity, false, if◌then◌else◌, IfOk, IfErr, OnOk, OnErr, Some, option_map, is_some, IsSome, IfSome};
 ghost use Rattle.std.specs.List.{AllByRecursion};
 ghost use Rattle.ring_base.specs.Fronts.{IsFront};
 ghost use Rattle.ring_base.specs.Numbers.{numbers_from};
@@ -13,34 +13,38 @@ ghost use Rattle.ring_log.specs.Lives.{committed_of};
 ghost use Rattle.ring_session.specs.Deduplicated.{deduplicated};
 ghost use Rattle.ring_rules.specs.NodeLimits.{InputFits};
 ghost use Rattle.ring_rules.specs.Nodes.{node_opening};
-ghost use Rattle.ring_rules.specs.declared.event.Event.TheVariants.{Issue, Deliver, Stop};
+ghost use Rattle.ring_rules.specs.declared.event.Event.TheVariants.{Issue, Stop};
+ghost use Rattle.ring_rules.specs.declared.input.Input.TheVariants.{Timeout as TimeInput};
 ghost use Rattle.ring_rules.specs.declared.told.Told.TheVariants.{Refused as ToldRefused};
 ghost use Rattle.ring_rules.specs.Histories.{IsLinearization};
 ghost use Rattle.ring_rules.specs.WorldLimits.{EventFits};
-ghost use Rattle.ring_rules.specs.Worlds.{carried, happens, stepped, order, lives_of, world_opening};
+ghost use Rattle.ring_rules.specs.Worlds.{carried, happens, order, lives_of, world_opening};
 ghost use Rattle.ring_order_proof.specs.Linear.{EventKeeps, Follows, FollowsOrder};
 ghost use Rattle.ring_order_proof.specs.Projection.{share_of};
 ghost use Rattle.ring_order_proof.specs.Synchronous.{IsSynchronous};
-ghost use Rattle.ring_world.specs.Played.{Played, played_opening, told_of_events, world_of, step_in, Goes, Plays};
+ghost use Rattle.ring_world.specs.Played.{Played, played_opening, told_of_events, world_of, Goes, Plays};
+ghost use Rattle.ring_world.specs.Shown.{GoesOn};
+ghost use Rattle.ring_world.specs.Steps.{stepping, input_by, handed_by, HasStepped};
 ghost use Rattle.ring_world.specs.Stored.{HasRoom, text_of};
 ghost use Rattle.ring_world.specs.Spares.{Spares as ToldSpares};
 
-use crate::copies::{copied_event, copied_events, copied_history, copied_told};
 use crate::frames::Frames;
 use crate::longest::Longest;
 use crate::order::most_effects;
 use crate::spares::Spares;
 use crate::telling::tell;
-use ring_base::{Fault, Fixed, Proc, ProcSet};
+use ring_base::{Fault, Fixed, Kind, Proc, ProcSet};
 use ring_node::{Input, Node, Outs, Sent};
 use ring_object::Object;
 use ring_order_proof::effect_laws::effects_law;
+use ring_order_proof::fit_laws::call_keeps_law;
 use ring_order_proof::frame_laws::{few_law, frames_law, pending_law};
 use ring_order_proof::laws::linear_law;
 use ring_order_proof::longest_laws::longest_law;
 use ring_payload::Call;
 use ring_rules::{Event, Item, Told};
 use ring_session::copy_of;
+use ring_wire::Frame;
 use std::alloc::Allocator;
 use std::marker::Model;
 
@@ -59,6 +63,8 @@ pub struct World<O: Object> {
     longest: Longest<O::Alloc>,
     events: Vec<Event<O::Alloc>, O::Alloc>,
     done: u64,
+    /// The frame that was read last: the next one is read over it.
+    place: Option<Frame<O::Alloc>>,
     /// The lists in which a node puts what its step gives: their room is used again.
     outs: Outs<O::Alloc>,
 }
@@ -95,6 +101,7 @@ impl<O: Object> World<O> {
             longest: Longest::new(alloc),
             events: Vec::new(alloc),
             done: 0,
+            place: None,
             outs: Outs::new(alloc),
         })
     }
@@ -108,10 +115,10 @@ impl<O: Object> World<O> {
         let nodes = copied_nodes(self.alloc, &self.nodes)?;
         let spares = self.spares.clone()?;
         let frames = self.frames.clone()?;
-        let history = copied_history(&self.history)?;
-        let told = copied_told(&self.told)?;
+        let history = self.history.clone()?;
+        let told = self.told.clone()?;
         let longest = self.longest.clone()?;
-        let events = copied_events(&self.events)?;
+        let events = self.events.clone()?;
         Ok(World {
             alloc: self.alloc,
             fixed: self.fixed,
@@ -123,6 +130,7 @@ impl<O: Object> World<O> {
             longest,
             events,
             done: self.done,
+            place: None,
             outs: Outs::new(self.alloc),
         })
     }
@@ -154,6 +162,22 @@ impl<O: Object> World<O> {
         linear_law::<O>();
         self.done = 0;
         let ran = self.run_all(events);
+        self.run_law();
+        ran
+    }
+
+    /// Runs one event: as `run` of a list of this event alone does, but for `done`, which stays. The room for all that it adds is made
+    /// before its step, so it is done whole, or `Memory` was refused to the world itself, and the world is as it was.
+    pub fn run_one(&mut self, event: &Event<O::Alloc>) -> Result<(), Fault>
+        requires fits { EventFits event.now }
+        ensures ok { OnOk result (Goes O.sequential event.now self.old self.new) }
+        ensures err { OnErr result (self.new ≡ self.old) }
+        ensures done { self.new.done ≡ self.old.done }
+        ensures shows { GoesOn O.sequential self.old self.new }
+        ensures refused { IfErr result (λ fault. fault ≡ Memory) }
+    {
+        linear_law::<O>();
+        let ran = self.happen(event);
         self.run_law();
         ran
     }
@@ -291,9 +315,9 @@ impl<O: Object> World<O> {
     {
         match event {
             Event::Issue(node, call) => self.issue(*node, call, event),
-            Event::Deliver(node, number) => self.deliver(*node, *number, event),
+            Event::Deliver(node, _) => self.step(*node, event),
             Event::Noise(_, _) => self.idle(event),
-            Event::Timeout(node, kind) => { self.step(*node, &Input::Timeout(*kind), event) },
+            Event::Timeout(node, _) => self.step(*node, event),
             Event::Stop(node) => self.stop(*node, event),
         }
     }
@@ -313,33 +337,10 @@ impl<O: Object> World<O> {
         Ok(())
     }
 
-    /// A frame is handed to a node, if it was sent to it.
-    fn deliver(&mut self, node: Proc, number: u64, event: &Event<O::Alloc>) -> Result<(), Fault>
-        requires { event.now ≡ Deliver node number }
-        ensures ok { OnOk result (Goes O.sequential event.now self.old self.new) }
-        ensures err { OnErr result (self.new ≡ self.old) }
-        ensures done { self.new.done ≡ self.old.done }
-        ensures refused { IfErr result (λ fault. fault ≡ Memory) }
-    {
-        frames_law::<O>();
-        let mut place = None;
-        self.frames.read_to(self.alloc, node, number, &mut place)?;
-        match place {
-            Some(frame) => self.step(node, &Input::Frame(frame), event),
-            None => self.idle(event),
-        }
-    }
-
-    /// A node steps; an unknown one changes nothing.
-    fn step(
-        &mut self,
-        node: Proc,
-        input: &Input<O::Alloc>,
-        event: &Event<O::Alloc>,
-    ) -> Result<(), Fault>
-        requires fits { InputFits input.now }
-        requires same { happens O.sequential (world_of O.sequential self.old) event.now ≡ stepped O.sequential (world_of O.sequential self.old) node input.now }
-        requires steps { step_in (world_of O.sequential self.old) event.now ≡ Some node }
+    /// A node steps: it hears a frame, or a time is over. Where there is no such node, or the frame was not sent to it, nothing
+    /// changes.
+    fn step(&mut self, node: Proc, event: &Event<O::Alloc>) -> Result<(), Fault>
+        requires { stepping event.now ≡ Some node }
         ensures ok { OnOk result (Goes O.sequential event.now self.old self.new) }
         ensures err { OnErr result (self.new ≡ self.old) }
         ensures done { self.new.done ≡ self.old.done }
@@ -352,6 +353,10 @@ impl<O: Object> World<O> {
         if place >= self.nodes.len() {
             return self.idle(event);
         }
+        let is_step = read_handed(&self.frames, self.alloc, event, &mut self.place)?;
+        if !is_step {
+            return self.idle(event);
+        }
         let kept = copied_event(event)?;
         make_room(
             &mut self.events,
@@ -360,7 +365,7 @@ impl<O: Object> World<O> {
             &mut self.frames,
             &mut self.longest,
         )?;
-        match self.nodes[place].step_into(input, &mut self.outs) {
+        match step_by(&mut self.nodes[place], event, &self.place, &mut self.outs) {
             Ok(()) => {
                 keep_all(&mut self.frames, node, &self.outs.sends);
                 tell(
@@ -492,6 +497,79 @@ fn no_spares<A: Allocator + Copy>(alloc: A, count: u8) -> Result<Vec<Spares<A>, 
         spares.push(Spares::new(alloc))?;
     }
     Ok(spares)
+}
+
+/// A copy of the event, or `Memory`. A call in it that keeps the limits of frames keeps those of snapshots.
+fn copied_event<A: Allocator + Copy>(event: &Event<A>) -> Result<Event<A>, Fault>
+    ensures ok { IfOk result (λ copy. copy ≡ event.now) }
+    ensures keeps { IfOk result (λ _. EventFits event.now → EventKeeps event.now) }
+    ensures refused { IfErr result (λ fault. fault ≡ Memory) }
+{
+    event_keeps_law(event);
+    let copy = event.clone()?;
+    Ok(copy)
+}
+
+/// Law: a call that keeps the limits of frames keeps those of snapshots.
+fn event_keeps_law<A: Allocator + Copy>(event: &Event<A>)
+    ensures { EventFits event.now → EventKeeps event.now }
+{
+    match event {
+        Event::Issue(_, call) => call_keeps_law(call),
+        Event::Deliver(_, _) | Event::Noise(_, _) | Event::Timeout(_, _) | Event::Stop(_) => {}
+    }
+}
+
+/// Reads the frame that an event hands to its node into the place. Whether the event is a step of the node: it is where there is such a
+/// frame, or a time is over. `Memory` is the only refusal.
+fn read_handed<A: Allocator + Copy>(
+    frames: &Frames<A>,
+    alloc: A,
+    event: &Event<A>,
+    place: &mut Option<Frame<A>>,
+) -> Result<bool, Fault>
+    ensures is { IfOk result (λ is. is ≡ is_some (input_by event.now (handed_by event.now frames.now.frames))) }
+    ensures input { IfOk result (λ is. is ≡ true → input_by event.now place.new ≡ input_by event.now (handed_by event.now frames.now.frames)) }
+    ensures refused { IfErr result (λ fault. fault ≡ Memory) }
+{
+    match event {
+        Event::Deliver(node, number) => frames.read_to(alloc, *node, *number, place),
+        Event::Timeout(_, _) => Ok(true),
+        Event::Issue(_, _) | Event::Noise(_, _) | Event::Stop(_) => Ok(false),
+    }
+}
+
+/// The step of a node that an event is, with the frame that stands in the place.
+fn step_by<O: Object>(
+    node: &mut Node<O>,
+    event: &Event<O::Alloc>,
+    place: &Option<Frame<O::Alloc>>,
+    outs: &mut Outs<O::Alloc>,
+) -> Result<(), Fault>
+    requires is { IsSome (input_by event.now place.now) }
+    requires fits { IfSome (input_by event.now place.now) InputFits }
+    ensures { IfSome (input_by event.now place.now) (λ input. HasStepped O.sequential node.old input result node.new outs.new) }
+{
+    match event {
+        Event::Deliver(_, _) => match place {
+            Some(frame) => node.hear_into(frame, outs),
+            None => unreachable!(),
+        },
+        Event::Timeout(_, kind) => time_out(node, *kind, outs),
+        _ => unreachable!(),
+    }
+}
+
+/// A time of a node is over. It stands apart, since a call clears its room for an input.
+#[inline(never)]
+fn time_out<O: Object>(
+    node: &mut Node<O>,
+    kind: Kind,
+    outs: &mut Outs<O::Alloc>,
+) -> Result<(), Fault>
+    ensures { HasStepped O.sequential node.old (TimeInput kind) result node.new outs.new }
+{
+    node.step_into(&Input::Timeout(kind), outs)
 }
 
 /// A submit was refused: that is told, and its event is kept unless for want of memory. There is room.

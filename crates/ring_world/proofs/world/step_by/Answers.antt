@@ -1,0 +1,14 @@
+-- The step is by the input that the event is.
+use Rattle.ring_world.proofs.world.step_by.Goals as goal
+
+pub returns-in-Deliver-in-Some : goal.returns-in-Deliver-in-Some
+returns-in-Deliver-in-Some g c = rw (c.in-Deliver.is, c.in-Some.is) (record {
+  runs = c.hear_into.ensures.runs;
+  sends = c.hear_into.ensures.sends;
+  answers = c.hear_into.ensures.answers;
+  committed = c.hear_into.ensures.committed;
+  nothing = c.hear_into.ensures.nothing;
+  ok = c.hear_into.ensures.ok;
+  err = c.hear_into.ensures.err;
+  refused = c.hear_into.ensures.refused;
+})
