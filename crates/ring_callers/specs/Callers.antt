@@ -2,11 +2,12 @@
 use Rattle.std.specs.Prelude.{◌≡◌, ⊤, List}
 use Rattle.ring_base.specs.Group.{Group}
 use Rattle.ring_base.specs.declared.fault.Fault.{Fault}
-use Rattle.ring_base.specs.declared.fault.Fault.TheVariants.{NotMember, Stopped, BookFull, Stranger, Memory}
+use Rattle.ring_base.specs.declared.fault.Fault.TheVariants.{NotMember}
 use Rattle.ring_object.specs.Operations.{Sequential}
 use Rattle.ring_rules.specs.Histories.{IsLinearization}
 use Rattle.ring_rules.specs.Worlds.{order, run, world_opening}
 use Rattle.ring_book.specs.Lines.{IsRun, LineView, events_of, history_of}
+use Rattle.ring_host_port.specs.Refusals.{IsTurnFault}
 use Rattle.ring_callers.specs.declared.calls.Calls.{Calls}
 
 -- The order and the history are those of a run of the group, and the order explains the history.
@@ -20,8 +21,4 @@ pub record AreOfRun {A O : Type 0} (object : Sequential O) (group : Group) (call
 -- a refusal of a run of callers
 abbrev pub IsCallersFault : Fault → Type 0
 IsCallersFault NotMember = ⊤
-IsCallersFault Stopped = ⊤
-IsCallersFault BookFull = ⊤
-IsCallersFault Stranger = ⊤
-IsCallersFault Memory = ⊤
-IsCallersFault _ = ⊥
+IsCallersFault fault = IsTurnFault fault

@@ -80,6 +80,7 @@ where
 }
 
 /// Stops the nodes of these numbers.
+#[tactic(auto, using(crate::proofs::Faults::turn_refused))]
 fn stop_all<O: Object, K: BookName<O::Alloc>, W: Wait>(
     rt: &W,
     host: &Host<O, K>,
