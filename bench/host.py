@@ -152,7 +152,7 @@ def soak(program):
         told = dict(zip(line.split()[::2], line.split()[1::2]))
         answered += int(told["answered"])
         wrong += told["legal"] != "true"
-        lost += told["missed"] != "0" and told["fault"] == "0"
+        lost += told["untold"] != "0"
         told_why += told["missed"] != "0" and told["fault"] != "0"
         lines.append(int(told["lines"]))
         holds.append(held(child.pid))
