@@ -48,7 +48,7 @@ impl<O: Object> Run<O> {
     {
         let world = World::new(alloc, nodes)?;
         Ok(Run {
-            pump: Pump::new(alloc, world),
+            pump: Pump::new(world),
             groups: None,
         })
     }

@@ -36,7 +36,7 @@ impl<O: Object> Model for Pump<O> {
 
 impl<O: Object> Pump<O> {
     /// The world, with a copy of each frame that it has sent under way to each of the frame's receivers.
-    pub fn new(_alloc: O::Alloc, world: World<O>) -> Pump<O>
+    pub fn new(world: World<O>) -> Pump<O>
         ensures { result ≡ record { played = world; open_pairs = all_pairs (frames_of O.sequential world) } }
     {
         let pairs = Pairs::new();

@@ -69,14 +69,14 @@ impl Model for Ticket {
 
 impl<O: Object> Network<O> {
     /// The network over a world, in which all nodes hear each other, and each frame that was sent is under way.
-    pub fn new(alloc: O::Alloc, world: World<O>) -> Network<O>
+    pub fn new(world: World<O>) -> Network<O>
         ensures pump { result.pump ≡ record { played = world; open_pairs = all_pairs (frames_of O.sequential world) } }
         ensures group { result.group ≡ everybody world.group.count }
         ensures timeouts { result.timeouts ≡ 0 }
     {
         let group = world.fixed().everybody();
         Network {
-            pump: Pump::new(alloc, world),
+            pump: Pump::new(world),
             group,
             timeouts: 0,
         }

@@ -32,7 +32,7 @@ pub fn everybody() -> Result<ProcSet, Fault> {
 
 /// Three nodes, all of which hear each other.
 pub fn three<O: Object>(alloc: O::Alloc) -> Result<Shared<O>, Fault> {
-    let network = Network::new(alloc, World::<O>::new(alloc, Fixed::new(3)?)?);
+    let network = Network::new(World::<O>::new(alloc, Fixed::new(3)?)?);
     Ok(Rc::new(alloc, RefCell::new(network))?)
 }
 

@@ -68,7 +68,7 @@ pub fn cut_network<O: Object>(
     fixed: Fixed,
     alone: Proc,
 ) -> Result<Shared<O>, Fault> {
-    let mut network = Network::new(alloc, World::<O>::new(alloc, fixed)?);
+    let mut network = Network::new(World::<O>::new(alloc, fixed)?);
     network.cut(fixed.everybody().less(ProcSet::only(alone)));
     Ok(Rc::new(alloc, RefCell::new(network))?)
 }

@@ -64,7 +64,7 @@ fn ask<P: Port>(client: &mut Client<P>, operation: LockOperation) -> Result<Repl
 
 /// Three nodes that hear each other.
 fn network_of<O: Object>(alloc: O::Alloc, group: Fixed) -> Result<Shared<O>, Fault> {
-    let network = Network::new(alloc, World::<O>::new(alloc, group)?);
+    let network = Network::new(World::<O>::new(alloc, group)?);
     Ok(Rc::new(alloc, RefCell::new(network))?)
 }
 
