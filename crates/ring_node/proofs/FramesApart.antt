@@ -1,5 +1,5 @@
 -- The frames among a core's outputs make nothing of a replica: a step of it over the others alone is the same, but for what is sent.
-use Rattle.std.proofs.Common.{◌≡◌, Bool, true, false, ◌&&◌, List, [], ◌∷◌, ◌++◌, Option, refl, ap, sym, ◌∙◌, if◌then◌else◌}
+use Rattle.std.proofs.Common.{◌≡◌, Bool, true, false, ◌&&◌, List, [], ◌∷◌, ◌++◌, Option, refl, ap, sym, ◌∙◌}
 use Rattle.std.specs.Prelude.{filter_map, map}
 use Rattle.std.proofs.lemmas.Bool.{cond-false}
 use Rattle.ring_base.specs.declared.ring_id.RingId.{RingId}
@@ -16,6 +16,7 @@ use Rattle.ring_rules.specs.Lives.{lived_through}
 use Rattle.ring_rules.specs.Nodes.{is_restored}
 use Rattle.ring_replica.specs.Courses.{Moment, dues_by, rises}
 use Rattle.ring_replica.specs.Replicas.{Replica, ReplicaStepped, moment_of, replica_settled, replica_step}
+use Rattle.ring_node.specs.Given.{sending}
 
 -- ---- frames in front of what is told
 
@@ -41,10 +42,6 @@ sent-before [] told none = none
 sent-before (s ∷ sends) told none = ap (λ xs. s ∷ xs) (sent-before sends told none)
 
 -- ---- a step of a replica
-
--- what it sends are these, unless the replica stopped by it
-abbrev pub sending : {A : Type 0} → List (Sent A) → ReplicaStepped A → ReplicaStepped A
-sending sends s = record s { sends = if s.replica.stopped then [] else sends }
 
 module _ {A : Type 0} {outs told : List (Out A)} {sends : List (Sent A)} (h : IsGiven outs sends told) where
   lived-apart : (life : List (Stay A)) → lived_through life told ≡ lived_through life outs

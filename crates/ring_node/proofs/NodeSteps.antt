@@ -1,7 +1,7 @@
 -- A node's step and submit, by its core and its replica.
 use Rattle.std.proofs.Common.{◌≡◌, ℕ, inl, inr, nat_le, Result, Ok, Err, IfErr, if◌then◌else◌, Bool, true, false, ◌&&◌}
 use Rattle.std.proofs.Common.{List, [], ◌∷◌, ◌++◌, length, Option, Some, None, refl, ap, sym, ◌∙◌, subst, append-nil}
-use Rattle.std.specs.Prelude.{nat_lt}
+use Rattle.std.specs.Prelude.{nat_lt, OnOk}
 use Rattle.std.proofs.lemmas.Bool.{cases_Bool, cond-true, cond-false}
 use Rattle.ring_base.specs.Numbers.{max_number}
 use Rattle.ring_base.specs.declared.fault.Fault.TheVariants.{PendingFull, Stopped as StoppedFault}
@@ -27,14 +27,18 @@ use Rattle.ring_rules.specs.Stepping.{NodeStepped, handed_over, drops, after_cor
 use Rattle.ring_replica.specs.Courses.{handed_if, dues_by, rises, IsSteady}
 use Rattle.ring_replica.specs.Replicas.{Replica, ReplicaStepped, replica_stopped, replica_done, replica_ended, node_by}
 use Rattle.ring_replica.specs.Replicas.{replica_settled, replica_step, replica_of, running_of, moment_of, node_unless}
-use Rattle.ring_replica.specs.Replicas.{submit_refusal, has_adopted_running, replica_given, restored_since}
+use Rattle.ring_replica.specs.Replicas.{submit_refusal, has_adopted_running, replica_given, restored_since, IsDone, Rests, replica_still}
 use Rattle.ring_replica.proofs.Nodes.{step-is, refused-is}
 use Rattle.ring_replica.proofs.Courses.{never-less}
+use Rattle.ring_replica.proofs.RestingReplicas.{still-ended}
 use Rattle.ring_replica.specs.Marks.{IsMarked}
 use Rattle.ring_replica.proofs.StayMarks.{rises_step, marked_step, marked_handed, me_step, me_handed, going_step, going_handed}
-use Rattle.ring_node.proofs.FramesApart.{sending, step-apart}
+use Rattle.ring_node.proofs.FramesApart.{step-apart}
+use Rattle.ring_node.specs.Given.{sending, Follows, Gives}
 use Rattle.ring_node.specs.Kept.{followed_by, core_told, told_node, Runs, IsNode, stepped_by}
+use Rattle.ring_node.specs.Nothing.{GivesFrames}
 use Rattle.ring_node.specs.Restores.{node_restored}
+use Rattle.ring_node.specs.declared.outs.Outs.{Outs}
 
 -- Handing over one payload more
 
@@ -90,15 +94,37 @@ module _ {O A : Type 0} (object : Sequential O) (running : Option RingId) (r : R
 -- What follows of what a step told is what the step makes, with the frames that it sent
 module _ {O A : Type 0} (object : Sequential O) (core : Core A) (r : Replica A) (input : Input A) {new : Core A} {sends : List (Sent A)} {told : List (Out A)}
     (en : new ≡ (ring_step core input).core) (given : IsGiven (ring_step core input).outs sends told) (runs : r.stopped ≡ false) where
-  pub followed-as : sending sends (followed_by object new r told) ≡ stepped_by object core r input
+  followed-as : sending sends (followed_by object new r told) ≡ stepped_by object core r input
   followed-as =
       ap (λ (x : Core A). sending sends (followed_by object x r told)) en
       ∙ step-apart given object (running_of (ring_step core input).core) r runs
 
-  pub followed-core : handed_over new (followed_by object new r told).due ≡ handed_over (ring_step core input).core (stepped_by object core r input).due
-  followed-core =
-      ap (λ (x : Core A). handed_over x (followed_by object new r told).due) en
-      ∙ ap (λ (s : ReplicaStepped A). handed_over (ring_step core input).core s.due) followed-as
+  pub follows-step : {X E : Type 0} (result : Result X E) (after : Core A) (now : Replica A) (outs : Outs A)
+      → OnOk result (Follows (sending sends (followed_by object new r told)) new after now outs)
+      → OnOk result (Follows (stepped_by object core r input) (ring_step core input).core after now outs)
+  follows-step result after now outs h =
+      subst (λ (s : ReplicaStepped A). OnOk result (Follows s (ring_step core input).core after now outs)) followed-as
+      (subst (λ (x : Core A). OnOk result (Follows (sending sends (followed_by object new r told)) x after now outs)) en h)
+
+-- Where nothing is told, a replica that rests need take no step
+none-told : {A : Type 0} (told : List (Out A)) → length told ≡ 0 → told ≡ []
+none-told [] e = refl
+none-told (o ∷ told) e = absurd (cc e)
+
+pub rests-on : {O A : Type 0} (object : Sequential O) (core : Core A) (r : Replica A) (told : List (Out A)) (outs : Outs A) → length told ≡ 0 → IsDone r
+    → r.stopped ≡ false → GivesFrames outs → Rests object r → Follows (sending outs.sends.items (followed_by object core r told)) core core r outs
+rests-on {A} object core r told outs none done runs frames rests =
+    let step : followed_by object core r told ≡ replica_still r = ap (followed_by object core r) (none-told told none) ∙ rests (running_of core) in
+    subst (λ (s : ReplicaStepped A). Follows (sending outs.sends.items s) core core r outs) (sym step)
+    (record {
+      sends = sym (cond-false r.stopped [] outs.sends.items runs);
+      answers = frames.answers;
+      committed = frames.committed ∙ sym done.doing;
+      dropped = frames.dropped ∙ sym done.leaving;
+      restored = frames.restored;
+      core = refl;
+      replica = sym (still-ended r done);
+    })
 
 -- A node that runs
 
@@ -165,27 +191,35 @@ module _ {O A : Type 0} (object : Sequential O) (n : Node A) (core : Core A) (ou
       ap (λ x. of x (n.answers ++ [])) (append-nil n.done) ∙ ap (of n.done) (append-nil n.answers)
   node-by true = refl
 
-  sends-by : (b : Bool) → (made_of b).sends ≡ (gives b).sends
-  sends-by false = refl
-  sends-by true = refl
-
-  answers-by : (b : Bool) → (made_of b).answers ≡ (gives b).answers
-  answers-by false = refl
-  answers-by true = refl
-
-  committed-by : (b : Bool) → (made_of b).replica.doing ≡ (gives b).committed
-  committed-by false = refl
-  committed-by true = refl
-
-  dropped-by : (b : Bool) → (made_of b).replica.leaving ≡ (gives b).dropped
-  dropped-by false = refl
-  dropped-by true = refl
-
-  restored-by : (b : Bool) → kept ≡ kept_of n.group life → (made_of b).restored ≡ node_restored n (gives b).node
-  restored-by false is = none-restored (node_kept n)
-  restored-by true is =
-      ap (λ x. if nat_lt (node_kept n).from x then Some x else None) (ap (λ (k : Kept A). k.from) is
-      ∙ sym (from-ended n.group (drops object (is_closed n.group (hands due life)) kept) kept.committed life due))
+  -- and what is given then is what the node's step gives
+  gives-by : (b : Bool) → kept ≡ kept_of n.group life → {after : Core A} {now : Replica A} {given : Outs A} → Follows (made_of b) core after now given
+      → Gives n (gives b) (told_node after now n.core) given
+  gives-by b is {after} {now} f =
+      let node = ap (λ (x : Core A). told_node x now n.core) f.core
+      ∙ ap (λ (x : Replica A). told_node (handed_over core (made_of b).due) x n.core) f.replica ∙ node-by b in
+      by b f node
+    where
+      by : (b : Bool) {after : Core A} {now : Replica A} {given : Outs A} → Follows (made_of b) core after now given
+          → told_node after now n.core ≡ (gives b).node → Gives n (gives b) (told_node after now n.core) given
+      by false f node =
+          record {
+            sends = f.sends;
+            answers = f.answers;
+            committed = f.committed;
+            dropped = f.dropped;
+            restored = f.restored ∙ none-restored (node_kept n);
+            node = node;
+          }
+      by true f node =
+          record {
+            sends = f.sends;
+            answers = f.answers;
+            committed = f.committed;
+            dropped = f.dropped;
+            restored = f.restored ∙ ap (λ x. if nat_lt (node_kept n).from x then Some x else None) (ap (λ (k : Kept A). k.from) is
+                ∙ sym (from-ended n.group (drops object (is_closed n.group (hands due life)) kept) kept.committed life due));
+            node = node;
+          }
 
   runs-by : (b : Bool) → IsMarked core life → is_stopped core.state ≡ false → n.core.me ≡ core.me → (replica_ended (made_of b)).stopped ≡ false →
       Runs (handed_over core (made_of b).due) (replica_ended (made_of b))
@@ -245,63 +279,26 @@ module _ {O A : Type 0} (object : Sequential O) (core : Core A) (r : Replica A) 
     step-here : after ≡ node_by n (ring_step n.core input).core (replica_step object (running_of (ring_step n.core input).core) (replica_of n) out)
     step-here = step-is object n (ring_step n.core input) steady rises-here
 
-    pub sends-are : (stepped_by object core r input).sends ≡ after.sends
-    sends-are =
-        by-replica (λ x c. (stepped_by object c x input).sends ≡ after.sends)
-        (sends-by object n (ring_step n.core input).core out lives dues known sound ∙ ap (λ (x : NodeStepped A). x.sends) (sym step-here))
-
-    pub answers-are : (stepped_by object core r input).answers ≡ after.answers
-    answers-are =
-        by-replica (λ x c. (stepped_by object c x input).answers ≡ after.answers)
-        (answers-by object n (ring_step n.core input).core out lives dues known sound ∙ ap (λ (x : NodeStepped A). x.answers) (sym step-here))
-
-    pub committed-are : (stepped_by object core r input).replica.doing ≡ after.committed
-    committed-are =
-        by-replica (λ x c. (stepped_by object c x input).replica.doing ≡ after.committed)
-        (committed-by object n (ring_step n.core input).core out lives dues known sound ∙ ap (λ (x : NodeStepped A). x.committed) (sym step-here))
-
-    pub dropped-are : (stepped_by object core r input).replica.leaving ≡ after.dropped
-    dropped-are =
-        by-replica (λ x c. (stepped_by object c x input).replica.leaving ≡ after.dropped)
-        (dropped-by object n (ring_step n.core input).core out lives dues known sound ∙ ap (λ (x : NodeStepped A). x.dropped) (sym step-here))
-
-    pub restored-are : (stepped_by object core r input).restored ≡ node_restored n after.node
-    restored-are =
-        by-replica (λ x c. (stepped_by object c x input).restored ≡ node_restored n after.node)
-        (restored-by object n (ring_step n.core input).core out lives dues known sound refl
-        ∙ ap (λ (x : NodeStepped A). node_restored n x.node) (sym step-here))
-
-    pub node-is : told_node (handed_over (ring_step core input).core (stepped_by object core r input).due)
-        (replica_ended (stepped_by object core r input)) core ≡ after.node
-    node-is =
-        by-replica (λ x c. told_node (handed_over (ring_step c input).core (stepped_by object c x input).due)
-        (replica_ended (stepped_by object c x input)) c ≡ after.node)
-        (node-by object n (ring_step n.core input).core out lives dues known sound ∙ ap (λ (x : NodeStepped A). x.node) (sym step-here))
+    pub gives-step : {before new : Core A} {now : Replica A} {outs : Outs A}
+        → Follows (stepped_by object core r input) (ring_step core input).core new now outs → before ≡ core → Gives n after (told_node new now before) outs
+    gives-step {before} {new} {now} {outs} =
+        by-replica (λ x c. Follows (stepped_by object c x input) (ring_step c input).core new now outs → before ≡ c
+        → Gives n after (told_node new now before) outs)
+        (λ f e. subst (λ (s : NodeStepped A). Gives n s (told_node new now before) outs) (sym step-here)
+        (subst (λ (c : Core A). Gives n (gives object n (ring_step n.core input).core out lives dues known sound) (told_node new now c) outs) (sym e)
+        (gives-by object n (ring_step n.core input).core out lives dues known sound refl f)))
 
 -- and what the code keeps then
-pub stepped-node : {O A : Type 0} → (object : Sequential O) (core : Core A) (r : Replica A) (ended : Core A)
-    (input : Input A) (halts : r.stopped ≡ false) (k : Runs core r)
-    (new : Core A) (given : Replica A) (last : Configuration) (ended' : Core A)
-    → new ≡ handed_over (ring_step core input).core (stepped_by object core r input).due →
-    given ≡ replica_ended (stepped_by object core r input) → last ≡ ended'.installed → IsNode new given last ended'
-stepped-node {O} {A} object core r ended input halts k new given last ended' en eg el =
+pub stepped-node : {O A : Type 0} → (object : Sequential O) (core : Core A) (r : Replica A) (ended : Core A) (input : Input A)
+    (halts : r.stopped ≡ false) (k : Runs core r) {new : Core A} {now : Replica A} {outs : Outs A} {last : Configuration} {before : Core A}
+    → Follows (stepped_by object core r input) (ring_step core input).core new now outs → last ≡ before.installed → IsNode new now last before
+stepped-node {O} {A} object core r ended input halts k {new} {now} f is =
     record {
-      runs = λ s. subst (λ (x : Core A). Runs x given) (sym en)
-          (subst (λ (x : Replica A). Runs (handed_over (ring_step core input).core (stepped_by object core r input).due) x) (sym eg)
-          (runs-on object core r ended input halts k (ap (λ (x : Replica A). x.stopped) (sym eg) ∙ s)));
-      left = λ s. el;
+      runs = λ s. subst (λ (x : Core A). Runs x now) (sym f.core)
+          (subst (λ (x : Replica A). Runs (handed_over (ring_step core input).core (stepped_by object core r input).due) x) (sym f.replica)
+          (runs-on object core r ended input halts k (ap (λ (x : Replica A). x.stopped) (sym f.replica) ∙ s)));
+      left = λ s. is;
     }
-
-pub told-as : {O A : Type 0} → (object : Sequential O) (core : Core A) (r : Replica A) (ended : Core A)
-    (input : Input A) (halts : r.stopped ≡ false) (k : Runs core r) (steady : IsSteady r.group r.life)
-    (new : Core A) (given : Replica A) (ended' : Core A) → new ≡ handed_over (ring_step core input).core (stepped_by object core r input).due →
-    given ≡ replica_ended (stepped_by object core r input) → ended' ≡ core →
-    told_node new given ended' ≡ (after_core object (told_node core r ended) (ring_step (told_node core r ended).core input)).node
-told-as {O} {A} object core r ended input halts k steady new given ended' en eg ee =
-    let made = handed_over (ring_step core input).core (stepped_by object core r input).due in
-    let done = replica_ended (stepped_by object core r input) in
-    ap (λ (x : Core A). told_node x given ended') en ∙ ap (λ (x : Replica A). told_node made x ended') eg ∙ ap (λ (x : Core A). told_node made done x) ee
-    ∙ node-is object core r ended input halts k steady
 
 -- A submit
 

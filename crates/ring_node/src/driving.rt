@@ -8,8 +8,10 @@ ghost use Rattle.ring_core.specs.declared.input.Input.TheVariants.{Frame as Fram
 ghost use Rattle.ring_rules.specs.Nodes.{is_stopped};
 ghost use Rattle.ring_rules.specs.Stepping.{handed_over};
 ghost use Rattle.ring_replica.specs.Courses.{rises, IsSteady};
-ghost use Rattle.ring_replica.specs.Replicas.{IsDone, replica_stopped, replica_ended, running_of};
+ghost use Rattle.ring_replica.specs.Replicas.{IsDone, replica_stopped, running_of};
+ghost use Rattle.ring_node.specs.Given.{Follows, sending};
 ghost use Rattle.ring_node.specs.Kept.{Runs, followed_by, stepped_by};
+ghost use Rattle.ring_node.specs.Nothing.{GivesFrames, GivesNothing};
 
 use crate::outs::Outs;
 use ring_base::{Fault, Kind, RingId, State};
@@ -45,7 +47,7 @@ pub(crate) fn hand_over<A: Allocator + Copy>(
     Ok(())
 }
 
-/// A frame came: the core steps, and the replica follows. What they give goes into `outs`, which has no frames yet.
+/// A frame came: the core steps, and the replica follows. What they give goes into `outs`, in which nothing stands yet.
 pub(crate) fn advance_by_frame<O: Object>(
     core: &mut Srp<O::Alloc>,
     replica: &mut Replica<O>,
@@ -53,17 +55,11 @@ pub(crate) fn advance_by_frame<O: Object>(
     outs: &mut Outs<O::Alloc>,
 ) -> Result<(), Fault>
     requires fits { FrameFits frame.now }
-    requires empty { outs.old.sends.items ≡ [] }
+    requires empty { GivesNothing outs.old }
     requires runs { Runs core.old replica.old }
     requires going { replica.old.stopped ≡ false }
-    ensures sends { OnOk result (outs.new.sends.items ≡ (stepped_by O.sequential core.old replica.old (FrameInput frame.now)).sends) }
-    ensures answers { OnOk result (outs.new.answers.items ≡ (stepped_by O.sequential core.old replica.old (FrameInput frame.now)).answers) }
-    ensures committed { OnOk result (outs.new.committed.items ≡ (stepped_by O.sequential core.old replica.old (FrameInput frame.now)).replica.doing) }
-    ensures dropped { OnOk result (outs.new.dropped.items ≡ (stepped_by O.sequential core.old replica.old (FrameInput frame.now)).replica.leaving) }
-    ensures restored { OnOk result (outs.new.restored ≡ (stepped_by O.sequential core.old replica.old (FrameInput frame.now)).restored) }
-    ensures core { OnOk result (core.new ≡ handed_over (ring_step core.old (FrameInput frame.now)).core
-        (stepped_by O.sequential core.old replica.old (FrameInput frame.now)).due) }
-    ensures replica { OnOk result (replica.new ≡ replica_ended (stepped_by O.sequential core.old replica.old (FrameInput frame.now))) }
+    ensures ok { OnOk result (Follows (stepped_by O.sequential core.old replica.old (FrameInput frame.now))
+        (ring_step core.old (FrameInput frame.now)).core core.new replica.new outs.new) }
     ensures steady { OnOk result (IsSteady replica.old.group replica.old.life) }
     ensures err { OnErr result (replica_stopped replica.new ≡ replica_stopped replica.old) }
     ensures refused { IfErr result (λ fault. fault ≡ Memory) }
@@ -72,24 +68,18 @@ pub(crate) fn advance_by_frame<O: Object>(
     follow(core, replica, told, outs)
 }
 
-/// A time is over: the core steps, and the replica follows. What they give goes into `outs`, which has no frames yet.
+/// A time is over: the core steps, and the replica follows. What they give goes into `outs`, in which nothing stands yet.
 pub(crate) fn advance_by_time<O: Object>(
     core: &mut Srp<O::Alloc>,
     replica: &mut Replica<O>,
     kind: Kind,
     outs: &mut Outs<O::Alloc>,
 ) -> Result<(), Fault>
-    requires empty { outs.old.sends.items ≡ [] }
+    requires empty { GivesNothing outs.old }
     requires runs { Runs core.old replica.old }
     requires going { replica.old.stopped ≡ false }
-    ensures sends { OnOk result (outs.new.sends.items ≡ (stepped_by O.sequential core.old replica.old (TimeoutInput kind)).sends) }
-    ensures answers { OnOk result (outs.new.answers.items ≡ (stepped_by O.sequential core.old replica.old (TimeoutInput kind)).answers) }
-    ensures committed { OnOk result (outs.new.committed.items ≡ (stepped_by O.sequential core.old replica.old (TimeoutInput kind)).replica.doing) }
-    ensures dropped { OnOk result (outs.new.dropped.items ≡ (stepped_by O.sequential core.old replica.old (TimeoutInput kind)).replica.leaving) }
-    ensures restored { OnOk result (outs.new.restored ≡ (stepped_by O.sequential core.old replica.old (TimeoutInput kind)).restored) }
-    ensures core { OnOk result (core.new ≡ handed_over (ring_step core.old (TimeoutInput kind)).core
-        (stepped_by O.sequential core.old replica.old (TimeoutInput kind)).due) }
-    ensures replica { OnOk result (replica.new ≡ replica_ended (stepped_by O.sequential core.old replica.old (TimeoutInput kind))) }
+    ensures ok { OnOk result (Follows (stepped_by O.sequential core.old replica.old (TimeoutInput kind))
+        (ring_step core.old (TimeoutInput kind)).core core.new replica.new outs.new) }
     ensures steady { OnOk result (IsSteady replica.old.group replica.old.life) }
     ensures err { OnErr result (replica_stopped replica.new ≡ replica_stopped replica.old) }
     ensures refused { IfErr result (λ fault. fault ≡ Memory) }
@@ -111,13 +101,33 @@ fn follow<O: Object>(
     requires rises { rises replica.old.life told.items ≡ true }
     requires runs { is_stopped core.old.state ≡ false }
     requires going { replica.old.stopped ≡ false }
-    ensures sends { OnOk result (outs.new.sends.items ≡ (if (followed_by O.sequential core.old replica.old told.items).replica.stopped then [] else outs.old.sends.items)) }
-    ensures answers { OnOk result (outs.new.answers.items ≡ (followed_by O.sequential core.old replica.old told.items).answers) }
-    ensures committed { OnOk result (outs.new.committed.items ≡ (followed_by O.sequential core.old replica.old told.items).replica.doing) }
-    ensures dropped { OnOk result (outs.new.dropped.items ≡ (followed_by O.sequential core.old replica.old told.items).replica.leaving) }
-    ensures restored { OnOk result (outs.new.restored ≡ (followed_by O.sequential core.old replica.old told.items).restored) }
-    ensures core { OnOk result (core.new ≡ handed_over core.old (followed_by O.sequential core.old replica.old told.items).due) }
-    ensures replica { OnOk result (replica.new ≡ replica_ended (followed_by O.sequential core.old replica.old told.items)) }
+    requires frames { GivesFrames outs.old }
+    ensures ok { OnOk result (Follows (sending outs.old.sends.items (followed_by O.sequential core.old replica.old told.items))
+        core.old core.new replica.new outs.new) }
+    ensures steady { OnOk result (IsSteady replica.old.group replica.old.life) }
+    ensures err { OnErr result (replica_stopped replica.new ≡ replica_stopped replica.old) }
+    ensures refused { IfErr result (λ fault. fault ≡ Memory) }
+{
+    if told.is_empty() && replica.rests() {
+        return Ok(());
+    }
+    follow_told(core, replica, told, outs)
+}
+
+/// The same where the replica takes a step of its own. It stands apart, since a call clears its room for what that gives.
+#[inline(never)]
+fn follow_told<O: Object>(
+    core: &mut Srp<O::Alloc>,
+    replica: &mut Replica<O>,
+    told: Vec<Out<O::Alloc>, O::Alloc>,
+    outs: &mut Outs<O::Alloc>,
+) -> Result<(), Fault>
+    requires done { IsDone replica.old }
+    requires rises { rises replica.old.life told.items ≡ true }
+    requires runs { is_stopped core.old.state ≡ false }
+    requires going { replica.old.stopped ≡ false }
+    ensures ok { OnOk result (Follows (sending outs.old.sends.items (followed_by O.sequential core.old replica.old told.items))
+        core.old core.new replica.new outs.new) }
     ensures steady { OnOk result (IsSteady replica.old.group replica.old.life) }
     ensures err { OnErr result (replica_stopped replica.new ≡ replica_stopped replica.old) }
     ensures refused { IfErr result (λ fault. fault ≡ Memory) }

@@ -1,6 +1,6 @@
 //! A node.
 
-ghost use Rattle.std.specs.Prelude.{◌≡◌, ◌≤◌, true, false, [], length, if◌then◌else◌, Some, None, IsOk, IfOk, IfErr, OnOk, OnErr, MatchOption};
+ghost use Rattle.std.specs.Prelude.{◌≡◌, ◌≤◌, true, false, length, if◌then◌else◌, Some, None, IsOk, IfOk, IfErr, OnOk, OnErr, MatchOption};
 ghost use Rattle.ring_base.specs.declared.fault.Fault.TheVariants.{Memory, Stopped as StoppedFault};
 ghost use Rattle.ring_payload.specs.Calls.{CallFits};
 ghost use Rattle.ring_core.specs.Frames.{FrameFits};
@@ -9,6 +9,7 @@ ghost use Rattle.ring_core.specs.declared.input.Input.TheVariants.{Frame as Fram
 ghost use Rattle.ring_replica.specs.Sessions.{pending_from};
 ghost use Rattle.ring_rules.specs.Nodes.{node_opening, node_kept, node_length, node_trimmed, node_committed, node_reply, node_stopped, is_stopped, effects_at};
 ghost use Rattle.ring_rules.specs.Stepping.{after_core, node_step, submit_fault, submitted};
+ghost use Rattle.ring_node.specs.Given.{Gives};
 ghost use Rattle.ring_node.specs.Restores.{node_restored};
 ghost use Rattle.ring_node.specs.Nothing.{GivesNothing};
 ghost use Rattle.ring_rules.specs.NodeLimits.{InputFits};
@@ -317,16 +318,10 @@ impl<O: Object> Node<O> {
     /// The core hears a frame, and what follows of it is done. Refused with `Memory` alone, and then the node has stopped.
     fn hear(&mut self, frame: &Frame<O::Alloc>, outs: &mut Outs<O::Alloc>) -> Result<(), Fault>
         requires fits { FrameFits frame.now }
-        requires empty { outs.old.sends.items ≡ [] }
+        requires empty { GivesNothing outs.old }
         requires runs { is_stopped self.old.core.state ≡ false }
-        ensures sends { OnOk result (outs.new.sends.items ≡ (after_core O.sequential self.old (ring_step self.old.core (FrameInput frame.now))).sends) }
-        ensures answers { OnOk result (outs.new.answers.items ≡ (after_core O.sequential self.old (ring_step self.old.core (FrameInput frame.now))).answers) }
-        ensures committed { OnOk result (outs.new.committed.items ≡ (after_core O.sequential self.old (ring_step self.old.core (FrameInput frame.now))).committed) }
-        ensures dropped { OnOk result (outs.new.dropped.items ≡ (after_core O.sequential self.old (ring_step self.old.core (FrameInput frame.now))).dropped) }
-        ensures restored { OnOk result (outs.new.restored
-            ≡ node_restored self.old (after_core O.sequential self.old (ring_step self.old.core (FrameInput frame.now))).node) }
+        ensures ok { OnOk result (Gives self.old (after_core O.sequential self.old (ring_step self.old.core (FrameInput frame.now))) self.new outs.new) }
         ensures nothing { OnErr result (GivesNothing outs.new) }
-        ensures ok { OnOk result (self.new ≡ (after_core O.sequential self.old (ring_step self.old.core (FrameInput frame.now))).node) }
         ensures err { OnErr result (self.new ≡ node_stopped self.old) }
         ensures refused { IfErr result (λ fault. fault ≡ Memory) }
     {
@@ -347,16 +342,10 @@ impl<O: Object> Node<O> {
     /// call clears its room for an input of the core.
     #[inline(never)]
     fn time_out(&mut self, kind: Kind, outs: &mut Outs<O::Alloc>) -> Result<(), Fault>
-        requires empty { outs.old.sends.items ≡ [] }
+        requires empty { GivesNothing outs.old }
         requires runs { is_stopped self.old.core.state ≡ false }
-        ensures sends { OnOk result (outs.new.sends.items ≡ (after_core O.sequential self.old (ring_step self.old.core (TimeoutInput kind))).sends) }
-        ensures answers { OnOk result (outs.new.answers.items ≡ (after_core O.sequential self.old (ring_step self.old.core (TimeoutInput kind))).answers) }
-        ensures committed { OnOk result (outs.new.committed.items ≡ (after_core O.sequential self.old (ring_step self.old.core (TimeoutInput kind))).committed) }
-        ensures dropped { OnOk result (outs.new.dropped.items ≡ (after_core O.sequential self.old (ring_step self.old.core (TimeoutInput kind))).dropped) }
-        ensures restored { OnOk result (outs.new.restored
-            ≡ node_restored self.old (after_core O.sequential self.old (ring_step self.old.core (TimeoutInput kind))).node) }
+        ensures ok { OnOk result (Gives self.old (after_core O.sequential self.old (ring_step self.old.core (TimeoutInput kind))) self.new outs.new) }
         ensures nothing { OnErr result (GivesNothing outs.new) }
-        ensures ok { OnOk result (self.new ≡ (after_core O.sequential self.old (ring_step self.old.core (TimeoutInput kind))).node) }
         ensures err { OnErr result (self.new ≡ node_stopped self.old) }
         ensures refused { IfErr result (λ fault. fault ≡ Memory) }
     {
