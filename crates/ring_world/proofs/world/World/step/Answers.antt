@@ -29,12 +29,12 @@ place g c =
     roomy there room.events room.told room.history room.frames room.longest
 
 -- by which input it steps
-by : (g : Over) (c : In_ok-make_room g) → IsStepBy g.O.Object.sequential c.args.self.now c.args.event.now c.args.node c.read_handed-is_step.new.place
+by : (g : Over) (c : In_ok-make_room g) → IsStepBy g.O.Object.sequential c.args.self.now c.args.event.now c.args.node c.read_handed.new.place
 by g c =
     let k = c.self.inside in
     let placed = c.in_ok-is_step.ensures in
-    read g.O.Object.sequential c.args.event.now c.args.node c.self.view_is c.self.invariant.kept.frames_are c.requires placed.is placed.input c.if-is_step.true
-    (c.frames_law.ensures.frames k.fixed k.events.items c.self.invariant.few (all_fit k.events.items c.self.invariant.fit))
+    read g.O.Object.sequential c.args.event.now c.args.node c.self.view_is c.self.invariant.kept.frames_are c.requires
+    placed.is placed.input c.if-not-is_step.false (c.frames_law.ensures.frames k.fixed k.events.items c.self.invariant.few (all_fit k.events.items c.self.invariant.fit))
 
 gave : (g : Over) (c : In-Ok g) → IsStep g.O.Object.sequential c.index_mut.result.now (by g c.In_ok-make_room).input c.step_by.new.node
     c.step_by.new.outs.sends.items c.step_by.new.outs.answers.items c.step_by.new.outs.committed.items
@@ -55,10 +55,11 @@ idle-requires g c =
       same = unknown_step g.O.Object.sequential c.args.event.now c.args.node c.self.view_is c.self.invariant.kept.frames_are c.requires none;
     }
 
-pub idle-requires-2 : goal.idle-requires-2
-idle-requires-2 g c = record {
+pub idle-requires-then-not-is_step : goal.idle-requires-then-not-is_step
+idle-requires-then-not-is_step g c = record {
   fits = step_fits c.args.event.now c.args.node c.requires;
-  same = not_read g.O.Object.sequential c.args.event.now c.args.node c.self.view_is c.self.invariant.kept.frames_are c.requires c.in_ok-is_step.ensures.is c.if-is_step.false;
+  same = not_read g.O.Object.sequential c.args.event.now c.args.node refl c.self.invariant.kept.frames_are c.requires
+      c.in_ok-is_step.ensures.is c.if-not-is_step.true;
 }
 
 pub step_by-requires : goal.step_by-requires
