@@ -93,6 +93,9 @@ impl<A: Allocator + Copy> Frames<A> {
         ensures room { OnOk result (HasRoom 64 self.new) }
         ensures refused { IfErr result (λ fault. fault ≡ Memory) }
     {
+        if self.has_room() {
+            return Ok(());
+        }
         self.marks.reserve(FRAMES)?;
         let more = self.bytes.len().clamp(LEAST_MORE, MOST_MORE);
         self.bytes.reserve(FRAMES * FRAME_BYTES + more)?;
