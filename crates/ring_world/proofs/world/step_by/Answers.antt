@@ -2,7 +2,7 @@
 use Rattle.ring_world.proofs.world.step_by.Goals as goal
 
 pub hear_into-requires : goal.hear_into-requires
-hear_into-requires g c = rw (c.in-Deliver.is, c.in-Some.is) at c.requires.fits
+hear_into-requires g c = record { fits = rw (c.in-Deliver.is, c.in-Some.is) at c.requires.fits }
 
 pub returns-in-Some : goal.returns-in-Some
 returns-in-Some g c = rw (c.in-Deliver.is, c.in-Some.is) (record {
