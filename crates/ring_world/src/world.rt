@@ -28,6 +28,7 @@ ghost use Rattle.ring_world.specs.Steps.{stepping, input_by, handed_by, HasStepp
 ghost use Rattle.ring_world.specs.Stored.{HasRoom, text_of};
 ghost use Rattle.ring_world.specs.Spares.{Spares as ToldSpares};
 
+use crate::copies::{copied_event, copied_events, copied_history, copied_told};
 use crate::frames::Frames;
 use crate::longest::Longest;
 use crate::order::most_effects;
@@ -37,7 +38,6 @@ use ring_base::{Fault, Fixed, Kind, Proc, ProcSet};
 use ring_node::{Input, Node, Outs, Sent};
 use ring_object::Object;
 use ring_order_proof::effect_laws::effects_law;
-use ring_order_proof::fit_laws::call_keeps_law;
 use ring_order_proof::frame_laws::{few_law, frames_law, pending_law};
 use ring_order_proof::laws::linear_law;
 use ring_order_proof::longest_laws::longest_law;
@@ -115,10 +115,10 @@ impl<O: Object> World<O> {
         let nodes = copied_nodes(self.alloc, &self.nodes)?;
         let spares = self.spares.clone()?;
         let frames = self.frames.clone()?;
-        let history = self.history.clone()?;
-        let told = self.told.clone()?;
+        let history = copied_history(&self.history)?;
+        let told = copied_told(&self.told)?;
         let longest = self.longest.clone()?;
-        let events = self.events.clone()?;
+        let events = copied_events(&self.events)?;
         Ok(World {
             alloc: self.alloc,
             fixed: self.fixed,
@@ -497,27 +497,6 @@ fn no_spares<A: Allocator + Copy>(alloc: A, count: u8) -> Result<Vec<Spares<A>, 
         spares.push(Spares::new(alloc))?;
     }
     Ok(spares)
-}
-
-/// A copy of the event, or `Memory`. A call in it that keeps the limits of frames keeps those of snapshots.
-fn copied_event<A: Allocator + Copy>(event: &Event<A>) -> Result<Event<A>, Fault>
-    ensures ok { IfOk result (λ copy. copy ≡ event.now) }
-    ensures keeps { IfOk result (λ _. EventFits event.now → EventKeeps event.now) }
-    ensures refused { IfErr result (λ fault. fault ≡ Memory) }
-{
-    event_keeps_law(event);
-    let copy = event.clone()?;
-    Ok(copy)
-}
-
-/// Law: a call that keeps the limits of frames keeps those of snapshots.
-fn event_keeps_law<A: Allocator + Copy>(event: &Event<A>)
-    ensures { EventFits event.now → EventKeeps event.now }
-{
-    match event {
-        Event::Issue(_, call) => call_keeps_law(call),
-        Event::Deliver(_, _) | Event::Noise(_, _) | Event::Timeout(_, _) | Event::Stop(_) => {}
-    }
 }
 
 /// Reads the frame that an event hands to its node into the place. Whether the event is a step of the node: it is where there is such a

@@ -1,6 +1,5 @@
 -- It keeps the same of the same world.
-use Rattle.std.proofs.Common.{◌≡◌, List, ap, ◌∙◌}
-use Rattle.std.specs.List.{each_same}
+use Rattle.std.proofs.Common.{List, ap, ◌∙◌}
 use Rattle.ring_rules.specs.declared.event.Event.{Event}
 use Rattle.ring_rules.specs.declared.told.Told.{Told}
 use Rattle.ring_world.specs.Played.{Played}
@@ -9,9 +8,8 @@ use Rattle.ring_world.proofs.world.World.copy.Goals as goal
 
 pub invariant_of-result : goal.invariant_of-result
 invariant_of-result g c =
-    copied c.self.invariant (each_same _ _ c.in_ok-events.ensures.cases.0) (c.in_ok-nodes.ensures.ok ∙ c.deref.ensures.value) c.in_ok-spares.ensures.cases.0
-    c.in_ok-frames.ensures.cases (each_same _ _ c.in_ok-history.ensures.cases.0) (each_same _ _ c.in_ok-told.ensures.cases.0)
-    c.in_ok-longest.ensures.cases
+    copied c.self.invariant c.in_ok-events.ensures.ok (c.in_ok-nodes.ensures.ok ∙ c.deref.ensures.value) c.in_ok-spares.ensures.cases.0
+    c.in_ok-frames.ensures.cases c.in_ok-history.ensures.ok c.in_ok-told.ensures.ok c.in_ok-longest.ensures.cases
 
 pub returns-clause-ok : goal.returns-clause-ok
 returns-clause-ok g c =
@@ -22,6 +20,4 @@ returns-clause-ok g c =
       told = ts;
       done = k.done;
     } in
-    let events = each_same k.events.items _ c.in_ok-events.ensures.cases.0 in
-    let told = each_same k.told.items _ c.in_ok-told.ensures.cases.0 in
-    ap (λ es. view es c.in_ok-told.told.items) events ∙ (ap (view k.events.items) told ∙ c.self.view_is)
+    ap (λ es. view es c.in_ok-told.told.items) c.in_ok-events.ensures.ok ∙ (ap (view k.events.items) c.in_ok-told.ensures.ok ∙ c.self.view_is)

@@ -1,0 +1,65 @@
+//! Copies of what happens.
+
+ghost use Rattle.std.specs.Prelude.{◌≡◌, IfOk, IfErr};
+ghost use Rattle.ring_base.specs.declared.fault.Fault.TheVariants.{Memory};
+ghost use Rattle.ring_rules.specs.WorldLimits.{EventFits};
+ghost use Rattle.ring_order_proof.specs.Linear.{EventKeeps};
+
+use ring_base::Fault;
+use ring_order_proof::fit_laws::call_keeps_law;
+use ring_rules::{Event, Item, Told};
+use std::alloc::Allocator;
+
+/// A copy of the event, or `Memory`. A call in it that keeps the limits of frames keeps those of snapshots.
+pub(crate) fn copied_event<A: Allocator + Copy>(event: &Event<A>) -> Result<Event<A>, Fault>
+    ensures ok { IfOk result (λ copy. copy ≡ event.now) }
+    ensures keeps { IfOk result (λ _. EventFits event.now → EventKeeps event.now) }
+    ensures refused { IfErr result (λ fault. fault ≡ Memory) }
+{
+    event_keeps_law(event);
+    let copy = event.clone()?;
+    Ok(copy)
+}
+
+/// Copies of the events, or `Memory`.
+pub(crate) fn copied_events<A: Allocator + Copy>(
+    events: &Vec<Event<A>, A>,
+) -> Result<Vec<Event<A>, A>, Fault>
+    ensures ok { IfOk result (λ copies. copies.items ≡ events.now.items) }
+    ensures refused { IfErr result (λ fault. fault ≡ Memory) }
+{
+    let copies = events.clone()?;
+    Ok(copies)
+}
+
+/// Copies of what was told, or `Memory`.
+pub(crate) fn copied_told<A: Allocator + Copy>(
+    told: &Vec<Told<A>, A>,
+) -> Result<Vec<Told<A>, A>, Fault>
+    ensures ok { IfOk result (λ copies. copies.items ≡ told.now.items) }
+    ensures refused { IfErr result (λ fault. fault ≡ Memory) }
+{
+    let copies = told.clone()?;
+    Ok(copies)
+}
+
+/// Copies of what clients saw, or `Memory`.
+pub(crate) fn copied_history<A: Allocator + Copy>(
+    history: &Vec<Item<A>, A>,
+) -> Result<Vec<Item<A>, A>, Fault>
+    ensures ok { IfOk result (λ copies. copies.items ≡ history.now.items) }
+    ensures refused { IfErr result (λ fault. fault ≡ Memory) }
+{
+    let copies = history.clone()?;
+    Ok(copies)
+}
+
+/// Law: a call that keeps the limits of frames keeps those of snapshots.
+fn event_keeps_law<A: Allocator + Copy>(event: &Event<A>)
+    ensures { EventFits event.now → EventKeeps event.now }
+{
+    match event {
+        Event::Issue(_, call) => call_keeps_law(call),
+        Event::Deliver(_, _) | Event::Noise(_, _) | Event::Timeout(_, _) | Event::Stop(_) => {}
+    }
+}
