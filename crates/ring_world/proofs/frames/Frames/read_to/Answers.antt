@@ -23,9 +23,9 @@ pub decode-requires-clause-within : goal.decode-requires-clause-within
 decode-requires-clause-within g c =
     subst (λ xs. c.in-Some.mark.end ≤ length xs) (sym c.as_slice.ensures) (found g (goal.at.decode-requires-clause-within g c).In-Some).within
 
-pub returns-in-Some : goal.returns-in-Some
-returns-in-Some g c =
-    let h = found g (goal.at.returns-in-Some g c).In-Some in
+pub returns-in_ok-decode-in-Some : goal.returns-in_ok-decode-in-Some
+returns-in_ok-decode-in-Some g c =
+    let h = found g (goal.at.returns-in_ok-decode-in-Some g c).In-Some in
     let text = slice_range c.as_slice.result.now c.in-Some.mark.start c.in-Some.mark.end in
     let spelled : text ≡ spelling_of h.frame = ap (λ xs. slice_range xs c.in-Some.mark.start c.in-Some.mark.end) c.as_slice.ensures ∙ h.spelled in
     let there = ap (λ (s : Stored g.row.A.Denot). frame_for c.args.node (frame_at s.frames c.args.number)) (sym c.self.view_is) ∙ h.there in
@@ -35,9 +35,9 @@ returns-in-Some g c =
       refused = tt;
     }
 
-pub returns-in_err-decode : goal.returns-in_err-decode
-returns-in_err-decode g c =
-    let h = found g (goal.at.returns-in_err-decode g c).In-Some in
+pub returns-in_err-decode-in-Some : goal.returns-in_err-decode-in-Some
+returns-in_err-decode-in-Some g c =
+    let h = found g (goal.at.returns-in_err-decode-in-Some g c).In-Some in
     let text = slice_range c.as_slice.result.now c.in-Some.mark.start c.in-Some.mark.end in
     let spelled : text ≡ spelling_of h.frame = ap (λ xs. slice_range xs c.in-Some.mark.start c.in-Some.mark.end) c.as_slice.ensures ∙ h.spelled in
     record { is = tt; placed = tt; refused = c.in_err-decode.ensures h.frame ((c.spelling_law.ensures h.frame text).1 (h.fits, spelled)) }
