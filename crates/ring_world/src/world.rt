@@ -63,10 +63,16 @@ pub struct World<O: Object> {
     longest: Longest<O::Alloc>,
     events: Vec<Event<O::Alloc>, O::Alloc>,
     done: u64,
+    rooms: Rooms<O::Alloc>,
+}
+
+/// What is used again from step to step.
+#[derive(Drop)]
+struct Rooms<A: Allocator + Copy> {
     /// The frame that was read last: the next one is read over it.
-    place: Option<Frame<O::Alloc>>,
-    /// The lists in which a node puts what its step gives: their room is used again.
-    outs: Outs<O::Alloc>,
+    place: Option<Frame<A>>,
+    /// The lists in which a node puts what its step gives.
+    outs: Outs<A>,
 }
 
 impl<O: Object> Model for World<O> {
@@ -101,8 +107,7 @@ impl<O: Object> World<O> {
             longest: Longest::new(alloc),
             events: Vec::new(alloc),
             done: 0,
-            place: None,
-            outs: Outs::new(alloc),
+            rooms: no_rooms(alloc),
         })
     }
 
@@ -130,8 +135,7 @@ impl<O: Object> World<O> {
             longest,
             events,
             done: self.done,
-            place: None,
-            outs: Outs::new(self.alloc),
+            rooms: no_rooms(self.alloc),
         })
     }
 
@@ -353,7 +357,7 @@ impl<O: Object> World<O> {
         if place >= self.nodes.len() {
             return self.idle(event);
         }
-        let is_step = read_handed(&self.frames, self.alloc, event, &mut self.place)?;
+        let is_step = read_handed(&self.frames, self.alloc, event, &mut self.rooms.place)?;
         if !is_step {
             return self.idle(event);
         }
@@ -365,19 +369,25 @@ impl<O: Object> World<O> {
             &mut self.frames,
             &mut self.longest,
         )?;
-        match step_by(&mut self.nodes[place], event, &self.place, &mut self.outs) {
+        match step_by(
+            &mut self.nodes[place],
+            event,
+            &self.rooms.place,
+            &mut self.rooms.outs,
+        ) {
             Ok(()) => {
-                keep_all(&mut self.frames, node, &self.outs.sends);
+                keep_all(&mut self.frames, node, &self.rooms.outs.sends);
                 tell(
                     self.alloc,
                     &mut self.told,
                     &mut self.history,
                     &mut self.spares[place],
                     node,
-                    &mut self.outs.answers,
+                    &mut self.rooms.outs.answers,
                 );
                 let many = self.nodes[place].committed_len();
-                self.longest.add(self.alloc, many, &mut self.outs.committed);
+                self.longest
+                    .add(self.alloc, many, &mut self.rooms.outs.committed);
                 self.events.push_reserved(kept);
             }
             Err(fault) => match fault {
@@ -447,6 +457,14 @@ impl<O: Object> World<O> {
             Err(fault) => refuse(&mut self.events, &mut self.told, node, copy, kept, fault),
         }
         Ok(())
+    }
+}
+
+/// Nothing yet to be used again. It takes no memory.
+fn no_rooms<A: Allocator + Copy>(alloc: A) -> Rooms<A> {
+    Rooms {
+        place: None,
+        outs: Outs::new(alloc),
     }
 }
 

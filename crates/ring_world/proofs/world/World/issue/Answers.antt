@@ -1,8 +1,6 @@
 -- A submit gives a ticket, whose call has a second copy; or it is refused, and told.
-use Rattle.std.proofs.Common.{◌-◌, ◌<◌, List, ap, ◌∙◌, sym, subst}
+use Rattle.std.proofs.Common.{◌-◌, ◌<◌, ap, ◌∙◌, sym, subst}
 use Rattle.ring_rules.specs.Worlds.{happens, issued_if}
-use Rattle.ring_rules.specs.declared.event.Event.{Event}
-use Rattle.ring_rules.specs.declared.told.Told.{Told}
 use Rattle.ring_world.specs.Played.{Played, world_of}
 use Rattle.ring_world.specs.Spares.{Spares}
 use Rattle.ring_world.proofs.NodePlaces.{Stands, stands, unknown, roomy, spared, spare_put}
@@ -34,18 +32,6 @@ pub invariant_of-self-in_err-make_room-2 : goal.invariant_of-self-in_err-make_ro
 invariant_of-self-in_err-make_room-2 g c =
     let here = place g (goal.at.invariant_of-self-in_err-make_room-2 g c).In_ok-make_room in
     (spared here c.make_room-2.new.self c.index_mut.ensures.value c.in_err-make_room-2.ensures.calls).world
-
-pub returns-in_err-make_room-2-clause-err : goal.returns-in_err-make_room-2-clause-err
-returns-in_err-make_room-2-clause-err g c =
-    let k = c.self.inside in
-    let view : List (Event g.row.O-Alloc.Denot) → List (Told g.row.O-Alloc.Denot) → Played g.row.O-Alloc.Denot = λ es ts. record {
-      group = k.fixed;
-      events = es;
-      told = ts;
-      done = k.done;
-    } in
-    ap (λ es. view es c.make_room.new.told.items) c.in_ok-make_room.ensures.events
-    ∙ (ap (view k.events.items) c.in_ok-make_room.ensures.told ∙ c.self.view_is)
 
 pub add-requires : goal.add-requires
 add-requires g c =
