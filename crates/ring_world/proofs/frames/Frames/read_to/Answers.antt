@@ -23,24 +23,26 @@ pub decode-requires-clause-within : goal.decode-requires-clause-within
 decode-requires-clause-within g c =
     subst (λ xs. c.in-Some.mark.end ≤ length xs) (sym c.as_slice.ensures) (found g (goal.at.decode-requires-clause-within g c).In-Some).within
 
-pub returns-in_ok-decode-in-Some : goal.returns-in_ok-decode-in-Some
-returns-in_ok-decode-in-Some g c =
-    let h = found g (goal.at.returns-in_ok-decode-in-Some g c).In-Some in
+pub returns-in_ok-decode-in-Some-clause-is : goal.returns-in_ok-decode-in-Some-clause-is
+returns-in_ok-decode-in-Some-clause-is g c =
+    let h = found g (goal.at.returns-in_ok-decode-in-Some-clause-is g c).In-Some in
+    let there = ap (λ (s : Stored g.row.A.Denot). frame_for c.args.node (frame_at s.frames c.args.number)) (sym c.self.view_is) ∙ h.there in
+    sym (ap is_some there)
+
+pub returns-in_ok-decode-in-Some-clause-placed : goal.returns-in_ok-decode-in-Some-clause-placed
+returns-in_ok-decode-in-Some-clause-placed g c =
+    let h = found g (goal.at.returns-in_ok-decode-in-Some-clause-placed g c).In-Some in
     let text = slice_range c.as_slice.result.now c.in-Some.mark.start c.in-Some.mark.end in
     let spelled : text ≡ spelling_of h.frame = ap (λ xs. slice_range xs c.in-Some.mark.start c.in-Some.mark.end) c.as_slice.ensures ∙ h.spelled in
     let there = ap (λ (s : Stored g.row.A.Denot). frame_for c.args.node (frame_at s.frames c.args.number)) (sym c.self.view_is) ∙ h.there in
-    record {
-      is = sym (ap is_some there);
-      placed = λ _. c.in_ok-decode.ensures h.frame ((c.spelling_law.ensures h.frame text).1 (h.fits, spelled)) ∙ sym there;
-      refused = tt;
-    }
+    λ _. c.in_ok-decode-in-Some.ensures h.frame ((c.spelling_law.ensures h.frame text).1 (h.fits, spelled)) ∙ sym there
 
-pub returns-in_err-decode-in-Some : goal.returns-in_err-decode-in-Some
-returns-in_err-decode-in-Some g c =
-    let h = found g (goal.at.returns-in_err-decode-in-Some g c).In-Some in
+pub returns-in_err-decode-in-Some-clause-refused : goal.returns-in_err-decode-in-Some-clause-refused
+returns-in_err-decode-in-Some-clause-refused g c =
+    let h = found g (goal.at.returns-in_err-decode-in-Some-clause-refused g c).In-Some in
     let text = slice_range c.as_slice.result.now c.in-Some.mark.start c.in-Some.mark.end in
     let spelled : text ≡ spelling_of h.frame = ap (λ xs. slice_range xs c.in-Some.mark.start c.in-Some.mark.end) c.as_slice.ensures ∙ h.spelled in
-    record { is = tt; placed = tt; refused = c.in_err-decode.ensures h.frame ((c.spelling_law.ensures h.frame text).1 (h.fits, spelled)) }
+    c.in_err-decode-in-Some.ensures h.frame ((c.spelling_law.ensures h.frame text).1 (h.fits, spelled))
 
 pub returns-in-None : goal.returns-in-None
 returns-in-None g c =

@@ -1,8 +1,8 @@
 use Rattle.ring_world.proofs.PumpRunning.{happened, rested, still_reached}
 use Rattle.ring_world.proofs.pump.Pump.happen.Goals as goal
 
-pub invariant_of-self-2 : goal.invariant_of-self-2
-invariant_of-self-2 g c =
+pub invariant_of-self : goal.invariant_of-self
+invariant_of-self g c =
     still_reached g.O.Object.sequential c.self.inside.pairs c.args.event c.self.inside.world c.run_one.new.self
     c.self.invariant c.run_one.result c.run_one.ensures.ok c.run_one.ensures.err
 

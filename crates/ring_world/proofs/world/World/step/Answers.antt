@@ -1,6 +1,9 @@
 -- A step of a node is a step of the world, and its answers have their copies; where memory was refused, it stands as a stop.
-use Rattle.std.proofs.Common.{◌-◌, ◌++◌, length, Err, refl, ap, ◌∙◌, sym, subst, arith}
+use Rattle.std.proofs.Common.{◌≡◌, ◌-◌, ◌++◌, length, Option, Some, Result, refl, ap, ◌∙◌, sym, subst, arith}
 use Rattle.std.specs.Prelude.{IfSome}
+use Rattle.ring_base.specs.declared.fault.Fault.{Fault}
+use Rattle.ring_node.specs.declared.outs.Outs.{Outs}
+use Rattle.ring_object.specs.Operations.{Sequential}
 use Rattle.ring_rules.specs.NodeLimits.{InputFits}
 use Rattle.ring_rules.specs.Nodes.{Node, node_kept}
 use Rattle.ring_rules.specs.Worlds.{calls_past}
@@ -14,7 +17,7 @@ use Rattle.ring_world.proofs.WorldOfNodes.{silent_world, silent_goes, stop_world
 use Rattle.ring_world.proofs.EventLimits.{all_fit}
 use Rattle.ring_world.proofs.SubmitRefused.{room_less}
 use Rattle.ring_world.proofs.world.World.step.Given.{Over}
-use Rattle.ring_world.proofs.world.World.step.Goals.{In_ok-make_room, In-Ok, In-Err}
+use Rattle.ring_world.proofs.world.World.step.Goals.{In_ok-make_room}
 use Rattle.ring_world.proofs.world.World.step.Goals as goal
 
 -- where the node stands, once there is room
@@ -36,15 +39,11 @@ by g c =
     read g.O.Object.sequential c.args.event.now c.args.node c.self.view_is c.self.invariant.kept.frames_are c.requires
     placed.is placed.input c.if-not-is_step.false (c.frames_law.ensures.frames k.fixed k.events.items c.self.invariant.few (all_fit k.events.items c.self.invariant.fit))
 
-gave : (g : Over) (c : In-Ok g) → IsStep g.O.Object.sequential c.index_mut.result.now (by g c.In_ok-make_room).input c.step_by.new.node
-    c.step_by.new.outs.sends.items c.step_by.new.outs.answers.items c.step_by.new.outs.committed.items
-gave g c = stepped_so (subst (λ o. IfSome o (λ input. HasStepped g.O.Object.sequential c.index_mut.result.now input _ c.step_by.new.node c.step_by.new.outs))
-    (by g c.In_ok-make_room).there c.in-Ok.ensures)
-
-declined : (g : Over) (c : In-Err g) → HasStepped g.O.Object.sequential c.index_mut.result.now (by g c.In_ok-make_room).input (Err c.in-Err.fault)
-    c.step_by.new.node c.step_by.new.outs
-declined g c = subst (λ o. IfSome o (λ input. HasStepped g.O.Object.sequential c.index_mut.result.now input (Err c.in-Err.fault)
-    c.step_by.new.node c.step_by.new.outs)) (by g c.In_ok-make_room).there c.in-Err.ensures
+-- what it made of the node, by the input that is in the place
+given : {O A T : Type 0} {object : Sequential O} {o : Option (Input A)} {input : Input A} {n now : Node A} {answer : Result T Fault} {outs : Outs A}
+    → o ≡ Some input → IfSome o (λ i. HasStepped object n i answer now outs) → HasStepped object n input answer now outs
+given {object = object} {n = n} {now = now} {answer = answer} {outs = outs} e h =
+    subst (λ o. IfSome o (λ i. HasStepped object n i answer now outs)) e h
 
 pub idle-requires : goal.idle-requires
 idle-requires g c =
@@ -58,8 +57,12 @@ idle-requires g c =
 pub idle-requires-then-not-is_step : goal.idle-requires-then-not-is_step
 idle-requires-then-not-is_step g c = record {
   fits = step_fits c.args.event.now c.args.node c.requires;
-  same = not_read g.O.Object.sequential c.args.event.now c.args.node refl c.self.invariant.kept.frames_are c.requires
-      c.in_ok-is_step.ensures.is c.if-not-is_step.true;
+  same = not_read g.O.Object.sequential {p = record {
+    group = c.self.inside.fixed;
+    events = c.self.inside.events.items;
+    told = c.self.inside.told.items;
+    done = c.self.inside.done;
+  }} c.args.event.now c.args.node refl c.self.invariant.kept.frames_are c.requires c.in_ok-is_step.ensures.is c.if-not-is_step.true;
 }
 
 pub step_by-requires : goal.step_by-requires
@@ -75,7 +78,7 @@ keep_all-requires-clause-fit g c =
     let at = goal.at.keep_all-requires-clause-fit g c in
     let here = place g at.In_ok-make_room in
     let step = by g at.In_ok-make_room in
-    rw c.deref.ensures.value (sends_fit here c.index_mut.ensures.value (gave g at.In-Ok)
+    rw c.deref.ensures.value (sends_fit here c.index_mut.ensures.value (stepped_so (given step.there c.in-Ok.ensures))
     (c.frames_law.ensures.steps c.self.inside.fixed c.make_room.new.events.items c.args.node step.input
     here.world.few (all_fit c.make_room.new.events.items here.world.fit) here.low (high here) step.fits))
 
@@ -84,7 +87,7 @@ keep_all-requires-clause-room g c =
     let at = goal.at.keep_all-requires-clause-room g c in
     let step = by g at.In_ok-make_room in
     let few = c.few_law.ensures.sends c.index_mut.result.now step.input step.fits in
-    let same = ap length (c.deref.ensures.value ∙ (gave g at.In-Ok).sends) in
+    let same = ap length (c.deref.ensures.value ∙ (stepped_so (given step.there c.in-Ok.ensures)).sends) in
     room_less 64 (length c.deref.result.now) c.make_room.new.frames (omega (arith, few, same)) c.in_ok-make_room.ensures.frames_room
 
 pub index_mut-requires-in-Ok : goal.index_mut-requires-in-Ok
@@ -98,10 +101,10 @@ tell-requires g c =
     let at = goal.at.tell-requires g c in
     let here = place g at.In_ok-make_room in
     let step = by g at.In_ok-make_room in
-    let few = answers_few here c.index_mut.ensures.value (gave g at.In-Ok)
+    let few = answers_few here c.index_mut.ensures.value (stepped_so (given step.there c.in-Ok.ensures))
     (c.pending_law.ensures.answers c.self.inside.fixed c.make_room.new.events.items c.args.node step.input) in
     record {
-      left = answers_left here c.index_mut.ensures.value (gave g at.In-Ok) c.args.event.now c.index_mut-in-Ok.ensures.value step.same;
+      left = answers_left here c.index_mut.ensures.value (stepped_so (given step.there c.in-Ok.ensures)) c.args.event.now c.index_mut-in-Ok.ensures.value step.same;
       told_room = omega (arith, few, c.in_ok-make_room.ensures.told_room);
       history_room = omega (arith, few, c.in_ok-make_room.ensures.history_room);
     }
@@ -110,7 +113,7 @@ pub invariant_of-self-in-Ok : goal.invariant_of-self-in-Ok
 invariant_of-self-in-Ok g c =
     let at = goal.at.invariant_of-self-in-Ok g c in
     let step = by g at.In_ok-make_room in
-    step_world (place g at.In_ok-make_room) c.index_mut.ensures.value (gave g at.In-Ok) c.args.event.now c.index_mut-in-Ok.ensures.value step.same
+    step_world (place g at.In_ok-make_room) c.index_mut.ensures.value (stepped_so (given step.there c.in-Ok.ensures)) c.args.event.now c.index_mut-in-Ok.ensures.value step.same
     c.in_ok-kept.kept c.tell.new.spares c.in_ok-kept.ensures.ok step.steps c.push_reserved.ensures.items c.tell.ensures.spares
     (rw c.deref.ensures.value at c.keep_all.ensures) c.tell.ensures.history c.tell.ensures.told
     (c.add.ensures ∙ ap (λ n. c.make_room.new.longest.calls ++ calls_past (length c.make_room.new.longest.calls) n c.step_by.new.outs.committed.items)
@@ -120,8 +123,9 @@ invariant_of-self-in-Ok g c =
 pub returns-in-Ok : goal.returns-in-Ok
 returns-in-Ok g c =
     let at = goal.at.returns-in-Ok g c in
+    let step = by g at.In_ok-make_room in
     record {
-      ok = step_goes (place g at.In_ok-make_room) c.index_mut.ensures.value (gave g at.In-Ok) c.args.event.now c.index_mut-in-Ok.ensures.value
+      ok = step_goes (place g at.In_ok-make_room) c.index_mut.ensures.value (stepped_so (given step.there c.in-Ok.ensures)) c.args.event.now c.index_mut-in-Ok.ensures.value
           (by g at.In_ok-make_room).same c.in_ok-kept.kept c.in_ok-kept.ensures.ok c.push_reserved.ensures.items c.tell.ensures.told;
       err = tt;
       done = ap (λ (r : Played g.row.O-Alloc.Denot). r.done) c.self.view_is;
@@ -132,7 +136,7 @@ pub invariant_of-self-in-Stopped : goal.invariant_of-self-in-Stopped
 invariant_of-self-in-Stopped g c =
     let at = goal.at.invariant_of-self-in-Stopped g c in
     let step = by g at.In_ok-make_room in
-    let none = declined g at.In-Err in
+    let none = given step.there c.in-Err.ensures in
     silent_world (place g at.In_ok-make_room) c.args.event.now c.index_mut.ensures.value none.refused c.in_ok-kept.kept step.input c.in-Stopped.is
     c.in_ok-kept.ensures.ok step.same none.err step.steps c.push_reserved-in-Stopped.ensures.items
 
@@ -141,7 +145,7 @@ returns-in-Stopped g c =
     let at = goal.at.returns-in-Stopped g c in
     let step = by g at.In_ok-make_room in
     record {
-      ok = silent_goes (place g at.In_ok-make_room) c.args.event.now c.index_mut.ensures.value (declined g at.In-Err).refused
+      ok = silent_goes (place g at.In_ok-make_room) c.args.event.now c.index_mut.ensures.value (given (by g at.In_ok-make_room).there c.in-Err.ensures).refused
           c.in_ok-kept.kept step.input c.in-Stopped.is c.in_ok-kept.ensures.ok step.same c.push_reserved-in-Stopped.ensures.items;
       err = tt;
       done = ap (λ (r : Played g.row.O-Alloc.Denot). r.done) c.self.view_is;
@@ -151,13 +155,13 @@ returns-in-Stopped g c =
 pub invariant_of-self-in_default : goal.invariant_of-self-in_default
 invariant_of-self-in_default g c =
     let at = goal.at.invariant_of-self-in_default g c in
-    stop_world (place g at.In_ok-make_room) c.index_mut.ensures.value (declined g at.In-Err).err c.push_reserved-in_default.ensures.items
+    stop_world (place g at.In_ok-make_room) c.index_mut.ensures.value (given (by g at.In_ok-make_room).there c.in-Err.ensures).err c.push_reserved-in_default.ensures.items
 
 pub returns-in_default : goal.returns-in_default
 returns-in_default g c =
     let at = goal.at.returns-in_default g c in
     record {
-      ok = refused_goes (place g at.In_ok-make_room) c.args.event.now c.index_mut.ensures.value (declined g at.In-Err).refused c.in_default.not-Stopped
+      ok = refused_goes (place g at.In_ok-make_room) c.args.event.now c.index_mut.ensures.value (given (by g at.In_ok-make_room).there c.in-Err.ensures).refused c.in_default.not-Stopped
           (by g at.In_ok-make_room).steps c.push_reserved-in_default.ensures.items;
       err = tt;
       done = ap (λ (r : Played g.row.O-Alloc.Denot). r.done) c.self.view_is;
