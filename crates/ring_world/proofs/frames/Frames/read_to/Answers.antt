@@ -1,5 +1,6 @@
 -- The frame stands where its mark says.
 use Rattle.std.proofs.Common.{◌≡◌, ◌≤◌, length, ap, ◌∙◌, sym, subst}
+use Rattle.std.proofs.lemmas.Result.{err_from_is_err_and}
 use Rattle.std.specs.Prelude.{slice_range, is_some}
 use Rattle.ring_wire.specs.Frames.{spelling_of}
 use Rattle.ring_core.specs.State.{frame_at, frame_for}
@@ -42,7 +43,8 @@ returns-in_err-decode-in-Some-clause-refused g c =
     let h = found g (goal.at.returns-in_err-decode-in-Some-clause-refused g c).In-Some in
     let text = slice_range c.as_slice.result.now c.in-Some.mark.start c.in-Some.mark.end in
     let spelled : text ≡ spelling_of h.frame = ap (λ xs. slice_range xs c.in-Some.mark.start c.in-Some.mark.end) c.as_slice.ensures ∙ h.spelled in
-    c.in_err-decode-in-Some.ensures h.frame ((c.spelling_law.ensures h.frame text).1 (h.fits, spelled))
+    let p = err_from_is_err_and c.from_residual.result c.from_residual.ensures.1 in
+    rw (p.1, p.2) (c.in_err-decode-in-Some.ensures h.frame ((c.spelling_law.ensures h.frame text).1 (h.fits, spelled)))
 
 pub returns-in-None : goal.returns-in-None
 returns-in-None g c =
