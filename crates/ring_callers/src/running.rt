@@ -119,7 +119,6 @@ where
 {
     let running = Progress::new(callers.len());
     let left = &running;
-    let each = &mut *callers;
     thread::scope(
         thread::scope_env(),
         rt,
@@ -128,7 +127,7 @@ where
         {
             let mut seats = seats;
             let mut number = 0u32;
-            for caller in each {
+            for caller in callers {
                 number = number.saturating_add(1);
                 let own = seats_of(alloc, host, &mut seats, nodes);
                 let called = move ||
