@@ -6,8 +6,8 @@
     python3 bench/tutorial.py --rename FOLDER     gives the files of a copied template the endings of the toolchain's files
 
 A block of the tutorial that is a file begins with a fence and the file's path in the template, as ```src/locks.rt. The
-files of SHARED and PROOFS are the example's, with the template's name in place of the example's; the page shows the first of
-these alone. What else the template has is its own: the program's main module, the lists of its files, and what it prints, which must stand in what the examples print. A
+files of SHARED are the example's, with the template's name in place of the example's. What else the template has is its
+own: the program's main module, the lists of its files, and what it prints, which must stand in what the examples print. A
 file of the template has .txt behind its ending, since none of the toolchain's own files may stand outside crates/.
 """
 import os
@@ -19,9 +19,7 @@ EXAMPLE = os.path.join(TOP, "crates", "totem_examples")
 TUTORIAL = os.path.join(TOP, "docs", "TUTORIAL.md")
 TEMPLATE = os.path.join(TOP, "docs", "template", "my_object")
 SHARED = ["specs/LockWords.antt", "specs/Locks.antt", "specs/LocksLaws.antt", "src/lock_operation.rt", "src/lock_story.rt",
-          "src/lock_tools.rt", "src/lock_words.rt", "src/locks.rt", "src/threads.rt"]
-PROOFS = ["proofs/Pushed.antt", "proofs/threads/counted/Invariants.antt", "proofs/threads/two_of/Answers.antt"]
-COPIED = SHARED + PROOFS
+          "src/lock_threads.rt", "src/lock_tools.rt", "src/lock_words.rt", "src/locks.rt"]
 OWN = ["proofs/Lib.antt", "specs/Lib.antt", "src/main.rt", "stdout"]
 SHOWN = SHARED + ["src/main.rt", "stdout"]
 BLOCK = re.compile(r"^```(\S+)\n(.*?)^```$", re.MULTILINE | re.DOTALL)
@@ -50,7 +48,7 @@ def in_template(path):
 
 def text_of(path):
     """What must stand in this file of the template."""
-    if path in COPIED:
+    if path in SHARED:
         return read(os.path.join(EXAMPLE, path)).replace("totem_examples", "my_object")
     return read(in_template(path))
 
@@ -63,10 +61,10 @@ def faults():
     for path, text in blocks:
         if path not in SHOWN or text != text_of(path):
             yield f"docs/TUTORIAL.md: {path} is not the example's"
-    wanted = [os.path.relpath(in_template(path), TEMPLATE) for path in COPIED + OWN]
+    wanted = [os.path.relpath(in_template(path), TEMPLATE) for path in SHARED + OWN]
     if files_of(TEMPLATE) != sorted(wanted):
         yield f"docs/template/my_object: not the files {', '.join(wanted)}"
-    for path in COPIED:
+    for path in SHARED:
         if read(in_template(path)) != text_of(path):
             yield f"docs/template/my_object: {path} is not the example's"
     if text_of("stdout") not in read(os.path.join(EXAMPLE, "stdout")):
@@ -74,7 +72,7 @@ def faults():
 
 
 def write_all():
-    for path in COPIED:
+    for path in SHARED:
         write(in_template(path), text_of(path))
     write(TUTORIAL, BLOCK.sub(lambda block: f"```{block[1]}\n{text_of(block[1])}```", read(TUTORIAL)))
 

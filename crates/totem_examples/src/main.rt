@@ -2,9 +2,9 @@
 //!
 //! `counter` drives a node from a program of one's own. `client` has a client of three nodes, the first of which is cut off, and
 //! `outage` one that asks until it is answered, as nodes stop. `locks` is an object of one's own, a lock table, `lock_story` what two
-//! clients make of it, and `lock_tools` its own program, which has the commands of `totem`, by `lock_words`: it is run where the command
-//! line has words. `threads` has nodes and clients
-//! on threads. `data` runs what the program runs: scripts, sweeps, listings of frames, command lines.
+//! clients make of it, `lock_threads` the same on threads, and `lock_tools` its own program, which has the commands of `totem`, by
+//! `lock_words`: it is run where the command line has words. `threads` has nodes and clients on threads, and a counter. `data` runs what
+//! the program runs: scripts, sweeps, listings of frames, command lines.
 #![tactic(auto)]
 
 mod client;
@@ -12,6 +12,7 @@ mod counter;
 mod data;
 mod lock_operation;
 mod lock_story;
+mod lock_threads;
 mod lock_tools;
 mod lock_words;
 mod locks;
@@ -56,6 +57,7 @@ fn tell_all<R: Files + AllocGlobal + Print + Threads + Wait + Clock + Sync + Clo
     outage::tell(rt)?;
     lock_story::tell(rt)?;
     lock_tools::tell(rt)?;
+    lock_threads::tell(rt)?;
     threads::tell(rt)?;
     data::run_all(rt)
 }

@@ -1,5 +1,8 @@
 //! Totem with threads: all of `totem_ring`, and hosts, on which each node has a thread of its own.
 //!
+//! [`run_callers`] does what is wanted most: it runs the nodes of a group on threads while clients call, each a [`Caller`] on a thread of its
+//! own, and answers their calls in their one order. What it is made of can be put together in other ways too:
+//!
 //! A [`Host`] keeps the nodes of an [`Opening`]. [`Host::run`] runs them, each on a thread with a [`Seat`], until the host is
 //! closed; a [`Gate`] is told of their turns ([`Open`] lets all pass, and under [`Paced`] a host that has nothing to do rests). A
 //! client calls over [`HostPort`]s, each with a seat of its own, and any thread may stop a node. A [`BookName`] names the opening in
@@ -8,6 +11,7 @@
 //! In contracts, `Rattle.totem_threads.specs` has what `Rattle.totem_ring.specs` has, and `Seats`.
 #![tactic(auto)]
 
+pub use ring_callers::{Caller, Calls, run_callers};
 pub use ring_explore::{Plan, explore_of};
 pub use ring_host_port::{
     Book, BookName, Gate, GatePlace, Gauge, Host, HostPort, HostTicket, Open, Opening, Paced, Seat,

@@ -1,0 +1,24 @@
+-- What is told of the calls of a group's clients, and with what a run of them is refused (docs/PROTOCOL.md, The book and the threads).
+use Rattle.std.specs.Prelude.{◌≡◌, ⊤, List}
+use Rattle.ring_base.specs.Group.{Group}
+use Rattle.ring_base.specs.declared.fault.Fault.{Fault}
+use Rattle.ring_base.specs.declared.fault.Fault.TheVariants.{NotMember}
+use Rattle.ring_object.specs.Operations.{Sequential}
+use Rattle.ring_rules.specs.Histories.{IsLinearization}
+use Rattle.ring_rules.specs.Worlds.{order, run, world_opening}
+use Rattle.ring_book.specs.Lines.{IsRun, LineView, events_of, history_of}
+use Rattle.ring_host_port.specs.Refusals.{IsTurnFault}
+use Rattle.ring_callers.specs.declared.calls.Calls.{Calls}
+
+-- The order and the history are those of a run of the group, and the order explains the history.
+pub record AreOfRun {A O : Type 0} (object : Sequential O) (group : Group) (calls : Calls A) : Type 0 where
+  pub lines : List (LineView A)
+  pub run : IsRun object group lines
+  pub order : calls.order.items ≡ order (run object (world_opening group) (events_of lines))
+  pub history : calls.history.items ≡ history_of lines
+  pub explained : IsLinearization object calls.order.items calls.history.items
+
+-- a refusal of a run of callers
+abbrev pub IsCallersFault : Fault → Type 0
+IsCallersFault NotMember = ⊤
+IsCallersFault fault = IsTurnFault fault

@@ -1,0 +1,86 @@
+//! Clients that call from threads of their own.
+
+ghost use Rattle.std.specs.Prelude.{◌≡◌, All, IfErr};
+ghost use Rattle.ring_seat.specs.Seats.{IsAt};
+ghost use Rattle.ring_callers.specs.Callers.{IsCallersFault};
+
+use ring_base::Fault;
+use ring_client::{Client, Port};
+use ring_host_port::{BookName, Host, HostPort, Seat};
+use ring_object::Object;
+use std::sync::Wait;
+
+/// How often a client polls a node at most, for one call, before it passes on to the next.
+const POLLS: u64 = 1_000_000;
+
+/// What a client does on a thread of its own, and what it keeps of it.
+pub trait Caller {
+    /// The number of the node that the client tries first. Where this one refuses a call or doesn't answer it, the client passes on
+    /// to the next node, with the same call under the same number: in the order of their numbers, and node 1 after the last.
+    fn first_node(&self) -> u8;
+
+    /// Makes the client's calls. It may wait for their answers.
+    ///
+    /// A call is answered `NoAnswer` where each node was tried in vain, as they may be while they form a ring; so `until_answered` is
+    /// what to call with. A caller that calls for ever is never through, nor is the run.
+    fn make_calls<P: Port>(&mut self, client: &mut Client<P>);
+}
+
+/// The client of this number makes its calls, over ports from these seats of the host's, one to each node. Or `Memory`, where
+/// none was made.
+pub(crate) fn call_from<O: Object, K: BookName<O::Alloc>, C: Caller, W: Wait>(
+    rt: &W,
+    alloc: O::Alloc,
+    host: &Host<O, K>,
+    seats: Vec<Seat<O::Alloc>, O::Alloc>,
+    number: u32,
+    caller: &mut C,
+) -> Result<(), Fault>
+    requires { All (IsAt host.now) seats.items }
+{
+    let first = caller.first_node();
+    let mut client = client_of(rt, alloc, host, seats, number, first)?;
+    caller.make_calls(&mut client);
+    Ok(())
+}
+
+/// The client of this number, which tries the node `first`, and then the others in order, node 1 after the last. Each port takes one
+/// of the seats, of which there is one for each node.
+fn client_of<'a, O: Object, K: BookName<O::Alloc>, W: Wait>(
+    rt: &'a W,
+    alloc: O::Alloc,
+    host: &'a Host<O, K>,
+    seats: Vec<Seat<O::Alloc>, O::Alloc>,
+    number: u32,
+    first: u8,
+) -> Result<Client<HostPort<'a, O, K, W>>, Fault>
+    requires { All (IsAt host.now) seats.items }
+{
+    let nodes = seats.len().min(16) as u8;
+    let mut seats = seats;
+    let mut ports = Vec::new(alloc);
+    for passed in 0..nodes {
+        let port = HostPort::to(rt, host, &mut seats, node_after(nodes, first, passed))?;
+        ports.push(port)?;
+    }
+    Ok(Client::new(alloc, number, ports, POLLS))
+}
+
+/// The node that a client tries after so many others, where this one is its first.
+fn node_after(nodes: u8, first: u8, passed: u8) -> u8 {
+    let before = u32::from(first.saturating_sub(1)) + u32::from(passed);
+    (before % u32::from(nodes.max(1))) as u8 + 1
+}
+
+/// `NotMember` unless the host has each caller's first node.
+pub(crate) fn check_first_nodes<O: Object, K: BookName<O::Alloc>, C: Caller>(
+    host: &Host<O, K>,
+    callers: &[C],
+) -> Result<(), Fault>
+    ensures refused { IfErr result IsCallersFault }
+{
+    for caller in callers {
+        host.proc(caller.first_node())?;
+    }
+    Ok(())
+}

@@ -1,0 +1,14 @@
+//! Nodes of a group on threads, and clients on threads that call them.
+//!
+//! [`run_callers`] runs the nodes, each on a thread of its own, while clients call, each from a thread of its own: what a client does is a
+//! [`Caller`]. What it answers is [`Calls`]: the one order of their calls, and its history.
+#![tactic(auto)]
+
+mod caller;
+mod calls;
+mod progress;
+mod running;
+
+pub use caller::Caller;
+pub use calls::Calls;
+pub use running::{MOST_PORTS, run_callers};
