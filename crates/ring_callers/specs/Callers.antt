@@ -13,7 +13,7 @@ use Rattle.ring_callers.specs.declared.calls.Calls.{Calls}
 -- The order and the history are those of a run of the group, and the order explains the history.
 pub record AreOfRun {A O : Type 0} (object : Sequential O) (group : Group) (calls : Calls A) : Type 0 where
   pub lines : List (LineView A)
-  pub run : IsRun object group lines
+  pub is_run : IsRun object group lines
   pub order : calls.order.items ≡ order (run object (world_opening group) (events_of lines))
   pub history : calls.history.items ≡ history_of lines
   pub explained : IsLinearization object calls.order.items calls.history.items

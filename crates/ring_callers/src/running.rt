@@ -119,6 +119,7 @@ where
 {
     let running = Progress::new(callers.len());
     let left = &running;
+    let each = &mut *callers;
     thread::scope(
         thread::scope_env(),
         rt,
@@ -127,7 +128,7 @@ where
         {
             let mut seats = seats;
             let mut number = 0u32;
-            for caller in callers {
+            for caller in each {
                 number = number.saturating_add(1);
                 let own = seats_of(alloc, host, &mut seats, nodes);
                 let called = move ||

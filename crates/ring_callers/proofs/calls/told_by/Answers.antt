@@ -14,7 +14,7 @@ returns-clause-calls g c =
     let by_order = subst (λ calls. IsLinearization g.O.Object.sequential calls (history_of c.args.book.now.lines)) (sym c.in_ok-order.ensures.ok) by_run in
     record {
       lines = c.args.book.now.lines;
-      run = c.run_law.ensures.run;
+      is_run = c.run_law.ensures.run;
       order = c.in_ok-order.ensures.ok;
       history = c.in_ok-history.ensures.ok;
       explained = subst (λ history. IsLinearization g.O.Object.sequential c.in_ok-order.order.items history) (sym c.in_ok-history.ensures.ok) by_order;
