@@ -96,21 +96,22 @@ fn stop_all<O: Object, K: BookName<O::Alloc>, W: Wait>(
 }
 
 /// The nodes run in threads of their own, which tell the gate, and each client makes its calls in one of its own. No thread is left
-/// afterwards. `Memory` where a thread or a client can't be started: then the host is closed, and who runs ends.
+/// afterwards. `Memory` where a thread or a client can't be started: then all nodes are stopped, and who runs ends.
 fn run_all<
+    'a,
     O: Object + Send,
     K: BookName<O::Alloc> + Send + Sync,
     C: Caller + Send,
     W: Threads + Wait + Sync,
     G: Gate + Sync,
 >(
-    rt: &W,
+    rt: &'a W,
     alloc: O::Alloc,
-    host: &Host<O, K>,
-    gate: &G,
+    host: &'a Host<O, K>,
+    gate: &'a G,
     seats: Vec<Seat<O::Alloc>, O::Alloc>,
     nodes: u8,
-    callers: &mut [C],
+    callers: &'a mut [C],
 ) -> Result<(), Fault>
 where
     O::Alloc: Send + Sync,
