@@ -13,7 +13,7 @@ use std::sync::Wait;
 /// How often a client polls a node at most, for one call, before it passes on to the next.
 const POLLS: u64 = 1_000_000;
 
-/// What a client does on a thread of its own, and what it keeps of it.
+/// What a client does on a thread of its own. What it keeps of it stands in an atomic, or behind a lock.
 pub trait Caller {
     /// The number of the node that the client tries first. Where this one refuses a call or doesn't answer it, the client passes on
     /// to the next node, with the same call under the same number: in the order of their numbers, and node 1 after the last.
@@ -23,7 +23,7 @@ pub trait Caller {
     ///
     /// A call is answered `NoAnswer` where each node was tried in vain, as they may be while they form a ring; so `until_answered` is
     /// what to call with. A caller that calls for ever is never through, nor is the run.
-    fn make_calls<P: Port>(&mut self, client: &mut Client<P>);
+    fn make_calls<P: Port>(&self, client: &mut Client<P>);
 }
 
 /// The client of this number makes its calls, over ports from these seats of the host's, one to each node. Or `Memory`, where
@@ -34,7 +34,7 @@ pub(crate) fn call_from<O: Object, K: BookName<O::Alloc>, C: Caller, W: Wait>(
     host: &Host<O, K>,
     seats: Vec<Seat<O::Alloc>, O::Alloc>,
     number: u32,
-    caller: &mut C,
+    caller: &C,
 ) -> Result<(), Fault>
     requires { All (IsAt host.now) seats.items }
 {

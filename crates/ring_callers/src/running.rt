@@ -31,12 +31,12 @@ pub const MOST_PORTS: usize = 256;
 /// more than 256 ports; `Stopped` where a number stands in `stopped` twice; `Memory`. No caller has called then, but for `Memory` where a
 /// thread can't be started, or there is none for a client's ports or for the answer: of a client's ports or a thread, all nodes are
 /// stopped first, and callers that were started come to their end.
-pub fn run_callers<O: Object + Send, C: Caller + Send, W: Threads + Wait + Sync>(
+pub fn run_callers<O: Object + Send, C: Caller + Sync, W: Threads + Wait + Sync>(
     rt: &W,
     alloc: O::Alloc,
     group: Fixed,
     stopped: &[u8],
-    callers: &mut [C],
+    callers: &[C],
 ) -> Result<Calls<O::Alloc>, Fault>
 where
     O::Alloc: Send + Sync,
@@ -51,7 +51,7 @@ where
 fn run_named<
     O: Object + Send,
     K: BookName<O::Alloc> + Send + Sync,
-    C: Caller + Send,
+    C: Caller + Sync,
     W: Threads + Wait + Sync,
 >(
     rt: &W,
@@ -59,7 +59,7 @@ fn run_named<
     opening: Opening<O>,
     nodes: u8,
     stopped: &[u8],
-    callers: &mut [C],
+    callers: &[C],
 ) -> Result<Calls<O::Alloc>, Fault>
 where
     O::Alloc: Send + Sync,
@@ -96,11 +96,11 @@ fn stop_all<O: Object, K: BookName<O::Alloc>, W: Wait>(
 }
 
 /// The nodes run in threads of their own, which tell the gate, and each client makes its calls in one of its own. No thread is left
-/// afterwards. `Memory` where a thread or a client can't be started: then the host is closed, and who runs ends.
+/// afterwards. `Memory` where a thread or a client can't be started: then all nodes are stopped, and who runs ends.
 fn run_all<
     O: Object + Send,
     K: BookName<O::Alloc> + Send + Sync,
-    C: Caller + Send,
+    C: Caller + Sync,
     W: Threads + Wait + Sync,
     G: Gate + Sync,
 >(
@@ -110,7 +110,7 @@ fn run_all<
     gate: &G,
     seats: Vec<Seat<O::Alloc>, O::Alloc>,
     nodes: u8,
-    callers: &mut [C],
+    callers: &[C],
 ) -> Result<(), Fault>
 where
     O::Alloc: Send + Sync,
@@ -119,7 +119,6 @@ where
 {
     let running = Progress::new(callers.len());
     let left = &running;
-    let each = &mut *callers;
     thread::scope(
         thread::scope_env(),
         rt,
@@ -128,7 +127,7 @@ where
         {
             let mut seats = seats;
             let mut number = 0u32;
-            for caller in each {
+            for caller in callers {
                 number = number.saturating_add(1);
                 let own = seats_of(alloc, host, &mut seats, nodes);
                 let called = move ||
@@ -179,7 +178,7 @@ fn call<O: Object, K: BookName<O::Alloc>, C: Caller, W: Wait>(
     host: &Host<O, K>,
     own: Result<Vec<Seat<O::Alloc>, O::Alloc>, Fault>,
     number: u32,
-    caller: &mut C,
+    caller: &C,
     running: &Progress,
 )
     requires { IfOk own (λ seats. All (IsAt host.now) seats.items) }

@@ -24,7 +24,7 @@ impl Caller for Asker {
         self.first
     }
 
-    fn make_calls<P: Port>(&mut self, client: &mut Client<P>) {
+    fn make_calls<P: Port>(&self, client: &mut Client<P>) {
         for lock in 0..10u8 {
             let acquire = LockOperation::Acquire(lock, self.holder).spell();
             if client.until_answered(acquire.as_slice(), TRIES).is_err() {
@@ -36,7 +36,7 @@ impl Caller for Asker {
 
 /// How many calls the one order has at the end.
 fn count<W: Threads + Wait + Sync>(rt: &W, alloc: Global) -> Result<usize, Fault> {
-    let mut clients = [
+    let clients = [
         Asker {
             holder: 11,
             first: 1,
@@ -46,7 +46,7 @@ fn count<W: Threads + Wait + Sync>(rt: &W, alloc: Global) -> Result<usize, Fault
             first: 3,
         },
     ];
-    let calls = run_callers::<Locks, _, _>(rt, alloc, Fixed::new(3)?, &[3], &mut clients)?;
+    let calls = run_callers::<Locks, _, _>(rt, alloc, Fixed::new(3)?, &[3], &clients)?;
     Ok(calls.order.len())
 }
 

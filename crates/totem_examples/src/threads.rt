@@ -8,6 +8,7 @@
 use std::alloc::Global;
 use std::io;
 use std::sync::Wait;
+use std::sync::atomic::{AtomicU64, Ordering};
 use std::thread::Threads;
 use totem_threads::{Caller, Client, Counters, Fault, Fixed, Port, Replied, run_callers};
 
@@ -18,7 +19,7 @@ const TRIES: u64 = 1_000;
 #[derive(Drop)]
 struct Adder {
     first: u8,
-    count: u64,
+    count: AtomicU64,
 }
 
 impl Caller for Adder {
@@ -26,22 +27,43 @@ impl Caller for Adder {
         self.first
     }
 
-    fn make_calls<P: Port>(&mut self, client: &mut Client<P>) {
+    fn make_calls<P: Port>(&self, client: &mut Client<P>) {
         for _ in 0..10 {
             let Ok(reply) = client.until_answered(Counters::add(0, 1).as_slice(), TRIES) else {
                 return;
             };
-            let replied = Replied::read(reply.as_slice());
-            self.count = replied.and_then(|replied| replied.value).unwrap_or(0);
+            if let Some(
+                Replied {
+                    value: Some(count),
+                    ..
+                },
+            ) = Replied::read(reply.as_slice())
+            {
+                self.count.store(count, Ordering::SeqCst);
+            }
+        }
+    }
+}
+
+impl Adder {
+    /// The one that tries this node first.
+    fn new(first: u8) -> Adder {
+        Adder {
+            first,
+            count: AtomicU64::new(0),
         }
     }
 }
 
 /// What the counter is at the end, and how many calls the one order has.
 fn count<W: Threads + Wait + Sync>(rt: &W, alloc: Global) -> Result<(u64, usize), Fault> {
-    let mut clients = [Adder { first: 1, count: 0 }, Adder { first: 3, count: 0 }];
-    let calls = run_callers::<Counters, _, _>(rt, alloc, Fixed::new(3)?, &[3], &mut clients)?;
-    let counter = clients[0].count.max(clients[1].count);
+    let clients = [Adder::new(1), Adder::new(3)];
+    let calls = run_callers::<Counters, _, _>(rt, alloc, Fixed::new(3)?, &[3], &clients)?;
+    let [one, other] = &clients;
+    let counter = one
+        .count
+        .load(Ordering::SeqCst)
+        .max(other.count.load(Ordering::SeqCst));
     Ok((counter, calls.order.len()))
 }
 
