@@ -643,7 +643,6 @@ rises-at life (y ∷ ys) zero o t e =
     ap (rises_at life) (sym same) ∙ (and_parts (rises_at life y) (rises (lived life y) ys) t).0
 rises-at life (y ∷ ys) (suc k) o t e = rises-at (lived life y) ys k o (and_parts (rises_at life y) (rises (lived life y) ys) t).1 e
 
-pub rises-next : {A : Type 0} (first : List (Stay A)) (outs : List (Out A)) {ys : List (Out A)} {life : List (Stay A)} {o : Out A}
-    → rises first outs ≡ true → ys ≡ take (length ys) outs → slice_get outs (length ys) ≡ Some o → life ≡ lived_through first ys → rises_at life o ≡ true
-rises-next first outs {ys} {o} t front stands lives =
-    ap (λ l. rises_at l o) lives ∙ ap (λ l. rises_at (lived_through first l) o) front ∙ rises-at first outs (length ys) o t stands
+pub rises-next : {A : Type 0} (first : List (Stay A)) (outs : List (Out A)) (k : ℕ) {life : List (Stay A)} {o : Out A}
+    → rises first outs ≡ true → slice_get outs k ≡ Some o → life ≡ lived_through first (take k outs) → rises_at life o ≡ true
+rises-next first outs k {o} t stands lives = ap (λ l. rises_at l o) lives ∙ rises-at first outs k o t stands

@@ -140,15 +140,15 @@ impl<A: Allocator + Copy + Drop> Course<A> {
         running: &Option<RingId>,
         pending: &[Pending<A>],
         committed: u64,
-        outs: Vec<Out<A>, A>,
+        outs: &[Out<A>],
         due: &mut Vec<Payload<A>, A>,
     ) -> Result<(), Fault>
         requires fine { self.old.fine ≡ true }
         requires sound { is_kept_sound self.old.group self.old.life ≡ true }
         requires log { self.old.held.log ≡ log_kept (kept_of self.old.group self.old.life) }
-        requires rises { rises self.old.life outs.items ≡ true }
-        ensures sound { OnOk result (self.new.fine ≡ is_kept_sound self.old.group (lived_through self.old.life outs.items)) }
-        ensures life { OnOk result (self.new.fine ≡ true → self.new.life ≡ lived_through self.old.life outs.items) }
+        requires rises { rises self.old.life outs.now ≡ true }
+        ensures sound { OnOk result (self.new.fine ≡ is_kept_sound self.old.group (lived_through self.old.life outs.now)) }
+        ensures life { OnOk result (self.new.fine ≡ true → self.new.life ≡ lived_through self.old.life outs.now) }
         ensures due { let moment : OneMoment A = record {
           group = self.old.group;
           me = self.old.me;
@@ -158,7 +158,7 @@ impl<A: Allocator + Copy + Drop> Course<A> {
           trimmed = self.old.held.log.trimmed;
           snapshot = self.old.held.snapshot;
         } in
-            OnOk result (self.new.fine ≡ true → due.new.items ≡ due.old.items ++ dues_by moment self.old.life outs.items) }
+            OnOk result (self.new.fine ≡ true → due.new.items ≡ due.old.items ++ dues_by moment self.old.life outs.now) }
         ensures onward { OnOk result (self.new.fine ≡ true
             → GoesOn self.old.held self.new.held (kept_of self.old.group self.old.life) (kept_of self.new.group self.new.life)) }
         ensures front { IsFront (committed_calls (told_log self.old.held)) (committed_calls (told_log self.new.held)) }
@@ -178,12 +178,12 @@ impl<A: Allocator + Copy + Drop> Course<A> {
         running: &Option<RingId>,
         pending: &[Pending<A>],
         committed: u64,
-        out: Out<A>,
+        out: &Out<A>,
         due: &mut Vec<Payload<A>, A>,
     ) -> Result<(), Fault>
-        requires rises { self.old.fine ≡ true → rises_at self.old.life out ≡ true }
-        ensures sound { OnOk result (self.new.fine ≡ self.old.fine && is_kept_sound self.old.group (lived self.old.life out)) }
-        ensures life { OnOk result (self.new.fine ≡ true → self.new.life ≡ lived self.old.life out) }
+        requires rises { self.old.fine ≡ true → rises_at self.old.life out.now ≡ true }
+        ensures sound { OnOk result (self.new.fine ≡ self.old.fine && is_kept_sound self.old.group (lived self.old.life out.now)) }
+        ensures life { OnOk result (self.new.fine ≡ true → self.new.life ≡ lived self.old.life out.now) }
         ensures due { let moment : OneMoment A = record {
           group = self.old.group;
           me = self.old.me;
@@ -193,7 +193,7 @@ impl<A: Allocator + Copy + Drop> Course<A> {
           trimmed = self.old.held.log.trimmed;
           snapshot = self.old.held.snapshot;
         } in
-            OnOk result (self.new.fine ≡ true → due.new.items ≡ due.old.items ++ dues_at moment self.old.life out) }
+            OnOk result (self.new.fine ≡ true → due.new.items ≡ due.old.items ++ dues_at moment self.old.life out.now) }
         ensures onward { OnOk result (self.new.fine ≡ true
             → GoesOn self.old.held self.new.held (kept_of self.old.group self.old.life) (kept_of self.new.group self.new.life)) }
         ensures front { IsFront (committed_calls (told_log self.old.held)) (committed_calls (told_log self.new.held)) }
@@ -204,7 +204,6 @@ impl<A: Allocator + Copy + Drop> Course<A> {
         if self.is_fine() {
             self.take(running, pending, committed, out, due)
         } else {
-            drop(out);
             Ok(())
         }
     }
@@ -216,15 +215,15 @@ impl<A: Allocator + Copy + Drop> Course<A> {
         running: &Option<RingId>,
         pending: &[Pending<A>],
         committed: u64,
-        out: Out<A>,
+        out: &Out<A>,
         due: &mut Vec<Payload<A>, A>,
     ) -> Result<(), Fault>
         requires fine { self.old.fine ≡ true }
         requires sound { is_kept_sound self.old.group self.old.life ≡ true }
         requires log { self.old.held.log ≡ log_kept (kept_of self.old.group self.old.life) }
-        requires rises { rises_at self.old.life out ≡ true }
-        ensures sound { OnOk result (self.new.fine ≡ is_kept_sound self.old.group (lived self.old.life out)) }
-        ensures life { OnOk result (self.new.life ≡ lived self.old.life out) }
+        requires rises { rises_at self.old.life out.now ≡ true }
+        ensures sound { OnOk result (self.new.fine ≡ is_kept_sound self.old.group (lived self.old.life out.now)) }
+        ensures life { OnOk result (self.new.life ≡ lived self.old.life out.now) }
         ensures due { let moment : OneMoment A = record {
           group = self.old.group;
           me = self.old.me;
@@ -234,7 +233,7 @@ impl<A: Allocator + Copy + Drop> Course<A> {
           trimmed = self.old.held.log.trimmed;
           snapshot = self.old.held.snapshot;
         } in
-            OnOk result (self.new.fine ≡ true → due.new.items ≡ due.old.items ++ dues_at moment self.old.life out) }
+            OnOk result (self.new.fine ≡ true → due.new.items ≡ due.old.items ++ dues_at moment self.old.life out.now) }
         ensures onward { OnOk result (self.new.fine ≡ true
             → GoesOn self.old.held self.new.held (kept_of self.old.group self.old.life) (kept_of self.new.group self.new.life)) }
         ensures front { IsFront (committed_calls (told_log self.old.held)) (committed_calls (told_log self.new.held)) }
@@ -244,24 +243,18 @@ impl<A: Allocator + Copy + Drop> Course<A> {
     {
         match out {
             Out::Agreed(ring, _, message) => {
-                let runs = is_running(running, &ring);
+                let runs = is_running(running, ring);
                 self.hear(runs, pending, committed, message, due)
             }
             Out::Safe(_, upto) => {
-                self.mark(upto);
+                self.mark(*upto);
                 Ok(())
             }
-            Out::Regular(ring, members) => self.enter(ring, members, due),
+            Out::Regular(ring, members) => self.enter(*ring, *members, due),
             Out::Trans(_, _, _) => Ok(()),
-            Out::Rest(_, _, message) => {
-                drop(message);
-                Ok(())
-            }
+            Out::Rest(_, _, _) => Ok(()),
             // A frame makes nothing of the log. A node's frames go out by a list of their own, so none stands among these.
-            Out::Send(_, frame) => {
-                drop(frame);
-                Ok(())
-            }
+            Out::Send(_, _) => Ok(()),
         }
     }
 
@@ -272,12 +265,12 @@ impl<A: Allocator + Copy + Drop> Course<A> {
         runs: bool,
         pending: &[Pending<A>],
         committed: u64,
-        message: Message<A>,
+        message: &Message<A>,
         due: &mut Vec<Payload<A>, A>,
     ) -> Result<(), Fault>
         requires fine { self.old.fine ≡ true }
-        ensures sound { OnOk result (self.new.fine ≡ is_kept_sound self.old.group (hears message self.old.life)) }
-        ensures life { OnOk result (self.new.life ≡ hears message self.old.life) }
+        ensures sound { OnOk result (self.new.fine ≡ is_kept_sound self.old.group (hears message.now self.old.life)) }
+        ensures life { OnOk result (self.new.life ≡ hears message.now self.old.life) }
         ensures due { let moment : OneMoment A = record {
           group = self.old.group;
           me = self.old.me;
@@ -287,7 +280,7 @@ impl<A: Allocator + Copy + Drop> Course<A> {
           trimmed = self.old.held.log.trimmed;
           snapshot = self.old.held.snapshot;
         } in
-            OnOk result (self.new.fine ≡ true → due.new.items ≡ due.old.items ++ dues_heard moment runs self.old.life message (hears message self.old.life)) }
+            OnOk result (self.new.fine ≡ true → due.new.items ≡ due.old.items ++ dues_heard moment runs self.old.life message.now (hears message.now self.old.life)) }
         ensures onward { OnOk result (self.new.fine ≡ true
             → GoesOn self.old.held self.new.held (kept_of self.old.group self.old.life) (kept_of self.new.group self.new.life)) }
         ensures front { IsFront (committed_calls (told_log self.old.held)) (committed_calls (told_log self.new.held)) }
@@ -296,7 +289,7 @@ impl<A: Allocator + Copy + Drop> Course<A> {
         ensures refused { IfErr result (λ fault. fault ≡ Memory) }
     {
         self.fine = false;
-        let life = heard(&self.life, &message);
+        let life = heard(&self.life, message);
         let number = message.number;
         let setting = Setting {
             ring: self.ring,

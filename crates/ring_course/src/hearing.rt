@@ -28,30 +28,30 @@ pub(crate) fn hear<A: Allocator + Copy + Drop>(
     setting: &Setting,
     pending: &[Pending<A>],
     stage: Stage<A>,
-    message: Message<A>,
+    message: &Message<A>,
     held: &mut Holding<A>,
     due: &mut Vec<Payload<A>, A>,
 ) -> Result<(Stage<A>, bool), Fault>
     requires { is_log_length (log_length held.old.log) ≡ true }
-    ensures stage { IfOk result (λ r. r.0 ≡ (took setting.now pending.now held.old stage message).stage) }
-    ensures fits { IfOk result (λ r. r.1 ≡ (took setting.now pending.now held.old stage message).fits) }
-    ensures held { OnOk result ((took setting.now pending.now held.old stage message).fits ≡ true
-        → held.new ≡ (took setting.now pending.now held.old stage message).held) }
-    ensures due { OnOk result ((took setting.now pending.now held.old stage message).fits ≡ true
-        → due.new.items ≡ due.old.items ++ (took setting.now pending.now held.old stage message).due) }
+    ensures stage { IfOk result (λ r. r.0 ≡ (took setting.now pending.now held.old stage message.now).stage) }
+    ensures fits { IfOk result (λ r. r.1 ≡ (took setting.now pending.now held.old stage message.now).fits) }
+    ensures held { OnOk result ((took setting.now pending.now held.old stage message.now).fits ≡ true
+        → held.new ≡ (took setting.now pending.now held.old stage message.now).held) }
+    ensures due { OnOk result ((took setting.now pending.now held.old stage message.now).fits ≡ true
+        → due.new.items ≡ due.old.items ++ (took setting.now pending.now held.old stage message.now).due) }
     ensures front { IsFront (committed_calls (told_log held.old)) (committed_calls (told_log held.new)) }
     ensures refused { IfErr result (λ fault. fault ≡ Memory) }
 {
     match stage {
         Stage::Apart => Ok((Stage::Apart, true)),
         Stage::Exchanging(mut exchange) => {
-            match exchange_on(alloc, setting, pending, &mut exchange, &message, held, due)? {
+            match exchange_on(alloc, setting, pending, &mut exchange, message, held, due)? {
                 None => Ok((Stage::Exchanging(exchange), true)),
                 Some(fits) => Ok((Stage::Adopted, fits)),
             }
         }
         Stage::Adopted => {
-            let fits = append_calls(message.payload, held)?;
+            let fits = append_calls(&message.payload, held)?;
             Ok((Stage::Adopted, fits))
         }
     }
@@ -139,19 +139,19 @@ fn places_past<A: Allocator + Copy>(log: &Log<A>, committed: u64) -> &[Call<A>]
 
 /// Appends the calls that a payload brings, if the log has room for them.
 fn append_calls<A: Allocator + Copy + Drop>(
-    payload: Payload<A>,
+    payload: &Payload<A>,
     held: &mut Holding<A>,
 ) -> Result<bool, Fault>
     requires { is_log_length (log_length held.old.log) ≡ true }
-    ensures fits { IfOk result (λ fits. fits ≡ is_log_length (log_length held.old.log + length (calls_of payload))) }
-    ensures held { OnOk result (is_log_length (log_length held.old.log + length (calls_of payload)) ≡ true
-        → held.new ≡ record held.old { log = appended held.old.log (calls_of payload) }) }
+    ensures fits { IfOk result (λ fits. fits ≡ is_log_length (log_length held.old.log + length (calls_of payload.now))) }
+    ensures held { OnOk result (is_log_length (log_length held.old.log + length (calls_of payload.now)) ≡ true
+        → held.new ≡ record held.old { log = appended held.old.log (calls_of payload.now) }) }
     ensures front { IsFront (committed_calls (told_log held.old)) (committed_calls (told_log held.new)) }
     ensures refused { IfErr result (λ fault. fault ≡ Memory) }
 {
     match payload {
-        Payload::Call(call) => held.append(call),
-        Payload::Pack(pack) => held.append_all(pack.calls.into_vec()),
+        Payload::Call(call) => held.append(call.clone()?),
+        Payload::Pack(pack) => held.append_all(pack.calls.as_slice()),
         Payload::Wrapped(_)
         | Payload::End
         | Payload::Head(_)

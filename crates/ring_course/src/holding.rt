@@ -134,10 +134,10 @@ impl<A: Allocator + Copy + Drop> Holding<A> {
     }
 
     /// Adds calls at the log's end, if there is room for them, and tells whether. `Memory` leaves all as it was.
-    pub(crate) fn append_all(&mut self, calls: Vec<Call<A>, A>) -> Result<bool, Fault>
-        ensures fits { IfOk result (λ fits. fits ≡ is_log_length (log_length self.old.log + length calls.items)) }
-        ensures held { OnOk result (is_log_length (log_length self.old.log + length calls.items) ≡ true
-            → self.new ≡ record self.old { log = appended self.old.log calls.items }) }
+    pub(crate) fn append_all(&mut self, calls: &[Call<A>]) -> Result<bool, Fault>
+        ensures fits { IfOk result (λ fits. fits ≡ is_log_length (log_length self.old.log + length calls.now)) }
+        ensures held { OnOk result (is_log_length (log_length self.old.log + length calls.now) ≡ true
+            → self.new ≡ record self.old { log = appended self.old.log calls.now }) }
         ensures front { IsFront (committed_calls (told_log self.old)) (committed_calls (told_log self.new)) }
         ensures refused { IfErr result (λ fault. fault ≡ Memory) }
     {
@@ -169,6 +169,8 @@ impl<A: Allocator + Copy + Drop> Holding<A> {
     pub(crate) fn end_step(&mut self)
         ensures { self.new ≡ record self.old { before = None } }
     {
-        self.before = None;
+        if self.before.is_some() {
+            self.before = None;
+        }
     }
 }

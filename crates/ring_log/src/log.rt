@@ -85,17 +85,17 @@ impl<A: Allocator + Copy> Log<A> {
     }
 
     /// Adds calls at the end, in their order, if the log then has no more places than a log may have, 2^62, and tells whether. They
-    /// are moved, and none is copied. `Memory` leaves the log as it was.
-    pub fn append_all(&mut self, mut calls: Vec<Call<A>, A>) -> Result<bool, Fault>
-        ensures fits { IfOk result (λ fits. fits ≡ is_log_length (log_length self.old + length calls.items)) }
-        ensures log { OnOk result (self.new ≡ followed self.old calls.items) }
+    /// share their bytes with those given. `Memory` leaves the log as it was.
+    pub fn append_all(&mut self, calls: &[Call<A>]) -> Result<bool, Fault>
+        ensures fits { IfOk result (λ fits. fits ≡ is_log_length (log_length self.old + length calls.now)) }
+        ensures log { OnOk result (self.new ≡ followed self.old calls.now) }
         ensures err { OnErr result (self.new ≡ self.old) }
         ensures refused { IfErr result (λ fault. fault ≡ Memory) }
     {
         if !is_length(self.length(), calls.len() as u64) {
             return Ok(false);
         }
-        self.calls.append(&mut calls)?;
+        self.calls.extend_from_slice(calls)?;
         Ok(true)
     }
 

@@ -161,7 +161,7 @@ fn append_before<A: Allocator + Copy>(heap: A, log: &mut Log<A>, end: u64) -> Re
     for number in 1..end {
         calls.push(Call::new(heap, 7, number, &[1, 1])?)?;
     }
-    log.append_all(calls)?;
+    log.append_all(calls.as_slice())?;
     Ok(())
 }
 

@@ -111,7 +111,7 @@ fn follow<O: Object>(
     if told.is_empty() && replica.rests() {
         return Ok(());
     }
-    follow_told(core, replica, told, outs)
+    follow_told(core, replica, told.as_slice(), outs)
 }
 
 /// The same where the replica takes a step of its own. It stands apart, since a call clears its room for what that gives.
@@ -119,14 +119,14 @@ fn follow<O: Object>(
 fn follow_told<O: Object>(
     core: &mut Srp<O::Alloc>,
     replica: &mut Replica<O>,
-    told: Vec<Out<O::Alloc>, O::Alloc>,
+    told: &[Out<O::Alloc>],
     outs: &mut Outs<O::Alloc>,
 ) -> Result<(), Fault>
     requires done { IsDone replica.old }
-    requires rises { rises replica.old.life told.items ≡ true }
+    requires rises { rises replica.old.life told.now ≡ true }
     requires runs { is_stopped core.old.state ≡ false }
     requires going { replica.old.stopped ≡ false }
-    ensures ok { OnOk result (Follows (sending outs.old.sends.items (followed_by O.sequential core.old replica.old told.items))
+    ensures ok { OnOk result (Follows (sending outs.old.sends.items (followed_by O.sequential core.old replica.old told.now))
         core.old core.new replica.new outs.new) }
     ensures steady { OnOk result (IsSteady replica.old.group replica.old.life) }
     ensures err { OnErr result (replica_stopped replica.new ≡ replica_stopped replica.old) }

@@ -277,6 +277,17 @@ ripe-if object b log table e =
     taken-if true bs e = refl
     taken-if false bs e = absurd (cc e)
 
+-- nor of one that isn't
+pub not-ripe : {O A : Type 0} (object : Sequential O) (b : Bool) (log : Log A) (table : Table O) → is_ripe log ≡ false → snapshot_if_ripe object b log table ≡ None
+not-ripe object b log table e =
+    let bytes = table_snapshot object.snapshot_of table in
+    let small = nat_le (length bytes) most_snapshot in
+    ap (λ r. if b && r && small then Some bytes else None) e ∙ none-of b small bytes
+  where
+    none-of : (b t : Bool) (bs : List ℕ) → (if b && false && t then Some bs else None) ≡ None
+    none-of true t bs = refl
+    none-of false t bs = refl
+
 -- ---- what comes of the places that a step commits
 
 -- what a part of a result says of its value

@@ -160,16 +160,16 @@ impl<O: Object> Replica<O> {
     pub fn step(
         &mut self,
         running: &Option<RingId>,
-        outs: Vec<Out<O::Alloc>, O::Alloc>,
+        outs: &[Out<O::Alloc>],
     ) -> Result<Given<O::Alloc>, Fault>
         requires done { IsDone self.old }
         requires runs { self.old.stopped ≡ false }
-        requires rises { rises self.old.life outs.items ≡ true }
-        ensures ok { OnOk result (self.new ≡ (replica_step O.sequential running.now self.old outs.items).replica) }
-        ensures due { IfOk result (λ given. given.due.items ≡ (replica_step O.sequential running.now self.old outs.items).due) }
-        ensures answers { IfOk result (λ given. given.answers.items ≡ (replica_step O.sequential running.now self.old outs.items).answers) }
-        ensures committed { IfOk result (λ given. given.committed.items ≡ (replica_step O.sequential running.now self.old outs.items).replica.doing) }
-        ensures restored { IfOk result (λ given. given.restored ≡ (replica_step O.sequential running.now self.old outs.items).restored) }
+        requires rises { rises self.old.life outs.now ≡ true }
+        ensures ok { OnOk result (self.new ≡ (replica_step O.sequential running.now self.old outs.now).replica) }
+        ensures due { IfOk result (λ given. given.due.items ≡ (replica_step O.sequential running.now self.old outs.now).due) }
+        ensures answers { IfOk result (λ given. given.answers.items ≡ (replica_step O.sequential running.now self.old outs.now).answers) }
+        ensures committed { IfOk result (λ given. given.committed.items ≡ (replica_step O.sequential running.now self.old outs.now).replica.doing) }
+        ensures restored { IfOk result (λ given. given.restored ≡ (replica_step O.sequential running.now self.old outs.now).restored) }
         ensures steady { OnOk result (IsSteady self.old.group self.old.life) }
         ensures err { OnErr result (self.new ≡ replica_stopped self.old) }
         ensures refused { IfErr result (λ fault. fault ≡ Memory) }
@@ -177,13 +177,13 @@ impl<O: Object> Replica<O> {
         let is_fine = self.course.is_fine();
         prove!(is_fine);
         self.stopped = true;
-        let mut given = Given::new(self.alloc);
+        let mut due = Vec::new(self.alloc);
         self.course.walk(
             running,
             self.tickets.pending(),
             self.committed,
             outs,
-            &mut given.due,
+            &mut due,
         )?;
         if !self.course.is_fine() {
             return Ok(Given::new(self.alloc));
@@ -199,14 +199,22 @@ impl<O: Object> Replica<O> {
         let Some(carried) = carried else {
             return Ok(Given::new(self.alloc));
         };
-        given.answers = carried.answers;
-        given.committed = carried.committed;
-        given.restored = self.course.held().restored_places();
-        self.course.hand(&given.due);
-        self.leaving = drop_if_ripe(self.alloc, &mut self.course, &self.sessions)?;
+        let restored = self.course.held().restored_places();
+        self.course.hand(&due);
+        drop_if_ripe(
+            self.alloc,
+            &mut self.course,
+            &self.sessions,
+            &mut self.leaving,
+        )?;
         self.reached = carried.reached;
         self.stopped = false;
-        Ok(given)
+        Ok(Given {
+            due,
+            answers: carried.answers,
+            committed: carried.committed,
+            restored,
+        })
     }
 
     /// Ends a step, of which these were the answers, unless it has stopped, and hands out the calls of the places that the step
@@ -227,7 +235,7 @@ impl<O: Object> Replica<O> {
         self.trimmed = log.trimmed();
         self.effects = self.reached;
         self.course.end_step();
-        calls_leaving(self.alloc, mem::replace(&mut self.leaving, None))
+        take_leaving(self.alloc, &mut self.leaving)
     }
 
     /// Stops for good. It takes no memory.
@@ -313,11 +321,18 @@ fn copied<A: Allocator + Copy>(log: &Option<Log<A>>) -> Result<Option<Log<A>>, A
     log.clone()
 }
 
-/// The calls of the places that a step drops, if it drops some.
-fn calls_leaving<A: Allocator + Copy + Drop>(alloc: A, leaving: Option<Log<A>>) -> Vec<Call<A>, A>
-    ensures { result.items ≡ calls_leaving leaving }
+/// Takes out the calls of the places that a step drops, if it drops some.
+fn take_leaving<A: Allocator + Copy + Drop>(
+    alloc: A,
+    leaving: &mut Option<Log<A>>,
+) -> Vec<Call<A>, A>
+    ensures calls { result.items ≡ calls_leaving leaving.old }
+    ensures taken { leaving.new ≡ None }
 {
-    match leaving {
+    if leaving.is_none() {
+        return Vec::new(alloc);
+    }
+    match mem::replace(leaving, None) {
         Some(log) => log.into_calls(),
         None => Vec::new(alloc),
     }
@@ -468,23 +483,31 @@ fn new_answers<O: Object>(
     Ok((answers, effects.saturating_add(more)))
 }
 
-/// Drops the committed places, if they are to be dropped, and hands out their log. Refused with `Memory` alone, and then none is dropped.
+/// Drops the committed places, if they are to be dropped; their log stands in `leaving` then, in which none stands yet. Refused with
+/// `Memory` alone, and then none is dropped.
 fn drop_if_ripe<O: Object>(
     alloc: O::Alloc,
     course: &mut Course<O::Alloc>,
     sessions: &Sessions<O>,
-) -> Result<Option<Log<O::Alloc>>, Fault>
+    leaving: &mut Option<Log<O::Alloc>>,
+) -> Result<(), Fault>
     requires fine { course.old.fine ≡ true }
-    ensures dropped { IfOk result (λ log. log ≡ option_map (λ bytes. committed_log course.old.held.log)
+    requires none { leaving.old ≡ None }
+    ensures dropped { OnOk result (leaving.new ≡ option_map (λ bytes. committed_log course.old.held.log)
         (snapshot_if_ripe O.sequential (is_closed course.old.group course.old.life) course.old.held.log sessions.now)) }
     ensures ok { OnOk result (course.new
         ≡ course_trimmed course.old (snapshot_if_ripe O.sequential (is_closed course.old.group course.old.life) course.old.held.log sessions.now)) }
     ensures err { OnErr result (course.new ≡ course.old) }
+    ensures stays { OnErr result (leaving.new ≡ None) }
     ensures refused { IfErr result (λ fault. fault ≡ Memory) }
 {
+    if !course.held().log().is_ripe() {
+        return Ok(());
+    }
     let closed = course.is_closed();
     let snapshot = snapshot_if_ripe(alloc, closed, course.held().log(), sessions)?;
-    course.trim(snapshot)
+    *leaving = course.trim(snapshot)?;
+    Ok(())
 }
 
 /// The snapshot of the sessions, if no exchange is open, so many committed places are kept that they are to be dropped, and it isn't too

@@ -10,14 +10,14 @@ use Rattle.ring_base.proofs.Results.{on-err}
 pub returns-in_err-hand_over-clause-err : goal.returns-in_err-hand_over-clause-err
 returns-in_err-hand_over-clause-err g c =
     on-err c.from_residual-in_err-hand_over.result _
-    (left-as g.O.Object.sequential c.running-running.result c.args.replica.now c.args.told.items c.step.new.self c.in_ok-given.ensures.ok)
+    (left-as g.O.Object.sequential c.running-running.result c.args.replica.now c.args.told.now c.step.new.self c.in_ok-given.ensures.ok)
 
 pub returns-clause-ok : goal.returns-clause-ok
 returns-clause-ok g c =
     let object = g.O.Object.sequential in
     let running = c.running-running.result in
     let r = c.args.replica.now in
-    let told = c.args.told.items in
+    let told = c.args.told.now in
     let sends = c.args.outs.now.sends.items in
     let ended = c.finish.ensures.replica
     ∙ ended-as object running r told c.step.new.self _ c.requires.going c.in_ok-given.ensures.ok (c.as_slice.ensures.value ∙ c.in_ok-given.ensures.answers) in

@@ -22,7 +22,7 @@ invariant_of-self-2 g c = λ fits.
     let fit = sym c.in_ok-stage.ensures.fits ∙ fits in
     let pushed = c.in_ok-push_back.ensures.items in
     kept-as s.fixed _ _ _ _ s.ring _ _ s.mark _ _
-    (kept-hears s.fixed s.life.value s.held s.ring c.replace-stage.result s.mark s.reaches.items c.args.message
+    (kept-hears s.fixed s.life.value s.held s.ring c.replace-stage.result s.mark s.reaches.items c.args.message.now
     (record { ring = s.ring; runs = c.args.runs; me = s.me; committed = c.args.committed }) c.args.pending.now here refl fit c.in_ok-stage.stage c.hear.new.held
     c.reach_at-places.result c.in_ok-stage.ensures.stage (c.in_ok-stage.ensures.held fit)
     (c.reach_at-places.ensures ∙ ap (reach_at c.in_ok-stage.stage) c.log.ensures)).0
@@ -37,9 +37,9 @@ returns-clause-sound g c =
     let here = kept-as s.fixed s.life.value _ s.held _ s.ring s.stage c.replace-stage.result s.mark s.reaches.items _ k
     refl refl c.replace-stage.ensures.value refl in
     c.in_ok-stage.ensures.fits
-    ∙ sound-hears s.fixed s.life.value s.held s.ring c.replace-stage.result s.mark s.reaches.items c.args.message
+    ∙ sound-hears s.fixed s.life.value s.held s.ring c.replace-stage.result s.mark s.reaches.items c.args.message.now
     (record { ring = s.ring; runs = c.args.runs; me = s.me; committed = c.args.committed }) c.args.pending.now here refl
-    ∙ ap (λ (v : Course _). is_kept_sound v.group (hears c.args.message v.life)) c.self.view_is
+    ∙ ap (λ (v : Course _). is_kept_sound v.group (hears c.args.message.now v.life)) c.self.view_is
 
 pub returns-clause-due : goal.returns-clause-due
 returns-clause-due g c = λ fits.
@@ -50,7 +50,7 @@ returns-clause-due g c = λ fits.
     let fit = sym c.in_ok-stage.ensures.fits ∙ fits in
     c.in_ok-stage.ensures.due fit
     ∙ ap (λ l. c.args.due.now.items ++ l)
-    (due-hears s.fixed s.life.value s.held s.ring c.replace-stage.result s.mark s.reaches.items c.args.message
+    (due-hears s.fixed s.life.value s.held s.ring c.replace-stage.result s.mark s.reaches.items c.args.message.now
     (record { ring = s.ring; runs = c.args.runs; me = s.me; committed = c.args.committed }) c.args.pending.now here refl fit
     ∙ ap (λ (v : Course _).
     dues_heard (record {
@@ -61,8 +61,8 @@ returns-clause-due g c = λ fits.
       committed = c.args.committed;
       trimmed = v.held.log.trimmed;
       snapshot = v.held.snapshot;
-    }) c.args.runs v.life c.args.message
-    (hears c.args.message v.life)) c.self.view_is)
+    }) c.args.runs v.life c.args.message.now
+    (hears c.args.message.now v.life)) c.self.view_is)
 
 pub returns-clause-front : goal.returns-clause-front
 returns-clause-front g c =
@@ -79,8 +79,8 @@ returns-clause-onward g c = λ fits.
     let fit = sym c.in_ok-stage.ensures.fits ∙ fits in
     let pushed = c.in_ok-push_back.ensures.items in
     subst (λ (v : Course _). GoesOn v.held c.settle.new.held (kept_of v.group v.life) (kept_of s.fixed c.heard-life.result.value)) c.self.view_is
-    (goes-as s.fixed s.held _ c.settle.new.held (kept_of s.fixed s.life.value) (hears c.args.message s.life.value) c.heard-life.result.value
-    (kept-hears s.fixed s.life.value s.held s.ring c.replace-stage.result s.mark s.reaches.items c.args.message
+    (goes-as s.fixed s.held _ c.settle.new.held (kept_of s.fixed s.life.value) (hears c.args.message.now s.life.value) c.heard-life.result.value
+    (kept-hears s.fixed s.life.value s.held s.ring c.replace-stage.result s.mark s.reaches.items c.args.message.now
     (record { ring = s.ring; runs = c.args.runs; me = s.me; committed = c.args.committed }) c.args.pending.now here refl fit c.in_ok-stage.stage c.hear.new.held
     c.reach_at-places.result c.in_ok-stage.ensures.stage (c.in_ok-stage.ensures.held fit)
     (c.reach_at-places.ensures ∙ ap (reach_at c.in_ok-stage.stage) c.log.ensures)).1

@@ -1,9 +1,8 @@
 -- The outputs so far made what they make of the course; no mark falls at the next one.
 use Rattle.std.proofs.Common.{◌≡◌, length, take, refl, ap, sym, ◌∙◌, subst}
-use Rattle.std.proofs.lemmas.List.{map-id}
-use Rattle.std.proofs.lemmas.Iterator.Adapters.{YieldsList-from_vec}
-use Rattle.std.proofs.lemmas.Iterator.Consumers.{YieldsList-end, YieldsList-so_far, YieldsList-turn}
+use Rattle.std.proofs.lemmas.List.{take_all}
 use Rattle.std.proofs.lemmas.Option.{slice_get_read}
+use Rattle.ring_base.proofs.Rows.{take-more}
 use Rattle.ring_base.specs.Fronts.{front_self, front_trans}
 use Rattle.ring_log.specs.Kept.{kept_of}
 use Rattle.ring_log.specs.Logs.{Log, committed_calls}
@@ -21,22 +20,19 @@ loop-out-init g c = record {
 
 pub go-requires : goal.go-requires
 go-requires g c =
-    let items = c.args.outs.items in
-    let begun = c.into_iter-out-iterator.ensures.into_iter_gives in
-    let road = YieldsList-from_vec items begun.0 (begun.1 ∙ c.args.outs.ok.0) in
-    let turn = YieldsList-turn road c.loop-out.yielded c.loop-out.out-iterator c.loop-out.yielded_by c.next.result c.next.new.self c.in-Some.out c.in-Some.is
-    c.next.ensures.steps in
-    let stands = slice_get_read items _ _ c.in-Some.out refl turn.0 turn.1 in
-    let first : c.loop-out.yielded ≡ take (length c.loop-out.yielded) items =
-    sym (map-id c.loop-out.yielded) ∙ YieldsList-so_far road c.loop-out.yielded c.loop-out.out-iterator c.loop-out.yielded_by in
-    record { rises = λ fine. rises-next c.args.self.now.life items c.requires.rises first stands (c.loop-out.invariant.walked.lives fine) }
+    let items = c.args.outs.now in
+    let stands = slice_get_read items (length items) c.loop-out.out-index c.out-item.result refl c.loop-out-test.true c.out-item.is in
+    record { rises = λ fine. rises-next c.args.self.now.life items c.loop-out.out-index c.requires.rises stands (c.loop-out.invariant.walked.lives fine) }
 
 pub loop-out-preserved : goal.loop-out-preserved
 loop-out-preserved g c =
     let i = c.loop-out.invariant in
     let e = c.in_ok-go.ensures in
+    let items = c.args.outs.now in
+    let at = slice_get_read items (length items) c.loop-out.out-index c.out-item.result refl c.loop-out-test.true c.out-item.is in
     record {
-      walked = walked-more c.in-Some.out i.walked i.group c.go.ensures.group i.me (ap (λ (l : Log _). l.trimmed) c.requires.log) refl e.sound e.life e.onward e.due;
+      walked = walked-all (walked-more c.out-item.result i.walked i.group c.go.ensures.group i.me (ap (λ (l : Log _). l.trimmed) c.requires.log) refl e.sound e.life
+          e.onward e.due) (sym (take-more items c.loop-out.out-index c.out-item.result at));
       front = front_trans (committed_calls (told_log c.args.self.now.held)) (committed_calls (told_log c.loop-out.self.held))
           (committed_calls (told_log c.go.new.self.held)) i.front c.go.ensures.front;
       group = c.go.ensures.group ∙ i.group;
@@ -53,10 +49,7 @@ returns g c =
     let i = c.loop-out.invariant in
     let old = c.args.self.now in
     let now = c.loop-out.self in
-    let begun = c.into_iter-out-iterator.ensures.into_iter_gives in
-    let ended = YieldsList-end (YieldsList-from_vec c.args.outs.items begun.0 (begun.1 ∙ c.args.outs.ok.0)) c.loop-out.yielded c.loop-out.out-iterator
-    c.loop-out.yielded_by c.next.result c.next.new.self c.in-None.is c.next.ensures.steps in
-    let w = walked-all i.walked (sym (map-id c.loop-out.yielded) ∙ ended.0) in
+    let w = walked-all i.walked (take_all c.loop-out.out-index c.args.outs.now c.loop-out-test.false) in
     record {
       sound = w.sound;
       life = w.lives;

@@ -11,7 +11,7 @@ pub returns-clause-held : goal.returns-clause-held
 returns-clause-held g c =
     let s = c.self.inside in
     let old : Holding _ = record { log = s.log; before = s.before; snapshot = s.snapshot } in
-    let calls = c.args.calls.items in
+    let calls = c.args.calls.now in
     let now : Holding _ = record old { log = c.append_all.new.self } in
     on-ok c.append_all.result (c.append_all.new.self ≡ followed s.log calls)
     (is_log_length (log_length c.args.self.now.log + length calls) ≡ true → now ≡ record c.args.self.now { log = appended c.args.self.now.log calls })
@@ -24,4 +24,4 @@ returns-clause-front g c =
     let old : Holding _ = record { log = s.log; before = s.before; snapshot = s.snapshot } in
     let now : Holding _ = record old { log = c.append_all.new.self } in
     subst (λ (h : Holding _). IsFront (committed_calls (told_log h)) (committed_calls (told_log now))) c.self.view_is
-    (front-followed c.append_all.result s.before s.log c.append_all.new.self c.args.calls.items c.append_all.ensures.log c.append_all.ensures.err)
+    (front-followed c.append_all.result s.before s.log c.append_all.new.self c.args.calls.now c.append_all.ensures.log c.append_all.ensures.err)

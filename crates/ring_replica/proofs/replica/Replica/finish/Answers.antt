@@ -3,7 +3,7 @@ use Rattle.std.proofs.Common.{Option, ap, sym, ◌∙◌, subst}
 use Rattle.std.proofs.lemmas.Bool.{cond-true, cond-false}
 use Rattle.ring_log.specs.Logs.{Log, log_length}
 use Rattle.ring_course.specs.Courses.{Holding}
-use Rattle.ring_replica.specs.Replicas.{Replica, tale_done, replica_done, ahead_log, more_in, told_replica, IsCounted, calls_leaving}
+use Rattle.ring_replica.specs.Replicas.{Replica, tale_done, replica_done, ahead_log, more_in, told_replica, IsCounted}
 use Rattle.ring_replica.proofs.Replicas.{finished-counted, done-told, left-told, none-left}
 use Rattle.ring_replica.proofs.SteadyLives.{steady-known}
 use Rattle.ring_replica.proofs.replica.Replica.finish.Goals as goal
@@ -25,7 +25,7 @@ invariant_of-self g c =
     let told = c.done.ensures ∙ ap (λ life. tale_done tale life more c.args.answers.now) c.life.ensures in
     let log_is = c.log-log.ensures ∙ ap (λ (h : Holding _). h.log) c.held-2.ensures.held in
     subst (λ (l : Option (Log _)). IsCounted g.O.Object.sequential c.end_step.new.self s.sessions c.keep.new.self l c.length-self-inside.result
-    c.committed_length-self-inside.result c.trimmed-self-inside.result s.reached s.reached s.stopped c.done.result.value) (sym c.replace.ensures.after)
+    c.committed_length-self-inside.result c.trimmed-self-inside.result s.reached s.reached s.stopped c.done.result.value) (sym c.take_leaving.ensures.taken)
     (finished-counted c.self.invariant more c.args.answers.now c.if-self.false (c.held.ensures.log fine) (steady-known (c.held.ensures.steady fine))
     c.end_step.ensures c.keep.ensures (c.length-self-inside.ensures ∙ ap (λ (l : Log _). log_length l) log_is)
     (c.committed_length-self-inside.ensures ∙ ap (λ (l : Log _). l.committed) log_is) (c.trimmed-self-inside.ensures ∙ ap (λ (l : Log _). l.trimmed) log_is)
@@ -42,9 +42,8 @@ returns g c =
     let runs = ap (λ (v : Replica _). v.stopped) (sym c.self.view_is) ∙ c.if-self.false in
     record {
       replica = ap (λ (l : Option (Log _)). told_replica c.end_step.new.self l c.committed_length-self-inside.result s.stopped c.done.result.value)
-          c.replace.ensures.after ∙ done-told c.self.invariant.kept c.args.answers.now c.if-self.false c.self.view_is behind c.end_step.ensures
+          c.take_leaving.ensures.taken ∙ done-told c.self.invariant.kept c.args.answers.now c.if-self.false c.self.view_is behind c.end_step.ensures
           (c.committed_length-self-inside.ensures ∙ ap (λ (l : Log _). l.committed) log_is) told
           ∙ sym (cond-false c.args.self.now.stopped c.args.self.now (replica_done c.args.self.now c.args.answers.now) runs);
-      dropped = c.calls_leaving.ensures ∙ ap (λ (l : Option (Log _)). calls_leaving l) c.replace.ensures.value
-          ∙ left-told c.self.invariant.kept c.self.view_is c.if-self.false;
+      dropped = c.take_leaving.ensures.calls ∙ left-told c.self.invariant.kept c.self.view_is c.if-self.false;
     }
