@@ -18,11 +18,6 @@ use std::marker::{Model, PhantomData};
 /// So many frames a step sends at most.
 const FRAMES: usize = 64;
 
-/// For how many bytes more room is made at least, beyond what a step may send, and for how many at most.
-const LEAST_MORE: usize = 32 * 1024;
-
-const MOST_MORE: usize = FRAMES * FRAME_BYTES;
-
 /// All frames ever sent, as contracts see them. No value of it is made.
 pub(crate) struct Sendings<A: Allocator + Copy = Global> {
     allocator: PhantomData<A>,
@@ -86,8 +81,8 @@ impl<A: Allocator + Copy> Frames<A> {
             && self.bytes.capacity() - self.bytes.len() >= FRAMES * FRAME_BYTES
     }
 
-    /// Makes room for as many frames as a step may send, of any length, or answers `Memory`. The room is cleared as it is made, so it is
-    /// made for more the more frames there are, and seldom.
+    /// Makes room for as many frames as a step may send, of any length, or answers `Memory`. The room is cleared as it is made, so no more
+    /// is asked for; the list of bytes itself grows to twice its length.
     pub(crate) fn make_room(&mut self) -> Result<(), Fault>
         ensures frames { self.new.frames ≡ self.old.frames }
         ensures room { OnOk result (HasRoom 64 self.new) }
@@ -97,8 +92,7 @@ impl<A: Allocator + Copy> Frames<A> {
             return Ok(());
         }
         self.marks.reserve(FRAMES)?;
-        let more = self.bytes.len().clamp(LEAST_MORE, MOST_MORE);
-        self.bytes.reserve(FRAMES * FRAME_BYTES + more)?;
+        self.bytes.reserve(FRAMES * FRAME_BYTES)?;
         Ok(())
     }
 
