@@ -390,10 +390,15 @@ told_answers lines reserved i node ticket t is at low =
 pub none_answers : {A : Type 0} (n node ticket : ℕ) (ls : List (LineView A)) → n < node → Each (IsInside n) ls → None ≡ answer_in ls node ticket
 none_answers {A} n node ticket ls past h = sym (ap (λ (ss : List (StepView A)). told_at (told_from [] ss) ticket) (none_past n node ls past h))
 
--- no list tells nothing
-pub told_none : (ticket : ℕ) → told_at [] ticket ≡ None
-told_none zero = refl
-told_none (suc ticket) = refl
+-- the answers that are kept for a node, and those of a node past the group's
+pub told_list : {A : Type 0} (lines : List (LineView A)) (reserved i node : ℕ) (t : ToldView) → IsTold lines reserved i t → i ≡ node - 1 → 1 ≤ node
+    → t.answers ≡ told_to node lines
+told_list lines reserved i node t is at low =
+    let same : suc i ≡ node = omega (arith, at, low) in
+    is.told_is ∙ ap (λ (n : ℕ). told_to n lines) same
+
+pub none_list : {A : Type 0} (n node : ℕ) (ls : List (LineView A)) → n < node → Each (IsInside n) ls → [] ≡ told_to node ls
+none_list {A} n node ls past h = sym (ap (λ (ss : List (StepView A)). told_from [] ss) (none_past n node ls past h))
 
 -- lists of answers with as much room
 pub roomier-refl : (xs : List ToldView) → AreRoomier xs xs

@@ -67,7 +67,7 @@ impl<O: Object, K: BookName<O::Alloc>> Book<O, K> {
     ghost use mathlib.Core.Option.{none};
     ghost use denote.Follow.{follows_so};
     ghost use Rattle.ring_book.specs.contracts.book.Book.{the_row};
-    ghost use Rattle.ring_book_lines.specs.Answers.{answer_in, told_at};
+    ghost use Rattle.ring_book_lines.specs.Answers.{answer_in, told_to};
     ghost use Rattle.ring_book.specs.Books.{most_places, Enters, IsStrange, IsBook};
     ghost use Rattle.ring_book.specs.Entered.{EnterGives};
     ghost use Rattle.ring_book_lines.specs.Events.{IsRun, events_of, history_of};
@@ -190,7 +190,7 @@ impl<O: Object, K: BookName<O::Alloc>> Book<O, K> {
 
     /// The answers to the node's tickets, in the order of tickets, each if the list gives one.
     pub fn answers(&self, node: Proc) -> &[Option<Answer>]
-        ensures { (ticket : ℕ) → told_at result.now ticket ≡ answer_in self.now.lines node ticket }
+        ensures { result.now ≡ told_to node self.now.lines }
     {
         match told_of(self.told.as_slice(), node) {
             Some(told) => told.answers(),

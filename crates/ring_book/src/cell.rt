@@ -119,22 +119,23 @@ impl<O: Object, K: BookName<O::Alloc>> Cell<O, K> {
     /// The `FrameRef` says where the frame stands in the book. Refused as [`step`](Cell::step) is.
     pub fn hear(
         &mut self,
-        frame: Frame<O::Alloc>,
+        frame: &Frame<O::Alloc>,
         bytes: Vec<u8, O::Alloc>,
         at: FrameRef,
     ) -> Result<(), Fault>
-        requires fits { FrameFits frame }
-        requires bytes { bytes.items ≡ spelling_of frame }
+        requires fits { FrameFits frame.now }
+        requires bytes { bytes.items ≡ spelling_of frame.now }
         ensures { let m = node_machine O.sequential K.name.group in
-            MatchResult result (λ _. Journals m self.old self.new (Came (Comes frame) at)) (StepRefused m self.old self.new (Comes frame) at) }
+            MatchResult result (λ _. Journals m self.old self.new (Came (Comes frame.now) at)) (StepRefused m self.old self.new (Comes frame.now) at) }
     {
         if self.ahead {
             return Err(Fault::Stranger);
         }
         node_fits_law::<O>();
-        let heard = HeardFrame::new(&frame, bytes);
-        match self.node.step(Input::Frame(frame)) {
-            Ok(outs) => {
+        let heard = HeardFrame::new(frame, bytes);
+        let mut outs = Outs::new(self.alloc);
+        match self.node.hear_into(frame, &mut outs) {
+            Ok(()) => {
                 let Outs {
                     sends,
                     answers,

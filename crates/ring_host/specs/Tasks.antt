@@ -1,10 +1,16 @@
--- What a turn hands to its node (docs/PROTOCOL.md, The book and the threads).
-use Rattle.std.specs.Prelude.{⊤, ◌≡◌}
+-- What a turn hands to its node, with the frame that was read (docs/PROTOCOL.md, The book and the threads).
+use Rattle.std.specs.Prelude.{⊤, ◌≡◌, List, ℕ, Option, Some, None}
+use Rattle.ring_wire.specs.declared.frame.Frame.{Frame as OneFrame}
 use Rattle.ring_wire.specs.Frames.{FrameFits, spelling_of}
 use Rattle.ring_host.specs.declared.item.Task.{Task}
 use Rattle.ring_host.specs.declared.item.Task.TheVariants.{Timeout, Came}
 
--- a frame that came keeps the limits of frames, and its bytes spell it
-abbrev pub TaskFits : {A : Type 0} → Task A → Type 0
-TaskFits (Timeout kind) = ⊤
-TaskFits (Came frame bytes at) = FrameFits frame × (bytes.items ≡ spelling_of frame)
+-- a frame was read that keeps the limits of frames, and this text spells it
+abbrev pub IsRead : {A : Type 0} → Option (OneFrame A) → List ℕ → Type 0
+IsRead None text = ⊥
+IsRead (Some frame) text = FrameFits frame × (text ≡ spelling_of frame)
+
+-- of a frame that came the bytes spell the one that was read
+abbrev pub TaskFits : {A : Type 0} → Option (OneFrame A) → Task A → Type 0
+TaskFits place (Timeout kind) = ⊤
+TaskFits place (Came bytes at) = IsRead place bytes.items

@@ -2,7 +2,7 @@
 
 ghost use Rattle.std.specs.Prelude.{◌≡◌, ℕ, ◌+◌, [], Some, slice_get, IfSome};
 ghost use Rattle.ring_session.specs.declared.answer.Answer.{Answer as OneAnswer};
-ghost use Rattle.ring_book.specs.Lines.{told_at};
+ghost use Rattle.ring_book.specs.Lines.{answer_in, told_at};
 ghost use Rattle.ring_host.specs.Answering.{IsAnswered};
 ghost use Rattle.ring_host.specs.Looking.{kept_for};
 
@@ -87,6 +87,8 @@ impl<O: Object, K: BookName<O::Alloc>> Answers<O, K> {
     pub(crate) fn look(&mut self, book: &Book<O, K>, ticket: &HostTicket)
         ensures node { self.new.node ≡ ticket.now.node }
         ensures first { self.new.first ≡ ticket.now.ticket }
+        ensures found { (i : ℕ) (answer : OneAnswer) → slice_get self.new.found i ≡ Some answer
+            → answer_in book.now.lines ticket.now.node (ticket.now.ticket + i) ≡ Some answer }
     {
         book.run_law();
         self.node = ticket.node;

@@ -1,12 +1,13 @@
 //! The host, and what its callers ask of it.
 
-ghost use Rattle.std.specs.Prelude.{◌≡◌, ◌<◌, ◌≤◌, [], All, IfOk, IfErr, IfSome, OnErr};
+ghost use Rattle.std.specs.Prelude.{◌≡◌, ◌<◌, ◌≤◌, [], ◌++◌, All, IfOk, IfErr, IfSome, OnErr, Ok, Some, option_to_list};
 ghost use Rattle.ring_base.specs.declared.fault.Fault.TheVariants.{NotMember};
 ghost use Rattle.std.specs.Fn.{FnOnceReturnsAt};
 ghost use Rattle.ring_payload.specs.Calls.{CallFits};
 ghost use Rattle.ring_seat.specs.Seats.{IsAt, IsOwn};
 ghost use Rattle.ring_host.specs.Answering.{IsAnswered};
 ghost use Rattle.ring_host.specs.Refusing.{IsTurnFault, IsSubmitFault};
+ghost use Rattle.ring_host.specs.declared.item.Task.TheVariants.{Timeout};
 ghost use Rattle.ring_host.specs.Tasks.{TaskFits};
 ghost use Rattle.ring_host.specs.Turns.{published_by};
 
@@ -23,6 +24,7 @@ use ring_object::Object;
 use ring_payload::Call;
 use ring_seat::{Gauge, Outbox, Seat};
 use ring_session::{Answer, Ticket};
+use ring_wire::Frame;
 use std::alloc::{Allocator, Global};
 use std::marker::Model;
 use std::sync::atomic::{AtomicBool, Ordering};
@@ -93,6 +95,7 @@ impl<C, B, A: Allocator + Copy + Drop> HostOf<C, B, A> {
         requires { All (IsAt self.now) seats.old.items }
         ensures seats { All (IsAt self.now) seats.new.items }
         ensures seat { IfSome result (IsAt self.now) }
+        ensures last { seats.old.items ≡ seats.new.items ++ option_to_list result }
     {
         seats.pop()
     }
@@ -110,22 +113,24 @@ impl<C, B, A: Allocator + Copy + Drop> HostOf<C, B, A> {
         self.bell.ring();
     }
 
-    // The next task of a node: the timeout, or the first item of its inbox.
+    // The next task of a node: the timeout, or the first item of its inbox, whose frame is read into the place.
     pub(crate) fn task<W: Wait>(
         &self,
         rt: &W,
         node: Proc,
         due: Option<Kind>,
+        place: &mut Option<Frame<A>>,
     ) -> Result<Option<Task<A>>, Fault>
         requires { node ≤ self.now.words }
-        ensures fits { IfOk result (λ found. IfSome found TaskFits) }
+        ensures due { IfSome due (λ kind. result ≡ Ok (Some (Timeout kind))) }
+        ensures fits { IfOk result (λ found. IfSome found (TaskFits place.new)) }
         ensures refused { IfErr result IsTurnFault }
     {
         if let Some(kind) = due {
             return Ok(Some(Task::Timeout(kind)));
         }
         match self.inboxes[node.number() as usize - 1].pop(rt) {
-            Some(item) => Ok(Some(Task::read(self.alloc, item)?)),
+            Some(item) => Ok(Some(Task::read(self.alloc, item, place)?)),
             None => Ok(None),
         }
     }

@@ -1,12 +1,14 @@
 //! What lies in an inbox, and what a turn makes of it.
 
-ghost use Rattle.std.specs.Prelude.{◌≡◌, ◌⊎◌, IfOk, IfErr};
+ghost use Rattle.std.specs.Prelude.{◌≡◌, ◌⊎◌, IfOk, IfErr, OnOk};
 ghost use Rattle.ring_base.specs.declared.fault.Fault.TheVariants.{Memory, Stranger};
-ghost use Rattle.ring_host.specs.Tasks.{TaskFits};
+ghost use Rattle.ring_wire.specs.Fronts.{IsReadFault};
+ghost use Rattle.ring_host.specs.declared.item.Task.TheVariants.{Came};
+ghost use Rattle.ring_host.specs.Tasks.{IsRead, TaskFits};
 
 use ring_base::{Fault, Kind};
 use ring_book::FrameRef;
-use ring_wire::{Frame, decode_frame, spelling_law};
+use ring_wire::Frame;
 use std::alloc::{Allocator, Global};
 
 /// A frame on its way: its bytes, and where they stand in the book.
@@ -26,45 +28,65 @@ pub(crate) enum Found {
     Message,
 }
 
-/// What a turn hands to its node.
+/// What a turn hands to its node. The frame that came is read into a place of the turn, and moved no more.
 #[derive(Drop)]
 pub(crate) enum Task<A: Allocator + Copy + Drop = Global> {
     /// A timeout that is due.
     Timeout(Kind),
-    /// A frame that came, the bytes that spell it, and where they stand in the book.
-    Came(Frame<A>, Vec<u8, A>, FrameRef),
+    /// A frame that came: the bytes that spell it, and where they stand in the book.
+    Came(Vec<u8, A>, FrameRef),
 }
 
 impl<A: Allocator + Copy + Drop> Task<A> {
-    /// A frame that came. Bytes that are none stand nowhere in the book, so they are refused as the book would: with
-    /// `Stranger`.
-    pub(crate) fn read(alloc: A, item: Item<A>) -> Result<Task<A>, Fault>
-        ensures fits { IfOk result TaskFits }
+    /// A frame that came, which is read into the place. Bytes that are none stand nowhere in the book, so they are refused as the book
+    /// would: with `Stranger`.
+    pub(crate) fn read(
+        alloc: A,
+        item: Item<A>,
+        place: &mut Option<Frame<A>>,
+    ) -> Result<Task<A>, Fault>
+        ensures came { IfOk result (λ task. task ≡ Came item.bytes item.at) }
+        ensures fits { IfOk result (TaskFits place.new) }
         ensures refused { IfErr result (λ fault. (fault ≡ Memory) ⊎ (fault ≡ Stranger)) }
     {
-        spelling_law::<A>();
         let Item { at, bytes } = item;
-        match decode_frame(alloc, bytes.as_slice()) {
-            Ok(frame) => Ok(Task::Came(frame, bytes, at)),
+        match read_frame(alloc, bytes.as_slice(), place) {
+            Ok(()) => Ok(Task::Came(bytes, at)),
             Err(Fault::Memory) => Err(Fault::Memory),
             Err(_) => Err(Fault::Stranger),
         }
     }
 
-    /// What it is.
-    pub(crate) fn found(&self) -> Found {
+    /// What it is, of the frame in the turn's place.
+    pub(crate) fn found(&self, place: &Option<Frame<A>>) -> Found {
         match self {
             Task::Timeout(_) => Found::Timeout,
-            Task::Came(frame, _, _) => found_in(frame),
+            Task::Came(_, _) => found_in(place),
         }
     }
 }
 
+// Reads the frame that the bytes are, all of them, into the place.
+fn read_frame<A: Allocator + Copy>(
+    alloc: A,
+    bytes: &[u8],
+    place: &mut Option<Frame<A>>,
+) -> Result<(), Fault>
+    ensures read { OnOk result (IsRead place.new bytes.now) }
+    ensures refused { IfErr result IsReadFault }
+{
+    let len = Frame::<A>::get_into(alloc, bytes, place)?;
+    if len != bytes.len() {
+        return Err(Fault::BadFrame);
+    }
+    Ok(())
+}
+
 // What the frame is.
-fn found_in<A: Allocator + Copy>(frame: &Frame<A>) -> Found {
+fn found_in<A: Allocator + Copy>(frame: &Option<Frame<A>>) -> Found {
     match frame {
-        Frame::Message(_) => Found::Message,
-        Frame::Token(_) | Frame::Commit(_) => Found::Token,
-        Frame::Join(_) => Found::Join,
+        Some(Frame::Token(_) | Frame::Commit(_)) => Found::Token,
+        Some(Frame::Join(_)) => Found::Join,
+        Some(Frame::Message(_)) | None => Found::Message,
     }
 }

@@ -11,10 +11,11 @@ use crate::host::HostOf;
 use crate::item::{Found, Item, Task};
 use crate::taking::take;
 use crate::turn::Turn;
-use ring_base::{Fault, Proc, State};
+use ring_base::{Fault, Kind, Proc, State};
 use ring_book::{Book, BookName, Cell, FrameRef, Input, Line, Node, Place};
 use ring_object::Object;
 use ring_seat::{Outbox, Seat};
+use ring_wire::Frame;
 use std::alloc::Allocator;
 use std::sync::Wait;
 use std::thread;
@@ -94,6 +95,17 @@ fn pack<A: Allocator + Copy + Drop>(line: &Line<A>, outbox: &mut Outbox<A>) {
     }
 }
 
+// The step of a timeout. It stands apart, since a call clears its room for an input.
+#[inline(never)]
+fn time_out<O: Object, K: BookName<O::Alloc>>(
+    cell: &mut Cell<O, K>,
+    kind: Kind,
+) -> Result<(), Fault>
+    ensures refused { IfErr result IsTurnFault }
+{
+    cell.step(Input::Timeout(kind), NOWHERE)
+}
+
 impl<O: Object, K: BookName<O::Alloc>> HostOf<Cell<O, K>, Book<O, K>, O::Alloc> {
     // A turn that tells the gate.
     pub(crate) fn gated_turn<W: Wait, G: Gate>(
@@ -112,7 +124,8 @@ impl<O: Object, K: BookName<O::Alloc>> HostOf<Cell<O, K>, Book<O, K>, O::Alloc> 
             unreachable!()
         };
         let due = seat.tick();
-        let Some(task) = self.task(rt, node, due)? else {
+        let mut came = None;
+        let Some(task) = self.task(rt, node, due, &mut came)? else {
             thread::yield_now();
             gate.over(node, Stir::Nothing);
             return Ok(Turn {
@@ -121,7 +134,7 @@ impl<O: Object, K: BookName<O::Alloc>> HostOf<Cell<O, K>, Book<O, K>, O::Alloc> 
             });
         };
         let mut outbox = seat.take_outbox();
-        let stepped = self.step(rt, node, task, gate, &mut outbox);
+        let stepped = self.step(rt, node, task, &came, gate, &mut outbox);
         let dropped = match stepped {
             Ok(_) => self.send(rt, &outbox),
             Err(_) => 0,
@@ -147,20 +160,24 @@ impl<O: Object, K: BookName<O::Alloc>> HostOf<Cell<O, K>, Book<O, K>, O::Alloc> 
         rt: &W,
         node: Proc,
         task: Task<O::Alloc>,
+        came: &Option<Frame<O::Alloc>>,
         gate: &G,
         outbox: &mut Outbox<O::Alloc>,
     ) -> Result<Done, Fault>
         requires member { node ≤ self.now.words }
-        requires fits { TaskFits task }
+        requires fits { TaskFits came.now task }
         ensures refused { IfErr result IsTurnFault }
     {
         let mut cell = take(rt, &self.cells[node.number() as usize - 1]);
         gate.at(node, GatePlace::Held);
         let place = self.place_for(rt, node, &task)?;
-        let found = task.found();
+        let found = task.found(came);
         let stepped = match task {
-            Task::Timeout(kind) => cell.step(Input::Timeout(kind), NOWHERE),
-            Task::Came(frame, bytes, at) => cell.hear(frame, bytes, at),
+            Task::Timeout(kind) => time_out(&mut cell, kind),
+            Task::Came(bytes, at) => {
+                let Some(frame) = came else { unreachable!() };
+                cell.hear(frame, bytes, at)
+            }
         };
         let sent = self.entered(rt, place, &mut cell, stepped, outbox)?;
         Ok(done_of(cell.node(), found, sent))
@@ -171,7 +188,7 @@ impl<O: Object, K: BookName<O::Alloc>> HostOf<Cell<O, K>, Book<O, K>, O::Alloc> 
         ensures refused { IfErr result IsTurnFault }
     {
         let mut book = take(rt, &self.book);
-        if let Task::Came(_, bytes, at) = task {
+        if let Task::Came(bytes, at) = task {
             book.check(node, *at, bytes.as_slice())?;
         }
         book.reserve()

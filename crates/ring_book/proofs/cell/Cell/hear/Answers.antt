@@ -16,7 +16,7 @@ use Rattle.ring_book.proofs.cell.Cell.hear.Goals as goal
 
 pub new-frames-requires : goal.new-frames-requires
 new-frames-requires g c = record {
-  fit = rw c.in-Ok.ensures.sends (c.node_fits_law.ensures.sends c.self.inside.node (Comes c.args.frame) c.self.invariant.sound c.requires.fits);
+  fit = rw c.in-Ok.ensures.sends (c.node_fits_law.ensures.sends c.self.inside.node (Comes c.args.frame.now) c.self.invariant.sound c.requires.fits);
   room = c.self.invariant.text;
 }
 
@@ -31,15 +31,15 @@ invariant_of-self g c =
     c.if-self.false c.self.invariant in
     let e = c.in-Ok.ensures in
     let l = c.heard.result in
-    let stepped : IsStep m c.self.inside.node l c.step.new.self = rw (c.heard.ensures, c.new-heard.ensures) record {
+    let stepped : IsStep m c.self.inside.node l c.hear_into.new.self = rw (c.heard.ensures, c.new-heard.ensures) record {
       fits = c.requires.fits;
       makes = (e.runs, e.ok, c.new-frames.ensures.same ∙ e.sends, e.answers, e.committed);
       committed = c.committed_len-places.ensures;
     } in
-    cell_adds m NodeFits g.K.BookName.name c.self.inside.me c.self.inside.node c.step.new.self
+    cell_adds m NodeFits g.K.BookName.name c.self.inside.me c.self.inside.node c.hear_into.new.self
     c.self.inside.journal c.push_reserved.new.self _ _ l k (ap (λ x. x.node) c.heard.ensures) stepped
     (node_sound g.O.Object.sequential g.K.BookName.name.group c.node_fits_law.ensures.step c.node_fits_law.ensures.submit
-    c.self.inside.node l c.step.new.self c.self.invariant.sound stepped) c.new-frames.ensures.room c.push_reserved.ensures.ring
+    c.self.inside.node l c.hear_into.new.self c.self.invariant.sound stepped) c.new-frames.ensures.room c.push_reserved.ensures.ring
     c.push_reserved.ensures.sent.0
 
 pub returns-in-Ok : goal.returns-in-Ok
@@ -47,7 +47,7 @@ returns-in-Ok g c =
     let m = node_machine g.O.Object.sequential g.K.BookName.name.group in
     let e = c.in-Ok.ensures in
     let l = c.heard.result in
-    let stepped : IsStep m c.self.inside.node l c.step.new.self = rw (c.heard.ensures, c.new-heard.ensures) record {
+    let stepped : IsStep m c.self.inside.node l c.hear_into.new.self = rw (c.heard.ensures, c.new-heard.ensures) record {
       fits = c.requires.fits;
       makes = (e.runs, e.ok, c.new-frames.ensures.same ∙ e.sends, e.answers, e.committed);
       committed = c.committed_len-places.ensures;
@@ -71,15 +71,15 @@ invariant_of-self-in-Memory g c =
     c.if-self.false c.self.invariant in
     let l = c.stop-stop.result in
     let e = c.in-Err.ensures in
-    let stepped : IsStep m c.self.inside.node l c.step.new.self = rw c.stop-stop.ensures record {
+    let stepped : IsStep m c.self.inside.node l c.hear_into.new.self = rw c.stop-stop.ensures record {
       fits = tt;
       makes = (memory_runs _ (sym c.in-Memory.is ∙ e.refused), e.err, refl, refl, refl);
       committed = c.committed_len-committed.ensures;
     } in
-    cell_adds m NodeFits g.K.BookName.name c.self.inside.me c.self.inside.node c.step.new.self
+    cell_adds m NodeFits g.K.BookName.name c.self.inside.me c.self.inside.node c.hear_into.new.self
     c.self.inside.journal c.push_reserved-in-Memory.new.self _ _ l k (ap (λ x. x.node) c.stop-stop.ensures) stepped
     (node_sound g.O.Object.sequential g.K.BookName.name.group c.node_fits_law.ensures.step c.node_fits_law.ensures.submit
-    c.self.inside.node l c.step.new.self c.self.invariant.sound stepped) c.self.invariant.text c.push_reserved-in-Memory.ensures.ring
+    c.self.inside.node l c.hear_into.new.self c.self.invariant.sound stepped) c.self.invariant.text c.push_reserved-in-Memory.ensures.ring
     c.push_reserved-in-Memory.ensures.sent.0
 
 pub returns-in-Memory : goal.returns-in-Memory
@@ -87,12 +87,12 @@ returns-in-Memory g c =
     let m = node_machine g.O.Object.sequential g.K.BookName.name.group in
     let l = c.stop-stop.result in
     let e = c.in-Err.ensures in
-    let stepped : IsStep m c.self.inside.node l c.step.new.self = rw c.stop-stop.ensures record {
+    let stepped : IsStep m c.self.inside.node l c.hear_into.new.self = rw c.stop-stop.ensures record {
       fits = tt;
       makes = (memory_runs _ (sym c.in-Memory.is ∙ e.refused), e.err, refl, refl, refl);
       committed = c.committed_len-committed.ensures;
     } in
-    let no_stop : Comes c.args.frame ≡ Stop → ⊥ = λ is. absurd (cc is) in
+    let no_stop : Comes c.args.frame.now ≡ Stop → ⊥ = λ is. absurd (cc is) in
     rw (← c.self.view_is) (
       no_stop,
       record {
