@@ -10,13 +10,16 @@ use Rattle.ring_book.specs.Lines.{IsRun, LineView, events_of, history_of}
 use Rattle.ring_host_port.specs.Refusals.{IsTurnFault}
 use Rattle.ring_callers.specs.declared.calls.Calls.{Calls}
 
--- The order and the history are those of a run of the group, and the order explains the history.
-pub record AreOfRun {A O : Type 0} (object : Sequential O) (group : Group) (calls : Calls A) : Type 0 where
-  pub lines : List (LineView A)
+-- These lines are of a run of the group, the order and the history are that run's, and the order explains the history.
+pub record AreOfLines {A O : Type 0} (object : Sequential O) (group : Group) (lines : List (LineView A)) (calls : Calls A) : Type 0 where
   pub is_run : IsRun object group lines
   pub order : calls.order.items ≡ order (run object (world_opening group) (events_of lines))
   pub history : calls.history.items ≡ history_of lines
   pub explained : IsLinearization object calls.order.items calls.history.items
+
+-- The order and the history are those of a run of the group, and the order explains the history.
+abbrev pub AreOfRun : {A O : Type 0} → Sequential O → Group → Calls A → Type 0
+AreOfRun {A} object group calls = (lines : List (LineView A)) × AreOfLines object group lines calls
 
 -- a refusal of a run of callers
 abbrev pub IsCallersFault : Fault → Type 0

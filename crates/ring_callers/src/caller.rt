@@ -16,7 +16,8 @@ const POLLS: u64 = 1_000_000;
 /// What a client does on a thread of its own. What it keeps of it stands in an atomic, or behind a lock.
 pub trait Caller {
     /// The number of the node that the client tries first. Where this one refuses a call or doesn't answer it, the client passes on
-    /// to the next node, with the same call under the same number: in the order of their numbers, and node 1 after the last.
+    /// to the next node, with the same call under the same number: in the order of their numbers, and node 1 after the last. It answers
+    /// the same each time.
     fn first_node(&self) -> u8;
 
     /// Makes the client's calls. It may wait for their answers.

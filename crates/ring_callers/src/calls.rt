@@ -2,7 +2,7 @@
 
 ghost use Rattle.std.specs.Prelude.{◌≡◌, IfOk, IfErr};
 ghost use Rattle.ring_base.specs.declared.fault.Fault.TheVariants.{Memory};
-ghost use Rattle.ring_callers.specs.Callers.{AreOfRun};
+ghost use Rattle.ring_callers.specs.Callers.{AreOfLines, AreOfRun};
 
 use ring_base::Fault;
 use ring_host_port::{Book, BookName, Host, linear_law};
@@ -41,6 +41,7 @@ pub(crate) fn calls_of<O: Object, K: BookName<O::Alloc>, W: Wait>(
 /// The calls of a book. Or `Memory`.
 fn told_by<O: Object, K: BookName<O::Alloc>>(book: &Book<O, K>) -> Result<Calls<O::Alloc>, Fault>
     ensures calls { IfOk result (AreOfRun O.sequential K.name.group) }
+    ensures lines { IfOk result (AreOfLines O.sequential K.name.group book.now.lines) }
     ensures refused { IfErr result (λ fault. fault ≡ Memory) }
 {
     book.run_law();

@@ -29,7 +29,8 @@ impl Progress {
         }
     }
 
-    /// Something was refused. So all nodes are stopped, that clients don't try their calls for long, and the host is closed.
+    /// Something was refused. So all nodes are stopped for whose stops there is memory, that clients
+    /// don't try their calls for long, and the host is closed.
     pub(crate) fn refuse<O: Object, K: BookName<O::Alloc>, W: Wait>(
         &self,
         rt: &W,

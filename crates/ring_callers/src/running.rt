@@ -30,7 +30,7 @@ pub const MOST_PORTS: usize = 256;
 /// Refused: `NotMember` where a number in `stopped`, or a caller's first node, is no node of the group, or the callers would have
 /// more than 256 ports; `Stopped` where a number stands in `stopped` twice; `Memory`. No caller has called then, but for `Memory` where a
 /// thread can't be started, or there is none for a client's ports or for the answer: of a client's ports or a thread, all nodes are
-/// stopped first, and callers that were started come to their end.
+/// stopped first for whose stops there is memory, and callers that were started come to their end.
 pub fn run_callers<O: Object + Send, C: Caller + Sync, W: Threads + Wait + Sync>(
     rt: &W,
     alloc: O::Alloc,
@@ -96,7 +96,7 @@ fn stop_all<O: Object, K: BookName<O::Alloc>, W: Wait>(
 }
 
 /// The nodes run in threads of their own, which tell the gate, and each client makes its calls in one of its own. No thread is left
-/// afterwards. `Memory` where a thread or a client can't be started: then all nodes are stopped, and who runs ends.
+/// afterwards. `Memory` where a thread or a client can't be started: then nodes are stopped as far as memory lets them, and who runs ends.
 fn run_all<
     O: Object + Send,
     K: BookName<O::Alloc> + Send + Sync,
