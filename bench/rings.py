@@ -10,8 +10,9 @@ The program that is timed promises nothing, so it is no crate of the repository:
 is handed to one processor. For each case, the least user time of RUNS runs is told: in microseconds for a step at each number
 of steps, and the second by the first. That last figure stays near 1 where a step costs the same however long the run.
 
-Instructions are those of 10,000 steps behind the first 5,000: of the whole program, whose network spells each frame, keeps it and
-reads it again, and whose clients make the calls; and in the ring core alone, which is what is done in `heard` of the program.
+Instructions are those of 10,000 steps behind the first 5,000: of the whole program, whose network keeps each frame as it was sent,
+hands it by reference to each of its receivers and lets it go after the last, and whose client makes the calls, each with bytes of its
+own; and in the ring core alone, which is what is done in `heard` of the program.
 """
 import argparse
 import os
@@ -21,7 +22,7 @@ import sys
 import tempfile
 
 NAME = "ring_bench"
-LINE = f"{NAME}: ring_base ring_payload ring_wire ring_core ring_srp ring_core_proof bytes\n"
+LINE = f"{NAME}: ring_base ring_payload ring_wire ring_core ring_srp ring_core_proof\n"
 CASES = [("idle", 3), ("idle", 16), ("load", 3), ("load", 16), ("change", 3), ("change", 16)]
 FEW = 100_000
 MANY = 1_000_000
