@@ -9,10 +9,11 @@ use std::alloc::Allocator;
 use std::io::{ErrorKind, Read};
 use std::mem;
 
-/// How many bytes of an input are read ahead at most.
-const MOST_AHEAD: usize = 2 * FRAME_BYTES;
+/// How many bytes of an input are read ahead at most. What is left of them, less than a frame's length, is moved to the front before
+/// more is read, so the more frames, the fewer of their bytes are moved.
+const MOST_AHEAD: usize = 8 * FRAME_BYTES;
 
-/// What was read ahead of an input of frames: at most two frames' length.
+/// What was read ahead of an input of frames: at most eight frames' length.
 #[derive(Drop)]
 pub(crate) struct Ahead<A: Allocator> {
     bytes: Vec<u8, A>,

@@ -4,6 +4,7 @@
 #![tactic(auto)]
 
 mod ahead;
+mod line;
 mod listed;
 mod listing;
 mod printed;

@@ -1,246 +1,277 @@
 //! How frames stand in a listing: a line each.
 
-ghost use Rattle.std.specs.Prelude.{ℕ, List, Some};
-ghost use Rattle.std.specs.Fmt.{WritesOnOk};
-ghost use Rattle.std.specs.Iterator.{IsFinite, AlwaysYields};
+ghost use Rattle.std.specs.Prelude.{◌≡◌, ℕ, ◌+◌, ◌*◌, ◌≤◌, List, [], ◌++◌, length, codes};
+ghost use Rattle.std.specs.Fmt.{decimal};
+ghost use Rattle.std.specs.Iterator.{AlwaysYields, IsFinite, size};
 ghost use Rattle.ring_base.specs.Processors.{elements};
+ghost use Rattle.ring_base.specs.Rings.{ring_text};
+ghost use Rattle.ring_console.specs.Printed.{trimmed_text};
 ghost use Rattle.ring_console.specs.Listed.{numbers_text, call_text, primary_text, head_text, part_text};
 ghost use Rattle.ring_console.specs.Listed.{pack_text, snap_text, content_text, wrapped_text, payload_text};
 ghost use Rattle.ring_console.specs.Listed.{message_text, lowered_text, token_text, join_text, commit_text, frame_text};
 
-use crate::printed::Trimmed;
+use crate::line::{LONGEST_LINE, PrintedLine};
 use ring_base::{Proc, ProcSet, RingId};
 use ring_payload::{Call, Content, Head, Pack, Part, Payload, Snap, Wrapped};
 use ring_wire::{CommitToken, Frame, Join, Message, Requests, Token};
 use std::alloc::Allocator;
-use std::fmt;
 
-/// A value as it stands in a listing.
-#[derive(Drop)]
-pub(crate) struct Listed<'a, T>(pub &'a T);
-
-impl<A: Allocator + Copy> fmt::Display for Listed<'_, Frame<A>> {
-    ghost output = { λ listed. Some (frame_text listed.0.now) };
-
-    fn fmt<W: fmt::Write>(&self, f: &mut fmt::Formatter<W>) -> fmt::Result {
-        match self.0 {
-            Frame::Message(message) => write!(f, "{}", Listed(message)),
-            Frame::Token(token) => write!(f, "{}", Listed(token)),
-            Frame::Join(join) => write!(f, "{}", Listed(join)),
-            Frame::Commit(boxed) => write!(f, "{}", Listed(boxed.token())),
-        }
+/// Puts a frame's line together, without its end.
+pub(crate) fn add_frame<A: Allocator + Copy>(line: &mut PrintedLine, frame: &Frame<A>)
+    requires { line.old ≡ [] }
+    ensures text { line.new ≡ frame_text frame.now }
+    ensures len { length line.new ≤ 900 }
+{
+    match frame {
+        Frame::Message(message) => add_message(line, message),
+        Frame::Token(token) => add_token(line, token),
+        Frame::Join(join) => add_join(line, join),
+        Frame::Commit(boxed) => add_commit(line, boxed.token()),
     }
 }
 
-impl<A: Allocator + Copy> fmt::Display for Listed<'_, Message<A>> {
-    ghost output = { λ listed. Some (message_text listed.0.now) };
+fn add_message<A: Allocator + Copy>(line: &mut PrintedLine, message: &Message<A>)
+    requires { line.old ≡ [] }
+    ensures text { line.new ≡ message_text message.now }
+    ensures len { length line.new ≤ 360 }
+{
+    add_sent(
+        line,
+        "message ",
+        message.ring,
+        message.number,
+        message.sender,
+    );
+    add_payload(line, &message.payload);
+}
 
-    fn fmt<W: fmt::Write>(&self, f: &mut fmt::Formatter<W>) -> fmt::Result {
-        let (ring, number, sender) = (self.0.ring, self.0.number, self.0.sender);
-        write!(
-            f,
-            "message {ring} seq {number} from {sender} {}",
-            Listed(&self.0.payload)
-        )
+fn add_payload<A: Allocator + Copy>(line: &mut PrintedLine, payload: &Payload<A>)
+    requires { length line.old + 250 ≤ LONGEST_LINE }
+    ensures text { line.new ≡ line.old ++ payload_text payload.now }
+    ensures len { length line.new ≤ length line.old + 250 }
+{
+    match payload {
+        Payload::Call(call) => add_call(line, call),
+        Payload::Wrapped(wrapped) => add_wrapped(line, wrapped),
+        Payload::End => line.add(b"end"),
+        Payload::Head(head) => add_head(line, head),
+        Payload::Part(part) => add_part(line, part),
+        Payload::Pack(pack) => add_pack(line, pack),
+        Payload::Snap(snap) => add_snap(line, snap),
     }
 }
 
-impl fmt::Display for Listed<'_, Token> {
-    ghost output = { λ listed. Some (token_text listed.0.now) };
+fn add_wrapped<A: Allocator + Copy>(line: &mut PrintedLine, wrapped: &Wrapped<A>)
+    requires { length line.old + 250 ≤ LONGEST_LINE }
+    ensures text { line.new ≡ line.old ++ wrapped_text wrapped.now }
+    ensures len { length line.new ≤ length line.old + 250 }
+{
+    add_sent(
+        line,
+        "wrapped ",
+        wrapped.ring,
+        wrapped.number,
+        wrapped.sender,
+    );
+    add_content(line, &wrapped.payload);
+}
 
-    fn fmt<W: fmt::Write>(&self, f: &mut fmt::Formatter<W>) -> fmt::Result {
-        let (ring, number, seq, aru) = (self.0.ring, self.0.number, self.0.seq, self.0.aru);
-        let (lowered_by, asked) = (Listed(&self.0.aru_id), Listed(&self.0.requests));
-        write!(
-            f,
-            "token {ring} number {number} seq {seq} aru {aru} id {lowered_by} asks {asked}"
-        )
+fn add_content<A: Allocator + Copy>(line: &mut PrintedLine, content: &Content<A>)
+    requires { length line.old + 140 ≤ LONGEST_LINE }
+    ensures text { line.new ≡ line.old ++ content_text content.now }
+    ensures len { length line.new ≤ length line.old + 140 }
+{
+    match content {
+        Content::Call(call) => add_call(line, call),
+        Content::Head(head) => add_head(line, head),
+        Content::Part(part) => add_part(line, part),
+        Content::Pack(pack) => add_pack(line, pack),
+        Content::Snap(snap) => add_snap(line, snap),
     }
 }
 
-/// A processor's number, 0 where there is none.
-impl fmt::Display for Listed<'_, Option<Proc>> {
-    ghost output = { λ listed. Some (lowered_text listed.0.now) };
+/// Adds a word, and the ring, number and sender of a message.
+fn add_sent(line: &mut PrintedLine, word: &str, ring: RingId, number: u64, sender: Proc)
+    requires room { length line.old + 110 ≤ LONGEST_LINE }
+    requires word { length word.now ≤ 8 }
+    ensures text { line.new ≡ line.old ++ word.now ++ ring_text ring ++ codes " seq " ++ decimal number
+        ++ codes " from " ++ decimal sender ++ codes " " }
+    ensures len { length line.new ≤ length line.old + 110 }
+{
+    add_ring(line, word, ring);
+    line.add_number(" seq ", number);
+    line.add_number(" from ", u64::from(sender.number()));
+    line.add(b" ");
+}
 
-    fn fmt<W: fmt::Write>(&self, f: &mut fmt::Formatter<W>) -> fmt::Result {
-        match self.0 {
-            None => write!(f, "0"),
-            Some(node) => write!(f, "{node}"),
-        }
+/// Adds a word and a ring.
+fn add_ring(line: &mut PrintedLine, word: &str, ring: RingId)
+    requires { length line.old + length word.now + 41 ≤ LONGEST_LINE }
+    ensures text { line.new ≡ line.old ++ word.now ++ ring_text ring }
+    ensures len { length line.new ≤ length line.old + length word.now + 41 }
+{
+    line.add_number(word, ring.seq);
+    line.add_number(".", u64::from(ring.rep.number()));
+}
+
+fn add_call<A: Allocator + Copy>(line: &mut PrintedLine, call: &Call<A>)
+    requires { length line.old + 140 ≤ LONGEST_LINE }
+    ensures text { line.new ≡ line.old ++ call_text call.now }
+    ensures len { length line.new ≤ length line.old + 140 }
+{
+    line.add_number("call ", u64::from(call.client));
+    line.add_number(".", call.number);
+    line.add_number(" op ", call.op.as_slice().len() as u64);
+}
+
+fn add_head(line: &mut PrintedLine, head: &Head)
+    requires { length line.old + 140 ≤ LONGEST_LINE }
+    ensures text { line.new ≡ line.old ++ head_text head.now }
+    ensures len { length line.new ≤ length line.old + 140 }
+{
+    add_primary(line, head.last);
+    line.add_number(" length ", head.length);
+    line.add_number(" committed ", head.committed);
+    add_trimmed(line, head.trimmed);
+}
+
+/// Adds a head's last primary ring, `none` where there is none.
+fn add_primary(line: &mut PrintedLine, last: Option<RingId>)
+    requires { length line.old + 51 ≤ LONGEST_LINE }
+    ensures text { line.new ≡ line.old ++ codes "head last " ++ primary_text last }
+    ensures len { length line.new ≤ length line.old + 51 }
+{
+    match last {
+        None => line.add(b"head last none"),
+        Some(ring) => add_ring(line, "head last ", ring),
     }
 }
 
-impl fmt::Display for Listed<'_, Join> {
-    ghost output = { λ listed. Some (join_text listed.0.now) };
-
-    fn fmt<W: fmt::Write>(&self, f: &mut fmt::Formatter<W>) -> fmt::Result {
-        let (sender, number) = (self.0.sender, self.0.number);
-        let (procs, fails) = (Listed(&self.0.proc_set), Listed(&self.0.fail_set));
-        write!(
-            f,
-            "join {sender} number {number} procs {procs} fails {fails}"
-        )
+/// Adds how many places are dropped, where any are.
+fn add_trimmed(line: &mut PrintedLine, trimmed: u64)
+    requires { length line.old + 29 ≤ LONGEST_LINE }
+    ensures text { line.new ≡ line.old ++ trimmed_text trimmed }
+    ensures len { length line.new ≤ length line.old + 29 }
+{
+    if trimmed != 0 {
+        line.add_number(" trimmed ", trimmed);
     }
 }
 
-impl fmt::Display for Listed<'_, CommitToken> {
-    ghost output = { λ listed. Some (commit_text listed.0.now) };
+fn add_part<A: Allocator + Copy>(line: &mut PrintedLine, part: &Part<A>)
+    requires { length line.old + 140 ≤ LONGEST_LINE }
+    ensures text { line.new ≡ line.old ++ part_text part.now }
+    ensures len { length line.new ≤ length line.old + 140 }
+{
+    line.add_number("part from ", part.first);
+    line.add_number(" count ", part.calls.as_slice().len() as u64);
+}
 
-    fn fmt<W: fmt::Write>(&self, f: &mut fmt::Formatter<W>) -> fmt::Result {
-        let (ring, members, hop) = (self.0.ring, Listed(&self.0.members), self.0.hop);
-        let entries = self.0.entries.as_slice().len();
-        write!(
-            f,
-            "commit {ring} members {members} hop {hop} entries {entries}"
-        )
+fn add_pack<A: Allocator + Copy>(line: &mut PrintedLine, pack: &Pack<A>)
+    requires { length line.old + 140 ≤ LONGEST_LINE }
+    ensures text { line.new ≡ line.old ++ pack_text pack.now }
+    ensures len { length line.new ≤ length line.old + 140 }
+{
+    line.add_number("pack count ", pack.calls.as_slice().len() as u64);
+}
+
+fn add_snap<A: Allocator + Copy>(line: &mut PrintedLine, snap: &Snap<A>)
+    requires { length line.old + 140 ≤ LONGEST_LINE }
+    ensures text { line.new ≡ line.old ++ snap_text snap.now }
+    ensures len { length line.new ≤ length line.old + 140 }
+{
+    line.add_number("snap at ", snap.at);
+    line.add_number(" total ", u64::from(snap.total));
+    line.add_number(" offset ", u64::from(snap.offset));
+    line.add_number(" count ", snap.bytes.as_slice().len() as u64);
+}
+
+fn add_token(line: &mut PrintedLine, token: &Token)
+    requires { line.old ≡ [] }
+    ensures text { line.new ≡ token_text token.now }
+    ensures len { length line.new ≤ 900 }
+{
+    add_ring(line, "token ", token.ring);
+    line.add_number(" number ", token.number);
+    line.add_number(" seq ", token.seq);
+    line.add_number(" aru ", token.aru);
+    add_lowered(line, token.aru_id);
+    line.add(b" asks ");
+    add_requests(line, &token.requests);
+}
+
+/// Adds who lowered what is held, 0 for none.
+fn add_lowered(line: &mut PrintedLine, node: Option<Proc>)
+    requires { length line.old + 24 ≤ LONGEST_LINE }
+    ensures text { line.new ≡ line.old ++ codes " id " ++ lowered_text node }
+    ensures len { length line.new ≤ length line.old + 24 }
+{
+    match node {
+        None => line.add(b" id 0"),
+        Some(node) => line.add_number(" id ", u64::from(node.number())),
     }
 }
 
-impl<A: Allocator + Copy> fmt::Display for Listed<'_, Payload<A>> {
-    ghost output = { λ listed. Some (payload_text listed.0.now) };
-
-    fn fmt<W: fmt::Write>(&self, f: &mut fmt::Formatter<W>) -> fmt::Result {
-        match self.0 {
-            Payload::Call(call) => write!(f, "{}", Listed(call)),
-            Payload::Wrapped(wrapped) => write!(f, "{}", Listed(wrapped)),
-            Payload::End => write!(f, "end"),
-            Payload::Head(head) => write!(f, "{}", Listed(head)),
-            Payload::Part(part) => write!(f, "{}", Listed(part)),
-            Payload::Pack(pack) => write!(f, "{}", Listed(pack)),
-            Payload::Snap(snap) => write!(f, "{}", Listed(snap)),
-        }
-    }
+fn add_join(line: &mut PrintedLine, join: &Join)
+    requires { line.old ≡ [] }
+    ensures text { line.new ≡ join_text join.now }
+    ensures len { length line.new ≤ 900 }
+{
+    line.add_number("join ", u64::from(join.sender.number()));
+    line.add_number(" number ", join.number);
+    line.add(b" procs ");
+    add_members(line, join.proc_set);
+    line.add(b" fails ");
+    add_members(line, join.fail_set);
 }
 
-impl<A: Allocator + Copy> fmt::Display for Listed<'_, Wrapped<A>> {
-    ghost output = { λ listed. Some (wrapped_text listed.0.now) };
-
-    fn fmt<W: fmt::Write>(&self, f: &mut fmt::Formatter<W>) -> fmt::Result {
-        let (ring, number, sender) = (self.0.ring, self.0.number, self.0.sender);
-        write!(
-            f,
-            "wrapped {ring} seq {number} from {sender} {}",
-            Listed(&self.0.payload)
-        )
-    }
+fn add_commit(line: &mut PrintedLine, token: &CommitToken)
+    requires { line.old ≡ [] }
+    ensures text { line.new ≡ commit_text token.now }
+    ensures len { length line.new ≤ 900 }
+{
+    add_ring(line, "commit ", token.ring);
+    line.add(b" members ");
+    add_members(line, token.members);
+    line.add_number(" hop ", u64::from(token.hop));
+    line.add_number(" entries ", token.entries.as_slice().len() as u64);
 }
 
-impl<A: Allocator + Copy> fmt::Display for Listed<'_, Content<A>> {
-    ghost output = { λ listed. Some (content_text listed.0.now) };
-
-    fn fmt<W: fmt::Write>(&self, f: &mut fmt::Formatter<W>) -> fmt::Result {
-        match self.0 {
-            Content::Call(call) => write!(f, "{}", Listed(call)),
-            Content::Head(head) => write!(f, "{}", Listed(head)),
-            Content::Part(part) => write!(f, "{}", Listed(part)),
-            Content::Pack(pack) => write!(f, "{}", Listed(pack)),
-            Content::Snap(snap) => write!(f, "{}", Listed(snap)),
-        }
-    }
+/// Adds the members' numbers, ascending.
+fn add_members(line: &mut PrintedLine, members: ProcSet)
+    requires { length line.old + 340 ≤ LONGEST_LINE }
+    ensures text { line.new ≡ line.old ++ numbers_text (elements members) }
+    ensures len { length line.new ≤ length line.old + 340 }
+{
+    add_numbers(
+        line,
+        members.iter().map(|member| u64::from(member.number())),
+    );
 }
 
-impl<A: Allocator + Copy> fmt::Display for Listed<'_, Call<A>> {
-    ghost output = { λ listed. Some (call_text listed.0.now) };
-
-    fn fmt<W: fmt::Write>(&self, f: &mut fmt::Formatter<W>) -> fmt::Result {
-        let (client, number, length) = (self.0.client, self.0.number, self.0.op.as_slice().len());
-        write!(f, "call {client}.{number} op {length}")
-    }
+fn add_requests(line: &mut PrintedLine, requests: &Requests)
+    requires { length line.old + 680 ≤ LONGEST_LINE }
+    ensures text { line.new ≡ line.old ++ numbers_text requests.now }
+    ensures len { length line.new ≤ length line.old + 680 }
+{
+    add_numbers(line, requests.as_slice().iter().copied());
 }
 
-impl fmt::Display for Listed<'_, Head> {
-    ghost output = { λ listed. Some (head_text listed.0.now) };
-
-    fn fmt<W: fmt::Write>(&self, f: &mut fmt::Formatter<W>) -> fmt::Result {
-        let (last, length, committed) = (Listed(&self.0.last), self.0.length, self.0.committed);
-        let trimmed = Trimmed(self.0.trimmed);
-        write!(
-            f,
-            "head last {last} length {length} committed {committed}{trimmed}"
-        )
-    }
-}
-
-/// A ring, `none` where there is none.
-impl fmt::Display for Listed<'_, Option<RingId>> {
-    ghost output = { λ listed. Some (primary_text listed.0.now) };
-
-    fn fmt<W: fmt::Write>(&self, f: &mut fmt::Formatter<W>) -> fmt::Result {
-        match self.0 {
-            None => write!(f, "none"),
-            Some(ring) => write!(f, "{ring}"),
-        }
-    }
-}
-
-impl<A: Allocator + Copy> fmt::Display for Listed<'_, Part<A>> {
-    ghost output = { λ listed. Some (part_text listed.0.now) };
-
-    fn fmt<W: fmt::Write>(&self, f: &mut fmt::Formatter<W>) -> fmt::Result {
-        let (first, count) = (self.0.first, self.0.calls.as_slice().len());
-        write!(f, "part from {first} count {count}")
-    }
-}
-
-impl<A: Allocator + Copy> fmt::Display for Listed<'_, Pack<A>> {
-    ghost output = { λ listed. Some (pack_text listed.0.now) };
-
-    fn fmt<W: fmt::Write>(&self, f: &mut fmt::Formatter<W>) -> fmt::Result {
-        let count = self.0.calls.as_slice().len();
-        write!(f, "pack count {count}")
-    }
-}
-
-impl<A: Allocator + Copy> fmt::Display for Listed<'_, Snap<A>> {
-    ghost output = { λ listed. Some (snap_text listed.0.now) };
-
-    fn fmt<W: fmt::Write>(&self, f: &mut fmt::Formatter<W>) -> fmt::Result {
-        let (at, total, offset) = (self.0.at, self.0.total, self.0.offset);
-        let count = self.0.bytes.as_slice().len();
-        write!(
-            f,
-            "snap at {at} total {total} offset {offset} count {count}"
-        )
-    }
-}
-
-/// The members' numbers, ascending.
-impl fmt::Display for Listed<'_, ProcSet> {
-    ghost output = { λ listed. Some (numbers_text (elements listed.0.now)) };
-
-    fn fmt<W: fmt::Write>(&self, f: &mut fmt::Formatter<W>) -> fmt::Result {
-        write_numbers(f, self.0.iter().map(|member| u64::from(member.number())))
-    }
-}
-
-impl fmt::Display for Listed<'_, Requests> {
-    ghost output = { λ listed. Some (numbers_text listed.0.now) };
-
-    fn fmt<W: fmt::Write>(&self, f: &mut fmt::Formatter<W>) -> fmt::Result {
-        write_numbers(f, self.0.as_slice().iter().copied())
-    }
-}
-
-/// Writes numbers by commas, `-` where there are none.
-fn write_numbers<W: fmt::Write, I: Iterator<Item = u64> + Drop>(
-    f: &mut fmt::Formatter<W>,
-    numbers: I,
-) -> fmt::Result
+/// Adds numbers by commas, `-` where there are none.
+fn add_numbers<I: Iterator<Item = u64> + Drop>(line: &mut PrintedLine, numbers: I)
     requires can { I.can_next numbers }
     requires ends { IsFinite (I.remaining numbers) }
-    ensures { (all : List ℕ) → AlwaysYields I.next_gives (λ n. n) numbers all
-        → WritesOnOk W.write_str_gives f.old result (numbers_text all) f.new }
+    requires room { length line.old + 21 * size (I.remaining numbers) + 1 ≤ LONGEST_LINE }
+    ensures text { (all : List ℕ) → AlwaysYields I.next_gives (λ n. n) numbers all
+        → line.new ≡ line.old ++ numbers_text all }
+    ensures len { length line.new ≤ length line.old + 21 * size (I.remaining numbers) + 1 }
 {
     let mut is_empty = true;
     for number in numbers {
-        if !is_empty {
-            write!(f, ",")?;
-        }
-        write!(f, "{number}")?;
+        line.add_number(if is_empty { "" } else { "," }, number);
         is_empty = false;
     }
     if is_empty {
-        write!(f, "-")?;
+        line.add(b"-");
     }
-    Ok(())
 }

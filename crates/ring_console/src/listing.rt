@@ -1,6 +1,6 @@
 //! Listing the frames of a file.
 
-ghost use Rattle.std.specs.Prelude.{◌≡◌, ◌≤◌, OnOk, IfErr};
+ghost use Rattle.std.specs.Prelude.{◌≡◌, ◌≤◌, [], OnOk, IfErr};
 ghost use Rattle.std.specs.Io.KnownBytes.{Keeps, Appends};
 ghost use Rattle.ring_report.specs.declared.failure.Failure.TheVariants.{Output};
 ghost use Rattle.ring_report.specs.Texts.{line_of};
@@ -8,7 +8,8 @@ ghost use Rattle.ring_console.specs.Listed.{frame_text};
 ghost use Rattle.ring_console.specs.Listings.{IsListed, IsCut};
 
 use crate::ahead::Ahead;
-use crate::listed::Listed;
+use crate::line::PrintedLine;
+use crate::listed::add_frame;
 use ring_base::Fault;
 use ring_report::{Failure, Lent, exit_status, report};
 use ring_wire::Frame;
@@ -59,20 +60,28 @@ fn list_frames<A: Allocator + Copy, R: Read, W: Write>(
 {
     let mut ahead = Ahead::new(alloc)?;
     let mut next = None;
+    let mut line = PrintedLine::new();
     for _ in 0..u64::MAX {
         ahead.next_frame(alloc, input, &mut next)?;
         let Some(frame) = &next else {
             return Ok(());
         };
-        print_frame(out, frame)?;
+        print_frame(out, &mut line, frame)?;
     }
     Err(Failure::Output)
 }
 
-/// Prints a frame's line. Otherwise `Output`.
-fn print_frame<A: Allocator + Copy, W: Write>(out: &mut W, frame: &Frame<A>) -> Result<(), Failure>
+/// Prints a frame's line, which is put together in this one. Otherwise `Output`.
+fn print_frame<A: Allocator + Copy, W: Write>(
+    out: &mut W,
+    line: &mut PrintedLine,
+    frame: &Frame<A>,
+) -> Result<(), Failure>
+    requires empty { line.old ≡ [] }
     ensures line { OnOk result (Appends (W.contents out.old) (W.contents out.new) (line_of (frame_text frame.now))) }
+    ensures begun { line.new ≡ [] }
     ensures failed { IfErr result (λ failure. failure ≡ Output) }
 {
-    writeln!(out, "{}", Listed(frame)).map_err(|_| Failure::Output)
+    add_frame(line, frame);
+    line.write_to(out).map_err(|_| Failure::Output)
 }

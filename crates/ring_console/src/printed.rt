@@ -8,8 +8,7 @@ ghost use Rattle.ring_report.specs.declared.failure.Failure.TheVariants.{Output}
 ghost use Rattle.ring_report.specs.Texts.{line_of, legal_text};
 ghost use Rattle.ring_console.specs.Printed.{one_text, told_text, answer_text, refused_text, node_text, order_text};
 
-use arrayvec::ArrayVec;
-use itoa::Buffer;
+use crate::line::{LONGEST_LINE, PrintedLine};
 use ring_base::{Proc, RingId, State};
 use ring_object::Reply;
 use ring_payload::Call;
@@ -22,12 +21,6 @@ use std::io::{self, Write};
 
 /// The hexadecimal digits of the longest reply: two for each of its 64 bytes.
 const MOST_DIGITS: usize = 128;
-
-/// Room for the longest line of an answer: 8 bytes of a word, three numbers of at most 20 digits behind a word each, a word and a reply, and its end.
-const LONGEST_LINE: usize = 208;
-
-/// A line of an answer, as far as it is put together.
-type AnswerLine = ArrayVec<u8, LONGEST_LINE>;
 
 /// Prints what nodes told, a line each. Otherwise `Output`.
 pub(crate) fn print_told<A: Allocator + Copy + Drop, W: Write>(
@@ -92,15 +85,14 @@ fn write_answer<A: Allocator + Copy + Drop, W: Write>(
 ) -> io::Result<()>
     ensures { OnOk result (Appends (W.contents out.old) (W.contents out.new) (line_of (answer_text node call.now answer.now))) }
 {
-    let mut line = ArrayVec::new();
+    let mut line = PrintedLine::new();
     add_call(&mut line, "reply ", node, call);
     match answer {
         Answer::Done(reply) => add_reply(&mut line, " done ", reply),
         Answer::Kept(reply) => add_reply(&mut line, " kept ", reply),
-        Answer::Refused(reason) => add_number(&mut line, " refused ", u64::from(*reason)),
+        Answer::Refused(reason) => line.add_number(" refused ", u64::from(*reason)),
     }
-    line.push(b'\n');
-    out.write_all(line.as_slice())
+    line.write_to(out)
 }
 
 /// Writes the line of a call that is refused.
@@ -112,70 +104,47 @@ fn write_refused<A: Allocator + Copy + Drop, W: Write>(
 ) -> io::Result<()>
     ensures { OnOk result (Appends (W.contents out.old) (W.contents out.new) (line_of (refused_text node call.now reason))) }
 {
-    let mut line = ArrayVec::new();
+    let mut line = PrintedLine::new();
     add_call(&mut line, "refused ", node, call);
-    add_number(&mut line, " ", u64::from(reason));
-    line.push(b'\n');
-    out.write_all(line.as_slice())
+    line.add_number(" ", u64::from(reason));
+    line.write_to(out)
 }
 
 /// Adds a word, the node, and the call's client and number.
 fn add_call<A: Allocator + Copy + Drop>(
-    line: &mut AnswerLine,
+    line: &mut PrintedLine,
     word: &str,
     node: Proc,
     call: &Call<A>,
 )
-    requires empty { line.old.items ≡ [] }
+    requires empty { line.old ≡ [] }
     requires room { length word.now ≤ 8 }
-    ensures items { line.new.items ≡ word.now ++ decimal node ++ codes " " ++ decimal call.now.client ++ codes "." ++ decimal call.now.number }
-    ensures len { length line.new.items ≤ 70 }
+    ensures text { line.new ≡ word.now ++ decimal node ++ codes " " ++ decimal call.now.client ++ codes "." ++ decimal call.now.number }
+    ensures len { length line.new ≤ 70 }
 {
-    add_number(line, word, u64::from(node.number()));
-    add_number(line, " ", u64::from(call.client));
-    add_number(line, ".", call.number);
-}
-
-/// Adds a word and a number.
-fn add_number(line: &mut AnswerLine, word: &str, number: u64)
-    requires { length line.old.items + length word.now + 20 ≤ LONGEST_LINE }
-    ensures items { line.new.items ≡ line.old.items ++ word.now ++ decimal number }
-    ensures len { length line.new.items ≤ length line.old.items + length word.now + 20 }
-{
-    let mut digits = Buffer::new();
-    add(line, word.as_bytes());
-    add(line, digits.format(number).as_bytes());
+    line.add_number(word, u64::from(node.number()));
+    line.add_number(" ", u64::from(call.client));
+    line.add_number(".", call.number);
 }
 
 /// Adds a word and a reply, as two hexadecimal digits a byte in lower case.
-fn add_reply(line: &mut AnswerLine, word: &str, reply: &Reply)
-    requires { length line.old.items + length word.now + MOST_DIGITS ≤ LONGEST_LINE }
-    ensures items { line.new.items ≡ line.old.items ++ word.now ++ encode_lower reply.now }
-    ensures len { length line.new.items ≤ length line.old.items + length word.now + MOST_DIGITS }
+fn add_reply(line: &mut PrintedLine, word: &str, reply: &Reply)
+    requires { length line.old + length word.now + MOST_DIGITS ≤ LONGEST_LINE }
+    ensures text { line.new ≡ line.old ++ word.now ++ encode_lower reply.now }
+    ensures len { length line.new ≤ length line.old + length word.now + MOST_DIGITS }
 {
     let mut room = [0u8; MOST_DIGITS];
     let digits = &mut room[..2 * reply.len()];
     let Ok(()) = hex::encode_to_slice(reply.as_slice(), digits) else {
         unreachable!();
     };
-    add(line, word.as_bytes());
-    add(line, digits);
-}
-
-/// Adds the bytes, for which there is room.
-fn add(line: &mut AnswerLine, bytes: &[u8])
-    requires { length line.old.items + length bytes.now ≤ LONGEST_LINE }
-    ensures items { line.new.items ≡ line.old.items ++ bytes.now }
-    ensures len { length line.new.items ≡ length line.old.items + length bytes.now }
-{
-    let Ok(()) = line.try_extend_from_slice(bytes) else {
-        unreachable!();
-    };
+    line.add(word.as_bytes());
+    line.add(digits);
 }
 
 /// How many places of a log are dropped, at the end of what is told of it: nothing where that is 0.
 #[derive(Drop)]
-pub(crate) struct Trimmed(pub u64);
+struct Trimmed(u64);
 
 impl fmt::Display for Trimmed {
     ghost use Rattle.std.specs.Prelude.{Some};

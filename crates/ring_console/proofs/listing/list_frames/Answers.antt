@@ -10,22 +10,24 @@ returns-in_err-ahead-clause-cut g c =
 pub loop-init : goal.loop-init
 loop-init g c =
     let made = c.in_ok-ahead in
-    so_far_none made.ahead _ _ (rw (made.ensures.empty, made.ensures.open.1) refl) made.ensures.open.0 made.ensures.open.2
+    (so_far_none made.ahead _ _ (rw (made.ensures.empty, made.ensures.open.1) refl) made.ensures.open.0 made.ensures.open.2, c.new-line.ensures)
 
 pub returns-in_err-next_frame-clause-cut : goal.returns-in_err-next_frame-clause-cut
 returns-in_err-next_frame-clause-cut g c =
     let failure = c.in_err-next_frame.field-0.0 in
     value_at_err c.from_residual-in_err-next_frame.result failure _ c.from_residual-in_err-next_frame.ensures.1
-    (so_far_cut c.loop.ahead _ _ _ _ c.next_frame.new.self.state failure c.loop.invariant
+    (so_far_cut c.loop.ahead _ _ _ _ c.next_frame.new.self.state failure c.loop.invariant.0
     c.in_err-next_frame.ensures.stopped)
 
 pub returns-in_default-clause-listed : goal.returns-in_default-clause-listed
 returns-in_default-clause-listed g c =
     let next = rw c.in_default.is at c.in_ok-next_frame.ensures.next in
-    so_far_whole c.loop.ahead c.next_frame.new.self _ _ _ _ _ c.loop.invariant next
+    so_far_whole c.loop.ahead c.next_frame.new.self _ _ _ _ _ c.loop.invariant.0 next
 
 pub loop-preserved : goal.loop-preserved
 loop-preserved g c =
-    let next = rw c.in-Some.is at c.in_ok-next_frame.ensures.next in
-    so_far_more c.loop.ahead c.next_frame.new.self _ _ _ _ _ _ c.in-Some.frame c.loop.invariant next
-    c.in_ok-print_frame.ensures.line c.in_ok-next_frame.ensures.ended
+    let next = rw c.in-Some.is at c.in_ok-next_frame.ensures.next in (
+      so_far_more c.loop.ahead c.next_frame.new.self _ _ _ _ _ _ c.in-Some.frame c.loop.invariant.0 next
+          c.in_ok-print_frame.ensures.line c.in_ok-next_frame.ensures.ended,
+      c.print_frame.ensures.begun,
+    )
