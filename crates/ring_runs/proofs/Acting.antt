@@ -1,30 +1,54 @@
--- Of the events those happen that act.
+-- Of the events those happen that act, and what a whole run of them gives.
 use Rattle.std.proofs.Common.{◌≡◌, ℕ, ◌+◌, ◌≤◌, Bool, true, false, take, filter, append_assoc, List, [], ◌∷◌, ◌++◌, length, Some, slice_get}
-use Rattle.std.proofs.Common.{if◌then◌else◌, ap, ◌∙◌, sym}
+use Rattle.std.proofs.Common.{Option, if◌then◌else◌, refl, ap, ◌∙◌, sym, subst}
+use Rattle.std.proofs.lemmas.List.{append-nil, take_all}
 use Rattle.std.proofs.lemmas.List.Elements.{filter-append}
-use Rattle.ring_core_proof.specs.declared.event.RingEvent.{RingEvent}
-use Rattle.ring_runs.specs.Running.{Ran, all_ran, more}
 use Rattle.ring_base.proofs.Rows.{take-more}
-use Rattle.ring_runs.proofs.Openings.{ran_none, take_whole}
+use Rattle.ring_core_proof.specs.declared.event.RingEvent.{RingEvent}
+use Rattle.ring_core_proof.specs.Worlds.{run, unformed, run_formed}
+use Rattle.ring_runs.specs.Running.{Ran, IsPrepared, none_ran, none_ran_formed, all_ran, more, world_of, acts}
 
-pub acted_more : {A : Type 0} (acts : RingEvent A → Bool) (r s t : Ran A) (es : List (RingEvent A)) (i : ℕ) (e : RingEvent A) →
-    s ≡ all_ran r (filter acts (take i es)) →
-    slice_get es i ≡ Some e → t ≡ all_ran s (filter acts (e ∷ [])) → t ≡ all_ran r (filter acts (take (i + 1) es))
-acted_more {A} acts r s t es i e a h b =
+pub ran_none : {A : Type 0} (r : Ran A) → r ≡ all_ran r []
+ran_none {A} r =
+    let with_events : List (RingEvent A) → Ran A = λ es. record r { events = es } in
+    ap with_events (sym (append-nil r.events))
+
+pub acted_more : {A : Type 0} (formed : Bool) (r s t : Ran A) (es : List (RingEvent A)) (i : ℕ) (e : RingEvent A) →
+    s ≡ all_ran r (filter (acts formed) (take i es)) →
+    slice_get es i ≡ Some e → t ≡ all_ran s (filter (acts formed) (e ∷ [])) → t ≡ all_ran r (filter (acts formed) (take (i + 1) es))
+acted_more {A} formed r s t es i e a h b =
     let with_events : List (RingEvent A) → Ran A = λ xs. record r { events = xs } in
-    b ∙ ap (λ q. all_ran q (filter acts (e ∷ []))) a
-    ∙ ap with_events (append_assoc r.events (filter acts (take i es)) (filter acts (e ∷ []))
-    ∙ ap (λ xs. r.events ++ xs) (sym (filter-append acts (take i es) (e ∷ [])) ∙ ap (filter acts) (sym (take-more es i e h))))
+    let acting : List (RingEvent A) → List (RingEvent A) = filter (acts formed) in
+    b ∙ ap (λ q. all_ran q (acting (e ∷ []))) a
+    ∙ ap with_events (append_assoc r.events (acting (take i es)) (acting (e ∷ []))
+    ∙ ap (λ xs. r.events ++ xs) (sym (filter-append (acts formed) (take i es) (e ∷ [])) ∙ ap acting (sym (take-more es i e h))))
 
-pub acted_whole : {A : Type 0} (acts : RingEvent A → Bool) (r s : Ran A) (es : List (RingEvent A)) (i : ℕ) → s ≡ all_ran r (filter acts (take i es)) →
+pub acted_whole : {A : Type 0} (formed : Bool) (r s : Ran A) (es : List (RingEvent A)) (i : ℕ) → s ≡ all_ran r (filter (acts formed) (take i es)) →
     length es ≤ i →
-    s ≡ all_ran r (filter acts es)
-acted_whole acts r s es i a l = a ∙ ap (λ xs. all_ran r (filter acts xs)) (take_whole es i l)
+    s ≡ all_ran r (filter (acts formed) es)
+acted_whole formed r s es i a l = a ∙ ap (λ xs. all_ran r (filter (acts formed) xs)) (take_all i es l)
 
 -- one that acts, and one that does not
 
-pub acts_one : {A : Type 0} (acts : RingEvent A → Bool) (r : Ran A) (e : RingEvent A) → acts e ≡ true → more r e ≡ all_ran r (filter acts (e ∷ []))
-acts_one {A} acts r e h = ap (λ b. all_ran r (if b then e ∷ [] else [])) (sym h)
+pub acts_one : {A : Type 0} (formed : Bool) (r : Ran A) (e : RingEvent A) → acts formed e ≡ true → more r e ≡ all_ran r (filter (acts formed) (e ∷ []))
+acts_one {A} formed r e h = ap (λ b. all_ran r (if b then e ∷ [] else [])) (sym h)
 
-pub acts_none : {A : Type 0} (acts : RingEvent A → Bool) (r : Ran A) (e : RingEvent A) → acts e ≡ false → r ≡ all_ran r (filter acts (e ∷ []))
-acts_none {A} acts r e h = ran_none r ∙ ap (λ b. all_ran r (if b then e ∷ [] else [])) (sym h)
+pub acts_none : {A : Type 0} (formed : Bool) (r : Ran A) (e : RingEvent A) → acts formed e ≡ false → r ≡ all_ran r (filter (acts formed) (e ∷ []))
+acts_none {A} formed r e h = ran_none r ∙ ap (λ b. all_ran r (if b then e ∷ [] else [])) (sym h)
+
+-- All act from Gather
+
+all_act : {A : Type 0} (es : List (RingEvent A)) → filter (acts false) es ≡ es
+all_act [] = refl
+all_act (e ∷ es) = ap (λ xs. e ∷ xs) (all_act es)
+
+-- What was prepared is run as it opened
+
+pub runs_ring : {A : Type 0} (n : ℕ) (r : Ran A) (cores : Option (Ran A)) (es : List (RingEvent A)) → IsPrepared (none_ran_formed n) cores → cores ≡ Some r →
+    world_of (all_ran r (filter (acts true) es)) ≡ run_formed n es
+runs_ring n r cores es h e = ap (λ q. world_of (all_ran q (filter (acts true) es))) (subst (IsPrepared (none_ran_formed n)) e h)
+
+pub runs_gather : {A : Type 0} (n : ℕ) (r : Ran A) (cores : Option (Ran A)) (es : List (RingEvent A)) → IsPrepared (none_ran n) cores → cores ≡ Some r →
+    world_of (all_ran r (filter (acts false) es)) ≡ run (unformed n) es
+runs_gather n r cores es h e =
+    ap (λ q. world_of (all_ran q (filter (acts false) es))) (subst (IsPrepared (none_ran n)) e h) ∙ ap (run (unformed n)) (all_act es)

@@ -1,12 +1,13 @@
 -- What the code of a world of ring cores keeps, and how that tells the world: Rings and states, rule 14 of docs/PROTOCOL.md.
-use Rattle.std.specs.Prelude.{◌≡◌, ℕ, Bool, true, false, suc, ◌<◌, List, [], ◌∷◌, ◌++◌, filter_map, length, if◌then◌else◌, Option, Some, None, slice_get}
+use Rattle.std.specs.Prelude.{◌≡◌, ℕ, Bool, true, false, not, ◌||◌, suc, ◌<◌, List, [], ◌∷◌, ◌++◌, filter_map, length, if◌then◌else◌}
+use Rattle.std.specs.Prelude.{Option, Some, None, slice_get}
 use Rattle.ring_base.specs.Processors.{has}
 use Rattle.ring_wire.specs.declared.frame.Frame.{Frame}
 use Rattle.ring_core.specs.declared.out.Out.{Out}
 use Rattle.ring_core.specs.declared.out.Out.TheVariants.{Send as SendOut, Agreed, Safe, Trans, Rest, Regular}
 use Rattle.ring_core.specs.State.{Core, Sent, Carried}
 use Rattle.ring_core_proof.specs.declared.event.RingEvent.{RingEvent}
-use Rattle.ring_core_proof.specs.Worlds.{World, carried_by, unformed, ring_formed, run}
+use Rattle.ring_core_proof.specs.Worlds.{World, acts_on_formed, carried_by, unformed, ring_formed, run}
 use Rattle.ring_core_proof.specs.Limits.{WorldFits}
 
 -- What happened
@@ -37,6 +38,10 @@ more r event = record r { events = r.events ++ event ∷ [] }
 
 abbrev pub all_ran : {A : Type 0} → Ran A → List (RingEvent A) → Ran A
 all_ran r events = record r { events = r.events ++ events }
+
+-- whether an event acts: on a ring of all some do, and from Gather all
+abbrev pub acts : {A : Type 0} → Bool → RingEvent A → Bool
+acts formed event = not formed || acts_on_formed event
 
 -- What the code keeps
 

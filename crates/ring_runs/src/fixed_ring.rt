@@ -1,6 +1,6 @@
 //! Ring cores that are run on a ring of all that is formed from the start.
 
-ghost use Rattle.std.specs.Prelude.{◌≡◌, ℕ, ◌<◌, true, false, [], ◌∷◌, length, filter, IfOk, IfErr, OnOk, OnErr};
+ghost use Rattle.std.specs.Prelude.{◌≡◌, ℕ, ◌<◌, true, false, length, IfOk, IfErr, OnOk, OnErr};
 ghost use Rattle.std.specs.List.{AllByRecursion};
 ghost use Rattle.ring_base.specs.declared.fault.Fault.TheVariants.{Memory};
 ghost use Rattle.ring_base.specs.declared.ring_id.RingId.{RingId as OneRing};
@@ -10,11 +10,11 @@ ghost use Rattle.ring_core.specs.State.{all_of};
 ghost use Rattle.ring_core.specs.Views.{front};
 ghost use Rattle.ring_core_proof.specs.Limits.{EventFits};
 ghost use Rattle.ring_core_proof.specs.Texts.{HasOneText};
-ghost use Rattle.ring_core_proof.specs.Worlds.{acts_on_formed, run_formed};
-ghost use Rattle.ring_runs.specs.Running.{world_of, all_ran};
+ghost use Rattle.ring_core_proof.specs.Worlds.{run_formed};
 
 use crate::cores::Cores;
-use ring_base::{Fault, Fixed, Kind, Proc};
+use crate::running::run_acting;
+use ring_base::{Fault, Fixed, Proc};
 use ring_core::Out;
 use ring_core_proof::RingEvent;
 use std::alloc::{Allocator, Global};
@@ -74,13 +74,8 @@ impl<A: Allocator + Copy> FixedRing<A> {
         ensures refused { IfErr result (λ fault. fault ≡ Memory) }
     {
         prove!(self.fixed.count() >= 1);
-        match self.cores.take() {
-            Some(cores) => {
-                self.done = 0;
-                run_acting(cores, events, &mut self.done)
-            }
-            None => Err(Fault::Memory),
-        }
+        let cores = self.cores.take().ok_or(Fault::Memory)?;
+        run_acting(cores, true, events, &mut self.done)
     }
 
     /// How many events of the run were done.
@@ -88,49 +83,5 @@ impl<A: Allocator + Copy> FixedRing<A> {
         ensures { result ≡ self.now.done }
     {
         self.done
-    }
-}
-
-/// Runs the events that act.
-fn run_acting<A: Allocator + Copy>(
-    cores: Cores<A>,
-    events: &[RingEvent<A>],
-    done: &mut u64,
-) -> Result<Vec<(Proc, Out<A>), A>, Fault>
-    requires fit { AllByRecursion EventFits events.now }
-    requires fresh { done.old ≡ 0 }
-    ensures outs { IfOk result (λ outs. outs.items ≡ (world_of (all_ran cores (filter acts_on_formed events.now))).outs) }
-    ensures all { OnOk result (done.new ≡ length events.now) }
-    ensures some { OnErr result (done.new < length events.now) }
-    ensures refused { IfErr result (λ fault. fault ≡ Memory) }
-{
-    let mut world = cores;
-    for event in events {
-        world = acted(world, event)?;
-        *done += 1;
-    }
-    Ok(world.into_outs())
-}
-
-/// An event happens, if it acts.
-fn acted<A: Allocator + Copy>(world: Cores<A>, event: &RingEvent<A>) -> Result<Cores<A>, Fault>
-    requires { EventFits event.now }
-    ensures ok { IfOk result (λ after. after ≡ all_ran world (filter acts_on_formed (event.now ∷ []))) }
-    ensures refused { IfErr result (λ fault. fault ≡ Memory) }
-{
-    if acts_on_formed(event) {
-        world.happens(event)
-    } else {
-        Ok(world)
-    }
-}
-
-/// Whether an event acts on a ring that is formed from the start.
-fn acts_on_formed<A: Allocator + Copy>(event: &RingEvent<A>) -> bool
-    ensures { result ≡ acts_on_formed event.now }
-{
-    match event {
-        RingEvent::Timeout(_, kind) => matches!(kind, Kind::Retransmit),
-        RingEvent::Send(_, _) | RingEvent::Deliver(_, _) | RingEvent::Stop(_) => true,
     }
 }

@@ -5,6 +5,7 @@ mod cores;
 mod fixed_ring;
 mod history;
 mod rings;
+mod running;
 mod sent;
 
 pub use cores::Cores;

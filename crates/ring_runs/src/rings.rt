@@ -7,10 +7,10 @@ ghost use Rattle.ring_chain_proof.specs.ChainTold.{NameSameMembers, SafeIsSafe, 
 ghost use Rattle.ring_core_proof.specs.Limits.{EventFits};
 ghost use Rattle.ring_core_proof.specs.Worlds.{run, unformed};
 ghost use Rattle.ring_core_proof.specs.CommitRounds.{CommitRounds};
-ghost use Rattle.ring_runs.specs.Running.{world_of, all_ran};
 ghost use Rattle.ring_synchrony_proof.specs.Synchrony.{IsVirtuallySynchronous};
 
 use crate::cores::Cores;
+use crate::running::run_acting;
 use ring_base::{Fault, Fixed, Proc};
 use ring_core::Out;
 use ring_core_proof::RingEvent;
@@ -67,13 +67,8 @@ impl<A: Allocator + Copy> Rings<A> {
         ensures some { OnErr result (self.new.done < length events.now) }
         ensures refused { IfErr result (λ fault. fault ≡ Memory) }
     {
-        match self.cores.take() {
-            Some(cores) => {
-                self.done = 0;
-                run_all(cores, events, &mut self.done)
-            }
-            None => Err(Fault::Memory),
-        }
+        let cores = self.cores.take().ok_or(Fault::Memory)?;
+        run_acting(cores, false, events, &mut self.done)
     }
 
     /// How many events of the run were done.
@@ -82,25 +77,4 @@ impl<A: Allocator + Copy> Rings<A> {
     {
         self.done
     }
-}
-
-/// Runs the events.
-fn run_all<A: Allocator + Copy>(
-    cores: Cores<A>,
-    events: &[RingEvent<A>],
-    done: &mut u64,
-) -> Result<Vec<(Proc, Out<A>), A>, Fault>
-    requires fit { AllByRecursion EventFits events.now }
-    requires fresh { done.old ≡ 0 }
-    ensures outs { IfOk result (λ outs. outs.items ≡ (world_of (all_ran cores events.now)).outs) }
-    ensures all { OnOk result (done.new ≡ length events.now) }
-    ensures some { OnErr result (done.new < length events.now) }
-    ensures refused { IfErr result (λ fault. fault ≡ Memory) }
-{
-    let mut world = cores;
-    for event in events {
-        world = world.happens(event)?;
-        *done += 1;
-    }
-    Ok(world.into_outs())
 }

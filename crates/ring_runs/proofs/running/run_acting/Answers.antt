@@ -4,14 +4,12 @@ use Rattle.std.proofs.lemmas.Option.{slice_get_read}
 use Rattle.ring_base.proofs.Each.{each-get}
 use Rattle.ring_base.proofs.Results.{on-err}
 use Rattle.ring_core_proof.specs.Limits.{EventFits}
-use Rattle.ring_core_proof.specs.Worlds.{acts_on_formed}
 use Rattle.ring_runs.specs.Running.{Ran, world_of}
-use Rattle.ring_runs.proofs.Openings.{ran_none}
-use Rattle.ring_runs.proofs.Acting.{acted_more, acted_whole}
-use Rattle.ring_runs.proofs.fixed_ring.run_acting.Goals as goal
+use Rattle.ring_runs.proofs.Acting.{ran_none, acted_more, acted_whole}
+use Rattle.ring_runs.proofs.running.run_acting.Goals as goal
 
 pub loop-event-init : goal.loop-event-init
-loop-event-init g c = (ran_none c.args.cores, c.requires.fresh)
+loop-event-init g c = (ran_none c.args.cores, refl)
 
 pub acted-requires : goal.acted-requires
 acted-requires g c =
@@ -26,14 +24,14 @@ loop-event-preserved g c =
     let e = c.event-item.result in
     let i = c.loop-event.event-index in
     let at = slice_get_read es (length es) i e refl c.loop-event-test.true c.event-item.is in (
-      acted_more acts_on_formed c.args.cores c.loop-event.world c.in_ok-world.world es i e c.loop-event.invariant.0 at c.in_ok-world.ensures.ok,
+      acted_more c.args.formed c.args.cores c.loop-event.world c.in_ok-world.world es i e c.loop-event.invariant.0 at c.in_ok-world.ensures.ok,
       ap (λ n. n + 1) c.loop-event.invariant.1,
     )
 
 pub returns-clause-outs : goal.returns-clause-outs
 returns-clause-outs g c =
     c.into_outs.ensures ∙ ap (λ (r : Ran g.row.A.Denot). (world_of r).outs)
-    (acted_whole acts_on_formed c.args.cores c.loop-event.world c.args.events.now c.loop-event.event-index c.loop-event.invariant.0 c.loop-event-test.false)
+    (acted_whole c.args.formed c.args.cores c.loop-event.world c.args.events.now c.loop-event.event-index c.loop-event.invariant.0 c.loop-event-test.false)
 
 pub returns-in_err-world-clause-some : goal.returns-in_err-world-clause-some
 returns-in_err-world-clause-some g c =
