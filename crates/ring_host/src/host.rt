@@ -1,6 +1,6 @@
 //! The host, and what its callers ask of it.
 
-ghost use Rattle.std.specs.Prelude.{◌≡◌, ◌<◌, ◌≤◌, [], ◌++◌, All, IfOk, IfErr, IfSome, OnErr, Ok, Some, option_to_list};
+ghost use Rattle.std.specs.Prelude.{◌≡◌, ◌<◌, ◌≤◌, [], ◌++◌, All, IfOk, IfErr, IfSome, IfNone, OnErr, Ok, Some, option_to_list};
 ghost use Rattle.ring_base.specs.declared.fault.Fault.TheVariants.{NotMember};
 ghost use Rattle.std.specs.Fn.{FnOnceReturnsAt};
 ghost use Rattle.ring_payload.specs.Calls.{CallFits};
@@ -89,13 +89,14 @@ impl<C, B, A: Allocator + Copy + Drop> HostOf<C, B, A> {
         Ok(Proc::new(number))
     }
 
-    /// Takes the last of these seats of the host's: of those that it was made with, the seats of none come first, and then the
-    /// nodes' own, the last node's before the others.
+    /// Takes the last of these seats of the host's, if there is one: of those that it was made with, the seats of none come first, and
+    /// then the nodes' own, the last node's before the others.
     pub fn take_seat(&self, seats: &mut Vec<Seat<A>, A>) -> Option<Seat<A>>
         requires { All (IsAt self.now) seats.old.items }
         ensures seats { All (IsAt self.now) seats.new.items }
         ensures seat { IfSome result (IsAt self.now) }
         ensures last { seats.old.items ≡ seats.new.items ++ option_to_list result }
+        ensures none { IfNone result (seats.old.items ≡ []) }
     {
         seats.pop()
     }
