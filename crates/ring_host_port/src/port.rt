@@ -1,6 +1,6 @@
 //! Ports to the nodes of a host.
 
-ghost use Rattle.std.specs.Prelude.{◌≡◌, ◌≤◌, All, IfOk, IfErr, IfSome, OnOk};
+ghost use Rattle.std.specs.Prelude.{◌≡◌, ◌≤◌, ◌+◌, [], length, All, IfOk, IfErr, IfSome, OnOk, OnErr};
 ghost use Rattle.ring_base.specs.declared.fault.Fault.TheVariants.{NotMember};
 ghost use Rattle.ring_client.specs.Asking.{unasked, submitted, refused_with, polled, IsTold};
 ghost use Rattle.ring_seat.specs.Seats.{IsAt};
@@ -85,7 +85,7 @@ impl<'a, O: Object, K: BookName<O::Alloc>, W: Wait> HostPort<'a, O, K, W> {
     }
 
     /// The port to the host's node of this number, with the last of these seats of the host's. `NotMember` where it has no such node,
-    /// or no seat is left.
+    /// or no seat is left: then the seats are as before.
     pub fn to(
         rt: &'a W,
         host: &'a Host<O, K>,
@@ -95,6 +95,9 @@ impl<'a, O: Object, K: BookName<O::Alloc>, W: Wait> HostPort<'a, O, K, W> {
         requires { All (IsAt host.now) seats.old.items }
         ensures seats { All (IsAt host.now) seats.new.items }
         ensures port { IfOk result (λ port. (port.node ≡ number) × (port.asked ≡ unasked)) }
+        ensures taken { OnOk result (length seats.old.items ≡ length seats.new.items + 1) }
+        ensures kept { OnErr result (seats.new.items ≡ seats.old.items) }
+        ensures err { OnErr result (1 ≤ number → number ≤ 16 → number ≤ host.now.words → seats.old.items ≡ []) }
         ensures refused { IfErr result (λ fault. fault ≡ NotMember) }
     {
         let node = host.proc(number)?;
