@@ -1,2 +1,4 @@
-pub mod Faults
+pub mod Apart
 pub mod Pushed
+pub mod Taken
+pub mod Ports

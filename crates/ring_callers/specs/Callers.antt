@@ -1,13 +1,10 @@
--- What is told of the calls of a group's clients, and with what a run of them is refused (docs/PROTOCOL.md, The book and the threads).
-use Rattle.std.specs.Prelude.{◌≡◌, ⊤, List}
+-- What is told of the calls of a group's clients (docs/PROTOCOL.md, The book and the threads).
+use Rattle.std.specs.Prelude.{◌≡◌, List}
 use Rattle.ring_base.specs.Group.{Group}
-use Rattle.ring_base.specs.declared.fault.Fault.{Fault}
-use Rattle.ring_base.specs.declared.fault.Fault.TheVariants.{NotMember}
 use Rattle.ring_object.specs.Operations.{Sequential}
 use Rattle.ring_rules.specs.Histories.{IsLinearization}
 use Rattle.ring_rules.specs.Worlds.{order, run, world_opening}
 use Rattle.ring_book.specs.Lines.{IsRun, LineView, events_of, history_of}
-use Rattle.ring_host_port.specs.Refusals.{IsTurnFault}
 use Rattle.ring_callers.specs.declared.calls.Calls.{Calls}
 
 -- These lines are of a run of the group, the order and the history are that run's, and the order explains the history.
@@ -20,8 +17,3 @@ pub record AreOfLines {A O : Type 0} (object : Sequential O) (group : Group) (li
 -- The order and the history are those of a run of the group, and the order explains the history.
 abbrev pub AreOfRun : {A O : Type 0} → Sequential O → Group → Calls A → Type 0
 AreOfRun {A} object group calls = (lines : List (LineView A)) × AreOfLines object group lines calls
-
--- a refusal of a run of callers
-abbrev pub IsCallersFault : Fault → Type 0
-IsCallersFault NotMember = ⊤
-IsCallersFault fault = IsTurnFault fault

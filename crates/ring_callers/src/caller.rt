@@ -1,8 +1,8 @@
 //! Clients that call from threads of their own.
 
-ghost use Rattle.std.specs.Prelude.{◌≡◌, All, IfErr};
-ghost use Rattle.ring_seat.specs.Seats.{IsAt};
-ghost use Rattle.ring_callers.specs.Callers.{IsCallersFault};
+ghost use Rattle.std.specs.Prelude.{◌≡◌, ℕ, ◌≤◌, IfOk, IfErr};
+ghost use Rattle.ring_base.specs.declared.fault.Fault.TheVariants.{Memory};
+ghost use Rattle.ring_callers.specs.Clients.{AreForAll, IsNew, node_after};
 
 use ring_base::Fault;
 use ring_client::{Client, Port};
@@ -15,10 +15,13 @@ const POLLS: u64 = 1_000_000;
 
 /// What a client does on a thread of its own. What it keeps of it stands in an atomic, or behind a lock.
 pub trait Caller {
-    /// The number of the node that the client tries first. Where this one refuses a call or doesn't answer it, the client passes on
-    /// to the next node, with the same call under the same number: in the order of their numbers, and node 1 after the last. It answers
-    /// the same each time.
-    fn first_node(&self) -> u8;
+    /// The number of the node that the client tries first.
+    ghost first: { Self → ℕ };
+
+    /// That number. Where this node refuses a call or doesn't answer it, the client passes on to the next node, with the same call under
+    /// the same number: in the order of their numbers, and node 1 after the last.
+    fn first_node(&self) -> u8
+        ensures { result ≡ first self.now };
 
     /// Makes the client's calls. It may wait for their answers.
     ///
@@ -37,7 +40,8 @@ pub(crate) fn call_from<O: Object, K: BookName<O::Alloc>, C: Caller, W: Wait>(
     number: u32,
     caller: &C,
 ) -> Result<(), Fault>
-    requires { All (IsAt host.now) seats.items }
+    requires { AreForAll host.now seats.items }
+    ensures refused { IfErr result (λ fault. fault ≡ Memory) }
 {
     let first = caller.first_node();
     let mut client = client_of(rt, alloc, host, seats, number, first)?;
@@ -55,9 +59,11 @@ fn client_of<'a, O: Object, K: BookName<O::Alloc>, W: Wait>(
     number: u32,
     first: u8,
 ) -> Result<Client<HostPort<'a, O, K, W>>, Fault>
-    requires { All (IsAt host.now) seats.items }
+    requires { AreForAll host.now seats.items }
+    ensures client { IfOk result (IsNew (λ port. port.node) number host.now.words first) }
+    ensures refused { IfErr result (λ fault. fault ≡ Memory) }
 {
-    let nodes = seats.len().min(16) as u8;
+    let nodes = seats.len() as u8;
     let mut seats = seats;
     let mut ports = Vec::new(alloc);
     for passed in 0..nodes {
@@ -68,20 +74,10 @@ fn client_of<'a, O: Object, K: BookName<O::Alloc>, W: Wait>(
 }
 
 /// The node that a client tries after so many others, where this one is its first.
-fn node_after(nodes: u8, first: u8, passed: u8) -> u8 {
-    let before = u32::from(first.saturating_sub(1)) + u32::from(passed);
-    (before % u32::from(nodes.max(1))) as u8 + 1
-}
-
-/// `NotMember` unless the host has each caller's first node.
-pub(crate) fn check_first_nodes<O: Object, K: BookName<O::Alloc>, C: Caller>(
-    host: &Host<O, K>,
-    callers: &[C],
-) -> Result<(), Fault>
-    ensures refused { IfErr result IsCallersFault }
+fn node_after(nodes: u8, first: u8, passed: u8) -> u8
+    requires { 1 ≤ nodes }
+    ensures { result ≡ node_after nodes first passed }
 {
-    for caller in callers {
-        host.proc(caller.first_node())?;
-    }
-    Ok(())
+    let before = u32::from(first.saturating_sub(1)) + u32::from(passed);
+    (before % u32::from(nodes)) as u8 + 1
 }

@@ -6,9 +6,11 @@
 
 mod caller;
 mod calls;
+mod checking;
 mod progress;
 mod running;
 
 pub use caller::Caller;
 pub use calls::Calls;
-pub use running::{MOST_PORTS, run_callers};
+pub use checking::MOST_PORTS;
+pub use running::run_callers;

@@ -1,23 +1,22 @@
 //! A group's nodes on threads, and the clients that call them.
 
-ghost use Rattle.std.specs.Prelude.{◌≡◌, ◌≤◌, All, IfOk, IfErr};
-ghost use Rattle.ring_base.specs.declared.fault.Fault.TheVariants.{Memory};
-ghost use Rattle.ring_seat.specs.Seats.{IsAt};
-ghost use Rattle.ring_callers.specs.Callers.{AreOfRun, IsCallersFault};
+ghost use Rattle.std.specs.Prelude.{◌≡◌, ◌<◌, ◌≤◌, ◌⊎◌, ◌++◌, All, length, reverse, IfOk, IfErr, OnOk};
+ghost use Rattle.ring_base.specs.declared.fault.Fault.TheVariants.{Memory, NotMember};
+ghost use Rattle.ring_callers.specs.Arguments.{IsNode, AreOfGroup, MayRun, IsRefused};
+ghost use Rattle.ring_callers.specs.Callers.{AreOfRun};
+ghost use Rattle.ring_callers.specs.Clients.{AreSeats, AreForAll};
 
-use crate::caller::{Caller, call_from, check_first_nodes};
+use crate::caller::{Caller, call_from};
 use crate::calls::{Calls, calls_of};
+use crate::checking::check_arguments;
 use crate::progress::Progress;
-use ring_base::{Fault, Fixed};
+use ring_base::{Fault, Fixed, Proc};
 use ring_host_port::{BookName, Gate, Host, Opening, Seat};
 use ring_object::Object;
 use std::marker::Brand;
 use std::sync::Wait;
 use std::thread;
 use std::thread::Threads;
-
-/// How many ports there are at most, of all clients: each has one to each node.
-pub const MOST_PORTS: usize = 256;
 
 /// Runs the nodes of a group, each on a thread of its own, while these callers call, each from a thread of its own: client 1 is the first
 /// of them, client 2 the second, and so on. The nodes of the numbers in `stopped` have stopped before the first turn. Nodes that have
@@ -28,9 +27,9 @@ pub const MOST_PORTS: usize = 256;
 /// that are made have `NoAnswer` in the end.
 ///
 /// Refused: `NotMember` where a number in `stopped`, or a caller's first node, is no node of the group, or the callers would have
-/// more than 256 ports; `Stopped` where a number stands in `stopped` twice; `Memory`. No caller has called then, but for `Memory` where a
-/// thread can't be started, or there is none for a client's ports or for the answer: of a client's ports or a thread, all nodes are
-/// stopped first for whose stops there is memory, and callers that were started come to their end.
+/// more than 256 ports; else `Stopped` where a number stands in `stopped` twice; else `Memory`. No caller has called then, but for
+/// `Memory` where a thread can't be started, or there is none for a client's ports or for the answer: of a client's ports or a thread, all
+/// nodes are stopped first for whose stops there is memory, and callers that were started come to their end.
 pub fn run_callers<O: Object + Send, C: Caller + Sync, W: Threads + Wait + Sync>(
     rt: &W,
     alloc: O::Alloc,
@@ -41,13 +40,15 @@ pub fn run_callers<O: Object + Send, C: Caller + Sync, W: Threads + Wait + Sync>
 where
     O::Alloc: Send + Sync,
     ensures calls { IfOk result (AreOfRun O.sequential group) }
-    ensures refused { IfErr result IsCallersFault }
+    ensures ok { OnOk result (MayRun group.count C.first stopped.now callers.now) }
+    ensures refused { IfErr result (IsRefused group.count C.first stopped.now callers.now) }
 {
+    check_arguments(group, stopped, callers)?;
     let opening = Opening::<O>::new(alloc, group)?;
     run_named::<O, Brand, C, W>(rt, alloc, opening, group.count(), stopped, callers)
 }
 
-/// The same at the opening that K names, of so many nodes.
+/// The same at the opening that K names, of so many nodes, where nothing but `Memory` refuses it.
 fn run_named<
     O: Object + Send,
     K: BookName<O::Alloc> + Send + Sync,
@@ -63,34 +64,35 @@ fn run_named<
 ) -> Result<Calls<O::Alloc>, Fault>
 where
     O::Alloc: Send + Sync,
-    requires { opening ≡ K.name }
+    requires name { opening ≡ K.name }
+    requires nodes { (nodes ≡ K.name.group.count) × (nodes ≤ 16) }
+    requires arguments { AreOfGroup nodes C.first stopped.now callers.now }
     ensures calls { IfOk result (AreOfRun O.sequential K.name.group) }
-    ensures refused { IfErr result IsCallersFault }
+    ensures refused { IfErr result (λ fault. fault ≡ Memory) }
 {
-    let ports = callers.len().saturating_mul(usize::from(nodes));
-    if ports > MOST_PORTS {
-        return Err(Fault::NotMember);
-    }
+    let ports = callers.len() * usize::from(nodes);
     let (host, seats) = Host::<O, K>::new(alloc, opening, ports as u16)?;
-    check_first_nodes(&host, callers)?;
     stop_all(rt, &host, stopped)?;
     let gate = host.paced(rt)?;
     run_all(rt, alloc, &host, &gate, seats, nodes, callers)?;
     calls_of(rt, &host)
 }
 
-/// Stops the nodes of these numbers.
-#[tactic(auto, using(crate::proofs::Faults::turn_refused))]
+/// Stops the nodes of these numbers, of a host that is new: none of them has stopped, and no place of its book is used, so `Memory`
+/// is all that such a stop can want.
 fn stop_all<O: Object, K: BookName<O::Alloc>, W: Wait>(
     rt: &W,
     host: &Host<O, K>,
     stopped: &[u8],
 ) -> Result<(), Fault>
-    ensures refused { IfErr result IsCallersFault }
+    requires few { host.now.words ≤ 16 }
+    requires nodes { All (IsNode host.now.words) stopped.now }
+    ensures refused { IfErr result (λ fault. fault ≡ Memory) }
 {
     for number in stopped {
-        let node = host.proc(*number)?;
-        host.stop(rt, node)?;
+        if host.stop(rt, Proc::new(*number)).is_err() {
+            return Err(Fault::Memory);
+        }
     }
     Ok(())
 }
@@ -114,7 +116,7 @@ fn run_all<
 ) -> Result<(), Fault>
 where
     O::Alloc: Send + Sync,
-    requires { All (IsAt host.now) seats.items }
+    requires { AreSeats host.now nodes seats.items }
     ensures refused { IfErr result (λ fault. fault ≡ Memory) }
 {
     let running = Progress::new(callers.len());
@@ -123,7 +125,7 @@ where
         thread::scope_env(),
         rt,
         move |scope|
-            requires { All (IsAt host.now) seats.items }
+            requires { AreSeats host.now nodes seats.items }
         {
             let mut seats = seats;
             let mut number = 0u32;
@@ -131,7 +133,7 @@ where
                 number = number.saturating_add(1);
                 let own = seats_of(alloc, host, &mut seats, nodes);
                 let called = move ||
-                    requires { IfOk own (λ seats. All (IsAt host.now) seats.items) }
+                    requires { IfOk own (λ seats. AreForAll host.now seats.items) }
                 { call(rt, alloc, host, own, number, caller, left) };
                 if scope.spawn(called).is_err() {
                     left.refuse(rt, host);
@@ -150,19 +152,21 @@ where
     Ok(())
 }
 
-/// So many of the host's seats. Or `Memory`, or `NotMember` where there are less.
+/// As many of the host's seats as it has nodes, off the end of the list. Or `Memory`, or `NotMember` where there are less.
 fn seats_of<O: Object, K: BookName<O::Alloc>>(
     alloc: O::Alloc,
     host: &Host<O, K>,
     seats: &mut Vec<Seat<O::Alloc>, O::Alloc>,
-    count: u8,
+    nodes: u8,
 ) -> Result<Vec<Seat<O::Alloc>, O::Alloc>, Fault>
-    requires { All (IsAt host.now) seats.old.items }
-    ensures seats { All (IsAt host.now) seats.new.items }
-    ensures own { IfOk result (λ own. All (IsAt host.now) own.items) }
+    requires { AreSeats host.now nodes seats.old.items }
+    ensures seats { AreSeats host.now nodes seats.new.items }
+    ensures own { IfOk result (λ own. AreForAll host.now own.items) }
+    ensures taken { IfOk result (λ own. seats.old.items ≡ seats.new.items ++ reverse own.items) }
+    ensures refused { IfErr result (λ fault. (fault ≡ Memory) ⊎ ((fault ≡ NotMember) × (length seats.old.items < nodes))) }
 {
     let mut own = Vec::new(alloc);
-    for _ in 0..count {
+    for _taken in 0..nodes {
         let Some(seat) = host.take_seat(seats) else {
             return Err(Fault::NotMember);
         };
@@ -181,7 +185,7 @@ fn call<O: Object, K: BookName<O::Alloc>, C: Caller, W: Wait>(
     caller: &C,
     running: &Progress,
 )
-    requires { IfOk own (λ seats. All (IsAt host.now) seats.items) }
+    requires { IfOk own (λ seats. AreForAll host.now seats.items) }
 {
     let called = match own {
         Ok(seats) => call_from(rt, alloc, host, seats, number, caller),
