@@ -20,6 +20,8 @@ struct Asker {
 }
 
 impl Caller for Asker {
+    ghost first = { λ asker. asker.first };
+
     fn first_node(&self) -> u8 {
         self.first
     }

@@ -20,6 +20,8 @@ struct Adder {
 }
 
 impl Caller for Adder {
+    ghost first = { λ adder. adder.first };
+
     fn first_node(&self) -> u8 {
         self.first
     }

@@ -12,3 +12,4 @@ pub use Rattle.totem_ring.specs.Typed
 pub use Rattle.totem_ring.specs.Types
 pub use Rattle.ring_seat.specs.Seats
 pub use Rattle.ring_callers.specs.Callers
+pub use Rattle.ring_callers.specs.Arguments

@@ -8,7 +8,7 @@
 //! client calls over [`HostPort`]s, each with a seat of its own, and any thread may stop a node. A [`BookName`] names the opening in
 //! types, so that what a host says is said of that opening's run (`std::marker::Brand` is one).
 //!
-//! In contracts, `Rattle.totem_threads.specs` has what `Rattle.totem_ring.specs` has, `Seats`, and `Callers`.
+//! In contracts, `Rattle.totem_threads.specs` has what `Rattle.totem_ring.specs` has, `Seats`, `Callers`, and `Arguments`.
 #![tactic(auto)]
 
 pub use ring_callers::{Caller, Calls, run_callers};
