@@ -91,8 +91,29 @@ fn strange_bits<O: Object, K: BookName<O::Alloc>>(
     strange
 }
 
-/// The join of processor 1 goes to processor 2 alone. To how many nodes, at how many places and with how many bits changed
-/// it is a stranger's, how many bytes it has, and whether it is a stranger's as it was sent.
+/// To how many nodes, at how many places and with how many bits changed the bytes are a stranger's, how many there are, and
+/// whether they are a stranger's as they stand.
+fn strange<O: Object, K: BookName<O::Alloc>>(
+    book: &mut Book<O, K>,
+    bytes: &mut [u8],
+) -> (u32, u32, usize, usize, bool) {
+    let nodes = strange_nodes(book, bytes);
+    let places = strange_places(book, bytes);
+    let bits = strange_bits(book, bytes);
+    let is = is_strange(book, 2, FIRST, bytes);
+    (nodes, places, bits, bytes.len(), is)
+}
+
+/// The join of processor 1 goes to processor 2 alone. The same of its bytes as they were sent.
+fn strange_join<O: Object, K: BookName<O::Alloc>>(
+    driven: &mut Driven<O, K>,
+) -> Result<(u32, u32, usize, usize, bool), Fault> {
+    driven.time(1)?;
+    let mut sent = driven.spelled(FIRST)?;
+    Ok(strange(&mut driven.book, sent.as_mut_slice()))
+}
+
+/// The same at an opening.
 fn refused_bytes<O: Object, K: BookName<O::Alloc>>(
     alloc: O::Alloc,
     opening: Opening<O>,
@@ -100,13 +121,7 @@ fn refused_bytes<O: Object, K: BookName<O::Alloc>>(
     requires { opening ≡ K.name }
 {
     let mut driven = Driven::<O, K>::new(alloc, opening)?;
-    driven.time(1)?;
-    let mut sent = driven.spelled(FIRST)?;
-    let nodes = strange_nodes(&mut driven.book, sent.as_slice());
-    let places = strange_places(&mut driven.book, sent.as_slice());
-    let bits = strange_bits(&mut driven.book, sent.as_mut_slice());
-    let is = is_strange(&mut driven.book, 2, FIRST, sent.as_slice());
-    Ok((nodes, places, bits, sent.len(), is))
+    strange_join(&mut driven)
 }
 
 /// The refusal of entering a step, if it is refused, and how many places are used or reserved then.
@@ -118,10 +133,7 @@ fn entered<O: Object, K: BookName<O::Alloc>>(
     place: Place,
     cell: &mut Cell<O, K>,
 ) -> Entered {
-    let refusal = match book.enter(place, cell) {
-        Ok(_) => None,
-        Err(fault) => Some(fault),
-    };
+    let refusal = book.enter(place, cell).err();
     (refusal, book.places())
 }
 
@@ -151,6 +163,16 @@ fn entered_at_one<O: Object, K: BookName<O::Alloc>>(
 }
 
 /// One place is reserved, for which both processors enter.
+fn entered_at_both<O: Object, K: BookName<O::Alloc>>(
+    driven: &mut Driven<O, K>,
+) -> Result<((Entered, Entered), (Entered, Entered)), Fault> {
+    driven.time(1)?;
+    let place = driven.book.reserve()?;
+    let at_two = entered_at_two(driven, place)?;
+    Ok((at_two, entered_at_one(driven, place)?))
+}
+
+/// The same at an opening.
 fn refused_entries<O: Object, K: BookName<O::Alloc>>(
     alloc: O::Alloc,
     opening: Opening<O>,
@@ -158,27 +180,31 @@ fn refused_entries<O: Object, K: BookName<O::Alloc>>(
     requires { opening ≡ K.name }
 {
     let mut driven = Driven::<O, K>::new(alloc, opening)?;
-    driven.time(1)?;
-    let place = driven.book.reserve()?;
-    let at_two = entered_at_two(&mut driven, place)?;
-    Ok((at_two, entered_at_one(&mut driven, place)?))
+    entered_at_both(&mut driven)
 }
 
 /// How many places can be reserved, which refusal comes behind them, and how many places are used or reserved then.
+fn reserve_all<O: Object, K: BookName<O::Alloc>>(
+    book: &mut Book<O, K>,
+) -> (u32, Option<Fault>, u32) {
+    let mut many = 0u32;
+    for _ in 0..300_000u32 {
+        match book.reserve() {
+            Ok(_) => many = many.saturating_add(1),
+            Err(fault) => return (many, Some(fault), book.places()),
+        }
+    }
+    (many, None, book.places())
+}
+
+/// The same at an opening.
 fn reserved<O: Object, K: BookName<O::Alloc>>(
     opening: Opening<O>,
 ) -> Result<(u32, Option<Fault>, u32), Fault>
     requires { opening ≡ K.name }
 {
     let (mut book, _cells) = opening.parts::<K>()?;
-    let mut many = 0u32;
-    for _ in 0..300_000u32 {
-        match book.reserve() {
-            Ok(_) => many = many.saturating_add(1),
-            Err(fault) => return Ok((many, Some(fault), book.places())),
-        }
-    }
-    Ok((many, None, book.places()))
+    Ok(reserve_all(&mut book))
 }
 
 /// The places reserved in a book of counters of one.

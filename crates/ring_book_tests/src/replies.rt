@@ -99,6 +99,18 @@ fn asked<O: Object, K: BookName<O::Alloc>>(
 }
 
 /// What is seen before the call is sent, and once all nodes have committed it.
+fn both_shown<O: Object, K: BookName<O::Alloc>>(
+    driven: &mut Driven<O, K>,
+    nodes: u8,
+    processor: u8,
+) -> Result<(Shown, Shown), Fault> {
+    let ticket = asked(driven, nodes, processor)?;
+    let before = shown(driven, ticket, processor)?;
+    driven.pump(100)?;
+    Ok((before, shown(driven, ticket, processor)?))
+}
+
+/// The same at an opening.
 fn replied<O: Object, K: BookName<O::Alloc>>(
     alloc: O::Alloc,
     opening: Opening<O>,
@@ -108,10 +120,7 @@ fn replied<O: Object, K: BookName<O::Alloc>>(
     requires { opening ≡ K.name }
 {
     let mut driven = Driven::<O, K>::new(alloc, opening)?;
-    let ticket = asked(&mut driven, nodes, processor)?;
-    let before = shown(&driven, ticket, processor)?;
-    driven.pump(100)?;
-    Ok((before, shown(&driven, ticket, processor)?))
+    both_shown(&mut driven, nodes, processor)
 }
 
 /// The same of counters.

@@ -31,6 +31,17 @@ where
     sends(book)
 }
 
+/// The book may go to another thread, and so may each of its cells.
+fn lend_all<O: Object + Send, K: BookName<O::Alloc> + Send>(driven: &Driven<O, K>)
+where
+    O::Alloc: Send + Sync,
+{
+    lend_book(&driven.book);
+    for cell in driven.cells.as_slice() {
+        lend_cell(cell);
+    }
+}
+
 /// A cell and a book are made here. A step is done and entered in another thread, and seen here: what it answered, and how
 /// many places are used.
 fn stepped_there<O: Object + Send, K: BookName<O::Alloc> + Send + Sync, R: Threads + Sync>(
@@ -43,10 +54,7 @@ where
     requires { opening ≡ K.name }
 {
     let mut driven = Driven::<O, K>::new(alloc, opening)?;
-    lend_book(&driven.book);
-    for cell in driven.cells.as_slice() {
-        lend_cell(cell);
-    }
+    lend_all(&driven);
     let lent = &mut driven;
     let (done, ()) = thread::join(rt, move || lent.time(1), || ());
     Ok((done, driven.book.places()))

@@ -79,6 +79,18 @@ fn calls<O: Object, K: BookName<O::Alloc>>(
 }
 
 /// A node alone does 256 calls.
+fn done_alone<O: Object, K: BookName<O::Alloc>>(
+    driven: &mut Driven<O, K>,
+) -> Result<(Option<Places>, Shown), Fault> {
+    driven.settle(1, 4)?;
+    for first in [1, 65, 129, 193] {
+        calls(driven, 1, first, 64, 2)?;
+    }
+    let shown = shown(&driven.book, 1, [0, 255, 256])?;
+    Ok((places(driven, 1), shown))
+}
+
+/// The same at an opening.
 fn alone<O: Object, K: BookName<O::Alloc>>(
     alloc: O::Alloc,
     opening: Opening<O>,
@@ -86,12 +98,7 @@ fn alone<O: Object, K: BookName<O::Alloc>>(
     requires { opening ≡ K.name }
 {
     let mut driven = Driven::<O, K>::new(alloc, opening)?;
-    driven.settle(1, 4)?;
-    for first in [1, 65, 129, 193] {
-        calls(&mut driven, 1, first, 64, 2)?;
-    }
-    let shown = shown(&driven.book, 1, [0, 255, 256])?;
-    Ok((places(&driven, 1), shown))
+    done_alone(&mut driven)
 }
 
 /// Three nodes form a ring, and 10 calls are done.
@@ -123,6 +130,20 @@ fn merge<O: Object, K: BookName<O::Alloc>>(driven: &mut Driven<O, K>) -> Result<
 }
 
 /// What is seen of node 3 and of the book before the rings merge and afterwards.
+fn merged<O: Object, K: BookName<O::Alloc>>(
+    driven: &mut Driven<O, K>,
+) -> Result<[(Option<Places>, Shown); 2], Fault> {
+    form(driven)?;
+    part(driven)?;
+    let before = shown(&driven.book, 1, [0, 299, 300])?;
+    let away = places(driven, 3);
+    merge(driven)?;
+    calls(driven, 3, 301, 1, 200)?;
+    let after = shown(&driven.book, 3, [0, 1, 2])?;
+    Ok([(away, before), (places(driven, 3), after)])
+}
+
+/// The same at an opening.
 fn restored<O: Object, K: BookName<O::Alloc>>(
     alloc: O::Alloc,
     opening: Opening<O>,
@@ -130,14 +151,7 @@ fn restored<O: Object, K: BookName<O::Alloc>>(
     requires { opening ≡ K.name }
 {
     let mut driven = Driven::<O, K>::new(alloc, opening)?;
-    form(&mut driven)?;
-    part(&mut driven)?;
-    let before = shown(&driven.book, 1, [0, 299, 300])?;
-    let away = places(&driven, 3);
-    merge(&mut driven)?;
-    calls(&mut driven, 3, 301, 1, 200)?;
-    let after = shown(&driven.book, 3, [0, 1, 2])?;
-    Ok([(away, before), (places(&driven, 3), after)])
+    merged(&mut driven)
 }
 
 /// The first of counters.

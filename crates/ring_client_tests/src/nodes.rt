@@ -12,7 +12,6 @@ use ring_object::{Object, Reply};
 use ring_payload::Call;
 use ring_session::{Answer, Ticket};
 use ring_things::{Counters, Outcome, reply_with};
-use std::process::Abort;
 use std::test::Fail;
 
 /// A node that is alone, and whether its join timeout has come.
@@ -154,25 +153,30 @@ fn client_of<O: Object>(alloc: O::Alloc) -> Result<Client<NodePort<O>>, Fault> {
     Ok(Client::new(alloc, 7, ports, 100))
 }
 
-/// The call of this number was answered by the third node, at the last of so many polls: the counter is at 5.
-fn assert_third_answered<P: Port>(rt: &impl Abort, client: &Client<P>, number: u64, polls: u64) {
+/// Whether a call, of this number, is answered by the third node, at the last of so many polls: the counter is at 5.
+fn third_answers<P: Port>(client: &mut Client<P>, op: &[u8], number: u64, polls: u64) -> bool {
     let five = Answer::Done(counted(5));
     let told = [
         (number, Some(8), 0, None),
         (number, None, 100, None),
         (number, None, polls, Some(five)),
     ];
-    assert!(rt; tell(client, &told), "call {number}");
+    client.call(op) == Ok(counted(5)) && tell(client, &told)
+}
+
+/// Whether that is so of a call that adds, by the last of 8 polls, and of one that reads, by the last of 3.
+fn are_answered<O: Object>(alloc: O::Alloc) -> Result<(bool, bool), Fault> {
+    let mut client = client_of::<O>(alloc)?;
+    Ok((
+        third_answers(&mut client, Counters::add(0, 5).as_slice(), 1, 8),
+        third_answers(&mut client, Counters::read(0).as_slice(), 2, 3),
+    ))
 }
 
 /// The reply comes with the sixth frame after the join timeout, and the poll after these seven turns tells it. Of a ring that
 /// runs, it comes with the second frame.
 #[test]
 fn a_call_survives_nodes_that_stop_or_never_answer(rt: HostRuntime) -> Result<(), Fail> {
-    let mut client = client_of::<Counters>(rt.alloc())?;
-    assert!(rt; client.call(Counters::add(0, 5).as_slice()) == Ok(counted(5)));
-    assert_third_answered(&rt, &client, 1, 8);
-    assert!(rt; client.call(Counters::read(0).as_slice()) == Ok(counted(5)));
-    assert_third_answered(&rt, &client, 2, 3);
+    assert!(rt; are_answered::<Counters>(rt.alloc())? == (true, true));
     Ok(())
 }

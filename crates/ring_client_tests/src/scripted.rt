@@ -7,7 +7,7 @@ use ring_base::Fault;
 use ring_client::{Asked, Client, Port};
 use ring_payload::Call;
 use ring_session::Answer;
-use std::alloc::{Allocator, Global};
+use std::alloc::Allocator;
 
 /// What a port does with a call.
 #[derive(Clone, Copy)]
@@ -62,7 +62,7 @@ fn takes(behaviour: &Behaviour) -> Result<(), Fault> {
 
 /// A port that behaves so.
 #[derive(Drop)]
-pub struct Scripted<A: Allocator + Copy + Drop = Global> {
+pub struct Scripted<A: Allocator + Copy + Drop> {
     behaviour: Behaviour,
     /// Client and number of each call submitted, in order.
     pub submits: Vec<(u32, u64), A>,

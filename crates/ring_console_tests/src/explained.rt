@@ -26,17 +26,22 @@ fn order_explains<O: Object>(heap: O::Alloc, run: &Run<O>) -> Result<bool, Fault
     is_linearization::<O>(heap, order.as_slice(), run.world().history())
 }
 
-/// Whether what a script comes to is explained, as far as it comes.
+/// Whether what a script of such an object comes to is explained, as far as it comes.
+fn is_explained_of<O: Object>(heap: O::Alloc, alloc: Global, text: &str) -> Result<bool, Fault> {
+    let script = Script::read(heap, &mut text.as_bytes()).map_err(fault_of)?;
+    let mut run = Run::<O>::new(heap, script.nodes)?;
+    let mut out = Vec::<u8>::new(alloc);
+    let _ = run.take(script, &mut out);
+    order_explains(heap, &run)
+}
+
+/// The same of the program's object.
 pub fn is_explained<A: Allocator + Copy + Drop>(
     heap: A,
     alloc: Global,
     text: &str,
 ) -> Result<bool, Fault> {
-    let script = Script::read(heap, &mut text.as_bytes()).map_err(fault_of)?;
-    let mut run = Run::<Things<A>>::new(heap, script.nodes)?;
-    let mut out = Vec::<u8>::new(alloc);
-    let _ = run.take(script, &mut out);
-    order_explains(heap, &run)
+    is_explained_of::<Things<A>>(heap, alloc, text)
 }
 
 /// Answers an error exactly where memory was refused and all is explained; where it isn't, the other answer.

@@ -1,4 +1,5 @@
-//! Tests of which texts are scripts, and of what the program prints where memory is refused, an input or an output fails.
+//! Tests of which texts are scripts, and of what the program prints where memory is refused, an input or an output fails; and
+//! of scripts that are made by seeds.
 //! What scripts and listings print, the data of `totem_examples` shows. Expected values are those of the tables and worked
 //! examples in `docs/FORMATS.md`.
 #![tactic(auto)]
@@ -8,11 +9,17 @@ mod any_object;
 #[cfg(test)]
 mod explained;
 #[cfg(test)]
+mod failing_runs;
+#[cfg(test)]
 mod failures;
 #[cfg(test)]
 mod inputs;
 #[cfg(test)]
 mod listings;
+#[cfg(test)]
+mod made_scripts;
+#[cfg(test)]
+mod making_refused;
 #[cfg(test)]
 mod operations;
 #[cfg(test)]
@@ -21,7 +28,5 @@ mod orders;
 mod partition;
 #[cfg(test)]
 mod printed;
-#[cfg(test)]
-mod runs;
 #[cfg(test)]
 mod scripts;

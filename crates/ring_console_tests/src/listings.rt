@@ -8,35 +8,23 @@ use ring_console::frames;
 use std::alloc::{AllocError, Allocator, Global};
 use std::test::Fail;
 
-const JOIN: &str = "545201030000000d02000000000000000500070004";
+/// A join.
+const JOIN: &[u8] = b"\x54\x52\x01\x03\0\0\0\x0d\x02\0\0\0\0\0\0\0\x05\0\x07\0\x04";
 
-const TOKEN: &str =
-    "54520102000000330000000000000001010000000000000004000000000000000a000000000000000802\
-    020000000000000009000000000000000a";
+/// That join, a token, a message and a commit token, one behind another.
+const FOUR: &[u8] = b"\x54\x52\x01\x03\0\0\0\x0d\x02\0\0\0\0\0\0\0\x05\0\x07\0\x04\
+    \x54\x52\x01\x02\0\0\0\x33\0\0\0\0\0\0\0\x01\x01\0\0\0\0\0\0\0\x04\0\0\0\0\0\0\0\x0a\0\0\0\0\0\0\0\
+    \x08\x02\x02\0\0\0\0\0\0\0\x09\0\0\0\0\0\0\0\x0a\
+    \x54\x52\x01\x01\0\0\0\x2c\0\0\0\0\0\0\0\x01\x01\0\0\0\0\0\0\0\x03\x01\x01\0\0\0\x07\0\0\0\0\0\0\0\
+    \x01\0\x0b\x01\x01\0\0\0\0\0\0\0\0\x05\
+    \x54\x52\x01\x04\0\0\0\x45\0\0\0\0\0\0\0\x01\x01\0\x01\x01\0\0\0\0\0\0\0\0\x01\0\0\0\0\0\0\0\0\0\0\0\
+    \0\0\0\0\0\0\0\0\0\0\0\0\0\0\0\0\0\0\0\0\0\0\0\0\0\0\0\0\0\0\0\0\0\0\0\0\0";
 
-const MESSAGE: &str =
-    "545201010000002c000000000000000101000000000000000301010000000700000000000000010\
-    00b0101000000000000000005";
-
-const COMMIT: &str =
-    "5452010400000045000000000000000101000101000000000000000001000000000000000000000000\
-    000000000000000000000000000000000000000000000000000000000000000000000000";
-
-const FOUR: [&str; 4] = [JOIN, TOKEN, MESSAGE, COMMIT];
-
+/// The lines of these.
 const FOUR_LINES: &str = "join 2 number 5 procs 1,2,3 fails 3\n\
     token 1.1 number 4 seq 10 aru 8 id 2 asks 9,10\n\
     message 1.1 seq 3 from 1 call 7.1 op 11\n\
     commit 1.1 members 1 hop 1 entries 1\n";
-
-/// The bytes that the texts spell in hex, one behind another.
-fn bytes_of(alloc: Global, texts: &[&str]) -> Result<Vec<u8>, Fail> {
-    let mut bytes = Vec::new(alloc);
-    for text in texts {
-        bytes.extend_from_slice(hex::decode(alloc, *text)?.as_slice())?;
-    }
-    Ok(bytes)
-}
 
 fn listing_of<A: Allocator + Copy>(heap: A, alloc: Global, bytes: &[u8]) -> Printed {
     let mut out = Vec::new(alloc);
@@ -45,20 +33,19 @@ fn listing_of<A: Allocator + Copy>(heap: A, alloc: Global, bytes: &[u8]) -> Prin
     Printed { out, err, status }
 }
 
-/// So many joins, one behind another, and then one byte.
-fn joins(alloc: Global, count: usize) -> Result<Vec<u8>, Fail> {
-    let join = hex::decode(alloc, JOIN)?;
-    let mut bytes = Vec::new(alloc);
+/// Adds so many joins, one behind another, and then one byte.
+fn add_joins<A: Allocator>(bytes: &mut Vec<u8, A>, count: usize) -> Result<(), AllocError> {
     for _ in 0..count {
-        bytes.extend_from_slice(join.as_slice())?;
+        bytes.extend_from_slice(JOIN)?;
     }
     bytes.push(0)?;
-    Ok(bytes)
+    Ok(())
 }
 
 /// How many requests for memory a listing of so many joins makes, and how many bytes it prints, if it ends with this complaint.
-fn requests_of(alloc: Global, count: usize, err: &str) -> Result<Option<(u64, usize)>, Fail> {
-    let joins = joins(alloc, count)?;
+fn requests_of(alloc: Global, count: usize, err: &str) -> Result<Option<(u64, usize)>, AllocError> {
+    let mut joins = Vec::new(alloc);
+    add_joins(&mut joins, count)?;
     let heap = Refusing::new(alloc, u64::MAX);
     let printed = listing_of(&heap, alloc, joins.as_slice());
     let told = (heap.requests(), printed.out.len());
@@ -69,8 +56,7 @@ fn requests_of(alloc: Global, count: usize, err: &str) -> Result<Option<(u64, us
 fn a_long_file_takes_no_more_memory_than_a_short_one(rt: HostRuntime) -> Result<(), Fail> {
     let short = requests_of(rt.alloc(), 1, "totem: 12 bad frame at byte 21\n")?;
     let long = requests_of(rt.alloc(), 10_000, "totem: 12 bad frame at byte 210000\n")?;
-    assert!(rt; short.map(|told| told.1) == Some(36));
-    assert!(rt; long == short.map(|told| (told.0, 360_000)));
+    assert!(rt; matches!((short, long), (Some((few, 36)), Some((many, 360_000))) if few == many));
     Ok(())
 }
 
@@ -88,13 +74,11 @@ fn lines_before_failure(alloc: Global, bytes: &[u8], length: usize) -> Option<us
 }
 
 #[test]
-fn a_file_that_fails_is_bad_at_byte_0_after_its_whole_frames(rt: HostRuntime) -> Result<(), Fail> {
-    let bytes = bytes_of(rt.alloc(), &FOUR)?;
+fn a_file_that_fails_is_bad_at_byte_0_after_its_whole_frames(rt: HostRuntime) {
     for (length, lines) in [(0, 0), (20, 0), (21, 1), (80, 2), (208, 3), (209, 4)] {
-        let told = lines_before_failure(rt.alloc(), bytes.as_slice(), length);
+        let told = lines_before_failure(rt.alloc(), FOUR, length);
         assert!(rt; told == Some(lines), "of {length}");
     }
-    Ok(())
 }
 
 /// The exit status of a listing for which there is so much room, if nothing is said on standard error.
@@ -105,14 +89,12 @@ fn status_with_room(alloc: Global, bytes: &[u8], room: usize) -> Option<u8> {
 }
 
 #[test]
-fn an_output_that_fails_says_nothing(rt: HostRuntime) -> Result<(), Fail> {
-    let bytes = bytes_of(rt.alloc(), &FOUR)?;
+fn an_output_that_fails_says_nothing(rt: HostRuntime) {
     let all = FOUR_LINES.len();
     for (room, status) in [(0, 1), (1, 1), (40, 1), (all - 1, 1), (all, 0)] {
-        let told = status_with_room(rt.alloc(), bytes.as_slice(), room);
+        let told = status_with_room(rt.alloc(), FOUR, room);
         assert!(rt; told == Some(status), "room for {room}");
     }
-    Ok(())
 }
 
 /// Lists the frames, and answers an error where that is refused for want of memory and what stands on
@@ -128,11 +110,8 @@ fn list_over(heap: &Refusing, alloc: Global, bytes: &[u8], lines: &str) -> Resul
 }
 
 #[test]
-fn each_request_for_memory_may_be_refused(rt: HostRuntime) -> Result<(), Fail> {
+fn each_request_for_memory_may_be_refused(rt: HostRuntime) {
     let alloc = rt.alloc();
-    let bytes = bytes_of(alloc, &FOUR)?;
-    let list = |heap: &Refusing| list_over(heap, alloc, bytes.as_slice(), FOUR_LINES);
-    let requests = refuse_in_turn(alloc, &list);
-    assert!(rt; requests > Some(2));
-    Ok(())
+    let list = |heap: &Refusing| list_over(heap, alloc, FOUR, FOUR_LINES);
+    assert!(rt; refuse_in_turn(alloc, &list) > Some(2));
 }

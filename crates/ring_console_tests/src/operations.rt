@@ -1,26 +1,38 @@
 //! How operations are spelled, by their words.
 
 use ring_console::{Line, Script};
-use std::alloc::Global;
+use std::alloc::{AllocError, Allocator};
 use std::test::Fail;
 
-/// The bytes of the operation that the words say, in hex. Empty where they say none.
-fn spelled(alloc: Global, words: &str) -> Result<String, Fail> {
-    let text = format!(in alloc; "nodes 1\ncall 1 7 1 {words}")?;
-    let Ok(script) = Script::parse(alloc, text.as_bytes()) else {
-        return Ok(String::new(alloc));
-    };
+/// The bytes of the operation that a script calls first, in hex. Empty where its first line is no call.
+fn called_first<A: Allocator + Copy>(
+    alloc: A,
+    script: &Script<A>,
+) -> Result<String<A>, AllocError> {
     match script.lines.first() {
         Some(numbered) => match &numbered.line {
-            Line::Call { node: _, call } => Ok(hex::encode(alloc, call.op.as_slice())?),
+            Line::Call { node: _, call } => hex::encode(alloc, call.op.as_slice()),
             _ => Ok(String::new(alloc)),
         },
         None => Ok(String::new(alloc)),
     }
 }
 
+/// The bytes of the operation that the words say, in hex. Empty where they say none.
+fn spelled<A: Allocator + Copy>(alloc: A, words: &str) -> Result<String<A>, AllocError> {
+    let text = format!(in alloc; "nodes 1\ncall 1 7 1 {words}")?;
+    match Script::parse(alloc, text.as_bytes()) {
+        Ok(script) => called_first(alloc, &script),
+        Err(_) => Ok(String::new(alloc)),
+    }
+}
+
 /// Whether the words say these bytes.
-fn are_spelled(alloc: Global, words: &str, bytes: &str) -> Result<bool, Fail> {
+fn are_spelled<A: Allocator + Copy>(
+    alloc: A,
+    words: &str,
+    bytes: &str,
+) -> Result<bool, AllocError> {
     Ok(spelled(alloc, words)?.as_str() == bytes)
 }
 
@@ -46,7 +58,11 @@ fn operations_are_spelled_as_the_table_says(rt: HostRuntime) -> Result<(), Fail>
 }
 
 /// How many bytes the operation has that asks for the name of these two parts. None where there is no such operation.
-fn length_of_has(alloc: Global, name: &str, more: &str) -> Result<usize, Fail> {
+fn length_of_has<A: Allocator + Copy>(
+    alloc: A,
+    name: &str,
+    more: &str,
+) -> Result<usize, AllocError> {
     let words = format!(in alloc; "has {name}{more}")?;
     Ok(spelled(alloc, words.as_str())?.len() / 2)
 }

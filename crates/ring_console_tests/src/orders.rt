@@ -1,6 +1,6 @@
 //! The line `order K` of `show` tells the length of the world's order, after each line of a script.
 
-use ring_base::Fixed;
+use ring_base::{Fault, Fixed};
 use ring_console::{Run, Script, Things};
 use ring_object::Object;
 use std::alloc::Global;
@@ -60,41 +60,50 @@ const GAP: [(&str, usize); 8] = [
     ("pump 2", 3),
 ];
 
-/// Does what a line asks for and shows the state. Answers the line shown last, without its word, and how long
-/// the world's order is then.
-fn shown_after<O: Object<Alloc = Global>>(
+/// What is printed where a run does what a line asks for and shows the state.
+fn printed_after<O: Object>(
     run: &mut Run<O>,
-    alloc: Global,
+    alloc: O::Alloc,
     line: &str,
-) -> Result<(String, usize), Fail> {
+) -> Result<Vec<u8, O::Alloc>, Fault> {
     let text = format!(in alloc; "nodes 1\n{line}\nshow\n")?;
-    let script = Script::parse(alloc, text.as_bytes()).map_err(|_| "no script")?;
-    let mut out = Vec::<u8>::new(alloc);
-    run.take(script, &mut out).map_err(|_| "it did not run")?;
-    let printed = str::from_utf8(out.as_slice()).map_err(|_| "it is no text")?;
-    let last = printed.lines().last().ok_or("nothing is printed")?;
-    let order = run.world().order().map_err(|_| "no order")?;
-    Ok((String::from_str(alloc, last)?, order.len()))
+    let script = Script::parse(alloc, text.as_bytes()).map_err(|_| Fault::BadScript)?;
+    let mut out = Vec::new(alloc);
+    match run.take(script, &mut out) {
+        Ok(()) => Ok(out),
+        Err(_) => Err(Fault::NoAnswer),
+    }
+}
+
+/// What is printed last of an order of none to three calls.
+const PRINTED_LAST: [&str; 4] = ["\norder 0\n", "\norder 1\n", "\norder 2\n", "\norder 3\n"];
+
+/// Whether the line printed last says that the order is so long, of at most three.
+fn shows_length(printed: &[u8], length: usize) -> bool {
+    match PRINTED_LAST.get(length) {
+        Some(last) => printed.ends_with(last.as_bytes()),
+        None => false,
+    }
 }
 
 /// Whether the order is as long as told after this line, and the line shown says so.
-fn tells_order<O: Object<Alloc = Global>>(
+fn tells_order<O: Object>(
     run: &mut Run<O>,
-    alloc: Global,
+    alloc: O::Alloc,
     line: &str,
     length: usize,
-) -> Result<bool, Fail> {
-    let (last, order) = shown_after(run, alloc, line)?;
-    let told = format!(in alloc; "order {length}")?;
-    Ok(order == length && last.as_str() == told.as_str())
+) -> Result<bool, Fault> {
+    let printed = printed_after(run, alloc, line)?;
+    let order = run.world().order()?;
+    Ok(order.len() == length && shows_length(printed.as_slice(), length))
 }
 
 /// Whether that is so after each line.
-fn tells_orders<O: Object<Alloc = Global>>(
+fn tells_orders<O: Object>(
     run: &mut Run<O>,
-    alloc: Global,
+    alloc: O::Alloc,
     script: &[(&str, usize)],
-) -> Result<bool, Fail> {
+) -> Result<bool, Fault> {
     for (line, length) in script {
         if !tells_order(run, alloc, line, *length)? {
             return Ok(false);
@@ -104,12 +113,9 @@ fn tells_orders<O: Object<Alloc = Global>>(
 }
 
 /// The same of a run of one node.
-fn tells_its_order<O: Object<Alloc = Global>>(
-    alloc: Global,
-    script: &[(&str, usize)],
-) -> Result<bool, Fail> {
-    let nodes = Fixed::new(1).map_err(|_| "no nodes")?;
-    let mut run = Run::<O>::new(alloc, nodes).map_err(|_| "no run")?;
+fn tells_its_order<O: Object>(alloc: O::Alloc, script: &[(&str, usize)]) -> Result<bool, Fault> {
+    let nodes = Fixed::new(1)?;
+    let mut run = Run::<O>::new(alloc, nodes)?;
     tells_orders(&mut run, alloc, script)
 }
 

@@ -2,13 +2,14 @@
 
 use crate::inputs::Broken;
 use refusing_alloc::{Refusing, refuse_in_turn};
-use ring_base::Proc;
-use ring_console::{Line, Script, ScriptFault};
-use std::alloc::{AllocError, Global};
+use ring_base::{Fault, Proc};
+use ring_console::{Line, Numbered, Script, ScriptFault};
+use std::alloc::{AllocError, Allocator, Global};
+use std::process::Abort;
 use std::test::Fail;
 
 /// Why the text is no script for rings of any size, none where it is one.
-fn fault_of(alloc: Global, text: &[u8]) -> Option<ScriptFault> {
+fn fault_of<A: Allocator + Copy>(alloc: A, text: &[u8]) -> Option<ScriptFault> {
     Script::parse(alloc, text).err()
 }
 
@@ -95,49 +96,62 @@ const GOOD: [&str; 6] = [
     "nodes 2\npump 100000\nheal\nshow\nstop 2",
 ];
 
+/// Each text has its fault at this line.
+fn assert_faulty(rt: &impl Abort, alloc: Global, cases: &[(&str, u64)]) {
+    for (text, line) in cases {
+        let fault = fault_of(alloc, text.as_bytes());
+        assert!(rt; fault == Some(ScriptFault::AtLine(*line)), "{text}");
+    }
+}
+
 #[test]
 fn faulty_scripts_tell_their_line(rt: HostRuntime) {
-    for (text, line) in FAULTY {
-        let fault = fault_of(rt.alloc(), text.as_bytes());
-        assert!(rt; fault == Some(ScriptFault::AtLine(line)), "{text}");
-    }
+    assert_faulty(&rt, rt.alloc(), &FAULTY);
     for text in GOOD {
         assert!(rt; fault_of(rt.alloc(), text.as_bytes()).is_none(), "{text}");
     }
 }
 
 /// What a line asks for.
-fn write_line(out: &mut String, line: &Line<Global>) -> Result<(), Fail> {
+fn write_line<A: Allocator + Copy>(out: &mut String<A>, line: &Line<A>) -> Result<(), AllocError> {
     match line {
         Line::Call { node, call } => {
             let (node, client, number) = (node.number(), call.client, call.number);
-            write!(out, "call {node} {client}.{number};")?;
+            write!(out, "call {node} {client}.{number};")
         }
-        Line::Deliver { node, frame } => write!(out, "deliver {} {frame:?};", node.number())?,
-        Line::Timeout { node, kind } => write!(out, "timeout {} {kind:?};", node.number())?,
-        Line::Noise { node, bytes } => write!(out, "noise {} {bytes:?};", node.number())?,
-        Line::Stop { node } => write!(out, "stop {};", node.number())?,
+        Line::Deliver { node, frame } => write!(out, "deliver {} {frame:?};", node.number()),
+        Line::Timeout { node, kind } => write!(out, "timeout {} {kind:?};", node.number()),
+        Line::Noise { node, bytes } => write!(out, "noise {} {bytes:?};", node.number()),
+        Line::Stop { node } => write!(out, "stop {};", node.number()),
         Line::Cut(groups) => {
             let is_joined = groups.are_together(Proc::new(1), Proc::new(3));
             let is_parted = !groups.are_together(Proc::new(2), Proc::new(3));
-            write!(out, "cut {is_joined} {is_parted};")?;
+            write!(out, "cut {is_joined} {is_parted};")
         }
-        Line::Heal => write!(out, "heal;")?,
-        Line::Pump { turns } => write!(out, "pump {turns};")?,
-        Line::Show => write!(out, "show;")?,
+        Line::Heal => out.push_str("heal;"),
+        Line::Pump { turns } => write!(out, "pump {turns};"),
+        Line::Show => out.push_str("show;"),
+    }
+}
+
+/// Each line as its number and what it asks for.
+fn write_lines<A: Allocator + Copy>(
+    out: &mut String<A>,
+    lines: &[Numbered<A>],
+) -> Result<(), AllocError> {
+    for numbered in lines {
+        let number = numbered.number;
+        write!(out, "{number} ")?;
+        write_line(out, &numbered.line)?;
     }
     Ok(())
 }
 
 /// The script's lines, each as its number and what it asks for.
-fn lines_of(alloc: Global, text: &str) -> Result<String, Fail> {
-    let script = Script::parse(alloc, text.as_bytes()).map_err(|_| "no script")?;
+fn lines_of<A: Allocator + Copy>(alloc: A, text: &str) -> Result<String<A>, Fault> {
+    let script = Script::parse(alloc, text.as_bytes()).map_err(|_| Fault::BadScript)?;
     let mut out = String::new(alloc);
-    for numbered in &script.lines {
-        let number = numbered.number;
-        write!(out, "{number} ")?;
-        write_line(&mut out, &numbered.line)?;
-    }
+    write_lines(&mut out, script.lines.as_slice())?;
     Ok(out)
 }
 
@@ -155,7 +169,7 @@ fn lines_say_what_they_ask_for(rt: HostRuntime) -> Result<(), Fail> {
 }
 
 /// A script of so many bytes: `nodes 1`, and a comment.
-fn script_of(alloc: Global, length: usize) -> Result<Vec<u8>, AllocError> {
+fn script_of<A: Allocator + Copy>(alloc: A, length: usize) -> Result<Vec<u8, A>, AllocError> {
     let mut text = vec![in alloc; b'#'; length]?;
     let front = b"nodes 1\n";
     if front.len() <= text.len() {
@@ -165,7 +179,10 @@ fn script_of(alloc: Global, length: usize) -> Result<Vec<u8>, AllocError> {
 }
 
 /// Why a script of so many bytes can't be read, if it can't.
-fn fault_of_length(alloc: Global, length: usize) -> Result<Option<ScriptFault>, AllocError> {
+fn fault_of_length<A: Allocator + Copy>(
+    alloc: A,
+    length: usize,
+) -> Result<Option<ScriptFault>, AllocError> {
     let text = script_of(alloc, length)?;
     Ok(Script::read(alloc, &mut text.as_slice()).err())
 }
@@ -178,7 +195,7 @@ fn a_script_has_at_most_2_to_the_20_bytes(rt: HostRuntime) -> Result<(), Fail> {
 }
 
 /// Why a text can't be read behind which the input fails.
-fn fault_of_broken(alloc: Global, text: &str) -> Option<ScriptFault> {
+fn fault_of_broken<A: Allocator + Copy>(alloc: A, text: &str) -> Option<ScriptFault> {
     Script::read(alloc, &mut Broken(text.as_bytes())).err()
 }
 

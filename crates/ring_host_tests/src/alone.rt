@@ -73,6 +73,19 @@ fn calls<O: Object, K: BookName<O::Alloc>, W: Wait>(
 }
 
 /// What is told once the node has done 256 calls, and after one more.
+fn all_told<O: Object, K: BookName<O::Alloc>, W: Wait>(
+    rt: &W,
+    driven: &mut Driven<O, K>,
+) -> Result<(Turn, Turn), Fault> {
+    driven.turns(rt, 1, 506)?;
+    for first in [1, 65, 129] {
+        calls(rt, driven, first, 64)?;
+    }
+    let all = calls(rt, driven, 193, 64)?;
+    Ok((all, calls(rt, driven, 257, 1)?))
+}
+
+/// The same at an opening.
 fn many<O: Object, K: BookName<O::Alloc>, W: Wait>(
     rt: &W,
     alloc: O::Alloc,
@@ -81,12 +94,7 @@ fn many<O: Object, K: BookName<O::Alloc>, W: Wait>(
     requires { opening ≡ K.name }
 {
     let mut driven = Driven::<O, K>::new(alloc, opening, 1, INBOX)?;
-    driven.turns(rt, 1, 506)?;
-    for first in [1, 65, 129] {
-        calls(rt, &mut driven, first, 64)?;
-    }
-    let all = calls(rt, &mut driven, 193, 64)?;
-    Ok((all, calls(rt, &mut driven, 257, 1)?))
+    all_told(rt, &mut driven)
 }
 
 /// The same of counters.

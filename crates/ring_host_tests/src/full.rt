@@ -5,7 +5,7 @@ ghost use Rattle.std.specs.Prelude.{◌≡◌};
 use crate::driven::Driven;
 use ring_base::{Fault, Fixed, Kind};
 use ring_book::{BookName, Opening};
-use ring_host::INBOX;
+use ring_host::{HostTicket, INBOX};
 use ring_object::Object;
 use ring_things::Counters;
 use std::alloc::Global;
@@ -17,7 +17,7 @@ use std::thread::Threads;
 const MOST: u32 = 300_000;
 
 /// What was seen.
-#[derive(Clone, Copy, Debug, PartialEq, Eq)]
+#[derive(Clone, Copy, PartialEq, Eq)]
 struct Shown {
     /// How many places of the book are used.
     places: u32,
@@ -29,40 +29,78 @@ struct Shown {
     is_silent: bool,
 }
 
+/// A turn of node 1, and whether it is refused as the book is full. Any other refusal is answered.
+fn is_full<O: Object, K: BookName<O::Alloc>, W: Wait>(
+    rt: &W,
+    driven: &mut Driven<O, K>,
+) -> Result<bool, Fault> {
+    match driven.turn(rt, 1) {
+        Ok(_) => Ok(false),
+        Err(Fault::BookFull) => Ok(true),
+        Err(fault) => Err(fault),
+    }
+}
+
 /// Turns of node 1 until the book is full. Any other refusal is answered.
 fn fill<O: Object, K: BookName<O::Alloc>, W: Wait>(
     rt: &W,
     driven: &mut Driven<O, K>,
 ) -> Result<(), Fault> {
     for _ in 0..MOST {
-        match driven.turn(rt, 1) {
-            Ok(_) => {}
-            Err(Fault::BookFull) => return Ok(()),
-            Err(fault) => return Err(fault),
+        if is_full(rt, driven)? {
+            return Ok(());
         }
     }
     Err(Fault::NoAnswer)
 }
 
-/// Node 2 of two is given a call and stopped, and node 1, which loses it, goes on alone until the book is full.
+/// Node 2 of two is given a call and stopped, and node 1, which loses it, goes on alone until the book is full. The ticket of
+/// the call.
 fn filled<O: Object, K: BookName<O::Alloc>, W: Wait>(
     rt: &W,
     driven: &mut Driven<O, K>,
-) -> Result<Shown, Fault> {
+) -> Result<HostTicket, Fault> {
     let ticket = driven.submit(rt, 2, 7, 1)?;
     driven.stop(rt, 2)?;
     driven.time_out(rt, 1, Kind::Join)?;
     driven.time_out(rt, 1, Kind::Consensus)?;
     fill(rt, driven)?;
-    let full = Some(Fault::BookFull);
-    let at_one = driven.submit(rt, 1, 8, 1).err() == full;
-    let at_two = driven.submit(rt, 2, 9, 1).err() == full;
-    Ok(Shown {
+    Ok(ticket)
+}
+
+/// Whether a submit is refused at the node as the book is full.
+fn is_submit_refused<O: Object, K: BookName<O::Alloc>, W: Wait>(
+    rt: &W,
+    driven: &mut Driven<O, K>,
+    node: u8,
+    client: u32,
+) -> bool {
+    driven.submit(rt, node, client, 1).err() == Some(Fault::BookFull)
+}
+
+/// Whether a stop of the node is.
+fn is_stop_refused<O: Object, K: BookName<O::Alloc>, W: Wait>(
+    rt: &W,
+    driven: &Driven<O, K>,
+    node: u8,
+) -> bool {
+    driven.stop(rt, node).err() == Some(Fault::BookFull)
+}
+
+/// What is seen of a host whose book is full, with the ticket of that call.
+fn seen<O: Object, K: BookName<O::Alloc>, W: Wait>(
+    rt: &W,
+    driven: &mut Driven<O, K>,
+    ticket: &HostTicket,
+) -> Shown {
+    let at_one = is_submit_refused(rt, driven, 1, 8);
+    let at_two = is_submit_refused(rt, driven, 2, 9);
+    Shown {
         places: driven.places(rt),
         are_submits_refused: at_one && at_two,
-        are_stops_refused: driven.stop(rt, 1).err() == full && driven.stop(rt, 2).err() == full,
-        is_silent: driven.polled(rt, &ticket) == (None, true),
-    })
+        are_stops_refused: is_stop_refused(rt, driven, 1) && is_stop_refused(rt, driven, 2),
+        is_silent: driven.polled(rt, ticket) == (None, true),
+    }
 }
 
 /// The same at an opening, and whether a run of node 1 ends by itself then.
@@ -76,7 +114,8 @@ where
     requires { opening ≡ K.name }
 {
     let mut driven = Driven::<O, K>::new(alloc, opening, 2, INBOX)?;
-    let shown = filled(rt, &mut driven)?;
+    let ticket = filled(rt, &mut driven)?;
+    let shown = seen(rt, &mut driven, &ticket);
     Ok((shown, driven.run_first(rt).is_ok()))
 }
 

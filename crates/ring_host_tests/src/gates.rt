@@ -140,7 +140,23 @@ fn due_seats<O: Object, K: BookName<O::Alloc>>(
     Ok(both)
 }
 
-/// Two nodes of an opening.
+/// Two nodes of a host, whose seats these are.
+fn held_up<O: Object + Send, K: BookName<O::Alloc> + Send + Sync, W: Threads + Wait + Sync>(
+    rt: &W,
+    alloc: O::Alloc,
+    host: &Host<O, K>,
+    seats: &mut Vec<Seat<O::Alloc>, O::Alloc>,
+) -> Result<bool, Fault>
+where
+    O::Alloc: Send + Sync,
+    requires { All (IsAt host.now) seats.old.items }
+{
+    let both = due_seats(alloc, host, seats)?;
+    let gate = Holds::new();
+    Ok(run(rt, host, both, &gate))
+}
+
+/// The same at an opening.
 fn opened<O: Object + Send, K: BookName<O::Alloc> + Send + Sync, W: Threads + Wait + Sync>(
     rt: &W,
     alloc: O::Alloc,
@@ -151,9 +167,7 @@ where
     requires { opening ≡ K.name }
 {
     let (host, mut seats) = Host::<O, K>::new(alloc, opening, 0)?;
-    let both = due_seats(alloc, &host, &mut seats)?;
-    let gate = Holds::new();
-    Ok(run(rt, &host, both, &gate))
+    held_up(rt, alloc, &host, &mut seats)
 }
 
 /// The same of counters.

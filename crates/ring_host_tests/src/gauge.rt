@@ -71,19 +71,26 @@ fn last_seat(gauge: &Gauge, seats: &mut Vec<Seat>) -> Option<Seat>
     seats.pop()
 }
 
+/// The same of two nodes, whose seats these are.
+fn of_seats<R: Threads + Sync>(
+    rt: &R,
+    gauge: &Gauge,
+    seats: &mut Vec<Seat>,
+) -> Option<(bool, bool, Option<u64>, Option<u64>)>
+    requires { All (IsAt gauge.now) seats.old.items }
+{
+    let second = last_seat(gauge, seats)?;
+    let first = last_seat(gauge, seats)?;
+    Some(two_callers(rt, gauge, first, second))
+}
+
 /// The same at a gauge of two nodes.
 fn at_gauge<R: Threads + Sync>(
     rt: &R,
     alloc: Global,
 ) -> Result<(bool, bool, Option<u64>, Option<u64>), Fault> {
     let (gauge, mut seats) = Gauge::new(alloc, 2, 0)?;
-    let Some(second) = last_seat(&gauge, &mut seats) else {
-        return Err(Fault::NotMember);
-    };
-    let Some(first) = last_seat(&gauge, &mut seats) else {
-        return Err(Fault::NotMember);
-    };
-    Ok(two_callers(rt, &gauge, first, second))
+    of_seats(rt, &gauge, &mut seats).ok_or(Fault::NotMember)
 }
 
 #[test]

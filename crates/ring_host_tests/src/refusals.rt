@@ -79,6 +79,23 @@ fn too_many_calls_and_a_stopped_node(rt: HostRuntime) {
 type Short = (u64, u64, bool);
 
 /// A submit of which one request for memory may be refused.
+fn short_submit<O: Object, K: BookName<O::Alloc>, W: Wait>(
+    rt: &W,
+    heap: &Refusing,
+    driven: &mut Driven<O, K>,
+) -> Short {
+    let before = heap.requests();
+    let seen = submitted(rt, driven, 1);
+    let after = heap.requests();
+    let is_next_taken = is_taken(submitted(rt, driven, 2));
+    (
+        before,
+        after,
+        is_refused(seen, Fault::Memory) && is_next_taken,
+    )
+}
+
+/// The same at an opening.
 fn short<O: Object, K: BookName<O::Alloc>, W: Wait>(
     rt: &W,
     alloc: O::Alloc,
@@ -88,15 +105,7 @@ fn short<O: Object, K: BookName<O::Alloc>, W: Wait>(
     requires { opening ≡ K.name }
 {
     let mut driven = Driven::<O, K>::new(alloc, opening, 1, INBOX)?;
-    let before = heap.requests();
-    let seen = submitted(rt, &mut driven, 1);
-    let after = heap.requests();
-    let is_next_taken = is_taken(submitted(rt, &mut driven, 2));
-    Ok((
-        before,
-        after,
-        is_refused(seen, Fault::Memory) && is_next_taken,
-    ))
+    Ok(short_submit(rt, heap, &mut driven))
 }
 
 /// The same of counters that take their memory from this heap.

@@ -25,7 +25,7 @@ const HEAR: u32 = 10;
 const WATCHED: u32 = 8;
 
 /// What comes of a turn in which a request for memory is refused.
-#[derive(Clone, Copy, Debug, PartialEq, Eq)]
+#[derive(Clone, Copy, PartialEq, Eq)]
 enum Came {
     /// A copy of a frame was dropped, and counted; the step was done.
     Dropped,
@@ -128,7 +128,7 @@ fn goes_on<O: Object, K: BookName<O::Alloc>, W: Wait>(
 }
 
 /// What was seen of a story.
-#[derive(Clone, Copy, Debug, PartialEq, Eq)]
+#[derive(Clone, Copy)]
 struct Shown {
     /// How many requests for memory were made before the turns that are looked at.
     before: u64,
@@ -190,7 +190,7 @@ fn refused<W: Wait>(rt: &W, alloc: Global, passed: u64) -> Result<Shown, Fault> 
 }
 
 /// What comes of each request for memory that node 2 makes in these rounds, refused in turn.
-#[derive(Clone, Copy, Debug, PartialEq, Eq)]
+#[derive(Clone, Copy, Debug)]
 struct Told {
     /// How often node 2 was stopped.
     stops: u32,

@@ -86,19 +86,32 @@ fn states_all<A: Allocator + Copy>(
     Ok(true)
 }
 
+/// Whether an exchange goes on after three Heads, of which the longest is of the oldest primary; and what it wants after two of
+/// them, and after the third.
+fn wants<A: Allocator + Copy>(
+    exchange: &mut Exchange<A>,
+) -> Result<(bool, [Option<Wanted>; 2]), Fault> {
+    let two = states_all(exchange, &[(1, 4, 3, 0), (2, 8, 2, 0)], &mut 0)?;
+    let before = exchange.wanted();
+    let third = states_all(exchange, &[(3, 8, 2, 0)], &mut 0)?;
+    Ok((two && third, [before, exchange.wanted()]))
+}
+
+/// The same of a new one.
+fn wants_anew<A: Allocator + Copy>(alloc: A) -> Result<(bool, [Option<Wanted>; 2]), Fault> {
+    let mut exchange = Exchange::new(alloc, three());
+    wants(&mut exchange)
+}
+
 #[test]
 fn longer_log_of_an_older_primary_loses(rt: HostRuntime) -> Result<(), Fail> {
-    let mut exchange = Exchange::new(rt.alloc(), three());
-    assert!(rt; states_all(&mut exchange, &[(1, 4, 3, 0), (2, 8, 2, 0)], &mut 0)?);
-    assert!(rt; exchange.wanted().is_none());
-    assert!(rt; states_all(&mut exchange, &[(3, 8, 2, 0)], &mut 0)?);
     let wanted = Wanted {
         owner: Proc::new(2),
         snapshot: None,
         from: 0,
         to: 2,
     };
-    assert!(rt; exchange.wanted() == Some(wanted));
+    assert!(rt; wants_anew(rt.alloc())? == (true, [None, Some(wanted)]));
     Ok(())
 }
 
@@ -234,12 +247,26 @@ fn committed<A: Allocator + Copy>(log: &mut Log<A>) -> (usize, u64, u64, u64) {
     )
 }
 
+/// What a log comes to that catches up: whether it has its twenty places, how much of it is committed and its Head's lengths, and
+/// the sizes of its Parts.
+type CaughtUp<A> = (bool, (usize, u64, u64, u64), Vec<(u64, usize), A>);
+
+/// What this log comes to.
+fn caught_up<A: Allocator + Copy>(heap: A, log: &mut Log<A>) -> Result<CaughtUp<A>, Fault> {
+    let is_whole = catches_up(heap, log, &mut 0)? && has_twenty(log);
+    Ok((is_whole, committed(log), sizes(heap, log)?))
+}
+
+/// What a new log comes to.
+fn caught_up_anew<A: Allocator + Copy>(heap: A) -> Result<CaughtUp<A>, Fault> {
+    let mut log = Log::new(heap);
+    caught_up(heap, &mut log)
+}
+
 #[test]
 fn wanted_places_make_the_log(rt: HostRuntime) -> Result<(), Fail> {
-    let mut log = Log::new(rt.alloc());
-    assert!(rt; catches_up(rt.alloc(), &mut log, &mut 0)? && has_twenty(&log));
-    assert!(rt; committed(&mut log) == (16, 20, 16, 0));
-    let sizes = sizes(rt.alloc(), &log)?;
+    let (is_whole, committed, sizes) = caught_up_anew(rt.alloc())?;
+    assert!(rt; is_whole && committed == (16, 20, 16, 0));
     assert!(rt; sizes.as_slice() == [(9, 7), (16, 4)].as_slice());
     Ok(())
 }
@@ -259,23 +286,28 @@ fn may_adopt<A: Allocator + Copy>(
     }))
 }
 
-/// A log of three places, of which two are committed.
+/// Whether a log of three places, of which two are committed, may adopt each of four bases.
+fn may_adopt_four<A: Allocator + Copy>(alloc: A, log: &mut Log<A>) -> Result<[bool; 4], Fault> {
+    append_before(alloc, log, 4)?;
+    log.commit_upto(2);
+    Ok([
+        may_adopt(alloc, log, 1, (2, 3))?,
+        may_adopt(alloc, log, 1, (3, 5))?,
+        may_adopt(alloc, log, 0, (1, 2))?,
+        may_adopt(alloc, log, 3, (4, 5))?,
+    ])
+}
+
+/// The same of a new log.
+fn may_adopt_four_anew<A: Allocator + Copy>(alloc: A) -> Result<[bool; 4], Fault> {
+    let mut log = Log::new(alloc);
+    may_adopt_four(alloc, &mut log)
+}
+
+/// The second has another call at a committed place, the third ends before it, and the fourth keeps a place that isn't committed.
 #[test]
 fn base_that_drops_committed_places_is_told(rt: HostRuntime) -> Result<(), Fail> {
-    let mut log = Log::new(rt.alloc());
-    append_before(rt.alloc(), &mut log, 4)?;
-    log.commit_upto(2);
-    for (from, numbers, may) in [
-        (1, (2, 3), true),
-        (1, (3, 5), false),
-        (0, (1, 2), false),
-        (3, (4, 5), false),
-    ] {
-        assert!(rt;
-            may_adopt(rt.alloc(), &log, from, numbers)? == may,
-            "{from}"
-        );
-    }
+    assert!(rt; may_adopt_four_anew(rt.alloc())? == [true, false, false, false]);
     Ok(())
 }
 
@@ -353,17 +385,29 @@ fn states_trimmed<A: Allocator + Copy>(
     )
 }
 
+/// Whether an exchange goes on after those Heads, and what it wants then.
+fn wants_of_trimmed<A: Allocator + Copy>(
+    exchange: &mut Exchange<A>,
+) -> Result<(bool, Option<Wanted>), Fault> {
+    let goes_on = states_trimmed(exchange, &mut 0)?;
+    Ok((goes_on, exchange.wanted()))
+}
+
+/// The same of a new one.
+fn wants_of_trimmed_anew<A: Allocator + Copy>(alloc: A) -> Result<(bool, Option<Wanted>), Fault> {
+    let mut exchange = Exchange::new(alloc, three());
+    wants_of_trimmed(&mut exchange)
+}
+
 #[test]
 fn snapshot_is_wanted_where_places_were_dropped(rt: HostRuntime) -> Result<(), Fail> {
-    let mut exchange = Exchange::new(rt.alloc(), three());
-    assert!(rt; states_trimmed(&mut exchange, &mut 0)?);
     let wanted = Wanted {
         owner: Proc::new(1),
         snapshot: Some(256),
         from: 256,
         to: 300,
     };
-    assert!(rt; exchange.wanted() == Some(wanted));
+    assert!(rt; wants_of_trimmed_anew(rt.alloc())? == (true, Some(wanted)));
     Ok(())
 }
 
@@ -437,52 +481,66 @@ fn hears_pieces<A: Allocator + Copy>(
     Ok(true)
 }
 
-/// The base that the Heads, a snapshot of so many bytes and seven Parts bring.
+/// The base that the Heads, a snapshot of so many bytes and seven Parts bring to an exchange.
+fn behind<A: Allocator + Copy>(
+    heap: A,
+    exchange: &mut Exchange<A>,
+    count: usize,
+    refused: &mut u64,
+) -> Result<Option<Base<A>>, Fault> {
+    if !states_trimmed(exchange, refused)? || !hears_pieces(heap, exchange, count, refused)? {
+        return Ok(None);
+    }
+    let last = part(heap, 298, 2)?;
+    heard(exchange, 1, &last, refused)
+}
+
+/// The same of a new exchange.
 fn brought_behind<A: Allocator + Copy>(
     heap: A,
     count: usize,
     refused: &mut u64,
 ) -> Result<Option<Base<A>>, Fault> {
     let mut exchange = Exchange::new(heap, three());
-    if !states_trimmed(&mut exchange, refused)?
-        || !hears_pieces(heap, &mut exchange, count, refused)?
-    {
-        return Ok(None);
-    }
-    let last = part(heap, 298, 2)?;
-    heard(&mut exchange, 1, &last, refused)
+    behind(heap, &mut exchange, count, refused)
 }
 
-/// Whether the base has the snapshot of so many bytes before place 256, and then 44 of client 7's calls, from number 257 on.
-fn is_behind<A: Allocator + Copy>(heap: A, base: &Base<A>, count: usize) -> Result<bool, Fault> {
-    let wanted = bytes(heap, count)?;
-    let Some(snapshot) = &base.snapshot else {
-        return Ok(false);
-    };
+/// Whether the base has this snapshot before place 256, and then 44 of client 7's calls, from number 257 on.
+fn is_behind<A: Allocator + Copy>(base: &Base<A>, wanted: &[u8]) -> bool {
     let mut number = 256u64;
     for call in base.calls.as_slice() {
         number = number.saturating_add(1);
         if call.number != number {
-            return Ok(false);
+            return false;
         }
     }
-    Ok(base.from == 256 && number == 300 && snapshot.as_slice() == wanted.as_slice())
+    match &base.snapshot {
+        Some(snapshot) => base.from == 256 && number == 300 && snapshot.as_slice() == wanted,
+        None => false,
+    }
 }
 
-/// Whether a new log is restored by the base, from the snapshot of so many bytes: 256 places are dropped and committed, of 300.
-fn restores<A: Allocator + Copy>(heap: A, base: Base<A>, count: usize) -> Result<bool, Fault> {
-    let wanted = bytes(heap, count)?;
-    let mut log = Log::new(heap);
+/// Whether a log is restored by the base, from this snapshot: 256 places are dropped and committed, of 300, and before there were none.
+fn is_restored<A: Allocator + Copy>(
+    log: &mut Log<A>,
+    base: Base<A>,
+    wanted: &[u8],
+) -> Result<bool, Fault> {
     let rep = Proc::new(1);
-    let Adoption::Restored(snapshot, before) = log.adopt(RingId { seq: 9, rep }, base)? else {
-        return Ok(false);
-    };
-    Ok(
-        snapshot.as_slice() == wanted.as_slice()
-            && lengths(&log) == (256, 256, 300)
-            && log.calls().len() == 44
-            && lengths(&before) == (0, 0, 0),
-    )
+    match log.adopt(RingId { seq: 9, rep }, base)? {
+        Adoption::Restored(snapshot, before) => {
+            let was_empty = lengths(&before) == (0, 0, 0);
+            let is_same = snapshot.as_slice() == wanted && log.calls().len() == 44;
+            Ok(was_empty && is_same && lengths(log) == (256, 256, 300))
+        }
+        Adoption::Refused | Adoption::Joined => Ok(false),
+    }
+}
+
+/// The same of a new log.
+fn restores<A: Allocator + Copy>(heap: A, base: Base<A>, wanted: &[u8]) -> Result<bool, Fault> {
+    let mut log = Log::new(heap);
+    is_restored(&mut log, base, wanted)
 }
 
 /// How many places a log has dropped, how many are committed, and how many there are, by its Head.
@@ -491,16 +549,22 @@ fn lengths<A: Allocator + Copy>(log: &Log<A>) -> (u64, u64, u64) {
     (head.trimmed, head.committed, head.length)
 }
 
-/// Whether the exchange brings that base, and a new log is restored by it.
+/// Whether the exchange brings that base, with this snapshot, and a new log is restored by it.
+fn brings<A: Allocator + Copy>(heap: A, wanted: &[u8], refused: &mut u64) -> Result<bool, Fault> {
+    match brought_behind(heap, wanted.len(), refused)? {
+        Some(base) if is_behind(&base, wanted) => restores(heap, base, wanted),
+        _ => Ok(false),
+    }
+}
+
+/// The same with a snapshot of so many bytes.
 fn brings_behind<A: Allocator + Copy>(
     heap: A,
     count: usize,
     refused: &mut u64,
 ) -> Result<bool, Fault> {
-    let Some(base) = brought_behind(heap, count, refused)? else {
-        return Ok(false);
-    };
-    Ok(is_behind(heap, &base, count)? && restores(heap, base, count)?)
+    let wanted = bytes(heap, count)?;
+    brings(heap, wanted.as_slice(), refused)
 }
 
 #[test]
@@ -533,19 +597,24 @@ fn each_request_of_a_snapshot_is_refused_in_turn(rt: HostRuntime) {
     assert!(rt; requests > Some(20));
 }
 
-/// How many calls leave a log of 300 places, of which so many are committed, and what it is then; nothing where it isn't ripe.
-fn left<A: Allocator + Copy>(
-    heap: A,
-    committed: u64,
-) -> Result<Option<(usize, (u64, u64, u64))>, Fault> {
-    let mut log = Log::new(heap);
-    append_before(heap, &mut log, 301)?;
+/// How many calls leave a log, and what it is then; nothing where it isn't ripe.
+type Left = Option<(usize, (u64, u64, u64))>;
+
+/// What leaves a log that has 300 places, of which so many are committed.
+fn leaves<A: Allocator + Copy>(heap: A, log: &mut Log<A>, committed: u64) -> Result<Left, Fault> {
+    append_before(heap, log, 301)?;
     log.commit_upto(committed);
     if !log.is_ripe() {
         return Ok(None);
     }
-    let dropped = log.trim()?;
-    Ok(Some((dropped.into_calls().len(), lengths(&log))))
+    let dropped = log.trim()?.into_calls().len();
+    Ok(Some((dropped, lengths(log))))
+}
+
+/// The same of a new log.
+fn left<A: Allocator + Copy>(heap: A, committed: u64) -> Result<Left, Fault> {
+    let mut log = Log::new(heap);
+    leaves(heap, &mut log, committed)
 }
 
 /// 256 committed places are dropped, and no fewer.
@@ -557,29 +626,34 @@ fn committed_places_leave(rt: HostRuntime) -> Result<(), Fail> {
     Ok(())
 }
 
+/// A base from place 250 on, with a snapshot before it.
+fn base_from_250<A: Allocator + Copy>(heap: A) -> Result<Base<A>, Fault> {
+    let snapshot = Snapshot::from_vec(bytes(heap, 45)?);
+    Ok(Base {
+        from: 250,
+        snapshot: Some(snapshot),
+        calls: calls(heap, 251, 311)?,
+    })
+}
+
 /// A log that dropped 256 of its 300 places, and has committed 4 more, adopts a base that begins below them, with a snapshot that
 /// it doesn't need: of the base it takes the places from 256 on. Whether it does, with 310 places then.
-fn keeps_dropped<A: Allocator + Copy>(heap: A) -> Result<bool, Fault> {
-    let mut log = Log::new(heap);
-    append_before(heap, &mut log, 301)?;
-    log.commit_upto(256);
-    let dropped = log.trim()?;
+fn keeps_dropped<A: Allocator + Copy>(heap: A, log: &mut Log<A>) -> Result<bool, Fault> {
+    let left = leaves(heap, log, 256)?;
     log.commit_upto(260);
-    let base = Base {
-        from: 250,
-        snapshot: Some(Snapshot::from_vec(bytes(heap, 45)?)),
-        calls: calls(heap, 251, 311)?,
-    };
-    Ok(
-        adopts(&mut log, Some(base))?
-            && lengths(&log) == (256, 260, 310)
-            && log.calls().len() == 54
-            && dropped.calls().len() == 256,
-    )
+    let adopts = adopts(log, Some(base_from_250(heap)?))?;
+    let has = lengths(log) == (256, 260, 310) && log.calls().len() == 54;
+    Ok(adopts && has && left == Some((256, (256, 256, 300))))
+}
+
+/// The same of a new log.
+fn keeps_dropped_anew<A: Allocator + Copy>(heap: A) -> Result<bool, Fault> {
+    let mut log = Log::new(heap);
+    keeps_dropped(heap, &mut log)
 }
 
 #[test]
 fn dropped_places_are_left_out(rt: HostRuntime) -> Result<(), Fail> {
-    assert!(rt; keeps_dropped(rt.alloc())?);
+    assert!(rt; keeps_dropped_anew(rt.alloc())?);
     Ok(())
 }

@@ -9,6 +9,6 @@ mod memory;
 #[cfg(test)]
 mod sending;
 #[cfg(test)]
-mod tests;
-#[cfg(test)]
 mod trimming;
+#[cfg(test)]
+mod worked;

@@ -6,6 +6,7 @@ use ring_base::{Fault, State};
 use ring_object::Object;
 use ring_session::{Answer, Ticket};
 use ring_things::{Counters, Outcome, reply_with};
+use std::alloc::Global;
 use std::test::Fail;
 
 /// A node as it is shown: its state, the number of its last installed ring, how many places are committed, how many the log has,
@@ -26,7 +27,10 @@ fn shown<O: Object>(driven: &Driven<O>) -> Shown {
 }
 
 /// How many calls a node's steps committed and answered, how many they dropped, and how many committed places it keeps.
-fn counts<O: Object>(driven: &Driven<O>) -> ((usize, usize), usize, usize) {
+type Counts = ((usize, usize), usize, usize);
+
+/// What a node's steps come to.
+fn counts<O: Object>(driven: &Driven<O>) -> Counts {
     (driven.told(), driven.dropped, driven.node.committed().len())
 }
 
@@ -57,17 +61,37 @@ fn nearly<O: Object>(driven: &mut Driven<O>) -> Result<(), Fault> {
     driven.turn()
 }
 
+/// What is seen of a node that trims its log: what is shown of it, and its counts, before the step in which it does and after it;
+/// and its answer to the last call.
+type Seen = ([(Shown, Counts); 2], Option<Answer>);
+
+/// What is seen of this node.
+fn seen<O: Object>(driven: &mut Driven<O>) -> Result<Seen, Fault> {
+    nearly(driven)?;
+    let before = (shown(driven), counts(driven));
+    driven.turn()?;
+    let after = (shown(driven), counts(driven));
+    Ok(([before, after], driven.node.reply(Ticket::new(255))))
+}
+
+/// What is seen of a new node.
+fn seen_anew<O: Object>(alloc: O::Alloc) -> Result<Seen, Fault> {
+    let mut driven = Driven::<O>::new(alloc, alloc)?;
+    seen(&mut driven)
+}
+
 #[test]
 fn lone_node_trims(rt: HostRuntime) -> Result<(), Fail> {
-    let mut driven = Driven::<Counters>::new(rt.alloc(), rt.alloc())?;
-    nearly(&mut driven)?;
-    assert!(rt; shown(&driven) == (State::Operational, 1, 192, 256, 0, 192));
-    assert!(rt; counts(&driven) == ((192, 192), 0, 192));
-    driven.turn()?;
-    assert!(rt; shown(&driven) == (State::Operational, 1, 256, 256, 256, 256));
-    assert!(rt; counts(&driven) == ((256, 256), 256, 0));
+    let before = (
+        (State::Operational, 1, 192, 256, 0, 192),
+        ((192, 192), 0, 192),
+    );
+    let after = (
+        (State::Operational, 1, 256, 256, 256, 256),
+        ((256, 256), 256, 0),
+    );
     let last = Answer::Done(reply_with(Outcome::Done, 256));
-    assert!(rt; driven.node.reply(Ticket::new(255)) == Some(last));
+    assert!(rt; seen_anew::<Counters>(rt.alloc())? == ([before, after], Some(last)));
     Ok(())
 }
 
@@ -97,16 +121,19 @@ fn trims_in<O: Object>(
     trims(&mut driven, refusing)
 }
 
+/// The same where so many requests for memory are passed.
+fn trims_after(ample: &Refusing, alloc: Global, passed: u64) -> Result<(u64, u64, bool), Fault> {
+    let heap = Refusing::new(alloc, passed);
+    trims_in::<Counters<&Refusing>>(&heap, ample, &heap)
+}
+
 #[test]
 fn step_that_is_refused_memory_drops_nothing(rt: HostRuntime) -> Result<(), Fail> {
     let ample = Refusing::new(rt.alloc(), u64::MAX);
-    let heap = Refusing::new(rt.alloc(), u64::MAX);
-    let (before, after, is_right) = trims_in::<Counters<&Refusing>>(&heap, &ample, &heap)?;
-    assert!(rt; is_right);
-    assert!(rt; after > before);
+    let (before, after, is_right) = trims_after(&ample, rt.alloc(), u64::MAX)?;
+    assert!(rt; is_right && after > before);
     for passed in before..after {
-        let heap = Refusing::new(rt.alloc(), passed);
-        let (_, _, is_right) = trims_in::<Counters<&Refusing>>(&heap, &ample, &heap)?;
+        let (_, _, is_right) = trims_after(&ample, rt.alloc(), passed)?;
         assert!(rt; is_right, "at {passed}");
     }
     Ok(())

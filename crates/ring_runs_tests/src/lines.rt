@@ -4,7 +4,7 @@ use ring_base::{Proc, ProcSet};
 use ring_core::Out;
 use ring_payload::Payload;
 use ring_wire::{CommitToken, Frame, Join, Message, Token};
-use std::alloc::{AllocError, Global};
+use std::alloc::{AllocError, Allocator};
 use std::fmt::Write;
 
 /// Which outputs are shown.
@@ -19,7 +19,7 @@ pub(crate) enum Shown {
 
 impl Shown {
     /// Whether an output is shown.
-    fn has(self, out: &Out) -> bool {
+    fn has<A: Allocator + Copy>(self, out: &Out<A>) -> bool {
         match self {
             Shown::All => true,
             Shown::Visits => !matches!(out, Out::Agreed(_, _, _)),
@@ -32,23 +32,37 @@ impl Shown {
     }
 }
 
-/// A line for each output that is shown, in their order.
-pub(crate) fn lines_of(
-    alloc: Global,
-    outs: &[(Proc, Out)],
+/// Adds a line for each output that is shown, in their order.
+fn write_lines<A: Allocator + Copy>(
+    text: &mut String<A>,
+    outs: &[(Proc, Out<A>)],
     shown: Shown,
-) -> Result<String, AllocError> {
-    let mut text = String::new(alloc);
+) -> Result<(), AllocError> {
     for given in outs {
         if shown.has(&given.1) {
-            write_line(&mut text, given.0, &given.1)?;
+            write_line(text, given.0, &given.1)?;
         }
     }
+    Ok(())
+}
+
+/// A line for each output that is shown, in their order.
+pub(crate) fn lines_of<A: Allocator + Copy>(
+    alloc: A,
+    outs: &[(Proc, Out<A>)],
+    shown: Shown,
+) -> Result<String<A>, AllocError> {
+    let mut text = String::new(alloc);
+    write_lines(&mut text, outs, shown)?;
     Ok(text)
 }
 
 /// What a processor gives.
-fn write_line(text: &mut String, node: Proc, out: &Out) -> Result<(), AllocError> {
+fn write_line<A: Allocator + Copy>(
+    text: &mut String<A>,
+    node: Proc,
+    out: &Out<A>,
+) -> Result<(), AllocError> {
     write!(text, "{node} ")?;
     match out {
         Out::Send(to, frame) => {
@@ -72,23 +86,25 @@ fn write_line(text: &mut String, node: Proc, out: &Out) -> Result<(), AllocError
 }
 
 /// The members of a set, by commas; `-` where there are none.
-fn write_set(text: &mut String, set: ProcSet) -> Result<(), AllocError> {
-    let mut is_empty = true;
-    for member in set.iter() {
-        if !is_empty {
-            write!(text, ",")?;
+fn write_set<A: Allocator>(text: &mut String<A>, set: ProcSet) -> Result<(), AllocError> {
+    for place in 0..set.len() {
+        let before = if place == 0 { "" } else { "," };
+        if let Some(member) = set.at(place) {
+            write!(text, "{before}{member}")?;
         }
-        write!(text, "{member}")?;
-        is_empty = false;
     }
-    if is_empty {
-        write!(text, "-")?;
+    if set.is_empty() {
+        text.push_str("-")
+    } else {
+        Ok(())
     }
-    Ok(())
 }
 
 /// A frame.
-fn write_frame(text: &mut String, frame: &Frame) -> Result<(), AllocError> {
+fn write_frame<A: Allocator + Copy>(
+    text: &mut String<A>,
+    frame: &Frame<A>,
+) -> Result<(), AllocError> {
     match frame {
         Frame::Message(message) => write_message(text, message),
         Frame::Token(token) => write_token(text, token),
@@ -98,22 +114,28 @@ fn write_frame(text: &mut String, frame: &Frame) -> Result<(), AllocError> {
 }
 
 /// A message, and what it carries.
-fn write_message(text: &mut String, message: &Message) -> Result<(), AllocError> {
+fn write_message<A: Allocator + Copy>(
+    text: &mut String<A>,
+    message: &Message<A>,
+) -> Result<(), AllocError> {
     let (ring, number, sender) = (message.ring, message.number, message.sender);
     write!(text, " message {ring} seq {number} from {sender} ")?;
     match &message.payload {
-        Payload::Call(_) => write!(text, "call"),
-        Payload::Head(_) => write!(text, "head"),
-        Payload::End => write!(text, "end"),
+        Payload::Call(_) => text.push_str("call"),
+        Payload::Head(_) => text.push_str("head"),
+        Payload::End => text.push_str("end"),
         Payload::Wrapped(old) => write!(text, "wraps {} {}", old.ring, old.number),
-        _ => write!(text, "other"),
+        _ => text.push_str("other"),
     }
 }
 
 /// A token, with who holds it back and what is asked for.
-fn write_token(text: &mut String, token: &Token) -> Result<(), AllocError> {
+fn write_token<A: Allocator>(text: &mut String<A>, token: &Token) -> Result<(), AllocError> {
     let (ring, number, seq, aru) = (token.ring, token.number, token.seq, token.aru);
-    let holder = token.aru_id.map_or(0, Proc::number);
+    let holder = match token.aru_id {
+        Some(holder) => holder.number(),
+        None => 0,
+    };
     write!(
         text,
         " token {ring} number {number} seq {seq} aru {aru} id {holder} asks"
@@ -128,7 +150,7 @@ fn write_token(text: &mut String, token: &Token) -> Result<(), AllocError> {
 }
 
 /// A join, with its sets.
-fn write_join(text: &mut String, join: &Join) -> Result<(), AllocError> {
+fn write_join<A: Allocator>(text: &mut String<A>, join: &Join) -> Result<(), AllocError> {
     let (sender, number) = (join.sender, join.number);
     write!(text, " join {sender} number {number} procs ")?;
     write_set(text, join.proc_set)?;
@@ -137,7 +159,7 @@ fn write_join(text: &mut String, join: &Join) -> Result<(), AllocError> {
 }
 
 /// A commit token, with how many entries it carries.
-fn write_commit(text: &mut String, token: &CommitToken) -> Result<(), AllocError> {
+fn write_commit<A: Allocator>(text: &mut String<A>, token: &CommitToken) -> Result<(), AllocError> {
     let (ring, hop) = (token.ring, token.hop);
     write!(text, " commit {ring} members ")?;
     write_set(text, token.members)?;

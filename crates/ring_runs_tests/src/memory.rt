@@ -2,10 +2,10 @@
 
 use crate::pump::pumped;
 use crate::steps::{Opening, ran};
-use crate::tests::JOINS;
+use crate::worked_runs::JOINS;
 use refusing_alloc::Refusing;
 use ring_base::{Fault, Fixed};
-use std::alloc::Global;
+use std::alloc::{Allocator, Global};
 use std::process::Abort;
 use std::test::Fail;
 
@@ -29,7 +29,7 @@ struct Run<'a> {
 type Done = Result<(u64, bool), Fault>;
 
 /// What the first events come to with the memory that `heap` grants.
-fn done_with(heap: &Refusing, ample: &Refusing, run: Run, count: u64) -> Done {
+fn done_with<A: Allocator + Copy>(heap: A, ample: A, run: Run, count: u64) -> Done {
     let (done, outs) = ran(heap, ample, run.from, run.script, count)?;
     Ok((done, outs.is_some()))
 }
@@ -37,7 +37,7 @@ fn done_with(heap: &Refusing, ample: &Refusing, run: Run, count: u64) -> Done {
 /// The same where all but the request after so many others are granted, and whether that was refused.
 fn done_past(alloc: Global, ample: &Refusing, run: Run, passed: u64, count: u64) -> (Done, bool) {
     let heap = Refusing::new(alloc, passed);
-    let done = done_with(&heap, ample, run, count);
+    let done = done_with::<&Refusing>(&heap, ample, run, count);
     (done, heap.has_refused())
 }
 
@@ -53,10 +53,9 @@ fn tells_its_events(alloc: Global, ample: &Refusing, run: Run, passed: u64, done
 }
 
 /// Each request for memory of a run is refused in turn; the run makes more than so many.
-fn refuse_in_turn(rt: &impl Abort, alloc: Global, run: Run, least: u64) {
-    let ample = Refusing::new(alloc, u64::MAX);
+fn refuse_each(rt: &impl Abort, alloc: Global, ample: &Refusing, run: Run, least: u64) {
     for passed in 0..u64::MAX {
-        let (done, is_refused) = done_past(alloc, &ample, run, passed, run.events);
+        let (done, is_refused) = done_past(alloc, ample, run, passed, run.events);
         if !is_refused {
             assert!(rt;
                 done == Ok((run.events, true)) && passed > least,
@@ -65,10 +64,16 @@ fn refuse_in_turn(rt: &impl Abort, alloc: Global, run: Run, least: u64) {
             return;
         }
         assert!(rt;
-            tells_its_events(alloc, &ample, run, passed, done),
+            tells_its_events(alloc, ample, run, passed, done),
             "{passed}"
         );
     }
+}
+
+/// The same, where what the events carry is granted.
+fn refuse_in_turn(rt: &impl Abort, alloc: Global, run: Run, least: u64) {
+    let ample = Refusing::new(alloc, u64::MAX);
+    refuse_each(rt, alloc, &ample, run, least);
 }
 
 #[test]

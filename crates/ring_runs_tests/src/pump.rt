@@ -1,35 +1,36 @@
 //! Frames that come in the order in which they were sent.
 
-use crate::steps::event_of;
+use crate::steps::{happened, happens};
 use ring_base::{Fault, Fixed, Proc, ProcSet};
 use ring_core::Out;
 use ring_runs::{Cores, RingEvent};
-use std::alloc::Global;
-use std::collections::VecDeque;
+use std::alloc::Allocator;
 use std::fmt::Write;
 
-/// The copies of frames on their way.
+/// The copies of frames that were sent.
 #[derive(Drop)]
-struct Way {
-    /// Each with its receiver.
-    open: VecDeque<(Proc, u64)>,
+struct Way<A: Allocator + Copy> {
+    /// Each with its receiver, in their order, also those that have come; and how many have.
+    copies: Vec<(Proc, u64), A>,
+    come: usize,
     /// How many outputs were looked at, and how many of them were frames.
     seen: usize,
     frames: u64,
 }
 
-impl Way {
+impl<A: Allocator + Copy> Way<A> {
     /// Nothing is on its way.
-    fn new(alloc: Global) -> Way {
+    fn new(alloc: A) -> Way<A> {
         Way {
-            open: VecDeque::new(alloc),
+            copies: Vec::new(alloc),
+            come: 0,
             seen: 0,
             frames: 0,
         }
     }
 
     /// The frames among what was given since are on their way.
-    fn follow(&mut self, outs: &[(Proc, Out)]) -> Result<(), Fault> {
+    fn follow(&mut self, outs: &[(Proc, Out<A>)]) -> Result<(), Fault> {
         for given in outs.iter().skip(self.seen) {
             if let Out::Send(to, _) = &given.1 {
                 self.send(*to)?;
@@ -43,70 +44,83 @@ impl Way {
     fn send(&mut self, to: ProcSet) -> Result<(), Fault> {
         self.frames = self.frames.saturating_add(1);
         for receiver in to.iter() {
-            self.open.push_back((receiver, self.frames))?;
+            self.copies.push((receiver, self.frames))?;
         }
         Ok(())
     }
-}
 
-/// The line of the frame that comes next, if one is on its way.
-fn next_line(alloc: Global, way: &mut Way, outs: &[(Proc, Out)]) -> Result<Option<String>, Fault> {
-    way.follow(outs)?;
-    match way.open.pop_front() {
-        Some((node, frame)) => Ok(Some(format!(in alloc; "hand {node} {frame}")?)),
-        None => Ok(None),
+    /// The frame that comes next, with its receiver, if one is on its way.
+    fn next(&mut self, outs: &[(Proc, Out<A>)]) -> Result<Option<(Proc, u64)>, Fault> {
+        self.follow(outs)?;
+        let Some(next) = self.copies.get(self.come) else {
+            return Ok(None);
+        };
+        self.come = self.come.saturating_add(1);
+        Ok(Some(*next))
     }
 }
 
-/// The event of a line happens, and the line stands behind the others.
-fn happened(
-    alloc: Global,
-    fixed: Fixed,
-    cores: Cores,
-    line: &str,
-    lines: &mut String,
-) -> Result<Cores, Fault> {
-    writeln!(lines, "{line}")?;
-    let event = event_of(alloc, fixed, line)?;
-    cores.happens(&event)
+/// A frame comes to its receiver, and the line of that stands behind the others.
+fn handed<A: Allocator + Copy>(
+    cores: Cores<A>,
+    (node, frame): (Proc, u64),
+    lines: &mut String<A>,
+) -> Result<Cores<A>, Fault> {
+    writeln!(lines, "hand {node} {frame}")?;
+    happens(cores, &RingEvent::Deliver(node, frame))
 }
 
 /// The processors, once what these lines say has happened.
-fn opened(alloc: Global, fixed: Fixed, opening: &str, lines: &mut String) -> Result<Cores, Fault> {
+fn opened<A: Allocator + Copy>(
+    alloc: A,
+    fixed: Fixed,
+    opening: &str,
+    lines: &mut String<A>,
+) -> Result<Cores<A>, Fault> {
     let mut cores = Cores::unformed(alloc, fixed)?;
     for line in opening.lines() {
-        cores = happened(alloc, fixed, cores, line, lines)?;
+        writeln!(lines, "{line}")?;
+        cores = happened(alloc, fixed, cores, line)?;
     }
     Ok(cores)
 }
 
 /// In each of so many turns the first frame on its way comes to its receiver.
-fn turn(
-    alloc: Global,
-    fixed: Fixed,
-    mut cores: Cores,
+fn turn<A: Allocator + Copy>(
+    mut cores: Cores<A>,
+    way: &mut Way<A>,
     turns: u64,
-    lines: &mut String,
+    lines: &mut String<A>,
 ) -> Result<(), Fault> {
-    let mut way = Way::new(alloc);
     for _ in 0..turns {
-        match next_line(alloc, &mut way, cores.outs())? {
-            Some(line) => cores = happened(alloc, fixed, cores, line.as_str(), lines)?,
+        match way.next(cores.outs())? {
+            Some(next) => cores = handed(cores, next, lines)?,
             None => return Ok(()),
         }
     }
     Ok(())
 }
 
-/// These lines, and then so many turns. Answers all lines.
-pub(crate) fn pumped(
-    alloc: Global,
+/// Adds these lines, and then those of so many turns.
+fn pump<A: Allocator + Copy>(
+    alloc: A,
     fixed: Fixed,
     opening: &str,
     turns: u64,
-) -> Result<String, Fault> {
+    lines: &mut String<A>,
+) -> Result<(), Fault> {
+    let cores = opened(alloc, fixed, opening, lines)?;
+    turn(cores, &mut Way::new(alloc), turns, lines)
+}
+
+/// These lines, and then so many turns. Answers all lines.
+pub(crate) fn pumped<A: Allocator + Copy>(
+    alloc: A,
+    fixed: Fixed,
+    opening: &str,
+    turns: u64,
+) -> Result<String<A>, Fault> {
     let mut lines = String::new(alloc);
-    let cores = opened(alloc, fixed, opening, &mut lines)?;
-    turn(alloc, fixed, cores, turns, &mut lines)?;
+    pump(alloc, fixed, opening, turns, &mut lines)?;
     Ok(lines)
 }

@@ -8,7 +8,7 @@ ghost use Rattle.ring_payload.specs.Payloads.{PayloadFits};
 use ring_base::{Fault, Fixed, Kind, Proc};
 use ring_core::Out;
 use ring_payload::Payload;
-use ring_runs::{FixedRing, RingEvent, Rings};
+use ring_runs::{Cores, FixedRing, RingEvent, Rings};
 use ring_wire::Wire;
 use std::alloc::Allocator;
 
@@ -28,9 +28,9 @@ fn payload_of<A: Allocator + Copy>(alloc: A, bytes: &[u8]) -> Result<Payload<A>,
 
 /// The number that a word is.
 fn number_of(word: Option<&str>) -> Result<u64, Fault> {
-    match word {
-        Some(digits) => digits.parse().map_err(|_| Fault::BadScript),
-        None => Err(Fault::BadScript),
+    match word.unwrap_or("").parse() {
+        Ok(number) => Ok(number),
+        Err(_) => Err(Fault::BadScript),
     }
 }
 
@@ -57,6 +57,27 @@ pub(crate) fn event_of<A: Allocator + Copy>(
         "retransmit" => Ok(RingEvent::Timeout(node, Kind::Retransmit)),
         _ => Err(Fault::BadScript),
     }
+}
+
+/// One event more happens.
+pub(crate) fn happens<A: Allocator + Copy>(
+    cores: Cores<A>,
+    event: &RingEvent<A>,
+) -> Result<Cores<A>, Fault>
+    requires { EventFits event.now }
+{
+    cores.happens(event)
+}
+
+/// The event of a line happens.
+pub(crate) fn happened<A: Allocator + Copy>(
+    alloc: A,
+    fixed: Fixed,
+    cores: Cores<A>,
+    line: &str,
+) -> Result<Cores<A>, Fault> {
+    let event = event_of(alloc, fixed, line)?;
+    happens(cores, &event)
 }
 
 /// The events of the first lines.

@@ -3,7 +3,7 @@
 use crate::shared::{add, client_of, counted, cut, everybody, happen, order_len, read, three};
 use ring_base::{Fault, Kind, Proc, ProcSet};
 use ring_client::{Client, Port};
-use ring_object::Object;
+use ring_object::{Object, Reply};
 use ring_things::Counters;
 use ring_world_port::{Event, Shared, WorldPort};
 use std::test::Fail;
@@ -16,6 +16,50 @@ fn told<P: Port>(client: &Client<P>, place: usize) -> Option<Told> {
     let port = client.ports().get(place)?;
     let asked = port.asked();
     Some((asked.number, asked.refused, asked.polls))
+}
+
+/// What comes of a call: the reply or refusal, the next number, whether a call is open then, and what the first three ports
+/// tell, if there are so many.
+#[derive(Clone, Copy)]
+struct Outcome {
+    reply: Result<Reply, Fault>,
+    number: Option<u64>,
+    is_open: bool,
+    told: [Option<Told>; 3],
+}
+
+/// What is seen of a call of this operation, or where there is none, of the open call tried anew.
+fn seen<P: Port>(client: &mut Client<P>, op: Option<&[u8]>) -> Outcome {
+    let reply = match op {
+        Some(op) => client.call(op),
+        None => client.again(),
+    };
+    Outcome {
+        reply,
+        number: client.next_number(),
+        is_open: client.is_open(),
+        told: [told(client, 0), told(client, 1), told(client, 2)],
+    }
+}
+
+/// The same of a client over nodes of a world.
+fn seen_of<O: Object>(client: &mut Client<WorldPort<O>>, op: Option<&[u8]>) -> Outcome {
+    seen(client, op)
+}
+
+/// What is seen of a call that adds.
+fn added<O: Object>(client: &mut Client<WorldPort<O>>) -> Outcome {
+    seen_of(client, Some(add().as_slice()))
+}
+
+/// What is seen of a call that reads.
+fn counter<O: Object>(client: &mut Client<WorldPort<O>>) -> Outcome {
+    seen_of(client, Some(read().as_slice()))
+}
+
+/// Whether the reply is that the counter is at 5.
+fn is_five(seen: &Outcome) -> bool {
+    seen.reply == Ok(counted(5))
 }
 
 /// Three nodes, of which those of this group hear each other, and a client that polls each of its ports at most so often.
@@ -32,11 +76,10 @@ fn opened<O: Object>(
 
 /// Whether a call gets no answer and stays open: each node was polled in vain, and while a call is open another is refused
 /// at once, with no port asked.
-fn stays_open<P: Port>(client: &mut Client<P>) -> bool {
-    let is_unanswered = client.call(add().as_slice()) == Err(Fault::NoAnswer) && client.is_open();
+fn stays_open<O: Object>(client: &mut Client<WorldPort<O>>) -> bool {
+    let seen = added(client);
     let in_vain = Some((1, None, 300));
-    let are_asked = told(client, 0) == in_vain && told(client, 1) == in_vain;
-    is_unanswered && are_asked && client.ports().len() == 2
+    seen.reply == Err(Fault::NoAnswer) && seen.is_open && seen.told == [in_vain, in_vain, None]
 }
 
 /// Whether the open call is answered once all hear each other, and the counter has it once, though two nodes waited for it.
@@ -45,9 +88,9 @@ fn is_answered_later<O: Object>(
     shared: &Shared<O>,
 ) -> Result<bool, Fault> {
     cut(shared, everybody()?)?;
-    let is_answered = client.again() == Ok(counted(5)) && client.next_number() == Some(2);
-    let is_counted = client.call(read().as_slice()) == Ok(counted(5));
-    Ok(is_answered && is_counted && order_len(shared)? == 2)
+    let again = seen_of(client, None);
+    let is_answered = is_five(&again) && again.number == Some(2);
+    Ok(is_answered && is_five(&counter(client)) && order_len(shared)? == 2)
 }
 
 /// Nobody hears anybody, until the call was tried twice.
@@ -69,10 +112,10 @@ fn is_passed_over<O: Object>(
     shared: &Shared<O>,
 ) -> Result<bool, Fault> {
     happen(shared, Event::Stop(Proc::new(1)))?;
-    let is_answered = client.call(add().as_slice()) == Ok(counted(5))
-        && client.call(read().as_slice()) == Ok(counted(5));
-    let is_refused = told(client, 0) == Some((2, Some(8), 0));
-    Ok(is_answered && is_refused && order_len(shared)? == 2)
+    let first = added(client);
+    let second = counter(client);
+    let is_refused = second.told[0] == Some((2, Some(8), 0));
+    Ok(is_five(&first) && is_five(&second) && is_refused && order_len(shared)? == 2)
 }
 
 /// The first of the client's nodes stops.
@@ -89,7 +132,9 @@ fn a_stopped_node_is_passed_over(rt: HostRuntime) -> Result<(), Fail> {
 
 /// How many calls the node of this number has committed, repeats included.
 fn committed<O: Object>(shared: &Shared<O>, number: u8) -> Result<usize, Fault> {
-    let network = shared.try_borrow().map_err(|_| Fault::NoAnswer)?;
+    let Ok(network) = shared.try_borrow() else {
+        return Err(Fault::NoAnswer);
+    };
     let world = network.world();
     let node = world.fixed().proc(number)?;
     Ok(world.node(node).committed().len())
@@ -100,8 +145,9 @@ fn is_answered_by_second<O: Object>(
     client: &mut Client<WorldPort<O>>,
     shared: &Shared<O>,
 ) -> Result<bool, Fault> {
-    let is_answered = client.call(add().as_slice()) == Ok(counted(5));
-    Ok(is_answered && told(client, 0) == Some((1, None, 200)) && order_len(shared)? == 1)
+    let seen = added(client);
+    let is_in_vain = seen.told[0] == Some((1, None, 200));
+    Ok(is_five(&seen) && is_in_vain && order_len(shared)? == 1)
 }
 
 /// Whether the first node, once it hears the others again, commits the call as they have it, and doesn't send its own try of
@@ -112,9 +158,9 @@ fn is_sent_once<O: Object>(
 ) -> Result<bool, Fault> {
     cut(shared, everybody()?)?;
     happen(shared, Event::Timeout(Proc::new(1), Kind::Join))?;
-    let is_read = client.call(read().as_slice()) == Ok(counted(5));
-    let is_by_first = matches!(told(client, 0), Some((2, None, polls)) if polls < 200);
-    Ok(is_read && is_by_first && committed(shared, 1)? == 2 && order_len(shared)? == 2)
+    let seen = counter(client);
+    let is_by_first = matches!(seen.told[0], Some((2, None, polls)) if polls < 200);
+    Ok(is_five(&seen) && is_by_first && committed(shared, 1)? == 2 && order_len(shared)? == 2)
 }
 
 /// The first of the client's nodes is cut off from the others, until the second answered.

@@ -47,7 +47,9 @@ fn replied<O: Object>(heap: O::Alloc, shared: &Shared<O>) -> Result<Reply, Fault
 
 /// Whether the order of the world explains its history.
 fn explains<O: Object>(shared: &Shared<O>, ample: O::Alloc) -> Result<bool, Fault> {
-    let network = shared.try_borrow().map_err(|_| Fault::NoAnswer)?;
+    let Ok(network) = shared.try_borrow() else {
+        return Err(Fault::NoAnswer);
+    };
     let world = network.world();
     let order = match world.order() {
         Err(Fault::Memory) => world.order()?,
@@ -57,24 +59,30 @@ fn explains<O: Object>(shared: &Shared<O>, ample: O::Alloc) -> Result<bool, Faul
 }
 
 /// Whether a client's call at node 1, and at node 2 where that doesn't answer, is answered, and takes effect once.
+fn is_answered_by<O: Object>(
+    shared: &Shared<O>,
+    heap: O::Alloc,
+    ample: O::Alloc,
+) -> Result<bool, Fault> {
+    let is_replied = replied(heap, shared)? == counted(5);
+    Ok(is_replied && order_len(shared)? == 1 && explains(shared, ample)?)
+}
+
+/// The same of three nodes whose memory comes from `heap` too.
 fn is_answered_once<O: Object>(heap: O::Alloc, ample: O::Alloc) -> Result<bool, Fault> {
     let shared = opened::<O>(heap)?;
-    let is_replied = replied(heap, &shared)? == counted(5);
-    Ok(is_replied && order_len(&shared)? == 1 && explains(&shared, ample)?)
+    is_answered_by(&shared, heap, ample)
 }
 
-/// Whether that is so where the request after so many others is refused, and whether that came.
-fn is_answered_past(alloc: Global, ample: &Refusing, passed: u64) -> (Result<bool, Fault>, bool) {
+/// Whether that is so where the request after so many others is refused, whether that came, and how many requests came.
+fn is_answered_past(
+    alloc: Global,
+    ample: &Refusing,
+    passed: u64,
+) -> (Result<bool, Fault>, bool, u64) {
     let heap = Refusing::new(alloc, passed);
     let is_answered = is_answered_once::<Counters<&Refusing>>(&heap, ample);
-    (is_answered, heap.has_refused())
-}
-
-/// How many requests a call makes that isn't refused any, and whether it is answered.
-fn requests(alloc: Global, ample: &Refusing) -> (u64, Result<bool, Fault>) {
-    let heap = Refusing::new(alloc, u64::MAX);
-    let is_answered = is_answered_once::<Counters<&Refusing>>(&heap, ample);
-    (heap.requests(), is_answered)
+    (is_answered, heap.has_refused(), heap.requests())
 }
 
 /// How many parts the requests are tried in, so that each test is short.
@@ -83,12 +91,12 @@ const PARTS: u64 = 4;
 /// Refuses each request of this part in turn, in a run of its own: whatever request it is, the call is answered.
 fn refuse_each(rt: &impl Abort, alloc: Global, part: u64) {
     let ample = Refusing::new(alloc, u64::MAX);
-    let (requests, is_answered) = requests(alloc, &ample);
+    let (is_answered, _, requests) = is_answered_past(alloc, &ample, u64::MAX);
     assert!(rt; requests > 100 && is_answered == Ok(true), "{requests}");
     for passed in 0..requests {
         if passed % PARTS == part {
-            let answered = is_answered_past(alloc, &ample, passed);
-            assert!(rt; answered == (Ok(true), true), "at {passed}");
+            let (is_answered, is_refused, _) = is_answered_past(alloc, &ample, passed);
+            assert!(rt; is_refused && is_answered == Ok(true), "at {passed}");
         }
     }
 }

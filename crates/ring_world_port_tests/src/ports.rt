@@ -49,7 +49,7 @@ fn a_poll_gives_the_answer_that_the_node_told(rt: HostRuntime) -> Result<(), Fai
 type Refused = (Option<Fault>, Option<u8>);
 
 /// Submits the call.
-fn refused<P: Port>(port: &mut P, call: &Call<P::Alloc>) -> Refused {
+fn refused<O: Object>(port: &mut WorldPort<O>, call: &Call<O::Alloc>) -> Refused {
     let fault = port.submit(call).err();
     (fault, port.asked().refused)
 }
@@ -101,9 +101,9 @@ fn refused_in_turn<O: Object>(
 
 /// The same at three nodes, of calls of number 0.
 fn refused_by_three<O: Object>(alloc: O::Alloc) -> Result<[Refused; 4], Fault> {
-    let shared = three::<O>(alloc)?;
     let long = numbered_0(alloc, &[0; 1025])?;
     let none = numbered_0(alloc, add().as_slice())?;
+    let shared = three::<O>(alloc)?;
     refused_in_turn(&shared, &long, &none)
 }
 
@@ -120,7 +120,11 @@ fn a_submit_is_refused_for_its_first_reason(rt: HostRuntime) -> Result<(), Fail>
 }
 
 /// Submits the call so often.
-fn submit_often<P: Port>(port: &mut P, call: &Call<P::Alloc>, times: u8) -> Result<(), Fault> {
+fn submit_often<O: Object>(
+    port: &mut WorldPort<O>,
+    call: &Call<O::Alloc>,
+    times: u8,
+) -> Result<(), Fault> {
     for _ in 0..times {
         port.submit(call)?;
     }
@@ -139,12 +143,20 @@ fn full_and_stopped<O: Object>(
     Ok([full, refused(port, call)])
 }
 
+/// The same of the first node.
+fn refused_at_first<O: Object>(
+    shared: &Shared<O>,
+    call: &Call<O::Alloc>,
+) -> Result<[Refused; 2], Fault> {
+    let mut port = WorldPort::new(shared.clone()?, Proc::new(1));
+    full_and_stopped(shared, &mut port, call)
+}
+
 /// The same of the first of three nodes.
 fn refused_by_first<O: Object>(alloc: O::Alloc) -> Result<[Refused; 2], Fault> {
-    let shared = three::<O>(alloc)?;
     let call = Call::new(alloc, 7, 1, add().as_slice())?;
-    let mut port = WorldPort::new(shared.clone()?, Proc::new(1));
-    full_and_stopped(&shared, &mut port, &call)
+    let shared = three::<O>(alloc)?;
+    refused_at_first(&shared, &call)
 }
 
 #[test]
@@ -159,7 +171,9 @@ fn a_node_refuses_where_it_is_full_or_stopped(rt: HostRuntime) -> Result<(), Fai
 
 /// Takes 100 turns.
 fn turn_often<O: Object>(shared: &Shared<O>) -> Result<(), Fault> {
-    let mut network = shared.try_borrow_mut().map_err(|_| Fault::NoAnswer)?;
+    let Ok(mut network) = shared.try_borrow_mut() else {
+        return Err(Fault::NoAnswer);
+    };
     for _ in 0..100 {
         network.turn()?;
     }
@@ -168,7 +182,9 @@ fn turn_often<O: Object>(shared: &Shared<O>) -> Result<(), Fault> {
 
 /// Whether a frame was delivered to the node.
 fn hears_any<O: Object>(shared: &Shared<O>, node: Proc) -> Result<bool, Fault> {
-    let network = shared.try_borrow().map_err(|_| Fault::NoAnswer)?;
+    let Ok(network) = shared.try_borrow() else {
+        return Err(Fault::NoAnswer);
+    };
     for event in network.world().events() {
         if let Event::Deliver(receiver, _) = event
             && *receiver == node
@@ -180,41 +196,57 @@ fn hears_any<O: Object>(shared: &Shared<O>, node: Proc) -> Result<bool, Fault> {
 }
 
 /// Whether nodes 1 and 2 hear anything where 2 and 3 alone hear each other, however many turns the network takes.
-fn hear_any<O: Object>(alloc: O::Alloc) -> Result<(bool, bool), Fault> {
-    let shared = three::<O>(alloc)?;
+fn hear_any<O: Object>(shared: &Shared<O>) -> Result<(bool, bool), Fault> {
     cut(
-        &shared,
+        shared,
         ProcSet::only(Proc::new(2)).union(ProcSet::only(Proc::new(3))),
     )?;
-    turn_often(&shared)?;
+    turn_often(shared)?;
     Ok((
-        hears_any(&shared, Proc::new(1))?,
-        hears_any(&shared, Proc::new(2))?,
+        hears_any(shared, Proc::new(1))?,
+        hears_any(shared, Proc::new(2))?,
     ))
+}
+
+/// The same of three nodes.
+fn hear_any_of_three<O: Object>(alloc: O::Alloc) -> Result<(bool, bool), Fault> {
+    let shared = three::<O>(alloc)?;
+    hear_any(&shared)
 }
 
 #[test]
 fn no_frame_crosses_a_cut(rt: HostRuntime) -> Result<(), Fail> {
-    assert!(rt; hear_any::<Counters>(rt.alloc())? == (false, true));
+    assert!(rt; hear_any_of_three::<Counters>(rt.alloc())? == (false, true));
     Ok(())
 }
 
 /// How many events happened to the world.
 fn events<O: Object>(shared: &Shared<O>) -> Result<usize, Fault> {
-    let network = shared.try_borrow().map_err(|_| Fault::NoAnswer)?;
+    let Ok(network) = shared.try_borrow() else {
+        return Err(Fault::NoAnswer);
+    };
     Ok(network.world().events().len())
 }
 
 /// The refusal of a submit, how many events there are then, and how many once the call was submitted again.
 fn refused_once<O: Object>(
     shared: &Shared<O>,
+    port: &mut WorldPort<O>,
+    call: &Call<O::Alloc>,
+) -> Result<(Refused, usize, usize), Fault> {
+    let refused = refused(port, call);
+    let before = events(shared)?;
+    submit_often(port, call, 1)?;
+    Ok((refused, before, events(shared)?))
+}
+
+/// The same at the first node.
+fn refused_once_at_first<O: Object>(
+    shared: &Shared<O>,
     call: &Call<O::Alloc>,
 ) -> Result<(Refused, usize, usize), Fault> {
     let mut port = WorldPort::new(shared.clone()?, Proc::new(1));
-    let refused = refused(&mut port, call);
-    let before = events(shared)?;
-    port.submit(call)?;
-    Ok((refused, before, events(shared)?))
+    refused_once(shared, &mut port, call)
 }
 
 /// The same of a submit of a call whose memory is at its end once the call is made.
@@ -222,9 +254,9 @@ fn submitted_from_full_memory<O: Object>(
     heap: O::Alloc,
     ample: O::Alloc,
 ) -> Result<(Refused, usize, usize), Fault> {
-    let shared = three::<O>(ample)?;
     let call = Call::new(heap, 7, 1, add().as_slice())?;
-    refused_once(&shared, &call)
+    let shared = three::<O>(ample)?;
+    refused_once_at_first(&shared, &call)
 }
 
 /// A call is made with two requests for memory, and its copy that a submit hands on takes none.

@@ -36,22 +36,41 @@ pub fn three<O: Object>(alloc: O::Alloc) -> Result<Shared<O>, Fault> {
     Ok(Rc::new(alloc, RefCell::new(network))?)
 }
 
+/// Adds a port to the node of this number.
+fn add_port<O: Object>(
+    shared: &Shared<O>,
+    number: u8,
+    ports: &mut Vec<WorldPort<O>, O::Alloc>,
+) -> Result<(), Fault> {
+    let node = Fixed::new(3)?.proc(number)?;
+    Ok(ports.push(WorldPort::new(shared.clone()?, node))?)
+}
+
+/// Adds ports to nodes 1 and 2.
+fn add_ports<O: Object>(
+    shared: &Shared<O>,
+    ports: &mut Vec<WorldPort<O>, O::Alloc>,
+) -> Result<(), Fault> {
+    add_port(shared, 1, ports)?;
+    add_port(shared, 2, ports)
+}
+
 /// Client 7 with ports to nodes 1 and 2, each of which it polls at most so often.
 pub fn client_of<O: Object>(
     alloc: O::Alloc,
     shared: &Shared<O>,
     polls: u64,
 ) -> Result<Client<WorldPort<O>>, Fault> {
-    let fixed = Fixed::new(3)?;
     let mut ports = Vec::new(alloc);
-    ports.push(WorldPort::new(shared.clone()?, fixed.proc(1)?))?;
-    ports.push(WorldPort::new(shared.clone()?, fixed.proc(2)?))?;
+    add_ports(shared, &mut ports)?;
     Ok(Client::new(alloc, 7, ports, polls))
 }
 
 /// From now on the nodes of this group alone hear each other.
 pub fn cut<O: Object>(shared: &Shared<O>, group: ProcSet) -> Result<(), Fault> {
-    let mut network = shared.try_borrow_mut().map_err(|_| Fault::NoAnswer)?;
+    let Ok(mut network) = shared.try_borrow_mut() else {
+        return Err(Fault::NoAnswer);
+    };
     network.cut(group);
     Ok(())
 }
@@ -60,12 +79,16 @@ pub fn cut<O: Object>(shared: &Shared<O>, group: ProcSet) -> Result<(), Fault> {
 pub fn happen<O: Object>(shared: &Shared<O>, event: Event<O::Alloc>) -> Result<(), Fault>
     requires { EventFits event }
 {
-    let mut network = shared.try_borrow_mut().map_err(|_| Fault::NoAnswer)?;
+    let Ok(mut network) = shared.try_borrow_mut() else {
+        return Err(Fault::NoAnswer);
+    };
     network.happen(event)
 }
 
 /// How many calls the order has.
 pub fn order_len<O: Object>(shared: &Shared<O>) -> Result<u64, Fault> {
-    let network = shared.try_borrow().map_err(|_| Fault::NoAnswer)?;
+    let Ok(network) = shared.try_borrow() else {
+        return Err(Fault::NoAnswer);
+    };
     Ok(network.world().order_len())
 }

@@ -3,8 +3,11 @@
 
 use crate::driven::{run_lines, world_after};
 use crate::events::Line;
+use ring_base::Fault;
+use ring_object::Object;
 use ring_payload::Call;
 use ring_things::Counters;
+use ring_world::World;
 use std::alloc::Allocator;
 use std::test::Fail;
 
@@ -33,41 +36,64 @@ const TRIMMED: [Line; 17] = [
 /// One call more, and its two frames.
 const ONE_MORE: [Line; 3] = [Line::Issue(1, 257), Line::Hand(1, 13), Line::Hand(1, 14)];
 
-/// Whether the calls are client 7's, numbered from 1 on.
-fn are_numbered<A: Allocator + Copy>(calls: &[Call<A>]) -> bool {
+/// How many calls there are, if they are client 7's, numbered from 1 on.
+fn numbered<A: Allocator + Copy>(calls: &[Call<A>]) -> Option<usize> {
     let mut number = 0u64;
     for call in calls {
         number = number.saturating_add(1);
         if call.client != 7 || call.number != number {
-            return false;
+            return None;
         }
     }
-    true
+    Some(calls.len())
+}
+
+/// What is seen of the only node of a world: how many places it has dropped, and how many committed ones it keeps; then, of
+/// the calls that the world knows as committed, and of its order, how many there are, if they are numbered; and how long the world
+/// says that the order is.
+type Seen = (u64, usize, Option<usize>, Option<usize>, u64);
+
+/// What is seen of this world.
+fn seen<O: Object>(world: &World<O>) -> Result<Seen, Fault> {
+    let number = world.fixed().proc(1)?;
+    let node = world.node(number);
+    let committed = world.committed(number)?;
+    let order = world.order()?;
+    Ok((
+        node.trimmed(),
+        node.committed().len(),
+        numbered(&committed),
+        numbered(&order),
+        world.order_len(),
+    ))
+}
+
+/// What is seen of a world after some more lines.
+fn seen_after<O: Object>(
+    world: &mut World<O>,
+    alloc: O::Alloc,
+    more: &[Line],
+) -> Result<Seen, Fault> {
+    run_lines(world, alloc, more)?;
+    seen(world)
+}
+
+/// What is seen of a new world after those lines, and some more.
+fn seen_anew<O: Object>(alloc: O::Alloc, more: &[Line]) -> Result<Seen, Fault> {
+    let mut world = world_after::<O>(alloc, 1, &TRIMMED)?;
+    seen_after(&mut world, alloc, more)
 }
 
 #[test]
 fn a_world_has_what_its_nodes_drop(rt: HostRuntime) -> Result<(), Fail> {
-    let world = world_after::<Counters>(rt.alloc(), 1, &TRIMMED)?;
-    let node = world.fixed().proc(1)?;
-    assert!(rt; world.node(node).trimmed() == 256);
-    assert!(rt; world.node(node).committed().is_empty());
-    let (committed, order) = (world.committed(node)?, world.order()?);
-    assert!(rt; committed.len() == 256 && are_numbered(&committed));
-    assert!(rt; order.len() == 256 && are_numbered(&order));
-    assert!(rt; world.order_len() == 256);
+    let seen = seen_anew::<Counters>(rt.alloc(), &[])?;
+    assert!(rt; seen == (256, 0, Some(256), Some(256), 256));
     Ok(())
 }
 
 #[test]
 fn a_world_goes_on_behind_what_its_nodes_drop(rt: HostRuntime) -> Result<(), Fail> {
-    let mut world = world_after::<Counters>(rt.alloc(), 1, &TRIMMED)?;
-    run_lines(&mut world, rt.alloc(), &ONE_MORE)?;
-    let node = world.fixed().proc(1)?;
-    assert!(rt; world.node(node).trimmed() == 256);
-    assert!(rt; world.node(node).committed().len() == 1);
-    let (committed, order) = (world.committed(node)?, world.order()?);
-    assert!(rt; committed.len() == 257 && are_numbered(&committed));
-    assert!(rt; order.len() == 257 && are_numbered(&order));
-    assert!(rt; world.order_len() == 257);
+    let seen = seen_anew::<Counters>(rt.alloc(), &ONE_MORE)?;
+    assert!(rt; seen == (256, 1, Some(257), Some(257), 257));
     Ok(())
 }

@@ -1,0 +1,44 @@
+//! What is explored.
+
+use ring_explore::{Plan, explore};
+use std::thread::Threads;
+use std::time::Clock;
+
+/// What is printed of three nodes and some seeds, by so many threads.
+fn printed<R: AllocGlobal + Threads + Clock + Sync>(rt: &R, threads: u16) -> Vec<u8> {
+    let mut out = Vec::new(rt.alloc());
+    let mut err = Vec::new(rt.alloc());
+    let mut watched = Vec::new(rt.alloc());
+    let progress = if threads > 1 {
+        Some(&mut watched)
+    } else {
+        None
+    };
+    let plan = Plan {
+        votes: &[1, 1, 1],
+        first: 1,
+        last: 6,
+        lines: 40,
+    };
+    let status = explore(rt, rt.alloc(), plan, threads, &mut out, &mut err, progress);
+    if status != 0 || !err.is_empty() {
+        out.clear();
+    }
+    out
+}
+
+/// Whether one thread prints the totals, and whether two and seven print the same.
+fn print_alike<R: AllocGlobal + Threads + Clock + Sync>(rt: &R) -> (bool, bool, bool) {
+    let one = printed(rt, 1);
+    let text = one.as_slice();
+    (
+        text.starts_with(b"seeds 6\nevents ") && text.ends_with(b"\nlegal yes\n"),
+        printed(rt, 2).as_slice() == text,
+        printed(rt, 7).as_slice() == text,
+    )
+}
+
+#[test]
+fn threads_change_nothing(rt: HostRuntime) {
+    assert!(rt; print_alike(&rt) == (true, true, true));
+}

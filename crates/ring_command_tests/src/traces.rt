@@ -1,0 +1,309 @@
+//! What is traced.
+
+use ring_base::{Fault, Proc};
+use ring_console::{frames, script};
+use ring_script_maker::made_script;
+use ring_trace::{Format, Selection, TraceOptions, trace};
+use std::alloc::{AllocError, Allocator, Global};
+use std::fmt::Write;
+use std::test::Fail;
+
+/// How often a word stands in a text.
+fn count(text: &str, word: &str) -> usize {
+    text.matches(word).count()
+}
+
+/// What a script prints.
+fn printed(alloc: Global, text: &str) -> String {
+    let mut out = Vec::new(alloc);
+    let mut err = Vec::new(alloc);
+    let _ = script(alloc, &mut text.as_bytes(), &mut out, &mut err);
+    String::from_utf8(out).unwrap_or(String::new(alloc))
+}
+
+/// What a trace of a script tells.
+fn traced(alloc: Global, text: &str, format: Format, selection: Selection) -> String {
+    let mut out = Vec::new(alloc);
+    let mut err = Vec::new(alloc);
+    let asked = TraceOptions { format, selection };
+    let mut frames = Vec::new(alloc);
+    let status = trace(
+        alloc,
+        text.as_bytes(),
+        asked,
+        &mut out,
+        &mut frames,
+        &mut err,
+    );
+    if status != 0 || !err.is_empty() {
+        out.clear();
+    }
+    String::from_utf8(out).unwrap_or(String::new(alloc))
+}
+
+/// What stands before these words, as a node does, and the word behind them, if they stand there.
+fn word_behind<'a>(part: &'a str, words: &str) -> Option<(&'a str, &'a str)> {
+    let (node, rest) = part.split_once(words)?;
+    Some((node, rest.split(' ').next().unwrap_or("")))
+}
+
+/// Writes the nodes and the calls of all replies that a script prints, in order.
+fn write_printed<A: Allocator>(out: &mut String<A>, text: &str) -> Result<(), AllocError> {
+    for line in text.lines() {
+        if let Some(rest) = line.strip_prefix("reply ")
+            && let Some((node, call)) = word_behind(rest, " ")
+        {
+            writeln!(out, "{node} {call}")?;
+        }
+    }
+    Ok(())
+}
+
+/// Writes the nodes and the calls of all answers that a trace tells, in order.
+fn write_told<A: Allocator>(out: &mut String<A>, text: &str) -> Result<(), AllocError> {
+    for line in text.lines() {
+        for part in line.split("; node ") {
+            if let Some((node, call)) = word_behind(part, " answers ") {
+                writeln!(out, "{node} {call}")?;
+            }
+        }
+    }
+    Ok(())
+}
+
+/// Whether this is the word that a trace tells last of a node behind these words. Where it tells none: whether none need be told.
+fn is_told_last(text: &str, node: &str, words: &str, wanted: &str, at_first: bool) -> bool {
+    let mut is_last = at_first;
+    for line in text.lines() {
+        for part in line.split("; node ") {
+            if let Some((of, word)) = word_behind(part, words)
+                && of == node
+            {
+                is_last = word == wanted;
+            }
+        }
+    }
+    is_last
+}
+
+/// Whether a line of `show` says what a trace tells last of its node: its ring, and how much is committed.
+fn is_as_told(line: &str, told: &str) -> bool {
+    let mut words = line.split(' ');
+    let node = words.nth(1).unwrap_or("");
+    let ring = words.nth(1).unwrap_or("");
+    let committed = words.nth(1).unwrap_or("");
+    let is_alone = ring.starts_with("0.");
+    is_told_last(told, node, " installs ring ", ring, is_alone)
+        && is_told_last(told, node, " has committed ", committed, committed == "0")
+}
+
+/// Whether the lines of `show` are as told.
+fn are_as_told(shown: &str, told: &str) -> bool {
+    for line in shown.lines() {
+        if line.starts_with("node ") && !is_as_told(line, told) {
+            return false;
+        }
+    }
+    true
+}
+
+/// Whether there are replies, and those told are those shown.
+fn has_same_replies<A: Allocator + Copy>(
+    alloc: A,
+    shown: &str,
+    told: &str,
+) -> Result<bool, AllocError> {
+    let mut replies = String::new(alloc);
+    write_printed(&mut replies, shown)?;
+    let mut answers = String::new(alloc);
+    write_told(&mut answers, told)?;
+    Ok(!replies.is_empty() && replies.as_str() == answers.as_str())
+}
+
+/// Whether a trace of a script tells the replies that are printed of it, and what `show` prints.
+fn tells_what_is_printed(alloc: Global, text: &str) -> Result<bool, AllocError> {
+    let shown = printed(alloc, text);
+    let told = traced(alloc, text, Format::Text, Selection::all());
+    let is_told = are_as_told(shown.as_str(), told.as_str());
+    Ok(is_told && has_same_replies(alloc, shown.as_str(), told.as_str())?)
+}
+
+/// Whether that is so of what this seed makes.
+fn is_told_of_seed(alloc: Global, seed: u64) -> Result<bool, Fault> {
+    let text = made_script(alloc, &[1, 1, 1], seed, 80)?;
+    Ok(tells_what_is_printed(alloc, text.as_str())?)
+}
+
+#[test]
+fn a_trace_tells_what_a_script_prints(rt: HostRuntime) -> Result<(), Fail> {
+    for seed in 1..5u64 {
+        assert!(rt; is_told_of_seed(rt.alloc(), seed)?, "{seed}");
+    }
+    Ok(())
+}
+
+/// How many frames a trace counts.
+fn frames_told(told: &str) -> usize {
+    for line in told.lines() {
+        if let Some(number) = line.strip_prefix("frames ") {
+            return number.parse::<usize>().unwrap_or(0);
+        }
+    }
+    0
+}
+
+/// A cut leaves a node alone, and its call has no answer.
+const ALONE: &str =
+    "nodes 3\nvotes 2 2 1\ntimeout 1 join\ntimeout 2 join\ntimeout 3 join\npump 100\ncut 1,2 3\ntimeout 3 loss\n\
+    pump 50\ntimeout 3 consensus\npump 20\ncall 3 8 1 pop\npump 20\nstop 2\ncall 2 9 1 pop\n";
+
+/// Whether a text begins and ends so, and has each of these words so often.
+fn has(text: &str, (front, end): (&str, &str), words: &[(&str, usize)]) -> bool {
+    for (word, often) in words {
+        if count(text, word) != *often {
+            return false;
+        }
+    }
+    text.starts_with(front) && text.ends_with(end)
+}
+
+/// Whether the trace of `ALONE` does.
+fn tells(
+    alloc: Global,
+    (format, selection): (Format, Selection),
+    ends: (&str, &str),
+    words: &[(&str, usize)],
+) -> bool {
+    let told = traced(alloc, ALONE, format, selection);
+    has(told.as_str(), ends, words)
+}
+
+#[test]
+fn why_a_call_waits_is_told(rt: HostRuntime) {
+    let asked = (Format::Text, Selection::all());
+    let end = "no answer to 8.1 at node 3: its ring {3} has 1 of 5 votes\n";
+    let words = [
+        ("installs ring 1.1 of 1,2,3 with 5 of 5 votes, primary", 3),
+        ("of 3 with 1 of 5 votes, not primary", 1),
+        ("\ncut 1,2 3\n", 1),
+        ("node 2 refuses 9.1 pop: stopped", 1),
+    ];
+    assert!(rt; tells(rt.alloc(), asked, ("", end), &words));
+}
+
+/// How many lines the listing of these frames has, if it is told whole.
+fn lines_listed(alloc: Global, sent: &[u8]) -> Option<usize> {
+    let mut out = Vec::new(alloc);
+    let mut err = Vec::new(alloc);
+    let status = frames(alloc, &mut &*sent, &mut out, &mut err);
+    let lines = str::from_utf8(out.as_slice()).unwrap_or("").lines().count();
+    (status == 0 && err.is_empty()).then_some(lines)
+}
+
+/// How many frames the trace of `ALONE` counts, and how many lines the listing of those has that it sends, if both are told whole.
+fn frames_counted(alloc: Global) -> Option<(usize, usize)> {
+    let asked = TraceOptions {
+        format: Format::Text,
+        selection: Selection::all(),
+    };
+    let mut out = Vec::new(alloc);
+    let mut err = Vec::new(alloc);
+    let mut sent = Vec::new(alloc);
+    let text = ALONE.as_bytes();
+    let status = trace(alloc, text, asked, &mut out, &mut sent, &mut err);
+    let told = frames_told(str::from_utf8(out.as_slice()).unwrap_or(""));
+    match lines_listed(alloc, sent.as_slice()) {
+        Some(listed) if status == 0 && err.is_empty() => Some((told, listed)),
+        _ => None,
+    }
+}
+
+#[test]
+fn the_frames_of_a_trace_are_listed(rt: HostRuntime) {
+    let counted = frames_counted(rt.alloc());
+    assert!(rt; matches!(counted, Some((told, listed)) if told > 0 && listed == told));
+}
+
+/// What happens from this event on, at this node or at all.
+fn from_event(from: u64, node: Option<Proc>) -> Selection {
+    Selection {
+        node,
+        from,
+        to: u64::MAX,
+    }
+}
+
+#[test]
+fn events_are_selected(rt: HostRuntime) {
+    let asked = (Format::Text, from_event(4, None));
+    let words = [("times out: join", 0), ("times out: loss", 1)];
+    assert!(rt; tells(rt.alloc(), asked, ("", ""), &words));
+}
+
+/// How many lines the trace of `ALONE` has in JSON, and how often they begin as such a line does.
+fn lines_in_json(alloc: Global) -> (usize, usize) {
+    let json = traced(alloc, ALONE, Format::Json, Selection::all());
+    let begun = count(json.as_str(), "{\"version\":1,\"kind\":\"");
+    (json.as_str().lines().count(), begun)
+}
+
+#[test]
+fn each_form_tells_the_same_run(rt: HostRuntime) {
+    let (lines, begun) = lines_in_json(rt.alloc());
+    assert!(rt; begun == lines);
+    let words = [
+        (
+            "\"members\":[1,2,3],\"votes\":5,\"all_votes\":5,\"is_primary\":true",
+            3,
+        ),
+        ("\"kind\":\"cut\",\"groups\":[[1,2],[3]]", 1),
+        (
+            "\"kind\":\"no answer\",\"node\":3,\"client\":8,\"number\":1",
+            1,
+        ),
+    ];
+    let asked = (Format::Json, Selection::all());
+    assert!(rt; tells(rt.alloc(), asked, ("", ""), &words));
+    let words = [
+        (">1.1 {1,2,3}</text>", 3),
+        ("fill=\"url(#hatch)\"", 2),
+        (">stopped</text>", 1),
+        ("stroke-dasharray=\"3 2\"", 1),
+    ];
+    let asked = (Format::Svg, Selection::all());
+    assert!(rt; tells(rt.alloc(), asked, ("<svg ", "</svg>\n"), &words));
+}
+
+#[test]
+fn a_later_part_shows_how_nodes_stand(rt: HostRuntime) {
+    let later = (Format::Svg, from_event(40, None));
+    let words = [(">1.1 {1,2,3}</text>", 3)];
+    assert!(rt; tells(rt.alloc(), later, ("", ""), &words));
+    let at_three = (Format::Svg, from_event(40, Some(Proc::new(3))));
+    let words = [(">1.1 {1,2,3}</text>", 1), (">node 2</text>", 0)];
+    assert!(rt; tells(rt.alloc(), at_three, ("", ""), &words));
+}
+
+/// A script that so often tells the one node that it lost the token.
+fn losses<A: Allocator>(alloc: A, count: u32) -> Result<String<A>, AllocError> {
+    let mut text = String::new(alloc);
+    text.push_str("nodes 1\n")?;
+    for _ in 0..count {
+        text.push_str("timeout 1 loss\n")?;
+    }
+    Ok(text)
+}
+
+/// How often a picture of so many losses says where it goes on.
+fn ways_on(alloc: Global, losses_told: u32) -> Result<usize, AllocError> {
+    let text = losses(alloc, losses_told)?;
+    let svg = traced(alloc, text.as_str(), Format::Svg, Selection::all());
+    let way_on = ">There is more: --from 2001 --to 2001</text>";
+    Ok(count(svg.as_str(), way_on))
+}
+
+#[test]
+fn a_long_picture_says_where_it_goes_on(rt: HostRuntime) -> Result<(), Fail> {
+    assert!(rt; ways_on(rt.alloc(), 2_001)? == 1);
+    Ok(())
+}

@@ -1,0 +1,27 @@
+//! What is refused where a script is to be made.
+
+use refusing_alloc::{Refusing, refuse_in_turn};
+use ring_base::Fault;
+use ring_script_maker::made_script;
+use std::alloc::AllocError;
+
+#[test]
+fn groups_that_are_none_are_refused(rt: HostRuntime) {
+    let groups: [&[u8]; 3] = [&[], &[1, 0], &[1; 17]];
+    for votes in groups {
+        assert!(rt; made_script(rt.alloc(), votes, 1, 10).err() == Some(Fault::NotMember));
+    }
+}
+
+/// A script is made, or memory is refused.
+fn makes(heap: &Refusing) -> Result<(), AllocError> {
+    match made_script(heap, &[1, 1, 1], 7, 50) {
+        Err(Fault::Memory) => Err(AllocError),
+        _ => Ok(()),
+    }
+}
+
+#[test]
+fn refused_memory_is_told(rt: HostRuntime) {
+    assert!(rt; refuse_in_turn(rt.alloc(), &makes).is_some());
+}
