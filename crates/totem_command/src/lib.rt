@@ -3,6 +3,7 @@
 
 mod command_line;
 mod commands;
+mod forms;
 mod node;
 mod scripts;
 mod seeds;

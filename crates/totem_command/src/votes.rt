@@ -9,9 +9,9 @@ pub(crate) type Votes = ArrayVec<u8, 16>;
 /// 1 to 255.
 pub(crate) fn votes_of(nodes: u8, word: Option<&str>) -> Option<Votes> {
     let votes = match word {
-        Some(word) => named_votes(word)?,
-        None => even_votes(nodes)?,
-    };
+        Some(word) => named_votes(word),
+        None => even_votes(nodes),
+    }?;
     if votes.len() == usize::from(nodes) {
         Some(votes)
     } else {
@@ -32,11 +32,15 @@ fn even_votes(nodes: u8) -> Option<Votes> {
 fn named_votes(word: &str) -> Option<Votes> {
     let mut votes = Votes::new();
     for part in word.split(',') {
-        let vote = part.parse::<u8>().ok()?;
-        if vote == 0 {
-            return None;
-        }
-        votes.try_push(vote).ok()?;
+        votes.try_push(vote_of(part)?).ok()?;
     }
     Some(votes)
+}
+
+/// The votes of one node that a word names: 1 to 255.
+fn vote_of(word: &str) -> Option<u8> {
+    match word.parse::<u8>() {
+        Ok(vote) if vote > 0 => Some(vote),
+        _ => None,
+    }
 }

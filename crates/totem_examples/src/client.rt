@@ -73,6 +73,26 @@ pub fn cut_network<O: Object>(
     Ok(Rc::new(alloc, RefCell::new(network))?)
 }
 
+/// Adds a port to this node.
+fn add_port<O: Object>(
+    shared: &Shared<O>,
+    node: Proc,
+    ports: &mut Vec<WorldPort<O>, O::Alloc>,
+) -> Result<(), Fault> {
+    Ok(ports.push(WorldPort::new(shared.clone()?, node))?)
+}
+
+/// Adds a port to each of these two nodes.
+fn add_ports<O: Object>(
+    shared: &Shared<O>,
+    first: Proc,
+    second: Proc,
+    ports: &mut Vec<WorldPort<O>, O::Alloc>,
+) -> Result<(), Fault> {
+    add_port(shared, first, ports)?;
+    add_port(shared, second, ports)
+}
+
 /// A client with a port to each of two of its nodes.
 pub fn client_of<O: Object>(
     alloc: O::Alloc,
@@ -81,8 +101,7 @@ pub fn client_of<O: Object>(
     second: Proc,
 ) -> Result<Client<WorldPort<O>>, Fault> {
     let mut ports = Vec::new(alloc);
-    ports.push(WorldPort::new(shared.clone()?, first))?;
-    ports.push(WorldPort::new(shared.clone()?, second))?;
+    add_ports(shared, first, second, &mut ports)?;
     Ok(Client::new(alloc, 7, ports, POLLS))
 }
 
@@ -105,13 +124,23 @@ fn story_of<O: Object>(
     })
 }
 
+/// The story of a client that tries these nodes.
+fn call_over<O: Object>(
+    alloc: O::Alloc,
+    shared: &Shared<O>,
+    first: Proc,
+    second: Proc,
+) -> Result<Story, Fault> {
+    let mut client = client_of(alloc, shared, first, second)?;
+    story_of(&mut client, shared, first)
+}
+
 /// The story of three nodes at their opening.
 fn call_twice<O: Object>(alloc: O::Alloc) -> Result<Story, Fault> {
     let fixed = Fixed::new(3)?;
     let (first, second) = (fixed.proc(1)?, fixed.proc(2)?);
     let shared = cut_network::<O>(alloc, fixed, first)?;
-    let mut client = client_of(alloc, &shared, first, second)?;
-    story_of(&mut client, &shared, first)
+    call_over(alloc, &shared, first, second)
 }
 
 /// How often the first of the client's nodes was polled for its last call, if all these polls were in vain.
@@ -125,7 +154,14 @@ fn vain_polls<P: Port>(client: &Client<P>) -> u64 {
 /// All nodes hear each other again: this one calls for the others, and the network takes its turns. How many calls the node
 /// has committed then, and how many the order has.
 fn heal<O: Object>(shared: &Shared<O>, node: Proc) -> Result<(u64, u64), Fault> {
-    let mut network = shared.try_borrow_mut().map_err(|_| Fault::NoAnswer)?;
+    let Ok(mut network) = shared.try_borrow_mut() else {
+        return Err(Fault::NoAnswer);
+    };
+    settle(&mut *network, node)
+}
+
+/// The same of a network.
+fn settle<O: Object>(network: &mut Network<O>, node: Proc) -> Result<(u64, u64), Fault> {
     let everybody = network.world().fixed().everybody();
     network.cut(everybody);
     network.happen(Event::Timeout(node, Kind::Join))?;

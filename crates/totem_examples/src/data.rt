@@ -11,7 +11,7 @@
 
 use ring_sweep::{frames, script, script_check, sweep};
 use std::alloc::Global;
-use std::io::{Error, ErrorKind};
+use std::io::{Error, ErrorKind, Write};
 use std::rt::Files;
 use std::sync::Wait;
 use std::thread::Threads;
@@ -87,26 +87,53 @@ fn run_each<R: Files + AllocGlobal + Print + Threads + Wait + Clock + Sync + Clo
     rt: &R,
     kind: Kind,
 ) -> io::Result<bool> {
+    let names = names_of(rt, kind)?;
     let mut are_right = true;
-    for name in &names_of(rt, kind)? {
-        let is_right = prints_as_told(rt, name.as_str(), kind)?;
-        let word = if is_right { "right" } else { "wrong" };
-        println!(rt; "{name}: {word}")?;
+    for name in &names {
+        let is_right = run_one(rt, name.as_str(), kind)?;
         are_right = are_right && is_right;
     }
     Ok(are_right)
 }
 
+/// The same of the one of this name.
+fn run_one<R: Files + AllocGlobal + Print + Threads + Wait + Clock + Sync>(
+    rt: &R,
+    name: &str,
+    kind: Kind,
+) -> io::Result<bool> {
+    let is_right = prints_as_told(rt, name, kind)?;
+    let word = if is_right { "right" } else { "wrong" };
+    println!(rt; "{name}: {word}")?;
+    Ok(is_right)
+}
+
 /// The names of the examples of this kind, in alphabetical order.
 fn names_of<R: Files + AllocGlobal + Clone + Drop>(rt: &R, kind: Kind) -> io::Result<Vec<String>> {
     let mut names = Vec::new(rt.alloc());
-    for entry in fs::read_dir(rt, FOLDER)? {
-        if let Some(name) = entry?.file_name().strip_suffix(kind.ending()) {
-            names.push(String::from_str(rt.alloc(), name)?)?;
-        }
-    }
-    names.sort()?;
+    add_names(rt, kind, &mut names)?;
     Ok(names)
+}
+
+/// Adds them.
+fn add_names<R: Files + AllocGlobal + Clone + Drop>(
+    rt: &R,
+    kind: Kind,
+    names: &mut Vec<String>,
+) -> io::Result<()> {
+    for entry in fs::read_dir(rt, FOLDER)? {
+        let entry = entry?;
+        add_name(rt.alloc(), entry.file_name(), kind, names)?;
+    }
+    Ok(names.sort()?)
+}
+
+/// Adds the name of an example of this kind, where a file's name is that of one.
+fn add_name(alloc: Global, file: &str, kind: Kind, names: &mut Vec<String>) -> io::Result<()> {
+    match file.strip_suffix(kind.ending()) {
+        Some(name) => add_word(alloc, name, names),
+        None => Ok(()),
+    }
 }
 
 /// What an example prints: what stands on standard output and on standard error, and the exit status.
@@ -124,18 +151,57 @@ fn prints_as_told<R: Files + AllocGlobal + Threads + Wait + Clock + Sync>(
     kind: Kind,
 ) -> io::Result<bool> {
     let input = read(rt, name, kind.ending())?;
-    let printed = run_as(rt, kind, name, input.as_slice())?;
-    let fault = fault_of(rt.alloc(), &printed)?;
-    let wanted = match kind {
-        Kind::Trace | Kind::Picture => input,
-        _ => read_any(rt, name, ".out")?,
+    let alloc = rt.alloc();
+    let mut printed = Printed {
+        out: Vec::new(alloc),
+        err: Vec::new(alloc),
+        status: 0,
     };
-    let is_out = match kind {
-        Kind::Legal => printed.out.as_slice().ends_with(wanted.as_slice()),
-        _ => printed.out.as_slice() == wanted.as_slice(),
-    };
-    let is_fault = fault.as_slice() == read_any(rt, name, ".fault")?.as_slice();
+    let (out, err) = (&mut printed.out, &mut printed.err);
+    printed.status = run_as(rt, kind, name, input.as_slice(), out, err)?;
+    is_as_told(rt, kind, name, input.as_slice(), &printed)
+}
+
+/// Whether just this must be printed of an example of this kind and name whose file has these bytes.
+fn is_as_told<R: Files + AllocGlobal>(
+    rt: &R,
+    kind: Kind,
+    name: &str,
+    input: &[u8],
+    printed: &Printed,
+) -> io::Result<bool> {
+    let is_out = is_out_told(rt, kind, name, input, printed.out.as_slice())?;
+    let is_fault = is_fault_told(rt, name, printed)?;
     Ok(is_out && is_fault)
+}
+
+/// Whether this must stand on standard output.
+fn is_out_told<R: Files + AllocGlobal>(
+    rt: &R,
+    kind: Kind,
+    name: &str,
+    input: &[u8],
+    out: &[u8],
+) -> io::Result<bool> {
+    if let Kind::Trace | Kind::Picture = kind {
+        return Ok(out == input);
+    }
+    let wanted = read_any(rt, name, ".out")?;
+    Ok(match kind {
+        Kind::Legal => out.ends_with(wanted.as_slice()),
+        _ => out == wanted.as_slice(),
+    })
+}
+
+/// Whether this must stand on standard error, and the exit status is right.
+fn is_fault_told<R: Files + AllocGlobal>(
+    rt: &R,
+    name: &str,
+    printed: &Printed,
+) -> io::Result<bool> {
+    let wanted = read_any(rt, name, ".fault")?;
+    let fault = fault_of(rt.alloc(), printed)?;
+    Ok(fault.as_slice() == wanted.as_slice())
 }
 
 /// Does what is done with an example of this kind and name whose file has these bytes.
@@ -144,25 +210,36 @@ fn run_as<R: Files + AllocGlobal + Threads + Wait + Clock + Sync>(
     kind: Kind,
     name: &str,
     input: &[u8],
-) -> io::Result<Printed> {
+    out: &mut Vec<u8>,
+    err: &mut Vec<u8>,
+) -> io::Result<u8> {
     let alloc = rt.alloc();
-    let mut out = Vec::new(alloc);
-    let mut err = Vec::new(alloc);
-    let status = match kind {
-        Kind::Script => script(alloc, &mut &*input, &mut out, &mut err),
-        Kind::Check => script_check(alloc, &mut &*input, &mut out, &mut err),
-        Kind::Sweep | Kind::Legal => sweep(alloc, &mut &*input, &mut out, &mut err),
-        Kind::Frames => {
-            let bytes = spelled(alloc, input)?;
-            frames(alloc, &mut bytes.as_slice(), &mut out, &mut err)
-        }
-        Kind::Words => command(rt, input, &mut out, &mut err),
-        Kind::Explain | Kind::Trace | Kind::Picture => {
-            let words = words_for(alloc, kind, name)?;
-            command(rt, words.as_bytes(), &mut out, &mut err)
-        }
-    };
-    Ok(Printed { out, err, status })
+    match kind {
+        Kind::Script => Ok(script(alloc, &mut &*input, out, err)),
+        Kind::Check => Ok(script_check(alloc, &mut &*input, out, err)),
+        Kind::Sweep | Kind::Legal => Ok(sweep(alloc, &mut &*input, out, err)),
+        Kind::Frames => list(alloc, input, out, err),
+        Kind::Words => Ok(command(rt, input, out, err)),
+        Kind::Explain | Kind::Trace | Kind::Picture => try_on(rt, kind, name, out, err),
+    }
+}
+
+/// Lists the frames that a text spells.
+fn list(alloc: Global, text: &[u8], out: &mut Vec<u8>, err: &mut Vec<u8>) -> io::Result<u8> {
+    let bytes = spelled(alloc, text)?;
+    Ok(frames(alloc, &mut bytes.as_slice(), out, err))
+}
+
+/// Tries a command line of the program on the example of this name.
+fn try_on<R: Files + AllocGlobal + Threads + Wait + Clock + Sync>(
+    rt: &R,
+    kind: Kind,
+    name: &str,
+    out: &mut Vec<u8>,
+    err: &mut Vec<u8>,
+) -> io::Result<u8> {
+    let words = words_for(rt.alloc(), kind, name)?;
+    Ok(command(rt, words.as_bytes(), out, err))
 }
 
 /// The words of the command line that is tried on the example of this name, one a line.
@@ -194,11 +271,22 @@ fn words_in(alloc: Global, text: &[u8]) -> io::Result<Vec<String>> {
         return Err(Error::from(ErrorKind::InvalidData));
     };
     let mut words = Vec::new(alloc);
-    words.push(String::from_str(alloc, "totem")?)?;
-    for word in text.lines() {
-        words.push(String::from_str(alloc, word)?)?;
-    }
+    add_word(alloc, "totem", &mut words)?;
+    add_words(alloc, text, &mut words)?;
     Ok(words)
+}
+
+/// Adds the words of a text, of which a line has one.
+fn add_words(alloc: Global, text: &str, words: &mut Vec<String>) -> io::Result<()> {
+    for word in text.lines() {
+        add_word(alloc, word, words)?;
+    }
+    Ok(())
+}
+
+/// Adds a word.
+fn add_word(alloc: Global, word: &str, words: &mut Vec<String>) -> io::Result<()> {
+    Ok(words.push(String::from_str(alloc, word)?)?)
 }
 
 /// The bytes that a text spells in hexadecimal, but for its comments.
@@ -207,12 +295,18 @@ fn spelled(alloc: Global, text: &[u8]) -> io::Result<Vec<u8>> {
         return Err(Error::from(ErrorKind::InvalidData));
     };
     let mut bytes = Vec::new(alloc);
+    spell_all(alloc, text, &mut bytes)?;
+    Ok(bytes)
+}
+
+/// Adds the bytes that the lines of a text spell, but for its comments.
+fn spell_all(alloc: Global, text: &str, bytes: &mut Vec<u8>) -> io::Result<()> {
     for line in text.lines() {
         if !line.starts_with("#") {
-            spell(alloc, line, &mut bytes)?;
+            spell(alloc, line, bytes)?;
         }
     }
-    Ok(bytes)
+    Ok(())
 }
 
 /// Adds the bytes that a line spells.
@@ -227,11 +321,15 @@ fn spell(alloc: Global, line: &str, bytes: &mut Vec<u8>) -> io::Result<()> {
 fn fault_of(alloc: Global, printed: &Printed) -> io::Result<Vec<u8>> {
     let mut fault = Vec::new(alloc);
     if printed.status != 0 || !printed.err.is_empty() {
-        let status = format!(in alloc; "{} ", printed.status)?;
-        fault.extend_from_slice(status.as_bytes())?;
-        fault.extend_from_slice(words_of(printed))?;
+        tell_fault(printed, &mut fault)?;
     }
     Ok(fault)
+}
+
+/// Adds the exit status, a space, and what stands on standard error.
+fn tell_fault(printed: &Printed, fault: &mut Vec<u8>) -> io::Result<()> {
+    write!(fault, "{} ", printed.status)?;
+    fault.write_all(words_of(printed))
 }
 
 /// What stands on standard error; `...` for what a parser of command lines says.

@@ -68,6 +68,28 @@ fn network_of<O: Object>(alloc: O::Alloc, group: Fixed) -> Result<Shared<O>, Fau
     Ok(Rc::new(alloc, RefCell::new(network))?)
 }
 
+/// Adds a port to the node of this number.
+fn add_port<O: Object>(
+    shared: &Shared<O>,
+    group: Fixed,
+    number: u8,
+    ports: &mut Vec<WorldPort<O>, O::Alloc>,
+) -> Result<(), Fault> {
+    let node = group.proc(number)?;
+    Ok(ports.push(WorldPort::new(shared.clone()?, node))?)
+}
+
+/// Adds a port to each of these two nodes.
+fn add_ports<O: Object>(
+    shared: &Shared<O>,
+    group: Fixed,
+    (first, second): (u8, u8),
+    ports: &mut Vec<WorldPort<O>, O::Alloc>,
+) -> Result<(), Fault> {
+    add_port(shared, group, first, ports)?;
+    add_port(shared, group, second, ports)
+}
+
 /// The client of this number, which tries these two nodes.
 fn client_of<O: Object>(
     alloc: O::Alloc,
@@ -77,15 +99,16 @@ fn client_of<O: Object>(
     nodes: (u8, u8),
 ) -> Result<Client<WorldPort<O>>, Fault> {
     let mut ports = Vec::new(alloc);
-    ports.push(WorldPort::new(shared.clone()?, group.proc(nodes.0)?))?;
-    ports.push(WorldPort::new(shared.clone()?, group.proc(nodes.1)?))?;
+    add_ports(shared, group, nodes, &mut ports)?;
     Ok(Client::new(alloc, number, ports, POLLS))
 }
 
 /// From now on the other nodes alone hear each other.
 fn cut_off<O: Object>(shared: &Shared<O>, group: Fixed, node: u8) -> Result<(), Fault> {
     let others = group.everybody().less(ProcSet::only(group.proc(node)?));
-    let mut network = shared.try_borrow_mut().map_err(|_| Fault::NoAnswer)?;
+    let Ok(mut network) = shared.try_borrow_mut() else {
+        return Err(Fault::NoAnswer);
+    };
     network.cut(others);
     Ok(())
 }
@@ -109,11 +132,16 @@ fn call_all<O: Object>(
     })
 }
 
+/// The story of two clients of these nodes.
+fn call_over<O: Object>(alloc: O::Alloc, shared: &Shared<O>, group: Fixed) -> Result<Story, Fault> {
+    let mut one = client_of(alloc, shared, group, 1, (1, 2))?;
+    let mut two = client_of(alloc, shared, group, 2, (2, 3))?;
+    call_all(shared, group, &mut one, &mut two)
+}
+
 /// The story of three nodes at their opening.
 fn ask_for_lock<O: Object>(alloc: O::Alloc) -> Result<Story, Fault> {
     let group = Fixed::new(3)?;
     let shared = network_of::<O>(alloc, group)?;
-    let mut one = client_of(alloc, &shared, group, 1, (1, 2))?;
-    let mut two = client_of(alloc, &shared, group, 2, (2, 3))?;
-    call_all(&shared, group, &mut one, &mut two)
+    call_over(alloc, &shared, group)
 }

@@ -3,11 +3,10 @@
 
 use crate::lock_operation::LockOperation;
 use crate::locks::Locks;
-use std::alloc::Global;
 use std::io;
 use std::sync::Wait;
 use std::thread::Threads;
-use totem_threads::{Caller, Client, Fault, Fixed, Port, run_callers};
+use totem_threads::{Caller, Client, Fault, Fixed, Object, Port, run_callers};
 
 /// How often a client tries a call anew at most that none of the nodes has answered: they may still be forming their ring.
 const TRIES: u64 = 1_000;
@@ -37,7 +36,14 @@ impl Caller for Asker {
 }
 
 /// How many calls the one order has at the end.
-fn count<W: Threads + Wait + Sync>(rt: &W, alloc: Global) -> Result<usize, Fault> {
+fn count<O: Object + Send, W: Threads + Wait + Sync>(
+    rt: &W,
+    alloc: O::Alloc,
+) -> Result<usize, Fault>
+where
+    O::Alloc: Send + Sync,
+{
+    let group = Fixed::new(3)?;
     let clients = [
         Asker {
             holder: 11,
@@ -48,13 +54,13 @@ fn count<W: Threads + Wait + Sync>(rt: &W, alloc: Global) -> Result<usize, Fault
             first: 3,
         },
     ];
-    let calls = run_callers::<Locks, _, _>(rt, alloc, Fixed::new(3)?, &[3], &clients)?;
+    let calls = run_callers::<O, _, _>(rt, alloc, group, &[3], &clients)?;
     Ok(calls.order.len())
 }
 
 /// Prints it.
 pub fn tell<R: AllocGlobal + Print + Threads + Wait + Sync>(rt: &R) -> io::Result<()> {
-    match count(rt, rt.alloc()) {
+    match count::<Locks, _>(rt, rt.alloc()) {
         Ok(count) => {
             println!(rt;
                 "One of three nodes has stopped, and two clients ask for ten locks each: the one order has {count} calls."

@@ -39,17 +39,60 @@ pub fn tell<R: Files + AllocGlobal + Print + Threads + Wait + Clock + Sync>(
     rt: &R,
 ) -> io::Result<()> {
     let script = SCRIPT.as_bytes();
-    let run = printed(rt, "locks script --check -", script)?;
-    print!(rt; "{}", text_of(&run))?;
-    let swept = printed(rt, "locks sweep -", script)?;
-    println!(rt; "A stop or a cut before any event: {}", last_line(&swept))?;
-    let made = printed(rt, "locks gen --nodes 3 --seed 1 --events 100", &[])?;
-    let checked = printed(rt, "locks script --check -", made.as_slice())?;
-    println!(rt; "The script that seed 1 makes: {}", last_line(&checked))?;
-    let explored = printed(rt, "locks explore --nodes 3 --seeds 1..9 --events 100", &[])?;
-    println!(rt; "The scripts of nine seeds: {}", last_line(&explored))?;
-    let traced = printed(rt, "locks trace -", script)?;
+    tell_run(rt, script)?;
+    tell_last(
+        rt,
+        "A stop or a cut before any event",
+        "locks sweep -",
+        script,
+    )?;
+    tell_made(rt)?;
+    let seeds = "locks explore --nodes 3 --seeds 1..9 --events 100";
+    tell_last(rt, "The scripts of nine seeds", seeds, &[])?;
+    tell_traced(rt, script)
+}
+
+/// Prints what the program prints of the script.
+fn tell_run<R: Files + AllocGlobal + Print + Threads + Wait + Clock + Sync>(
+    rt: &R,
+    script: &[u8],
+) -> io::Result<()> {
+    let run = printed(rt, "locks script --check -", script);
+    print!(rt; "{}", text_of(&run))
+}
+
+/// Prints whether a script that is made is legal.
+fn tell_made<R: Files + AllocGlobal + Print + Threads + Wait + Clock + Sync>(
+    rt: &R,
+) -> io::Result<()> {
+    let made = printed(rt, "locks gen --nodes 3 --seed 1 --events 100", &[]);
+    let script = made.as_slice();
+    tell_last(
+        rt,
+        "The script that seed 1 makes",
+        "locks script --check -",
+        script,
+    )
+}
+
+/// Prints what a trace of the script tells of replies.
+fn tell_traced<R: Files + AllocGlobal + Print + Threads + Wait + Clock + Sync>(
+    rt: &R,
+    script: &[u8],
+) -> io::Result<()> {
+    let traced = printed(rt, "locks trace -", script);
     tell_replies(rt, text_of(&traced))
+}
+
+/// Prints the last line of what the program prints, and of what it says so.
+fn tell_last<R: Files + AllocGlobal + Print + Threads + Wait + Clock + Sync>(
+    rt: &R,
+    of: &str,
+    line: &str,
+    input: &[u8],
+) -> io::Result<()> {
+    let told = printed(rt, line, input);
+    println!(rt; "{of}: {}", last_line(&told))
 }
 
 /// What the program prints on standard output, of a command line and an input.
@@ -57,21 +100,27 @@ fn printed<R: Files + AllocGlobal + Threads + Wait + Clock + Sync>(
     rt: &R,
     line: &str,
     input: &[u8],
-) -> io::Result<Vec<u8>> {
+) -> Vec<u8> {
     let alloc = rt.alloc();
     let words = words_in(alloc, line);
     let (mut out, mut err, mut input) = (Vec::new(alloc), Vec::new(alloc), input);
     run(rt, &words, &mut input, &mut out, &mut err);
-    Ok(out)
+    out
 }
 
 /// The words of a command line, parted by spaces.
 fn words_in(alloc: Global, line: &str) -> io::Result<Vec<String>> {
     let mut words = Vec::new(alloc);
+    add_words(alloc, line, &mut words)?;
+    Ok(words)
+}
+
+/// Adds the words of a command line.
+fn add_words(alloc: Global, line: &str, words: &mut Vec<String>) -> io::Result<()> {
     for word in line.split(' ') {
         words.push(String::from_str(alloc, word)?)?;
     }
-    Ok(words)
+    Ok(())
 }
 
 /// What was printed, as text.

@@ -19,7 +19,7 @@ mod locks;
 mod outage;
 mod threads;
 
-use std::io::{self, Input};
+use std::io::{self, Eprint, Input};
 use std::process::ExitCode;
 use std::rt::Files;
 use std::sync::Wait;
@@ -29,11 +29,18 @@ use totem_command::words_of;
 
 fn main(rt: HostRuntime) -> ExitCode {
     let words = words_of(&rt);
-    if !is_bare(&words) {
-        let (mut input, mut out, mut err) = (rt.reader(), rt.stdout(), rt.stderr());
-        return ExitCode::from(lock_tools::run(&rt, &words, &mut input, &mut out, &mut err));
+    if is_bare(&words) {
+        return tell(&rt);
     }
-    match tell_all(&rt) {
+    let (mut input, mut out, mut err) = (rt.reader(), rt.stdout(), rt.stderr());
+    ExitCode::from(lock_tools::run(&rt, &words, &mut input, &mut out, &mut err))
+}
+
+/// Prints all examples, and tells by the exit status whether all is right.
+fn tell<R: Files + AllocGlobal + Print + Eprint + Threads + Wait + Clock + Sync + Clone + Drop>(
+    rt: &R,
+) -> ExitCode {
+    match tell_all(rt) {
         Ok(true) => ExitCode::SUCCESS,
         Ok(false) => ExitCode::FAILURE,
         Err(error) => {

@@ -60,20 +60,26 @@ fn tell_story<R: Print>(rt: &R, story: &Story) -> io::Result<()> {
 
 /// From now on these nodes alone hear each other.
 fn cut<O: Object>(shared: &Shared<O>, nodes: ProcSet) -> Result<(), Fault> {
-    let mut network = shared.try_borrow_mut().map_err(|_| Fault::NoAnswer)?;
+    let Ok(mut network) = shared.try_borrow_mut() else {
+        return Err(Fault::NoAnswer);
+    };
     network.cut(nodes);
     Ok(())
 }
 
 /// A timeout comes at a node.
 fn time_out<O: Object>(shared: &Shared<O>, node: Proc, kind: Kind) -> Result<(), Fault> {
-    let mut network = shared.try_borrow_mut().map_err(|_| Fault::NoAnswer)?;
+    let Ok(mut network) = shared.try_borrow_mut() else {
+        return Err(Fault::NoAnswer);
+    };
     network.happen(Event::Timeout(node, kind))
 }
 
 /// A node stops.
 fn stop<O: Object>(shared: &Shared<O>, node: Proc) -> Result<(), Fault> {
-    let mut network = shared.try_borrow_mut().map_err(|_| Fault::NoAnswer)?;
+    let Ok(mut network) = shared.try_borrow_mut() else {
+        return Err(Fault::NoAnswer);
+    };
     network.happen(Event::Stop(node))
 }
 
@@ -123,11 +129,22 @@ fn story_of<O: Object>(
     })
 }
 
+/// The story of a client that tries these nodes, of which the first hears nobody.
+fn call_over<O: Object>(
+    alloc: O::Alloc,
+    shared: &Shared<O>,
+    fixed: Fixed,
+    one: Proc,
+    two: Proc,
+) -> Result<Story, Fault> {
+    let mut client = client_of(alloc, shared, one, two)?;
+    story_of(&mut client, shared, fixed, one, two)
+}
+
 /// The story of three nodes at their opening.
 fn call_through<O: Object>(alloc: O::Alloc) -> Result<Story, Fault> {
     let fixed = Fixed::new(3)?;
     let (one, two) = (fixed.proc(1)?, fixed.proc(2)?);
     let shared = cut_network::<O>(alloc, fixed, one)?;
-    let mut client = client_of(alloc, &shared, one, two)?;
-    story_of(&mut client, &shared, fixed, one, two)
+    call_over(alloc, &shared, fixed, one, two)
 }

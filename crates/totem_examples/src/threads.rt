@@ -4,11 +4,10 @@
 //! same number, where one refuses the call or doesn't answer; and where none of them answers it begins anew. So each call takes effect
 //! once, whatever the threads do when: nodes 1 and 2 give up node 3 and form a ring without it, and 20 calls stand in the one order.
 
-use std::alloc::Global;
 use std::io;
 use std::sync::Wait;
 use std::thread::Threads;
-use totem_threads::{Caller, Client, Counters, Fault, Fixed, Port, run_callers};
+use totem_threads::{Caller, Client, Counters, Fault, Fixed, Object, Port, run_callers};
 
 /// How often a client tries a call anew at most that none of the nodes has answered: they may still be forming their ring.
 const TRIES: u64 = 1_000;
@@ -39,15 +38,22 @@ impl Caller for Adder {
 }
 
 /// How many calls the one order has at the end.
-fn count<W: Threads + Wait + Sync>(rt: &W, alloc: Global) -> Result<usize, Fault> {
+fn count<O: Object + Send, W: Threads + Wait + Sync>(
+    rt: &W,
+    alloc: O::Alloc,
+) -> Result<usize, Fault>
+where
+    O::Alloc: Send + Sync,
+{
+    let group = Fixed::new(3)?;
     let clients = [Adder { first: 1 }, Adder { first: 3 }];
-    let calls = run_callers::<Counters, _, _>(rt, alloc, Fixed::new(3)?, &[3], &clients)?;
+    let calls = run_callers::<O, _, _>(rt, alloc, group, &[3], &clients)?;
     Ok(calls.order.len())
 }
 
 /// Prints that.
 pub fn tell<R: AllocGlobal + Print + Threads + Wait + Sync>(rt: &R) -> io::Result<()> {
-    match count(rt, rt.alloc()) {
+    match count::<Counters, _>(rt, rt.alloc()) {
         Ok(calls) => {
             println!(rt;
                 "One of three nodes has stopped, and two clients add 1 ten times each: the one order has {calls} calls."
